@@ -1,0 +1,4 @@
+pub mod DigitLemmas
+pub mod Folding
+pub mod LongestRun
+pub mod Masking

@@ -1,0 +1,32 @@
+-- An Ethernet frame that holds an IPv6 packet (RFC 2464, section 3).
+use Rattle.std.specs.Prelude.{List, ℕ, [], ◌∷◌, ◌++◌, length, drop, Result, Ok, Err, slice_range, nat_lt, ◌==◌, if◌then◌else◌}
+use Rattle.byteorder.specs.Endian.{big_number}
+use Rattle.nd_addr.specs.declared.why.Why.{Why}
+use Rattle.nd_addr.specs.declared.why.Why.TheVariants.{FrameShort, NotIpv6}
+use Rattle.nd_addr.specs.declared.frame.FrameRef.{FrameRef}
+use Rattle.nd_addr.specs.declared.mac.Mac.{Mac}
+use Rattle.nd_addr.specs.declared.ip6.Ip6.{Ip6}
+use Rattle.nd_addr.specs.Ip6.{written_packet}
+
+-- a frame without where its bytes lie
+pub record FrameParts : Type 0 where
+  pub destination : Mac
+  pub source : Mac
+  pub rest : List ℕ
+
+abbrev pub frame_parts : FrameRef → FrameParts
+frame_parts f = record { destination = f.destination; source = f.source; rest = f.rest.now }
+
+-- the fields at their places
+abbrev pub frame_of : List ℕ → Result FrameParts Why
+frame_of bytes =
+    if nat_lt (length bytes) 14 then Err FrameShort else
+    if big_number 2 (drop 12 bytes) == 0x86dd then Ok (record {
+      destination = record { 0 = slice_range bytes 0 6 };
+      source = record { 0 = slice_range bytes 6 12 };
+      rest = drop 14 bytes;
+    }) else Err NotIpv6
+
+-- the fields one after the other, and the packet
+abbrev pub written_frame : Mac → Mac → Ip6 → List ℕ → List ℕ
+written_frame destination source header payload = destination.0 ++ source.0 ++ (0x86 ∷ 0xdd ∷ []) ++ written_packet header payload

@@ -1,0 +1,9 @@
+pub mod Bytes
+pub mod Given
+pub mod Why
+pub mod Frame
+pub mod Ip6
+pub mod Prefix
+pub mod Checksum
+pub mod Digits
+pub mod Text

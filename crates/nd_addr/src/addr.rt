@@ -1,0 +1,30 @@
+ghost use Rattle.std.specs.Prelude.{◌≡◌, ◌≤◌, ◌+◌, length, slice_range};
+ghost use Rattle.nd_addr.specs.Bytes.{AreBytes};
+
+use crate::bytes::known;
+
+/// An IPv6 address, by its 16 bytes in network order (RFC 4291, section 2).
+///
+/// The order of addresses is the order of their bytes, which is that of the 128-bit numbers.
+#[derive(Clone, Copy, Debug, PartialEq, Eq, PartialOrd, Ord, Hash)]
+pub struct Addr(pub [u8; 16]);
+
+impl Addr {
+    /// Its 16 bytes, in network order.
+    pub fn as_bytes(&self) -> &[u8]
+        ensures value { result.now ≡ self.now.0 }
+        ensures bytes { AreBytes 16 self.now.0 }
+    {
+        known(&self.0)
+    }
+
+    /// The address in the 16 bytes from a place on.
+    pub fn at(bytes: &[u8], place: usize) -> Addr
+        requires { place + 16 ≤ length bytes.now }
+        ensures { result.0 ≡ slice_range bytes.now place (place + 16) }
+    {
+        let mut address = [0; 16];
+        address.copy_from_slice(&bytes[place..place + 16]);
+        Addr(address)
+    }
+}

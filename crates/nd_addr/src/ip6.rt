@@ -1,0 +1,79 @@
+ghost use Rattle.std.specs.Prelude.{◌≡◌, ◌≤◌, ◌++◌, OnOk, length};
+ghost use Rattle.nd_addr.specs.Given.{Gives};
+ghost use Rattle.nd_addr.specs.Ip6.{packet_of, packet_parts, written_packet};
+
+use crate::addr::Addr;
+use crate::why::Why;
+use byteorder::{BigEndian, ByteOrder};
+use std::alloc::{AllocError, Allocator};
+
+/// An IPv6 header (RFC 8200, section 3) without its version, which is 6, and its payload's length.
+#[derive(Clone, Copy, Debug, PartialEq, Eq)]
+pub struct Ip6 {
+    pub traffic_class: u8,
+    /// 20 bits. Of a larger number the low 20 bits are written.
+    pub flow_label: u32,
+    pub next_header: u8,
+    pub hop_limit: u8,
+    pub source: Addr,
+    pub destination: Addr,
+}
+
+/// An IPv6 packet, with its payload where it lies.
+#[derive(Clone, Copy, Debug)]
+pub struct Ip6Ref<'a> {
+    pub header: Ip6,
+    /// As many bytes as the payload length says: padding behind them is left out.
+    pub payload: &'a [u8],
+}
+
+impl Ip6 {
+    /// Reads a packet. The error is `HeaderShort`, `Version` or `PayloadShort`, in this order.
+    pub fn read(bytes: &[u8]) -> Result<Ip6Ref<'_>, Why>
+        ensures { Gives packet_parts result (packet_of bytes.now) }
+    {
+        if bytes.len() < 40 {
+            return Err(Why::HeaderShort);
+        }
+        let first = BigEndian::read_u32(bytes);
+        if first / (1 << 28) != 6 {
+            return Err(Why::Version);
+        }
+        let length = BigEndian::read_u16(&bytes[4..]) as usize;
+        if bytes.len() < 40 + length {
+            return Err(Why::PayloadShort);
+        }
+        let header = Ip6 {
+            traffic_class: (first / (1 << 20) % 256) as u8,
+            flow_label: first % (1 << 20),
+            next_header: bytes[6],
+            hop_limit: bytes[7],
+            source: Addr::at(bytes, 8),
+            destination: Addr::at(bytes, 24),
+        };
+        Ok(Ip6Ref {
+            header,
+            payload: &bytes[40..40 + length],
+        })
+    }
+}
+
+/// Writes a packet at the end: its header with the payload's length, and its payload.
+pub(crate) fn push_packet<A: Allocator>(
+    out: &mut Vec<u8, A>,
+    header: &Ip6,
+    payload: &[u8],
+) -> Result<(), AllocError>
+    requires { length payload.now ≤ 65535 }
+    ensures { OnOk result (out.new.items ≡ out.old.items ++ written_packet header.now payload.now) }
+{
+    let class = header.traffic_class as u32;
+    let first = 6 * (1 << 28) + class * (1 << 20) + header.flow_label % (1 << 20);
+    let [a, b, c, d] = first.to_be_bytes();
+    let [e, f] = (payload.len() as u16).to_be_bytes();
+    out.extend_from_slice(&[a, b, c, d, e, f, header.next_header, header.hop_limit])?;
+    out.extend_from_slice(&header.source.0)?;
+    out.extend_from_slice(&header.destination.0)?;
+    out.extend_from_slice(payload)?;
+    Ok(())
+}

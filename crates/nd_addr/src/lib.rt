@@ -1,0 +1,28 @@
+//! Addresses, and what lies below a Neighbor Discovery message on the wire: the Ethernet frame, the
+//! IPv6 header and the ICMPv6 checksum.
+#![tactic(auto)]
+
+mod addr;
+mod bytes;
+mod checksum;
+mod digits;
+mod frame;
+mod ip6;
+mod mac;
+mod prefix;
+mod role;
+mod text;
+mod why;
+
+pub use addr::Addr;
+pub use checksum::{sum_for, sum_is_good};
+pub use digits::write_hex;
+pub use frame::{ETHERNET_IPV6, Frame, FrameRef, write_frame};
+pub use ip6::{Ip6, Ip6Ref};
+pub use mac::Mac;
+pub use prefix::Prefix;
+pub use role::Role;
+pub use why::Why;
+
+#[cfg(test)]
+mod tests;

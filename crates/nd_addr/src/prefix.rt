@@ -1,0 +1,77 @@
+ghost use Rattle.std.specs.Prelude.{◌≡◌, ◌≤◌};
+ghost use Rattle.std.specs.Option.{SomeIff};
+ghost use Rattle.nd_addr.specs.Bytes.{IsBytes};
+ghost use Rattle.nd_addr.specs.Prefix.{PrefixValue, IsPrefix, kept_bits, masked, prefix_at};
+
+use crate::addr::Addr;
+use std::marker::Model;
+
+/// The first bits of an address, 0 to 128 of them (RFC 4291, section 2.3). The bits past them are zero.
+#[derive(Clone, Copy, Debug, PartialEq, Eq, PartialOrd, Ord, Hash)]
+pub struct Prefix {
+    address: Addr,
+    length: u8,
+}
+
+impl Model for Prefix {
+    ghost Value = { PrefixValue };
+
+    ghost view = { λ p. record { address = p.address; length = p.length } };
+
+    ghost invariant = { λ p. IsPrefix p.address.0 p.length };
+
+    ghost inverse = { λ v. record { address = v.address; length = v.length } };
+}
+
+impl Prefix {
+    /// The first bits of an address: its bits past them are made zero. There is no prefix of a length above 128.
+    pub fn new(address: Addr, length: u8) -> Option<Prefix>
+        ensures { SomeIff result (length ≤ 128) (prefix_at length address.0) }
+    {
+        if length > 128 {
+            return None;
+        }
+        Some(Prefix {
+            address: Addr(first_bits(&address.0, length)),
+            length,
+        })
+    }
+
+    /// The address with only zeros past the prefix.
+    pub fn address(&self) -> Addr
+        ensures value { result ≡ self.now.address }
+        ensures prefix { IsPrefix self.now.address.0 self.now.length }
+    {
+        self.address
+    }
+
+    /// How many bits it has, 0 to 128.
+    pub fn length(&self) -> u8
+        ensures value { result ≡ self.now.length }
+        ensures prefix { IsPrefix self.now.address.0 self.now.length }
+    {
+        self.length
+    }
+}
+
+/// The first bits of a byte, with zeros in place of the others.
+fn first_bits_of_byte(byte: u8, bits: usize) -> u8
+    requires { bits ≤ 8 }
+    ensures { result ≡ kept_bits bits byte }
+{
+    let unit = 1u16 << (8 - bits);
+    (byte as u16 / unit * unit) as u8
+}
+
+/// The first bits of an address, with zeros in place of the others.
+fn first_bits(bytes: &[u8; 16], length: u8) -> [u8; 16]
+    ensures masked { result ≡ masked length bytes.now }
+    ensures bytes { IsBytes result }
+{
+    let mut kept = *bytes;
+    for (i, byte) in kept.iter_mut().enumerate() {
+        let bits = (length as usize).saturating_sub(8 * i).min(8);
+        *byte = first_bits_of_byte(*byte, bits);
+    }
+    kept
+}
