@@ -1,0 +1,4 @@
+pub mod Walk
+pub mod Says
+pub mod Spelling
+pub mod Deciding

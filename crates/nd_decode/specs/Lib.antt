@@ -1,0 +1,5 @@
+pub mod Option
+pub mod Pieces
+pub mod Options
+pub mod Message
+pub mod Decoding

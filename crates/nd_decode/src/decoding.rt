@@ -1,0 +1,50 @@
+ghost use Rattle.std.specs.Prelude.{◌≡◌, IfOk, IfErr, Ok, Err};
+ghost use Rattle.nd_addr.specs.Given.{Gives};
+ghost use Rattle.nd_decode.specs.Message.{HasKnownKind, Parts, parts, Spells, IsRefused};
+ghost use Rattle.nd_decode.specs.Decoding.{decode_of};
+
+use crate::body::Body;
+use crate::message_ref::MessageRef;
+use crate::options::{Options, fault_in};
+use nd_addr::Why;
+
+/// The message that some bytes spell, by the function that decides it.
+#[tactic(auto, unfolding(crate::specs::Decoding::decode_of))]
+fn decode_exactly(bytes: &[u8]) -> Result<MessageRef<'_>, Why>
+    requires { HasKnownKind bytes.now }
+    ensures { Gives parts result (decode_of bytes.now) }
+{
+    if bytes.len() > 1 && bytes[1] != 0 {
+        return Err(Why::Code);
+    }
+    let least = Body::least_length(bytes[0]);
+    if bytes.len() < least {
+        return Err(Why::Length);
+    }
+    let rest = &bytes[least..];
+    if let Some(why) = fault_in(rest) {
+        return Err(why);
+    }
+    Ok(MessageRef {
+        body: Body::read(bytes),
+        options: Options::new(rest),
+    })
+}
+
+/// The message that some bytes spell (RFC 4861, section 4). Their first byte is the type of a known message.
+///
+/// The error is the first of `Code`, `Length`, `OptionZero` and `OptionOver`. The checksum and all that
+/// is reserved are not looked at.
+pub fn decode(bytes: &[u8]) -> Result<MessageRef<'_>, Why>
+    requires { HasKnownKind bytes.now }
+    // What is answered is spelled so, and what is spelled is answered.
+    ensures found { IfOk result (λ m. Spells bytes.now (parts m)) }
+    ensures only { (m : Parts) → Spells bytes.now m → Gives parts result (Ok m) }
+    // The reason is the first, and where there is one, it is told.
+    ensures refused { IfErr result (λ why. IsRefused bytes.now why) }
+    ensures only_refused { (why : Why) → IsRefused bytes.now why → result ≡ Err why }
+    // The same by a function.
+    ensures exactly { Gives parts result (decode_of bytes.now) }
+{
+    decode_exactly(bytes)
+}

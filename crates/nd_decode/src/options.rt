@@ -1,0 +1,74 @@
+ghost use Rattle.std.specs.Prelude.{◌≡◌, MatchOption, take, drop, true, false};
+ghost use Rattle.nd_decode.specs.Option.{view};
+ghost use Rattle.nd_decode.specs.Pieces.{begins_whole, piece_length, options_in, rest_in, fault_of};
+
+use crate::option_ref::OptionRef;
+use nd_addr::Why;
+
+/// The options in some bytes, up to the first that is not whole (RFC 4861, section 4.6).
+#[derive(Clone, Copy, Debug)]
+pub struct Options<'a> {
+    rest: &'a [u8],
+}
+
+impl<'a> Options<'a> {
+    ghost use Rattle.nd_decode.specs.Pieces.{options_left};
+
+    /// The options in these bytes.
+    pub(crate) fn new(bytes: &'a [u8]) -> Self
+        ensures { options_left result ≡ options_in bytes.entry.now }
+    {
+        Options { rest: bytes }
+    }
+}
+
+impl<'a> Iterator for Options<'a> {
+    type Item = OptionRef<'a>;
+
+    ghost use Rattle.std.specs.Iterator.{YieldsFirstBy, item_count};
+    ghost use Rattle.nd_decode.specs.Pieces.{options_left};
+
+    ghost next_gives = { YieldsFirstBy view options_left };
+
+    ghost remaining = { item_count options_left };
+
+    #[tactic(auto, using(crate::proofs::Walk::options_in_step, crate::proofs::Walk::options_in_stop))]
+    fn next(&mut self) -> Option<OptionRef<'a>> {
+        let (piece, rest) = split_piece(self.rest)?;
+        self.rest = rest;
+        Some(OptionRef::read(piece))
+    }
+}
+
+/// The first piece, and the bytes behind it, if they begin with a whole one.
+fn split_piece(bytes: &[u8]) -> Option<(&[u8], &[u8])>
+    ensures { MatchOption result (begins_whole bytes.now ≡ false) (λ p. (begins_whole bytes.now ≡ true)
+        × (p.0.now ≡ take (piece_length bytes.now) bytes.now) × (p.1.now ≡ drop (piece_length bytes.now) bytes.now)) }
+{
+    if bytes.len() < 2 || bytes[1] == 0 {
+        return None;
+    }
+    let length = 8 * bytes[1] as usize;
+    if bytes.len() < length {
+        return None;
+    }
+    Some(bytes.split_at(length))
+}
+
+/// What is wrong with the first option that is not whole: `OptionZero` or `OptionOver`.
+#[tactic(auto, using(crate::proofs::Walk::rest_in_step, crate::proofs::Walk::rest_in_stop))]
+pub(crate) fn fault_in(bytes: &[u8]) -> Option<Why>
+    ensures { result ≡ fault_of (rest_in bytes.now) }
+{
+    let mut rest = bytes;
+    while let Some((_, after)) = split_piece(rest) {
+        rest = after;
+    }
+    if rest.is_empty() {
+        return None;
+    }
+    if rest.len() >= 2 && rest[1] == 0 {
+        return Some(Why::OptionZero);
+    }
+    Some(Why::OptionOver)
+}
