@@ -1,0 +1,4 @@
+pub mod Bytes
+pub mod Writing
+pub mod Formed
+pub mod Looping

@@ -1,0 +1,97 @@
+-- Loops over the options of a message.
+use Rattle.std.proofs.Common.{◌≡◌, ℕ, ◌+◌, ◌/◌, ◌%◌, ◌<◌, ◌≤◌, false, ltb, List, [], ◌∷◌, ◌++◌, length, take, drop, map, get_or, set, refl, sym, ap, subst, ◌∙◌, arith}
+use Rattle.std.specs.List.{flat_map}
+use Rattle.std.proofs.lemmas.Bool.{le-ltb}
+use Rattle.std.proofs.lemmas.List.{drop_more, drop_all, append-nil, length-append}
+use Rattle.byteorder.specs.Endian.{big_bytes}
+use Rattle.nd_addr.specs.Checksum.{with_sum}
+use Rattle.nd_message.specs.declared.opt.Opt.{Opt}
+use Rattle.nd_decode.specs.declared.body.Body.{Body}
+use Rattle.nd_decode.specs.declared.body.Body.TheVariants as bodies
+use Rattle.nd_decode.specs.Option.{Said}
+use Rattle.nd_decode.specs.Message.{Parts}
+use Rattle.nd_message.specs.Owned.{said}
+use Rattle.nd_message.specs.Spelling.{piece_of, fields_of, spelling}
+use Rattle.nd_message.specs.Fitting.{FitsBehind}
+
+-- the next option that is left
+next_option : {A : Type 0} (items xs : List (Opt A)) (i : ℕ) (x : Opt A) → xs ≡ items → i < length xs → x ≡ get_or xs i x → map said (drop i items) ≡ said x ∷ map said (drop (i + 1) items)
+next_option {A} items xs i x e lt is =
+    let here : x ≡ get_or items i x = rw e at is in
+    let le : i < length items = rw e at lt in
+    ap (map said) (drop_more items i x le) ∙ ap (λ (o : Opt A). said o ∷ map said (drop (i + 1) items)) (sym here)
+
+-- it fits, where all that is left does
+pub next_fits : {A : Type 0} (len : ℕ) (items xs : List (Opt A)) (i : ℕ) (x : Opt A) → xs ≡ items → i < length xs → x ≡ get_or xs i x → FitsBehind len (map said (drop i items)) → FitsBehind len (said x ∷ map said (drop (i + 1) items))
+next_fits len items xs i x e lt is h = subst (λ (os : List Said). FitsBehind len os) (next_option items xs i x e lt is) h
+
+-- a message is not well-formed where the next option is too long
+pub over : (len more : ℕ) (o : Said) (os : List Said) → FitsBehind len (o ∷ os) → more ≡ length (piece_of o) → 65535 < len + more → ⊥
+over len more o os h e lt = omega (arith, h.most, e, lt, length-append (piece_of o) (flat_map piece_of os))
+
+-- no options fit behind at most 65535 bytes
+pub fits_none : {A : Type 0} (len : ℕ) (items xs : List (Opt A)) (i : ℕ) → xs ≡ items → length xs ≤ i → len ≤ 65535 → FitsBehind len (map said (drop i items))
+fits_none len items xs i e le small =
+    let past : length items ≤ i = rw e at le in
+    rw (drop_all i items past) (record { each = tt; most = omega arith })
+
+-- with nothing left, the length is that of the spelling
+pub whole_length : {A : Type 0} (len : ℕ) (body : Body) (items xs : List (Opt A)) (i : ℕ) → xs ≡ items → length xs ≤ i
+    → len + length (flat_map piece_of (map said (drop i items))) ≡ length (fields_of 0 body) + length (flat_map piece_of (map said items)) → len ≡ length (spelling 0 (record { body = body; options = map said items }))
+unfolding spelling
+whole_length len body items xs i e le h =
+    let past : length items ≤ i = rw e at le in
+    let nothing : length (flat_map piece_of (map said (drop i items))) ≡ 0 = rw (drop_all i items past) refl in
+    omega (arith, h, nothing, length-append (fields_of 0 body) (flat_map piece_of (map said items)))
+
+-- with only the fields written, the pieces of all options are what is left
+pub begin_writing : (empty out : List ℕ) (m : Parts) → empty ≡ [] → out ≡ empty ++ fields_of 0 m.body → out ++ flat_map piece_of m.options ≡ spelling 0 m
+unfolding spelling
+begin_writing empty out m e h =
+    let fields : out ≡ fields_of 0 m.body = h ∙ ap (λ (x : List ℕ). x ++ fields_of 0 m.body) e in
+    ap (λ (x : List ℕ). x ++ flat_map piece_of m.options) fields
+
+-- with nothing left, all is written
+pub end_writing : {A : Type 0} (out s : List ℕ) (items xs : List (Opt A)) (i : ℕ) → xs ≡ items → length xs ≤ i → out ++ flat_map piece_of (map said (drop i items)) ≡ s → out ≡ s
+end_writing out s items xs i e le h =
+    let past : length items ≤ i = rw e at le in
+    let nothing : flat_map piece_of (map said (drop i items)) ≡ [] = rw (drop_all i items past) refl in
+    sym (append-nil out) ∙ ap (λ (t : List ℕ). out ++ t) (sym nothing) ∙ h
+
+long_fields : (b : Body) (rest : List ℕ) → 4 ≤ length (fields_of 0 b ++ rest)
+long_fields (bodies.Ra r) rest = omega arith
+long_fields (bodies.Ns n) rest = omega arith
+
+pub long_spelling : (m : Parts) → 4 ≤ length (spelling 0 m)
+unfolding spelling
+long_spelling m = long_fields m.body (flat_map piece_of m.options)
+
+-- the sum put into a spelling makes the spelling with it
+spelling_with : (x : ℕ) (m : Parts) → with_sum (big_bytes 2 x) (spelling 0 m) ≡ spelling x m
+unfolding spelling with_sum
+spelling_with x m =
+    let long : ltb (length (fields_of 0 m.body ++ flat_map piece_of m.options)) 4 ≡ false = le-ltb _ _ (long_fields m.body (flat_map piece_of m.options)) in
+    rw long (go m.body (flat_map piece_of m.options))
+  where
+    go : (b : Body) (rest : List ℕ) → take 2 (fields_of 0 b ++ rest) ++ big_bytes 2 x ++ drop 4 (fields_of 0 b ++ rest) ≡ fields_of x b ++ rest
+    go (bodies.Ra r) rest = refl
+    go (bodies.Ns n) rest = refl
+
+-- two numbers put into the field
+sum_put : (bytes : List ℕ) (x y : ℕ) → 4 ≤ length bytes → set (set bytes 2 x) 3 y ≡ with_sum (x ∷ y ∷ []) bytes
+unfolding with_sum
+sum_put [] x y h = absurd (omega arith)
+sum_put (a ∷ []) x y h = absurd (omega arith)
+sum_put (a ∷ b ∷ []) x y h = absurd (omega arith)
+sum_put (a ∷ b ∷ c ∷ []) x y h = absurd (omega arith)
+sum_put (a ∷ b ∷ c ∷ d ∷ rest) x y h = let long : ltb (length (a ∷ b ∷ c ∷ d ∷ rest)) 4 ≡ false = le-ltb _ _ h in rw long refl
+
+-- a number of 16 bits put into the field
+pub sum_put_number : (bytes : List ℕ) (x : ℕ) → x < 65536 → 4 ≤ length bytes → set (set bytes 2 (x / 256)) 3 (x % 256) ≡ with_sum (big_bytes 2 x) bytes
+sum_put_number bytes x small h =
+    let high : x / 256 ≡ x / 256 % 256 = omega arith in
+    ap (λ (k : ℕ). set (set bytes 2 k) 3 (x % 256)) high ∙ sum_put bytes (x / 256 % 256) (x % 256) h
+
+-- the whole encoding
+pub encoded : (out new : List ℕ) (m : Parts) (x y : ℕ) → out ≡ spelling 0 m → new ≡ with_sum (big_bytes 2 x) out → x ≡ y → new ≡ spelling y m
+encoded out new m x y e h k = h ∙ ap (with_sum (big_bytes 2 x)) e ∙ spelling_with x m ∙ ap (λ (n : ℕ). spelling n m) k

@@ -1,0 +1,130 @@
+-- What is written is a spelling.
+use Rattle.std.proofs.Common.{◌≡◌, ℕ, zero, suc, ◌+◌, ◌/◌, ◌^◌, ◌<◌, Bool, true, false, List, [], ◌∷◌, ◌++◌, length, take, refl, sym, ap, subst, ◌∙◌, arith, inl, inr}
+use Rattle.std.specs.List.{flat_map, AllByRecursion}
+use Rattle.std.proofs.lemmas.List.{length-append, drop_at}
+use Rattle.byteorder.specs.Endian.{big_bytes, big_number}
+use Rattle.byteorder.specs.Numbers.{big_number-reads_back}
+use Rattle.nd_addr.specs.Bytes.{AreBytes}
+use Rattle.nd_addr.specs.Prefix.{PrefixValue, masked}
+use Rattle.nd_addr.specs.declared.mac.Mac.{Mac}
+use Rattle.nd_decode.specs.declared.router_advertisement.RouterAdvertisement.{RouterAdvertisement}
+use Rattle.nd_decode.specs.declared.neighbor_solicitation.NeighborSolicitation.{NeighborSolicitation}
+use Rattle.nd_decode.specs.declared.body.Body.{Body}
+use Rattle.nd_decode.specs.declared.body.Body.TheVariants as bodies
+use Rattle.nd_decode.specs.declared.prefix_info.PrefixInfo.{PrefixInfo}
+use Rattle.nd_decode.specs.Option.{Said, slla, tlla, prefix, other, IsPiece, Says, IsKnown, mac_of, prefix_of, is_set}
+use Rattle.nd_decode.specs.Options.{SpellsOptions}
+use Rattle.nd_decode.specs.Message.{Parts, HasBody, HasFields, Spells, behind_fields, router_advertisement_of, neighbor_solicitation_of}
+use Rattle.nd_message.specs.Spelling.{flags_of, prefix_piece, piece_of, fields_of, spelling}
+use Rattle.nd_message.specs.Fitting.{FitsPrefix, FitsOption, FitsRouterAdvertisement, FitsBody}
+
+-- ---- flags and numbers
+
+high_flag : (a b : Bool) → a ≡ is_set (flags_of a b) 0x80
+high_flag true true = refl
+high_flag true false = refl
+high_flag false true = refl
+high_flag false false = refl
+
+low_flag : (a b : Bool) → b ≡ is_set (flags_of a b) 0x40
+low_flag true true = refl
+low_flag true false = refl
+low_flag false true = refl
+low_flag false false = refl
+
+four : (x : ℕ) (rest : List ℕ) → x < 2 ^ 32 → x ≡ big_number 4 (big_bytes 4 x ++ rest)
+four x rest h = sym (big_number-reads_back 4 x rest h)
+
+two : (x : ℕ) (rest : List ℕ) → x < 2 ^ 16 → x ≡ big_number 2 (big_bytes 2 x ++ rest)
+two x rest h = sym (big_number-reads_back 2 x rest h)
+
+-- ---- options
+
+take_whole : (n : ℕ) (xs : List ℕ) → length xs ≡ n → take n xs ≡ xs
+take_whole n [] e = let z : n ≡ 0 = sym e in rw z refl
+take_whole zero (x ∷ xs) e = absurd (omega arith)
+take_whole (suc n) (x ∷ xs) e = ap (λ (t : List ℕ). x ∷ t) (take_whole n xs (omega arith))
+
+-- an address is what stands behind its type and length
+mac_back : (kind : ℕ) (mac : Mac) → AreBytes 6 mac.0 → mac ≡ mac_of (kind ∷ 1 ∷ mac.0)
+mac_back kind mac h = ap (λ (x : List ℕ). let m : Mac = record { 0 = x } in m) (sym (take_whole 6 mac.0 h.len_is))
+
+same_prefix_value : (p : PrefixValue) (x : List ℕ) → p.address.0 ≡ x → p ≡ (let q : PrefixValue = record { address = record { 0 = x }; length = p.length } in q)
+same_prefix_value p x e = ap (λ (y : List ℕ). let q : PrefixValue = record { address = record { 0 = y }; length = p.length } in q) e
+
+made_prefix : PrefixValue → Bool → Bool → ℕ → ℕ → PrefixInfo
+made_prefix x o a v p = record { prefix = x; on_link = o; autonomous = a; valid_lifetime = v; preferred_lifetime = p }
+
+same_parts : (x x' : PrefixValue) (o o' a a' : Bool) (v v' p p' : ℕ) → x ≡ x' → o ≡ o' → a ≡ a' → v ≡ v' → p ≡ p' → made_prefix x o a v p ≡ made_prefix x' o' a' v' p'
+same_parts x x' o o' a a' v v' p p' e f g h i = cc
+
+same_prefix : (p q : PrefixInfo) → p.prefix ≡ q.prefix → p.on_link ≡ q.on_link → p.autonomous ≡ q.autonomous → p.valid_lifetime ≡ q.valid_lifetime → p.preferred_lifetime ≡ q.preferred_lifetime → p ≡ q
+unfolding made_prefix
+same_prefix p q a b c d e = same_parts p.prefix q.prefix p.on_link q.on_link p.autonomous q.autonomous p.valid_lifetime q.valid_lifetime p.preferred_lifetime q.preferred_lifetime a b c d e
+
+prefix_back : (p : PrefixInfo) → FitsPrefix p → p ≡ prefix_of (prefix_piece p)
+prefix_back p h =
+    let i = h.prefix_is in
+    let kept : p.prefix.address.0 ≡ masked p.prefix.length (take 16 p.prefix.address.0) = sym i.zeros ∙ ap (masked p.prefix.length) (sym (take_whole 16 p.prefix.address.0 i.address_is.len_is)) in
+    let value = same_prefix_value p.prefix (masked p.prefix.length (take 16 p.prefix.address.0)) kept in
+    same_prefix p (prefix_of (prefix_piece p)) value (high_flag p.on_link p.autonomous) (low_flag p.on_link p.autonomous) (four p.valid_lifetime (big_bytes 4 p.preferred_lifetime ++ (0 ∷ 0 ∷ 0 ∷ 0 ∷ []) ++ p.prefix.address.0) h.valid) (four p.preferred_lifetime ((0 ∷ 0 ∷ 0 ∷ 0 ∷ []) ++ p.prefix.address.0) h.preferred)
+
+pub piece_says : (o : Said) → FitsOption o → IsPiece (piece_of o) × Says (piece_of o) o
+piece_says (slla mac) h = (record { some = omega arith; whole = omega (arith, h.len_is) }, (record { kind_is = refl; len_is = refl }, mac_back 1 mac h))
+piece_says (tlla mac) h = (record { some = omega arith; whole = omega (arith, h.len_is) }, (record { kind_is = refl; len_is = refl }, mac_back 2 mac h))
+piece_says (prefix p) h =
+    (record { some = omega arith; whole = omega (arith, h.prefix_is.address_is.len_is) }, (record { kind_is = refl; len_is = refl }, h.prefix_is.short, prefix_back p h))
+piece_says (other kind rest) h =
+    let o = h.2 in
+    (record { some = omega (arith, o.least); whole = omega (arith, o.eights) }, (unknown, refl, refl))
+  where
+    unknown : IsKnown (kind ∷ ((length rest + 2) / 8) ∷ rest) → ⊥
+    unknown (inl r) = h.2.no_address (inl r.kind_is) (omega (arith, r.len_is, h.2.eights))
+    unknown (inr (inl r)) = h.2.no_address (inr r.kind_is) (omega (arith, r.len_is, h.2.eights))
+    unknown (inr (inr r)) = h.2.no_prefix r.0.kind_is (omega (arith, r.0.len_is, h.2.eights)) r.1
+
+pub pieces_spell : (os : List Said) → AllByRecursion FitsOption os → SpellsOptions (flat_map piece_of os) os
+pieces_spell [] h = refl
+pieces_spell (o ∷ os) h = let p = piece_says o h.0 in (piece_of o, flat_map piece_of os, refl, p.0, p.1, pieces_spell os h.1)
+
+-- ---- fields
+
+made_fields : ℕ → Bool → Bool → ℕ → ℕ → ℕ → RouterAdvertisement
+made_fields h m o l r t = record { hop_limit = h; managed = m; other = o; router_lifetime = l; reachable_time = r; retrans_timer = t }
+
+same_fields : (h h' : ℕ) (m m' o o' : Bool) (l l' r r' t t' : ℕ) → h ≡ h' → m ≡ m' → o ≡ o' → l ≡ l' → r ≡ r' → t ≡ t' → made_fields h m o l r t ≡ made_fields h' m' o' l' r' t'
+same_fields h h' m m' o o' l l' r r' t t' a b c d e f = cc
+
+same_router_advertisement : (r s : RouterAdvertisement) → r.hop_limit ≡ s.hop_limit → r.managed ≡ s.managed → r.other ≡ s.other → r.router_lifetime ≡ s.router_lifetime → r.reachable_time ≡ s.reachable_time → r.retrans_timer ≡ s.retrans_timer → r ≡ s
+unfolding made_fields
+same_router_advertisement r s a b c d e f =
+    same_fields r.hop_limit s.hop_limit r.managed s.managed r.other s.other r.router_lifetime s.router_lifetime r.reachable_time s.reachable_time r.retrans_timer s.retrans_timer a b c d e f
+
+router_advertisement_back : (x : ℕ) (r : RouterAdvertisement) (rest : List ℕ) → FitsRouterAdvertisement r → r ≡ router_advertisement_of (fields_of x (bodies.Ra r) ++ rest)
+router_advertisement_back x r rest h =
+    same_router_advertisement r (router_advertisement_of (fields_of x (bodies.Ra r) ++ rest)) refl (high_flag r.managed r.other) (low_flag r.managed r.other) (two r.router_lifetime (big_bytes 4 r.reachable_time ++ big_bytes 4 r.retrans_timer ++ rest) h.lifetime) (four r.reachable_time (big_bytes 4 r.retrans_timer ++ rest) h.reachable) (four r.retrans_timer rest h.retrans)
+
+take_front : (n : ℕ) (xs rest : List ℕ) → length xs ≡ n → take n (xs ++ rest) ≡ xs
+take_front zero [] rest e = refl
+take_front zero (x ∷ xs) rest e = absurd (omega arith)
+take_front (suc n) [] rest e = absurd (omega arith)
+take_front (suc n) (x ∷ xs) rest e = ap (λ (t : List ℕ). x ∷ t) (take_front n xs rest (omega arith))
+
+same_target : (n m : NeighborSolicitation) → n.target.0 ≡ m.target.0 → n ≡ m
+same_target n m a = ap (λ (x : List ℕ). let t : NeighborSolicitation = record { target = record { 0 = x } } in t) a
+
+pub has_fields : (x : ℕ) (b : Body) (rest : List ℕ) → FitsBody b → HasBody (fields_of x b ++ rest) b
+has_fields x (bodies.Ra r) rest h = (refl, router_advertisement_back x r rest h)
+has_fields x (bodies.Ns n) rest h = (refl, same_target n (neighbor_solicitation_of (fields_of x (bodies.Ns n) ++ rest)) (sym (take_front 16 n.target.0 rest h.len_is)))
+
+pub fields_front : (x : ℕ) (b : Body) (rest : List ℕ) → FitsBody b → HasFields (fields_of x b ++ rest) × (behind_fields (fields_of x b ++ rest) ≡ rest)
+fields_front x (bodies.Ra r) rest h = (record { code = refl; long = omega (arith, length-append (fields_of x (bodies.Ra r)) rest) }, refl)
+fields_front x (bodies.Ns n) rest h =
+    (record { code = refl; long = omega (arith, h.len_is, length-append (fields_of x (bodies.Ns n)) rest) }, drop_at (fields_of x (bodies.Ns n)) rest 24 (omega (arith, h.len_is)))
+
+-- what fits is spelled by its spelling, whatever the sum
+pub spelling_spells : (x : ℕ) (m : Parts) → FitsBody m.body → AllByRecursion FitsOption m.options → Spells (spelling x m) m
+unfolding spelling
+spelling_spells x m b os =
+    let f = fields_front x m.body (flat_map piece_of m.options) b in
+    record { fields = f.0; body = has_fields x m.body (flat_map piece_of m.options) b; options = subst (λ (t : List ℕ). SpellsOptions t m.options) (sym f.1) (pieces_spell m.options os) }

@@ -1,0 +1,9 @@
+pub use Rattle.nd_decode.specs.Option
+pub use Rattle.nd_decode.specs.Pieces
+pub use Rattle.nd_decode.specs.Options
+pub use Rattle.nd_decode.specs.Message
+pub use Rattle.nd_decode.specs.Decoding
+pub mod Owned
+pub mod Spelling
+pub mod WellFormed
+pub mod Fitting

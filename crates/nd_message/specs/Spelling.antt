@@ -1,0 +1,46 @@
+-- The one spelling that is written: all that is ignored is 0.
+use Rattle.std.specs.Prelude.{ℕ, ◌+◌, ◌/◌, Bool, true, false, List, [], ◌∷◌, ◌++◌, length}
+use Rattle.std.specs.List.{flat_map}
+use Rattle.byteorder.specs.Endian.{big_bytes}
+use Rattle.nd_addr.specs.declared.addr.Addr.{Addr}
+use Rattle.nd_addr.specs.Checksum.{sum_to_write}
+use Rattle.nd_decode.specs.declared.body.Body.{Body}
+use Rattle.nd_decode.specs.declared.body.Body.TheVariants as bodies
+use Rattle.nd_decode.specs.declared.prefix_info.PrefixInfo.{PrefixInfo}
+use Rattle.nd_decode.specs.Option.{Said, slla, tlla, prefix, other}
+use Rattle.nd_decode.specs.Message.{Parts}
+
+-- a byte of two flags, at its highest bits
+abbrev pub flags_of : Bool → Bool → ℕ
+flags_of true true = 0xc0
+flags_of true false = 0x80
+flags_of false true = 0x40
+flags_of false false = 0
+
+-- a Prefix Information (RFC 4861, section 4.6.2)
+abbrev pub prefix_piece : PrefixInfo → List ℕ
+prefix_piece p =
+    3 ∷ 4 ∷ p.prefix.length ∷ flags_of p.on_link p.autonomous ∷ big_bytes 4 p.valid_lifetime ++ big_bytes 4 p.preferred_lifetime
+    ++ (0 ∷ 0 ∷ 0 ∷ 0 ∷ []) ++ p.prefix.address.0
+
+-- the table of options: type, length in units of 8 bytes, data (RFC 4861, section 4.6)
+abbrev pub piece_of : Said → List ℕ
+piece_of (slla mac) = 1 ∷ 1 ∷ mac.0
+piece_of (tlla mac) = 2 ∷ 1 ∷ mac.0
+piece_of (prefix p) = prefix_piece p
+piece_of (other kind rest) = kind ∷ ((length rest + 2) / 8) ∷ rest
+
+-- the table of messages: type, code, this number as the checksum, fields (RFC 4861, sections 4.2 and 4.3)
+abbrev pub fields_of : ℕ → Body → List ℕ
+fields_of sum (bodies.Ra r) =
+    134 ∷ 0 ∷ big_bytes 2 sum ++ (r.hop_limit ∷ flags_of r.managed r.other ∷ []) ++ big_bytes 2 r.router_lifetime
+    ++ big_bytes 4 r.reachable_time ++ big_bytes 4 r.retrans_timer
+fields_of sum (bodies.Ns n) = 135 ∷ 0 ∷ big_bytes 2 sum ++ (0 ∷ 0 ∷ 0 ∷ 0 ∷ []) ++ n.target.0
+
+-- the message with this number as its checksum
+unfoldable pub spelling : ℕ → Parts → List ℕ
+spelling sum m = fields_of sum m.body ++ flat_map piece_of m.options
+
+-- the message with its checksum, from a source to a destination (RFC 4443, section 2.3)
+abbrev pub written_message : Addr → Addr → Parts → List ℕ
+written_message source destination m = spelling (sum_to_write source.0 destination.0 (spelling 0 m)) m
