@@ -1,0 +1,4 @@
+pub mod AheadLemmas
+pub mod LinesLemmas
+pub mod RunLemmas
+pub mod WrittenLemmas

@@ -1,0 +1,18 @@
+use Rattle.std.proofs.Common.{◌≤◌, ◌+◌, ◌-◌, ◌*◌, ◌^◌, string_bytes}
+use Rattle.nd_io.specs.Ahead.{in_hand, left}
+use Rattle.nd_io.specs.Counts.{HasGrownBy}
+use Rattle.nd_io.proofs.RunLemmas.{Along}
+use Rattle.nd_io.proofs.run.run_lines.Given as goal
+
+abbrev pub invariant-loop-count : goal.invariant-loop-count
+invariant-loop-count g l =
+    record {
+      along : Along (g.L.Answering.text_for l.fn.answering) (g.L.Answering.text_for l.answering) (g.L.Answering.malformed_from l.fn.answering) (g.L.Answering.malformed_from l.answering) (g.R.Input.remaining l.fn.reader) (in_hand l.ahead.buffer.items l.ahead.start l.ahead.end) (g.R.Input.remaining l.reader) (g.W.Output.contents l.fn.writer) (g.W.Output.contents l.writer) (string_bytes l.text) l.number;
+      few : l.number + left l.ahead.reads l.ahead.start l.ahead.end ≤ 2 ^ 40 * 65537 + 1;
+      given : HasGrownBy (2 ^ 40 - l.ahead.reads) (g.R.Input.given l.fn.reader) (g.R.Input.given l.reader);
+      reads_failed : g.R.Input.failed l.fn.reader ≤ g.R.Input.failed l.reader;
+      writes_failed : g.W.Output.failed l.fn.writer ≤ g.W.Output.failed l.writer;
+    }
+
+abbrev pub decreases-loop-count : goal.decreases-loop-count
+decreases-loop-count g l = left l.ahead.reads l.ahead.start l.ahead.end

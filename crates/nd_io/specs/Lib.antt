@@ -1,0 +1,9 @@
+pub mod Ahead
+pub mod Answers
+pub mod Counts
+pub mod Each
+pub mod EachLaws
+pub mod Lines
+pub mod Run
+pub mod ToolFault
+pub mod Written
