@@ -1,0 +1,3 @@
+pub mod Verdict
+pub mod Telling
+pub mod Check

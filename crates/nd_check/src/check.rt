@@ -1,0 +1,67 @@
+ghost use Rattle.std.specs.Prelude.{◌≢◌, ◌^◌, ◌⊎◌, ℕ, OnOk, OnErr, IsErrOf, Some, None, Err};
+ghost use Rattle.nd_io.specs.Counts.{HasRisen, HasGrownBy};
+ghost use Rattle.nd_io.specs.Run.{Wrote, WroteFront};
+ghost use Rattle.nd_io.specs.Each.{text_of_each, malformed_of_each};
+ghost use Rattle.nd_check.specs.Check.{answer_to};
+
+use crate::telling::tell_line;
+use nd_io::answering::Unanswered;
+use nd_io::each::{AnsweringEach, Each};
+use nd_io::input::Input;
+use nd_io::output::Output;
+use nd_io::run::run_lines;
+use nd_io::tool_fault::ToolFault;
+use std::alloc::Allocator;
+
+/// The most bytes of a frame: a line has at most 16,384 digits.
+const LONGEST_FRAME: usize = 8192;
+
+/// What answers lines of frames, with room for one frame.
+#[derive(Drop)]
+struct Check {
+    frame: [u8; LONGEST_FRAME],
+}
+
+impl AnsweringEach for Check {
+    ghost answer_to = { answer_to };
+
+    #[tactic(auto, unfolding(crate::specs::Check::answer_to))]
+    fn answer_each<A: Allocator>(
+        &mut self,
+        line: &[u8],
+        text: &mut String<A>,
+    ) -> Result<(), Unanswered> {
+        let frame = &mut self.frame[..line.len() / 2];
+        match hex::decode_to_slice(line, frame) {
+            Ok(()) => {}
+            Err(_) => return Err(Unanswered::Malformed),
+        }
+        match tell_line(text, frame) {
+            Ok(()) => Ok(()),
+            Err(_) => Err(Unanswered::Memory),
+        }
+    }
+}
+
+/// Answers each line of the reader into the writer: a line holds a frame in hexadecimal, and its answer
+/// is what the frame is, or the first reason to drop it.
+///
+/// The error is `Line(n)` for the first malformed line, counted from 1, which is too long or no even
+/// number of hexadecimal digits; all lines before it were answered. Else it is want of memory, or a
+/// fault of the reader or the writer, and a beginning of the text was written.
+pub fn run_check<R: Input, W: Output, A: Allocator + Clone>(
+    alloc: A,
+    reader: &mut R,
+    writer: &mut W,
+) -> Result<(), ToolFault>
+    ensures ok { OnOk result (Wrote (text_of_each answer_to) (malformed_of_each answer_to) (R.remaining reader.old) (W.contents writer.old) (W.contents writer.new) None) }
+    ensures line { (n : ℕ) → IsErrOf result (ToolFault.Line n) → Wrote (text_of_each answer_to) (malformed_of_each answer_to) (R.remaining reader.old) (W.contents writer.old) (W.contents writer.new) (Some n) }
+    ensures front { OnErr result (WroteFront (text_of_each answer_to) (R.remaining reader.old) (W.contents writer.old) (W.contents writer.new)) }
+    ensures read_failed { IsErrOf result ToolFault.Read → HasRisen (R.failed reader.old) (R.failed reader.new) ⊎ HasGrownBy (2 ^ 40) (R.given reader.old) (R.given reader.new) }
+    ensures write_failed { IsErrOf result ToolFault.Write → HasRisen (W.failed writer.old) (W.failed writer.new) }
+    ensures never_wire { result ≢ Err ToolFault.Wire }
+{
+    let frame = [0; LONGEST_FRAME];
+    let mut each = Each::new(Check { frame });
+    run_lines(alloc, reader, writer, &mut each)
+}

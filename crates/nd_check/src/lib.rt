@@ -1,0 +1,12 @@
+//! `ndpctl check`: a line holds a frame in hexadecimal, and its answer says what the frame is or why it
+//! is dropped.
+#![tactic(auto)]
+
+mod check;
+mod telling;
+mod verdict;
+
+pub use check::run_check;
+
+#[cfg(test)]
+mod tests;
