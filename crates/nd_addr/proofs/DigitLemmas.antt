@@ -1,7 +1,11 @@
 -- The digits of a group, place by place.
-use Rattle.std.proofs.Common.{◌≡◌, ℕ, suc, ◌/◌, ◌%◌, ◌<◌, ◌≤◌, true, false, leb, eqb, List, [], ◌∷◌, ◌++◌, refl, ap, ◌∙◌, arith, inl, inr, append_assoc}
+use Rattle.std.proofs.Common.{◌≡◌, ℕ, suc, ◌/◌, ◌%◌, ◌<◌, ◌≤◌, true, false, leb, eqb, List, [], ◌∷◌, ◌++◌, refl, ap, ◌∙◌, arith, inl, inr, append_assoc, length, ◌^◌, lit<}
+use Rattle.std.proofs.Math.Nat.{lt_trans}
 use Rattle.std.proofs.lemmas.Bool.{cases_lt, le-leb, lt-leb, eq-eqb, ne_eqb}
 use Rattle.std.specs.Fmt.{digits, digits_onto, digit_glyph}
+use Rattle.std.proofs.lemmas.Fmt.{digits_is_IsNumeral}
+use Rattle.std.proofs.lemmas.List.{length-append}
+use Rattle.nd_addr.specs.Spelling.{IsGroupText}
 use Rattle.nd_addr.specs.Digits.{digit_at}
 
 last_digit : (k n : ℕ) (behind : List ℕ) → n < 16 → digits_onto (suc k) 16 false n behind ≡ digit_glyph false (n % 16) ∷ behind
@@ -46,3 +50,17 @@ pub after_digits : (n : ℕ) (before one two three after : List ℕ) → n < 655
 after_digits n before one two three after small a b c d =
     let all : after ≡ (((before ++ digit_at n 4096) ++ digit_at n 256) ++ digit_at n 16) ++ digit_glyph false (n % 16) ∷ [] = cc in
     all ∙ rw (digits_of_group n small) (simp append_assoc)
+
+-- a group has one to four digits, and they are its value
+digit_at_most : (n place : ℕ) → length (digit_at n place) ≤ 1
+digit_at_most n place = elim (cases_lt n place) [
+  | inl lt ↦ rw (nothing n place lt) (omega arith)
+  | inr le ↦ rw (there n place (n / place % 16) le refl) (omega arith)
+]
+
+pub group_is_spelled : (n : ℕ) → n < 65536 → IsGroupText (digits 16 false n) n
+group_is_spelled n small =
+    let wide : 65536 < 16 ^ 64 = lit< tt in
+    let numeral = digits_is_IsNumeral 16 false (omega arith) (omega arith) n (lt_trans small wide) in
+    let len : length (digits 16 false n) ≤ 4 = rw (digits_of_group n small) (omega (arith, digit_at_most n 4096, digit_at_most n 256, digit_at_most n 16, length-append (digit_at n 4096 ++ digit_at n 256 ++ digit_at n 16) (digit_glyph false (n % 16) ∷ []), length-append (digit_at n 4096 ++ digit_at n 256) (digit_at n 16), length-append (digit_at n 4096) (digit_at n 256))) in
+    record { numeral = numeral.0; short = len; value = numeral.1 }

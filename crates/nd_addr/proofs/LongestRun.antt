@@ -1,8 +1,8 @@
 -- The first of the longest runs of zeros, as a function and as a relation.
-use Rattle.std.proofs.Common.{◌≡◌, ℕ, zero, suc, ◌+◌, ◌-◌, ◌<◌, ◌≤◌, true, false, eqb, leb, List, [], ◌∷◌, length, drop, get_or, slice_index, refl, sym, ap, ◌∙◌, arith, inl, inr}
+use Rattle.std.proofs.Common.{◌≡◌, ℕ, zero, suc, ◌+◌, ◌-◌, ◌<◌, ◌≤◌, true, false, eqb, leb, ltb, List, [], ◌∷◌, length, drop, get_or, slice_index, refl, sym, ap, ◌∙◌, arith, inl, inr}
 use Rattle.std.specs.Prelude.{◌==◌, if◌then◌else◌}
 use Rattle.std.proofs.Math.Seq.{drop-cons}
-use Rattle.std.proofs.lemmas.Bool.{cases_Bool, eqb-true, eqb-false, cases_lt, le-leb, lt-leb, eq-eqb, ne_eqb}
+use Rattle.std.proofs.lemmas.Bool.{cases_Bool, eqb-true, eqb-false, cases_lt, le-leb, lt-leb, lt-ltb, eq-eqb, ne_eqb}
 use Rattle.std.proofs.lemmas.List.{length-drop, drop_all}
 use Rattle.nd_addr.specs.Text.{IsRun, IsLongest, IsText, zeros_in_front, longest_run, shown, groups_of, address_text}
 
@@ -102,6 +102,9 @@ pub shown_is : (bytes groups : List ℕ) (start len : ℕ) → groups ≡ groups
 unfolding address_text
 shown_is bytes groups start len e s l = rw (s, l, e) refl
 
+pub found_run : (groups : List ℕ) → IsRun groups (longest_run groups).start (longest_run groups).len
+found_run groups = (is_longest groups).run
+
 pub found_within : (groups : List ℕ) (start len : ℕ) → start ≡ (longest_run groups).start → len ≡ (longest_run groups).len → start + len ≤ length groups
 found_within groups start len s l = omega (arith, (is_longest groups).run.within)
 
@@ -145,3 +148,21 @@ none_yet groups e =
 
 pub front_below : (groups : List ℕ) (i front start len : ℕ) → 0 < i → length groups ≡ 8 → i ≤ 8 → IsBestFrom groups i front start len → front < 8
 front_below groups i front start len some e le b = omega (arith, b.front_is, zeros_le (drop i groups), length-drop i groups)
+
+-- ---- one text
+
+same_text : (groups : List ℕ) (s l t m : ℕ) → IsLongest groups s l → IsLongest groups t m → shown groups s l ≡ shown groups t m
+same_text groups s l t m a b =
+    let len : l ≡ m = let x = a.longest t m b.run in let y = b.longest s l a.run in omega arith in
+    elim (cases_lt l 2) [
+      | inl short ↦
+          let one : ltb l 2 ≡ true = lt-ltb _ _ short in
+          let other : ltb m 2 ≡ true = lt-ltb _ _ (omega arith) in
+          rw (one, other) refl
+      | inr long ↦
+          let start : s ≡ t = let x = a.first t m b.run (omega arith) (sym len) in let y = b.first s l a.run (omega arith) len in omega arith in
+          rw (start, len) refl
+    ]
+
+pub text_is_one : (groups text other : List ℕ) → IsText groups text → IsText groups other → text ≡ other
+text_is_one groups text other a b = a.text_is ∙ same_text groups a.start a.len b.start b.len a.longest b.longest ∙ sym b.text_is

@@ -7,3 +7,7 @@ pub mod Prefix
 pub mod Checksum
 pub mod Digits
 pub mod Text
+pub mod Number
+pub mod Kind
+pub mod Spelling
+pub mod Parsing

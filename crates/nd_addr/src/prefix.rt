@@ -1,6 +1,7 @@
-ghost use Rattle.std.specs.Prelude.{◌≡◌, ◌≤◌};
+ghost use Rattle.std.specs.Prelude.{◌≡◌, ◌↔◌, ◌≤◌, IsTrue};
 ghost use Rattle.std.specs.Option.{SomeIff};
 ghost use Rattle.nd_addr.specs.Bytes.{IsBytes};
+ghost use Rattle.nd_addr.specs.Number.{Holds};
 ghost use Rattle.nd_addr.specs.Prefix.{PrefixValue, IsPrefix, kept_bits, masked, prefix_at};
 
 use crate::addr::Addr;
@@ -45,6 +46,14 @@ impl Prefix {
         self.address
     }
 
+    /// Whether an address is in the prefix: whether they are alike in its bits (RFC 4291, section 2.3).
+    pub fn holds(&self, address: Addr) -> bool
+        ensures { IsTrue result ↔ Holds self.now address.0 }
+    {
+        let _bytes = address.as_bytes();
+        is_same(first_bits(&address.0, self.length), self.address.0)
+    }
+
     /// How many bits it has, 0 to 128.
     pub fn length(&self) -> u8
         ensures value { result ≡ self.now.length }
@@ -61,6 +70,13 @@ fn first_bits_of_byte(byte: u8, bits: usize) -> u8
 {
     let unit = 1u16 << (8 - bits);
     (byte as u16 / unit * unit) as u8
+}
+
+/// Whether two addresses have the same bytes.
+fn is_same(a: [u8; 16], b: [u8; 16]) -> bool
+    ensures { IsTrue result ↔ (a ≡ b) }
+{
+    a == b
 }
 
 /// The first bits of an address, with zeros in place of the others.

@@ -155,3 +155,217 @@ fn short_and_foreign_frames_have_their_reasons(rt: HostRuntime) -> Result<(), Fa
     assert_eq!(rt; Ip6::read(&frame[14..77]).err(), Some(Why::PayloadShort));
     Ok(())
 }
+
+/// The groups of the address that a text spells, or none.
+fn groups_of_text(text: &str) -> Option<[u16; 8]> {
+    let Ok(address) = Addr::parse(text.as_bytes()) else {
+        return None;
+    };
+    let [a, b, c, d, e, f, g, h, i, j, k, l, m, n, o, p] = address.0;
+    Some([
+        u16::from_be_bytes([a, b]),
+        u16::from_be_bytes([c, d]),
+        u16::from_be_bytes([e, f]),
+        u16::from_be_bytes([g, h]),
+        u16::from_be_bytes([i, j]),
+        u16::from_be_bytes([k, l]),
+        u16::from_be_bytes([m, n]),
+        u16::from_be_bytes([o, p]),
+    ])
+}
+
+/// What is printed of the address that a text spells.
+fn printed(rt: &HostRuntime, text: &str) -> Result<String, Fail> {
+    let address = Addr::parse(text.as_bytes()).map_err(|_| "malformed")?;
+    let mut out = String::new(rt.alloc());
+    address.write_text(&mut out)?;
+    Ok(out)
+}
+
+#[test]
+fn texts_of_rfc_4291_section_2_2_are_read(rt: HostRuntime) -> Result<(), Fail> {
+    assert_eq!(rt;
+        groups_of_text("ABCD:EF01:2345:6789:ABCD:EF01:2345:6789"),
+        Some([
+            0xabcd, 0xef01, 0x2345, 0x6789, 0xabcd, 0xef01, 0x2345, 0x6789
+        ])
+    );
+    let unicast = Some([0x2001, 0xdb8, 0, 0, 8, 0x800, 0x200c, 0x417a]);
+    assert_eq!(rt; groups_of_text("2001:DB8:0:0:8:800:200C:417A"), unicast);
+    assert_eq!(rt; groups_of_text("2001:DB8::8:800:200C:417A"), unicast);
+    let multicast = Some([0xff01, 0, 0, 0, 0, 0, 0, 0x101]);
+    assert_eq!(rt; groups_of_text("FF01:0:0:0:0:0:0:101"), multicast);
+    assert_eq!(rt; groups_of_text("FF01::101"), multicast);
+    assert_eq!(rt;
+        groups_of_text("0:0:0:0:0:0:0:1"),
+        Some([0, 0, 0, 0, 0, 0, 0, 1])
+    );
+    assert_eq!(rt; groups_of_text("::1"), Some([0, 0, 0, 0, 0, 0, 0, 1]));
+    assert_eq!(rt; groups_of_text("::"), Some([0; 8]));
+    Ok(())
+}
+
+#[test]
+fn spellings_of_rfc_5952_section_2_are_one_address(rt: HostRuntime) -> Result<(), Fail> {
+    for text in [
+        "2001:db8:0:0:1:0:0:1",
+        "2001:0db8:0:0:1:0:0:1",
+        "2001:db8::1:0:0:1",
+        "2001:db8::0:1:0:0:1",
+        "2001:0db8::1:0:0:1",
+        "2001:db8:0:0:1::1",
+        "2001:db8:0000:0:1::1",
+        "2001:DB8:0:0:1::1",
+    ] {
+        assert_eq!(rt; printed(&rt, text)?.as_str(), "2001:db8::1:0:0:1");
+    }
+    Ok(())
+}
+
+#[test]
+fn rules_of_rfc_5952_section_4_are_kept(rt: HostRuntime) -> Result<(), Fail> {
+    assert_eq!(rt; printed(&rt, "2001:0db8::0001")?.as_str(), "2001:db8::1");
+    assert_eq!(rt;
+        printed(&rt, "2001:db8:0:0:0:0:2:1")?.as_str(),
+        "2001:db8::2:1"
+    );
+    assert_eq!(rt;
+        printed(&rt, "2001:db8:0:1:1:1:1:1")?.as_str(),
+        "2001:db8:0:1:1:1:1:1"
+    );
+    assert_eq!(rt;
+        printed(&rt, "2001:0:0:1:0:0:0:1")?.as_str(),
+        "2001:0:0:1::1"
+    );
+    assert_eq!(rt;
+        printed(&rt, "2001:db8:0:0:1:0:0:1")?.as_str(),
+        "2001:db8::1:0:0:1"
+    );
+    assert_eq!(rt; printed(&rt, "2001:DB8::AAAA")?.as_str(), "2001:db8::aaaa");
+    Ok(())
+}
+
+#[test]
+fn malformed_texts_spell_no_address(rt: HostRuntime) -> Result<(), Fail> {
+    for text in [
+        "",
+        "1::2::3",
+        "1:2:3:4:5:6:7:8::",
+        "12345::",
+        ":",
+        ":::",
+        "1:2:3:4:5:6:7",
+        "1:2:3:4:5:6:7:8:9",
+        "1:2:3:4:5:6:7:",
+        ":1:2:3:4:5:6:7",
+        "1:2:3:4::5:6:7:8",
+        "g::",
+        "::1 ",
+        "::1.2.3.4",
+        "fe80::1%eth0",
+    ] {
+        assert_eq!(rt;
+            Addr::parse(text.as_bytes()),
+            Err(TextFault::Malformed),
+            "{text}"
+        );
+    }
+    assert_eq!(rt;
+        groups_of_text("1:2:3:4:5:6:7::"),
+        Some([1, 2, 3, 4, 5, 6, 7, 0])
+    );
+    Ok(())
+}
+
+#[test]
+fn interfaces_have_their_addresses(rt: HostRuntime) -> Result<(), Fail> {
+    let link_local = Prefix::parse(b"fe80::/64").map_err(|_| "a prefix")?;
+    assert_eq!(rt; link_local.length(), 64);
+    for (mac, address, node) in [
+        (
+            "34:56:78:9A:bc:de",
+            "fe80::3656:78ff:fe9a:bcde",
+            "ff02::1:ff9a:bcde",
+        ),
+        ("02:00:00:00:00:01", "fe80::ff:fe00:1", "ff02::1:ff00:1"),
+    ] {
+        let mac = Mac::parse(mac.as_bytes()).map_err(|_| "an Ethernet address")?;
+        let prefix = Prefix::parse(b"fe80::/64").map_err(|_| "a prefix")?;
+        let made = interface_address(prefix, mac);
+        assert_eq!(rt; Some(made), Addr::parse(address.as_bytes()).ok());
+        assert_eq!(rt;
+            Some(made.solicited_node()),
+            Addr::parse(node.as_bytes()).ok()
+        );
+        assert!(rt; made.is_link_local());
+        assert!(rt; made.solicited_node().is_multicast());
+    }
+    Ok(())
+}
+
+/// The address of an interface, where the prefix has 64 bits.
+fn interface_address(prefix: Prefix, mac: Mac) -> Addr {
+    if prefix.length() == 64 {
+        Addr::from_mac(&prefix, mac)
+    } else {
+        Addr::UNSPECIFIED
+    }
+}
+
+#[test]
+fn kinds_of_address_are_told(rt: HostRuntime) -> Result<(), Fail> {
+    let at = |text: &str| Addr::parse(text.as_bytes()).unwrap_or(Addr([7; 16]));
+    assert!(rt; at("::").is_unspecified());
+    assert!(rt; at("::1").is_loopback());
+    assert!(rt; !at("::1").is_unspecified());
+    assert!(rt; at("ff02::1").is_multicast());
+    assert!(rt; !at("fe80::1").is_multicast());
+    assert!(rt; at("febf::1").is_link_local());
+    assert!(rt; !at("fec0::1").is_link_local());
+    assert_eq!(rt;
+        Mac::multicast(at("ff02::1:ff9a:bcde")),
+        Mac([0x33, 0x33, 0xff, 0x9a, 0xbc, 0xde])
+    );
+    Ok(())
+}
+
+#[test]
+fn prefixes_are_read_and_hold_addresses(rt: HostRuntime) -> Result<(), Fail> {
+    let prefix = Prefix::parse(b"2001:db8:ffff::/33").map_err(|_| "a prefix")?;
+    let mut text = String::new(rt.alloc());
+    prefix.write_text(&mut text)?;
+    assert_eq!(rt; text.as_str(), "2001:db8:8000::/33");
+    let at = |text: &str| Addr::parse(text.as_bytes()).unwrap_or(Addr::UNSPECIFIED);
+    assert!(rt; prefix.holds(at("2001:db8:8000::1")));
+    assert!(rt; prefix.holds(at("2001:db8:ffff::1")));
+    assert!(rt; !prefix.holds(at("2001:db8:7fff::1")));
+    for text in [
+        "2001:db8::",
+        "2001:db8::/",
+        "2001:db8::/129",
+        "2001:db8::/064",
+        "/64",
+        "::/+1",
+        "::/1/1",
+    ] {
+        assert_eq!(rt;
+            Prefix::parse(text.as_bytes()),
+            Err(TextFault::Malformed),
+            "{text}"
+        );
+    }
+    for text in [
+        "",
+        "34:56:78:9a:bc",
+        "34:56:78:9a:bc:dg",
+        "34-56-78-9a-bc-de",
+        "34:56:78:9a:bc:de:",
+    ] {
+        assert_eq!(rt;
+            Mac::parse(text.as_bytes()),
+            Err(TextFault::Malformed),
+            "{text}"
+        );
+    }
+    Ok(())
+}

@@ -1,4 +1,5 @@
 ghost use Rattle.std.specs.Prelude.{◌≡◌, ◌==◌, ◌+◌, ◌++◌, ◌<◌, ◌≤◌, suc, OnOk, string_bytes, if◌then◌else◌};
+ghost use Rattle.nd_addr.specs.Spelling.{SpellsAddress, SpellsMac, SpellsPrefix};
 ghost use Rattle.nd_addr.specs.Text.{groups_of, longest_run, joined, shown, address_text, IsText, mac_text, prefix_text};
 
 use crate::addr::Addr;
@@ -96,8 +97,11 @@ impl Addr {
     /// Writes the text of RFC 5952 at the end. The error is want of memory.
     pub fn write_text<A: Allocator>(&self, text: &mut String<A>) -> Result<(), AllocError>
         ensures written { OnOk result (string_bytes text.new ≡ string_bytes text.old ++ address_text self.now.0) }
+        // It is the text of the first of the longest runs of zeros, and spells the address.
         ensures rules { IsText (groups_of self.now.0) (address_text self.now.0) }
+        ensures spelled { SpellsAddress (address_text self.now.0) (groups_of self.now.0) }
     {
+        let _bytes = self.as_bytes();
         let groups = groups_in(self);
         let run = find_longest(&groups);
         push_shown(text, &groups, run)
@@ -107,9 +111,10 @@ impl Addr {
 impl Mac {
     /// Writes six pairs of digits in lower case with colons between them. The error is want of memory.
     pub fn write_text<A: Allocator>(&self, text: &mut String<A>) -> Result<(), AllocError>
-        ensures { OnOk result (string_bytes text.new ≡ string_bytes text.old ++ mac_text self.now.0) }
+        ensures written { OnOk result (string_bytes text.new ≡ string_bytes text.old ++ mac_text self.now.0) }
+        ensures spelled { SpellsMac (mac_text self.now.0) self.now.0 }
     {
-        let mut rest: &[u8] = &self.0;
+        let mut rest: &[u8] = self.as_bytes();
         while let [byte, after @ ..] = rest {
             push_byte(text, *byte)?;
             if !after.is_empty() {
@@ -124,7 +129,8 @@ impl Mac {
 impl Prefix {
     /// Writes its address, a slash and its length. The error is want of memory.
     pub fn write_text<A: Allocator>(&self, text: &mut String<A>) -> Result<(), AllocError>
-        ensures { OnOk result (string_bytes text.new ≡ string_bytes text.old ++ prefix_text self.now) }
+        ensures written { OnOk result (string_bytes text.new ≡ string_bytes text.old ++ prefix_text self.now) }
+        ensures spelled { SpellsPrefix (prefix_text self.now) self.now }
     {
         self.address().write_text(text)?;
         let length = self.length();

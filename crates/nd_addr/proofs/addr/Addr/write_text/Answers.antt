@@ -1,5 +1,6 @@
 use Rattle.std.proofs.Common.{length, arith, ap}
 use Rattle.nd_addr.proofs.LongestRun.{shown_is, found_within, is_text}
+use Rattle.nd_addr.proofs.RoundTrip.{text_spells}
 use Rattle.nd_addr.proofs.addr.Addr.write_text.Goals as goal
 
 pub push_shown-requires : goal.push_shown-requires
@@ -13,3 +14,6 @@ returns-clause-written g c =
 
 pub returns-clause-rules : goal.returns-clause-rules
 returns-clause-rules g c = is_text c.args.self.now.0
+
+pub returns-clause-spelled : goal.returns-clause-spelled
+returns-clause-spelled g c = text_spells c.args.self.now.0 c.as_bytes-bytes.ensures.bytes.each

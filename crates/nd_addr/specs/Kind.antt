@@ -1,0 +1,34 @@
+-- Kinds of address, and the addresses that are made of others (RFC 4291).
+use Rattle.std.specs.Prelude.{ℕ, List, [], ◌∷◌, ◌++◌, take, slice_index, replicate, bit_xor}
+use Rattle.nd_addr.specs.Prefix.{PrefixValue}
+
+-- ff00::/8 (RFC 4291, section 2.7)
+abbrev pub multicast_prefix : PrefixValue
+multicast_prefix = record { address = record { 0 = 0xff ∷ replicate 15 0 }; length = 8 }
+
+-- fe80::/10 (RFC 4291, section 2.5.6)
+abbrev pub link_local_prefix : PrefixValue
+link_local_prefix = record { address = record { 0 = 0xfe ∷ 0x80 ∷ replicate 14 0 }; length = 10 }
+
+-- :: (RFC 4291, section 2.5.2)
+abbrev pub unspecified_address : List ℕ
+unspecified_address = replicate 16 0
+
+-- ::1 (RFC 4291, section 2.5.3)
+abbrev pub loopback_address : List ℕ
+loopback_address = replicate 15 0 ++ 1 ∷ []
+
+-- ff02::1:ff00:0/104, and the low 24 bits of the address (RFC 4291, section 2.7.1)
+abbrev pub solicited_node_of : List ℕ → List ℕ
+solicited_node_of address =
+    0xff ∷ 2 ∷ 0 ∷ 0 ∷ 0 ∷ 0 ∷ 0 ∷ 0 ∷ 0 ∷ 0 ∷ 0 ∷ 1 ∷ 0xff ∷ slice_index address 13 ∷ slice_index address 14 ∷ slice_index address 15 ∷ []
+
+-- the 64 bits of a prefix, and the modified EUI-64 of an Ethernet address (RFC 4291, appendix A): ff fe in its middle, and
+-- the universal bit of its first byte inverted
+abbrev pub address_from_mac : List ℕ → List ℕ → List ℕ
+address_from_mac prefix mac =
+    take 8 prefix ++ bit_xor (slice_index mac 0) 2 ∷ slice_index mac 1 ∷ slice_index mac 2 ∷ 0xff ∷ 0xfe ∷ slice_index mac 3 ∷ slice_index mac 4 ∷ slice_index mac 5 ∷ []
+
+-- 33:33, and the last four bytes of a multicast address (RFC 2464, section 7)
+abbrev pub multicast_mac_of : List ℕ → List ℕ
+multicast_mac_of address = 0x33 ∷ 0x33 ∷ slice_index address 12 ∷ slice_index address 13 ∷ slice_index address 14 ∷ slice_index address 15 ∷ []

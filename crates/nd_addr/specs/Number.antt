@@ -1,0 +1,16 @@
+-- An address as a number, and the bits that two addresses have in common (RFC 4291, sections 2 and 2.3).
+use Rattle.std.specs.Prelude.{◌≡◌, ℕ, ◌+◌, ◌-◌, ◌*◌, ◌/◌, ◌^◌, List, [], ◌∷◌, length}
+use Rattle.nd_addr.specs.Prefix.{PrefixValue}
+
+-- the number that bytes are, the first being the highest: of an address one below 2^128
+abbrev pub number_of : List ℕ → ℕ
+number_of [] = 0
+number_of (byte ∷ bytes) = byte * 2 ^ (8 * length bytes) + number_of bytes
+
+-- two addresses are alike in their first bits: their numbers divided by 2^(128 - bits) are equal
+abbrev pub AreAlike : ℕ → List ℕ → List ℕ → Type 0
+AreAlike bits a b = number_of a / 2 ^ (128 - bits) ≡ number_of b / 2 ^ (128 - bits)
+
+-- the prefix holds the address
+abbrev pub Holds : PrefixValue → List ℕ → Type 0
+Holds prefix address = AreAlike prefix.length address prefix.address.0

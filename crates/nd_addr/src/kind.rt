@@ -1,0 +1,79 @@
+//! Kinds of address, and addresses that are made of others.
+
+ghost use Rattle.std.specs.Prelude.{◌≡◌, ◌↔◌, IsTrue};
+ghost use Rattle.nd_addr.specs.Kind.{multicast_prefix, link_local_prefix, unspecified_address, loopback_address, solicited_node_of, address_from_mac, multicast_mac_of};
+ghost use Rattle.nd_addr.specs.Number.{Holds};
+
+use crate::addr::Addr;
+use crate::mac::Mac;
+use crate::prefix::Prefix;
+
+impl Addr {
+    /// The unspecified address `::` (RFC 4291, section 2.5.2).
+    pub const UNSPECIFIED: Addr = Addr([0; 16]);
+
+    /// The loopback address `::1` (RFC 4291, section 2.5.3).
+    pub const LOOPBACK: Addr = Addr([0, 0, 0, 0, 0, 0, 0, 0, 0, 0, 0, 0, 0, 0, 0, 1]);
+
+    /// Whether it is a multicast address, in ff00::/8 (RFC 4291, section 2.7).
+    pub fn is_multicast(&self) -> bool
+        ensures { IsTrue result ↔ Holds multicast_prefix self.now.0 }
+    {
+        let bytes = self.as_bytes();
+        bytes[0] == 0xff
+    }
+
+    /// Whether it is a link-local unicast address, in fe80::/10 (RFC 4291, section 2.5.6).
+    pub fn is_link_local(&self) -> bool
+        ensures { IsTrue result ↔ Holds link_local_prefix self.now.0 }
+    {
+        let bytes = self.as_bytes();
+        bytes[0] == 0xfe && bytes[1] / 64 == 2
+    }
+
+    /// Whether it is the unspecified address `::` (RFC 4291, section 2.5.2).
+    pub fn is_unspecified(&self) -> bool
+        ensures { IsTrue result ↔ (self.now.0 ≡ unspecified_address) }
+    {
+        *self == Addr::UNSPECIFIED
+    }
+
+    /// Whether it is the loopback address `::1` (RFC 4291, section 2.5.3).
+    pub fn is_loopback(&self) -> bool
+        ensures { IsTrue result ↔ (self.now.0 ≡ loopback_address) }
+    {
+        *self == Addr::LOOPBACK
+    }
+
+    /// Its solicited-node multicast address: ff02::1:ff00:0/104 with its low 24 bits (RFC 4291,
+    /// section 2.7.1).
+    pub fn solicited_node(&self) -> Addr
+        ensures { result.0 ≡ solicited_node_of self.now.0 }
+    {
+        let [.., a, b, c] = self.0;
+        Addr([0xff, 2, 0, 0, 0, 0, 0, 0, 0, 0, 0, 1, 0xff, a, b, c])
+    }
+
+    /// The address of an interface: a prefix of 64 bits, and the modified EUI-64 of its Ethernet address
+    /// (RFC 4291, appendix A; RFC 2464, section 4).
+    pub fn from_mac(prefix: &Prefix, mac: Mac) -> Addr
+        requires { prefix.now.length ≡ 64 }
+        ensures { result.0 ≡ address_from_mac prefix.now.address.0 mac.0 }
+    {
+        let mut address = prefix.address();
+        let [a, b, c, d, e, f] = mac.0;
+        address.0[8..].copy_from_slice(&[a ^ 2, b, c, 0xff, 0xfe, d, e, f]);
+        address
+    }
+}
+
+impl Mac {
+    /// The Ethernet address to which a multicast packet is sent: 33:33 and the last four bytes of its
+    /// destination (RFC 2464, section 7).
+    pub fn multicast(destination: Addr) -> Mac
+        ensures { result.0 ≡ multicast_mac_of destination.0 }
+    {
+        let [.., a, b, c, d] = destination.0;
+        Mac([0x33, 0x33, a, b, c, d])
+    }
+}
