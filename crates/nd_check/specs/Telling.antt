@@ -7,6 +7,7 @@ use Rattle.nd_addr.specs.Text.{address_text, mac_text, prefix_text}
 use Rattle.nd_addr.specs.Why.{number_of, name_of}
 use Rattle.nd_addr.specs.declared.addr.Addr.{Addr}
 use Rattle.nd_decode.specs.Option as options
+use Rattle.nd_decode.specs.declared.prefix_info.PrefixInfo.{PrefixInfo}
 use Rattle.nd_decode.specs.declared.router_advertisement.RouterAdvertisement.{RouterAdvertisement}
 use Rattle.nd_decode.specs.declared.body.Body.{Body}
 use Rattle.nd_decode.specs.declared.body.Body.TheVariants.{Ra, Ns}
@@ -20,13 +21,19 @@ flags_text true false first second = first
 flags_text false true first second = second
 flags_text false false first second = codes "-"
 
+-- the two times of a Prefix Information, with a space before each
+abbrev pub lifetimes_text : PrefixInfo → List ℕ
+lifetimes_text p = codes " " ++ decimal p.valid_lifetime ++ codes " " ++ decimal p.preferred_lifetime
+
+-- the flags and the times of a Prefix Information, with a space before each
+abbrev pub behind_prefix_text : PrefixInfo → List ℕ
+behind_prefix_text p = codes " " ++ flags_text p.on_link p.autonomous (codes "l") (codes "a") ++ lifetimes_text p
+
 -- the text of an option, with a space before it
 abbrev pub option_text : options.Said → List ℕ
 option_text (options.slla mac) = codes " slla " ++ mac_text mac.0
 option_text (options.tlla mac) = codes " tlla " ++ mac_text mac.0
-option_text (options.prefix p) =
-    codes " prefix " ++ prefix_text p.prefix ++ codes " " ++ flags_text p.on_link p.autonomous (codes "l") (codes "a")
-    ++ codes " " ++ decimal p.valid_lifetime ++ codes " " ++ decimal p.preferred_lifetime
+option_text (options.prefix p) = codes " prefix " ++ prefix_text p.prefix ++ behind_prefix_text p
 option_text (options.other kind bytes) = codes " opt " ++ decimal kind ++ codes " " ++ hex_text bytes
 
 -- source and destination

@@ -4,7 +4,7 @@ ghost use Rattle.nd_decode.specs.Option.{view};
 ghost use Rattle.nd_decode.specs.Option as options;
 ghost use Rattle.nd_decode.specs.Pieces.{options_left};
 ghost use Rattle.nd_check.specs.Verdict.{said, verdict_of};
-ghost use Rattle.nd_check.specs.Telling.{flags_text, option_text, way_text, times_text, advertisement_text, body_text, told};
+ghost use Rattle.nd_check.specs.Telling.{flags_text, lifetimes_text, behind_prefix_text, option_text, way_text, times_text, advertisement_text, body_text, told};
 
 use crate::verdict::{Verdict, judge};
 use itoa::Buffer;
@@ -43,16 +43,33 @@ fn write_flags<A: Allocator>(
     }
 }
 
-/// Writes what an option tells of a prefix.
+/// Writes the two times of a Prefix Information.
+fn write_lifetimes<A: Allocator>(text: &mut String<A>, info: &PrefixInfo) -> Result<(), AllocError>
+    ensures { OnOk result (string_bytes text.new ≡ string_bytes text.old ++ lifetimes_text info.now) }
+{
+    write_number(text, " ", info.valid_lifetime)?;
+    write_number(text, " ", info.preferred_lifetime)
+}
+
+/// Writes the flags and the times of a Prefix Information.
+fn write_behind_prefix<A: Allocator>(
+    text: &mut String<A>,
+    info: &PrefixInfo,
+) -> Result<(), AllocError>
+    ensures { OnOk result (string_bytes text.new ≡ string_bytes text.old ++ behind_prefix_text info.now) }
+{
+    text.push_str(" ")?;
+    write_flags(text, (info.on_link, info.autonomous), ("l", "a"))?;
+    write_lifetimes(text, info)
+}
+
+/// Writes a Prefix Information.
 fn write_prefix<A: Allocator>(text: &mut String<A>, info: &PrefixInfo) -> Result<(), AllocError>
     ensures { OnOk result (string_bytes text.new ≡ string_bytes text.old ++ option_text (options.prefix info.now)) }
 {
     text.push_str(" prefix ")?;
     info.prefix.write_text(text)?;
-    text.push_str(" ")?;
-    write_flags(text, (info.on_link, info.autonomous), ("l", "a"))?;
-    write_number(text, " ", info.valid_lifetime)?;
-    write_number(text, " ", info.preferred_lifetime)
+    write_behind_prefix(text, info)
 }
 
 /// Writes an option, with a space before it.
