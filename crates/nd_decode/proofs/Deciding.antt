@@ -95,19 +95,31 @@ over_fault tail h =
 -- ---- bodies
 
 body_has : (bytes : List ℕ) → HasKnownKind bytes → HasBody bytes (body_of bytes)
-body_has bytes known = elim (cases_Bool (eqb (slice_index bytes 0) 134)) [
-  | inl ra ↦ rw ra (eqb-true _ _ ra, refl)
-  | inr ns ↦ rw ns (kind_is bytes known.known ns, refl)
-]
+body_has bytes known =
+    elim (cases_Bool (eqb (slice_index bytes 0) 133)) [
+      | inl e ↦ rw e (eqb-true _ _ e)
+      | inr n1 ↦ rw n1 (elim (cases_Bool (eqb (slice_index bytes 0) 134)) [
+        | inl e ↦ rw e (eqb-true _ _ e, refl)
+        | inr n2 ↦ rw n2 (elim (cases_Bool (eqb (slice_index bytes 0) 135)) [
+          | inl e ↦ rw e (eqb-true _ _ e, refl)
+          | inr n3 ↦ rw n3 (elim (cases_Bool (eqb (slice_index bytes 0) 136)) [
+            | inl e ↦ rw e (eqb-true _ _ e, refl)
+            | inr n4 ↦ rw n4 (last bytes known n1 n2 n3 n4, refl)
+          ])
+        ])
+      ])
+    ]
   where
-    kind_is : (b : List ℕ) → (slice_index b 0 ≡ 134) ⊎ (slice_index b 0 ≡ 135) → eqb (slice_index b 0) 134 ≡ false → slice_index b 0 ≡ 135
-    kind_is b (inl h) e = absurd (eqb-false _ _ e h)
-    kind_is b (inr h) e = h
+    last : (b : List ℕ) → HasKnownKind b → eqb (slice_index b 0) 133 ≡ false → eqb (slice_index b 0) 134 ≡ false → eqb (slice_index b 0) 135 ≡ false
+        → eqb (slice_index b 0) 136 ≡ false → slice_index b 0 ≡ 137
+    last b known n1 n2 n3 n4 = omega (arith, known.least, known.most, eqb-false _ _ n1, eqb-false _ _ n2, eqb-false _ _ n3, eqb-false _ _ n4)
 
 has_body : (bytes : List ℕ) (body : Body) → HasBody bytes body → body_of bytes ≡ body
-has_body bytes (bodies.Ra r) h = rw (eq-eqb _ _ h.0, h.1) refl
-has_body bytes (bodies.Ns n) h =
-    let other : eqb (slice_index bytes 0) 134 ≡ false = ne_eqb _ _ (λ e. omega (arith, h.0)) in rw (other, h.1) refl
+has_body bytes bodies.Rs h = rw h refl
+has_body bytes (bodies.Ra r) h = rw (h.0, h.1) refl
+has_body bytes (bodies.Ns n) h = rw (h.0, h.1) refl
+has_body bytes (bodies.Na n) h = rw (h.0, h.1) refl
+has_body bytes (bodies.Redirect r) h = rw (h.0, h.1) refl
 
 -- ---- the three ways
 

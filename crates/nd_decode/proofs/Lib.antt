@@ -1,4 +1,5 @@
 pub mod Walk
+pub mod Addresses
 pub mod Says
 pub mod Spelling
 pub mod Deciding

@@ -33,7 +33,7 @@ spelled (suc n) bytes le = elim (cases_Bool (begins_whole bytes)) [
       ∙ sym (append_assoc (take (piece_length bytes) bytes) more.0 (rest_in (drop (piece_length bytes) bytes)))
       ∙ ap (λ (t : List ℕ). (take (piece_length bytes) bytes ++ more.0) ++ t) (sym (rest_in_step bytes whole)) in
       let first = take (piece_length bytes) bytes in
-      (first ++ more.0, parts, rw (options_in_step bytes whole) (first, more.0, refl, front_piece bytes h, option_says first, more.2))
+      (first ++ more.0, parts, rw (options_in_step bytes whole) (first, more.0, refl, front_piece bytes h, option_says first (front_piece bytes h), more.2))
 ]
 
 -- a piece in front of anything
@@ -62,7 +62,7 @@ walked (o ∷ os) front tail over h =
     let ih = walked os h.1 tail over h.5 in
     let s = step_of h.0 (h.1 ++ tail) h.3 in
     let e : front ++ tail ≡ h.0 ++ (h.1 ++ tail) = ap (λ (f : List ℕ). f ++ tail) h.2 ∙ append_assoc h.0 h.1 tail in
-    let said : option_of (take (piece_length (h.0 ++ (h.1 ++ tail))) (h.0 ++ (h.1 ++ tail))) ≡ o = ap option_of s.first ∙ sym (says_one h.0 o h.4) in
+    let said : option_of (take (piece_length (h.0 ++ (h.1 ++ tail))) (h.0 ++ (h.1 ++ tail))) ≡ o = ap option_of s.first ∙ sym (says_one h.0 o h.3 h.4) in
     let later : options_in (drop (piece_length (h.0 ++ (h.1 ++ tail))) (h.0 ++ (h.1 ++ tail))) ≡ os = ap options_in s.after ∙ ih.0 in (
       ap options_in e ∙ options_in_step (h.0 ++ (h.1 ++ tail)) s.whole ∙ rw (said, later) refl,
       ap rest_in e ∙ rest_in_step (h.0 ++ (h.1 ++ tail)) s.whole ∙ ap rest_in s.after ∙ ih.1,

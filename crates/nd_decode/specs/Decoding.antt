@@ -5,11 +5,16 @@ use Rattle.nd_addr.specs.declared.why.Why.TheVariants.{Code, Length}
 use Rattle.nd_decode.specs.declared.body.Body.{Body}
 use Rattle.nd_decode.specs.declared.body.Body.TheVariants as bodies
 use Rattle.nd_decode.specs.Pieces.{options_in, rest_in, fault_of}
-use Rattle.nd_decode.specs.Message.{Parts, router_advertisement_of, neighbor_solicitation_of, least_length, behind_fields}
+use Rattle.nd_decode.specs.Message.{Parts, router_advertisement_of, neighbor_solicitation_of, neighbor_advertisement_of, redirect_of, least_length, behind_fields}
 
--- the fields of the type that the first byte tells (RFC 4861, sections 4.2 and 4.3)
+-- the fields of the type that the first byte tells (RFC 4861, sections 4.1 to 4.5)
 abbrev pub body_of : List ℕ → Body
-body_of bytes = if nat_eq (slice_index bytes 0) 134 then bodies.Ra (router_advertisement_of bytes) else bodies.Ns (neighbor_solicitation_of bytes)
+body_of bytes =
+    if nat_eq (slice_index bytes 0) 133 then bodies.Rs else
+    if nat_eq (slice_index bytes 0) 134 then bodies.Ra (router_advertisement_of bytes) else
+    if nat_eq (slice_index bytes 0) 135 then bodies.Ns (neighbor_solicitation_of bytes) else
+    if nat_eq (slice_index bytes 0) 136 then bodies.Na (neighbor_advertisement_of bytes) else
+    bodies.Redirect (redirect_of bytes)
 
 -- the message, if there is no reason against it
 abbrev pub unless : Option Why → Parts → Result Parts Why

@@ -1,3 +1,4 @@
+pub mod Servers
 pub mod Option
 pub mod Pieces
 pub mod Options

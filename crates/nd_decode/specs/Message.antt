@@ -1,10 +1,12 @@
 -- Which bytes spell which message, and why the others do not (RFC 4861, section 4).
-use Rattle.std.specs.Prelude.{◌≡◌, ◌≢◌, ℕ, ◌<◌, ◌≤◌, ◌⊎◌, nat_eq, List, length, drop, slice_index, slice_range, if◌then◌else◌}
+use Rattle.std.specs.Prelude.{◌≡◌, ◌≢◌, ℕ, ◌<◌, ◌≤◌, nat_eq, List, length, drop, slice_index, slice_range, if◌then◌else◌}
 use Rattle.byteorder.specs.Endian.{big_number}
 use Rattle.nd_addr.specs.declared.why.Why.{Why}
 use Rattle.nd_addr.specs.declared.why.Why.TheVariants.{Code, Length, OptionZero, OptionOver}
 use Rattle.nd_decode.specs.declared.router_advertisement.RouterAdvertisement.{RouterAdvertisement}
 use Rattle.nd_decode.specs.declared.neighbor_solicitation.NeighborSolicitation.{NeighborSolicitation}
+use Rattle.nd_decode.specs.declared.neighbor_advertisement.NeighborAdvertisement.{NeighborAdvertisement}
+use Rattle.nd_decode.specs.declared.redirect.Redirect.{Redirect}
 use Rattle.nd_decode.specs.declared.body.Body.{Body}
 use Rattle.nd_decode.specs.declared.body.Body.TheVariants as bodies
 use Rattle.nd_decode.specs.declared.message_ref.MessageRef.{MessageRef}
@@ -36,19 +38,40 @@ router_advertisement_of bytes = record {
 abbrev pub neighbor_solicitation_of : List ℕ → NeighborSolicitation
 neighbor_solicitation_of bytes = record { target = record { 0 = slice_range bytes 8 24 } }
 
--- the table of messages: the types (RFC 4861, sections 4.2 and 4.3)
+-- the fields of a Neighbor Advertisement at their places (RFC 4861, section 4.4)
+abbrev pub neighbor_advertisement_of : List ℕ → NeighborAdvertisement
+neighbor_advertisement_of bytes = record {
+  router = is_set (slice_index bytes 4) 0x80;
+  solicited = is_set (slice_index bytes 4) 0x40;
+  override_flag = is_set (slice_index bytes 4) 0x20;
+  target = record { 0 = slice_range bytes 8 24 };
+}
+
+-- the fields of a Redirect at their places (RFC 4861, section 4.5)
+abbrev pub redirect_of : List ℕ → Redirect
+redirect_of bytes = record { target = record { 0 = slice_range bytes 8 24 }; destination = record { 0 = slice_range bytes 24 40 } }
+
+-- the table of messages: the types, 133 to 137 (RFC 4861, sections 4.1 to 4.5)
 pub record HasKnownKind (bytes : List ℕ) : Type 0 where
   pub some : 1 ≤ length bytes
-  pub known : (slice_index bytes 0 ≡ 134) ⊎ (slice_index bytes 0 ≡ 135)
+  pub least : 133 ≤ slice_index bytes 0
+  pub most : slice_index bytes 0 ≤ 137
 
 -- the table of messages: the least length of each type, which is where its options begin
 abbrev pub least_length : ℕ → ℕ
-least_length kind = if nat_eq kind 134 then 16 else 24
+least_length kind =
+    if nat_eq kind 133 then 8 else
+    if nat_eq kind 134 then 16 else
+    if nat_eq kind 137 then 40 else
+    24
 
 -- the table of messages: the type and the fields of each; more bytes may follow
 abbrev pub HasBody : List ℕ → Body → Type 0
+HasBody bytes bodies.Rs = slice_index bytes 0 ≡ 133
 HasBody bytes (bodies.Ra r) = (slice_index bytes 0 ≡ 134) × (r ≡ router_advertisement_of bytes)
 HasBody bytes (bodies.Ns n) = (slice_index bytes 0 ≡ 135) × (n ≡ neighbor_solicitation_of bytes)
+HasBody bytes (bodies.Na n) = (slice_index bytes 0 ≡ 136) × (n ≡ neighbor_advertisement_of bytes)
+HasBody bytes (bodies.Redirect r) = (slice_index bytes 0 ≡ 137) × (r ≡ redirect_of bytes)
 
 -- the code is 0, and the bytes are long enough for the fields of their type
 pub record HasFields (bytes : List ℕ) : Type 0 where

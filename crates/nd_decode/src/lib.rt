@@ -1,26 +1,38 @@
-//! Reading messages of Neighbor Discovery (RFC 4861, section 4): borrowed values over their bytes, with no memory taken.
+//! Reading messages of Neighbor Discovery (RFC 4861, section 4; RFC 8106, section 5): borrowed values over their bytes, with
+//! no memory taken.
 #![tactic(auto)]
 
 mod body;
 mod decoding;
 mod message_ref;
+mod neighbor_advertisement;
 mod neighbor_solicitation;
 mod option_ref;
 mod options;
 mod prefix_info;
+mod redirect;
 mod router_advertisement;
+mod servers;
 
-pub use body::{Body, ICMPV6_NEIGHBOR_SOLICITATION, ICMPV6_ROUTER_ADVERTISEMENT};
+pub use body::{
+    Body, ICMPV6_NEIGHBOR_ADVERTISEMENT, ICMPV6_NEIGHBOR_SOLICITATION, ICMPV6_REDIRECT,
+    ICMPV6_ROUTER_ADVERTISEMENT, ICMPV6_ROUTER_SOLICITATION,
+};
 pub use decoding::decode;
 pub use message_ref::MessageRef;
+pub use nd_names::{NameRef, Names};
+pub use neighbor_advertisement::NeighborAdvertisement;
 pub use neighbor_solicitation::NeighborSolicitation;
 pub use option_ref::{
-    OPTION_PREFIX_INFORMATION, OPTION_SOURCE_LINK_LAYER_ADDRESS, OPTION_TARGET_LINK_LAYER_ADDRESS,
+    OPTION_DNS_SEARCH_LIST, OPTION_MTU, OPTION_PREFIX_INFORMATION, OPTION_RECURSIVE_DNS_SERVER,
+    OPTION_REDIRECTED_HEADER, OPTION_SOURCE_LINK_LAYER_ADDRESS, OPTION_TARGET_LINK_LAYER_ADDRESS,
     OptionRef,
 };
 pub use options::Options;
 pub use prefix_info::PrefixInfo;
+pub use redirect::Redirect;
 pub use router_advertisement::RouterAdvertisement;
+pub use servers::Servers;
 
 #[cfg(test)]
 mod tests;

@@ -1,8 +1,12 @@
 ghost use Rattle.std.specs.Prelude.{◌≡◌};
-ghost use Rattle.nd_decode.specs.Option.{IsPiece, view, option_of};
+ghost use Rattle.std.specs.Option.{option_map};
+ghost use Rattle.nd_decode.specs.Option.{IsPiece, view, known_of, option_of};
 
 use crate::prefix_info::PrefixInfo;
+use crate::servers::Servers;
+use byteorder::{BigEndian, ByteOrder};
 use nd_addr::Mac;
+use nd_names::Names;
 
 /// The type of a Source Link-Layer Address (RFC 4861, section 4.6.1).
 pub const OPTION_SOURCE_LINK_LAYER_ADDRESS: u8 = 1;
@@ -13,30 +17,78 @@ pub const OPTION_TARGET_LINK_LAYER_ADDRESS: u8 = 2;
 /// The type of a Prefix Information (RFC 4861, section 4.6.2).
 pub const OPTION_PREFIX_INFORMATION: u8 = 3;
 
-/// An option of a message, with its bytes where they lie (RFC 4861, section 4.6).
+/// The type of a Redirected Header (RFC 4861, section 4.6.3).
+pub const OPTION_REDIRECTED_HEADER: u8 = 4;
+
+/// The type of an MTU (RFC 4861, section 4.6.4).
+pub const OPTION_MTU: u8 = 5;
+
+/// The type of a Recursive DNS Server (RFC 8106, section 5.1).
+pub const OPTION_RECURSIVE_DNS_SERVER: u8 = 25;
+
+/// The type of a DNS Search List (RFC 8106, section 5.2).
+pub const OPTION_DNS_SEARCH_LIST: u8 = 31;
+
+/// An option of a message, with its bytes where they lie (RFC 4861, section 4.6; RFC 8106, section 5).
 #[derive(Clone, Copy, Debug)]
 pub enum OptionRef<'a> {
     Slla(Mac),
     Tlla(Mac),
     Prefix(PrefixInfo),
+    /// The beginning of the packet that was redirected, and what pads it to a multiple of 8 bytes.
+    Redirected(&'a [u8]),
+    /// The MTU of the link, in bytes.
+    Mtu(u32),
+    /// DNS servers, and for how many seconds they serve, all ones standing for ever.
+    Rdnss(u32, Servers<'a>),
+    /// Names in which to search, and for how many seconds, all ones standing for ever.
+    Dnssl(u32, Names<'a>),
     /// Any other option: its type, and its bytes behind the length.
     Other(u8, &'a [u8]),
 }
 
 impl<'a> OptionRef<'a> {
     /// What a piece says.
+    #[tactic(auto, unfolding(crate::specs::Option::option_of))]
     pub(crate) fn read(piece: &'a [u8]) -> OptionRef<'a>
         requires { IsPiece piece.now }
         ensures { view result ≡ option_of piece.entry.now }
     {
-        match (piece[0], piece[1]) {
-            (OPTION_SOURCE_LINK_LAYER_ADDRESS, 1) => OptionRef::Slla(Mac::at(piece, 2)),
-            (OPTION_TARGET_LINK_LAYER_ADDRESS, 1) => OptionRef::Tlla(Mac::at(piece, 2)),
-            (OPTION_PREFIX_INFORMATION, 4) => match PrefixInfo::read(piece) {
-                Some(info) => OptionRef::Prefix(info),
-                None => OptionRef::Other(OPTION_PREFIX_INFORMATION, &piece[2..]),
-            },
-            (kind, _) => OptionRef::Other(kind, &piece[2..]),
+        match OptionRef::known(piece) {
+            Some(option) => option,
+            None => OptionRef::Other(piece[0], &piece[2..]),
+        }
+    }
+
+    /// The row of the table that its type tells, if it fits.
+    #[tactic(auto, unfolding(crate::specs::Option::known_of))]
+    fn known(piece: &'a [u8]) -> Option<OptionRef<'a>>
+        requires { IsPiece piece.now }
+        ensures { option_map view result ≡ known_of piece.entry.now }
+    {
+        let length = piece[1];
+        match piece[0] {
+            OPTION_SOURCE_LINK_LAYER_ADDRESS if length == 1 => {
+                Some(OptionRef::Slla(Mac::at(piece, 2)))
+            }
+            OPTION_TARGET_LINK_LAYER_ADDRESS if length == 1 => {
+                Some(OptionRef::Tlla(Mac::at(piece, 2)))
+            }
+            OPTION_PREFIX_INFORMATION if length == 4 => {
+                let info = PrefixInfo::read(piece)?;
+                Some(OptionRef::Prefix(info))
+            }
+            OPTION_REDIRECTED_HEADER => Some(OptionRef::Redirected(&piece[8..])),
+            OPTION_MTU if length == 1 => Some(OptionRef::Mtu(BigEndian::read_u32(&piece[4..]))),
+            OPTION_RECURSIVE_DNS_SERVER if length % 2 == 1 && length >= 3 => {
+                let servers = Servers::read(&piece[8..])?;
+                Some(OptionRef::Rdnss(BigEndian::read_u32(&piece[4..]), servers))
+            }
+            OPTION_DNS_SEARCH_LIST if length >= 2 => {
+                let names = Names::read(&piece[8..])?;
+                Some(OptionRef::Dnssl(BigEndian::read_u32(&piece[4..]), names))
+            }
+            _ => None,
         }
     }
 }

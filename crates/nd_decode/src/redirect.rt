@@ -1,0 +1,26 @@
+ghost use Rattle.std.specs.Prelude.{◌≡◌, ◌≤◌, length};
+ghost use Rattle.nd_decode.specs.Message.{redirect_of};
+
+use nd_addr::Addr;
+
+/// A better first hop for a destination (RFC 4861, section 4.5).
+#[derive(Clone, Copy, Debug, PartialEq, Eq)]
+pub struct Redirect {
+    /// The better first hop, or the destination itself where that is a neighbor.
+    pub target: Addr,
+    /// The address whose packets are to go there.
+    pub destination: Addr,
+}
+
+impl Redirect {
+    /// The fields at their places.
+    pub(crate) fn read(bytes: &[u8]) -> Redirect
+        requires { 40 ≤ length bytes.now }
+        ensures { result ≡ redirect_of bytes.now }
+    {
+        Redirect {
+            target: Addr::at(bytes, 8),
+            destination: Addr::at(bytes, 24),
+        }
+    }
+}

@@ -1,0 +1,65 @@
+ghost use Rattle.std.specs.Prelude.{◌≡◌, ◌<◌, ◌≤◌, MatchOption, length, take, drop, true, false};
+ghost use Rattle.std.specs.List.{list_all};
+ghost use Rattle.nd_decode.specs.Servers.{servers_in, servers_left, is_server};
+
+use nd_addr::Addr;
+
+/// The addresses of DNS servers in some bytes, one behind the other (RFC 8106, section 5.1).
+#[derive(Clone, Copy, Debug)]
+pub struct Servers<'a> {
+    rest: &'a [u8],
+}
+
+impl<'a> Servers<'a> {
+    /// The addresses in these bytes, if each is one that a server can have.
+    pub(crate) fn read(bytes: &'a [u8]) -> Option<Servers<'a>>
+        ensures { MatchOption result (list_all is_server (servers_in bytes.entry.now) ≡ false)
+            (λ s. (list_all is_server (servers_in bytes.entry.now) ≡ true) × (servers_left s ≡ servers_in bytes.entry.now)) }
+    {
+        let servers = Servers { rest: bytes };
+        for server in servers {
+            if !is_server(server) {
+                return None;
+            }
+        }
+        Some(servers)
+    }
+}
+
+impl<'a> Iterator for Servers<'a> {
+    type Item = Addr;
+
+    ghost use Rattle.std.specs.Iterator.{YieldsFirst, item_count};
+    ghost use Rattle.nd_decode.specs.Servers.{servers_left};
+
+    ghost next_gives = { YieldsFirst servers_left };
+
+    ghost remaining = { item_count servers_left };
+
+    #[tactic(auto, using(crate::proofs::Addresses::servers_in_step, crate::proofs::Addresses::servers_in_stop))]
+    fn next(&mut self) -> Option<Addr> {
+        let (server, rest) = split_server(self.rest)?;
+        self.rest = rest;
+        Some(server)
+    }
+}
+
+/// The first address, and the bytes behind it, if one is whole.
+fn split_server(bytes: &[u8]) -> Option<(Addr, &[u8])>
+    ensures { MatchOption result (length bytes.now < 16) (λ p. (16 ≤ length bytes.now)
+        × (p.0.0 ≡ take 16 bytes.now) × (p.1.now ≡ drop 16 bytes.now)) }
+{
+    if bytes.len() < 16 {
+        return None;
+    }
+    let (first, rest) = bytes.split_at(16);
+    Some((Addr::at(first, 0), rest))
+}
+
+/// Whether a server can have the address: it is not multicast, unspecified or loopback.
+fn is_server(address: Addr) -> bool
+    ensures { result ≡ is_server address }
+{
+    let [first, ..] = address.0;
+    first != 0xff && address != Addr::UNSPECIFIED && address != Addr::LOOPBACK
+}
