@@ -1,6 +1,6 @@
 -- Bytes as numbers: masked bytes, equal bytes, the order of bytes.
 use Rattle.std.proofs.Common.{◌≡◌, ℕ, suc, ◌+◌, ◌*◌, ◌-◌, ◌/◌, ◌^◌, ◌<◌, ◌≤◌, ◌↔◌, List, [], ◌∷◌, length, slice_index, eqb, ltb, true, false, min, refl, sym, ap, subst, ◌∙◌, arith, inl, inr}
-use Rattle.std.proofs.lemmas.Bool.{cases_lt, eqb-true, eq-eqb, ne_eqb, lt-ltb, le-ltb}
+use Rattle.std.proofs.lemmas.Bool.{cases_lt, eqb-true, eq-eqb, ne_eqb, lt-ltb, le-ltb, false≢true}
 use Rattle.std.proofs.lemmas.Nat.{shl-shr, shr-shr, pow-add, pow_pos, div-mul-add, mul-add-lt, same_from_place}
 use Rattle.std.proofs.Math.Nat.{mul_assoc, mul_comm, add-mul, mul-add-div_right, mul-le-mul_right}
 use Rattle.std.specs.Prelude.{IsTrue, Bool}
@@ -149,6 +149,11 @@ tested_second n a b e first = (λ t. let two = eqb-true _ _ t in omega (arith, t
 -- and where it is another
 pub tested_first : (n a b : ℕ) → n ≡ a * 4 + b / 64 → b < 256 → (a ≡ 254 → ⊥) → IsTrue (eqb a 254) ↔ (n ≡ 1018)
 tested_first n a b e small other = (λ t. absurd (other (eqb-true _ _ t)), λ h. absurd (other (omega arith)))
+
+-- a test that says that two numbers are equal is their comparison
+pub same_test : (b : Bool) (n m : ℕ) → (IsTrue b ↔ (n ≡ m)) → b ≡ eqb n m
+same_test true n m h = sym (eq-eqb _ _ (h.0 refl))
+same_test false n m h = sym (ne_eqb _ _ (λ e. false≢true (h.1 e)))
 
 -- ---- the order of bytes is that of their numbers
 

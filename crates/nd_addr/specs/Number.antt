@@ -1,5 +1,5 @@
 -- An address as a number, and the bits that two addresses have in common (RFC 4291, sections 2 and 2.3).
-use Rattle.std.specs.Prelude.{◌≡◌, ℕ, ◌+◌, ◌-◌, ◌*◌, ◌/◌, ◌^◌, List, [], ◌∷◌, length}
+use Rattle.std.specs.Prelude.{◌≡◌, ℕ, ◌+◌, ◌-◌, ◌*◌, ◌/◌, ◌^◌, Bool, nat_eq, List, [], ◌∷◌, length}
 use Rattle.nd_addr.specs.Prefix.{PrefixValue}
 
 -- the number that bytes are, the first being the highest: of an address one below 2^128
@@ -14,3 +14,7 @@ AreAlike bits a b = number_of a / 2 ^ (128 - bits) ≡ number_of b / 2 ^ (128 - 
 -- the prefix holds the address
 abbrev pub Holds : PrefixValue → List ℕ → Type 0
 Holds prefix address = AreAlike prefix.length address prefix.address.0
+
+-- the same as a test
+abbrev pub holds : PrefixValue → List ℕ → Bool
+holds prefix address = nat_eq (number_of address / 2 ^ (128 - prefix.length)) (number_of prefix.address.0 / 2 ^ (128 - prefix.length))

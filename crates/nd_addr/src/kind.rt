@@ -1,8 +1,8 @@
 //! Kinds of address, and addresses that are made of others.
 
-ghost use Rattle.std.specs.Prelude.{◌≡◌, ◌↔◌, IsTrue};
+ghost use Rattle.std.specs.Prelude.{◌≡◌, ◌↔◌, IsTrue, bytes_eq};
 ghost use Rattle.nd_addr.specs.Kind.{multicast_prefix, link_local_prefix, unspecified_address, loopback_address, solicited_node_of, address_from_mac, multicast_mac_of};
-ghost use Rattle.nd_addr.specs.Number.{Holds};
+ghost use Rattle.nd_addr.specs.Number.{Holds, holds};
 
 use crate::addr::Addr;
 use crate::mac::Mac;
@@ -17,7 +17,8 @@ impl Addr {
 
     /// Whether it is a multicast address, in ff00::/8 (RFC 4291, section 2.7).
     pub fn is_multicast(&self) -> bool
-        ensures { IsTrue result ↔ Holds multicast_prefix self.now.0 }
+        ensures says { IsTrue result ↔ Holds multicast_prefix self.now.0 }
+        ensures exactly { result ≡ holds multicast_prefix self.now.0 }
     {
         let bytes = self.as_bytes();
         bytes[0] == 0xff
@@ -25,7 +26,8 @@ impl Addr {
 
     /// Whether it is a link-local unicast address, in fe80::/10 (RFC 4291, section 2.5.6).
     pub fn is_link_local(&self) -> bool
-        ensures { IsTrue result ↔ Holds link_local_prefix self.now.0 }
+        ensures says { IsTrue result ↔ Holds link_local_prefix self.now.0 }
+        ensures exactly { result ≡ holds link_local_prefix self.now.0 }
     {
         let bytes = self.as_bytes();
         bytes[0] == 0xfe && bytes[1] / 64 == 2
@@ -33,14 +35,16 @@ impl Addr {
 
     /// Whether it is the unspecified address `::` (RFC 4291, section 2.5.2).
     pub fn is_unspecified(&self) -> bool
-        ensures { IsTrue result ↔ (self.now.0 ≡ unspecified_address) }
+        ensures says { IsTrue result ↔ (self.now.0 ≡ unspecified_address) }
+        ensures exactly { result ≡ bytes_eq self.now.0 unspecified_address }
     {
         *self == Addr::UNSPECIFIED
     }
 
     /// Whether it is the loopback address `::1` (RFC 4291, section 2.5.3).
     pub fn is_loopback(&self) -> bool
-        ensures { IsTrue result ↔ (self.now.0 ≡ loopback_address) }
+        ensures says { IsTrue result ↔ (self.now.0 ≡ loopback_address) }
+        ensures exactly { result ≡ bytes_eq self.now.0 loopback_address }
     {
         *self == Addr::LOOPBACK
     }

@@ -44,8 +44,8 @@ server_is a len e =
 server_tests : (a : Addr) → IsServer a → is_server a ≡ true
 server_tests a h =
     and_from (not (eqb (slice_index a.0 0) 0xff) && not (bytes_eq a.0 unspecified_address)) (not (bytes_eq a.0 loopback_address))
-      (and_from (not (eqb (slice_index a.0 0) 0xff)) (not (bytes_eq a.0 unspecified_address)) (not_from_false _ (ne_eqb _ _ h.not_multicast)) (bytes_ne a.0 unspecified_address h.not_unspecified))
-      (bytes_ne a.0 loopback_address h.not_loopback)
+    (and_from (not (eqb (slice_index a.0 0) 0xff)) (not (bytes_eq a.0 unspecified_address)) (not_from_false _ (ne_eqb _ _ h.not_multicast)) (bytes_ne a.0 unspecified_address h.not_unspecified))
+    (bytes_ne a.0 loopback_address h.not_loopback)
 
 -- ---- what is read is spelled so
 

@@ -125,6 +125,7 @@ option_says piece p = by_known piece p (known_of piece) refl
   where
     no_other : (b : List ℕ) → known_of b ≡ None → (o : Said) → SaysKnown b o → ⊥
     no_other b e o h = let f = known_one b o h in absurd cc
+
     by_known : (b : List ℕ) → IsPiece b → (k : Option Said) → known_of b ≡ k → Says b (option_of b)
     by_known b p (Some o) e = rw (option_of-some b o e) (says_known b o (known_says b o p e))
     by_known b p None e = rw (option_of-none b e) (no_other b e, refl, refl)

@@ -1,0 +1,55 @@
+ghost use Rattle.std.specs.Prelude.{IsTrue};
+ghost use Rattle.nd_names.specs.Reading.{is_spelled};
+
+use crate::reading::is_same;
+use std::alloc::{AllocError, Allocator};
+
+/// A name of a search list, with its bytes where they lie (RFC 1035, section 3.1).
+#[derive(Clone, Copy, Debug)]
+pub struct NameRef<'a> {
+    bytes: &'a [u8],
+    /// They are the labels of a name.
+    pub ghost spelled: { IsTrue (is_spelled bytes.now) },
+}
+
+impl<'a> NameRef<'a> {
+    ghost use Rattle.std.specs.Prelude.{◌≡◌, ◌↔◌, IfOk};
+    ghost use Rattle.nd_names.specs.Name.{IsSpelled, IsName};
+    ghost use Rattle.nd_names.specs.NameRef.{bytes_of, name_of};
+    ghost use Rattle.nd_names.specs.Reading.{is_same};
+
+    /// The labels of a name.
+    pub(crate) fn new(bytes: &'a [u8]) -> NameRef<'a>
+        requires { IsTrue (is_spelled bytes.now) }
+        ensures { bytes_of result ≡ bytes.entry.now }
+    {
+        NameRef { bytes }
+    }
+
+    /// Its labels as they lie, each behind its length byte, without the zero byte at the end.
+    pub fn as_bytes(&self) -> &'a [u8]
+        ensures value { result.now ≡ bytes_of self.now }
+        ensures spelled { IsSpelled result.now }
+    {
+        self.bytes
+    }
+
+    /// Whether it is this name, which is in small letters. Names are compared without regard to case (RFC 1035, section 2.3.3).
+    pub fn is(&self, name: &[u8]) -> bool
+        ensures { IsTrue result ↔ (name_of self.now ≡ name.now) }
+    {
+        is_same(self.bytes, name)
+    }
+
+    /// The name in small letters, each label behind its length byte. The error is want of memory.
+    pub fn lowered<A: Allocator>(&self, alloc: A) -> Result<Vec<u8, A>, AllocError>
+        ensures exact { IfOk result (λ v. v.items ≡ name_of self.now) }
+        ensures name { IsName (name_of self.now) }
+    {
+        let mut name = Vec::new(alloc);
+        for byte in self.bytes {
+            name.push(byte.to_ascii_lowercase())?;
+        }
+        Ok(name)
+    }
+}

@@ -1,0 +1,43 @@
+ghost use Rattle.std.specs.Prelude.{◌≡◌, ◌++◌, ◌<◌, OnOk, string_bytes};
+ghost use Rattle.std.specs.List.{AllByRecursion};
+ghost use Rattle.nd_names.specs.Name.{lowered};
+ghost use Rattle.nd_names.specs.NameRef.{name_of};
+ghost use Rattle.nd_names.specs.Text.{IsText, text_from, name_text};
+
+use crate::name_ref::NameRef;
+use std::alloc::{AllocError, Allocator};
+
+impl NameRef<'_> {
+    /// Writes its labels in small letters with dots between them (RFC 1035, section 2.3.1). The error is want of memory.
+    pub fn write_text<A: Allocator>(&self, text: &mut String<A>) -> Result<(), AllocError>
+        ensures written { OnOk result (string_bytes text.new ≡ string_bytes text.old ++ name_text (name_of self.now)) }
+        ensures rules { IsText (name_of self.now) (name_text (name_of self.now)) }
+    {
+        match self.as_bytes() {
+            [first, rest @ ..] => push_from(text, *first, rest),
+            [] => Ok(()),
+        }
+    }
+}
+
+/// Writes what is left of the text, where so many bytes of a label are still to come.
+fn push_from<A: Allocator>(text: &mut String<A>, first: u8, bytes: &[u8]) -> Result<(), AllocError>
+    requires { AllByRecursion (λ byte. byte < 128) bytes.now }
+    ensures { OnOk result (string_bytes text.new ≡ string_bytes text.old ++ text_from first (lowered bytes.now)) }
+{
+    let mut left = first;
+    let mut rest = bytes;
+    while let [byte, after @ ..] = rest {
+        // A length byte is below all letters.
+        let byte = byte.to_ascii_lowercase();
+        if left == 0 {
+            text.push('.')?;
+            left = byte;
+        } else {
+            text.push(char::from(byte))?;
+            left -= 1;
+        }
+        rest = after;
+    }
+    Ok(())
+}

@@ -1,0 +1,3 @@
+pub mod Order
+pub mod Frames
+pub mod Deciding

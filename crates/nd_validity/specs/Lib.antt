@@ -1,0 +1,4 @@
+pub mod Places
+pub mod Validity
+pub mod Reasons
+pub mod Hearing

@@ -1,0 +1,67 @@
+-- Why a frame is dropped: one statement for each reason, over the frame and the role of who hears it, and their order.
+use Rattle.std.specs.Prelude.{◌≡◌, ◌≢◌, ℕ, ◌+◌, ◌/◌, ◌^◌, ◌<◌, ◌⊎◌, IsTrue, List, [], ◌∷◌, length, drop}
+use Rattle.std.specs.List.{AllByRecursion}
+use Rattle.byteorder.specs.Endian.{big_number}
+use Rattle.nd_addr.specs.declared.role.Role.{Role}
+use Rattle.nd_addr.specs.declared.why.Why.{Why}
+use Rattle.nd_addr.specs.declared.why.Why.TheVariants.{FrameShort, NotIpv6, HeaderShort, Version, PayloadShort, Code, Length, OptionZero, OptionOver, HopLimit, Sum, Source, Target, UnspecifiedSlla, NotSolicitedNode, SolicitedMulticast, RedirectTarget, RedirectDestination, NotForUs, NotFirstHop}
+use Rattle.nd_addr.specs.Ip6.{payload_length_of}
+use Rattle.nd_addr.specs.Checksum.{IsGoodSum}
+use Rattle.nd_decode.specs.Message.{Parts, Spells, IsRefused}
+use Rattle.nd_validity.specs.Places.{packet_in, header_in, payload_in, IsMessage}
+use Rattle.nd_validity.specs.Validity.{has_fault}
+
+-- the frame is a message, whose bytes spell no message, for this reason (RFC 4861, section 4)
+abbrev pub IsMisspelled : List ℕ → Why → Type 0
+IsMisspelled frame why = IsMessage (header_in frame) (payload_in frame) × IsRefused (payload_in frame) why
+
+-- the frame is a message that has this fault (RFC 4861, sections 6.1, 7.1 and 8.1)
+abbrev pub IsFaulty : List ℕ → Role → Why → Type 0
+IsFaulty frame role why = IsMessage (header_in frame) (payload_in frame)
+    × (message : Parts) × Spells (payload_in frame) message × IsTrue (has_fault (header_in frame).source (header_in frame).destination role message why)
+
+-- The reasons. Those behind the fifth are of messages alone.
+abbrev pub IsReason : List ℕ → Role → Why → Type 0
+-- fewer bytes than an Ethernet header has (RFC 2464, section 3)
+IsReason frame role FrameShort = length frame < 14
+-- another Ethernet type (RFC 2464, section 3)
+IsReason frame role NotIpv6 = big_number 2 (drop 12 frame) ≢ 0x86dd
+-- fewer bytes than an IPv6 header has (RFC 8200, section 3)
+IsReason frame role HeaderShort = length (packet_in frame) < 40
+-- another version (RFC 8200, section 3)
+IsReason frame role Version = big_number 4 (packet_in frame) / 2 ^ 28 ≢ 6
+-- fewer bytes than the payload length says (RFC 8200, section 3)
+IsReason frame role PayloadShort = length (packet_in frame) < 40 + payload_length_of (packet_in frame)
+-- a hop limit other than 255: a router may have sent it on (RFC 4861, sections 6.1, 7.1 and 8.1)
+IsReason frame role HopLimit = IsMessage (header_in frame) (payload_in frame) × ((header_in frame).hop_limit ≢ 255)
+-- a bad checksum (RFC 4443, section 2.3)
+IsReason frame role Sum = IsMessage (header_in frame) (payload_in frame)
+    × (IsGoodSum (header_in frame).source.0 (header_in frame).destination.0 (payload_in frame) → ⊥)
+IsReason frame role Code = IsMisspelled frame Code
+IsReason frame role Length = IsMisspelled frame Length
+IsReason frame role OptionZero = IsMisspelled frame OptionZero
+IsReason frame role OptionOver = IsMisspelled frame OptionOver
+IsReason frame role Source = IsFaulty frame role Source
+IsReason frame role Target = IsFaulty frame role Target
+IsReason frame role UnspecifiedSlla = IsFaulty frame role UnspecifiedSlla
+IsReason frame role NotSolicitedNode = IsFaulty frame role NotSolicitedNode
+IsReason frame role SolicitedMulticast = IsFaulty frame role SolicitedMulticast
+IsReason frame role RedirectTarget = IsFaulty frame role RedirectTarget
+IsReason frame role RedirectDestination = IsFaulty frame role RedirectDestination
+IsReason frame role NotForUs = IsFaulty frame role NotForUs
+-- this one asks the node that hears
+IsReason frame role NotFirstHop = ⊥
+
+-- the order in which they are asked
+abbrev pub order : List Why
+order = FrameShort ∷ NotIpv6 ∷ HeaderShort ∷ Version ∷ PayloadShort ∷ HopLimit ∷ Sum ∷ Code ∷ Length ∷ OptionZero ∷ OptionOver ∷ Source
+    ∷ Target ∷ UnspecifiedSlla ∷ NotSolicitedNode ∷ SolicitedMulticast ∷ RedirectTarget ∷ RedirectDestination ∷ NotForUs ∷ []
+
+-- the first of some reasons that holds
+abbrev pub IsFirstOf : (Why → Type 0) → List Why → Why → Type 0
+IsFirstOf Holds [] first = ⊥
+IsFirstOf Holds (why ∷ whys) first = ((first ≡ why) × Holds why) ⊎ ((Holds why → ⊥) × IsFirstOf Holds whys first)
+
+-- none of some reasons holds
+abbrev pub NoneOf : (Why → Type 0) → List Why → Type 0
+NoneOf Holds whys = AllByRecursion (λ why. Holds why → ⊥) whys

@@ -1,0 +1,101 @@
+ghost use Rattle.std.specs.Prelude.{◌≡◌};
+ghost use Rattle.nd_validity.specs.Hearing.{Outcome, outcome, Hears, is_message, outcome_of_packet, hearing_of};
+
+use crate::validity::fault;
+use nd_addr::{Addr, Frame, Ip6, Ip6Ref, Role, Why, sum_is_good};
+use nd_decode::{ICMPV6_REDIRECT, ICMPV6_ROUTER_SOLICITATION, MessageRef, decode};
+
+/// The next header of ICMPv6 (RFC 4443, section 1).
+pub const ICMPV6: u8 = 58;
+
+/// The hop limit of every message of Neighbor Discovery: no router can have sent it on (RFC 4861, section 3.1).
+pub const HOP_LIMIT: u8 = 255;
+
+/// A valid message, with the addresses of its packet.
+#[derive(Clone, Copy, Debug)]
+pub struct Heard<'a> {
+    pub source: Addr,
+    pub destination: Addr,
+    pub message: MessageRef<'a>,
+}
+
+/// What is heard in a frame, with its bytes where they lie.
+#[derive(Clone, Copy, Debug)]
+pub enum Hearing<'a> {
+    /// A valid message of Neighbor Discovery.
+    Valid(Heard<'a>),
+    /// A packet that is no such message.
+    Other(Ip6Ref<'a>),
+    /// The first reason to drop the frame.
+    Drop(Why),
+}
+
+/// What a frame is to a host or to a router (RFC 4861, sections 6.1, 7.1 and 8.1).
+///
+/// The reasons are looked for in this order: `FrameShort`, `NotIpv6`, `HeaderShort`, `Version`, `PayloadShort`; then, of messages
+/// alone, `HopLimit`, `Sum`, `Code`, `Length`, `OptionZero`, `OptionOver`, `Source`, `Target`, `UnspecifiedSlla`,
+/// `NotSolicitedNode`, `SolicitedMulticast`, `RedirectTarget`, `RedirectDestination`, `NotForUs`. What asks for a node's
+/// addresses or tables isn't looked at, nor are the Ethernet addresses.
+pub fn hear(frame: &[u8], role: Role) -> Hearing<'_>
+    // What is answered is heard so, and nothing else is.
+    ensures heard { Hears frame.now role (outcome result) }
+    ensures only { (o : Outcome) → Hears frame.now role o → outcome result ≡ o }
+    // The same by a function.
+    ensures exactly { outcome result ≡ hearing_of frame.now role }
+{
+    hear_exactly(frame, role)
+}
+
+/// What a frame is, by the function that decides it.
+#[tactic(auto, unfolding(crate::specs::Hearing::hearing_of))]
+fn hear_exactly(frame: &[u8], role: Role) -> Hearing<'_>
+    ensures { outcome result ≡ hearing_of frame.now role }
+{
+    let frame = match Frame::read(frame) {
+        Ok(frame) => frame,
+        Err(why) => return Hearing::Drop(why),
+    };
+    match Ip6::read(frame.rest) {
+        Ok(packet) => hear_packet(packet, role),
+        Err(why) => Hearing::Drop(why),
+    }
+}
+
+/// What a packet is.
+fn hear_packet(packet: Ip6Ref<'_>, role: Role) -> Hearing<'_>
+    ensures { outcome result ≡ outcome_of_packet role (record { header = packet.entry.header; payload = packet.entry.payload.now }) }
+{
+    let header = packet.header;
+    if !is_message(&packet) {
+        return Hearing::Other(packet);
+    }
+    if header.hop_limit != HOP_LIMIT {
+        return Hearing::Drop(Why::HopLimit);
+    }
+    if !sum_is_good(header.source, header.destination, packet.payload) {
+        return Hearing::Drop(Why::Sum);
+    }
+    let message = match decode(packet.payload) {
+        Ok(message) => message,
+        Err(why) => return Hearing::Drop(why),
+    };
+    let heard = Heard {
+        source: header.source,
+        destination: header.destination,
+        message,
+    };
+    match fault(&heard, role) {
+        Some(why) => Hearing::Drop(why),
+        None => Hearing::Valid(heard),
+    }
+}
+
+/// Whether a packet is a message of Neighbor Discovery, by its next header and its type.
+fn is_message(packet: &Ip6Ref<'_>) -> bool
+    ensures { result ≡ is_message packet.now.header packet.now.payload.now }
+{
+    packet.header.next_header == ICMPV6
+        && !packet.payload.is_empty()
+        && packet.payload[0] >= ICMPV6_ROUTER_SOLICITATION
+        && packet.payload[0] <= ICMPV6_REDIRECT
+}
