@@ -1,3 +1,5 @@
-pub mod Verdict
+pub mod Words
+pub mod OptionText
+pub mod MessageText
 pub mod Telling
 pub mod Check

@@ -3,8 +3,10 @@
 #![tactic(auto)]
 
 mod check;
+mod message_text;
+mod option_text;
 mod telling;
-mod verdict;
+mod words;
 
 pub use check::run_check;
 

@@ -22,6 +22,14 @@ servers_in_stop bytes short =
     let count : length bytes / 16 ≡ 0 = omega arith in
     ap (λ (n : ℕ). servers_from n bytes) count
 
+length-servers_from : (n : ℕ) (bytes : List ℕ) → length (servers_from n bytes) ≡ n
+length-servers_from zero bytes = refl
+length-servers_from (suc n) bytes = ap suc (length-servers_from n (drop 16 bytes))
+
+pub servers_in_length : (bytes : List ℕ) → length (servers_in bytes) ≡ length bytes / 16
+unfolding servers_in
+servers_in_length bytes = length-servers_from (length bytes / 16) bytes
+
 -- ---- the test of one address
 
 ne_bytes : (a b : List ℕ) → not (bytes_eq a b) ≡ true → a ≡ b → ⊥

@@ -24,6 +24,14 @@ impl<'a> Servers<'a> {
         }
         Some(servers)
     }
+
+    /// How many addresses are left.
+    #[tactic(auto, using(crate::proofs::Addresses::servers_in_length))]
+    pub fn len(&self) -> usize
+        ensures { result ≡ length (servers_left self.now) }
+    {
+        self.rest.len() / 16
+    }
 }
 
 impl<'a> Iterator for Servers<'a> {

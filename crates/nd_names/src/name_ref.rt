@@ -38,7 +38,7 @@ impl<'a> NameRef<'a> {
     pub fn is(&self, name: &[u8]) -> bool
         ensures { IsTrue result ↔ (name_of self.now ≡ name.now) }
     {
-        is_same(self.bytes, name)
+        is_same(self.as_bytes(), name)
     }
 
     /// The name in small letters, each label behind its length byte. The error is want of memory.
@@ -46,8 +46,9 @@ impl<'a> NameRef<'a> {
         ensures exact { IfOk result (λ v. v.items ≡ name_of self.now) }
         ensures name { IsName (name_of self.now) }
     {
+        let bytes = self.as_bytes();
         let mut name = Vec::new(alloc);
-        for byte in self.bytes {
+        for byte in bytes {
             name.push(byte.to_ascii_lowercase())?;
         }
         Ok(name)

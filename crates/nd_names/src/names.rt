@@ -27,6 +27,20 @@ impl<'a> Names<'a> {
         Names::read_exactly(bytes)
     }
 
+    /// How many names there are.
+    #[tactic(auto, using(crate::proofs::Walk::names_in_step, crate::proofs::Walk::names_in_stop))]
+    pub fn len(&self) -> usize
+        ensures { result ≡ length (names_left self.now) }
+    {
+        let mut count = 0;
+        let mut rest = self.rest;
+        while let Some((_, after)) = split_name(rest) {
+            count += 1;
+            rest = after;
+        }
+        count
+    }
+
     /// The same, by the functions that decide it.
     #[tactic(auto, unfolding(crate::specs::Names::spells_names))]
     fn read_exactly(bytes: &'a [u8]) -> Option<Names<'a>>

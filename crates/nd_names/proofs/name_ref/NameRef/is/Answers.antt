@@ -1,6 +1,9 @@
-use Rattle.std.proofs.Common.{◌≡◌, ◌∙◌, true, sym}
+use Rattle.std.proofs.Common.{◌∙◌, List, ℕ, sym, ap}
+use Rattle.nd_names.specs.Reading.{is_same}
 use Rattle.nd_names.proofs.Lowering.{same_says, same_tests}
 use Rattle.nd_names.proofs.name_ref.NameRef.is.Goals as goal
 
 pub returns : goal.returns
-returns c = (λ t. same_says c.args.self.now.bytes.now c.args.name.now (sym c.is_same.ensures ∙ t), λ e. c.is_same.ensures ∙ same_tests c.args.self.now.bytes.now c.args.name.now e)
+returns c =
+    let test = c.is_same.ensures ∙ ap (λ (b : List ℕ). is_same b c.args.name.now) c.as_bytes.ensures.value in
+    (λ t. same_says c.args.self.now.bytes.now c.args.name.now (sym test ∙ t), λ e. test ∙ same_tests c.args.self.now.bytes.now c.args.name.now e)

@@ -3,4 +3,4 @@ use Rattle.std.specs.Char.{to_ascii_lowercase}
 use Rattle.nd_names.proofs.name_ref.NameRef.lowered.Given as goal
 
 abbrev pub invariant-loop-byte : goal.invariant-loop-byte
-invariant-loop-byte g l = l.name.items ≡ map to_ascii_lowercase (take l.byte-index l.self.bytes.now)
+invariant-loop-byte g l = l.name.items ≡ map to_ascii_lowercase (take l.byte-index l.bytes)

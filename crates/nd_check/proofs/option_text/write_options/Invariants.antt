@@ -2,8 +2,8 @@ use Rattle.std.proofs.Common.{◌≡◌, ◌++◌}
 use Rattle.std.specs.Prelude.{string_bytes}
 use Rattle.std.specs.List.{flat_map}
 use Rattle.nd_decode.specs.Pieces.{options_left}
-use Rattle.nd_check.specs.Telling.{option_text}
-use Rattle.nd_check.proofs.telling.write_options.Given as goal
+use Rattle.nd_check.specs.OptionText.{option_text}
+use Rattle.nd_check.proofs.option_text.write_options.Given as goal
 
 abbrev pub invariant-loop-option : goal.invariant-loop-option
 invariant-loop-option g l =
