@@ -32,7 +32,45 @@ const ROUTER_SOLICITATION: &str =
     "3333000000023456789abcde86dd6000000000103afffe80000000000000365678fffe9abcdeff020000000000000000\
     0000000000028500a78f0000000001013456789abcde";
 
-/// What is answered to the first two of these frames.
+/// A Router Advertisement with a Source Link-Layer Address.
+const ADVERTISEMENT: &str =
+    "33330000000102000000000186dd6000000000183afffe80000000000000000000fffe000001ff020000000000000000\
+    0000000000018600331d4000070800000000000000000101020000000001";
+
+/// A Neighbor Advertisement that answers a solicitation.
+const ANSWER: &str =
+    "3456789abcde02000000000186dd6000000000203afffe80000000000000000000fffe000001fe800000000000003656\
+    78fffe9abcde88002f4ee0000000fe80000000000000000000fffe0000010201020000000001";
+
+/// A Neighbor Advertisement to all nodes.
+const ANSWER_TO_ALL_NODES: &str =
+    "3333000000013456789abcde86dd6000000000203afffe80000000000000365678fffe9abcdeff020000000000000000\
+    00000000000188001a3020000000fe80000000000000365678fffe9abcde02013456789abcde";
+
+/// A Redirect with a Target Link-Layer Address.
+const REDIRECT: &str =
+    "3456789abcde02000000000186dd6000000000303afffe80000000000000000000fffe000001fe800000000000003656\
+    78fffe9abcde8900df7d00000000fe80000000000000000000000000000220010db80001000000000000000000050201\
+    020000000002";
+
+/// A Redirect with the packet that was redirected.
+const REDIRECT_WITH_PACKET: &str =
+    "02000000000902000000000186dd6000000000583afffe80000000000000000000fffe00000120010db8000000000000\
+    00000000000989004e1f00000000fe80000000000000000000000000000220010db80001000000000000000000050406\
+    000000000000600000000000114020010db800000000000000000000000920010db8000100000000000000000005";
+
+/// A Router Advertisement with an MTU, a DNS server and a name whose first letter is a capital.
+const ADVERTISEMENT_WITH_DNS: &str =
+    "33330000000102000000000186dd6000000000483afffe80000000000000000000fffe000001ff020000000000000000\
+    000000000001860062be40c0000000000000000000000501000000000578190300000000070820010db8000000000000\
+    0000000000531f030000000007080141076578616d706c65000000000000";
+
+/// A UDP datagram of one byte.
+const DATAGRAM: &str =
+    "0200000000013456789abcde86dd6000000000011140fe80000000000000365678fffe9abcdefe800000000000000000\
+    00fffe00000100";
+
+/// What is answered to two of these frames.
 const TWO_ANSWERS: &str = "ns :: ff02::1:ff9a:bcde target fe80::3656:78ff:fe9a:bcde\n\
     ra fe80::ff:fe00:1 ff02::1 hop 64 flags - lifetime 1800 reachable 0 retrans 0 \
     slla 02:00:00:00:00:01 prefix 2001:db8::/64 la 2592000 604800\n";
@@ -105,8 +143,254 @@ fn an_option_of_length_zero_ends_nothing(rt: HostRuntime) -> Result<(), Fail> {
 }
 
 #[test]
-fn other_messages_are_other_packets(rt: HostRuntime) -> Result<(), Fail> {
-    expect(&rt, ROUTER_SOLICITATION, 65536, "other 58\n", Ok(()))
+fn each_message_is_told(rt: HostRuntime) -> Result<(), Fail> {
+    expect(
+        &rt,
+        ROUTER_SOLICITATION,
+        65536,
+        "rs fe80::3656:78ff:fe9a:bcde ff02::2 slla 34:56:78:9a:bc:de\n",
+        Ok(()),
+    )?;
+    let answer =
+        "na fe80::ff:fe00:1 fe80::3656:78ff:fe9a:bcde flags rso target fe80::ff:fe00:1 tlla 02:00:00:00:00:01\n";
+    expect(&rt, ANSWER, 65536, answer, Ok(()))?;
+    let redirect =
+        "redirect fe80::ff:fe00:1 fe80::3656:78ff:fe9a:bcde target fe80::2 destination 2001:db8:1::5 \
+        tlla 02:00:00:00:00:02\n";
+    expect(&rt, REDIRECT, 65536, redirect, Ok(()))?;
+    expect(&rt, DATAGRAM, 65536, "other 17\n", Ok(()))
+}
+
+#[test]
+fn each_option_is_told(rt: HostRuntime) -> Result<(), Fail> {
+    let advertisement =
+        "ra fe80::ff:fe00:1 ff02::1 hop 64 flags mo lifetime 0 reachable 0 retrans 0 mtu 1400 \
+        rdnss 1800 1 2001:db8::53 dnssl 1800 1 a.example\n";
+    expect(&rt, ADVERTISEMENT_WITH_DNS, 65536, advertisement, Ok(()))?;
+    let redirect =
+        "redirect fe80::ff:fe00:1 2001:db8::9 target fe80::2 destination 2001:db8:1::5 redirected 40\n";
+    expect(&rt, REDIRECT_WITH_PACKET, 65536, redirect, Ok(()))
+}
+
+/// A frame with other digits from a place on.
+fn put(
+    rt: &(impl Abort + AllocGlobal),
+    frame: &str,
+    place: usize,
+    digits: &str,
+) -> Result<String, Fail> {
+    let front = frame.get(..place).ok_or("front")?;
+    let behind = frame
+        .get(place.saturating_add(digits.len())..)
+        .ok_or("behind")?;
+    Ok(format!(in rt.alloc(); "{front}{digits}{behind}")?)
+}
+
+/// Expects what is answered to a frame with other digits from a place on, and another checksum.
+fn expect_changed(
+    rt: &(impl Abort + AllocGlobal),
+    frame: &str,
+    change: (usize, &str),
+    sum: &str,
+    answer: &str,
+) -> Result<(), Fail> {
+    let changed = put(rt, frame, change.0, change.1)?;
+    let summed = put(rt, &changed, 112, sum)?;
+    expect(rt, &summed, 65536, answer, Ok(()))
+}
+
+/// Where the digits of the IPv6 source, of the destination and of the target begin.
+const SOURCE: usize = 44;
+
+const DESTINATION: usize = 76;
+
+const TARGET: usize = 124;
+
+#[test]
+fn a_hop_limit_below_255_is_told_first(rt: HostRuntime) -> Result<(), Fail> {
+    expect_changed(
+        &rt,
+        SOLICITATION_FOR_LINK_LOCAL,
+        (42, "fe"),
+        "53de",
+        "drop 10 HopLimit\n",
+    )
+}
+
+#[test]
+fn sources_that_no_message_has_are_dropped(rt: HostRuntime) -> Result<(), Fail> {
+    let global = "20010db8000000000000000000000009";
+    expect_changed(
+        &rt,
+        ADVERTISEMENT,
+        (SOURCE, global),
+        "02dd",
+        "drop 12 Source\n",
+    )?;
+    let multicast = "ff020000000000000000000000000001";
+    expect_changed(
+        &rt,
+        ROUTER_SOLICITATION,
+        (SOURCE, multicast),
+        "11dc",
+        "drop 12 Source\n",
+    )
+}
+
+#[test]
+fn a_multicast_target_is_dropped(rt: HostRuntime) -> Result<(), Fail> {
+    let multicast = "ff020000000000000000000000000001";
+    expect_changed(
+        &rt,
+        SOLICITATION_FOR_LINK_LOCAL,
+        (TARGET, multicast),
+        "be2b",
+        "drop 13 Target\n",
+    )
+}
+
+#[test]
+fn a_link_layer_address_of_nobody_is_dropped(rt: HostRuntime) -> Result<(), Fail> {
+    let unspecified = "00000000000000000000000000000000";
+    expect_changed(
+        &rt,
+        ROUTER_SOLICITATION,
+        (SOURCE, unspecified),
+        "10e0",
+        "drop 14 UnspecifiedSlla\n",
+    )
+}
+
+#[test]
+fn a_probe_to_all_nodes_is_dropped(rt: HostRuntime) -> Result<(), Fail> {
+    let all_nodes = "ff020000000000000000000000000001";
+    expect_changed(
+        &rt,
+        SOLICITATION_FOR_LINK_LOCAL,
+        (DESTINATION, all_nodes),
+        "1059",
+        "drop 15 NotSolicitedNode\n",
+    )
+}
+
+#[test]
+fn an_answer_to_all_nodes_that_says_solicited_is_dropped(rt: HostRuntime) -> Result<(), Fail> {
+    expect_changed(
+        &rt,
+        ANSWER_TO_ALL_NODES,
+        (116, "60000000"),
+        "da2f",
+        "drop 16 SolicitedMulticast\n",
+    )
+}
+
+#[test]
+fn bad_redirects_are_dropped(rt: HostRuntime) -> Result<(), Fail> {
+    let global = "20010db8000000000000000000000009";
+    expect_changed(
+        &rt,
+        REDIRECT,
+        (TARGET, global),
+        "b03e",
+        "drop 17 RedirectTarget\n",
+    )?;
+    let multicast = "ff020000000000000000000000000005";
+    expect_changed(
+        &rt,
+        REDIRECT,
+        (156, multicast),
+        "0e35",
+        "drop 18 RedirectDestination\n",
+    )
+}
+
+/// The digits of a byte.
+const DIGITS: [u8; 16] = [
+    b'0', b'1', b'2', b'3', b'4', b'5', b'6', b'7', b'8', b'9', b'a', b'b', b'c', b'd', b'e', b'f',
+];
+
+/// A line for each value of the byte whose digits begin at a place.
+fn lines_of_values(
+    rt: &(impl Abort + AllocGlobal),
+    frame: &[u8],
+    place: usize,
+) -> Result<Vec<u8>, Fail> {
+    let front = frame.get(..place).ok_or("front")?;
+    let behind = frame.get(place.saturating_add(2)..).ok_or("behind")?;
+    let mut lines = Vec::new(rt.alloc());
+    for high in &DIGITS {
+        for low in &DIGITS {
+            lines.extend_from_slice(front)?;
+            lines.push(*high)?;
+            lines.push(*low)?;
+            lines.extend_from_slice(behind)?;
+            lines.push(b'\n')?;
+        }
+    }
+    Ok(lines)
+}
+
+/// A line for each beginning of a frame.
+fn lines_of_beginnings(rt: &(impl Abort + AllocGlobal), frame: &[u8]) -> Result<Vec<u8>, Fail> {
+    let mut lines = Vec::new(rt.alloc());
+    for byte in 0..frame.len() / 2 {
+        lines.extend_from_slice(frame.get(..2 * byte).ok_or("beginning")?)?;
+        lines.push(b'\n')?;
+    }
+    Ok(lines)
+}
+
+/// How many lines are in some bytes.
+fn count(bytes: &[u8]) -> usize {
+    let mut lines: usize = 0;
+    for byte in bytes {
+        if *byte == b'\n' {
+            lines = lines.saturating_add(1);
+        }
+    }
+    lines
+}
+
+/// Expects a line of answer to each line.
+fn expect_one_each(rt: &(impl Abort + AllocGlobal), lines: &[u8]) -> Result<(), Fail> {
+    let mut reader = Pieces::new(lines, 65536);
+    let mut writer = Writing::new(Vec::new(rt.alloc()));
+    let result = run_check(rt.alloc(), &mut reader, &mut writer);
+    assert_eq!(rt; result, Ok(()));
+    let written = writer.into_inner();
+    assert_eq!(rt; count(&written), count(lines));
+    Ok(())
+}
+
+/// Cuts a frame at each length, and sets each byte to each value.
+fn change_everywhere(rt: &(impl Abort + AllocGlobal), frame: &str) -> Result<(), Fail> {
+    let frame = frame.as_bytes();
+    expect_one_each(rt, &lines_of_beginnings(rt, frame)?)?;
+    for byte in 0..frame.len() / 2 {
+        expect_one_each(rt, &lines_of_values(rt, frame, 2 * byte)?)?;
+    }
+    Ok(())
+}
+
+#[test]
+fn changed_solicitations_have_one_answer_each(rt: HostRuntime) -> Result<(), Fail> {
+    change_everywhere(&rt, SOLICITATION_FOR_LINK_LOCAL)?;
+    change_everywhere(&rt, ROUTER_SOLICITATION)
+}
+
+#[test]
+fn changed_advertisements_have_one_answer_each(rt: HostRuntime) -> Result<(), Fail> {
+    change_everywhere(&rt, ADVERTISEMENT_WITH_PREFIX)?;
+    change_everywhere(&rt, ADVERTISEMENT_WITH_ZERO_OPTION)?;
+    change_everywhere(&rt, ADVERTISEMENT_WITH_DNS)?;
+    change_everywhere(&rt, ANSWER)
+}
+
+#[test]
+fn changed_redirects_have_one_answer_each(rt: HostRuntime) -> Result<(), Fail> {
+    change_everywhere(&rt, REDIRECT)?;
+    change_everywhere(&rt, REDIRECT_WITH_PACKET)?;
+    change_everywhere(&rt, DATAGRAM)
 }
 
 #[test]
