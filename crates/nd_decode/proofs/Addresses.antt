@@ -38,7 +38,7 @@ ne_bytes a b e f = let g = (bytes_eq-Decides a b).1 f in let h = not-true (bytes
 bytes_ne : (a b : List ℕ) → (a ≡ b → ⊥) → not (bytes_eq a b) ≡ true
 bytes_ne a b h = not_from_false (bytes_eq a b) (false_from_ne_true _ (λ e. h ((bytes_eq-Decides a b).0 e)))
 
-server_is : (a : Addr) → length a.0 ≡ 16 → is_server a ≡ true → IsServer a
+pub server_is : (a : Addr) → length a.0 ≡ 16 → is_server a ≡ true → IsServer a
 server_is a len e =
     let t = and_parts (not (eqb (slice_index a.0 0) 0xff) && not (bytes_eq a.0 unspecified_address)) (not (bytes_eq a.0 loopback_address)) e in
     let s = and_parts (not (eqb (slice_index a.0 0) 0xff)) (not (bytes_eq a.0 unspecified_address)) t.0 in
@@ -49,7 +49,7 @@ server_is a len e =
       not_loopback = ne_bytes a.0 loopback_address t.1;
     }
 
-server_tests : (a : Addr) → IsServer a → is_server a ≡ true
+pub server_tests : (a : Addr) → IsServer a → is_server a ≡ true
 server_tests a h =
     and_from (not (eqb (slice_index a.0 0) 0xff) && not (bytes_eq a.0 unspecified_address)) (not (bytes_eq a.0 loopback_address))
     (and_from (not (eqb (slice_index a.0 0) 0xff)) (not (bytes_eq a.0 unspecified_address)) (not_from_false _ (ne_eqb _ _ h.not_multicast)) (bytes_ne a.0 unspecified_address h.not_unspecified))

@@ -58,7 +58,7 @@ kind_is piece =
     ]
 
 -- a row that the function finds says the option
-known_says : (piece : List ℕ) (o : Said) → IsPiece piece → known_of piece ≡ Some o → SaysKnown piece o
+pub known_says : (piece : List ℕ) (o : Said) → IsPiece piece → known_of piece ≡ Some o → SaysKnown piece o
 known_says piece o p e = by_kind piece o p (known_of piece) (kind_is piece) e
   where
     by_kind : (b : List ℕ) (o : Said) → IsPiece b → (k : Option Said) → IsKind b k → k ≡ Some o → SaysKnown b o
@@ -84,7 +84,7 @@ known_says piece o p e = by_kind piece o p (known_of piece) (kind_is piece) e
     by_kind b o p k no_row e = absurd cc
 
 -- and an option that a row says is found
-known_one : (piece : List ℕ) (option : Said) → SaysKnown piece option → known_of piece ≡ Some option
+pub known_one : (piece : List ℕ) (option : Said) → SaysKnown piece option → known_of piece ≡ Some option
 unfolding known_of
 known_one piece (slla mac) h = rw (h.0.kind_is, h.0.len_is, h.1) refl
 known_one piece (tlla mac) h = rw (h.0.kind_is, h.0.len_is, h.1) refl

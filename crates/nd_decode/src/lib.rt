@@ -32,7 +32,7 @@ pub use options::Options;
 pub use prefix_info::PrefixInfo;
 pub use redirect::Redirect;
 pub use router_advertisement::RouterAdvertisement;
-pub use servers::Servers;
+pub use servers::{Servers, is_server};
 
 #[cfg(test)]
 mod tests;

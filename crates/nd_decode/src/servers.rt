@@ -1,5 +1,6 @@
 ghost use Rattle.std.specs.Prelude.{◌≡◌, ◌<◌, ◌≤◌, MatchOption, length, take, drop, true, false};
 ghost use Rattle.std.specs.List.{list_all};
+ghost use Rattle.nd_addr.specs.Bytes.{AreBytes};
 ghost use Rattle.nd_decode.specs.Servers.{servers_in, servers_left, is_server};
 
 use nd_addr::Addr;
@@ -12,7 +13,7 @@ pub struct Servers<'a> {
 
 impl<'a> Servers<'a> {
     /// The addresses in these bytes, if each is one that a server can have.
-    pub(crate) fn read(bytes: &'a [u8]) -> Option<Servers<'a>>
+    pub fn read(bytes: &'a [u8]) -> Option<Servers<'a>>
         ensures { MatchOption result (list_all is_server (servers_in bytes.entry.now) ≡ false)
             (λ s. (list_all is_server (servers_in bytes.entry.now) ≡ true) × (servers_left s ≡ servers_in bytes.entry.now)) }
     {
@@ -65,9 +66,10 @@ fn split_server(bytes: &[u8]) -> Option<(Addr, &[u8])>
 }
 
 /// Whether a server can have the address: it is not multicast, unspecified or loopback.
-fn is_server(address: Addr) -> bool
-    ensures { result ≡ is_server address }
+pub fn is_server(address: Addr) -> bool
+    ensures value { result ≡ is_server address }
+    ensures bytes { AreBytes 16 address.0 }
 {
-    let [first, ..] = address.0;
-    first != 0xff && address != Addr::UNSPECIFIED && address != Addr::LOOPBACK
+    let bytes = address.as_bytes();
+    bytes[0] != 0xff && address != Addr::UNSPECIFIED && address != Addr::LOOPBACK
 }

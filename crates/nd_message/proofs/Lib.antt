@@ -1,4 +1,6 @@
 pub mod Bytes
+pub mod DnsServers
+pub mod SearchNames
 pub mod Writing
 pub mod Formed
 pub mod Looping

@@ -1,5 +1,5 @@
 -- Loops over the options of a message.
-use Rattle.std.proofs.Common.{◌≡◌, ℕ, ◌+◌, ◌/◌, ◌%◌, ◌<◌, ◌≤◌, false, ltb, List, [], ◌∷◌, ◌++◌, length, take, drop, map, get_or, set, refl, sym, ap, subst, ◌∙◌, arith}
+use Rattle.std.proofs.Common.{◌≡◌, ℕ, ◌+◌, ◌/◌, ◌%◌, ◌<◌, ◌≤◌, ◌↔◌, false, ltb, List, [], ◌∷◌, ◌++◌, length, take, drop, map, get_or, set, refl, sym, ap, subst, ◌∙◌, arith}
 use Rattle.std.specs.List.{flat_map}
 use Rattle.std.proofs.lemmas.Bool.{le-ltb}
 use Rattle.std.proofs.lemmas.List.{drop_more, drop_all, append-nil, length-append}
@@ -8,22 +8,55 @@ use Rattle.nd_addr.specs.Checksum.{with_sum}
 use Rattle.nd_message.specs.declared.opt.Opt.{Opt}
 use Rattle.nd_decode.specs.declared.body.Body.{Body}
 use Rattle.nd_decode.specs.declared.body.Body.TheVariants as bodies
-use Rattle.nd_decode.specs.Option.{Said}
+use Rattle.nd_decode.specs.Option.{Said, slla, tlla, prefix, redirected, mtu, rdnss, dnssl, other}
 use Rattle.nd_decode.specs.Message.{Parts}
 use Rattle.nd_message.specs.Owned.{said}
 use Rattle.nd_message.specs.Spelling.{piece_of, fields_of, spelling}
-use Rattle.nd_message.specs.Fitting.{FitsBehind}
+use Rattle.nd_message.specs.Fitting.{FitsOption, FitsBehind}
+use Rattle.nd_message.proofs.DnsServers.{length-rdnss}
+use Rattle.nd_message.proofs.SearchNames.{length-dnssl}
 
--- the next option that is left
-next_option : {A : Type 0} (items xs : List (Opt A)) (i : ℕ) (x : Opt A) → xs ≡ items → i < length xs → x ≡ get_or xs i x → map said (drop i items) ≡ said x ∷ map said (drop (i + 1) items)
-next_option {A} items xs i x e lt is =
+-- the next that is left, seen by a view
+pub next_seen : {X Y : Type 0} (view : X → Y) (items xs : List X) (i : ℕ) (x : X) → xs ≡ items → i < length xs → x ≡ get_or xs i x → map view (drop i items) ≡ view x ∷ map view (drop (i + 1) items)
+next_seen {X} view items xs i x e lt is =
     let here : x ≡ get_or items i x = rw e at is in
     let le : i < length items = rw e at lt in
-    ap (map said) (drop_more items i x le) ∙ ap (λ (o : Opt A). said o ∷ map said (drop (i + 1) items)) (sym here)
+    ap (map view) (drop_more items i x le) ∙ ap (λ (o : X). view o ∷ map view (drop (i + 1) items)) (sym here)
 
 -- it fits, where all that is left does
 pub next_fits : {A : Type 0} (len : ℕ) (items xs : List (Opt A)) (i : ℕ) (x : Opt A) → xs ≡ items → i < length xs → x ≡ get_or xs i x → FitsBehind len (map said (drop i items)) → FitsBehind len (said x ∷ map said (drop (i + 1) items))
-next_fits len items xs i x e lt is h = subst (λ (os : List Said). FitsBehind len os) (next_option items xs i x e lt is) h
+next_fits len items xs i x e lt is h = subst (λ (os : List Said). FitsBehind len os) (next_seen said items xs i x e lt is) h
+
+-- what fits behind more bytes, fits behind fewer with the piece of those between
+fits_step : (len more : ℕ) (o : Said) (os : List Said) → FitsOption o → more ≡ length (piece_of o) → FitsBehind (len + more) os ↔ FitsBehind len (o ∷ os)
+fits_step len more o os f e =
+    let all = length-append (piece_of o) (flat_map piece_of os) in (
+      λ h. record { each = (f, h.each); most = omega (arith, h.most, e, all) },
+      λ h. record { each = h.each.1; most = omega (arith, h.most, e, all) },
+    )
+
+pub next_behind : {A : Type 0} (len more : ℕ) (items xs : List (Opt A)) (i : ℕ) (x : Opt A) → xs ≡ items → i < length xs → x ≡ get_or xs i x → FitsOption (said x) → more ≡ length (piece_of (said x))
+    → FitsBehind (len + more) (map said (drop (i + 1) items)) ↔ FitsBehind len (map said (drop i items))
+next_behind len more items xs i x e lt is f m =
+    subst (λ (os : List Said). FitsBehind (len + more) (map said (drop (i + 1) items)) ↔ FitsBehind len os) (sym (next_seen said items xs i x e lt is)) (fits_step len more (said x) (map said (drop (i + 1) items)) f m)
+
+-- the next piece is what the length lacks less
+pub next_left : {A : Type 0} (len more : ℕ) (items xs : List (Opt A)) (i : ℕ) (x : Opt A) → xs ≡ items → i < length xs → x ≡ get_or xs i x → more ≡ length (piece_of (said x))
+    → len + more + length (flat_map piece_of (map said (drop (i + 1) items))) ≡ len + length (flat_map piece_of (map said (drop i items)))
+next_left len more items xs i x e lt is m =
+    let all = length-append (piece_of (said x)) (flat_map piece_of (map said (drop (i + 1) items))) in
+    rw (next_seen said items xs i x e lt is) (omega (arith, all, m))
+
+-- a piece has at most 255 units of 8 bytes
+pub piece_short : (o : Said) (more : ℕ) → FitsOption o → more ≡ length (piece_of o) → more ≤ 2040
+piece_short (slla mac) more h e = omega (arith, e, h.len_is)
+piece_short (tlla mac) more h e = omega (arith, e, h.len_is)
+piece_short (prefix p) more h e = omega (arith, e, h.prefix_is.address_is.len_is)
+piece_short (redirected packet) more h e = omega (arith, e, h.most)
+piece_short (mtu n) more h e = omega (arith, e)
+piece_short (rdnss lifetime servers) more h e = omega (arith, e, length-rdnss lifetime servers h, h.most)
+piece_short (dnssl lifetime names) more h e = omega (arith, e, length-dnssl lifetime names, h.names_are.most)
+piece_short (other kind rest) more h e = omega (arith, e, h.2.most)
 
 -- a message is not well-formed where the next option is too long
 pub over : (len more : ℕ) (o : Said) (os : List Said) → FitsBehind len (o ∷ os) → more ≡ length (piece_of o) → 65535 < len + more → ⊥
@@ -59,8 +92,11 @@ end_writing out s items xs i e le h =
     sym (append-nil out) ∙ ap (λ (t : List ℕ). out ++ t) (sym nothing) ∙ h
 
 long_fields : (b : Body) (rest : List ℕ) → 4 ≤ length (fields_of 0 b ++ rest)
+long_fields bodies.Rs rest = omega arith
 long_fields (bodies.Ra r) rest = omega arith
 long_fields (bodies.Ns n) rest = omega arith
+long_fields (bodies.Na n) rest = omega arith
+long_fields (bodies.Redirect r) rest = omega arith
 
 pub long_spelling : (m : Parts) → 4 ≤ length (spelling 0 m)
 unfolding spelling
@@ -74,8 +110,11 @@ spelling_with x m =
     rw long (go m.body (flat_map piece_of m.options))
   where
     go : (b : Body) (rest : List ℕ) → take 2 (fields_of 0 b ++ rest) ++ big_bytes 2 x ++ drop 4 (fields_of 0 b ++ rest) ≡ fields_of x b ++ rest
+    go bodies.Rs rest = refl
     go (bodies.Ra r) rest = refl
     go (bodies.Ns n) rest = refl
+    go (bodies.Na n) rest = refl
+    go (bodies.Redirect r) rest = refl
 
 -- two numbers put into the field
 sum_put : (bytes : List ℕ) (x y : ℕ) → 4 ≤ length bytes → set (set bytes 2 x) 3 y ≡ with_sum (x ∷ y ∷ []) bytes

@@ -1,5 +1,5 @@
 -- Which messages have a spelling, part by part.
-use Rattle.std.specs.Prelude.{◌≡◌, ℕ, ◌+◌, ◌%◌, ◌^◌, ◌<◌, ◌≤◌, ◌⊎◌, List, length, slice_index}
+use Rattle.std.specs.Prelude.{◌≡◌, ℕ, ◌+◌, ◌%◌, ◌^◌, ◌<◌, ◌≤◌, List, length, None}
 use Rattle.std.specs.List.{flat_map, AllByRecursion}
 use Rattle.nd_addr.specs.Bytes.{IsBytes, AreBytes}
 use Rattle.nd_addr.specs.Prefix.{IsPrefix}
@@ -7,16 +7,23 @@ use Rattle.nd_decode.specs.declared.router_advertisement.RouterAdvertisement.{Ro
 use Rattle.nd_decode.specs.declared.body.Body.{Body}
 use Rattle.nd_decode.specs.declared.body.Body.TheVariants as bodies
 use Rattle.nd_decode.specs.declared.prefix_info.PrefixInfo.{PrefixInfo}
-use Rattle.nd_decode.specs.Option.{Said, slla, tlla, prefix, other}
-use Rattle.nd_message.specs.Spelling.{piece_of}
+use Rattle.nd_decode.specs.Option.{Said, slla, tlla, prefix, redirected, mtu, rdnss, dnssl, other, known_of}
+use Rattle.nd_message.specs.Spelling.{piece_of, other_piece}
+use Rattle.nd_message.specs.Rdnss.{FitsRdnss}
+use Rattle.nd_message.specs.Dnssl.{FitsDnssl}
+
+-- whole units of 8 bytes with the type, the length and six bytes that are reserved, 255 at most
+pub record FitsRedirected (packet : List ℕ) : Type 0 where
+  pub bytes : IsBytes packet
+  pub most : length packet ≤ 2032
+  pub eights : length packet % 8 ≡ 0
 
 -- a piece of this type, with these bytes behind its length, is whole and no known option
 pub record IsOther (kind : ℕ) (rest : List ℕ) : Type 0 where
   pub least : 6 ≤ length rest
   pub most : length rest ≤ 2038
   pub eights : length rest % 8 ≡ 6
-  pub no_address : (kind ≡ 1) ⊎ (kind ≡ 2) → length rest ≡ 6 → ⊥
-  pub no_prefix : kind ≡ 3 → length rest ≡ 30 → slice_index rest 0 ≤ 128 → ⊥
+  pub unknown : known_of (other_piece kind rest) ≡ None
 
 -- a prefix, and two numbers of four bytes
 pub record FitsPrefix (p : PrefixInfo) : Type 0 where
@@ -29,6 +36,10 @@ abbrev pub FitsOption : Said → Type 0
 FitsOption (slla mac) = AreBytes 6 mac.0
 FitsOption (tlla mac) = AreBytes 6 mac.0
 FitsOption (prefix p) = FitsPrefix p
+FitsOption (redirected packet) = FitsRedirected packet
+FitsOption (mtu n) = n < 2 ^ 32
+FitsOption (rdnss lifetime servers) = FitsRdnss lifetime servers
+FitsOption (dnssl lifetime names) = FitsDnssl lifetime names
 FitsOption (other kind rest) = (kind < 256) × IsBytes rest × IsOther kind rest
 
 -- numbers of one, two and four bytes
@@ -40,8 +51,11 @@ pub record FitsRouterAdvertisement (r : RouterAdvertisement) : Type 0 where
 
 -- some fields hold the body
 abbrev pub FitsBody : Body → Type 0
+FitsBody bodies.Rs = Unit {0}
 FitsBody (bodies.Ra r) = FitsRouterAdvertisement r
 FitsBody (bodies.Ns n) = AreBytes 16 n.target.0
+FitsBody (bodies.Na n) = AreBytes 16 n.target.0
+FitsBody (bodies.Redirect r) = AreBytes 16 r.target.0 × AreBytes 16 r.destination.0
 
 -- the options fit, and so do their pieces behind this many bytes
 pub record FitsBehind (len : ℕ) (options : List Said) : Type 0 where

@@ -1,4 +1,5 @@
 pub use Rattle.nd_decode.specs.Option
+pub use Rattle.nd_decode.specs.Servers
 pub use Rattle.nd_decode.specs.Pieces
 pub use Rattle.nd_decode.specs.Options
 pub use Rattle.nd_decode.specs.Message
@@ -7,3 +8,5 @@ pub mod Owned
 pub mod Spelling
 pub mod WellFormed
 pub mod Fitting
+pub mod Rdnss
+pub mod Dnssl

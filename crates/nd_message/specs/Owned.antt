@@ -1,16 +1,25 @@
 -- What an owned message says.
-use Rattle.std.specs.Prelude.{map}
+use Rattle.std.specs.Prelude.{ℕ, List, map}
+use Rattle.nd_message.specs.declared.name.Name.{Name}
 use Rattle.nd_message.specs.declared.opt.Opt.{Opt}
 use Rattle.nd_message.specs.declared.opt.Opt.TheVariants as opts
 use Rattle.nd_message.specs.declared.message.Message.{Message}
-use Rattle.nd_decode.specs.Option.{Said, slla, tlla, prefix, other}
+use Rattle.nd_decode.specs.Option.{Said, slla, tlla, prefix, redirected, mtu, rdnss, dnssl, other}
 use Rattle.nd_decode.specs.Message.{Parts}
+
+-- a name without its allocator
+abbrev pub labels_of : {A : Type 0} → Name A → List ℕ
+labels_of name = name.0.items
 
 -- an option without its allocator
 abbrev pub said : {A : Type 0} → Opt A → Said
 said (opts.Slla mac) = slla mac
 said (opts.Tlla mac) = tlla mac
 said (opts.Prefix p) = prefix p
+said (opts.Redirected packet) = redirected packet.items
+said (opts.Mtu n) = mtu n
+said (opts.Rdnss lifetime servers) = rdnss lifetime servers.items
+said (opts.Dnssl lifetime names) = dnssl lifetime (map labels_of names.items)
 said (opts.Other kind rest) = other kind rest.items
 
 -- a message without its allocator

@@ -1,7 +1,8 @@
 ghost use Rattle.std.specs.Prelude.{◌≡◌, ◌≤◌, IfOk, length};
 ghost use Rattle.byteorder.specs.Endian.{big_bytes};
 ghost use Rattle.nd_addr.specs.Checksum.{IsGoodSum, with_sum};
-ghost use Rattle.nd_decode.specs.Message.{Spells};
+ghost use Rattle.nd_decode.specs.Message.{Spells, HasKnownKind};
+ghost use Rattle.nd_decode.specs.Decoding.{decode_of};
 ghost use Rattle.nd_message.specs.Owned.{whole};
 ghost use Rattle.nd_message.specs.Spelling.{spelling, written_message};
 ghost use Rattle.nd_message.specs.WellFormed.{IsWellFormed};
@@ -49,6 +50,9 @@ pub fn encode<A: Allocator, B: Allocator>(
     ensures spelled { IfOk result (λ v. Spells v.items (whole message.now)) }
     ensures good { IfOk result (λ v. IsGoodSum source.0 destination.0 v.items) }
     ensures short { IfOk result (λ v. length v.items ≤ 65535) }
+    // `decode` may be called on it, and gives the message back.
+    ensures known { IfOk result (λ v. HasKnownKind v.items) }
+    ensures read { IfOk result (λ v. decode_of v.items ≡ Ok (whole message.now)) }
 {
     let mut out = without_sum(alloc, message)?;
     let sum = sum_for(source, destination, &out);

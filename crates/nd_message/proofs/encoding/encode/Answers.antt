@@ -2,7 +2,8 @@ use Rattle.std.proofs.Common.{arith, ap, ◌∙◌, ◌≤◌, subst, sym, lengt
 use Rattle.byteorder.specs.Endian.{big_bytes}
 use Rattle.nd_addr.specs.Checksum.{sum_to_write, with_sum, IsGoodSum}
 use Rattle.nd_message.specs.Owned.{whole}
-use Rattle.nd_message.proofs.Formed.{spelled_as, short_spelling}
+use Rattle.nd_decode.proofs.Deciding.{decode_spelled}
+use Rattle.nd_message.proofs.Formed.{spelled_as, spelled_known, short_spelling}
 use Rattle.nd_message.proofs.Looping.{long_spelling, encoded}
 use Rattle.nd_message.proofs.encoding.encode.Goals as goal
 
@@ -24,3 +25,9 @@ returns-clause-good g c =
 
 pub returns-clause-short : goal.returns-clause-short
 returns-clause-short g c = short_spelling (whole c.args.message.now) c.put_sum.new.out.items _ c.requires (returns-clause-exact g c)
+
+pub returns-clause-known : goal.returns-clause-known
+returns-clause-known g c = spelled_known c.put_sum.new.out.items (whole c.args.message.now) (returns-clause-spelled g c)
+
+pub returns-clause-read : goal.returns-clause-read
+returns-clause-read g c = decode_spelled c.put_sum.new.out.items (whole c.args.message.now) (returns-clause-spelled g c)

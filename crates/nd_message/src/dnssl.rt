@@ -1,0 +1,88 @@
+ghost use Rattle.std.specs.Prelude.{◌≡◌, ◌++◌, ◌<◌, ◌≤◌, OnOk, length, map, replicate};
+ghost use Rattle.std.specs.Option.{SomeIff};
+ghost use Rattle.nd_message.specs.Owned.{labels_of};
+ghost use Rattle.nd_message.specs.Dnssl.{missing, names_data, dnssl_piece, FitNames, FitsDnssl};
+
+use crate::name::Name;
+use nd_decode::OPTION_DNS_SEARCH_LIST;
+use nd_names::is_name;
+use std::alloc::{AllocError, Allocator};
+
+/// How many bytes of names a DNS Search List has at most: 255 units of 8 bytes, but for the first.
+const LONGEST_NAMES: usize = 2032;
+
+/// How many bytes a DNS Search List has, if these can be its names.
+pub(crate) fn dnssl_length<A: Allocator>(lifetime: u32, names: &[Name<A>]) -> Option<usize>
+    ensures { SomeIff result (FitsDnssl lifetime (map labels_of names.now)) (length (dnssl_piece lifetime (map labels_of names.now))) }
+{
+    let _lifetime = lifetime;
+    let length = names_length(names)?;
+    Some(8 + length + missing(length))
+}
+
+/// The fewest bytes that so many lack to a multiple of 8.
+fn missing(length: usize) -> usize
+    ensures value { result ≡ missing length }
+    ensures few { result < 8 }
+{
+    (8 - length % 8) % 8
+}
+
+/// How many bytes names have one behind the other, if they can be those of an option.
+fn names_length<A: Allocator>(names: &[Name<A>]) -> Option<usize>
+    ensures { SomeIff result (FitNames (map labels_of names.now)) (length (names_data (map labels_of names.now))) }
+{
+    let mut length = 0;
+    for name in names {
+        if !is_name(&name.0) {
+            return None;
+        }
+        length += name.0.len() + 1;
+        if length > LONGEST_NAMES {
+            return None;
+        }
+    }
+    if names.is_empty() { None } else { Some(length) }
+}
+
+/// Writes the piece of a DNS Search List at the end (RFC 8106, section 5.2).
+pub(crate) fn push_dnssl<A: Allocator, B: Allocator>(
+    lifetime: u32,
+    names: &[Name<A>],
+    out: &mut Vec<u8, B>,
+) -> Result<(), AllocError>
+    requires { FitsDnssl lifetime (map labels_of names.now) }
+    ensures { OnOk result (out.new.items ≡ out.old.items ++ dnssl_piece lifetime (map labels_of names.now)) }
+{
+    let length = names_length(names).unwrap_or(0);
+    let padding = missing(length);
+    let units = ((8 + length + padding) / 8) as u8;
+    let [a, b, c, d] = lifetime.to_be_bytes();
+    out.extend_from_slice(&[OPTION_DNS_SEARCH_LIST, units, 0, 0, a, b, c, d])?;
+    push_names(names, out)?;
+    push_zeros(padding, out)
+}
+
+/// Writes names at the end, each with the zero byte that ends it.
+fn push_names<A: Allocator, B: Allocator>(
+    names: &[Name<A>],
+    out: &mut Vec<u8, B>,
+) -> Result<(), AllocError>
+    ensures { OnOk result (out.new.items ≡ out.old.items ++ names_data (map labels_of names.now)) }
+{
+    for name in names {
+        out.extend_from_slice(&name.0)?;
+        out.push(0)?;
+    }
+    Ok(())
+}
+
+/// Writes at most 8 zeros at the end.
+fn push_zeros<A: Allocator>(count: usize, out: &mut Vec<u8, A>) -> Result<(), AllocError>
+    requires { count ≤ 8 }
+    ensures { OnOk result (out.new.items ≡ out.old.items ++ replicate count 0) }
+{
+    let zeros = [0u8; 8];
+    out.extend_from_slice(&zeros[..count])?;
+    Ok(())
+}

@@ -1,0 +1,24 @@
+ghost use Rattle.std.specs.Prelude.{◌≡◌, ◌++◌, ◌^◌, ◌<◌, OnOk, length};
+ghost use Rattle.nd_decode.specs.Option.{mtu};
+ghost use Rattle.nd_message.specs.Spelling.{piece_of};
+
+use nd_decode::OPTION_MTU;
+use std::alloc::{AllocError, Allocator};
+
+/// How many bytes an MTU has. They hold each number that it can be.
+pub(crate) fn mtu_length(number: u32) -> usize
+    ensures len { result ≡ length (piece_of (mtu number)) }
+    ensures fits { number < 2 ^ 32 }
+{
+    let _number = number;
+    8
+}
+
+/// Writes the piece of an MTU at the end (RFC 4861, section 4.6.4).
+pub(crate) fn push_mtu<A: Allocator>(number: u32, out: &mut Vec<u8, A>) -> Result<(), AllocError>
+    ensures { OnOk result (out.new.items ≡ out.old.items ++ piece_of (mtu number)) }
+{
+    let [a, b, c, d] = number.to_be_bytes();
+    out.extend_from_slice(&[OPTION_MTU, 1, 0, 0, a, b, c, d])?;
+    Ok(())
+}

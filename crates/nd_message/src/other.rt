@@ -1,0 +1,59 @@
+ghost use Rattle.std.specs.Prelude.{◌≡◌, ◌↔◌, ◌%◌, ◌≤◌, ◌++◌, IsTrue, OnOk, length};
+ghost use Rattle.std.specs.Option.{is_some};
+ghost use Rattle.nd_decode.specs.Option.{other, known_of};
+ghost use Rattle.nd_message.specs.Spelling.{other_piece};
+ghost use Rattle.nd_message.specs.Fitting.{FitsOption};
+
+use nd_decode::{
+    OPTION_DNS_SEARCH_LIST, OPTION_MTU, OPTION_PREFIX_INFORMATION, OPTION_RECURSIVE_DNS_SERVER,
+    OPTION_REDIRECTED_HEADER, OPTION_SOURCE_LINK_LAYER_ADDRESS, OPTION_TARGET_LINK_LAYER_ADDRESS,
+    Servers,
+};
+use nd_names::Names;
+use std::alloc::{AllocError, Allocator};
+
+/// Whether a piece of this type and with these bytes behind its length is whole and reads as no known option.
+pub(crate) fn is_other(kind: u8, rest: &[u8]) -> bool
+    ensures { IsTrue result ↔ FitsOption (other kind rest.now) }
+{
+    // With its type and its length, a piece has 8 to 2040 bytes.
+    if rest.len() < 6 || rest.len() > 2038 || rest.len() % 8 != 6 {
+        return false;
+    }
+    !is_known(kind, rest)
+}
+
+/// Whether a piece of this type and with these bytes behind its length reads as a known option.
+#[tactic(auto, unfolding(nd_decode::specs::Option::known_of))]
+fn is_known(kind: u8, rest: &[u8]) -> bool
+    requires least { 6 ≤ length rest.now }
+    requires eights { length rest.now % 8 ≡ 6 }
+    ensures { result ≡ is_some (known_of (other_piece kind rest.now)) }
+{
+    let units = (rest.len() + 2) / 8;
+    match kind {
+        OPTION_SOURCE_LINK_LAYER_ADDRESS | OPTION_TARGET_LINK_LAYER_ADDRESS => units == 1,
+        OPTION_PREFIX_INFORMATION => units == 4 && rest[0] <= 128,
+        OPTION_REDIRECTED_HEADER => true,
+        OPTION_MTU => units == 1,
+        OPTION_RECURSIVE_DNS_SERVER => {
+            units % 2 == 1 && units >= 3 && Servers::read(&rest[6..]).is_some()
+        }
+        OPTION_DNS_SEARCH_LIST => units >= 2 && Names::read(&rest[6..]).is_some(),
+        _ => false,
+    }
+}
+
+/// Writes the piece of any other option at the end (RFC 4861, section 4.6).
+pub(crate) fn push_other<A: Allocator>(
+    kind: u8,
+    rest: &[u8],
+    out: &mut Vec<u8, A>,
+) -> Result<(), AllocError>
+    requires { length rest.now ≤ 2038 }
+    ensures { OnOk result (out.new.items ≡ out.old.items ++ other_piece kind rest.now) }
+{
+    out.extend_from_slice(&[kind, ((rest.len() + 2) / 8) as u8])?;
+    out.extend_from_slice(rest)?;
+    Ok(())
+}

@@ -1,0 +1,39 @@
+ghost use Rattle.std.specs.Prelude.{◌≡◌, ◌++◌, OnOk, length};
+ghost use Rattle.nd_message.specs.Spelling.{prefix_piece};
+ghost use Rattle.nd_message.specs.Fitting.{FitsPrefix};
+
+use crate::flags::flag_byte;
+use nd_decode::{OPTION_PREFIX_INFORMATION, PrefixInfo};
+use std::alloc::{AllocError, Allocator};
+
+/// How many bytes a Prefix Information has. They hold each value that it can have.
+pub(crate) fn prefix_length(info: &PrefixInfo) -> usize
+    ensures len { result ≡ length (prefix_piece info.now) }
+    ensures fits { FitsPrefix info.now }
+{
+    // The fields are named, so that their ranges are known.
+    let PrefixInfo {
+        prefix,
+        valid_lifetime: _valid_lifetime,
+        preferred_lifetime: _preferred_lifetime,
+        ..
+    } = *info;
+    prefix.address().as_bytes().len() + 16
+}
+
+/// Writes the piece of a Prefix Information at the end (RFC 4861, section 4.6.2).
+pub(crate) fn push_prefix<A: Allocator>(
+    info: &PrefixInfo,
+    out: &mut Vec<u8, A>,
+) -> Result<(), AllocError>
+    ensures { OnOk result (out.new.items ≡ out.old.items ++ prefix_piece info.now) }
+{
+    let kind = OPTION_PREFIX_INFORMATION;
+    let length = info.prefix.length();
+    let flags = flag_byte(info.on_link, info.autonomous);
+    let [a, b, c, d] = info.valid_lifetime.to_be_bytes();
+    let [e, f, g, h] = info.preferred_lifetime.to_be_bytes();
+    out.extend_from_slice(&[kind, 4, length, flags, a, b, c, d, e, f, g, h, 0, 0, 0, 0])?;
+    out.extend_from_slice(&info.prefix.address().0)?;
+    Ok(())
+}

@@ -1,0 +1,59 @@
+ghost use Rattle.std.specs.Prelude.{◌≡◌, ◌↔◌, ◌++◌, IsTrue, OnOk, length};
+ghost use Rattle.std.specs.List.{flat_map, AllByRecursion};
+ghost use Rattle.std.specs.Option.{SomeIff};
+ghost use Rattle.nd_message.specs.Rdnss.{rdnss_piece, FitsServer, FitsRdnss};
+
+use nd_addr::Addr;
+use nd_decode::{OPTION_RECURSIVE_DNS_SERVER, is_server};
+use std::alloc::{AllocError, Allocator};
+
+/// How many servers an option has at most: 255 units of 8 bytes, but for the first, and two for each server.
+const MOST_SERVERS: usize = 127;
+
+/// How many bytes a Recursive DNS Server has, if these can be its servers.
+pub(crate) fn rdnss_length(lifetime: u32, servers: &[Addr]) -> Option<usize>
+    ensures { SomeIff result (FitsRdnss lifetime servers.now) (length (rdnss_piece lifetime servers.now)) }
+{
+    let _lifetime = lifetime;
+    if servers.is_empty() || servers.len() > MOST_SERVERS || !are_servers(servers) {
+        return None;
+    }
+    Some(8 + 16 * servers.len())
+}
+
+/// Whether each can be a server.
+fn are_servers(servers: &[Addr]) -> bool
+    ensures { IsTrue result ↔ AllByRecursion FitsServer servers.now }
+{
+    for server in servers {
+        if !is_server(*server) {
+            return false;
+        }
+    }
+    true
+}
+
+/// Writes the piece of a Recursive DNS Server at the end (RFC 8106, section 5.1).
+pub(crate) fn push_rdnss<A: Allocator>(
+    lifetime: u32,
+    servers: &[Addr],
+    out: &mut Vec<u8, A>,
+) -> Result<(), AllocError>
+    requires { FitsRdnss lifetime servers.now }
+    ensures { OnOk result (out.new.items ≡ out.old.items ++ rdnss_piece lifetime servers.now) }
+{
+    let units = (1 + 2 * servers.len()) as u8;
+    let [a, b, c, d] = lifetime.to_be_bytes();
+    out.extend_from_slice(&[OPTION_RECURSIVE_DNS_SERVER, units, 0, 0, a, b, c, d])?;
+    push_servers(servers, out)
+}
+
+/// Writes addresses at the end, one behind the other.
+fn push_servers<A: Allocator>(servers: &[Addr], out: &mut Vec<u8, A>) -> Result<(), AllocError>
+    ensures { OnOk result (out.new.items ≡ out.old.items ++ flat_map (λ s. s.0) servers.now) }
+{
+    for server in servers {
+        out.extend_from_slice(&server.0)?;
+    }
+    Ok(())
+}

@@ -1,0 +1,35 @@
+ghost use Rattle.std.specs.Prelude.{◌≡◌, ◌++◌, OnOk, length};
+ghost use Rattle.std.specs.Option.{SomeIff};
+ghost use Rattle.nd_decode.specs.Option.{redirected};
+ghost use Rattle.nd_message.specs.Spelling.{piece_of};
+ghost use Rattle.nd_message.specs.Fitting.{FitsRedirected};
+
+use nd_decode::OPTION_REDIRECTED_HEADER;
+use std::alloc::{AllocError, Allocator};
+
+/// How many bytes of a packet a Redirected Header has at most: 255 units of 8 bytes, but for the first.
+const LONGEST_REDIRECTED: usize = 2032;
+
+/// How many bytes a Redirected Header has, if it can have this packet.
+pub(crate) fn redirected_length(packet: &[u8]) -> Option<usize>
+    ensures { SomeIff result (FitsRedirected packet.now) (length (piece_of (redirected packet.now))) }
+{
+    if packet.len() > LONGEST_REDIRECTED || packet.len() % 8 != 0 {
+        return None;
+    }
+    Some(packet.len() + 8)
+}
+
+/// Writes the piece of a Redirected Header at the end (RFC 4861, section 4.6.3).
+pub(crate) fn push_redirected<A: Allocator>(
+    packet: &[u8],
+    out: &mut Vec<u8, A>,
+) -> Result<(), AllocError>
+    requires { FitsRedirected packet.now }
+    ensures { OnOk result (out.new.items ≡ out.old.items ++ piece_of (redirected packet.now)) }
+{
+    let units = ((packet.len() + 8) / 8) as u8;
+    out.extend_from_slice(&[OPTION_REDIRECTED_HEADER, units, 0, 0, 0, 0, 0, 0])?;
+    out.extend_from_slice(packet)?;
+    Ok(())
+}
