@@ -1,0 +1,79 @@
+-- What a look-up has found.
+use Rattle.std.proofs.Common.{◌≡◌, ℕ, ◌<◌, Bool, true, false, cond, List, [], refl, length, get_or, set, Option, Some, None, sym, ◌∙◌, ap, subst, arith, suc, zero}
+use Rattle.std.specs.Prelude.{slice_get, is_some, ◌&&◌, not}
+use Rattle.std.proofs.lemmas.Option.{slice_get-get_or}
+use Rattle.nd_neighbour.specs.Node.{Node, Kept, Resolves, Reaches}
+use Rattle.nd_neighbour.specs.Change.{released, known_mac, waiting_in}
+use Rattle.nd_neighbour.specs.Table.{node_in, place_in}
+use Rattle.std.specs.List.{insert, remove}
+use Rattle.std.proofs.lemmas.Bool.{true≢false}
+use Rattle.nd_neighbour.specs.Room.{Alters, There, Gives, Was, Came, NoPlace, Places, Removes, Gone}
+use Rattle.nd_neighbour.specs.Calls.{told_released, told_turned, waiting_at}
+
+pub found_is : (key : ℕ) (ns : List Node) (i : ℕ) (n : Node) → i < length ns → n ≡ get_or ns i n → node_in key ns ≡ slice_get ns i → node_in key ns ≡ Some n
+found_is key ns i n lt is found = found ∙ (slice_get-get_or ns i n lt ∙ ap Some (sym is))
+
+-- what is said of the entry at the place that a look-up has found
+module _ (key : ℕ) (change : Node → Node) (old seen : List Node) (i : ℕ) (n m : Node) (same : seen ≡ old) (lt : i < length seen) (found : node_in key seen ≡ slice_get seen i) (is : n ≡ get_or old i n) (new_is : m ≡ change n) where
+  within : i < length old
+  within = subst (λ (l : List Node). i < length l) same lt
+
+  pub there : node_in key old ≡ Some n
+  there = found_is key old i n within is (subst (λ (l : List Node). node_in key l ≡ slice_get l i) same found)
+
+  pub alters : Alters key change old (set old i m)
+  alters = There i n within is there (ap (set old i) new_is)
+
+  pub releases : (packets : List (List ℕ)) → packets ≡ released n m → packets ≡ told_released change (node_in key old)
+  releases packets e = e ∙ (ap (released n) new_is ∙ sym (ap (told_released change) there))
+
+  pub turns : (turned : Bool) → turned ≡ (n.router && not m.router) → turned ≡ told_turned change (node_in key old)
+  turns turned e = e ∙ (ap (λ (x : Node). n.router && not x.router) new_is ∙ sym (ap (told_turned change) there))
+
+-- a mark releases nothing
+pub nothing_by : (k : Kept) → cond (is_some (known_mac k)) (waiting_in k) [] ≡ []
+nothing_by (Resolves retrans sent waiting) = refl
+nothing_by (Reaches mac confirmed since probing) = refl
+
+some_is : (o : Option Node) → is_some o ≡ true → (n : Node) × (o ≡ Some n)
+some_is None h = absurd (true≢false (sym h))
+some_is (Some n) h = (n, refl)
+
+-- the answers where the neighbour is there
+module _ (limit now key : ℕ) (old seen : List Node) (held : Bool) (same : seen ≡ old) (held_is : held ≡ is_some (node_in key seen)) (there' : held ≡ true) where
+  holding : is_some (node_in key old) ≡ true
+  holding = sym (ap (λ (l : List Node). is_some (node_in key l)) same) ∙ (sym held_is ∙ there')
+
+  pub was_there : (change : Node → Node) (m : Node) (new : List Node) → Alters key change old new → Gives limit now key change m old new
+  was_there change m new a = let n = some_is (node_in key old) holding in Was n.0 n.1 a
+
+  pub not_full : {X : Type 0} → (false ≡ true → X) × (NoPlace limit now key old → false ≡ true)
+  not_full = ((λ e. absurd (true≢false (sym e))), λ np. absurd (true≢false (sym holding ∙ ap is_some np.0)))
+
+none_is : (o : Option Node) → is_some o ≡ false → o ≡ None
+none_is None h = refl
+none_is (Some n) h = absurd (true≢false h)
+
+-- and where it isn't
+module _ (limit now key : ℕ) (old seen : List Node) (held : Bool) (same : seen ≡ old) (held_is : held ≡ is_some (node_in key seen)) (gone : held ≡ false) where
+  pub not_there : node_in key old ≡ None
+  not_there = none_is (node_in key old) (sym (ap (λ (l : List Node). is_some (node_in key l)) same) ∙ (sym held_is ∙ gone))
+
+  pub came_in : (change : Node → Node) (m e : Node) (mid new : List Node) → e ≡ m → Places limit now old mid → new ≡ insert mid (place_in e.key mid) e → Gives limit now key change m old new
+  came_in change m e mid new e_is places is = Came mid not_there places (is ∙ ap (λ (x : Node). insert mid (place_in x.key mid) x) e_is)
+
+-- no ring is in hand
+pub no_rings : (n : ℕ) → (0 < n → false ≡ true) → n ≡ 0
+no_rings zero h = refl
+no_rings (suc n) h = absurd (true≢false (sym (h (omega arith))))
+
+-- an entry that a look-up has found is taken out
+pub taken_out : (key : ℕ) (old seen new : List Node) (i : ℕ) (n : Node) → seen ≡ old → i < length seen → node_in key seen ≡ slice_get seen i → n ≡ get_or old i n → new ≡ remove old i → Removes key old new
+taken_out key old seen new i n same lt found is gone =
+    let within : i < length old = subst (λ (l : List Node). i < length l) same lt in
+    Gone i n within is (found_is key old i n within is (subst (λ (l : List Node). node_in key l ≡ slice_get l i) same found)) gone
+
+pub taken_waits : (key : ℕ) (old seen : List Node) (i : ℕ) (n : Node) (packets : List (List ℕ)) → seen ≡ old → i < length seen → node_in key seen ≡ slice_get seen i → n ≡ get_or old i n → packets ≡ waiting_in n.kept → packets ≡ waiting_at (node_in key old)
+taken_waits key old seen i n packets same lt found is p =
+    let within : i < length old = subst (λ (l : List Node). i < length l) same lt in
+    p ∙ sym (ap waiting_at (found_is key old i n within is (subst (λ (l : List Node). node_in key l ≡ slice_get l i) same found)))

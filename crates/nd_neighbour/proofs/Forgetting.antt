@@ -1,0 +1,102 @@
+-- What forgetting a neighbour does to the table, and what is shown of it.
+use Rattle.std.proofs.Common.{◌≡◌, ℕ, Bool, true, eqb, List, [], ◌∷◌, drop, Option, Some, None, refl, sym, ◌∙◌, ap, arith, inl, inr}
+use Rattle.std.specs.Prelude.{map, slice_get}
+use Rattle.std.specs.Option.{option_map}
+use Rattle.std.proofs.lemmas.Bool.{cond-true, cond-false, eqb-true}
+use Rattle.nd_neighbour.specs.declared.reachability.Reachability.{Reachability}
+use Rattle.nd_neighbour.specs.Rows.{Row, Story, story, Forgot, Why, Cleared}
+use Rattle.nd_neighbour.specs.Address.{is_present, mac_of}
+use Rattle.nd_neighbour.specs.Confirming.{Word, Confirms, Disturbs, Use, word_of, use_of}
+use Rattle.nd_neighbour.specs.Resolving.{Resolution, resolution_of, waiting_of}
+use Rattle.nd_neighbour.specs.Reachability.{state_by}
+use Rattle.nd_neighbour.specs.Node.{Node, kept_by, the_node, node_of}
+use Rattle.nd_neighbour.specs.Table.{node_in, AllAbove, Rises, Stands, GainsRow}
+use Rattle.nd_neighbour.specs.Room.{Removes, WasNot, Gone}
+use Rattle.nd_neighbour.specs.Seen.{Seen, seen, seen_of, state_in, waits_of, shown_in, AllShownAbove, ShownRise, Lists}
+use Rattle.nd_neighbour.specs.Calls.{waiting_at, cleared}
+use Rattle.nd_neighbour.proofs.Cases.{either}
+use Rattle.nd_neighbour.proofs.Keyed.{key_of}
+use Rattle.nd_neighbour.proofs.Steps.{leaving, each_other, ended_story, node_present, node_absent}
+use Rattle.nd_neighbour.proofs.Dues.{known_by}
+use Rattle.nd_neighbour.proofs.NewsCalls.{node_waits, none_waits}
+
+pub removed_gains : (key at : ℕ) (why : Why) (old new : List Node) → Removes key old new → GainsRow old new (at, key, Forgot why)
+removed_gains key at why old new (Gone i n lt at_i found is) = leaving old new key at why i n lt at_i (key_of key old n found) is
+removed_gains key at why old new (WasNot none is) = record {
+  stands = λ rows s. rw is (record {
+    each = λ k. each_other k key at (Forgot why) rows old old None
+        (λ j. elim (either (eqb key j)) [
+          | inl e ↦ ap (λ (x : ℕ). node_in x old) (sym (eqb-true key j e)) ∙ (none ∙ sym (cond-true (eqb key j) None (node_in j old) e))
+          | inr e ↦ sym (cond-false (eqb key j) None (node_in j old) e)
+        ])
+        s.each (sym (ap (node_of key) (ended_story key at why rows)));
+    order = s.order;
+  });
+}
+
+waits_at : (key : ℕ) (s : Story) (o : Option Node) → o ≡ node_of key s → waiting_at o ≡ waits_of s
+waits_at key s None is = sym (none_waits s (node_absent key s (sym is)))
+waits_at key s (Some n) is = let known = node_present key s n (sym is) in node_waits key s n known.0 known.1
+
+pub waits_by_rows : (key : ℕ) (old : List Node) (rows : List Row) → Stands old rows → waiting_at (node_in key old) ≡ waits_of (story key rows)
+waits_by_rows key old rows s = waits_at key (story key rows) (node_in key old) (s.each key)
+
+-- what is shown
+state_is : (t : ℕ) (mac : Option ℕ) (w : Option Word) (u : Option Use) (r : Option Resolution) (ws : List (List ℕ)) → state_in (kept_by mac w u r ws) t ≡ state_by mac w u t
+state_is t None w u r ws = refl
+state_is t (Some mac) None None r ws = refl
+state_is t (Some mac) None (Some u) r ws = refl
+state_is t (Some mac) (Some (Disturbs d)) None r ws = refl
+state_is t (Some mac) (Some (Disturbs d)) (Some u) r ws = refl
+state_is t (Some mac) (Some (Confirms d l)) None r ws = refl
+state_is t (Some mac) (Some (Confirms d l)) (Some u) r ws = refl
+
+seen_by : (key t : ℕ) (router : Bool) (due : ℕ) (mac : Option ℕ) (w : Option Word) (u : Option Use) (r : Option Resolution) (ws : List (List ℕ)) (m : Option ℕ) (st : Reachability) → m ≡ mac → st ≡ state_by mac w u t → let made : Seen = record { key = key; mac = m; router = router; state = st } in made ≡ record { key = key; mac = mac; router = router; state = state_by mac w u t }
+seen_by key t router due mac w u r ws m st e f = rw (e, f) refl
+
+the_seen : (key t : ℕ) (s : Story) → is_present s ≡ true → Some (seen t (the_node key s)) ≡ seen_of key s t
+the_seen key t s p =
+    ap Some (seen_by key t (the_node key s).router (the_node key s).due (mac_of s) (word_of s) (use_of s) (resolution_of s) (waiting_of s) _ _
+    (known_by (mac_of s) (word_of s) (use_of s) (resolution_of s) (waiting_of s)) (state_is t (mac_of s) (word_of s) (use_of s) (resolution_of s) (waiting_of s)))
+    ∙ sym (cond-true (is_present s) _ None p)
+
+seen_told : (key t : ℕ) (s : Story) (o : Option Node) → o ≡ node_of key s → option_map (seen t) o ≡ seen_of key s t
+seen_told key t s None is = sym (cond-false (is_present s) _ None (node_absent key s (sym is)))
+seen_told key t s (Some n) is =
+    let known = node_present key s n (sym is) in
+    ap (λ (m : Node). Some (seen t m)) known.1 ∙ the_seen key t s known.0
+
+pub seen_by_rows : (key t : ℕ) (nodes : List Node) (rows : List Row) → Stands nodes rows → option_map (seen t) (node_in key nodes) ≡ seen_of key (story key rows) t
+seen_by_rows key t nodes rows s = seen_told key t (story key rows) (node_in key nodes) (s.each key)
+
+shown_each : (key t : ℕ) (nodes : List Node) → shown_in key (map (seen t) nodes) ≡ option_map (seen t) (node_in key nodes)
+shown_each key t [] = refl
+shown_each key t (n ∷ nodes) = elim (either (eqb n.key key)) [
+  | inl e ↦ rw e refl
+  | inr e ↦ rw e (shown_each key t nodes)
+]
+
+shown_above : (key t : ℕ) (nodes : List Node) → AllAbove key nodes → AllShownAbove key (map (seen t) nodes)
+shown_above key t [] h = tt
+shown_above key t (n ∷ nodes) h = (h.0, shown_above key t nodes h.1)
+
+shown_rise : (t : ℕ) (nodes : List Node) → Rises nodes → ShownRise (map (seen t) nodes)
+shown_rise t [] h = tt
+shown_rise t (n ∷ nodes) h = (shown_above n.key t nodes h.0, shown_rise t nodes h.1)
+
+pub lists_all : (t : ℕ) (nodes : List Node) (rows : List Row) (shown : List Seen) → shown ≡ map (seen t) nodes → Stands nodes rows → Lists rows t shown
+lists_all t nodes rows shown is s = rw is (record {
+  each = λ key. shown_each key t nodes ∙ seen_by_rows key t nodes rows s;
+  order = shown_rise t nodes s.order;
+})
+
+-- all are forgotten, one after the other
+pub cleared_stands : (at : ℕ) (nodes : List Node) (rows : List Row) → Stands nodes rows → Stands [] (cleared at nodes rows)
+cleared_stands at [] rows s = s
+cleared_stands at (n ∷ nodes) rows s =
+    cleared_stands at nodes ((at, n.key, Forgot Cleared) ∷ rows) ((leaving (n ∷ nodes) nodes n.key at Cleared 0 n (omega arith) refl refl refl).stands rows s)
+
+-- the first of some packets, and the rest
+pub first_packet : (packets : List (List ℕ)) (p : List ℕ) → Some p ≡ slice_get packets 0 → packets ≡ p ∷ drop 1 packets
+first_packet [] p is = absurd (cc)
+first_packet (x ∷ xs) p is = let e : p ≡ x = cc in ap (λ (y : List ℕ). y ∷ xs) (sym e)

@@ -1,0 +1,143 @@
+-- What news do to the table that stands for the rows, and what is told of them.
+use Rattle.std.proofs.Common.{◌≡◌, ℕ, Bool, true, false, cond, eqb, ltb, List, [], ◌∷◌, Option, Some, None, refl, sym, ◌∙◌, ap}
+use Rattle.std.specs.Prelude.{◌&&◌, not, is_some}
+use Rattle.std.proofs.lemmas.Bool.{cond-true, cond-false}
+use Rattle.nd_neighbour.specs.declared.news.Flags.{Flags}
+use Rattle.nd_neighbour.specs.Rows.{Happening, Given, Advertised, Marked, Confirmed, Row, Story, story}
+use Rattle.nd_neighbour.specs.Address.{is_present, mac_of, is_router}
+use Rattle.nd_neighbour.specs.Confirming.{Word, Use, word_of, use_of}
+use Rattle.nd_neighbour.specs.Resolving.{Resolution, resolution_of, waiting_of}
+use Rattle.nd_neighbour.specs.Node.{Node, Kept, Resolves, Reaches, kept_by, the_node, node_of}
+use Rattle.nd_neighbour.specs.Change.{given, given_to, advertised, advertised_to, conforming, confirmed, confirmed_to, with_mark, stale_node, mark_or, known_mac, waiting_in}
+use Rattle.nd_neighbour.specs.Table.{node_in, Stands, GainsRow}
+use Rattle.nd_neighbour.specs.Room.{Prepares, MakesPlace, Alters, NotThere, There, Gives, Was, Came}
+use Rattle.nd_neighbour.specs.Seen.{waits_by, waits_of}
+use Rattle.nd_neighbour.specs.Calls.{released_by, ends_router, Tells, told_released, told_turned}
+use Rattle.nd_neighbour.proofs.Stories.{absent_router}
+use Rattle.nd_neighbour.proofs.Changes.{when_given, when_advertised, when_marked, when_confirmed, first_given}
+use Rattle.nd_neighbour.proofs.Steps.{changing, entering, node_present, node_absent}
+use Rattle.nd_neighbour.proofs.Keyed.{key_of}
+use Rattle.nd_neighbour.proofs.Dues.{known_by}
+use Rattle.nd_neighbour.proofs.Entering.{altered_gains, place_made}
+
+pub keys_of : (b : Bool) (m o n : Node) → m.key ≡ n.key → o.key ≡ n.key → (cond b m o).key ≡ n.key
+keys_of true m o n h k = h
+keys_of false m o n h k = k
+
+given_key : (at mac : ℕ) (mark : Option Bool) (n : Node) (k : Kept) → (given_to k n at mac (mark_or mark n.router)).key ≡ n.key
+given_key at mac mark n (Resolves r t ws) = refl
+given_key at mac mark n (Reaches known c since p) = keys_of (eqb mac known) _ _ n refl refl
+
+conforming_key : (flags : Flags) (at reachable mac : ℕ) (changed : Bool) (n : Node) → (conforming flags at reachable mac changed n).key ≡ n.key
+conforming_key flags at reachable mac changed n = keys_of flags.solicited _ _ n refl (keys_of changed _ _ n refl refl)
+
+advertised_key : (flags : Flags) (mac : Option ℕ) (at reachable : ℕ) (n : Node) (k : Kept) → (advertised_to k flags mac at reachable n).key ≡ n.key
+advertised_key flags None at reachable n (Resolves r t ws) = refl
+advertised_key flags (Some mac) at reachable n (Resolves r t ws) = conforming_key flags at reachable mac true n
+advertised_key flags None at reachable n (Reaches known c since p) = conforming_key flags at reachable known false n
+advertised_key flags (Some mac) at reachable n (Reaches known c since p) =
+    keys_of (eqb mac known) _ _ n (conforming_key flags at reachable known false n)
+    (keys_of flags.overrides _ _ n (conforming_key flags at reachable mac true n) (keys_of (c && ltb at since) _ _ n refl refl))
+
+confirmed_key : (at reachable : ℕ) (n : Node) (k : Kept) → (confirmed_to k at reachable n).key ≡ n.key
+confirmed_key at reachable n (Resolves r t ws) = refl
+confirmed_key at reachable n (Reaches mac c since p) = refl
+
+pub advertised_gains : (key at : ℕ) (flags : Flags) (mac : Option ℕ) (reachable : ℕ) (old new : List Node) → Alters key (λ n. advertised at flags mac reachable n) old new → GainsRow old new (at, key, Advertised flags mac reachable)
+advertised_gains key at flags mac reachable old new a =
+    altered_gains key at (Advertised flags mac reachable) (λ n. advertised at flags mac reachable n) old new refl
+    (λ n. advertised_key flags mac at reachable n n.kept) (λ s p. when_advertised key at s p flags mac reachable) (λ s p. p) a
+
+pub marked_gains : (key at : ℕ) (router : Bool) (old new : List Node) → Alters key (λ n. with_mark router n) old new → GainsRow old new (at, key, Marked router)
+marked_gains key at router old new a =
+    altered_gains key at (Marked router) (λ n. with_mark router n) old new refl (λ n. refl) (λ s p. when_marked key at s p router) (λ s p. p) a
+
+pub confirmed_gains : (key at reachable : ℕ) (old new : List Node) → Alters key (λ n. confirmed at reachable n) old new → GainsRow old new (at, key, Confirmed reachable)
+confirmed_gains key at reachable old new a =
+    altered_gains key at (Confirmed reachable) (λ n. confirmed at reachable n) old new refl
+    (λ n. confirmed_key at reachable n n.kept) (λ s p. when_confirmed key at s p reachable) (λ s p. p) a
+
+altered_there : (key at mac : ℕ) (mark : Option Bool) (old new : List Node) (n : Node) → node_in key old ≡ Some n → Alters key (λ n. given at mac mark n) old new → GainsRow old new (at, key, Given mac mark)
+altered_there key at mac mark old new n found (There i m lt is there new_is) =
+    let m_key : m.key ≡ key = key_of key old m there in
+    changing old new key at (Given mac mark) i m (given at mac mark m) refl lt is there (given_key at mac mark m m.kept ∙ m_key) m_key new_is
+    (λ s p known. when_given key at s p mac mark ∙ ap (λ (x : Node). Some (given at mac mark x)) (sym known))
+altered_there key at mac mark old new n found (NotThere none new_is) = let e : Some n ≡ None = sym found ∙ none in absurd (cc)
+
+-- nothing has to make place for a neighbour that is there
+pub no_place_needed : (limit now key : ℕ) (enters : Bool) (rows : List Row) → is_present (story key rows) ≡ true → Prepares limit now enters key rows rows
+no_place_needed limit now key true rows p = rw p refl
+no_place_needed limit now key false rows p = refl
+
+-- one that isn't gets its place
+pub place_needed : (limit now key : ℕ) (rows made : List Row) → is_present (story key rows) ≡ false → MakesPlace limit now rows made → Prepares limit now true key rows made
+place_needed limit now key rows made p m = rw p m
+
+-- whatever rows old stands for, new stands for them with an address that is given
+pub given_hears : (limit now key mac : ℕ) (mark : Option Bool) (old new : List Node) → Gives limit now key (λ n. given now mac mark n) (stale_node key (mark_or mark false) now mac) old new → (rows : List Row) → Stands old rows → (made : List Row) × Prepares limit now true key rows made × Stands new ((now, key, Given mac mark) ∷ made)
+given_hears limit now key mac mark old new (Was n found a) rows s =
+    let known = node_present key (story key rows) n (sym (s.each key) ∙ found) in
+    let gains : GainsRow old new (now, key, Given mac mark) =
+    altered_there key now mac mark old new n found a in
+    (rows, no_place_needed limit now key true rows known.0, gains.stands rows s)
+given_hears limit now key mac mark old new (Came mid none places is) rows s =
+    let gone = node_absent key (story key rows) (sym (s.each key) ∙ none) in
+    let place = place_made limit now key old mid rows s none places in
+    let gains : GainsRow mid new (now, key, Given mac mark) =
+    entering mid new key now (Given mac mark) (stale_node key (mark_or mark false) now mac) refl place.3 refl is (λ story' absent. first_given key now story' absent mac mark) in
+    (place.0, place_needed limit now key rows place.0 gone place.1, gains.stands place.0 place.2)
+
+waiting_by : (mac : Option ℕ) (w : Option Word) (u : Option Use) (r : Option Resolution) (ws : List (List ℕ)) → waiting_in (kept_by mac w u r ws) ≡ waits_by mac ws
+waiting_by None w u r ws = refl
+waiting_by (Some mac) w u r ws = refl
+
+-- what waits at an entry is what waits by its story
+pub node_waits : (key : ℕ) (s : Story) (n : Node) → is_present s ≡ true → n ≡ the_node key s → waiting_in n.kept ≡ waits_of s
+node_waits key s n p is =
+    ap (λ (m : Node). waiting_in m.kept) is ∙ (waiting_by (mac_of s) (word_of s) (use_of s) (resolution_of s) (waiting_of s)
+    ∙ sym (cond-true (is_present s) (waits_by (mac_of s) (waiting_of s)) [] p))
+
+pub none_waits : (s : Story) → is_present s ≡ false → waits_of s ≡ []
+none_waits s p = cond-false (is_present s) (waits_by (mac_of s) (waiting_of s)) [] p
+
+cond_same : {X : Type 0} (b : Bool) (x : X) → cond b x x ≡ x
+cond_same true x = refl
+cond_same false x = refl
+
+-- what is told of a change is what the rows say
+module _ (key at : ℕ) (h : Happening) (change : Node → Node) (old : List Node) (makes : (s : Story) → is_present s ≡ true → node_of key ((at, h) ∷ s) ≡ Some (change (the_node key s))) where
+  changed_node : (s : Story) → is_present s ≡ true → change (the_node key s) ≡ the_node key ((at, h) ∷ s)
+  changed_node s p = (node_present key ((at, h) ∷ s) (change (the_node key s)) (makes s p)).1
+
+  releases_by : (s : Story) (o : Option Node) → o ≡ node_of key s → told_released change o ≡ released_by at h s
+  releases_by s None is =
+      sym (ap (λ (l : List (List ℕ)). cond (is_some (mac_of ((at, h) ∷ s))) l []) (none_waits s (node_absent key s (sym is))) ∙ cond_same (is_some (mac_of ((at, h) ∷ s))) [])
+  releases_by s (Some n) is =
+      let known = node_present key s n (sym is) in
+      let after : change n ≡ the_node key ((at, h) ∷ s) = ap change known.1 ∙ changed_node s known.0 in
+      let mac : known_mac (change n).kept ≡ mac_of ((at, h) ∷ s) =
+      ap (λ (m : Node). known_mac m.kept) after ∙ known_by (mac_of ((at, h) ∷ s)) (word_of ((at, h) ∷ s)) (use_of ((at, h) ∷ s)) (resolution_of ((at, h) ∷ s)) (waiting_of ((at, h) ∷ s)) in
+      ap (λ (m : Option ℕ). cond (is_some m) (waiting_in n.kept) []) mac
+      ∙ ap (λ (l : List (List ℕ)). cond (is_some (mac_of ((at, h) ∷ s))) l []) (node_waits key s n known.0 known.1)
+
+  turns_by : (s : Story) (o : Option Node) → o ≡ node_of key s → told_turned change o ≡ ends_router at h s
+  turns_by s None is = sym (ap (λ b. b && not (is_router ((at, h) ∷ s))) (absent_router s (node_absent key s (sym is))))
+  turns_by s (Some n) is =
+      let known = node_present key s n (sym is) in
+      let after : change n ≡ the_node key ((at, h) ∷ s) = ap change known.1 ∙ changed_node s known.0 in
+      ap (λ (m : Node). m.router && not (change n).router) known.1 ∙ ap (λ (m : Node). is_router s && not m.router) after
+
+  pub tells_by : (packets : List (List ℕ)) (turned : Bool) → packets ≡ told_released change (node_in key old) → turned ≡ told_turned change (node_in key old) → Tells at key h old packets turned
+  tells_by packets turned p t = record {
+    released = λ rows s. p ∙ releases_by (story key rows) (node_in key old) (s.each key);
+    turned_is = λ rows s. t ∙ turns_by (story key rows) (node_in key old) (s.each key);
+  }
+
+pub given_tells : (key at mac : ℕ) (mark : Option Bool) (old : List Node) (packets : List (List ℕ)) (turned : Bool) → packets ≡ told_released (λ n. given at mac mark n) (node_in key old) → turned ≡ told_turned (λ n. given at mac mark n) (node_in key old) → Tells at key (Given mac mark) old packets turned
+given_tells key at mac mark old packets turned = tells_by key at (Given mac mark) (λ n. given at mac mark n) old (λ s p. when_given key at s p mac mark) packets turned
+
+pub advertised_tells : (key at : ℕ) (flags : Flags) (mac : Option ℕ) (reachable : ℕ) (old : List Node) (packets : List (List ℕ)) (turned : Bool) → packets ≡ told_released (λ n. advertised at flags mac reachable n) (node_in key old) → turned ≡ told_turned (λ n. advertised at flags mac reachable n) (node_in key old) → Tells at key (Advertised flags mac reachable) old packets turned
+advertised_tells key at flags mac reachable old packets turned = tells_by key at (Advertised flags mac reachable) (λ n. advertised at flags mac reachable n) old (λ s p. when_advertised key at s p flags mac reachable) packets turned
+
+pub marked_tells : (key at : ℕ) (router : Bool) (old : List Node) (packets : List (List ℕ)) (turned : Bool) → packets ≡ told_released (λ n. with_mark router n) (node_in key old) → turned ≡ told_turned (λ n. with_mark router n) (node_in key old) → Tells at key (Marked router) old packets turned
+marked_tells key at router old packets turned = tells_by key at (Marked router) (λ n. with_mark router n) old (λ s p. when_marked key at s p router) packets turned

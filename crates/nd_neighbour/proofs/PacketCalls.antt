@@ -1,0 +1,114 @@
+-- What a packet does to the table that stands for the rows, and what becomes of it.
+use Rattle.std.proofs.Common.{◌≡◌, ℕ, ◌+◌, ◌*◌, Bool, true, false, eqb, List, [], ◌∷◌, Option, Some, None, refl, sym, ◌∙◌, ap, subst, arith, inl, inr}
+use Rattle.std.specs.Prelude.{is_some, nat_le}
+use Rattle.std.proofs.lemmas.Bool.{cond-true, cond-false}
+use Rattle.nd_neighbour.specs.Rows.{Row, Story, story, Asked, Waits, Used}
+use Rattle.nd_neighbour.specs.Address.{is_present, mac_of}
+use Rattle.nd_neighbour.specs.Confirming.{Word, Use, word_of, use_of}
+use Rattle.nd_neighbour.specs.Resolving.{Resolution, resolution_of, waiting_of}
+use Rattle.nd_neighbour.specs.Node.{Node, Kept, Resolves, Reaches, kept_by, node_of}
+use Rattle.nd_neighbour.specs.Change.{used, used_to, asked_node, known_mac, sending_to}
+use Rattle.nd_neighbour.specs.Table.{node_in, Stands}
+use Rattle.nd_neighbour.specs.Room.{Alters, NotThere, There, Gives, Was, Came}
+use Rattle.nd_neighbour.specs.Calls.{Takes, packet_rows, sending_by, sending_of_story, sending_in}
+use Rattle.nd_neighbour.proofs.Cases.{either}
+use Rattle.nd_neighbour.proofs.Stories.{absent_mac, absent_router}
+use Rattle.nd_neighbour.proofs.Changes.{when_used, when_waits, first_asked}
+use Rattle.nd_neighbour.proofs.Keyed.{key_of, put_in, node_in-put, Rises-put}
+use Rattle.nd_neighbour.proofs.Steps.{changing, entering, each_other, same_story, node_present, node_absent}
+use Rattle.nd_neighbour.proofs.Dues.{mac_is}
+use Rattle.nd_neighbour.proofs.Entering.{place_made}
+use Rattle.nd_neighbour.proofs.NewsCalls.{no_place_needed, place_needed, keys_of}
+
+used_key : (at retrans : ℕ) (packet : List ℕ) (n : Node) (k : Kept) → (used_to k at retrans packet n).key ≡ n.key
+used_key at retrans packet n (Resolves r t ws) = refl
+used_key at retrans packet n (Reaches mac c since None) = keys_of (nat_le since at) _ _ n refl refl
+used_key at retrans packet n (Reaches mac c since (Some p)) = refl
+
+module _ (key now retrans : ℕ) (packet : List ℕ) where
+  -- to a neighbour that is there
+  used_stands : (old new : List Node) (rows : List Row) (mac : Option ℕ) → Stands old rows → mac_of (story key rows) ≡ mac → Alters key (λ n. used now retrans packet n) old new → is_some (node_in key old) ≡ true → Stands new (packet_rows true mac now key retrans packet rows)
+  used_stands old new rows mac s mac_eq (NotThere none is) some = let e : false ≡ true = sym (ap is_some none) ∙ some in absurd (cc)
+  used_stands old new rows None s mac_eq (There i n lt at_i found is) some =
+      let known = node_present key (story key rows) n (sym (s.each key) ∙ found) in
+      let unknown : known_mac n.kept ≡ None = mac_is key now n (story key rows) known.1 ∙ mac_eq in
+      let n_key : n.key ≡ key = key_of key old n found in
+      (changing old new key now (Waits packet) i n (used now retrans packet n) refl lt at_i found (used_key now retrans packet n n.kept ∙ n_key) n_key is
+      (λ s' p e. when_waits key now s' p retrans packet (sym (mac_is key now n s' e) ∙ unknown) ∙ ap (λ (m : Node). Some (used now retrans packet m)) (sym e))).stands rows s
+  used_stands old new rows (Some mac) s mac_eq (There i n lt at_i found is) some =
+      let known = node_present key (story key rows) n (sym (s.each key) ∙ found) in
+      let known_is : known_mac n.kept ≡ Some mac = mac_is key now n (story key rows) known.1 ∙ mac_eq in
+      let n_key : n.key ≡ key = key_of key old n found in
+      (changing old new key now (Used retrans) i n (used now retrans packet n) refl lt at_i found (used_key now retrans packet n n.kept ∙ n_key) n_key is
+      (λ s' p e. when_used key now s' p retrans mac packet (sym (mac_is key now n s' e) ∙ known_is) ∙ ap (λ (m : Node). Some (used now retrans packet m)) (sym e))).stands rows s
+
+  -- the node of a resolution before any packet waits
+  only_asked : Node
+  only_asked = record { key = key; router = false; due = now + retrans; kept = Resolves retrans 0 [] }
+
+  asked_first : (s : Story) → is_present s ≡ false → node_of key ((now, Asked retrans) ∷ s) ≡ Some only_asked
+  unfolding only_asked
+  asked_first s absent =
+      let e : now + (0 + 1) * retrans ≡ now + retrans = omega arith in
+      rw (absent_mac s absent, absent_router s absent, e) refl
+
+  only_key : only_asked.key ≡ key
+  unfolding only_asked
+  only_key = refl
+
+  -- to one that enters
+  asked_stands : (mid new : List Node) (made : List Row) → Stands mid made → node_in key mid ≡ None → new ≡ put_in (asked_node key now retrans packet) mid → Stands new ((now, key, Waits packet) ∷ (now, key, Asked retrans) ∷ made)
+  asked_stands mid new made s none is =
+      let m = asked_node key now retrans packet in
+      let gone = node_absent key (story key made) (sym (s.each key) ∙ none) in
+      let before = (entering mid (put_in only_asked mid) key now (Asked retrans) only_asked refl none only_key refl asked_first).stands made s in
+      let told : node_of key (story key ((now, key, Waits packet) ∷ (now, key, Asked retrans) ∷ made)) ≡ Some m =
+      ap (node_of key) (same_story key now (Waits packet) ((now, key, Asked retrans) ∷ made) refl ∙ ap (λ (x : Story). (now, Waits packet) ∷ x) (same_story key now (Asked retrans) made refl))
+      ∙ first_asked key now (story key made) gone retrans packet in
+      rw is (record {
+        each = λ k. each_other k key now (Waits packet) ((now, key, Asked retrans) ∷ made) (put_in only_asked mid) (put_in m mid) (Some m)
+            (λ j. node_in-put j m mid ∙ elim (either (eqb key j)) [
+              | inl e ↦ cond-true (eqb key j) (Some m) (node_in j mid) e ∙ sym (cond-true (eqb key j) (Some m) (node_in j (put_in only_asked mid)) e)
+              | inr e ↦ cond-false (eqb key j) (Some m) (node_in j mid) e
+                  ∙ sym (cond-false (eqb key j) (Some m) (node_in j (put_in only_asked mid)) e
+                  ∙ (node_in-put j only_asked mid ∙ cond-false (eqb only_asked.key j) (Some only_asked) (node_in j mid) (ap (λ (x : ℕ). eqb x j) only_key ∙ e)))
+            ])
+            before.each (sym told);
+        order = Rises-put m mid s.order none;
+      })
+
+  pub takes_packet : (limit : ℕ) (old new : List Node) → Gives limit now key (λ n. used now retrans packet n) (asked_node key now retrans packet) old new → Takes limit now key retrans packet old new
+  takes_packet limit old new (Was n found a) = record {
+    stands = λ rows s.
+        let known = node_present key (story key rows) n (sym (s.each key) ∙ found) in
+        let st = used_stands old new rows (mac_of (story key rows)) s refl a (ap is_some found) in (
+          rows,
+          no_place_needed limit now key true rows known.0,
+          subst (λ (b : Bool). Stands new (packet_rows b (mac_of (story key rows)) now key retrans packet rows)) (sym known.0) st,
+        );
+  }
+  takes_packet limit old new (Came mid none places is) = record {
+    stands = λ rows s.
+        let gone = node_absent key (story key rows) (sym (s.each key) ∙ none) in
+        let place = place_made limit now key old mid rows s none places in
+        let st = asked_stands mid new place.0 place.2 place.3 is in (
+          place.0,
+          place_needed limit now key rows place.0 gone place.1,
+          subst (λ (b : Bool). Stands new (packet_rows b (mac_of (story key rows)) now key retrans packet place.0)) (sym gone) st,
+        );
+  }
+
+sending_by_kept : (packet : List ℕ) (mac : Option ℕ) (w : Option Word) (u : Option Use) (r : Option Resolution) (ws : List (List ℕ)) → sending_to (kept_by mac w u r ws) packet ≡ sending_by true mac ws packet
+sending_by_kept packet None w u r ws = refl
+sending_by_kept packet (Some mac) w u r ws = refl
+
+-- what becomes of a packet is what the rows say
+sending_told : (key : ℕ) (packet : List ℕ) (s : Story) (o : Option Node) → o ≡ node_of key s → sending_in o packet ≡ sending_of_story s packet
+sending_told key packet s None is = ap (λ b. sending_by b (mac_of s) (waiting_of s) packet) (sym (node_absent key s (sym is)))
+sending_told key packet s (Some n) is =
+    let known = node_present key s n (sym is) in
+    ap (λ (m : Node). sending_to m.kept packet) known.1
+    ∙ (sending_by_kept packet (mac_of s) (word_of s) (use_of s) (resolution_of s) (waiting_of s) ∙ ap (λ b. sending_by b (mac_of s) (waiting_of s) packet) (sym known.0))
+
+pub sending_by_rows : (key : ℕ) (packet : List ℕ) (old : List Node) (rows : List Row) → Stands old rows → sending_in (node_in key old) packet ≡ sending_of_story (story key rows) packet
+sending_by_rows key packet old rows s = sending_told key packet (story key rows) (node_in key old) (s.each key)

@@ -1,0 +1,31 @@
+-- What a turn says, whatever it answers by.
+use Rattle.std.proofs.Common.{◌≡◌, ℕ, ◌<◌, List, Option, Some, None, sym, ◌∙◌, subst}
+use Rattle.std.specs.Prelude.{IfSome, IfNone, ◌≢◌}
+use Rattle.std.specs.Option.{option_map}
+use Rattle.nd_neighbour.specs.Rows.{Row}
+use Rattle.nd_neighbour.specs.Node.{Node}
+use Rattle.nd_neighbour.specs.Change.{Falls}
+use Rattle.nd_neighbour.specs.Table.{Stands, GainsRow}
+use Rattle.nd_neighbour.specs.Due.{FirstDue, due_row, next_in, due_in, NoneBefore, turns_left, Turns}
+use Rattle.nd_neighbour.proofs.Dues.{first_falls, none_falls, turned_gains, turned_fewer, turned_later, next_not_now}
+
+module _ {X : Type 0} (f : X → Falls) (now : ℕ) (new : List Node) where
+  pub due_call : (o : Option X) (inside old : List Node) → inside ≡ old → IfSome o (λ d. Turns now inside new (f d)) → IfNone o (due_in now inside ≡ None) → (rows : List Row) → Stands old rows → FirstDue rows now (option_map f o)
+  due_call None inside old e t none rows s = none_falls old rows s now (subst (λ (l : List Node). due_in now l ≡ None) e none)
+  due_call (Some d) inside old e t none rows s = first_falls old rows s now new (f d) (subst (λ (l : List Node). Turns now l new (f d)) e t)
+
+  pub gains_call : (o : Option X) (inside old : List Node) → inside ≡ old → IfSome o (λ d. Turns now inside new (f d)) → IfSome o (λ d. GainsRow old new (due_row now (f d)))
+  gains_call None inside old e t = tt
+  gains_call (Some d) inside old e t = turned_gains now old new (f d) (subst (λ (l : List Node). Turns now l new (f d)) e t)
+
+  pub fewer_call : (o : Option X) (inside old : List Node) → inside ≡ old → IfSome o (λ d. Turns now inside new (f d)) → IfSome o (λ _. turns_left new < turns_left old)
+  fewer_call None inside old e t = tt
+  fewer_call (Some d) inside old e t = turned_fewer now old new (f d) (subst (λ (l : List Node). Turns now l new (f d)) e t)
+
+  pub later_call : (o : Option X) (inside old : List Node) → inside ≡ old → IfSome o (λ d. Turns now inside new (f d)) → IfNone o (new ≡ inside) → NoneBefore old now → NoneBefore new now
+  later_call None inside old e t same h = subst (λ (l : List Node). NoneBefore l now) (sym (same ∙ e)) h
+  later_call (Some d) inside old e t same h = turned_later now old new (f d) (subst (λ (l : List Node). Turns now l new (f d)) e t) h
+
+pub none_call : {X : Type 0} (now : ℕ) (o : Option X) (inside old : List Node) → inside ≡ old → IfNone o (due_in now inside ≡ None) → IfNone o (next_in old ≢ Some now)
+none_call now None inside old e none = λ h. next_not_now now old h (subst (λ (l : List Node). due_in now l ≡ None) e none)
+none_call now (Some d) inside old e none = tt

@@ -1,0 +1,26 @@
+-- What a turn does to the table, and what that says of the rows.
+use Rattle.std.proofs.Common.{◌≡◌, ℕ, ◌<◌, false, cond, List, length, get_or, set, Some, sym, ◌∙◌, ap}
+use Rattle.std.specs.Prelude.{slice_get}
+use Rattle.std.specs.List.{remove}
+use Rattle.std.proofs.lemmas.List.{set-get_or, get_or_default}
+use Rattle.std.proofs.lemmas.Option.{slice_get-get_or}
+use Rattle.std.proofs.lemmas.Bool.{cond-false}
+use Rattle.nd_neighbour.specs.Node.{Node}
+use Rattle.nd_neighbour.specs.Change.{Falls, falls, stays, solicited}
+use Rattle.nd_neighbour.specs.Due.{due_in, Turns}
+
+-- an entry for which no solicitation is left is taken out
+pub went : (now : ℕ) (ns : List Node) (i : ℕ) (n m r : Node) (new : List Node) (what : Falls) → i < length ns → due_in now ns ≡ slice_get ns i → n ≡ get_or ns i n → m ≡ cond (stays (falls n)) (solicited now n) n → stays (falls n) ≡ false → r ≡ get_or (set ns i m) i r → what ≡ falls r → new ≡ remove (set ns i m) i → Turns now ns new what
+went now ns i n m r new what lt first is changed none taken what_is new_is =
+    let m_is : m ≡ n = changed ∙ cond-false (stays (falls n)) (solicited now n) n none in
+    let same : set ns i m ≡ ns = ap (set ns i) (m_is ∙ is) ∙ set-get_or ns i n in
+    let r_is : r ≡ n = taken ∙ (ap (λ (l : List Node). get_or l i r) same ∙ (get_or_default ns i r n lt ∙ sym is)) in
+    record {
+      at = i;
+      node = n;
+      within = lt;
+      is = is;
+      first = first ∙ (slice_get-get_or ns i n lt ∙ ap Some (sym is));
+      falls_is = what_is ∙ ap falls r_is;
+      new_is = new_is ∙ (ap (λ (l : List Node). remove l i) same ∙ sym (cond-false (stays (falls n)) (set ns i (solicited now n)) (remove ns i) none));
+    }

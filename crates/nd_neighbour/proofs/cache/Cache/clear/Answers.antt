@@ -1,0 +1,11 @@
+use Rattle.std.proofs.Common.{sym, subst, List}
+use Rattle.nd_neighbour.specs.Node.{Node}
+use Rattle.nd_neighbour.specs.Table.{Stands}
+use Rattle.nd_neighbour.specs.Calls.{cleared}
+use Rattle.nd_neighbour.proofs.Results.{on_ok}
+use Rattle.nd_neighbour.proofs.Forgetting.{cleared_stands}
+use Rattle.nd_neighbour.proofs.cache.Cache.clear.Goals as goal
+
+pub returns-clause-stands : goal.returns-clause-stands
+returns-clause-stands g c =
+    on_ok c.take_all.result _ _ (λ none at rows s. subst (λ (l : List Node). Stands l (cleared at c.args.self.now.nodes rows)) (sym none) (cleared_stands at c.args.self.now.nodes rows s)) c.take_all.ensures.none

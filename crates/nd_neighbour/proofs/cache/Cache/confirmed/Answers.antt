@@ -1,0 +1,14 @@
+use Rattle.std.proofs.Common.{subst}
+use Rattle.nd_addr.specs.Number.{number_of}
+use Rattle.nd_neighbour.specs.Change.{confirmed}
+use Rattle.nd_neighbour.specs.Table.{Table}
+use Rattle.nd_neighbour.specs.Room.{Alters}
+use Rattle.nd_neighbour.proofs.NewsCalls.{confirmed_gains}
+use Rattle.nd_neighbour.proofs.cache.Cache.confirmed.Goals as goal
+
+pub returns-clause-stands : goal.returns-clause-stands
+returns-clause-stands g c =
+    let key = number_of c.args.addr.0 in
+    let new = c.confirm.new.entries.items in
+    confirmed_gains key c.args.now c.args.reachable c.args.self.now.nodes new
+    (subst (λ (t : Table). Alters key (λ n. confirmed c.args.now c.args.reachable n) t.nodes new) c.self.view_is c.confirm.ensures.alters)

@@ -1,0 +1,61 @@
+use Rattle.std.proofs.Common.{◌≡◌, refl, subst, false}
+use Rattle.std.specs.Prelude.{OnOk, IfOk}
+use Rattle.std.specs.Option.{option_map}
+use Rattle.nd_addr.specs.Number.{number_of}
+use Rattle.nd_neighbour.specs.Change.{given, advertised, with_mark, stale_node, mark_or}
+use Rattle.nd_neighbour.specs.Table.{Table, node_in}
+use Rattle.nd_neighbour.specs.Room.{Alters, Gives}
+use Rattle.nd_neighbour.specs.Calls.{told_released, told_turned}
+use Rattle.nd_neighbour.proofs.Results.{on_ok, if_ok_both}
+use Rattle.nd_neighbour.proofs.NewsCalls.{given_hears, advertised_gains, marked_gains, given_tells, advertised_tells, marked_tells}
+use Rattle.nd_neighbour.proofs.cache.Cache.heard.Goals as goal
+
+pub returns-in-Given-clause-stands : goal.returns-in-Given-clause-stands
+returns-in-Given-clause-stands g c =
+    let key = number_of c.in-Given.addr.0 in
+    let mac = number_of c.in-Given.mac.0 in
+    let mark = c.in-Given.mark in
+    let new = c.give_or_enter.new.entries.items in
+    rw c.in-Given.is (on_ok c.give_or_enter.result _ _ (λ gives. record { stands = given_hears c.args.self.now.limit c.args.now key mac mark c.args.self.now.nodes new gives })
+    (subst (λ (t : Table). OnOk c.give_or_enter.result (Gives t.limit c.args.now key (λ n. given c.args.now mac mark n) (stale_node key (mark_or mark false) c.args.now mac) t.nodes new)) c.self.view_is c.give_or_enter.ensures.gives))
+
+pub returns-in-Given-clause-told : goal.returns-in-Given-clause-told
+returns-in-Given-clause-told g c =
+    let key = number_of c.in-Given.addr.0 in
+    let mac = number_of c.in-Given.mac.0 in
+    let mark = c.in-Given.mark in
+    rw c.in-Given.is (if_ok_both c.give_or_enter.result _ _ _ (λ t p q. given_tells key c.args.now mac mark c.args.self.now.nodes t.released t.ends_router p q)
+    (subst (λ (t : Table). IfOk c.give_or_enter.result (λ touched. touched.released ≡ told_released (λ n. given c.args.now mac mark n) (node_in key t.nodes))) c.self.view_is c.give_or_enter.ensures.released)
+    (subst (λ (t : Table). IfOk c.give_or_enter.result (λ touched. touched.ends_router ≡ told_turned (λ n. given c.args.now mac mark n) (node_in key t.nodes))) c.self.view_is c.give_or_enter.ensures.ends_router))
+
+pub returns-in-Advert-clause-stands : goal.returns-in-Advert-clause-stands
+returns-in-Advert-clause-stands g c =
+    let key = number_of c.in-Advert.addr.0 in
+    let mac = option_map (λ m. number_of m.0) c.in-Advert.mac in
+    let new = c.advertise.new.entries.items in
+    let gains = advertised_gains key c.args.now c.in-Advert.flags mac c.args.times.reachable c.args.self.now.nodes new
+    (subst (λ (t : Table). Alters key (λ n. advertised c.args.now c.in-Advert.flags mac c.args.times.reachable n) t.nodes new) c.self.view_is c.advertise.ensures.alters) in
+    rw c.in-Advert.is (record { stands = λ rows s. (rows, refl, gains.stands rows s) })
+
+pub returns-in-Advert-clause-told : goal.returns-in-Advert-clause-told
+returns-in-Advert-clause-told g c =
+    let key = number_of c.in-Advert.addr.0 in
+    let mac = option_map (λ m. number_of m.0) c.in-Advert.mac in
+    rw c.in-Advert.is (advertised_tells key c.args.now c.in-Advert.flags mac c.args.times.reachable c.args.self.now.nodes c.advertise.result.released c.advertise.result.ends_router
+    (subst (λ (t : Table). c.advertise.result.released ≡ told_released (λ n. advertised c.args.now c.in-Advert.flags mac c.args.times.reachable n) (node_in key t.nodes)) c.self.view_is c.advertise.ensures.released)
+    (subst (λ (t : Table). c.advertise.result.ends_router ≡ told_turned (λ n. advertised c.args.now c.in-Advert.flags mac c.args.times.reachable n) (node_in key t.nodes)) c.self.view_is c.advertise.ensures.ends_router))
+
+pub returns-in-Marked-clause-stands : goal.returns-in-Marked-clause-stands
+returns-in-Marked-clause-stands g c =
+    let key = number_of c.in-Marked.addr.0 in
+    let new = c.mark.new.entries.items in
+    let gains = marked_gains key c.args.now c.in-Marked.router c.args.self.now.nodes new
+    (subst (λ (t : Table). Alters key (λ n. with_mark c.in-Marked.router n) t.nodes new) c.self.view_is c.mark.ensures.alters) in
+    rw c.in-Marked.is (record { stands = λ rows s. (rows, refl, gains.stands rows s) })
+
+pub returns-in-Marked-clause-told : goal.returns-in-Marked-clause-told
+returns-in-Marked-clause-told g c =
+    let key = number_of c.in-Marked.addr.0 in
+    rw c.in-Marked.is (marked_tells key c.args.now c.in-Marked.router c.args.self.now.nodes c.mark.result.released c.mark.result.ends_router
+    (subst (λ (t : Table). c.mark.result.released ≡ told_released (λ n. with_mark c.in-Marked.router n) (node_in key t.nodes)) c.self.view_is c.mark.ensures.released)
+    (subst (λ (t : Table). c.mark.result.ends_router ≡ told_turned (λ n. with_mark c.in-Marked.router n) (node_in key t.nodes)) c.self.view_is c.mark.ensures.ends_router))

@@ -1,0 +1,9 @@
+use Rattle.std.proofs.Common.{◌∙◌, sym, ap}
+use Rattle.nd_neighbour.specs.Table.{Table}
+use Rattle.nd_neighbour.specs.Due.{next_in}
+use Rattle.nd_neighbour.proofs.Dues.{next_is_due}
+use Rattle.nd_neighbour.proofs.cache.Cache.next_due.Goals as goal
+
+pub returns-clause-due : goal.returns-clause-due
+returns-clause-due g c = λ rows s.
+    next_is_due c.args.self.now.nodes rows s c.next.result (sym (c.next.ensures ∙ ap next_in (c.deref.ensures.value ∙ ap (λ (t : Table). t.nodes) c.self.view_is)))

@@ -1,0 +1,49 @@
+use Rattle.std.proofs.Common.{◌≡◌, ◌∙◌, sym, ap, subst, Option, None}
+use Rattle.nd_addr.specs.Number.{number_of}
+use Rattle.nd_neighbour.specs.Node.{Node}
+use Rattle.nd_neighbour.specs.Change.{used, asked_node}
+use Rattle.nd_neighbour.specs.Table.{Table, node_in}
+use Rattle.nd_neighbour.specs.Room.{Alters, Gives}
+use Rattle.nd_neighbour.specs.Calls.{sending_in}
+use Rattle.nd_neighbour.specs.View.{sending_of}
+use Rattle.nd_neighbour.proofs.Finds.{was_there, not_there, no_rings}
+use Rattle.nd_neighbour.proofs.PacketCalls.{takes_packet, sending_by_rows}
+use Rattle.nd_neighbour.proofs.cache.Cache.used.Goals as goal
+
+pub returns-then-holds-clause-stands : goal.returns-then-holds-clause-stands
+returns-then-holds-clause-stands g c =
+    let key = number_of c.args.addr.0 in
+    let old = c.args.self.now.nodes in
+    let new = c.pass.new.entries.items in
+    let change : Node → Node = λ n. used c.args.now c.args.times.retrans c.args.packet n in
+    takes_packet key c.args.now c.args.times.retrans c.args.packet c.args.self.now.limit old new
+    (was_there c.args.self.now.limit c.args.now key old c.deref.result.now c.holds.result (c.deref.ensures.value ∙ ap (λ (t : Table). t.nodes) c.self.view_is) c.holds.ensures c.if-holds.true
+    change (asked_node key c.args.now c.args.times.retrans c.args.packet) new (subst (λ (t : Table). Alters key change t.nodes new) c.self.view_is c.pass.ensures.alters))
+
+pub returns-then-holds-clause-sending : goal.returns-then-holds-clause-sending
+returns-then-holds-clause-sending g c = λ rows s.
+    let key = number_of c.args.addr.0 in
+    subst (λ (t : Table). sending_of c.pass.result ≡ sending_in (node_in key t.nodes) c.args.packet) c.self.view_is c.pass.ensures.sending
+    ∙ sending_by_rows key c.args.packet c.args.self.now.nodes rows s
+
+pub returns-in-Err-clause-memory : goal.returns-in-Err-clause-memory
+returns-in-Err-clause-memory g c = λ _.
+    let key = number_of c.args.addr.0 in
+    let old = c.args.self.now.nodes in (
+      sym (ap (λ (t : Table). t.rings) c.self.view_is) ∙ no_rings _ c.in-Err.ensures.in_hand,
+      not_there c.args.self.now.limit c.args.now key old c.deref.result.now c.holds.result (c.deref.ensures.value ∙ ap (λ (t : Table). t.nodes) c.self.view_is) c.holds.ensures c.if-holds.false,
+    )
+
+pub returns-clause-stands : goal.returns-clause-stands
+returns-clause-stands g c =
+    let key = number_of c.args.addr.0 in
+    let new = c.begin.new.entries.items in
+    takes_packet key c.args.now c.args.times.retrans c.args.packet c.args.self.now.limit c.args.self.now.nodes new
+    (subst (λ (t : Table). Gives t.limit c.args.now key (λ n. used c.args.now c.args.times.retrans c.args.packet n) (asked_node key c.args.now c.args.times.retrans c.args.packet) t.nodes new) c.self.view_is c.begin.ensures.gives)
+
+pub returns-clause-sending : goal.returns-clause-sending
+returns-clause-sending g c = λ rows s.
+    let key = number_of c.args.addr.0 in
+    let old = c.args.self.now.nodes in
+    let none : node_in key old ≡ None = not_there c.args.self.now.limit c.args.now key old c.deref.result.now c.holds.result (c.deref.ensures.value ∙ ap (λ (t : Table). t.nodes) c.self.view_is) c.holds.ensures c.if-holds.false in
+    sym (ap (λ (o : Option Node). sending_in o c.args.packet) none) ∙ sending_by_rows key c.args.packet old rows s

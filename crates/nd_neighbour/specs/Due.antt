@@ -1,0 +1,87 @@
+-- What falls due, asked of what happened (RFC 4861, sections 7.2.2, 7.3.3 and 10).
+use Rattle.std.specs.Prelude.{◌≡◌, ℕ, ◌+◌, ◌-◌, ◌≤◌, nat_lt, min, MatchOption, true, ◌==◌, if◌then◌else◌, List, [], ◌∷◌, length, slice_index_or, slice_set, ◌<◌, Option, Some, None}
+use Rattle.std.specs.List.{remove}
+use Rattle.nd_neighbour.specs.Rows.{Row, Story, story, Solicited, Probed, Forgot, Failed, Aged}
+use Rattle.nd_neighbour.specs.Address.{is_present, mac_of}
+use Rattle.nd_neighbour.specs.Confirming.{Use, use_of}
+use Rattle.nd_neighbour.specs.Resolving.{Resolution, resolution_of, waiting_of}
+use Rattle.nd_neighbour.specs.Node.{Node, Kept, Resolves, Reaches, due_of, more_in}
+use Rattle.nd_neighbour.specs.Change.{Falls, Multicasts, Unicasts, Fails, Ages, falls, stays, solicited}
+
+-- something falls due for the neighbour at the moment, and no row has come for it yet
+abbrev pub IsDue : List Row → ℕ → ℕ → Type 0
+IsDue rows moment key = (is_present (story key rows) ≡ true) × (due_of (story key rows) ≡ moment)
+
+-- without an address: a second and a third solicitation, and then the failure, with all that waits. With one: three
+-- probes after a use, and then the failure; without a use the entry goes.
+abbrev pub falling_by : ℕ → Option ℕ → Option Use → Option Resolution → List (List ℕ) → Falls
+falling_by key None use' resolution waiting = if nat_lt (more_in resolution) 2 then Multicasts key else Fails key waiting
+falling_by key (Some mac) None resolution waiting = Ages key
+falling_by key (Some mac) (Some use') resolution waiting = if nat_lt use'.probes 3 then Unicasts key mac else Fails key []
+
+-- what falls due for the neighbour
+abbrev pub falling : ℕ → Story → Falls
+falling key s = falling_by key (mac_of s) (use_of s) (resolution_of s) (waiting_of s)
+
+-- the least address for which something falls due at the moment, and what
+pub record IsFirst (rows : List Row) (moment : ℕ) (falls : Falls) : Type 0 where
+  pub key : ℕ
+  pub due : IsDue rows moment key
+  pub least : (k : ℕ) → IsDue rows moment k → key ≤ k
+  pub what : falls ≡ falling key (story key rows)
+
+abbrev pub FirstDue : List Row → ℕ → Option Falls → Type 0
+FirstDue rows moment None = (key : ℕ) → IsDue rows moment key → ⊥
+FirstDue rows moment (Some falls) = IsFirst rows moment falls
+
+-- the moment is the first at which something falls due, if there is one
+abbrev pub NextDue : List Row → Option ℕ → Type 0
+NextDue rows None = (moment key : ℕ) → IsDue rows moment key → ⊥
+NextDue rows (Some next) = ((key : ℕ) × IsDue rows next key) × ((moment key : ℕ) → IsDue rows moment key → next ≤ moment)
+
+-- the row that comes with it
+abbrev pub due_row : ℕ → Falls → Row
+due_row now (Multicasts key) = (now, key, Solicited)
+due_row now (Unicasts key mac) = (now, key, Probed)
+due_row now (Fails key packets) = (now, key, Forgot Failed)
+due_row now (Ages key) = (now, key, Forgot Aged)
+
+-- the lesser of two numbers that may be missing
+abbrev pub lesser : Option ℕ → Option ℕ → Option ℕ
+lesser None b = b
+lesser (Some x) None = Some x
+lesser (Some x) (Some y) = Some (min x y)
+
+-- the least moment of a list
+abbrev pub next_in : List Node → Option ℕ
+next_in [] = None
+next_in (n ∷ nodes) = lesser (Some n.due) (next_in nodes)
+
+-- the first of a list for which something falls due at the moment
+abbrev pub due_in : ℕ → List Node → Option Node
+due_in now [] = None
+due_in now (n ∷ nodes) = if n.due == now then Some n else due_in now nodes
+
+-- nothing fell due before the moment
+abbrev pub NoneBefore : List Node → ℕ → Type 0
+NoneBefore nodes now = MatchOption (next_in nodes) (Unit {0}) (λ next. now ≤ next)
+
+-- how many turns a neighbour can still take, where nothing else happens
+abbrev pub turns_to : Kept → ℕ
+turns_to (Resolves retrans sent waiting) = 2 - sent + 1
+turns_to (Reaches mac confirmed since None) = 1
+turns_to (Reaches mac confirmed since (Some probing)) = 3 - probing.sent + 1
+
+abbrev pub turns_left : List Node → ℕ
+turns_left [] = 0
+turns_left (n ∷ nodes) = turns_to n.kept + turns_left nodes
+
+-- the first neighbour of a list for which something falls due takes a turn: it stays with one more solicitation, or goes
+pub record Turns (now : ℕ) (old new : List Node) (what : Falls) : Type 0 where
+  pub at : ℕ
+  pub node : Node
+  pub within : at < length old
+  pub is : node ≡ slice_index_or old at node
+  pub first : due_in now old ≡ Some node
+  pub falls_is : what ≡ falls node
+  pub new_is : new ≡ (if stays (falls node) then slice_set old at (solicited now node) else remove old at)

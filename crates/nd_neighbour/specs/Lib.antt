@@ -1,0 +1,13 @@
+pub mod Rows
+pub mod Address
+pub mod Confirming
+pub mod Resolving
+pub mod Reachability
+pub mod Node
+pub mod Change
+pub mod View
+pub mod Table
+pub mod Due
+pub mod Seen
+pub mod Room
+pub mod Calls

@@ -1,0 +1,32 @@
+-- The resolution of a neighbour whose link-layer address isn't known (RFC 4861, section 7.2.2).
+use Rattle.std.specs.Prelude.{ℕ, ◌+◌, List, [], ◌∷◌, ◌++◌, Option, Some, None}
+use Rattle.circular_buffer.specs.Buffer.{keep_last}
+use Rattle.nd_neighbour.specs.Rows.{Asked, Solicited, Waits, Story}
+
+-- a resolution: its moment, the RetransTimer in force then, and how many solicitations were sent after the first
+pub record Resolution : Type 0 where
+  pub at : ℕ
+  pub retrans : ℕ
+  pub more : ℕ
+
+abbrev pub one_more : Option Resolution → Option Resolution
+one_more None = None
+one_more (Some r) = Some (record { at = r.at; retrans = r.retrans; more = r.more + 1 })
+
+-- the last resolution
+abbrev pub resolution_of : Story → Option Resolution
+resolution_of [] = None
+resolution_of ((at, Asked retrans) ∷ s) = Some (record { at = at; retrans = retrans; more = 0 })
+resolution_of ((at, Solicited) ∷ s) = one_more (resolution_of s)
+resolution_of ((at, _) ∷ s) = resolution_of s
+
+-- the packets that were to wait since the resolution began, the oldest first
+abbrev pub packets_of : Story → List (List ℕ)
+packets_of [] = []
+packets_of ((at, Asked retrans) ∷ s) = []
+packets_of ((at, Waits packet) ∷ s) = packets_of s ++ packet ∷ []
+packets_of ((at, _) ∷ s) = packets_of s
+
+-- the last three of them wait
+abbrev pub waiting_of : Story → List (List ℕ)
+waiting_of s = keep_last 3 (packets_of s)

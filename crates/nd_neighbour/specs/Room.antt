@@ -1,0 +1,104 @@
+-- Which neighbour makes place for a new one, and when there is no place (RFC 4861, section 5.3, leaves this open).
+use Rattle.std.specs.Prelude.{◌≡◌, ℕ, ◌<◌, ◌≤◌, ◌⊎◌, nat_lt, Bool, true, false, ◌&&◌, ◌||◌, not, if◌then◌else◌, List, [], ◌∷◌, length, slice_get, slice_index_or, slice_set, Option, Some, None, is_some, MatchBool}
+use Rattle.std.specs.List.{insert, remove}
+use Rattle.nd_neighbour.specs.declared.reachability.Reachability.TheVariants.{Stale}
+use Rattle.nd_neighbour.specs.Rows.{Row, story, Forgot, PushedOut}
+use Rattle.nd_neighbour.specs.Address.{is_present}
+use Rattle.nd_neighbour.specs.Confirming.{word_of}
+use Rattle.nd_neighbour.specs.Reachability.{state_of}
+use Rattle.nd_neighbour.specs.Node.{Node, Kept, Resolves, Reaches, since_in}
+use Rattle.nd_neighbour.specs.Table.{node_in, place_in, Stands}
+
+-- the neighbour is present and STALE at the moment
+abbrev pub IsStale : List Row → ℕ → ℕ → Type 0
+IsStale rows now key = (is_present (story key rows) ≡ true) × (state_of (story key rows) now ≡ Stale)
+
+-- since when it isn't known to be reachable
+abbrev pub stale_since : List Row → ℕ → ℕ
+stale_since rows key = since_in (word_of (story key rows))
+
+-- no other one is stale for longer, and none of a lower address for as long
+pub record IsLongestStale (rows : List Row) (now key : ℕ) : Type 0 where
+  pub stale : IsStale rows now key
+  pub longest : (k : ℕ) → IsStale rows now k → (stale_since rows key < stale_since rows k) ⊎ ((stale_since rows key ≡ stale_since rows k) × (key ≤ k))
+
+-- what a new neighbour adds before it: nothing where there are fewer than the limit, else the end of the one that
+-- is stale for longest
+pub data MakesPlace (limit now : ℕ) (rows made : List Row) : Type 0 where
+  HadPlace : (nodes : List Node) → Stands nodes rows → length nodes < limit → made ≡ rows → MakesPlace limit now rows made
+  Pushed : (nodes : List Node) (key : ℕ) → Stands nodes rows → limit ≤ length nodes → IsLongestStale rows now key → made ≡ (now, key, Forgot PushedOut) ∷ rows → MakesPlace limit now rows made
+
+-- what comes before a row of the neighbour, which may be one that lets it enter
+abbrev pub Prepares : ℕ → ℕ → Bool → ℕ → List Row → List Row → Type 0
+Prepares limit now enters key rows made =
+    MatchBool (enters && not (is_present (story key rows))) (MakesPlace limit now rows made) (made ≡ rows)
+
+-- a new neighbour has no place: it isn't present, there are as many as there may be, and none is stale
+pub record WouldBeFull (limit now key : ℕ) (rows : List Row) : Type 0 where
+  pub absent : is_present (story key rows) ≡ false
+  pub nodes : List Node
+  pub those : Stands nodes rows
+  pub many : limit ≤ length nodes
+  pub none_stale : (k : ℕ) → IsStale rows now k → ⊥
+
+-- the same of what is kept
+abbrev pub is_stale : Kept → ℕ → Bool
+is_stale (Resolves retrans sent waiting) t = false
+is_stale (Reaches mac confirmed since None) t = not (confirmed && nat_lt t since)
+is_stale (Reaches mac confirmed since (Some probing)) t = false
+
+abbrev pub since_kept : Kept → ℕ
+since_kept (Resolves retrans sent waiting) = 0
+since_kept (Reaches mac confirmed since probing) = since
+
+-- the one of two that isn't reachable for longer, at a tie the first
+abbrev pub longer : Option Node → Option Node → Option Node
+longer None other = other
+longer (Some n) None = Some n
+longer (Some n) (Some m) = if nat_lt (since_kept m.kept) (since_kept n.kept) then Some m else Some n
+
+abbrev pub if_stale : ℕ → Node → Option Node
+if_stale now n = if is_stale n.kept now then Some n else None
+
+-- the one of a list that is stale for longest
+abbrev pub stalest : ℕ → List Node → Option Node
+stalest now [] = None
+stalest now (n ∷ nodes) = longer (if_stale now n) (stalest now nodes)
+
+-- there is place for one more, or one that makes place
+abbrev pub has_place : ℕ → ℕ → List Node → Bool
+has_place limit now nodes = nat_lt (length nodes) limit || is_some (stalest now nodes)
+
+-- a new neighbour has no place in the list
+abbrev pub NoPlace : ℕ → ℕ → ℕ → List Node → Type 0
+NoPlace limit now key nodes = (node_in key nodes ≡ None) × (has_place limit now nodes ≡ false)
+
+-- the list with place for one more
+pub data Places (limit now : ℕ) (old new : List Node) : Type 0 where
+  Enough : length old < limit → new ≡ old → Places limit now old new
+  Went : (at : ℕ) (node : Node) → limit ≤ length old → at < length old → node ≡ slice_index_or old at node → stalest now old ≡ Some node → new ≡ remove old at → Places limit now old new
+
+-- the list with the neighbour changed, if it is there
+pub data Alters (key : ℕ) (change : Node → Node) (old new : List Node) : Type 0 where
+  NotThere : node_in key old ≡ None → new ≡ old → Alters key change old new
+  There : (at : ℕ) (node : Node) → at < length old → node ≡ slice_index_or old at node → node_in key old ≡ Some node → new ≡ slice_set old at (change node) → Alters key change old new
+
+-- the neighbour at a place that may be missing
+abbrev pub picked : List Node → Option ℕ → Option Node
+picked nodes None = None
+picked nodes (Some i) = slice_get nodes i
+
+-- the same where it is stale
+abbrev pub picked_stale : ℕ → Option Node → Option Node
+picked_stale now None = None
+picked_stale now (Some n) = if_stale now n
+
+-- the list with the neighbour changed where it is there, and else with a new one in its place
+pub data Gives (limit now key : ℕ) (change : Node → Node) (m : Node) (old new : List Node) : Type 0 where
+  Was : (node : Node) → node_in key old ≡ Some node → Alters key change old new → Gives limit now key change m old new
+  Came : (mid : List Node) → node_in key old ≡ None → Places limit now old mid → new ≡ insert mid (place_in m.key mid) m → Gives limit now key change m old new
+
+-- the list without the neighbour
+pub data Removes (key : ℕ) (old new : List Node) : Type 0 where
+  WasNot : node_in key old ≡ None → new ≡ old → Removes key old new
+  Gone : (at : ℕ) (node : Node) → at < length old → node ≡ slice_index_or old at node → node_in key old ≡ Some node → new ≡ remove old at → Removes key old new

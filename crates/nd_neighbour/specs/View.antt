@@ -1,0 +1,30 @@
+-- What a contract sees of an entry.
+use Rattle.std.specs.Option.{option_map}
+use Rattle.nd_addr.specs.Number.{number_of}
+use Rattle.nd_neighbour.specs.declared.stage.Stage.{Stage}
+use Rattle.nd_neighbour.specs.declared.stage.Stage.TheVariants.{Resolving, Known}
+use Rattle.nd_neighbour.specs.declared.sending.Use.{Use}
+use Rattle.nd_neighbour.specs.declared.sending.Use.TheVariants.{Send, Queued}
+use Rattle.nd_neighbour.specs.declared.due.Due.{Due}
+use Rattle.nd_neighbour.specs.declared.due.Due.TheVariants.{Multicast, Unicast, Failed, Aged}
+use Rattle.nd_neighbour.specs.declared.neighbour.Neighbour.{Neighbour}
+use Rattle.nd_neighbour.specs.Seen.{Seen}
+use Rattle.nd_neighbour.specs.Node.{Kept, Resolves, Reaches}
+use Rattle.nd_neighbour.specs.Change.{Sending, Sends, Queues, Falls, Multicasts, Unicasts, Fails, Ages}
+
+abbrev pub kept_of : {A : Type 0} → Stage A → Kept
+kept_of (Resolving retrans sent waiting) = Resolves retrans sent waiting
+kept_of (Known mac confirmed since probing) = Reaches (number_of mac.0) confirmed since probing
+
+abbrev pub sending_of : {A : Type 0} → Use A → Sending
+sending_of (Send mac packet) = Sends (number_of mac.0) packet
+sending_of (Queued solicit replaced) = Queues solicit replaced
+
+abbrev pub falls_of : {A : Type 0} → Due A → Falls
+falls_of (Multicast addr) = Multicasts (number_of addr.0)
+falls_of (Unicast addr mac) = Unicasts (number_of addr.0) (number_of mac.0)
+falls_of (Failed addr packets) = Fails (number_of addr.0) packets
+falls_of (Aged addr) = Ages (number_of addr.0)
+
+abbrev pub seen_in : Neighbour → Seen
+seen_in n = record { key = number_of n.addr.0; mac = option_map (λ mac. number_of mac.0) n.mac; router = n.router; state = n.state }

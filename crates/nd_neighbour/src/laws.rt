@@ -1,0 +1,31 @@
+//! Laws of the definitions, each the contract of a function that does nothing.
+
+ghost use Rattle.std.specs.Prelude.{◌≡◌, ◌≤◌, ◌↔◌, ◌++◌, ◌∷◌, [], ℕ, List, Option, None, length, nat_lt, slice_get, if◌then◌else◌};
+ghost use Rattle.std.specs.Option.{option_to_list};
+ghost use Rattle.circular_buffer.specs.Buffer.{keep_last};
+ghost use Rattle.nd_neighbour.specs.Rows.{Row, Story};
+ghost use Rattle.nd_neighbour.specs.Resolving.{waiting_of};
+ghost use Rattle.nd_neighbour.specs.Node.{Node};
+ghost use Rattle.nd_neighbour.specs.Change.{Falls};
+ghost use Rattle.nd_neighbour.specs.Table.{Stands};
+ghost use Rattle.nd_neighbour.specs.Due.{FirstDue};
+ghost use Rattle.nd_neighbour.specs.Room.{IsLongestStale, NoPlace, WouldBeFull};
+
+/// The definitions give one table, one thing that falls due first, and one neighbour that makes place.
+pub fn one_answer()
+    ensures table { (rows : List Row) (a b : List Node) → Stands a rows → Stands b rows → a ≡ b }
+    ensures due { (rows : List Row) (moment : ℕ) (a b : Option Falls) → FirstDue rows moment a → FirstDue rows moment b → a ≡ b }
+    ensures longest { (rows : List Row) (now a b : ℕ) → IsLongestStale rows now a → IsLongestStale rows now b → a ≡ b }
+{}
+
+/// A cache has no place for a new neighbour exactly where what happened leaves none.
+pub fn full_by_rows()
+    ensures { (limit now key : ℕ) (nodes : List Node) (rows : List Row) → Stands nodes rows → NoPlace limit now key nodes ↔ WouldBeFull limit now key rows }
+{}
+
+/// At most three packets wait, and no packet is lost, doubled or moved where one more comes: those that waited and the
+/// new one are the one that has to make place, if one has, and those that wait then.
+pub fn no_packet_is_lost()
+    ensures three { (s : Story) → length (waiting_of s) ≤ 3 }
+    ensures kept { (waiting : List (List ℕ)) (packet : List ℕ) → length waiting ≤ 3 → waiting ++ packet ∷ [] ≡ option_to_list (if nat_lt (length waiting) 3 then None else slice_get (waiting ++ packet ∷ []) 0) ++ keep_last 3 (waiting ++ packet ∷ []) }
+{}

@@ -1,0 +1,48 @@
+//! The neighbour cache of a host or a router (RFC 4861, sections 5.1, 7.2 and 7.3).
+#![tactic(auto)]
+
+mod cache;
+mod due;
+mod entry;
+mod find;
+mod forget;
+mod heard;
+mod hearing;
+pub mod laws;
+mod look;
+mod neighbour;
+mod news;
+mod packet;
+mod packets;
+mod passing;
+mod place;
+mod probing;
+mod reachability;
+mod ready;
+mod refusal;
+mod removing;
+mod ring;
+mod same;
+mod sending;
+mod showing;
+mod stage;
+mod times;
+mod touched;
+mod turning;
+mod used;
+mod waiting;
+
+pub use cache::Cache;
+pub use due::Due;
+pub use neighbour::Neighbour;
+pub use news::{Flags, News};
+pub use packet::Packet;
+pub use packets::Packets;
+pub use reachability::Reachability;
+pub use refusal::CacheRefusal;
+pub use sending::Use;
+pub use times::Times;
+pub use touched::Touched;
+
+#[cfg(test)]
+mod tests;

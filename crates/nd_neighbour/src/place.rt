@@ -1,0 +1,79 @@
+ghost use Rattle.std.specs.Prelude.{◌≡◌, ◌<◌, ◌≤◌, length, slice_get, IfSome, IfNone, None, true, ◌+◌, vec_len, vec_capacity};
+ghost use Rattle.std.specs.List.{insert};
+ghost use Rattle.nd_neighbour.specs.Table.{place_in};
+ghost use Rattle.nd_neighbour.specs.Room.{stalest, has_place, Places, longer, picked, picked_stale};
+
+use crate::entry::Entry;
+use crate::find::place;
+use std::alloc::Allocator;
+
+/// The place of the one of two entries that is stale for longer, at a tie of the first.
+fn pick<A: Allocator>(
+    entries: &[Entry<A>],
+    best: Option<usize>,
+    i: usize,
+    now: u64,
+) -> Option<usize>
+    requires best_within { IfSome best (λ j. j < length entries.now) }
+    requires within { i < length entries.now }
+    ensures within { IfSome result (λ j. j < length entries.now) }
+    ensures longer { picked entries.now result ≡ longer (picked entries.now best) (picked_stale now (slice_get entries.now i)) }
+{
+    if !entries[i].is_stale(now) {
+        return best;
+    }
+    match best {
+        None => Some(i),
+        Some(j) if entries[i].since() < entries[j].since() => Some(i),
+        Some(j) => Some(j),
+    }
+}
+
+/// The place of the entry that is stale for longest, of those the one of the least address.
+pub(crate) fn stalest<A: Allocator>(entries: &[Entry<A>], now: u64) -> Option<usize>
+    ensures within { IfSome result (λ i. i < length entries.now) }
+    ensures stalest { picked entries.now result ≡ stalest now entries.now }
+{
+    let mut best = None;
+    for i in 0..entries.len() {
+        best = pick(entries, best, i, now);
+    }
+    best
+}
+
+/// Whether there is place for one more entry, or an entry that makes place.
+pub(crate) fn has_place<A: Allocator>(entries: &[Entry<A>], limit: usize, now: u64) -> bool
+    ensures { result ≡ has_place limit now entries.now }
+{
+    entries.len() < limit || stalest(entries, now).is_some()
+}
+
+/// Makes place for one more entry: where all places are taken, the entry that is stale for longest goes.
+pub(crate) fn make_place<A: Allocator>(entries: &mut Vec<Entry<A>, A>, limit: usize, now: u64)
+    requires few { vec_len entries.old ≤ limit }
+    requires place { has_place limit now entries.old.items ≡ true }
+    ensures places { Places limit now entries.old.items entries.new.items }
+    ensures room { vec_len entries.new < limit }
+    ensures capacity { vec_capacity entries.new ≡ vec_capacity entries.old }
+{
+    if entries.len() < limit {
+        return;
+    }
+    if let Some(i) = stalest(entries, now) {
+        let _ = entries.remove(i);
+    }
+}
+
+/// Puts an entry in its place. There is room for it.
+pub(crate) fn put<A: Allocator>(entries: &mut Vec<Entry<A>, A>, entry: Entry<A>)
+    requires { vec_len entries.old < vec_capacity entries.old }
+    ensures items { entries.new.items ≡ insert entries.old.items (place_in entry.key entries.old.items) entry }
+    ensures len { vec_len entries.new ≡ vec_len entries.old + 1 }
+    ensures capacity { vec_capacity entries.new ≡ vec_capacity entries.old }
+{
+    let at = place(entries, entry.addr());
+    match entries.insert(at, entry) {
+        Ok(()) => {}
+        Err(_) => unreachable!(),
+    }
+}

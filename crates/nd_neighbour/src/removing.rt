@@ -1,0 +1,68 @@
+ghost use Rattle.std.specs.Prelude.{◌≡◌, ◌≤◌, ◌+◌, ◌++◌, [], OnOk, IfOk, OnErr, length, vec_len, vec_capacity};
+ghost use Rattle.nd_addr.specs.Number.{number_of};
+ghost use Rattle.nd_neighbour.specs.Table.{node_in};
+ghost use Rattle.nd_neighbour.specs.Room.{Removes};
+ghost use Rattle.nd_neighbour.specs.Calls.{waiting_at, all_waiting};
+
+use crate::entry::Entry;
+use crate::find::find;
+use crate::packet::Packet;
+use crate::packets::Packets;
+use nd_addr::Addr;
+use std::alloc::{AllocError, Allocator};
+
+/// Takes an entry out, if it is there.
+pub(crate) fn remove<A: Allocator>(entries: &mut Vec<Entry<A>, A>, addr: Addr) -> Packets<A>
+    ensures removes { Removes (number_of addr.0) entries.old.items entries.new.items }
+    ensures packets { result ≡ waiting_at (node_in (number_of addr.0) entries.old.items) }
+    ensures len { vec_len entries.new ≤ vec_len entries.old }
+    ensures capacity { vec_capacity entries.new ≡ vec_capacity entries.old }
+{
+    let Some(i) = find(entries, addr) else {
+        return Packets::none();
+    };
+    let entry = entries.remove(i);
+    entry.packets()
+}
+
+/// How many packets wait.
+pub(crate) fn count_waiting<A: Allocator>(entries: &[Entry<A>]) -> usize
+    ensures { result ≡ length (all_waiting entries.now) }
+{
+    let mut count = 0;
+    for entry in entries {
+        count += entry.waiting();
+    }
+    count
+}
+
+/// Moves packets behind others. There is room for them.
+fn move_all<A: Allocator>(mut from: Packets<A>, to: &mut Vec<Packet<A>, A>)
+    requires { vec_len to.old + length from ≤ vec_capacity to.old }
+    ensures items { to.new.items ≡ to.old.items ++ from }
+    ensures len { vec_len to.new ≡ vec_len to.old + length from }
+    ensures capacity { vec_capacity to.new ≡ vec_capacity to.old }
+{
+    while let Some(packet) = from.take() {
+        to.push_reserved(packet);
+    }
+}
+
+/// Takes all entries out. What waited is handed out, by the order of the addresses, the oldest first.
+pub(crate) fn take_all<A: Allocator + Clone>(
+    entries: &mut Vec<Entry<A>, A>,
+) -> Result<Vec<Packet<A>, A>, AllocError>
+    ensures none { OnOk result (entries.new.items ≡ []) }
+    ensures packets { IfOk result (λ packets. packets.items ≡ all_waiting entries.old.items) }
+    ensures same { OnErr result (entries.new.items ≡ entries.old.items) }
+    ensures len { vec_len entries.new ≤ vec_len entries.old }
+    ensures capacity { vec_capacity entries.new ≡ vec_capacity entries.old }
+{
+    let alloc = entries.allocator().clone()?;
+    let mut packets = Vec::with_capacity(alloc, count_waiting(entries))?;
+    while !entries.is_empty() {
+        let entry = entries.remove(0);
+        move_all(entry.packets(), &mut packets);
+    }
+    Ok(packets)
+}
