@@ -79,7 +79,6 @@ fn is_spelled(bytes: &[u8]) -> bool
 
 /// Whether the bytes are a name in small letters: labels, at least one, each behind its length byte, 254 bytes at most (RFC 1035,
 /// section 3.1).
-
 pub fn is_name(bytes: &[u8]) -> bool
     ensures { IsTrue result ↔ IsName bytes.now }
 {

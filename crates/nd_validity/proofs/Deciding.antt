@@ -160,8 +160,8 @@ hears_one frame role (other p) (other q) h k = ap other (h.2 ∙ sym k.2)
 hears_one frame role (other p) (valid s d m) h k = absurd (h.1 k.1)
 hears_one frame role (valid s d m) (dropped w) h k = absurd (first_not_none (IsReason frame role) order w k h.0)
 hears_one frame role (valid s d m) (other q) h k = absurd (k.1 h.1)
-hears_one frame role (valid s d m) (valid s2 d2 m2) h k =
-    let source : s ≡ s2 = h.2 ∙ sym k.2 in
-    let destination : d ≡ d2 = h.3 ∙ sym k.3 in
-    let message : m ≡ m2 = spelled_one (payload_in frame) m m2 h.4 k.4 in
+hears_one frame role (valid s d m) (valid t e n) h k =
+    let source : s ≡ t = h.2 ∙ sym k.2 in
+    let destination : d ≡ e = h.3 ∙ sym k.3 in
+    let message : m ≡ n = spelled_one (payload_in frame) m n h.4 k.4 in
     rw (source, destination, message) refl
