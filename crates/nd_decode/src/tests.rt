@@ -266,8 +266,11 @@ fn reads_servers_and_names(rt: HostRuntime) -> Result<(), Fail> {
     Ok(())
 }
 
-/// Whether the last option of a message reads as Other of this type.
+/// Whether the last option of an advertisement reads as Other of this type.
 fn ends_in_other(bytes: &[u8], kind: u8) -> bool {
+    if bytes.is_empty() || bytes[0] != ICMPV6_ROUTER_ADVERTISEMENT {
+        return false;
+    }
     let mut found = false;
     if let Ok(message) = decode(bytes) {
         for option in message.options {

@@ -202,6 +202,7 @@ fn writes_neighbor_advertisements(rt: HostRuntime) -> Result<(), Fail> {
     });
     let mac = Mac([0x34, 0x56, 0x78, 0x9a, 0xbc, 0xde]);
     let message = message_with(&rt, body, Opt::Tlla(mac))?;
+    assert!(rt; message.is_well_formed());
     let bytes = encode(rt.alloc(), &message, TARGET, ALL_NODES)?;
     assert_eq!(rt; bytes.as_slice(), &ADVERTISEMENT_UNSOLICITED[..]);
     assert_eq!(rt; decode(&bytes).ok().ok_or("message")?.body, body);
