@@ -1,0 +1,4 @@
+pub mod Cases
+pub mod Keyed
+pub mod Unique
+pub mod Due
