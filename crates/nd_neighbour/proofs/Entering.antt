@@ -10,17 +10,16 @@ use Rattle.nd_neighbour.specs.Confirming.{Word, Confirms, Disturbs, Use, word_of
 use Rattle.nd_neighbour.specs.Resolving.{Resolution, resolution_of, waiting_of}
 use Rattle.nd_neighbour.specs.Reachability.{state_by}
 use Rattle.nd_neighbour.specs.Node.{Node, kept_by, the_node, node_of, since_in}
-use Rattle.nd_neighbour.specs.Table.{node_in, Rises, Stands, GainsRow}
+use Rattle.nd_neighbour.specs.Table.{address, node_in, Rises, Stands, GainsRow}
 use Rattle.nd_neighbour.specs.Room.{IsStale, stale_since, IsLongestStale, MakesPlace, HadPlace, Pushed, is_stale, since_kept, longer, if_stale, stalest, Places, Enough, Went, Alters, NotThere, There}
-use Rattle.nd_neighbour.proofs.Cases.{either}
-use Rattle.nd_neighbour.proofs.Keyed.{key_of, node_in-remove}
+use Rattle.nd_keyed.proofs.Cases.{either}
+use Rattle.nd_keyed.proofs.Keyed.{key_is, above_in, at_place, at_key-remove}
 use Rattle.nd_neighbour.proofs.Steps.{changing, passing, leaving, node_present, node_absent}
-use Rattle.nd_neighbour.proofs.Dues.{node_at, above_in}
 
 -- a neighbour changes by what happens, if it is there
 pub altered_gains : (key at : ℕ) (h : Happening) (change : Node → Node) (old new : List Node) → is_end h ≡ false → ((n : Node) → (change n).key ≡ n.key) → ((s : Story) → is_present s ≡ true → node_of key ((at, h) ∷ s) ≡ Some (change (the_node key s))) → ((s : Story) → is_present s ≡ false → is_present ((at, h) ∷ s) ≡ false) → Alters key change old new → GainsRow old new (at, key, h)
 altered_gains key at h change old new goes keeps makes absent (There i n lt is found new_is) =
-    let n_key : n.key ≡ key = key_of key old n found in
+    let n_key : n.key ≡ key = key_is address key old n found in
     changing old new key at h i n (change n) goes lt is found (keeps n ∙ n_key) n_key new_is
     (λ s present known. makes s present ∙ ap (λ (m : Node). Some (change m)) (sym known))
 altered_gains key at h change old new goes keeps makes absent (NotThere none new_is) =
@@ -126,8 +125,8 @@ first_of_two now k x ns n m (Some y) r rest h is stale ih = elim (either (ltb (s
       let le : since_kept x.kept ≤ since_kept y.kept = grind (arith, nat_tests, ge) in
       cond_both (eqb x.key k) (Some x) (node_in k ns) (λ o. o ≡ Some m → NotAfter n m)
       (λ _ f. let g : x ≡ m = cc in subst (λ (z : Node). NotAfter z m) e (subst (λ (z : Node). NotAfter x z) g (inr (refl, omega arith))))
-      (λ _ f. let above : x.key < k = above_in k x.key ns m r.0 f in
-      let key : m.key ≡ k = key_of k ns m f in
+      (λ _ f. let above : x.key < k = above_in address k x.key ns m r.0 f in
+      let key : m.key ≡ k = key_is address k ns m f in
       subst (λ (z : Node). NotAfter z m) e (through x y m le (omega arith) (ih y rest f))) is
 ]
 
@@ -173,7 +172,7 @@ module _ (ns : List Node) (rows : List Row) (s : Stands ns rows) (now : ℕ) whe
         stale = here.0;
         longest = λ k stale.
             let m = stale_node_of k stale in
-            let key : m.0.key ≡ k = key_of k ns m.0 m.1 in
+            let key : m.0.key ≡ k = key_is address k ns m.0 m.1 in
             elim (stalest_first now k ns n m.0 s.order first m.1 m.2) [
               | inl lt ↦ inl (omega (arith, here.1, m.3))
               | inr same ↦ inr (sym here.1 ∙ (same.0 ∙ m.3), omega (arith, same.1, key))
@@ -187,7 +186,7 @@ stalest_in now (x ∷ ns) n r h = elim (longer_is (if_stale now x) (stalest now 
   | inl e ↦ let f = if_stale_is now x n e in subst (λ (y : Node). node_in y.key (x ∷ ns) ≡ Some y) f.0 (cond-true (eqb x.key x.key) (Some x) (node_in x.key ns) (eq-eqb x.key x.key refl))
   | inr e ↦
       let rest : node_in n.key ns ≡ Some n = stalest_in now ns n r.1 e in
-      let above : x.key < n.key = above_in n.key x.key ns n r.0 rest in
+      let above : x.key < n.key = above_in address n.key x.key ns n r.0 rest in
       grind (arith, nat_tests, above, rest)
 ]
 
@@ -199,10 +198,10 @@ module _ (limit now key : ℕ) (old mid : List Node) (rows : List Row) (s : Stan
   pub place_made : Places limit now old mid → (made : List Row) × MakesPlace limit now rows made × Stands mid made × (node_in key mid ≡ None)
   place_made (Enough few is) = (rows, HadPlace old s few refl, subst (λ (l : List Node). Stands l rows) (sym is) s, ap (node_in key) is ∙ absent)
   place_made (Went i n many lt is first gone) =
-      let at : node_in n.key old ≡ Some n = node_at old i n s.order lt is in
+      let at : node_in n.key old ≡ Some n = at_place address old i n s.order lt is in
       let leaves = leaving old mid n.key now PushedOut i n lt is refl gone in (
         (now, n.key, Forgot PushedOut) ∷ rows,
         Pushed old n.key s many (stalest_is_longest old rows s now n first at) refl,
         leaves.stands rows s,
-        ap (node_in key) gone ∙ (node_in-remove key old i n s.order lt ∙ cond_both (eqb (get_or old i n).key key) None (node_in key old) (λ o. o ≡ None) (λ _. refl) (λ _. absent)),
+        ap (node_in key) gone ∙ (at_key-remove address key old i n s.order lt ∙ cond_both (eqb (get_or old i n).key key) None (node_in key old) (λ o. o ≡ None) (λ _. refl) (λ _. absent)),
       )

@@ -10,18 +10,19 @@ use Rattle.nd_neighbour.specs.Confirming.{Word, Confirms, Disturbs, Use, word_of
 use Rattle.nd_neighbour.specs.Resolving.{Resolution, resolution_of, waiting_of}
 use Rattle.nd_neighbour.specs.Reachability.{state_by}
 use Rattle.nd_neighbour.specs.Node.{Node, kept_by, the_node, node_of}
-use Rattle.nd_neighbour.specs.Table.{node_in, AllAbove, Rises, Stands, GainsRow}
+use Rattle.nd_neighbour.specs.Table.{address, node_in, Rises, Stands, GainsRow}
+use Rattle.nd_keyed.specs.Keyed.{AllAbove}
 use Rattle.nd_neighbour.specs.Room.{Removes, WasNot, Gone}
 use Rattle.nd_neighbour.specs.Seen.{Seen, seen, seen_of, state_in, waits_of, shown_in, AllShownAbove, ShownRise, Lists}
 use Rattle.nd_neighbour.specs.Calls.{waiting_at, cleared}
-use Rattle.nd_neighbour.proofs.Cases.{either}
-use Rattle.nd_neighbour.proofs.Keyed.{key_of}
+use Rattle.nd_keyed.proofs.Cases.{either}
+use Rattle.nd_keyed.proofs.Keyed.{key_is}
 use Rattle.nd_neighbour.proofs.Steps.{leaving, each_other, ended_story, node_present, node_absent}
 use Rattle.nd_neighbour.proofs.Dues.{known_by}
 use Rattle.nd_neighbour.proofs.NewsCalls.{node_waits, none_waits}
 
 pub removed_gains : (key at : ℕ) (why : Why) (old new : List Node) → Removes key old new → GainsRow old new (at, key, Forgot why)
-removed_gains key at why old new (Gone i n lt at_i found is) = leaving old new key at why i n lt at_i (key_of key old n found) is
+removed_gains key at why old new (Gone i n lt at_i found is) = leaving old new key at why i n lt at_i (key_is address key old n found) is
 removed_gains key at why old new (WasNot none is) = record {
   stands = λ rows s. rw is (record {
     each = λ k. each_other k key at (Forgot why) rows old old None
@@ -76,7 +77,7 @@ shown_each key t (n ∷ nodes) = elim (either (eqb n.key key)) [
   | inr e ↦ rw e (shown_each key t nodes)
 ]
 
-shown_above : (key t : ℕ) (nodes : List Node) → AllAbove key nodes → AllShownAbove key (map (seen t) nodes)
+shown_above : (key t : ℕ) (nodes : List Node) → AllAbove address key nodes → AllShownAbove key (map (seen t) nodes)
 shown_above key t [] h = tt
 shown_above key t (n ∷ nodes) h = (h.0, shown_above key t nodes h.1)
 

@@ -1,10 +1,7 @@
-pub mod Cases
 pub mod LastThree
 pub mod Stories
 pub mod Changes
-pub mod Keyed
 pub mod Steps
-pub mod Finding
 pub mod Turns
 pub mod Dues
 pub mod TurnCalls

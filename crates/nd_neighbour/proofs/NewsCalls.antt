@@ -9,14 +9,14 @@ use Rattle.nd_neighbour.specs.Confirming.{Word, Use, word_of, use_of}
 use Rattle.nd_neighbour.specs.Resolving.{Resolution, resolution_of, waiting_of}
 use Rattle.nd_neighbour.specs.Node.{Node, Kept, Resolves, Reaches, kept_by, the_node, node_of}
 use Rattle.nd_neighbour.specs.Change.{given, given_to, advertised, advertised_to, conforming, confirmed, confirmed_to, with_mark, stale_node, mark_or, known_mac, waiting_in}
-use Rattle.nd_neighbour.specs.Table.{node_in, Stands, GainsRow}
+use Rattle.nd_neighbour.specs.Table.{address, node_in, Stands, GainsRow}
 use Rattle.nd_neighbour.specs.Room.{Prepares, MakesPlace, Alters, NotThere, There, Gives, Was, Came}
 use Rattle.nd_neighbour.specs.Seen.{waits_by, waits_of}
 use Rattle.nd_neighbour.specs.Calls.{released_by, ends_router, Tells, told_released, told_turned}
 use Rattle.nd_neighbour.proofs.Stories.{absent_router}
 use Rattle.nd_neighbour.proofs.Changes.{when_given, when_advertised, when_marked, when_confirmed, first_given}
 use Rattle.nd_neighbour.proofs.Steps.{changing, entering, node_present, node_absent}
-use Rattle.nd_neighbour.proofs.Keyed.{key_of}
+use Rattle.nd_keyed.proofs.Keyed.{key_is}
 use Rattle.nd_neighbour.proofs.Dues.{known_by}
 use Rattle.nd_neighbour.proofs.Entering.{altered_gains, place_made}
 
@@ -59,7 +59,7 @@ confirmed_gains key at reachable old new a =
 
 altered_there : (key at mac : ℕ) (mark : Option Bool) (old new : List Node) (n : Node) → node_in key old ≡ Some n → Alters key (λ n. given at mac mark n) old new → GainsRow old new (at, key, Given mac mark)
 altered_there key at mac mark old new n found (There i m lt is there new_is) =
-    let m_key : m.key ≡ key = key_of key old m there in
+    let m_key : m.key ≡ key = key_is address key old m there in
     changing old new key at (Given mac mark) i m (given at mac mark m) refl lt is there (given_key at mac mark m m.kept ∙ m_key) m_key new_is
     (λ s p known. when_given key at s p mac mark ∙ ap (λ (x : Node). Some (given at mac mark x)) (sym known))
 altered_there key at mac mark old new n found (NotThere none new_is) = let e : Some n ≡ None = sym found ∙ none in absurd (cc)

@@ -8,13 +8,13 @@ use Rattle.nd_neighbour.specs.Confirming.{Word, Use, word_of, use_of}
 use Rattle.nd_neighbour.specs.Resolving.{Resolution, resolution_of, waiting_of}
 use Rattle.nd_neighbour.specs.Node.{Node, Kept, Resolves, Reaches, kept_by, node_of}
 use Rattle.nd_neighbour.specs.Change.{used, used_to, asked_node, known_mac, sending_to}
-use Rattle.nd_neighbour.specs.Table.{node_in, Stands}
+use Rattle.nd_neighbour.specs.Table.{address, node_in, Stands}
 use Rattle.nd_neighbour.specs.Room.{Alters, NotThere, There, Gives, Was, Came}
 use Rattle.nd_neighbour.specs.Calls.{Takes, packet_rows, sending_by, sending_of_story, sending_in}
-use Rattle.nd_neighbour.proofs.Cases.{either}
+use Rattle.nd_keyed.proofs.Cases.{either}
 use Rattle.nd_neighbour.proofs.Stories.{absent_mac, absent_router}
 use Rattle.nd_neighbour.proofs.Changes.{when_used, when_waits, first_asked}
-use Rattle.nd_neighbour.proofs.Keyed.{key_of, put_in, node_in-put, Rises-put}
+use Rattle.nd_keyed.proofs.Keyed.{key_is, put_in, at_key-put, Rises-put}
 use Rattle.nd_neighbour.proofs.Steps.{changing, entering, each_other, same_story, node_present, node_absent}
 use Rattle.nd_neighbour.proofs.Dues.{mac_is}
 use Rattle.nd_neighbour.proofs.Entering.{place_made}
@@ -32,13 +32,13 @@ module _ (key now retrans : ℕ) (packet : List ℕ) where
   used_stands old new rows None s mac_eq (There i n lt at_i found is) some =
       let known = node_present key (story key rows) n (sym (s.each key) ∙ found) in
       let unknown : known_mac n.kept ≡ None = mac_is key now n (story key rows) known.1 ∙ mac_eq in
-      let n_key : n.key ≡ key = key_of key old n found in
+      let n_key : n.key ≡ key = key_is address key old n found in
       (changing old new key now (Waits packet) i n (used now retrans packet n) refl lt at_i found (used_key now retrans packet n n.kept ∙ n_key) n_key is
       (λ s' p e. when_waits key now s' p retrans packet (sym (mac_is key now n s' e) ∙ unknown) ∙ ap (λ (m : Node). Some (used now retrans packet m)) (sym e))).stands rows s
   used_stands old new rows (Some mac) s mac_eq (There i n lt at_i found is) some =
       let known = node_present key (story key rows) n (sym (s.each key) ∙ found) in
       let known_is : known_mac n.kept ≡ Some mac = mac_is key now n (story key rows) known.1 ∙ mac_eq in
-      let n_key : n.key ≡ key = key_of key old n found in
+      let n_key : n.key ≡ key = key_is address key old n found in
       (changing old new key now (Used retrans) i n (used now retrans packet n) refl lt at_i found (used_key now retrans packet n n.kept ∙ n_key) n_key is
       (λ s' p e. when_used key now s' p retrans mac packet (sym (mac_is key now n s' e) ∙ known_is) ∙ ap (λ (m : Node). Some (used now retrans packet m)) (sym e))).stands rows s
 
@@ -57,24 +57,24 @@ module _ (key now retrans : ℕ) (packet : List ℕ) where
   only_key = refl
 
   -- to one that enters
-  asked_stands : (mid new : List Node) (made : List Row) → Stands mid made → node_in key mid ≡ None → new ≡ put_in (asked_node key now retrans packet) mid → Stands new ((now, key, Waits packet) ∷ (now, key, Asked retrans) ∷ made)
+  asked_stands : (mid new : List Node) (made : List Row) → Stands mid made → node_in key mid ≡ None → new ≡ put_in address (asked_node key now retrans packet) mid → Stands new ((now, key, Waits packet) ∷ (now, key, Asked retrans) ∷ made)
   asked_stands mid new made s none is =
       let m = asked_node key now retrans packet in
       let gone = node_absent key (story key made) (sym (s.each key) ∙ none) in
-      let before = (entering mid (put_in only_asked mid) key now (Asked retrans) only_asked refl none only_key refl asked_first).stands made s in
+      let before = (entering mid (put_in address only_asked mid) key now (Asked retrans) only_asked refl none only_key refl asked_first).stands made s in
       let told : node_of key (story key ((now, key, Waits packet) ∷ (now, key, Asked retrans) ∷ made)) ≡ Some m =
       ap (node_of key) (same_story key now (Waits packet) ((now, key, Asked retrans) ∷ made) refl ∙ ap (λ (x : Story). (now, Waits packet) ∷ x) (same_story key now (Asked retrans) made refl))
       ∙ first_asked key now (story key made) gone retrans packet in
       rw is (record {
-        each = λ k. each_other k key now (Waits packet) ((now, key, Asked retrans) ∷ made) (put_in only_asked mid) (put_in m mid) (Some m)
-            (λ j. node_in-put j m mid ∙ elim (either (eqb key j)) [
-              | inl e ↦ cond-true (eqb key j) (Some m) (node_in j mid) e ∙ sym (cond-true (eqb key j) (Some m) (node_in j (put_in only_asked mid)) e)
+        each = λ k. each_other k key now (Waits packet) ((now, key, Asked retrans) ∷ made) (put_in address only_asked mid) (put_in address m mid) (Some m)
+            (λ j. at_key-put address j m mid ∙ elim (either (eqb key j)) [
+              | inl e ↦ cond-true (eqb key j) (Some m) (node_in j mid) e ∙ sym (cond-true (eqb key j) (Some m) (node_in j (put_in address only_asked mid)) e)
               | inr e ↦ cond-false (eqb key j) (Some m) (node_in j mid) e
-                  ∙ sym (cond-false (eqb key j) (Some m) (node_in j (put_in only_asked mid)) e
-                  ∙ (node_in-put j only_asked mid ∙ cond-false (eqb only_asked.key j) (Some only_asked) (node_in j mid) (ap (λ (x : ℕ). eqb x j) only_key ∙ e)))
+                  ∙ sym (cond-false (eqb key j) (Some m) (node_in j (put_in address only_asked mid)) e
+                  ∙ (at_key-put address j only_asked mid ∙ cond-false (eqb only_asked.key j) (Some only_asked) (node_in j mid) (ap (λ (x : ℕ). eqb x j) only_key ∙ e)))
             ])
             before.each (sym told);
-        order = Rises-put m mid s.order none;
+        order = Rises-put address m mid s.order none;
       })
 
   pub takes_packet : (limit : ℕ) (old new : List Node) → Gives limit now key (λ n. used now retrans packet n) (asked_node key now retrans packet) old new → Takes limit now key retrans packet old new

@@ -5,9 +5,9 @@ use Rattle.std.proofs.lemmas.Bool.{cond_both, eqb-true, eq-eqb, cond-true, cond-
 use Rattle.nd_neighbour.specs.Rows.{Happening, Forgot, Why, is_end, Row, Story, story}
 use Rattle.nd_neighbour.specs.Address.{is_present}
 use Rattle.nd_neighbour.specs.Node.{Node, the_node, node_of}
-use Rattle.nd_neighbour.specs.Table.{node_in, GainsRow}
-use Rattle.nd_neighbour.proofs.Cases.{either}
-use Rattle.nd_neighbour.proofs.Keyed.{node_in-set, Rises-set, node_in-remove, Rises-remove, put_in, node_in-put, Rises-put}
+use Rattle.nd_neighbour.specs.Table.{address, node_in, GainsRow}
+use Rattle.nd_keyed.proofs.Cases.{either}
+use Rattle.nd_keyed.proofs.Keyed.{at_key-set, Rises-set, at_key-remove, Rises-remove, put_in, at_key-put, Rises-put}
 
 -- the story of another neighbour goes on unchanged
 other_story : (k key at : ℕ) (h : Happening) (rows : List Row) → eqb key k ≡ false → story k ((at, key, h) ∷ rows) ≡ story k rows
@@ -46,9 +46,9 @@ module _ (old new : List Node) (key at : ℕ) where
         let same : (get_or old i n).key ≡ m.key = ap (λ (x : Node). x.key) (sym at_i) ∙ (n_key ∙ sym m_key) in
         rw is (record {
           each = λ k. each_other k key at h rows old (set old i m) (Some m)
-              (λ j. node_in-set j old i m n s.order lt same ∙ ap (λ (x : ℕ). cond (eqb x j) (Some m) (node_in j old)) m_key)
+              (λ j. at_key-set address j old i m n s.order lt same ∙ ap (λ (x : ℕ). cond (eqb x j) (Some m) (node_in j old)) m_key)
               s.each (sym (ap (node_of key) (same_story key at h rows goes) ∙ makes (story key rows) known.0 known.1));
-          order = Rises-set old i m n s.order same;
+          order = Rises-set address old i m n s.order same;
         });
   }
 
@@ -67,15 +67,15 @@ module _ (old new : List Node) (key at : ℕ) where
   }
 
   -- a new neighbour comes in
-  pub entering : (h : Happening) (m : Node) → is_end h ≡ false → node_in key old ≡ None → m.key ≡ key → new ≡ put_in m old → ((s : Story) → is_present s ≡ false → node_of key ((at, h) ∷ s) ≡ Some m) → GainsRow old new (at, key, h)
+  pub entering : (h : Happening) (m : Node) → is_end h ≡ false → node_in key old ≡ None → m.key ≡ key → new ≡ put_in address m old → ((s : Story) → is_present s ≡ false → node_of key ((at, h) ∷ s) ≡ Some m) → GainsRow old new (at, key, h)
   entering h m goes absent m_key is makes = record {
     stands = λ rows s.
         let gone = node_absent key (story key rows) (sym (s.each key) ∙ absent) in
         rw is (record {
-          each = λ k. each_other k key at h rows old (put_in m old) (Some m)
-              (λ j. node_in-put j m old ∙ ap (λ (x : ℕ). cond (eqb x j) (Some m) (node_in j old)) m_key)
+          each = λ k. each_other k key at h rows old (put_in address m old) (Some m)
+              (λ j. at_key-put address j m old ∙ ap (λ (x : ℕ). cond (eqb x j) (Some m) (node_in j old)) m_key)
               s.each (sym (ap (node_of key) (same_story key at h rows goes) ∙ makes (story key rows) gone));
-          order = Rises-put m old s.order (ap (λ (x : ℕ). node_in x old) m_key ∙ absent);
+          order = Rises-put address m old s.order (ap (λ (x : ℕ). node_in x old) m_key ∙ absent);
         });
   }
 
@@ -84,8 +84,8 @@ module _ (old new : List Node) (key at : ℕ) where
   leaving why i n lt at_i n_key is = record {
     stands = λ rows s. rw is (record {
       each = λ k. each_other k key at (Forgot why) rows old (remove old i) None
-          (λ j. node_in-remove j old i n s.order lt ∙ ap (λ (x : ℕ). cond (eqb x j) None (node_in j old)) (ap (λ (x : Node). x.key) (sym at_i) ∙ n_key))
+          (λ j. at_key-remove address j old i n s.order lt ∙ ap (λ (x : ℕ). cond (eqb x j) None (node_in j old)) (ap (λ (x : Node). x.key) (sym at_i) ∙ n_key))
           s.each (sym (ap (node_of key) (ended_story key at why rows)));
-      order = Rises-remove old i s.order;
+      order = Rises-remove address old i s.order;
     });
   }

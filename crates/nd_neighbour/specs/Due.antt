@@ -1,6 +1,7 @@
 -- What falls due, asked of what happened (RFC 4861, sections 7.2.2, 7.3.3 and 10).
-use Rattle.std.specs.Prelude.{◌≡◌, ℕ, ◌+◌, ◌-◌, ◌≤◌, nat_lt, min, MatchOption, true, ◌==◌, if◌then◌else◌, List, [], ◌∷◌, length, slice_index_or, slice_set, ◌<◌, Option, Some, None}
+use Rattle.std.specs.Prelude.{◌≡◌, ℕ, ◌+◌, ◌-◌, ◌≤◌, nat_lt, true, if◌then◌else◌, List, [], ◌∷◌, length, slice_index_or, slice_set, ◌<◌, Option, Some, None}
 use Rattle.std.specs.List.{remove}
+use Rattle.nd_keyed.specs.Due.{least_due, first_due, NotBefore}
 use Rattle.nd_neighbour.specs.Rows.{Row, Story, story, Solicited, Probed, Forgot, Failed, Aged}
 use Rattle.nd_neighbour.specs.Address.{is_present, mac_of}
 use Rattle.nd_neighbour.specs.Confirming.{Use, use_of}
@@ -46,25 +47,20 @@ due_row now (Unicasts key mac) = (now, key, Probed)
 due_row now (Fails key packets) = (now, key, Forgot Failed)
 due_row now (Ages key) = (now, key, Forgot Aged)
 
--- the lesser of two numbers that may be missing
-abbrev pub lesser : Option ℕ → Option ℕ → Option ℕ
-lesser None b = b
-lesser (Some x) None = Some x
-lesser (Some x) (Some y) = Some (min x y)
+abbrev pub moment_of : Node → ℕ
+moment_of n = n.due
 
 -- the least moment of a list
 abbrev pub next_in : List Node → Option ℕ
-next_in [] = None
-next_in (n ∷ nodes) = lesser (Some n.due) (next_in nodes)
+next_in nodes = least_due moment_of nodes
 
 -- the first of a list for which something falls due at the moment
 abbrev pub due_in : ℕ → List Node → Option Node
-due_in now [] = None
-due_in now (n ∷ nodes) = if n.due == now then Some n else due_in now nodes
+due_in now nodes = first_due moment_of now nodes
 
 -- nothing fell due before the moment
 abbrev pub NoneBefore : List Node → ℕ → Type 0
-NoneBefore nodes now = MatchOption (next_in nodes) (Unit {0}) (λ next. now ≤ next)
+NoneBefore nodes now = NotBefore now (next_in nodes)
 
 -- how many turns a neighbour can still take, where nothing else happens
 abbrev pub turns_to : Kept → ℕ

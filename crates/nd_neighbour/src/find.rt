@@ -1,7 +1,8 @@
 ghost use Rattle.std.specs.Prelude.{◌≡◌, ◌<◌, ◌≤◌, length, slice_get, IfSome, IfNone, None, is_some};
 ghost use Rattle.nd_addr.specs.Number.{number_of};
 ghost use Rattle.nd_neighbour.specs.Table.{node_in, place_in};
-ghost use Rattle.nd_neighbour.specs.Due.{lesser, next_in, due_in};
+ghost use Rattle.nd_keyed.specs.Due.{lesser};
+ghost use Rattle.nd_neighbour.specs.Due.{next_in, due_in};
 
 use crate::entry::Entry;
 use crate::same::compare;

@@ -1,5 +1,6 @@
 use Rattle.std.proofs.Common.{◌≡◌, drop}
-use Rattle.nd_neighbour.specs.Due.{lesser, next_in}
+use Rattle.nd_keyed.specs.Due.{lesser}
+use Rattle.nd_neighbour.specs.Due.{next_in}
 use Rattle.nd_neighbour.proofs.find.next.Given as goal
 
 -- the least so far and the least of the rest are the least of all
