@@ -1,11 +1,11 @@
 -- Entries found by their numbers in a list in the order of these.
-use Rattle.std.proofs.Common.{◌≡◌, ℕ, ◌<◌, true, false, cond, eqb, ltb, List, [], ◌∷◌, length, get_or, set, Some, None, refl, sym, ◌∙◌, ap, subst, drop, arith, suc, zero, add-one, inl, inr}
+use Rattle.std.proofs.Common.{◌≡◌, ℕ, ◌<◌, ◌≤◌, true, false, cond, eqb, ltb, List, [], ◌∷◌, length, get_or, set, Some, None, refl, sym, ◌∙◌, ap, subst, drop, arith, suc, zero, add-one, inl, inr}
 use Rattle.std.specs.Prelude.{slice_get}
 use Rattle.std.proofs.Math.Seq.{drop-cons}
 use Rattle.std.proofs.lemmas.Option.{slice_get-get_or}
 use Rattle.std.specs.List.{insert, remove}
 use Rattle.std.proofs.lemmas.Bool.Decides.{nat_tests}
-use Rattle.std.proofs.lemmas.Bool.{cond_both, cond-true, eqb-true, eq-eqb}
+use Rattle.std.proofs.lemmas.Bool.{cond_both, cond-true, cond-false, eqb-true, eq-eqb}
 use Rattle.nd_keyed.proofs.Cases.{either}
 use Rattle.nd_keyed.specs.Keyed.{at_key, AllAbove, Rises, place_of}
 
@@ -17,7 +17,7 @@ module _ {N : Type 0} (key : N → ℕ) where
       (λ same is. let e : x ≡ n = cc in ap key (sym e) ∙ eqb-true (key x) k same) (λ _ is. key_is k ns n is) h
 
   -- an entry behind a lower one has a greater number
-  above_at : (k : ℕ) (ns : List N) (i : ℕ) (d : N) → AllAbove key k ns → i < length ns → k < key (get_or ns i d)
+  pub above_at : (k : ℕ) (ns : List N) (i : ℕ) (d : N) → AllAbove key k ns → i < length ns → k < key (get_or ns i d)
   above_at k [] i d h lt = absurd (omega arith)
   above_at k (n ∷ ns) zero d h lt = h.0
   above_at k (n ∷ ns) (suc i) d h lt = above_at k ns i d h.1 (omega arith)
@@ -127,3 +127,18 @@ module _ {N : Type 0} (key : N → ℕ) where
   found_here k ns i n lt is here rest =
       let at : eqb (key (get_or ns i n)) k ≡ true = ap (λ (m : N). eqb (key m) k) (sym is) ∙ here in
       sym rest ∙ (ap (at_key key k) (drop-cons ns i n lt) ∙ (cond-true (eqb (key (get_or ns i n)) k) (Some (get_or ns i n)) (at_key key k (drop (suc i) ns)) at ∙ sym (slice_get-get_or ns i n lt)))
+
+  -- what a look-up finds stands at a place
+  pub place_found : (k : ℕ) (ns : List N) (n : N) → at_key key k ns ≡ Some n → (i : ℕ) × (i < length ns) × (n ≡ get_or ns i n)
+  place_found k [] n is = absurd (cc)
+  place_found k (x ∷ ns) n is = elim (either (eqb (key x) k)) [
+    | inl here ↦ let e : Some x ≡ Some n = sym (cond-true (eqb (key x) k) (Some x) (at_key key k ns) here) ∙ is in (zero, omega arith, let f : x ≡ n = cc in sym f)
+    | inr behind ↦
+        let rest = place_found k ns n (sym (cond-false (eqb (key x) k) (Some x) (at_key key k ns) behind) ∙ is) in
+        let lt : rest.0 < length ns = rest.1 in
+        (suc rest.0, omega arith, rest.2)
+  ]
+
+  pub place_of-le : (k : ℕ) (ns : List N) → place_of key k ns ≤ length ns
+  place_of-le k [] = omega arith
+  place_of-le k (n ∷ ns) = let rest : place_of key k ns ≤ length ns = place_of-le k ns in grind (arith, nat_tests, rest)

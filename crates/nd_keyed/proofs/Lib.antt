@@ -2,3 +2,4 @@ pub mod Cases
 pub mod Keyed
 pub mod Unique
 pub mod Due
+pub mod Any

@@ -180,7 +180,7 @@ module _ (ns : List Node) (rows : List Row) (s : Stands ns rows) (now : ℕ) whe
       }
 
 -- the one that is stale for longest is in the list
-stalest_in : (now : ℕ) (ns : List Node) (n : Node) → Rises ns → stalest now ns ≡ Some n → node_in n.key ns ≡ Some n
+pub stalest_in : (now : ℕ) (ns : List Node) (n : Node) → Rises ns → stalest now ns ≡ Some n → node_in n.key ns ≡ Some n
 stalest_in now [] n r h = absurd (cc)
 stalest_in now (x ∷ ns) n r h = elim (longer_is (if_stale now x) (stalest now ns) n h) [
   | inl e ↦ let f = if_stale_is now x n e in subst (λ (y : Node). node_in y.key (x ∷ ns) ≡ Some y) f.0 (cond-true (eqb x.key x.key) (Some x) (node_in x.key ns) (eq-eqb x.key x.key refl))

@@ -35,7 +35,7 @@ pub nothing_by : (k : Kept) → cond (is_some (known_mac k)) (waiting_in k) [] �
 nothing_by (Resolves retrans sent waiting) = refl
 nothing_by (Reaches mac confirmed since probing) = refl
 
-some_is : (o : Option Node) → is_some o ≡ true → (n : Node) × (o ≡ Some n)
+pub some_is : (o : Option Node) → is_some o ≡ true → (n : Node) × (o ≡ Some n)
 some_is None h = absurd (true≢false (sym h))
 some_is (Some n) h = (n, refl)
 
@@ -50,7 +50,7 @@ module _ (limit now key : ℕ) (old seen : List Node) (held : Bool) (same : seen
   pub not_full : {X : Type 0} → (false ≡ true → X) × (NoPlace limit now key old → false ≡ true)
   not_full = ((λ e. absurd (true≢false (sym e))), λ np. absurd (true≢false (sym holding ∙ ap is_some np.0)))
 
-none_is : (o : Option Node) → is_some o ≡ false → o ≡ None
+pub none_is : (o : Option Node) → is_some o ≡ false → o ≡ None
 none_is None h = refl
 none_is (Some n) h = absurd (true≢false h)
 

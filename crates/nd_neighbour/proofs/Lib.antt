@@ -13,3 +13,4 @@ pub mod NewsCalls
 pub mod PacketCalls
 pub mod Forgetting
 pub mod Unique
+pub mod Second

@@ -24,7 +24,7 @@ pub keys_of : (b : Bool) (m o n : Node) → m.key ≡ n.key → o.key ≡ n.key 
 keys_of true m o n h k = h
 keys_of false m o n h k = k
 
-given_key : (at mac : ℕ) (mark : Option Bool) (n : Node) (k : Kept) → (given_to k n at mac (mark_or mark n.router)).key ≡ n.key
+pub given_key : (at mac : ℕ) (mark : Option Bool) (n : Node) (k : Kept) → (given_to k n at mac (mark_or mark n.router)).key ≡ n.key
 given_key at mac mark n (Resolves r t ws) = refl
 given_key at mac mark n (Reaches known c since p) = keys_of (eqb mac known) _ _ n refl refl
 

@@ -20,7 +20,7 @@ use Rattle.nd_neighbour.proofs.Dues.{mac_is}
 use Rattle.nd_neighbour.proofs.Entering.{place_made}
 use Rattle.nd_neighbour.proofs.NewsCalls.{no_place_needed, place_needed, keys_of}
 
-used_key : (at retrans : ℕ) (packet : List ℕ) (n : Node) (k : Kept) → (used_to k at retrans packet n).key ≡ n.key
+pub used_key : (at retrans : ℕ) (packet : List ℕ) (n : Node) (k : Kept) → (used_to k at retrans packet n).key ≡ n.key
 used_key at retrans packet n (Resolves r t ws) = refl
 used_key at retrans packet n (Reaches mac c since None) = keys_of (nat_le since at) _ _ n refl refl
 used_key at retrans packet n (Reaches mac c since (Some p)) = refl

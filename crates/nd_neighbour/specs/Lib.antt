@@ -11,3 +11,4 @@ pub mod Due
 pub mod Seen
 pub mod Room
 pub mod Calls
+pub mod Second

@@ -1,4 +1,4 @@
-ghost use Rattle.std.specs.Prelude.{◌≡◌, ◌<◌, ◌^◌, ◌↔◌, List, OnOk, IfOk, IfErr, OnErr, IsErr, true};
+ghost use Rattle.std.specs.Prelude.{◌≡◌, ◌<◌, ◌^◌, ◌↔◌, List, OnOk, IfOk, IfErr, OnErr, IsErr, true, is_some};
 ghost use Rattle.nd_addr.specs.Number.{number_of};
 
 use crate::cache::Cache;
@@ -12,7 +12,7 @@ use std::alloc::Allocator;
 
 impl<A: Allocator + Clone> Cache<A> {
     ghost use Rattle.nd_neighbour.specs.Rows.{Row, Confirmed};
-    ghost use Rattle.nd_neighbour.specs.Table.{Stands, GainsRow};
+    ghost use Rattle.nd_neighbour.specs.Table.{Stands, GainsRow, node_in};
     ghost use Rattle.nd_neighbour.specs.Room.{NoPlace, WouldBeFull};
     ghost use Rattle.nd_neighbour.specs.Calls.{Hears, Tells, news_key, news_row, lets_enter};
 
@@ -29,6 +29,9 @@ impl<A: Allocator + Clone> Cache<A> {
         ensures full { IsErr result ↔ ((lets_enter news ≡ true) × NoPlace self.old.limit now (news_key news) self.old.nodes) }
         ensures err { IfErr result (λ refusal. refusal ≡ CacheRefusal.Full) }
         ensures same { OnErr result (self.new ≡ self.old) }
+
+        // A neighbour whose address is given is there, so a use of it isn't refused as full.
+        ensures there { OnOk result (lets_enter news ≡ true → is_some (node_in (news_key news) self.new.nodes) ≡ true) }
 
         ensures limit { self.new.limit ≡ self.old.limit }
         ensures rings { self.new.rings ≡ self.old.rings }

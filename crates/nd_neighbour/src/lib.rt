@@ -22,6 +22,7 @@ mod ready;
 mod refusal;
 mod removing;
 mod ring;
+mod room;
 mod same;
 mod sending;
 mod showing;

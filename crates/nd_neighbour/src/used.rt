@@ -16,6 +16,7 @@ impl<A: Allocator + Clone> Cache<A> {
     ghost use Rattle.nd_neighbour.specs.Rows.{Row, story};
     ghost use Rattle.nd_neighbour.specs.Table.{Stands, node_in};
     ghost use Rattle.nd_neighbour.specs.Room.{NoPlace};
+    ghost use Rattle.nd_neighbour.specs.Second.{LeavesRoom};
     ghost use Rattle.nd_neighbour.specs.Calls.{Takes, sending_of_story, refusal_of};
     ghost use Rattle.nd_neighbour.specs.View.{sending_of};
 
@@ -38,6 +39,9 @@ impl<A: Allocator + Clone> Cache<A> {
         ensures memory { refusal_of result ≡ Some CacheRefusal.Memory → (self.old.rings ≡ 0) × (node_in (number_of addr.0) self.old.nodes ≡ None) }
         ensures back { IfErr result (λ refused. refused.1 ≡ packet) }
         ensures same { OnErr result (self.new ≡ self.old) }
+
+        // Who had room after a use of this one has place.
+        ensures leaves { OnOk result (LeavesRoom self.old.limit now (number_of addr.0) self.old.nodes self.new.nodes) }
 
         ensures limit { self.new.limit ≡ self.old.limit }
         ensures rings { self.old.rings ≤ self.new.rings + 1 }

@@ -2,12 +2,14 @@ use Rattle.std.proofs.Common.{◌≡◌, refl, subst, false}
 use Rattle.std.specs.Prelude.{OnOk, IfOk}
 use Rattle.std.specs.Option.{option_map}
 use Rattle.nd_addr.specs.Number.{number_of}
+use Rattle.nd_neighbour.specs.Node.{Node}
 use Rattle.nd_neighbour.specs.Change.{given, advertised, with_mark, stale_node, mark_or}
 use Rattle.nd_neighbour.specs.Table.{Table, node_in}
 use Rattle.nd_neighbour.specs.Room.{Alters, Gives}
 use Rattle.nd_neighbour.specs.Calls.{told_released, told_turned}
 use Rattle.nd_neighbour.proofs.Results.{on_ok, if_ok_both}
-use Rattle.nd_neighbour.proofs.NewsCalls.{given_hears, advertised_gains, marked_gains, given_tells, advertised_tells, marked_tells}
+use Rattle.nd_neighbour.proofs.NewsCalls.{given_key, given_hears, advertised_gains, marked_gains, given_tells, advertised_tells, marked_tells}
+use Rattle.nd_neighbour.proofs.Second.{gives_there}
 use Rattle.nd_neighbour.proofs.cache.Cache.heard.Goals as goal
 
 pub returns-in-Given-clause-stands : goal.returns-in-Given-clause-stands
@@ -59,3 +61,13 @@ returns-in-Marked-clause-told g c =
     rw c.in-Marked.is (marked_tells key c.args.now c.in-Marked.router c.args.self.now.nodes c.mark.result.released c.mark.result.ends_router
     (subst (λ (t : Table). c.mark.result.released ≡ told_released (λ n. with_mark c.in-Marked.router n) (node_in key t.nodes)) c.self.view_is c.mark.ensures.released)
     (subst (λ (t : Table). c.mark.result.ends_router ≡ told_turned (λ n. with_mark c.in-Marked.router n) (node_in key t.nodes)) c.self.view_is c.mark.ensures.ends_router))
+
+pub returns-in-Given-clause-there : goal.returns-in-Given-clause-there
+returns-in-Given-clause-there g c =
+    let key = number_of c.in-Given.addr.0 in
+    let mac = number_of c.in-Given.mac.0 in
+    let mark = c.in-Given.mark in
+    let change : Node → Node = λ n. given c.args.now mac mark n in
+    let new = c.give_or_enter.new.entries.items in
+    rw c.in-Given.is (on_ok c.give_or_enter.result _ _ (λ gives _. gives_there c.args.self.now.limit c.args.now key change (stale_node key (mark_or mark false) c.args.now mac) c.args.self.now.nodes new (λ n. given_key c.args.now mac mark n n.kept) refl gives)
+    (subst (λ (t : Table). OnOk c.give_or_enter.result (Gives t.limit c.args.now key change (stale_node key (mark_or mark false) c.args.now mac) t.nodes new)) c.self.view_is c.give_or_enter.ensures.gives))

@@ -8,6 +8,7 @@ use Rattle.nd_neighbour.specs.Calls.{sending_in}
 use Rattle.nd_neighbour.specs.View.{sending_of}
 use Rattle.nd_neighbour.proofs.Finds.{was_there, not_there, no_rings}
 use Rattle.nd_neighbour.proofs.PacketCalls.{takes_packet, sending_by_rows}
+use Rattle.nd_neighbour.proofs.Second.{leaves_room}
 use Rattle.nd_neighbour.proofs.cache.Cache.used.Goals as goal
 
 pub returns-then-holds-clause-stands : goal.returns-then-holds-clause-stands
@@ -47,3 +48,20 @@ returns-clause-sending g c = λ rows s.
     let old = c.args.self.now.nodes in
     let none : node_in key old ≡ None = not_there c.args.self.now.limit c.args.now key old c.deref.result.now c.holds.result (c.deref.ensures.value ∙ ap (λ (t : Table). t.nodes) c.self.view_is) c.holds.ensures c.if-holds.false in
     sym (ap (λ (o : Option Node). sending_in o c.args.packet) none) ∙ sending_by_rows key c.args.packet old rows s
+
+pub returns-then-holds-clause-leaves : goal.returns-then-holds-clause-leaves
+returns-then-holds-clause-leaves g c =
+    let key = number_of c.args.addr.0 in
+    let old = c.args.self.now.nodes in
+    let new = c.pass.new.entries.items in
+    let change : Node → Node = λ n. used c.args.now c.args.times.retrans c.args.packet n in
+    leaves_room c.args.self.now.limit c.args.now key c.args.times.retrans c.args.packet old new
+    (was_there c.args.self.now.limit c.args.now key old c.deref.result.now c.holds.result (c.deref.ensures.value ∙ ap (λ (t : Table). t.nodes) c.self.view_is) c.holds.ensures c.if-holds.true
+    change (asked_node key c.args.now c.args.times.retrans c.args.packet) new (subst (λ (t : Table). Alters key change t.nodes new) c.self.view_is c.pass.ensures.alters))
+
+pub returns-clause-leaves : goal.returns-clause-leaves
+returns-clause-leaves g c =
+    let key = number_of c.args.addr.0 in
+    let new = c.begin.new.entries.items in
+    leaves_room c.args.self.now.limit c.args.now key c.args.times.retrans c.args.packet c.args.self.now.nodes new
+    (subst (λ (t : Table). Gives t.limit c.args.now key (λ n. used c.args.now c.args.times.retrans c.args.packet n) (asked_node key c.args.now c.args.times.retrans c.args.packet) t.nodes new) c.self.view_is c.begin.ensures.gives)

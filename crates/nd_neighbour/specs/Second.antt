@@ -1,0 +1,54 @@
+-- Whether a neighbour that may enter has place, and after a use of it a second one.
+use Rattle.std.specs.Prelude.{◌≡◌, ℕ, ◌+◌, nat_lt, Bool, true, ◌&&◌, ◌||◌, not, ◌==◌, if◌then◌else◌, List, length, Option, Some, None, is_some, MatchOption}
+use Rattle.std.specs.List.{list_any}
+use Rattle.nd_neighbour.specs.Rows.{Row, story}
+use Rattle.nd_neighbour.specs.Address.{is_present, mac_of}
+use Rattle.nd_neighbour.specs.Node.{Node}
+use Rattle.nd_neighbour.specs.Table.{node_in}
+use Rattle.nd_neighbour.specs.Room.{Prepares, WouldBeFull, NoPlace, is_stale, since_kept, stalest, has_place}
+use Rattle.nd_neighbour.specs.Calls.{packet_rows}
+
+-- the first one wouldn't be full, and the second one neither after the rows of a packet for the first
+pub record HasRoom (limit now key : ℕ) (second : Option ℕ) (rows : List Row) : Type 0 where
+  pub first : WouldBeFull limit now key rows → ⊥
+  pub both : MatchOption second (Unit {0}) (λ next. (retrans : ℕ) (packet : List ℕ) (made : List Row) → Prepares limit now true key rows made → WouldBeFull limit now next (packet_rows (is_present (story key rows)) (mac_of (story key rows)) now key retrans packet made) → ⊥)
+
+-- The same of what is kept. This neighbour is stale after a use of the first:
+abbrev pub stays_stale : ℕ → ℕ → Node → Bool
+stays_stale key now n = is_stale n.kept now && (not (n.key == key) || nat_lt now (since_kept n.kept))
+
+-- it is stale, and another one than the one that goes
+abbrev pub stale_beside : ℕ → ℕ → Node → Bool
+stale_beside gone now n = is_stale n.kept now && not (n.key == gone)
+
+-- the second has place where the first is there and is used
+abbrev pub place_beside : ℕ → ℕ → ℕ → ℕ → List Node → Bool
+place_beside limit now key next nodes =
+    is_some (node_in next nodes) || (nat_lt (length nodes) limit || list_any (stays_stale key now) nodes)
+
+-- or where the first enters, and this one goes for it
+abbrev pub place_without : Node → ℕ → ℕ → ℕ → List Node → Bool
+place_without gone now key next nodes =
+    (key == next) || ((not (gone.key == next) && is_some (node_in next nodes)) || list_any (stale_beside gone.key now) nodes)
+
+-- or where the first enters; the one that is stale for longest goes only where all places are taken
+abbrev pub place_behind : ℕ → ℕ → ℕ → ℕ → List Node → Option Node → Bool
+place_behind limit now key next nodes None = (key == next) || (is_some (node_in next nodes) || nat_lt (length nodes + 1) limit)
+place_behind limit now key next nodes (Some n) = nat_lt (length nodes) limit || place_without n now key next nodes
+
+-- the second has place after a use of the first
+abbrev pub has_second : ℕ → ℕ → ℕ → ℕ → List Node → Bool
+has_second limit now key next nodes =
+    if is_some (node_in key nodes) then place_beside limit now key next nodes
+    else place_behind limit now key next nodes (stalest now nodes)
+
+abbrev pub has_first : ℕ → ℕ → ℕ → List Node → Bool
+has_first limit now key nodes = is_some (node_in key nodes) || has_place limit now nodes
+
+abbrev pub has_room : ℕ → ℕ → ℕ → Option ℕ → List Node → Bool
+has_room limit now key None nodes = has_first limit now key nodes
+has_room limit now key (Some next) nodes = has_first limit now key nodes && has_second limit now key next nodes
+
+-- a second one that had room before a use of the first has place after it
+pub record LeavesRoom (limit now key : ℕ) (old new : List Node) : Type 0 where
+  pub has : (next : ℕ) → has_room limit now key (Some next) old ≡ true → NoPlace limit now next new → ⊥

@@ -1,0 +1,132 @@
+ghost use Rattle.std.specs.Prelude.{◌≡◌, ◌↔◌, ◌<◌, List, length, slice_get, Some, true, not, ◌==◌};
+ghost use Rattle.std.specs.Option.{option_map};
+ghost use Rattle.std.specs.List.{list_any};
+ghost use Rattle.nd_addr.specs.Number.{number_of};
+ghost use Rattle.nd_neighbour.specs.Node.{Node};
+ghost use Rattle.nd_neighbour.specs.Room.{stalest};
+ghost use Rattle.nd_neighbour.specs.Second.{has_room, place_beside, place_without, place_behind, stays_stale, stale_beside};
+
+use crate::cache::Cache;
+use crate::entry::Entry;
+use crate::find::holds;
+use crate::place::{has_place, stalest};
+use crate::same::compare;
+use nd_addr::Addr;
+use std::alloc::Allocator;
+
+impl<A: Allocator + Clone> Cache<A> {
+    ghost use Rattle.nd_neighbour.specs.Rows.{Row};
+    ghost use Rattle.nd_neighbour.specs.Table.{Stands};
+    ghost use Rattle.nd_neighbour.specs.Second.{HasRoom};
+
+    /// Whether a neighbour that may be new has place, and after a use of it a second one: whether neither would be
+    /// refused as `Full`. A second one that had room here has place after `used` of the first.
+    pub fn room(&self, now: u64, addr: Addr, then: Option<Addr>) -> bool
+        ensures value { result ≡ has_room self.now.limit now (number_of addr.0) (option_map (λ next. number_of next.0) then) self.now.nodes }
+        ensures rows { (rows : List Row) → Stands self.now.nodes rows → result ≡ true ↔ HasRoom self.now.limit now (number_of addr.0) (option_map (λ next. number_of next.0) then) rows }
+    {
+        has_room(&self.entries, self.limit, now, addr, then)
+    }
+}
+
+/// Whether a neighbour has place, and after a use of it a second one.
+fn has_room<A: Allocator>(
+    entries: &[Entry<A>],
+    limit: usize,
+    now: u64,
+    addr: Addr,
+    then: Option<Addr>,
+) -> bool
+    ensures { result ≡ has_room limit now (number_of addr.0) (option_map (λ next. number_of next.0) then) entries.now }
+{
+    let here = holds(entries, addr);
+    if !here && !has_place(entries, limit, now) {
+        return false;
+    }
+    match then {
+        None => true,
+        Some(next) if here => place_beside(entries, limit, now, addr, next),
+        Some(next) => place_behind(entries, limit, now, addr, next),
+    }
+}
+
+/// Whether a second neighbour has place after a use of one that is there.
+fn place_beside<A: Allocator>(
+    entries: &[Entry<A>],
+    limit: usize,
+    now: u64,
+    used: Addr,
+    next: Addr,
+) -> bool
+    ensures { result ≡ place_beside limit now (number_of used.0) (number_of next.0) entries.now }
+{
+    holds(entries, next) || entries.len() < limit || stays_stale(entries, used, now)
+}
+
+/// Whether a second neighbour has place after one that enters.
+fn place_behind<A: Allocator>(
+    entries: &[Entry<A>],
+    limit: usize,
+    now: u64,
+    entering: Addr,
+    next: Addr,
+) -> bool
+    ensures { result ≡ place_behind limit now (number_of entering.0) (number_of next.0) entries.now (stalest now entries.now) }
+{
+    match stalest(entries, now) {
+        None => {
+            compare(entering, next).is_eq()
+                || holds(entries, next)
+                || entries.len() < limit.saturating_sub(1)
+        }
+        Some(i) => entries.len() < limit || place_without(entries, i, now, entering, next),
+    }
+}
+
+/// Whether a second neighbour has place after one that enters, for which the entry at this place goes.
+fn place_without<A: Allocator>(
+    entries: &[Entry<A>],
+    i: usize,
+    now: u64,
+    entering: Addr,
+    next: Addr,
+) -> bool
+    requires { i < length entries.now }
+    ensures { (gone : Node) → slice_get entries.now i ≡ Some gone → result ≡ place_without gone now (number_of entering.0) (number_of next.0) entries.now }
+{
+    let gone = entries[i].addr();
+    compare(entering, next).is_eq()
+        || (!compare(gone, next).is_eq() && holds(entries, next))
+        || stale_beside(entries, gone, now)
+}
+
+/// Whether an entry is stale after a use of this one. A use before the moment at which it became stale leaves it so.
+fn stays_stale<A: Allocator>(entries: &[Entry<A>], used: Addr, now: u64) -> bool
+    ensures { result ≡ list_any (stays_stale (number_of used.0) now) entries.now }
+{
+    for entry in entries {
+        if entry.is_stale(now) && (is_other(entry, used) || now < entry.since()) {
+            return true;
+        }
+    }
+    false
+}
+
+/// Whether an entry is stale beside the one of this address.
+fn stale_beside<A: Allocator>(entries: &[Entry<A>], gone: Addr, now: u64) -> bool
+    ensures { result ≡ list_any (stale_beside (number_of gone.0) now) entries.now }
+{
+    for entry in entries {
+        if entry.is_stale(now) && is_other(entry, gone) {
+            return true;
+        }
+    }
+    false
+}
+
+/// Whether an entry is of another address.
+fn is_other<A: Allocator>(entry: &Entry<A>, addr: Addr) -> bool
+    ensures { result ≡ not (entry.now.key == number_of addr.0) }
+{
+    compare(entry.addr(), addr).is_ne()
+}
