@@ -483,3 +483,55 @@ fn an_address_that_is_given_makes_of_an_entry_what_the_table_says(
     assert_eq!(rt; cache.entry(20_000, addr(1)), Some(after));
     Ok(())
 }
+
+#[test]
+fn room_is_for_a_new_neighbour_and_for_a_second_one_after_it(rt: HostRuntime) -> Result<(), Fail> {
+    let mut cache = Cache::new(rt.alloc(), 1)?;
+    assert!(rt; cache.room(0, addr(1), None));
+    assert!(rt; cache.room(0, addr(1), Some(addr(1))));
+    assert!(rt; !cache.room(0, addr(1), Some(addr(2))));
+    assert!(rt; cache.heard(0, given(1), TIMES).is_ok());
+    // It is stale: it makes place, but only until it is used, and it is then not there any more.
+    assert!(rt; cache.room(5, addr(2), None));
+    assert!(rt; cache.room(5, addr(1), Some(addr(1))));
+    assert!(rt; !cache.room(5, addr(1), Some(addr(2))));
+    assert!(rt; !cache.room(5, addr(2), Some(addr(1))));
+    cache.confirmed(5, addr(1), 15_000);
+    assert!(rt; !cache.room(6, addr(2), None));
+    assert!(rt; cache.room(6, addr(1), Some(addr(1))));
+    Ok(())
+}
+
+#[test]
+fn the_first_of_two_may_push_out_the_second(rt: HostRuntime) -> Result<(), Fail> {
+    let mut cache = Cache::new(rt.alloc(), 2)?;
+    assert!(rt; cache.heard(0, given(1), TIMES).is_ok());
+    assert!(rt; cache.heard(1, given(2), TIMES).is_ok());
+    assert!(rt; cache.room(5, addr(3), Some(addr(4))));
+    assert!(rt; cache.room(5, addr(3), Some(addr(1))));
+    assert!(rt; cache.room(5, addr(3), Some(addr(2))));
+    let sent = cache.used(5, addr(2), packet(&rt, 1)?, TIMES);
+    assert_eq!(rt; sent_to(sent), Some(MAC));
+    // One is left that is stale: it goes for the third, and then there is no place for it.
+    assert!(rt; cache.room(5, addr(3), Some(addr(2))));
+    assert!(rt; !cache.room(5, addr(3), Some(addr(1))));
+    assert!(rt; !cache.room(5, addr(3), Some(addr(4))));
+    Ok(())
+}
+
+#[test]
+fn five_hundred_and_eleven_in_use_leave_room_for_one(rt: HostRuntime) -> Result<(), Fail> {
+    let mut cache = Cache::new(rt.alloc(), 512)?;
+    for n in 0..511u16 {
+        let now = 1001 + u64::from(n);
+        assert!(rt; cache.heard(now, given(n), TIMES).is_ok());
+        let sent = cache.used(now, addr(n), packet(&rt, 1)?, TIMES);
+        assert_eq!(rt; sent_to(sent), Some(MAC));
+    }
+    assert!(rt; cache.room(1512, addr(600), None));
+    assert!(rt; !cache.room(1512, addr(600), Some(addr(601))));
+    assert!(rt; cache.room(1512, addr(600), Some(addr(3))));
+    assert!(rt; cache.room(1512, addr(3), Some(addr(600))));
+    assert_eq!(rt; cache.rows(1512)?.len(), 511);
+    Ok(())
+}
