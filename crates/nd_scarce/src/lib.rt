@@ -1,0 +1,7 @@
+//! Tests in which memory runs out. A table is given a heap of a fixed size, from none at all up to what it needs, so that each
+//! of its requests is the one that is refused in some run. What the refused call leaves is compared with what was before it.
+//! There is nothing here but tests.
+#![tactic(auto)]
+
+#[cfg(test)]
+mod neighbours;

@@ -1,0 +1,111 @@
+use linked_list_allocator::LocalHeap;
+use nd_addr::{Addr, Mac};
+use nd_neighbour::{Cache, CacheRefusal, News, Packet, Reachability, Times, Use};
+use std::alloc::AllocError;
+use std::process::Abort;
+use std::test::*;
+
+const MAC: Mac = Mac([2, 0, 0, 0, 0, 1]);
+
+const TIMES: Times = Times {
+    retrans: 1000,
+    reachable: 15_000,
+};
+
+/// The calls that take memory, in the order in which a run makes them.
+#[derive(Clone, Copy, Debug, PartialEq, Eq)]
+enum Call {
+    New,
+    Frame,
+    Used,
+    Rows,
+    Ready,
+    Clear,
+}
+
+/// fe80::n.
+fn addr(n: u8) -> Addr {
+    Addr([0xfe, 0x80, 0, 0, 0, 0, 0, 0, 0, 0, 0, 0, 0, 0, 0, n])
+}
+
+fn given(n: u8) -> News {
+    News::Given {
+        addr: addr(n),
+        mac: MAC,
+        mark: None,
+    }
+}
+
+/// A packet of one byte.
+fn packet(heap: &LocalHeap, byte: u8) -> Result<Packet<&LocalHeap>, AllocError> {
+    let mut bytes = Vec::with_capacity(heap, 1)?;
+    bytes.push(byte)?;
+    Ok(Packet(bytes))
+}
+
+fn state(cache: &Cache<&LocalHeap>, n: u8) -> Option<Reachability> {
+    cache.entry(0, addr(n)).map(|entry| entry.state)
+}
+
+/// A cache of two, of which one is there: the first call for which there is no memory.
+fn run(rt: &impl Abort, heap: &LocalHeap) -> Option<Call> {
+    let Ok(mut cache) = Cache::new(heap, 2) else {
+        return Some(Call::New);
+    };
+    assert!(rt; cache.heard(0, given(1), TIMES).is_ok());
+    let Ok(first) = packet(heap, 7) else {
+        return Some(Call::Frame);
+    };
+    match cache.used(0, addr(2), first, TIMES) {
+        Ok(sent) => assert!(rt; matches!(sent, Use::Queued { solicit: true, replaced: None })),
+        Err((refusal, back)) => {
+            // The frame comes back, and the cache is as it was.
+            assert!(rt; refusal == CacheRefusal::Memory);
+            assert!(rt; back.0.first() == Some(&7));
+            assert!(rt; state(&cache, 1) == Some(Reachability::Stale));
+            assert!(rt; state(&cache, 2) == None);
+            assert!(rt; cache.waiting() == 0);
+            assert!(rt; cache.room(0, addr(2), None));
+            return Some(Call::Used);
+        }
+    }
+    match cache.rows(0) {
+        Ok(rows) => assert!(rt; rows.len() == 2),
+        Err(_) => return Some(Call::Rows),
+    }
+    if cache.ready(2).is_err() {
+        assert!(rt; cache.waiting() == 1);
+        assert!(rt; state(&cache, 2) == Some(Reachability::Incomplete));
+        return Some(Call::Ready);
+    }
+    match cache.clear() {
+        Ok(packets) => assert!(rt; packets.len() == 1),
+        Err(_) => {
+            assert!(rt; cache.waiting() == 1);
+            assert!(rt; state(&cache, 1) == Some(Reachability::Stale));
+            assert!(rt; state(&cache, 2) == Some(Reachability::Incomplete));
+            return Some(Call::Clear);
+        }
+    }
+    assert!(rt; cache.waiting() == 0);
+    None
+}
+
+#[test]
+fn each_request_of_the_neighbour_cache_is_refused_once(rt: HostRuntime) -> Result<(), Fail> {
+    let mut refused = [false; 6];
+    let mut whole = false;
+    for units in 0..200usize {
+        let heap = LocalHeap::new(rt.alloc(), 16 * units)?;
+        match run(&rt, &heap) {
+            None => whole = true,
+            Some(call) => {
+                assert!(rt; !whole);
+                refused[call as usize] = true;
+            }
+        }
+    }
+    assert!(rt; whole);
+    assert_eq!(rt; refused, [true; 6]);
+    Ok(())
+}
