@@ -10,12 +10,18 @@ use std::alloc::{AllocError, Allocator};
 /// How many servers an option has at most: 255 units of 8 bytes, but for the first, and two for each server.
 const MOST_SERVERS: usize = 127;
 
+/// How many it has at least (RFC 8106, section 5.1).
+const FEWEST_SERVERS: usize = 1;
+
 /// How many bytes a Recursive DNS Server has, if these can be its servers.
 pub(crate) fn rdnss_length(lifetime: u32, servers: &[Addr]) -> Option<usize>
     ensures { SomeIff result (FitsRdnss lifetime servers.now) (length (rdnss_piece lifetime servers.now)) }
 {
     let _lifetime = lifetime;
-    if servers.is_empty() || servers.len() > MOST_SERVERS || !are_servers(servers) {
+    if servers.len() < FEWEST_SERVERS
+        || servers.len() > MOST_SERVERS
+        || !are_servers(servers)
+    {
         return None;
     }
     Some(8 + 16 * servers.len())

@@ -1,5 +1,4 @@
-use Rattle.std.proofs.Common.{◌∙◌, sym, arith}
-use Rattle.std.proofs.lemmas.Bool.{eqb-false}
+use Rattle.std.proofs.Common.{sym, arith}
 use Rattle.nd_message.specs.Rdnss.{FitsRdnss}
 use Rattle.nd_message.proofs.DnsServers.{length-rdnss}
 use Rattle.nd_message.proofs.rdnss.rdnss_length.Goals as goal
@@ -8,7 +7,7 @@ pub returns : goal.returns
 returns c =
     let f : FitsRdnss c.args.lifetime c.args.servers.now = record {
       lifetime_is = c.ranges.lifetime.fits;
-      some = omega (arith, eqb-false _ _ (sym c.is_empty.ensures ∙ c.if-is_empty.false));
+      some = omega arith;
       most = omega arith;
       each = c.are_servers.ensures.0 c.if-not-are_servers.false;
     } in
