@@ -1,5 +1,9 @@
 //! The words of the command line.
 
+ghost use Rattle.std.specs.Prelude.{◌≡◌, ◌∷◌, ℕ, List, [], codes, map, IfOk, IfErr, string_bytes};
+ghost use Rattle.clap.specs.Words.{app_of};
+ghost use Rattle.ndpctl.specs.CommandLine.{the_command, faults_of, Refuses};
+
 use clap::error::ErrorKind;
 use clap::{Command, Error};
 use std::alloc::{AllocError, Global};
@@ -20,14 +24,10 @@ pub enum Refused {
     Memory,
 }
 
-impl From<AllocError> for Refused {
-    fn from(_: AllocError) -> Refused {
-        Refused::Memory
-    }
-}
-
 /// The command with its subcommands.
-fn command<'a>(alloc: Global) -> Result<Command<'a>, AllocError> {
+fn command<'a>(alloc: Global) -> Result<Command<'a>, AllocError>
+    ensures { IfOk result (λ command. app_of command ≡ the_command) }
+{
     let check = Command::new(alloc, "check").about(
         "Tells of each line, a frame in hexadecimal, what the frame is",
     );
@@ -38,8 +38,15 @@ fn command<'a>(alloc: Global) -> Result<Command<'a>, AllocError> {
 }
 
 /// What the words ask for, the first being the program's path.
-pub fn read_words<'a>(alloc: Global, words: &'a [String]) -> Result<Asked, Refused> {
-    let command = command(alloc)?;
+///
+/// They are refused for a fault that `clap` finds in them, or for want of memory.
+pub fn read_words<'a>(alloc: Global, words: &'a [String]) -> Result<Asked, Refused>
+    ensures right { IfOk result (λ _. faults_of (map (λ word. string_bytes word) words.now) ≡ []) }
+    ensures wrong { IfErr result (λ refused. Refuses (map (λ word. string_bytes word) words.now) refused) }
+{
+    let Ok(command) = command(alloc) else {
+        return Err(Refused::Memory);
+    };
     let _matches = match command.try_get_matches_from(words) {
         Ok(matches) => matches,
         Err(error) => {
@@ -51,3 +58,8 @@ pub fn read_words<'a>(alloc: Global, words: &'a [String]) -> Result<Asked, Refus
     };
     Ok(Asked::Check)
 }
+
+/// The one word `check` is right, whatever the program's path is.
+fn check_is_right()
+    ensures { (path : List ℕ) → faults_of (path ∷ codes "check" ∷ []) ≡ [] }
+{}
