@@ -7,22 +7,28 @@ use Rattle.std.proofs.lemmas.Option.{slice_get-get_or}
 use Rattle.std.proofs.lemmas.Bool.Decides.{nat_tests}
 use Rattle.std.proofs.lemmas.Bool.{cond_both, cond-true, cond-false, eqb-true, eq-eqb, true≢false}
 use Rattle.nd_keyed.specs.Keyed.{at_key, Rises}
-use Rattle.nd_keyed.specs.Due.{lesser, least_due, first_due, NotBefore}
+use Rattle.nd_keyed.specs.Due.{lesser, is_at, least_date, first_at, NotBefore}
 use Rattle.nd_keyed.proofs.Cases.{either}
 use Rattle.nd_keyed.proofs.Keyed.{above_in}
 
 -- the least is at most this
-abbrev AtMost : Option ℕ → ℕ → Type 0
+abbrev pub AtMost : Option ℕ → ℕ → Type 0
 AtMost None n = ⊥
 AtMost (Some x) n = x ≤ n
 
-AtMost-left : (x : ℕ) (o : Option ℕ) → AtMost (lesser (Some x) o) x
-AtMost-left x None = omega arith
-AtMost-left x (Some y) = omega arith
+pub AtMost-left : (a o : Option ℕ) (n : ℕ) → AtMost a n → AtMost (lesser a o) n
+AtMost-left None o n h = absurd h
+AtMost-left (Some x) None n h = h
+AtMost-left (Some x) (Some y) n h = omega arith
 
-AtMost-right : (x n : ℕ) (o : Option ℕ) → AtMost o n → AtMost (lesser (Some x) o) n
-AtMost-right x n None h = absurd h
-AtMost-right x n (Some y) h = omega arith
+pub AtMost-right : (a o : Option ℕ) (n : ℕ) → AtMost o n → AtMost (lesser a o) n
+AtMost-right None o n h = h
+AtMost-right (Some x) None n h = absurd h
+AtMost-right (Some x) (Some y) n h = omega arith
+
+pub AtMost-same : (o : Option ℕ) (n : ℕ) → o ≡ Some n → AtMost o n
+AtMost-same None n is = absurd (cc)
+AtMost-same (Some x) n is = grind arith
 
 pub AtMost-some : (o : Option ℕ) (n m : ℕ) → o ≡ Some m → AtMost o n → m ≤ n
 AtMost-some None n m is h = absurd h
@@ -32,117 +38,129 @@ pub AtMost-none : (o : Option ℕ) (n : ℕ) → o ≡ None → AtMost o n → �
 AtMost-none None n is h = h
 AtMost-none (Some x) n is h = absurd (cc)
 
-lesser_is : (x n : ℕ) (o : Option ℕ) → lesser (Some x) o ≡ Some n → (x ≡ n) ⊎ (o ≡ Some n)
-lesser_is x n None h = inl (cc)
-lesser_is x n (Some y) h = grind arith
+pub lesser_is : (a b : Option ℕ) (n : ℕ) → lesser a b ≡ Some n → (a ≡ Some n) ⊎ (b ≡ Some n)
+lesser_is None b n h = inr h
+lesser_is (Some x) None n h = inl h
+lesser_is (Some x) (Some y) n h = grind arith
 
-NotBefore-left : (n x : ℕ) (o : Option ℕ) → NotBefore n (lesser (Some x) o) → n ≤ x
-NotBefore-left n x None h = h
-NotBefore-left n x (Some y) h = omega arith
+pub NotBefore-left : (n : ℕ) (a o : Option ℕ) → NotBefore n (lesser a o) → NotBefore n a
+NotBefore-left n None o h = tt
+NotBefore-left n (Some x) None h = h
+NotBefore-left n (Some x) (Some y) h = omega arith
 
-NotBefore-right : (n x : ℕ) (o : Option ℕ) → NotBefore n (lesser (Some x) o) → NotBefore n o
-NotBefore-right n x None h = tt
-NotBefore-right n x (Some y) h = omega arith
+pub NotBefore-right : (n : ℕ) (a o : Option ℕ) → NotBefore n (lesser a o) → NotBefore n o
+NotBefore-right n None o h = h
+NotBefore-right n (Some x) None h = tt
+NotBefore-right n (Some x) (Some y) h = omega arith
 
-NotBefore-both : (n x : ℕ) (o : Option ℕ) → n ≤ x → NotBefore n o → NotBefore n (lesser (Some x) o)
-NotBefore-both n x None h k = h
-NotBefore-both n x (Some y) h k = omega arith
+pub NotBefore-both : (n : ℕ) (a o : Option ℕ) → NotBefore n a → NotBefore n o → NotBefore n (lesser a o)
+NotBefore-both n None o h k = k
+NotBefore-both n (Some x) None h k = h
+NotBefore-both n (Some x) (Some y) h k = omega arith
 
-module _ {N : Type 0} (due : N → ℕ) where
-  pub due_now : (now : ℕ) (ns : List N) (n : N) → first_due due now ns ≡ Some n → due n ≡ now
+at_is : (now : ℕ) (o : Option ℕ) → is_at now o ≡ true → o ≡ Some now
+at_is now None h = absurd (true≢false (sym h))
+at_is now (Some x) h = ap Some (eqb-true x now h)
+
+pub is_there : (now : ℕ) (o : Option ℕ) → o ≡ Some now → is_at now o ≡ true
+is_there now o e = rw e (eq-eqb now now refl)
+
+module _ {N : Type 0} (date : N → Option ℕ) where
+  pub due_now : (now : ℕ) (ns : List N) (n : N) → first_at date now ns ≡ Some n → date n ≡ Some now
   due_now now [] n is = absurd (cc)
   due_now now (x ∷ ns) n is =
-      cond_both (eqb (due x) now) (Some x) (first_due due now ns) (λ o. o ≡ Some n → due n ≡ now)
-      (λ same e. let e' : x ≡ n = cc in ap due (sym e') ∙ eqb-true (due x) now same) (λ _ e. due_now now ns n e) is
+      cond_both (is_at now (date x)) (Some x) (first_at date now ns) (λ o. o ≡ Some n → date n ≡ Some now)
+      (λ here e. let e' : x ≡ n = cc in ap date (sym e') ∙ at_is now (date x) here) (λ _ e. due_now now ns n e) is
 
-  pub due_here : (now : ℕ) (ns : List N) (i : ℕ) (n : N) → i < length ns → n ≡ get_or ns i n → eqb (due n) now ≡ true → first_due due now (drop i ns) ≡ first_due due now ns → first_due due now ns ≡ slice_get ns i
+  -- what a search from the front has found
+  pub due_here : (now : ℕ) (ns : List N) (i : ℕ) (n : N) → i < length ns → n ≡ get_or ns i n → is_at now (date n) ≡ true → first_at date now (drop i ns) ≡ first_at date now ns → first_at date now ns ≡ slice_get ns i
   due_here now ns i n lt is here rest =
-      let at : eqb (due (get_or ns i n)) now ≡ true = ap (λ (m : N). eqb (due m) now) (sym is) ∙ here in
-      sym rest ∙ (ap (first_due due now) (drop-cons ns i n lt) ∙ (cond-true (eqb (due (get_or ns i n)) now) (Some (get_or ns i n)) (first_due due now (drop (suc i) ns)) at ∙ sym (slice_get-get_or ns i n lt)))
+      let at : is_at now (date (get_or ns i n)) ≡ true = ap (λ (m : N). is_at now (date m)) (sym is) ∙ here in
+      sym rest ∙ (ap (first_at date now) (drop-cons ns i n lt) ∙ (cond-true (is_at now (date (get_or ns i n))) (Some (get_or ns i n)) (first_at date now (drop (suc i) ns)) at ∙ sym (slice_get-get_or ns i n lt)))
 
-  -- where the next moment is now, something falls due now
-  pub next_not_now : (now : ℕ) (ns : List N) → least_due due ns ≡ Some now → first_due due now ns ≡ None → ⊥
-  next_not_now now [] h none = cc
-  next_not_now now (x ∷ ns) h none = elim (either (eqb (due x) now)) [
-    | inl here ↦ let f : Some x ≡ None = sym (cond-true (eqb (due x) now) (Some x) (first_due due now ns) here) ∙ none in cc
-    | inr later ↦
-        let f : first_due due now ns ≡ None = sym (cond-false (eqb (due x) now) (Some x) (first_due due now ns) later) ∙ none in
-        elim (lesser_is (due x) now (least_due due ns) h) [
-          | inl e ↦ absurd (true≢false (sym (eq-eqb (due x) now e) ∙ later))
-          | inr e ↦ next_not_now now ns e f
-        ]
+  -- the head hasn't the date where there is none
+  pub head_none : (now : ℕ) (x : N) (ns : List N) → first_at date now (x ∷ ns) ≡ None → (date x ≡ Some now → ⊥) × (first_at date now ns ≡ None)
+  head_none now x ns none = elim (either (is_at now (date x))) [
+    | inl here ↦ let f : Some x ≡ None = sym (cond-true (is_at now (date x)) (Some x) (first_at date now ns) here) ∙ none in absurd (cc)
+    | inr later ↦ ((λ e. absurd (true≢false (sym (is_there now (date x) e) ∙ later))), sym (cond-false (is_at now (date x)) (Some x) (first_at date now ns) later) ∙ none)
   ]
 
-  pub NotBefore-set : (now : ℕ) (ns : List N) (i : ℕ) (m : N) → NotBefore now (least_due due ns) → now ≤ due m → NotBefore now (least_due due (set ns i m))
-  NotBefore-set now [] i m h le = tt
-  NotBefore-set now (x ∷ ns) zero m h le = NotBefore-both now (due m) (least_due due ns) le (NotBefore-right now (due x) (least_due due ns) h)
-  NotBefore-set now (x ∷ ns) (suc i) m h le =
-      NotBefore-both now (due x) (least_due due (set ns i m)) (NotBefore-left now (due x) (least_due due ns) h)
-      (NotBefore-set now ns i m (NotBefore-right now (due x) (least_due due ns) h) le)
+  -- where the next moment is now, something falls due now
+  pub next_not_now : (now : ℕ) (ns : List N) → least_date date ns ≡ Some now → first_at date now ns ≡ None → ⊥
+  next_not_now now [] h none = cc
+  next_not_now now (x ∷ ns) h none =
+      let rest = head_none now x ns none in
+      elim (lesser_is (date x) (least_date date ns) now h) [
+        | inl e ↦ rest.0 e
+        | inr e ↦ next_not_now now ns e rest.1
+      ]
 
-  pub NotBefore-remove : (now : ℕ) (ns : List N) (i : ℕ) → NotBefore now (least_due due ns) → NotBefore now (least_due due (remove ns i))
+  pub NotBefore-set : (now : ℕ) (ns : List N) (i : ℕ) (m : N) → NotBefore now (least_date date ns) → NotBefore now (date m) → NotBefore now (least_date date (set ns i m))
+  NotBefore-set now [] i m h le = tt
+  NotBefore-set now (x ∷ ns) zero m h le = NotBefore-both now (date m) (least_date date ns) le (NotBefore-right now (date x) (least_date date ns) h)
+  NotBefore-set now (x ∷ ns) (suc i) m h le =
+      NotBefore-both now (date x) (least_date date (set ns i m)) (NotBefore-left now (date x) (least_date date ns) h)
+      (NotBefore-set now ns i m (NotBefore-right now (date x) (least_date date ns) h) le)
+
+  pub NotBefore-remove : (now : ℕ) (ns : List N) (i : ℕ) → NotBefore now (least_date date ns) → NotBefore now (least_date date (remove ns i))
   NotBefore-remove now [] zero h = tt
   NotBefore-remove now [] (suc i) h = tt
-  NotBefore-remove now (x ∷ ns) zero h = NotBefore-right now (due x) (least_due due ns) h
+  NotBefore-remove now (x ∷ ns) zero h = NotBefore-right now (date x) (least_date date ns) h
   NotBefore-remove now (x ∷ ns) (suc i) h =
-      NotBefore-both now (due x) (least_due due (remove ns i)) (NotBefore-left now (due x) (least_due due ns) h)
-      (NotBefore-remove now ns i (NotBefore-right now (due x) (least_due due ns) h))
+      NotBefore-both now (date x) (least_date date (remove ns i)) (NotBefore-left now (date x) (least_date date ns) h)
+      (NotBefore-remove now ns i (NotBefore-right now (date x) (least_date date ns) h))
 
-module _ {N : Type 0} (key due : N → ℕ) where
+module _ {N : Type 0} (key : N → ℕ) (date : N → Option ℕ) where
   -- the first that is due is the entry of its number
-  pub due_has : (now : ℕ) (ns : List N) (n : N) → Rises key ns → first_due due now ns ≡ Some n → at_key key (key n) ns ≡ Some n
+  pub due_has : (now : ℕ) (ns : List N) (n : N) → Rises key ns → first_at date now ns ≡ Some n → at_key key (key n) ns ≡ Some n
   due_has now [] n r first = absurd (cc)
-  due_has now (x ∷ ns) n r first = elim (either (eqb (due x) now)) [
+  due_has now (x ∷ ns) n r first = elim (either (is_at now (date x))) [
     | inl here ↦
-        let e : x ≡ n = let f : Some x ≡ Some n = sym (cond-true (eqb (due x) now) (Some x) (first_due due now ns) here) ∙ first in cc in
+        let e : x ≡ n = let f : Some x ≡ Some n = sym (cond-true (is_at now (date x)) (Some x) (first_at date now ns) here) ∙ first in cc in
         subst (λ (y : N). at_key key (key y) (x ∷ ns) ≡ Some y) e (cond-true (eqb (key x) (key x)) (Some x) (at_key key (key x) ns) (eq-eqb (key x) (key x) refl))
     | inr later ↦
-        let f : first_due due now ns ≡ Some n = sym (cond-false (eqb (due x) now) (Some x) (first_due due now ns) later) ∙ first in
+        let f : first_at date now ns ≡ Some n = sym (cond-false (is_at now (date x)) (Some x) (first_at date now ns) later) ∙ first in
         let rest : at_key key (key n) ns ≡ Some n = due_has now ns n r.1 f in
         let above : key x < key n = above_in key (key n) (key x) ns n r.0 rest in
         grind (arith, nat_tests, above, rest)
   ]
 
   -- none that is due has a lower number than the first
-  pub due_least : (now k : ℕ) (ns : List N) (n m : N) → Rises key ns → first_due due now ns ≡ Some n → at_key key k ns ≡ Some m → due m ≡ now → key n ≤ k
+  pub due_least : (now k : ℕ) (ns : List N) (n m : N) → Rises key ns → first_at date now ns ≡ Some n → at_key key k ns ≡ Some m → date m ≡ Some now → key n ≤ k
   due_least now k [] n m r first is at = absurd (cc)
-  due_least now k (x ∷ ns) n m r first is at = elim (either (eqb (due x) now)) [
+  due_least now k (x ∷ ns) n m r first is at = elim (either (is_at now (date x))) [
     | inl here ↦
-        let e : x ≡ n = let f : Some x ≡ Some n = sym (cond-true (eqb (due x) now) (Some x) (first_due due now ns) here) ∙ first in cc in
+        let e : x ≡ n = let f : Some x ≡ Some n = sym (cond-true (is_at now (date x)) (Some x) (first_at date now ns) here) ∙ first in cc in
         let e' : key x ≡ key n = ap key e in
         cond_both (eqb (key x) k) (Some x) (at_key key k ns) (λ o. o ≡ Some m → key n ≤ k)
         (λ same _. let same' : key x ≡ k = eqb-true (key x) k same in omega arith) (λ _ f. let above : key x < k = above_in key k (key x) ns m r.0 f in omega arith) is
     | inr later ↦
-        let f : first_due due now ns ≡ Some n = sym (cond-false (eqb (due x) now) (Some x) (first_due due now ns) later) ∙ first in
+        let f : first_at date now ns ≡ Some n = sym (cond-false (is_at now (date x)) (Some x) (first_at date now ns) later) ∙ first in
         cond_both (eqb (key x) k) (Some x) (at_key key k ns) (λ o. o ≡ Some m → key n ≤ k)
-        (λ _ g. let e : x ≡ m = cc in let d : due x ≡ now = ap due e ∙ at in absurd (true≢false (sym (eq-eqb (due x) now d) ∙ later)))
+        (λ _ g. let e : x ≡ m = cc in absurd (true≢false (sym (is_there now (date x) (ap date e ∙ at)) ∙ later)))
         (λ _ g. due_least now k ns n m r.1 f g at) is
   ]
 
   -- where none is due, no entry has that moment
-  pub none_due : (now k : ℕ) (ns : List N) (m : N) → first_due due now ns ≡ None → at_key key k ns ≡ Some m → due m ≡ now → ⊥
+  pub none_due : (now k : ℕ) (ns : List N) (m : N) → first_at date now ns ≡ None → at_key key k ns ≡ Some m → date m ≡ Some now → ⊥
   none_due now k [] m none is at = cc
-  none_due now k (x ∷ ns) m none is at = elim (either (eqb (due x) now)) [
-    | inl here ↦ let f : Some x ≡ None = sym (cond-true (eqb (due x) now) (Some x) (first_due due now ns) here) ∙ none in absurd (cc)
-    | inr later ↦
-        let f : first_due due now ns ≡ None = sym (cond-false (eqb (due x) now) (Some x) (first_due due now ns) later) ∙ none in
-        cond_both (eqb (key x) k) (Some x) (at_key key k ns) (λ o. o ≡ Some m → ⊥)
-        (λ _ g. let e : x ≡ m = cc in let d : due x ≡ now = ap due e ∙ at in absurd (true≢false (sym (eq-eqb (due x) now d) ∙ later)))
-        (λ _ g. none_due now k ns m f g at) is
-  ]
+  none_due now k (x ∷ ns) m none is at =
+      let rest = head_none date now x ns none in
+      cond_both (eqb (key x) k) (Some x) (at_key key k ns) (λ o. o ≡ Some m → ⊥)
+      (λ _ g. let e : x ≡ m = cc in rest.0 (ap date e ∙ at)) (λ _ g. none_due now k ns m rest.1 g at) is
 
   -- the least moment isn't later than that of any entry
-  pub least_at_most : (k : ℕ) (ns : List N) (m : N) → at_key key k ns ≡ Some m → AtMost (least_due due ns) (due m)
-  least_at_most k [] m is = absurd (cc)
-  least_at_most k (x ∷ ns) m is =
-      cond_both (eqb (key x) k) (Some x) (at_key key k ns) (λ o. o ≡ Some m → AtMost (least_due due (x ∷ ns)) (due m))
-      (λ _ e. let e' : x ≡ m = cc in subst (λ (y : N). AtMost (least_due due (x ∷ ns)) (due y)) e' (AtMost-left (due x) (least_due due ns)))
-      (λ _ e. AtMost-right (due x) (due m) (least_due due ns) (least_at_most k ns m e)) is
+  pub least_at_most : (k : ℕ) (ns : List N) (m : N) (moment : ℕ) → at_key key k ns ≡ Some m → date m ≡ Some moment → AtMost (least_date date ns) moment
+  least_at_most k [] m moment is at = absurd (cc)
+  least_at_most k (x ∷ ns) m moment is at =
+      cond_both (eqb (key x) k) (Some x) (at_key key k ns) (λ o. o ≡ Some m → AtMost (least_date date (x ∷ ns)) moment)
+      (λ _ e. let e' : x ≡ m = cc in AtMost-left (date x) (least_date date ns) moment (AtMost-same (date x) moment (ap date e' ∙ at)))
+      (λ _ e. AtMost-right (date x) (least_date date ns) moment (least_at_most k ns m moment e at)) is
 
   -- and it is that of an entry
-  pub least_found : (ns : List N) (n : ℕ) → Rises key ns → least_due due ns ≡ Some n → (m : N) × (at_key key (key m) ns ≡ Some m) × (due m ≡ n)
+  pub least_found : (ns : List N) (n : ℕ) → Rises key ns → least_date date ns ≡ Some n → (m : N) × (at_key key (key m) ns ≡ Some m) × (date m ≡ Some n)
   least_found [] n r h = absurd (cc)
-  least_found (x ∷ ns) n r h = elim (lesser_is (due x) n (least_due due ns) h) [
+  least_found (x ∷ ns) n r h = elim (lesser_is (date x) (least_date date ns) n h) [
     | inl e ↦ (x, cond-true (eqb (key x) (key x)) (Some x) (at_key key (key x) ns) (eq-eqb (key x) (key x) refl), e)
     | inr e ↦
         let f = least_found ns n r.1 e in

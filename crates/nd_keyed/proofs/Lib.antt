@@ -3,3 +3,4 @@ pub mod Keyed
 pub mod Unique
 pub mod Due
 pub mod Any
+pub mod Mapped

@@ -10,7 +10,7 @@ use Rattle.nd_neighbour.specs.Resolving.{Resolution, resolution_of, waiting_of}
 use Rattle.nd_neighbour.specs.Node.{Node, Kept, Resolves, Reaches, due_of, kept_by, the_node, node_of}
 use Rattle.nd_neighbour.specs.Change.{Falls, falls, falls_to, stays, solicited, known_mac}
 use Rattle.nd_neighbour.specs.Table.{address, node_in, Stands, GainsRow}
-use Rattle.nd_neighbour.specs.Due.{moment_of, IsDue, falling_by, IsFirst, FirstDue, NextDue, due_row, next_in, due_in, NoneBefore, turns_to, turns_left, Turns}
+use Rattle.nd_neighbour.specs.Due.{date_of, IsDue, falling_by, IsFirst, FirstDue, NextDue, due_row, next_in, due_in, NoneBefore, turns_to, turns_left, Turns}
 use Rattle.nd_keyed.proofs.Cases.{either}
 use Rattle.nd_keyed.proofs.Due.{AtMost-some, AtMost-none, due_now, due_has, due_least, none_due, least_at_most, least_found, NotBefore-set, NotBefore-remove}
 use Rattle.nd_neighbour.proofs.Changes.{when_solicited, when_probed}
@@ -27,6 +27,9 @@ falls_by key (Some mac) w None r ws = refl
 falls_by key (Some mac) w (Some u) r ws = refl
 
 -- a neighbour for which something falls due is in the table
+same_moment : (m now : ℕ) → Some m ≡ Some now → m ≡ now
+same_moment m now e = cc
+
 module _ (ns : List Node) (rows : List Row) (s : Stands ns rows) where
   due_node : (moment key : ℕ) → IsDue rows moment key → (n : Node) × (node_in key ns ≡ Some n) × (n.due ≡ moment)
   due_node moment key due =
@@ -39,17 +42,17 @@ module _ (ns : List Node) (rows : List Row) (s : Stands ns rows) where
   pub first_falls : (now : ℕ) (new : List Node) (what : Falls) → Turns now ns new what → IsFirst rows now what
   first_falls now new what t =
       let n = t.node in
-      let has = due_has address moment_of now ns n s.order t.first in
+      let has = due_has address date_of now ns n s.order t.first in
       let known = node_present n.key (story n.key rows) n (sym (s.each n.key) ∙ has) in
       record {
         key = n.key;
-        due = subst (λ (m : ℕ). IsDue rows m n.key) (due_now moment_of now ns n t.first) (node_due n.key n has);
-        least = λ k due. let d = due_node now k due in due_least address moment_of now k ns n d.0 s.order t.first d.1 d.2;
+        due = subst (λ (m : ℕ). IsDue rows m n.key) (same_moment n.due now (due_now date_of now ns n t.first)) (node_due n.key n has);
+        least = λ k due. let d = due_node now k due in due_least address date_of now k ns n d.0 s.order t.first d.1 (ap Some d.2);
         what = t.falls_is ∙ (ap falls known.1 ∙ falls_by n.key (mac_of (story n.key rows)) (word_of (story n.key rows)) (use_of (story n.key rows)) (resolution_of (story n.key rows)) (waiting_of (story n.key rows)));
       }
 
   pub none_falls : (now : ℕ) → due_in now ns ≡ None → FirstDue rows now None
-  none_falls now none = λ key due. let d = due_node now key due in none_due address moment_of now key ns d.0 none d.1 d.2
+  none_falls now none = λ key due. let d = due_node now key due in none_due address date_of now key ns d.0 none d.1 (ap Some d.2)
 
 -- what is found at the node of a turn
 module _ (key now : ℕ) (n : Node) (s : Story) (is : n ≡ the_node key s) where
@@ -86,8 +89,8 @@ module _ (now : ℕ) (old new : List Node) (i : ℕ) (n : Node) (lt : i < length
         let left : stays (falls n) ≡ true = rw (kept, more) refl in
         rw more (record {
           stands = λ rows s.
-              (changing old new n.key now Solicited i n (solicited now n) refl lt at_i (due_has address moment_of now old n s.order first) (solicited_key now n (Resolves r t ws) kept) refl (staying left)
-              (λ story present known. asks n.key now n story known present (due_now moment_of now old n first) (ap known_mac kept))).stands rows s;
+              (changing old new n.key now Solicited i n (solicited now n) refl lt at_i (due_has address date_of now old n s.order first) (solicited_key now n (Resolves r t ws) kept) refl (staying left)
+              (λ story present known. asks n.key now n story known present (same_moment n.due now (due_now date_of now old n first)) (ap known_mac kept))).stands rows s;
         })
     | inr last ↦
         let left : stays (falls n) ≡ false = rw (kept, last) refl in
@@ -100,8 +103,8 @@ module _ (now : ℕ) (old new : List Node) (i : ℕ) (n : Node) (lt : i < length
         let left : stays (falls n) ≡ true = rw (kept, more) refl in
         rw more (record {
           stands = λ rows s.
-              (changing old new n.key now Probed i n (solicited now n) refl lt at_i (due_has address moment_of now old n s.order first) (solicited_key now n (Reaches mac c since (Some p)) kept) refl (staying left)
-              (λ story present known. probes n.key now mac n story known present (due_now moment_of now old n first) (ap known_mac kept) left)).stands rows s;
+              (changing old new n.key now Probed i n (solicited now n) refl lt at_i (due_has address date_of now old n s.order first) (solicited_key now n (Reaches mac c since (Some p)) kept) refl (staying left)
+              (λ story present known. probes n.key now mac n story known present (same_moment n.due now (due_now date_of now old n first)) (ap known_mac kept) left)).stands rows s;
         })
     | inr last ↦
         let left : stays (falls n) ≡ false = rw (kept, last) refl in
@@ -116,13 +119,13 @@ module _ (ns : List Node) (rows : List Row) (s : Stands ns rows) where
   pub next_is_due : (next : Option ℕ) → next_in ns ≡ next → NextDue rows next
   next_is_due None is = λ moment key due.
       let d = due_node ns rows s moment key due in
-      AtMost-none (next_in ns) d.0.due is (least_at_most address moment_of key ns d.0 d.1)
+      AtMost-none (next_in ns) d.0.due is (least_at_most address date_of key ns d.0 d.0.due d.1 refl)
   next_is_due (Some next) is =
-      let f = least_found address moment_of ns next s.order is in (
-        (f.0.key, subst (λ (m : ℕ). IsDue rows m f.0.key) f.2 (node_due ns rows s f.0.key f.0 f.1)),
+      let f = least_found address date_of ns next s.order is in (
+        (f.0.key, subst (λ (m : ℕ). IsDue rows m f.0.key) (same_moment f.0.due next f.2) (node_due ns rows s f.0.key f.0 f.1)),
         λ moment key due.
             let d = due_node ns rows s moment key due in
-            subst (λ (m : ℕ). next ≤ m) d.2 (AtMost-some (next_in ns) d.0.due next is (least_at_most address moment_of key ns d.0 d.1)),
+            subst (λ (m : ℕ). next ≤ m) d.2 (AtMost-some (next_in ns) d.0.due next is (least_at_most address date_of key ns d.0 d.0.due d.1 refl)),
       )
 
 turns-set : (ns : List Node) (i : ℕ) (n m : Node) → i < length ns → n ≡ get_or ns i n → turns_left (set ns i m) + turns_to n.kept ≡ turns_left ns + turns_to m.kept
@@ -168,8 +171,8 @@ pub turned_later : (now : ℕ) (old new : List Node) (what : Falls) → Turns no
 turned_later now old new what t h = elim (either (stays (falls t.node))) [
   | inl left ↦
       let is : new ≡ set old t.at (solicited now t.node) = t.new_is ∙ cond-true (stays (falls t.node)) _ (remove old t.at) left in
-      rw is (NotBefore-set moment_of now old t.at (solicited now t.node) h (later_to now t.node t.node.kept refl left))
+      rw is (NotBefore-set date_of now old t.at (solicited now t.node) h (later_to now t.node t.node.kept refl left))
   | inr none ↦
       let is : new ≡ remove old t.at = t.new_is ∙ cond-false (stays (falls t.node)) (set old t.at (solicited now t.node)) _ none in
-      rw is (NotBefore-remove moment_of now old t.at h)
+      rw is (NotBefore-remove date_of now old t.at h)
 ]

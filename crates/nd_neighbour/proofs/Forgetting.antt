@@ -10,10 +10,10 @@ use Rattle.nd_neighbour.specs.Confirming.{Word, Confirms, Disturbs, Use, word_of
 use Rattle.nd_neighbour.specs.Resolving.{Resolution, resolution_of, waiting_of}
 use Rattle.nd_neighbour.specs.Reachability.{state_by}
 use Rattle.nd_neighbour.specs.Node.{Node, kept_by, the_node, node_of}
-use Rattle.nd_neighbour.specs.Table.{address, node_in, Rises, Stands, GainsRow}
-use Rattle.nd_keyed.specs.Keyed.{AllAbove}
+use Rattle.nd_neighbour.specs.Table.{address, node_in, Stands, GainsRow}
+use Rattle.nd_keyed.proofs.Mapped.{at_key-map, Rises-map}
 use Rattle.nd_neighbour.specs.Room.{Removes, WasNot, Gone}
-use Rattle.nd_neighbour.specs.Seen.{Seen, seen, seen_of, state_in, waits_of, shown_in, AllShownAbove, ShownRise, Lists}
+use Rattle.nd_neighbour.specs.Seen.{Seen, seen, seen_of, state_in, waits_of, seen_key, Lists}
 use Rattle.nd_neighbour.specs.Calls.{waiting_at, cleared}
 use Rattle.nd_keyed.proofs.Cases.{either}
 use Rattle.nd_keyed.proofs.Keyed.{key_is}
@@ -70,25 +70,10 @@ seen_told key t s (Some n) is =
 pub seen_by_rows : (key t : ℕ) (nodes : List Node) (rows : List Row) → Stands nodes rows → option_map (seen t) (node_in key nodes) ≡ seen_of key (story key rows) t
 seen_by_rows key t nodes rows s = seen_told key t (story key rows) (node_in key nodes) (s.each key)
 
-shown_each : (key t : ℕ) (nodes : List Node) → shown_in key (map (seen t) nodes) ≡ option_map (seen t) (node_in key nodes)
-shown_each key t [] = refl
-shown_each key t (n ∷ nodes) = elim (either (eqb n.key key)) [
-  | inl e ↦ rw e refl
-  | inr e ↦ rw e (shown_each key t nodes)
-]
-
-shown_above : (key t : ℕ) (nodes : List Node) → AllAbove address key nodes → AllShownAbove key (map (seen t) nodes)
-shown_above key t [] h = tt
-shown_above key t (n ∷ nodes) h = (h.0, shown_above key t nodes h.1)
-
-shown_rise : (t : ℕ) (nodes : List Node) → Rises nodes → ShownRise (map (seen t) nodes)
-shown_rise t [] h = tt
-shown_rise t (n ∷ nodes) h = (shown_above n.key t nodes h.0, shown_rise t nodes h.1)
-
 pub lists_all : (t : ℕ) (nodes : List Node) (rows : List Row) (shown : List Seen) → shown ≡ map (seen t) nodes → Stands nodes rows → Lists rows t shown
 lists_all t nodes rows shown is s = rw is (record {
-  each = λ key. shown_each key t nodes ∙ seen_by_rows key t nodes rows s;
-  order = shown_rise t nodes s.order;
+  each = λ key. at_key-map address seen_key (seen t) (λ n. refl) key nodes ∙ seen_by_rows key t nodes rows s;
+  order = Rises-map address seen_key (seen t) (λ n. refl) nodes s.order;
 })
 
 -- all are forgotten, one after the other

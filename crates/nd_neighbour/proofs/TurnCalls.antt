@@ -9,7 +9,7 @@ use Rattle.nd_neighbour.specs.Table.{Stands, GainsRow}
 use Rattle.nd_neighbour.specs.Due.{FirstDue, due_row, next_in, due_in, NoneBefore, turns_left, Turns}
 use Rattle.nd_neighbour.proofs.Dues.{first_falls, none_falls, turned_gains, turned_fewer, turned_later}
 use Rattle.nd_keyed.proofs.Due.{next_not_now}
-use Rattle.nd_neighbour.specs.Due.{moment_of}
+use Rattle.nd_neighbour.specs.Due.{date_of}
 
 module _ {X : Type 0} (f : X → Falls) (now : ℕ) (new : List Node) where
   pub due_call : (o : Option X) (inside old : List Node) → inside ≡ old → IfSome o (λ d. Turns now inside new (f d)) → IfNone o (due_in now inside ≡ None) → (rows : List Row) → Stands old rows → FirstDue rows now (option_map f o)
@@ -29,5 +29,5 @@ module _ {X : Type 0} (f : X → Falls) (now : ℕ) (new : List Node) where
   later_call (Some d) inside old e t same h = turned_later now old new (f d) (subst (λ (l : List Node). Turns now l new (f d)) e t) h
 
 pub none_call : {X : Type 0} (now : ℕ) (o : Option X) (inside old : List Node) → inside ≡ old → IfNone o (due_in now inside ≡ None) → IfNone o (next_in old ≢ Some now)
-none_call now None inside old e none = λ h. next_not_now moment_of now old h (subst (λ (l : List Node). due_in now l ≡ None) e none)
+none_call now None inside old e none = λ h. next_not_now date_of now old h (subst (λ (l : List Node). due_in now l ≡ None) e none)
 none_call now (Some d) inside old e none = tt

@@ -1,7 +1,7 @@
 -- What falls due, asked of what happened (RFC 4861, sections 7.2.2, 7.3.3 and 10).
 use Rattle.std.specs.Prelude.{◌≡◌, ℕ, ◌+◌, ◌-◌, ◌≤◌, nat_lt, true, if◌then◌else◌, List, [], ◌∷◌, length, slice_index_or, slice_set, ◌<◌, Option, Some, None}
 use Rattle.std.specs.List.{remove}
-use Rattle.nd_keyed.specs.Due.{least_due, first_due, NotBefore}
+use Rattle.nd_keyed.specs.Due.{least_date, first_at, NotBefore}
 use Rattle.nd_neighbour.specs.Rows.{Row, Story, story, Solicited, Probed, Forgot, Failed, Aged}
 use Rattle.nd_neighbour.specs.Address.{is_present, mac_of}
 use Rattle.nd_neighbour.specs.Confirming.{Use, use_of}
@@ -47,16 +47,16 @@ due_row now (Unicasts key mac) = (now, key, Probed)
 due_row now (Fails key packets) = (now, key, Forgot Failed)
 due_row now (Ages key) = (now, key, Forgot Aged)
 
-abbrev pub moment_of : Node → ℕ
-moment_of n = n.due
+abbrev pub date_of : Node → Option ℕ
+date_of n = Some n.due
 
 -- the least moment of a list
 abbrev pub next_in : List Node → Option ℕ
-next_in nodes = least_due moment_of nodes
+next_in nodes = least_date date_of nodes
 
 -- the first of a list for which something falls due at the moment
 abbrev pub due_in : ℕ → List Node → Option Node
-due_in now nodes = first_due moment_of now nodes
+due_in now nodes = first_at date_of now nodes
 
 -- nothing fell due before the moment
 abbrev pub NoneBefore : List Node → ℕ → Type 0

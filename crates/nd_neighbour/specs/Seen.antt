@@ -1,5 +1,6 @@
 -- What is shown of a neighbour at a moment.
-use Rattle.std.specs.Prelude.{◌≡◌, ℕ, ◌<◌, nat_lt, Bool, ◌==◌, ◌&&◌, if◌then◌else◌, List, [], ◌∷◌, Option, Some, None}
+use Rattle.std.specs.Prelude.{◌≡◌, ℕ, nat_lt, Bool, ◌&&◌, if◌then◌else◌, List, [], Option, Some, None}
+use Rattle.nd_keyed.specs.Keyed.{at_key, Rises}
 use Rattle.nd_neighbour.specs.declared.reachability.Reachability.{Reachability}
 use Rattle.nd_neighbour.specs.declared.reachability.Reachability.TheVariants.{Incomplete, Reachable, Stale, Delay, Probe}
 use Rattle.nd_neighbour.specs.declared.probing.Probing.{Probing}
@@ -42,20 +43,10 @@ state_in (Reaches mac confirmed since probing) t = if confirmed && nat_lt t sinc
 abbrev pub seen : ℕ → Node → Seen
 seen t n = record { key = n.key; mac = known_mac n.kept; router = n.router; state = state_in n.kept t }
 
--- what a list shows of the address
-abbrev pub shown_in : ℕ → List Seen → Option Seen
-shown_in key [] = None
-shown_in key (x ∷ xs) = if x.key == key then Some x else shown_in key xs
-
-abbrev pub AllShownAbove : ℕ → List Seen → Type 0
-AllShownAbove key [] = Unit {0}
-AllShownAbove key (x ∷ xs) = (key < x.key) × AllShownAbove key xs
-
-abbrev pub ShownRise : List Seen → Type 0
-ShownRise [] = Unit {0}
-ShownRise (x ∷ xs) = AllShownAbove x.key xs × ShownRise xs
+abbrev pub seen_key : Seen → ℕ
+seen_key x = x.key
 
 -- the list shows the neighbours that the rows tell of, as they are at the moment, in the order of their addresses
 pub record Lists (rows : List Row) (now : ℕ) (shown : List Seen) : Type 0 where
-  pub each : (key : ℕ) → shown_in key shown ≡ seen_of key (story key rows) now
-  pub order : ShownRise shown
+  pub each : (key : ℕ) → at_key seen_key key shown ≡ seen_of key (story key rows) now
+  pub order : Rises seen_key shown
