@@ -14,6 +14,7 @@ use Rattle.nd_slaac.specs.Address.{Address, step_at, stage_by, address_of}
 use Rattle.nd_slaac.specs.Table.{address_in, Stands, GainsRow}
 use Rattle.nd_slaac.specs.Due.{transmits, Falls, Ends, Solicits, Assigns, IsStep, date_by, IsDue, key_in, pass_of, NotAfter, IsFirst, FirstDue, NextDue, happens, due_row}
 use Rattle.nd_slaac.specs.Dates.{end_date, stage_date, next_step, first_at, next_in, NoneBefore, falls_by, stage_after, stepped, Turns, Goes, Steps, Rests, turns_to, turns_left}
+use Rattle.nd_slaac.specs.History.{IsTurn, MayCome}
 use Rattle.nd_slaac.proofs.First.{first_now, first_has, first_least, none_first, AtMost, AtMost-some, AtMost-none, at_most_end, at_most_step, next_at_most, next_found, earlier_than, NoneBefore-at, NoneBefore-set, NoneBefore-remove}
 use Rattle.nd_slaac.proofs.Stories.{made, was_formed, known_forming, formed_is, steps}
 use Rattle.nd_slaac.proofs.Changes.{when_stepped}
@@ -181,6 +182,23 @@ module _ (xs : List Address) (rows : List Row) (s : Stands xs rows) where
         ],
         λ moment falls due. AtMost-some (next_in xs) moment next is (next_least moment falls due),
       )
+
+AtMost-from : (now n : ℕ) (o : Option ℕ) → NotBefore now o → AtMost o n → now ≤ n
+AtMost-from now n None h le = absurd le
+AtMost-from now n (Some x) h le = omega arith
+
+-- what a turn tells may come
+module _ (xs : List Address) (rows : List Row) (s : Stands xs rows) (now : ℕ) (none : NoneBefore xs now) where
+  is_turn : (falls : Falls) → IsFirst rows now falls → IsTurn rows now falls
+  is_turn falls first = record { first = first; none_before = λ moment others due. AtMost-from now moment (next_in xs) none (next_least xs rows s moment others due) }
+
+  comes : (falls : Falls) → IsFirst rows now falls → MayCome (due_row now falls) rows
+  comes (Ends key) first = is_turn (Ends key) first
+  comes (Solicits key) first = is_turn (Solicits key) first
+  comes (Assigns key) first = is_turn (Assigns key) first
+
+  pub turn_comes : (new : List Address) (what : Falls) → Turns now xs new what → MayCome (due_row now what) rows
+  turn_comes new what t = comes what (turn_falls xs rows s now new what t)
 
 stepped_falls : (now : ℕ) (a : Address) → (falls_by a.key a.stage ≡ Solicits a.key) ⊎ (falls_by a.key a.stage ≡ Assigns a.key) → due_row now (falls_by a.key a.stage) ≡ (now, a.key, happens (falls_by a.key a.stage))
 stepped_falls now a (inl e) = rw e refl

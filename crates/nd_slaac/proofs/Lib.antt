@@ -11,3 +11,5 @@ pub mod Shown
 pub mod Keys
 pub mod Room
 pub mod HeardPrefix
+pub mod Histories
+pub mod Unique

@@ -1,6 +1,6 @@
 -- Whether there is room for the addresses that options would form.
 use Rattle.std.proofs.Common.{◌≡◌, ℕ, ◌+◌, ◌<◌, ◌≤◌, Bool, true, false, cond, eqb, ltb, leb, List, [], ◌∷◌, length, Some, refl, sym, ◌∙◌, ap, arith, suc, inl, inr}
-use Rattle.std.specs.Prelude.{is_some, ◌&&◌, ◌||◌, not, IsOk, Result, Ok, Err}
+use Rattle.std.specs.Prelude.{is_some, ◌&&◌, ◌||◌, not, IsOk, IfSome, Result, Ok, Err}
 use Rattle.std.proofs.lemmas.Bool.Decides.{nat_tests}
 use Rattle.std.proofs.lemmas.Bool.{true≢false, eqb-true, eq-eqb}
 use Rattle.nd_addr.specs.declared.mac.Mac.{Mac}
@@ -13,7 +13,10 @@ use Rattle.nd_slaac.specs.declared.taken.Full.{Full}
 use Rattle.nd_slaac.specs.Address.{Address}
 use Rattle.nd_slaac.specs.Table.{key_of, address_in}
 use Rattle.nd_slaac.specs.Announcing.{is_taken, named_by, lifetimes_of, is_among, is_forming, would_form, fits_in, is_formed_by, new_in}
-use Rattle.nd_slaac.specs.Calls.{keys_in, formed, announced, taken_by, Changes, Takes}
+use Rattle.nd_slaac.specs.Calls.{keys_in, formed, announced, taken_by, Changes, row_taken, Gains}
+use Rattle.nd_slaac.specs.Rows.{Row, story}
+use Rattle.nd_slaac.specs.State.{is_known}
+use Rattle.nd_slaac.specs.History.{MayCome}
 use Rattle.nd_slaac.proofs.Keys.{known_among, keys-length, keys-set, among-put, length-put}
 use Rattle.nd_slaac.proofs.Altering.{formed_gains, announced_gains}
 
@@ -180,11 +183,18 @@ pub fits_idle : (mac : Mac) (info : PrefixInfo) (keys : List ℕ) (infos : List 
 fits_idle mac info keys infos idle h = rw idle at h
 
 -- what the call adds to the rows
-pub takes_call : (now : ℕ) (mac : Mac) (info : PrefixInfo) (delay retrans : ℕ) (r : Result Taken Full) (old new : List Address) → Changes now (named_by mac info) (lifetimes_of info) delay retrans r old new → Takes now mac info delay retrans r old new
-takes_call now mac info delay retrans (Ok Formed) old new changes = formed_gains (named_by mac info) now delay retrans (lifetimes_of info) old new changes.0 changes.1
-takes_call now mac info delay retrans (Ok Renewed) old new changes = announced_gains (named_by mac info) now (lifetimes_of info) old new changes
-takes_call now mac info delay retrans (Ok Ignored) old new changes = changes
-takes_call now mac info delay retrans (Err full) old new changes = changes
+pub gains_taken : (now : ℕ) (mac : Mac) (info : PrefixInfo) (delay retrans : ℕ) (r : Result Taken Full) (old new : List Address) → Changes now (named_by mac info) (lifetimes_of info) delay retrans r old new → Gains (row_taken now mac info delay retrans r) old new
+gains_taken now mac info delay retrans (Ok Formed) old new changes = formed_gains (named_by mac info) now delay retrans (lifetimes_of info) old new changes.0 changes.1
+gains_taken now mac info delay retrans (Ok Renewed) old new changes = announced_gains (named_by mac info) now (lifetimes_of info) old new changes
+gains_taken now mac info delay retrans (Ok Ignored) old new changes = changes
+gains_taken now mac info delay retrans (Err full) old new changes = changes
+
+-- and that this may come
+pub comes_taken : (now : ℕ) (mac : Mac) (info : PrefixInfo) (delay retrans count : ℕ) (r : Result Taken Full) (rows : List Row) → r ≡ taken_by (is_known (story (named_by mac info) rows)) info.valid_lifetime count → 0 < retrans → IfSome (row_taken now mac info delay retrans r) (λ row. MayCome row rows)
+comes_taken now mac info delay retrans count (Ok Formed) rows is positive = ((formed_parts (is_known (story (named_by mac info) rows)) info.valid_lifetime count is).0, positive)
+comes_taken now mac info delay retrans count (Ok Renewed) rows is positive = renewed_parts (is_known (story (named_by mac info) rows)) info.valid_lifetime count is
+comes_taken now mac info delay retrans count (Ok Ignored) rows is positive = tt
+comes_taken now mac info delay retrans count (Err full) rows is positive = tt
 
 -- all were looked at, and there was room
 pub fits_all : (mac : Mac) (entries : List Address) (count : ℕ) (rest all : List PrefixInfo) → length entries ≤ 64 → count ≤ 64 → rest ≡ [] → count + new_in mac (keys_in entries) rest ≡ length entries + new_in mac (keys_in entries) all → true ≡ fits_in mac (keys_in entries) all

@@ -27,6 +27,14 @@ not_formed_by key (Some f) c w n p v h = absurd (cc)
 pub not_formed : (key : ℕ) (s : Story) → address_of key s ≡ None → forming_of s ≡ None
 not_formed key s h = not_formed_by key (forming_of s) (has_conflict s) (was_assigned s) (sent_of s) (preferred_end s) (valid_end s) h
 
+known_is_by : (key : ℕ) (o : Option Forming) (c w : Bool) (n : ℕ) (p v : Option ℕ) → is_some (address_by key o c w n p v) ≡ is_some o
+known_is_by key None c w n p v = refl
+known_is_by key (Some f) c w n p v = refl
+
+-- what the story makes an address of is known
+pub known_story : (key : ℕ) (s : Story) → is_some (address_of key s) ≡ is_known s
+known_story key s = known_is_by key (forming_of s) (has_conflict s) (was_assigned s) (sent_of s) (preferred_end s) (valid_end s)
+
 pub formed_is : (key : ℕ) (s : Story) (f : Forming) → forming_of s ≡ Some f → address_of key s ≡ Some (made key f s)
 formed_is key s f is = rw is refl
 

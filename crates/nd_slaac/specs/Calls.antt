@@ -64,11 +64,16 @@ abbrev pub taken_of : PrefixInfo → Bool → ℕ → Result Taken Full
 taken_of info known count = if is_taken info then taken_by known info.valid_lifetime count else Ok Ignored
 
 -- the row that comes of an option, and none where it is ignored or refused
-abbrev pub Takes : ℕ → Mac → PrefixInfo → ℕ → ℕ → Result Taken Full → List Address → List Address → Type 0
-Takes now mac info delay retrans (Ok Formed) old new = GainsRow old new (now, named_by mac info, rows.Formed delay retrans (Some (lifetimes_of info)))
-Takes now mac info delay retrans (Ok Renewed) old new = GainsRow old new (now, named_by mac info, rows.Announced (lifetimes_of info))
-Takes now mac info delay retrans (Ok Ignored) old new = new ≡ old
-Takes now mac info delay retrans (Err full) old new = new ≡ old
+abbrev pub row_taken : ℕ → Mac → PrefixInfo → ℕ → ℕ → Result Taken Full → Option Row
+row_taken now mac info delay retrans (Ok Formed) = Some (now, named_by mac info, rows.Formed delay retrans (Some (lifetimes_of info)))
+row_taken now mac info delay retrans (Ok Renewed) = Some (now, named_by mac info, rows.Announced (lifetimes_of info))
+row_taken now mac info delay retrans (Ok Ignored) = None
+row_taken now mac info delay retrans (Err full) = None
+
+-- the list gains the row, if there is one
+abbrev pub Gains : Option Row → List Address → List Address → Type 0
+Gains None old new = new ≡ old
+Gains (Some row) old new = GainsRow old new row
 
 -- the same of a list: the address changes, or comes into its place, or nothing does
 abbrev pub Changes : ℕ → ℕ → Lifetimes → ℕ → ℕ → Result Taken Full → List Address → List Address → Type 0

@@ -43,6 +43,7 @@ impl<A: Allocator + Clone> Addresses<A> {
     ghost use Rattle.nd_slaac.specs.Dates.{next_in, NoneBefore, turns_left};
     ghost use Rattle.nd_slaac.specs.Announcing.{link_local_of};
     ghost use Rattle.nd_slaac.specs.Calls.{formed, detects_in};
+    ghost use Rattle.nd_slaac.specs.History.{MayCome};
     ghost use Rattle.nd_slaac.specs.View.{falls_of};
 
     /// The addresses of an interface that starts: its link-local address, whose first solicitation waits for a delay
@@ -63,6 +64,7 @@ impl<A: Allocator + Clone> Addresses<A> {
         ensures value { result ≡ detects_in (address_in (number_of addr.0) self.old.addresses) }
         ensures tentative { (rows : List Row) → Stands self.old.addresses rows → result ≡ is_tentative (story (number_of addr.0) rows) }
         ensures gains { result ≡ true → (at : ℕ) → GainsRow self.old.addresses self.new.addresses (at, number_of addr.0, Conflict) }
+        ensures comes { result ≡ true → (rows : List Row) (at : ℕ) → Stands self.old.addresses rows → MayCome (at, number_of addr.0, Conflict) rows }
         ensures same { result ≡ false → self.new ≡ self.old }
         ensures mac { self.new.mac ≡ self.old.mac }
     {
@@ -85,6 +87,7 @@ impl<A: Allocator + Clone> Addresses<A> {
 
         ensures due { (rows : List Row) → Stands self.old.addresses rows → FirstDue rows now (option_map (λ due. falls_of due) result) }
         ensures gains { IfSome result (λ due. GainsRow self.old.addresses self.new.addresses (due_row now (falls_of due))) }
+        ensures comes { IfSome result (λ due. (rows : List Row) → Stands self.old.addresses rows → MayCome (due_row now (falls_of due)) rows) }
         ensures same { IfNone result (self.new ≡ self.old) }
         ensures mac { self.new.mac ≡ self.old.mac }
 

@@ -1,4 +1,4 @@
-ghost use Rattle.std.specs.Prelude.{◌≡◌, ◌<◌, ◌^◌, ◌∷◌, List, IsOk, true, is_some, length};
+ghost use Rattle.std.specs.Prelude.{◌≡◌, ◌<◌, ◌^◌, ◌∷◌, List, IsOk, IfSome, true, is_some, length};
 ghost use Rattle.nd_decode.specs.declared.prefix_info.PrefixInfo.{PrefixInfo};
 ghost use Rattle.nd_decode.specs.Pieces.{options_left};
 
@@ -15,7 +15,8 @@ impl<A: Allocator + Clone> Addresses<A> {
     ghost use Rattle.nd_slaac.specs.State.{is_known};
     ghost use Rattle.nd_slaac.specs.Table.{address_in, Stands};
     ghost use Rattle.nd_slaac.specs.Announcing.{named_by, would_form, fits_in, prefixes_in};
-    ghost use Rattle.nd_slaac.specs.Calls.{keys_in, taken_of, Takes};
+    ghost use Rattle.nd_slaac.specs.Calls.{keys_in, taken_of, row_taken, Gains};
+    ghost use Rattle.nd_slaac.specs.History.{MayCome};
 
     /// Whether a prefix option would form an address, where there is room for it (RFC 4862, section 5.5.3 a to d).
     ///
@@ -50,7 +51,8 @@ impl<A: Allocator + Clone> Addresses<A> {
 
         ensures value { result ≡ taken_of info.now (is_some (address_in (named_by self.old.mac info.now) self.old.addresses)) (length self.old.addresses) }
         ensures by_rows { (rows : List Row) → Stands self.old.addresses rows → result ≡ taken_of info.now (is_known (story (named_by self.old.mac info.now) rows)) (length self.old.addresses) }
-        ensures takes { Takes now self.old.mac info.now delay retrans result self.old.addresses self.new.addresses }
+        ensures gains { Gains (row_taken now self.old.mac info.now delay retrans result) self.old.addresses self.new.addresses }
+        ensures comes { (rows : List Row) → Stands self.old.addresses rows → 0 < retrans → IfSome (row_taken now self.old.mac info.now delay retrans result) (λ row. MayCome row rows) }
         ensures mac { self.new.mac ≡ self.old.mac }
 
         // Where the options fit, the first isn't refused, and the others still fit.

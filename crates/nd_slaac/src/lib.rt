@@ -9,6 +9,7 @@ mod entry;
 mod find;
 mod fitting;
 mod hearing;
+pub mod laws;
 mod look;
 mod own_address;
 mod place;

@@ -1,7 +1,7 @@
 use Rattle.std.proofs.Common.{ap}
 use Rattle.nd_slaac.specs.Table.{Table}
 use Rattle.nd_slaac.specs.View.{falls_of}
-use Rattle.nd_slaac.proofs.TurnCalls.{due_call, gains_call, fewer_call, later_call, none_call}
+use Rattle.nd_slaac.proofs.TurnCalls.{due_call, gains_call, comes_call, fewer_call, later_call, none_call}
 use Rattle.nd_slaac.proofs.addresses.Addresses.turn.Goals as goal
 
 pub returns-clause-due : goal.returns-clause-due
@@ -18,3 +18,6 @@ returns-clause-none g c = none_call c.args.now c.turn_first.result _ _ (ap (λ (
 
 pub returns-clause-later : goal.returns-clause-later
 returns-clause-later g c = later_call falls_of c.args.now _ c.turn_first.result _ _ (ap (λ (t : Table). t.addresses) c.self.view_is) c.turn_first.ensures.turns c.turn_first.ensures.same c.requires.none_before
+
+pub returns-clause-comes : goal.returns-clause-comes
+returns-clause-comes g c = comes_call falls_of c.args.now _ c.turn_first.result _ _ (ap (λ (t : Table). t.addresses) c.self.view_is) c.requires.none_before c.turn_first.ensures.turns
