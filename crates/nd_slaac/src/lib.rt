@@ -28,3 +28,6 @@ pub use own_address::OwnAddress;
 pub use renewing::renewed;
 pub use state::State;
 pub use taken::{Full, Taken};
+
+#[cfg(test)]
+mod tests;
