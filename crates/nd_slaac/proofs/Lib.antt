@@ -1,0 +1,15 @@
+pub mod First
+pub mod Stories
+pub mod Changes
+pub mod Steps
+pub mod Dues
+pub mod Turns
+pub mod TurnCalls
+pub mod Results
+pub mod Altering
+pub mod Shown
+pub mod Keys
+pub mod Room
+pub mod HeardPrefix
+pub mod Histories
+pub mod Unique

@@ -1,0 +1,8 @@
+use Rattle.nd_slaac.proofs.Unique.{one_table, one_due}
+use Rattle.nd_slaac.proofs.laws.one_answer.Goals as goal
+
+pub returns-clause-table : goal.returns-clause-table
+returns-clause-table c = one_table
+
+pub returns-clause-due : goal.returns-clause-due
+returns-clause-due c = one_due

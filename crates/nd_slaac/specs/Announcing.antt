@@ -1,0 +1,61 @@
+-- Which prefix options name an address, and which (RFC 4862, section 5.5.3; RFC 4291, section 2.5.1 and appendix A).
+use Rattle.std.specs.Prelude.{ℕ, ◌+◌, ◌==◌, nat_le, nat_lt, Bool, true, false, ◌&&◌, ◌||◌, not, if◌then◌else◌, List, [], ◌∷◌, replicate, length}
+use Rattle.nd_addr.specs.declared.mac.Mac.{Mac}
+use Rattle.nd_addr.specs.Number.{number_of, holds}
+use Rattle.nd_addr.specs.Kind.{multicast_prefix, link_local_prefix, address_from_mac}
+use Rattle.nd_decode.specs.declared.prefix_info.PrefixInfo.{PrefixInfo}
+use Rattle.nd_decode.specs.Option.{Said, prefix}
+use Rattle.nd_slaac.specs.Rows.{Lifetimes}
+
+-- the option is taken: it has the autonomous flag, its prefix is neither multicast nor link-local, its preferred
+-- lifetime isn't above the valid one, and with an identifier of 64 bits the prefix makes an address
+unfoldable pub is_taken : PrefixInfo → Bool
+is_taken info =
+    info.autonomous && not (holds multicast_prefix info.prefix.address.0) && not (holds link_local_prefix info.prefix.address.0)
+    && nat_le info.preferred_lifetime info.valid_lifetime && (info.prefix.length == 64)
+
+-- the address that the option names: its prefix and the identifier that comes of the link-layer address
+unfoldable pub named_by : Mac → PrefixInfo → ℕ
+named_by mac info = number_of (address_from_mac info.prefix.address.0 mac.0)
+
+-- the link-local address: fe80::/64 and that identifier (RFC 4862, section 5.3)
+unfoldable pub link_local_of : Mac → ℕ
+link_local_of mac = number_of (address_from_mac (0xfe ∷ 0x80 ∷ replicate 14 0) mac.0)
+
+abbrev pub lifetimes_of : PrefixInfo → Lifetimes
+lifetimes_of info = record { valid = info.valid_lifetime; preferred = info.preferred_lifetime }
+
+abbrev pub is_among : ℕ → List ℕ → Bool
+is_among key [] = false
+is_among key (k ∷ keys) = (k == key) || is_among key keys
+
+-- the option forms an address where that isn't known: it is taken, and its valid lifetime isn't 0
+abbrev pub is_forming : PrefixInfo → Bool
+is_forming info = is_taken info && not (info.valid_lifetime == 0)
+
+-- the option would form an address, where these are known
+abbrev pub would_form : Mac → List ℕ → PrefixInfo → Bool
+would_form mac keys info = is_forming info && not (is_among (named_by mac info) keys)
+
+-- there is room for each address that the options, taken in their order, would form
+abbrev pub fits_in : Mac → List ℕ → List PrefixInfo → Bool
+fits_in mac keys [] = true
+fits_in mac keys (info ∷ infos) =
+    if would_form mac keys info then (nat_lt (length keys) 64 && fits_in mac (named_by mac info ∷ keys) infos) else fits_in mac keys infos
+
+-- the same without a list of the new ones: some option forms the address
+abbrev pub is_formed_by : Mac → ℕ → List PrefixInfo → Bool
+is_formed_by mac key [] = false
+is_formed_by mac key (info ∷ infos) = (is_forming info && (named_by mac info == key)) || is_formed_by mac key infos
+
+-- and how many addresses would be new, each counted where the last option would form it
+abbrev pub new_in : Mac → List ℕ → List PrefixInfo → ℕ
+new_in mac keys [] = 0
+new_in mac keys (info ∷ infos) =
+    if would_form mac keys info && not (is_formed_by mac (named_by mac info) infos) then new_in mac keys infos + 1 else new_in mac keys infos
+
+-- the prefix options of a message, in order
+abbrev pub prefixes_in : List Said → List PrefixInfo
+prefixes_in [] = []
+prefixes_in (prefix info ∷ options) = info ∷ prefixes_in options
+prefixes_in (_ ∷ options) = prefixes_in options

@@ -1,0 +1,84 @@
+-- What each call makes of the table.
+use Rattle.std.specs.Prelude.{◌≡◌, ℕ, ◌+◌, ◌==◌, nat_lt, Bool, true, false, if◌then◌else◌, List, length, map, ◌<◌, slice_index_or, slice_set, Option, Some, None, Result, Ok, Err}
+use Rattle.std.specs.List.{insert}
+use Rattle.nd_addr.specs.declared.mac.Mac.{Mac}
+use Rattle.nd_keyed.specs.Keyed.{place_of}
+use Rattle.nd_decode.specs.declared.prefix_info.PrefixInfo.{PrefixInfo}
+use Rattle.nd_slaac.specs.declared.stage.Stage.{Stage}
+use Rattle.nd_slaac.specs.declared.stage.Stage.TheVariants.{Detecting, Failed, Passed}
+use Rattle.nd_slaac.specs.declared.taken.Taken.{Taken}
+use Rattle.nd_slaac.specs.declared.taken.Taken.TheVariants.{Formed, Renewed, Ignored}
+use Rattle.nd_slaac.specs.declared.taken.Full.{Full}
+use Rattle.nd_slaac.specs.Rows as rows
+use Rattle.nd_slaac.specs.Rows.{Row, Lifetimes, Happening}
+use Rattle.nd_slaac.specs.Ends.{end_after, renewed}
+use Rattle.nd_slaac.specs.Address.{Address}
+use Rattle.nd_slaac.specs.Table.{key_of, address_in, GainsRow}
+use Rattle.nd_slaac.specs.Announcing.{is_taken, named_by, lifetimes_of}
+
+-- the numbers of the addresses
+abbrev pub keys_in : List Address → List ℕ
+keys_in addresses = map key_of addresses
+
+-- an address as it is formed
+abbrev pub formed : ℕ → ℕ → ℕ → ℕ → Option Lifetimes → Address
+formed key now delay retrans None =
+    record { key = key; preferred_end = None; valid_end = None; stage = Detecting 0 (now + delay) retrans }
+formed key now delay retrans (Some lifetimes) =
+    record { key = key; preferred_end = end_after now lifetimes.preferred; valid_end = end_after now lifetimes.valid; stage = Detecting 0 (now + delay) retrans }
+
+-- an address whose prefix is announced again
+abbrev pub announced : ℕ → Lifetimes → Address → Address
+announced now lifetimes a =
+    record { key = a.key; preferred_end = end_after now lifetimes.preferred; valid_end = renewed now a.valid_end lifetimes.valid; stage = a.stage }
+
+-- an address that another node has
+abbrev pub failed : Address → Address
+failed a = record { key = a.key; preferred_end = a.preferred_end; valid_end = a.valid_end; stage = Failed }
+
+abbrev pub is_detecting : Stage → Bool
+is_detecting (Detecting sent due retrans) = true
+is_detecting Failed = false
+is_detecting Passed = false
+
+abbrev pub detects_in : Option Address → Bool
+detects_in None = false
+detects_in (Some a) = is_detecting a.stage
+
+-- the list with the address changed
+pub record Alters (key : ℕ) (change : Address → Address) (old new : List Address) : Type 0 where
+  pub at : ℕ
+  pub address : Address
+  pub within : at < length old
+  pub is : address ≡ slice_index_or old at address
+  pub found : address_in key old ≡ Some address
+  pub new_is : new ≡ slice_set old at (change address)
+
+-- what becomes of an option that is taken, by whether its address is known, its valid lifetime, and how many are known
+abbrev pub taken_by : Bool → ℕ → ℕ → Result Taken Full
+taken_by true valid count = Ok Renewed
+taken_by false valid count = if valid == 0 then Ok Ignored else if nat_lt count 64 then Ok Formed else Err (record {})
+
+-- what becomes of an option, where its address is known or not and so many are
+abbrev pub taken_of : PrefixInfo → Bool → ℕ → Result Taken Full
+taken_of info known count = if is_taken info then taken_by known info.valid_lifetime count else Ok Ignored
+
+-- the row that comes of an option, and none where it is ignored or refused
+abbrev pub row_taken : ℕ → Mac → PrefixInfo → ℕ → ℕ → Result Taken Full → Option Row
+row_taken now mac info delay retrans (Ok Formed) = Some (now, named_by mac info, rows.Formed delay retrans (Some (lifetimes_of info)))
+row_taken now mac info delay retrans (Ok Renewed) = Some (now, named_by mac info, rows.Announced (lifetimes_of info))
+row_taken now mac info delay retrans (Ok Ignored) = None
+row_taken now mac info delay retrans (Err full) = None
+
+-- the list gains the row, if there is one
+abbrev pub Gains : Option Row → List Address → List Address → Type 0
+Gains None old new = new ≡ old
+Gains (Some row) old new = GainsRow old new row
+
+-- the same of a list: the address changes, or comes into its place, or nothing does
+abbrev pub Changes : ℕ → ℕ → Lifetimes → ℕ → ℕ → Result Taken Full → List Address → List Address → Type 0
+Changes now key lifetimes delay retrans (Ok Formed) old new =
+    (address_in key old ≡ None) × (new ≡ insert old (place_of key_of key old) (formed key now delay retrans (Some lifetimes)))
+Changes now key lifetimes delay retrans (Ok Renewed) old new = Alters key (announced now lifetimes) old new
+Changes now key lifetimes delay retrans (Ok Ignored) old new = new ≡ old
+Changes now key lifetimes delay retrans (Err full) old new = new ≡ old

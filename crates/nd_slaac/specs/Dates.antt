@@ -1,0 +1,72 @@
+-- The same of what is kept: the dates of addresses, the first that falls due, and the next moment.
+use Rattle.std.specs.Prelude.{◌≡◌, ℕ, ◌+◌, ◌-◌, ◌<◌, nat_lt, Bool, false, ◌==◌, if◌then◌else◌, List, [], ◌∷◌, length, slice_index_or, slice_set, Option, Some, None}
+use Rattle.std.specs.List.{remove}
+use Rattle.nd_keyed.specs.Due.{lesser, NotBefore}
+use Rattle.nd_slaac.specs.declared.stage.Stage.{Stage}
+use Rattle.nd_slaac.specs.declared.stage.Stage.TheVariants.{Detecting, Failed, Passed}
+use Rattle.nd_slaac.specs.Address.{Address}
+use Rattle.nd_slaac.specs.Due.{transmits, Falls, Ends, Solicits, Assigns}
+
+abbrev pub end_date : Address → Option ℕ
+end_date a = a.valid_end
+
+abbrev pub stage_date : Stage → Option ℕ
+stage_date (Detecting sent due retrans) = Some due
+stage_date Failed = None
+stage_date Passed = None
+
+abbrev pub next_step : Address → Option ℕ
+next_step a = stage_date a.stage
+
+abbrev pub is_at : ℕ → Option ℕ → Bool
+is_at now None = false
+is_at now (Some date) = date == now
+
+-- the first of a list that has the date
+abbrev pub first_at : (Address → Option ℕ) → ℕ → List Address → Option Address
+first_at date now [] = None
+first_at date now (a ∷ addresses) = if is_at now (date a) then Some a else first_at date now addresses
+
+-- the least date of a list
+abbrev pub next_in : List Address → Option ℕ
+next_in [] = None
+next_in (a ∷ addresses) = lesser (lesser (end_date a) (next_step a)) (next_in addresses)
+
+-- nothing fell due before the moment
+abbrev pub NoneBefore : List Address → ℕ → Type 0
+NoneBefore addresses now = NotBefore now (next_in addresses)
+
+-- the step that an address takes
+abbrev pub falls_by : ℕ → Stage → Falls
+falls_by key (Detecting sent due retrans) = if nat_lt sent transmits then Solicits key else Assigns key
+falls_by key Failed = Ends key
+falls_by key Passed = Ends key
+
+-- and its stage afterwards
+abbrev pub stage_after : ℕ → Stage → Stage
+stage_after now (Detecting sent due retrans) = if nat_lt sent transmits then Detecting (sent + 1) (now + retrans) retrans else Passed
+stage_after now Failed = Failed
+stage_after now Passed = Passed
+
+abbrev pub stepped : ℕ → Address → Address
+stepped now a = record { key = a.key; preferred_end = a.preferred_end; valid_end = a.valid_end; stage = stage_after now a.stage }
+
+-- an address at a place of the list goes where its end has come, and else takes a step
+pub data Turns (now : ℕ) (old new : List Address) (what : Falls) : Type 0 where
+  Goes : (at : ℕ) (a : Address) → at < length old → a ≡ slice_index_or old at a → first_at end_date now old ≡ Some a → what ≡ Ends a.key → new ≡ remove old at → Turns now old new what
+  Steps : (at : ℕ) (a : Address) → at < length old → a ≡ slice_index_or old at a → first_at end_date now old ≡ None → first_at next_step now old ≡ Some a → what ≡ falls_by a.key a.stage → new ≡ slice_set old at (stepped now a) → Turns now old new what
+
+-- nothing of the list falls due at the moment
+pub record Rests (now : ℕ) (addresses : List Address) : Type 0 where
+  pub ends : first_at end_date now addresses ≡ None
+  pub steps : first_at next_step now addresses ≡ None
+
+-- how many turns an address can still take, where nothing else happens
+abbrev pub turns_to : Stage → ℕ
+turns_to (Detecting sent due retrans) = transmits - sent + 2
+turns_to Failed = 1
+turns_to Passed = 1
+
+abbrev pub turns_left : List Address → ℕ
+turns_left [] = 0
+turns_left (a ∷ addresses) = turns_to a.stage + turns_left addresses

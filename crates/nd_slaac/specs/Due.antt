@@ -1,0 +1,75 @@
+-- What falls due, asked of what happened (RFC 4862, sections 5.4.2 and 5.5.4).
+use Rattle.std.specs.Prelude.{◌≡◌, ℕ, ◌≤◌, ◌<◌, ◌⊎◌, true, List, Option, Some, None}
+use Rattle.nd_slaac.specs.Rows.{Row, Story, story, Happening, Solicited, Assigned, Ended}
+use Rattle.nd_slaac.specs.Ends.{valid_end}
+use Rattle.nd_slaac.specs.State.{Forming, forming_of, is_known, is_tentative, sent_of}
+use Rattle.nd_slaac.specs.Address.{step_at}
+
+-- how many solicitations a detection sends (RFC 4862, section 5.1, DupAddrDetectTransmits)
+abbrev pub transmits : ℕ
+transmits = 1
+
+-- an address falls due: its valid lifetime ends, a solicitation for it is to be sent, or it is assigned
+pub data Falls : Type 0 where
+  Ends : (key : ℕ) → Falls
+  Solicits : (key : ℕ) → Falls
+  Assigns : (key : ℕ) → Falls
+
+abbrev pub date_by : Option Forming → ℕ → Option ℕ
+date_by None sent = None
+date_by (Some f) sent = Some (step_at f sent)
+
+-- when the next step of a detection is due: one RetransTimer lies between a solicitation and the next step, and the
+-- first waits for the delay alone; both are those of the forming
+abbrev pub step_date : Story → Option ℕ
+step_date s = date_by (forming_of s) (sent_of s)
+
+-- a detection goes on, and its next step is due at the moment
+pub record IsStep (s : Story) (moment : ℕ) : Type 0 where
+  pub tentative : is_tentative s ≡ true
+  pub date : step_date s ≡ Some moment
+
+-- it falls due at the moment, and no row has come for it yet
+abbrev pub IsDue : List Row → ℕ → Falls → Type 0
+IsDue rows moment (Ends key) = (is_known (story key rows) ≡ true) × (valid_end (story key rows) ≡ Some moment)
+IsDue rows moment (Solicits key) = IsStep (story key rows) moment × (sent_of (story key rows) < transmits)
+IsDue rows moment (Assigns key) = IsStep (story key rows) moment × (transmits ≤ sent_of (story key rows))
+
+abbrev pub key_in : Falls → ℕ
+key_in (Ends key) = key
+key_in (Solicits key) = key
+key_in (Assigns key) = key
+
+-- ends come before all else
+abbrev pub pass_of : Falls → ℕ
+pass_of (Ends key) = 0
+pass_of (Solicits key) = 1
+pass_of (Assigns key) = 1
+
+-- the one comes before the other, or is of the same address and pass
+abbrev pub NotAfter : Falls → Falls → Type 0
+NotAfter a b = (pass_of a < pass_of b) ⊎ ((pass_of a ≡ pass_of b) × (key_in a ≤ key_in b))
+
+-- it falls due at the moment, and nothing that does comes before it
+pub record IsFirst (rows : List Row) (moment : ℕ) (falls : Falls) : Type 0 where
+  pub due : IsDue rows moment falls
+  pub first : (others : Falls) → IsDue rows moment others → NotAfter falls others
+
+abbrev pub FirstDue : List Row → ℕ → Option Falls → Type 0
+FirstDue rows moment None = (falls : Falls) → IsDue rows moment falls → ⊥
+FirstDue rows moment (Some falls) = IsFirst rows moment falls
+
+-- the moment is the first at which something falls due, if there is one
+abbrev pub NextDue : List Row → Option ℕ → Type 0
+NextDue rows None = (moment : ℕ) (falls : Falls) → IsDue rows moment falls → ⊥
+NextDue rows (Some next) = ((falls : Falls) × IsDue rows next falls) × ((moment : ℕ) (falls : Falls) → IsDue rows moment falls → next ≤ moment)
+
+-- what has come then
+abbrev pub happens : Falls → Happening
+happens (Ends key) = Ended
+happens (Solicits key) = Solicited
+happens (Assigns key) = Assigned
+
+-- the row that comes with it
+abbrev pub due_row : ℕ → Falls → Row
+due_row now falls = (now, key_in falls, happens falls)

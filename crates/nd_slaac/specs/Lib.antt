@@ -1,0 +1,12 @@
+pub mod Rows
+pub mod Ends
+pub mod State
+pub mod Address
+pub mod Table
+pub mod Due
+pub mod Dates
+pub mod Announcing
+pub mod Calls
+pub mod Seen
+pub mod View
+pub mod History

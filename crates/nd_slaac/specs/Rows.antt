@@ -1,0 +1,41 @@
+-- What happened to the addresses of an interface, the newest first, and the part of it that one address's story is.
+use Rattle.std.specs.Prelude.{ℕ, Bool, true, false, ◌==◌, if◌then◌else◌, List, [], ◌∷◌, Option}
+
+-- the lifetimes that a router announces for a prefix, in seconds (RFC 4861, section 4.6.2)
+pub record Lifetimes : Type 0 where
+  pub valid : ℕ
+  pub preferred : ℕ
+
+-- what happened to one address: each is something that came or was done, and no state
+pub data Happening : Type 0 where
+  -- it was formed: how long its first solicitation waits, the RetransTimer in force then, and the lifetimes of the
+  -- announcement that it was formed from; the link-local address is formed from none (RFC 4862, sections 5.3 and 5.5.3)
+  Formed : (delay retrans : ℕ) (lifetimes : Option Lifetimes) → Happening
+  -- its prefix was announced again (RFC 4862, section 5.5.3 e)
+  Announced : (lifetimes : Lifetimes) → Happening
+  -- a solicitation for it was sent (RFC 4862, section 5.4.2)
+  Solicited : Happening
+  -- another node turned out to have it, or to try for it (RFC 4862, sections 5.4.3 and 5.4.4)
+  Conflict : Happening
+  -- it was assigned to the interface (RFC 4862, section 5.4)
+  Assigned : Happening
+  -- its valid lifetime ended (RFC 4862, section 5.5.4)
+  Ended : Happening
+
+-- a moment, which address it happened to, and what it was
+abbrev pub Row : Type 0
+Row = ℕ × ℕ × Happening
+
+-- the story of one address: moments and what happened, the newest first
+abbrev pub Story : Type 0
+Story = List (ℕ × Happening)
+
+abbrev pub is_end : Happening → Bool
+is_end Ended = true
+is_end _ = false
+
+-- what happened to the address since it last ended
+abbrev pub story : ℕ → List Row → Story
+story key [] = []
+story key ((at, k, happening) ∷ rows) =
+    if k == key then (if is_end happening then [] else (at, happening) ∷ story key rows) else story key rows

@@ -1,0 +1,182 @@
+ghost use Rattle.std.specs.Prelude.{◌≡◌, ◌<◌, ◌^◌, true, None, Some};
+ghost use Rattle.nd_addr.specs.Number.{number_of};
+ghost use Rattle.nd_slaac.specs.Ends.{is_before};
+ghost use Rattle.nd_slaac.specs.Seen.{left};
+
+use crate::due::Due;
+use crate::own_address::OwnAddress;
+use crate::renewing::{end_after, renewed};
+use crate::stage::Stage;
+use crate::state::State;
+use nd_addr::Addr;
+use nd_decode::PrefixInfo;
+use std::marker::Model;
+
+/// How many solicitations a detection sends (RFC 4862, section 5.1, DupAddrDetectTransmits).
+const DUP_ADDR_DETECT_TRANSMITS: u8 = 1;
+
+/// An address that is known.
+#[derive(Drop)]
+pub(crate) struct Entry {
+    pub(crate) addr: Addr,
+    /// The end of its preferred lifetime, if it has one.
+    pub(crate) preferred_end: Option<u64>,
+    /// The end of its valid lifetime, if it has one.
+    pub(crate) valid_end: Option<u64>,
+    pub(crate) stage: Stage,
+}
+
+impl Model for Entry {
+    ghost use Rattle.nd_addr.specs.Number.{number_of};
+    ghost use Rattle.nd_slaac.specs.Address.{Address};
+
+    ghost Value = { Address };
+
+    ghost view = { λ e. record { key = number_of e.addr.0; preferred_end = e.preferred_end; valid_end = e.valid_end; stage = e.stage } };
+}
+
+/// Whether a moment is before an end, if there is one.
+fn is_before(now: u64, end: Option<u64>) -> bool
+    ensures { result ≡ is_before now end }
+{
+    match end {
+        None => true,
+        Some(end) => now < end,
+    }
+}
+
+/// What is left until an end, if there is one.
+fn left(now: u64, end: Option<u64>) -> Option<u64>
+    ensures { result ≡ left now end }
+{
+    match end {
+        None => None,
+        Some(end) => Some(end.saturating_sub(now)),
+    }
+}
+
+impl Entry {
+    ghost use Rattle.nd_slaac.specs.Address.{Address, state_in};
+    ghost use Rattle.nd_slaac.specs.Announcing.{lifetimes_of};
+    ghost use Rattle.nd_slaac.specs.Calls.{formed, announced, failed, is_detecting};
+    ghost use Rattle.nd_slaac.specs.Dates.{end_date, next_step, falls_by, stepped};
+    ghost use Rattle.nd_slaac.specs.Seen.{seen, state_at};
+    ghost use Rattle.nd_slaac.specs.View.{falls_of, seen_in};
+
+    /// The link-local address, which has no ends (RFC 4862, section 5.3).
+    pub(crate) fn link_local(addr: Addr, now: u64, delay: u32, retrans: u32) -> Self
+        requires { now < 2 ^ 62 }
+        ensures { result ≡ formed (number_of addr.0) now delay retrans None }
+    {
+        Entry {
+            addr,
+            preferred_end: None,
+            valid_end: None,
+            stage: Stage::begin(now, delay, retrans),
+        }
+    }
+
+    /// An address of a prefix that is announced (RFC 4862, section 5.5.3 d).
+    pub(crate) fn formed(addr: Addr, now: u64, info: &PrefixInfo, delay: u32, retrans: u32) -> Self
+        requires { now < 2 ^ 62 }
+        ensures { result ≡ formed (number_of addr.0) now delay retrans (Some (lifetimes_of info.now)) }
+    {
+        Entry {
+            addr,
+            preferred_end: end_after(now, info.preferred_lifetime),
+            valid_end: end_after(now, info.valid_lifetime),
+            stage: Stage::begin(now, delay, retrans),
+        }
+    }
+
+    /// The address.
+    pub(crate) fn addr(&self) -> Addr
+        ensures { number_of result.0 ≡ self.now.key }
+    {
+        self.addr
+    }
+
+    /// The end of its valid lifetime, if it has one.
+    pub(crate) fn valid_end(&self) -> Option<u64>
+        ensures { result ≡ end_date self.now }
+    {
+        self.valid_end
+    }
+
+    /// The date of the next step of its detection, if that goes on.
+    pub(crate) fn next_step(&self) -> Option<u64>
+        ensures { result ≡ next_step self.now }
+    {
+        match self.stage {
+            Stage::Detecting { due, .. } => Some(due),
+            Stage::Failed | Stage::Passed => None,
+        }
+    }
+
+    /// Whether its detection goes on.
+    pub(crate) fn is_detecting(&self) -> bool
+        ensures { result ≡ is_detecting self.now.stage }
+    {
+        matches!(self.stage, Stage::Detecting { .. })
+    }
+
+    /// The state at a moment (RFC 4862, section 2).
+    pub(crate) fn state(&self, now: u64) -> State
+        ensures { result ≡ state_at now self.now }
+    {
+        match self.stage {
+            Stage::Detecting { .. } => State::Tentative,
+            Stage::Failed => State::Duplicate,
+            Stage::Passed if is_before(now, self.preferred_end) => State::Preferred,
+            Stage::Passed => State::Deprecated,
+        }
+    }
+
+    /// What is shown of it at a moment.
+    pub(crate) fn shown(&self, now: u64) -> OwnAddress
+        ensures { seen_in result ≡ seen now self.now }
+    {
+        OwnAddress {
+            addr: self.addr,
+            state: self.state(now),
+            preferred_left: left(now, self.preferred_end),
+            valid_left: left(now, self.valid_end),
+        }
+    }
+
+    /// Its prefix is announced again (RFC 4862, section 5.5.3 e).
+    pub(crate) fn announce(&mut self, now: u64, info: &PrefixInfo)
+        requires { now < 2 ^ 62 }
+        ensures { self.new ≡ announced now (lifetimes_of info.now) self.old }
+    {
+        self.preferred_end = end_after(now, info.preferred_lifetime);
+        self.valid_end = renewed(now, self.valid_end, info.valid_lifetime);
+    }
+
+    /// Another node has it, or tries for it (RFC 4862, sections 5.4.3 and 5.4.4).
+    pub(crate) fn fail(&mut self)
+        ensures { self.new ≡ failed self.old }
+    {
+        self.stage = Stage::Failed;
+    }
+
+    /// The next step of its detection: a further solicitation, or the assignment.
+    pub(crate) fn step(&mut self, now: u64) -> Due
+        requires moment { now < 2 ^ 62 }
+        requires detecting { is_detecting self.old.stage ≡ true }
+        ensures entry { self.new ≡ stepped now self.old }
+        ensures due { falls_of result ≡ falls_by self.old.key self.old.stage }
+    {
+        match &mut self.stage {
+            Stage::Detecting { sent, due, retrans } if *sent < DUP_ADDR_DETECT_TRANSMITS => {
+                *sent += 1;
+                *due = now + u64::from(*retrans);
+                Due::Solicit(self.addr)
+            }
+            _ => {
+                self.stage = Stage::Passed;
+                Due::Assign(self.addr)
+            }
+        }
+    }
+}

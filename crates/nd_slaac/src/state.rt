@@ -1,0 +1,13 @@
+/// The state of an address (RFC 4862, sections 2 and 5.4). It is assigned to the interface where it is preferred or
+/// deprecated.
+#[derive(Clone, Copy, Debug, PartialEq, Eq)]
+pub enum State {
+    /// Duplicate address detection goes on.
+    Tentative,
+    /// It is assigned, and may be used freely.
+    Preferred,
+    /// It is assigned, and its preferred lifetime has ended.
+    Deprecated,
+    /// Another node has it, or tries for it. It stays so until its valid lifetime ends.
+    Duplicate,
+}
