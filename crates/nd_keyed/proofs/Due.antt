@@ -150,11 +150,11 @@ module _ {N : Type 0} (key : N → ℕ) (date : N → Option ℕ) where
       (λ _ g. let e : x ≡ m = cc in rest.0 (ap date e ∙ at)) (λ _ g. none_due now k ns m rest.1 g at) is
 
   -- the least moment isn't later than that of any entry
-  pub least_at_most : (k : ℕ) (ns : List N) (m : N) (moment : ℕ) → at_key key k ns ≡ Some m → date m ≡ Some moment → AtMost (least_date date ns) moment
+  pub least_at_most : (k : ℕ) (ns : List N) (m : N) (moment : ℕ) → at_key key k ns ≡ Some m → AtMost (date m) moment → AtMost (least_date date ns) moment
   least_at_most k [] m moment is at = absurd (cc)
   least_at_most k (x ∷ ns) m moment is at =
       cond_both (eqb (key x) k) (Some x) (at_key key k ns) (λ o. o ≡ Some m → AtMost (least_date date (x ∷ ns)) moment)
-      (λ _ e. let e' : x ≡ m = cc in AtMost-left (date x) (least_date date ns) moment (AtMost-same (date x) moment (ap date e' ∙ at)))
+      (λ _ e. let e' : x ≡ m = cc in AtMost-left (date x) (least_date date ns) moment (subst (λ (y : N). AtMost (date y) moment) (sym e') at))
       (λ _ e. AtMost-right (date x) (least_date date ns) moment (least_at_most k ns m moment e at)) is
 
   -- and it is that of an entry

@@ -119,13 +119,13 @@ module _ (ns : List Node) (rows : List Row) (s : Stands ns rows) where
   pub next_is_due : (next : Option ℕ) → next_in ns ≡ next → NextDue rows next
   next_is_due None is = λ moment key due.
       let d = due_node ns rows s moment key due in
-      AtMost-none (next_in ns) d.0.due is (least_at_most address date_of key ns d.0 d.0.due d.1 refl)
+      AtMost-none (next_in ns) d.0.due is (least_at_most address date_of key ns d.0 d.0.due d.1 (omega arith))
   next_is_due (Some next) is =
       let f = least_found address date_of ns next s.order is in (
         (f.0.key, subst (λ (m : ℕ). IsDue rows m f.0.key) (same_moment f.0.due next f.2) (node_due ns rows s f.0.key f.0 f.1)),
         λ moment key due.
             let d = due_node ns rows s moment key due in
-            subst (λ (m : ℕ). next ≤ m) d.2 (AtMost-some (next_in ns) d.0.due next is (least_at_most address date_of key ns d.0 d.0.due d.1 refl)),
+            subst (λ (m : ℕ). next ≤ m) d.2 (AtMost-some (next_in ns) d.0.due next is (least_at_most address date_of key ns d.0 d.0.due d.1 (omega arith))),
       )
 
 turns-set : (ns : List Node) (i : ℕ) (n m : Node) → i < length ns → n ≡ get_or ns i n → turns_left (set ns i m) + turns_to n.kept ≡ turns_left ns + turns_to m.kept

@@ -11,11 +11,12 @@ use Rattle.nd_slaac.specs.declared.stage.Stage.TheVariants.{Detecting, Failed, P
 use Rattle.nd_slaac.specs.Rows.{Row, Story, story, is_end}
 use Rattle.nd_slaac.specs.State.{Forming, forming_of, is_known, has_conflict, was_assigned, sent_of, is_tentative}
 use Rattle.nd_slaac.specs.Address.{Address, step_at, stage_by, address_of}
-use Rattle.nd_slaac.specs.Table.{address_in, Stands, GainsRow}
+use Rattle.nd_slaac.specs.Table.{key_of, address_in, Stands, GainsRow}
 use Rattle.nd_slaac.specs.Due.{transmits, Falls, Ends, Solicits, Assigns, IsStep, date_by, IsDue, key_in, pass_of, NotAfter, IsFirst, FirstDue, NextDue, happens, due_row}
-use Rattle.nd_slaac.specs.Dates.{end_date, stage_date, next_step, first_at, next_in, NoneBefore, falls_by, stage_after, stepped, Turns, Goes, Steps, Rests, turns_to, turns_left}
+use Rattle.nd_slaac.specs.Dates.{earlier, end_date, stage_date, next_step, first_at, next_in, NoneBefore, falls_by, stage_after, stepped, Turns, Goes, Steps, Rests, turns_to, turns_left}
 use Rattle.nd_slaac.specs.History.{IsTurn, MayCome}
-use Rattle.nd_slaac.proofs.First.{first_now, first_has, first_least, none_first, AtMost, AtMost-some, AtMost-none, at_most_end, at_most_step, next_at_most, next_found, earlier_than, NoneBefore-at, NoneBefore-set, NoneBefore-remove}
+use Rattle.nd_keyed.proofs.Due.{AtMost, AtMost-some, AtMost-none, due_now, due_has, due_least, none_due, least_at_most, least_found, lesser_is, NotBefore-both, NotBefore-set, NotBefore-remove}
+use Rattle.nd_slaac.proofs.First.{at_most_end, at_most_step, NoneBefore-at}
 use Rattle.nd_slaac.proofs.Stories.{made, was_formed, known_forming, formed_is, steps}
 use Rattle.nd_slaac.proofs.Changes.{when_stepped}
 use Rattle.nd_slaac.proofs.Steps.{changing, leaving}
@@ -126,57 +127,57 @@ step_first key falls others (inr e) pass le = rw e (inr (sym pass, le))
 module _ (xs : List Address) (rows : List Row) (s : Stands xs rows) where
   end_falls : (now : ℕ) (a : Address) → first_at end_date now xs ≡ Some a → IsFirst rows now (Ends a.key)
   end_falls now a first =
-      let has = first_has end_date now xs a s.order first in
+      let has = due_has key_of end_date now xs a s.order first in
       record {
-        due = end_due xs rows s now a.key a has (first_now end_date now xs a first);
+        due = end_due xs rows s now a.key a has (due_now end_date now xs a first);
         first = λ others due. end_before others due;
       }
     where
       end_before : (others : Falls) → IsDue rows now others → NotAfter (Ends a.key) others
-      end_before (Ends key) due = let d = due_address xs rows s now (Ends key) due in inr (refl, first_least end_date now key xs a d.0 s.order first d.1 d.2)
+      end_before (Ends key) due = let d = due_address xs rows s now (Ends key) due in inr (refl, due_least key_of end_date now key xs a d.0 s.order first d.1 d.2)
       end_before (Solicits key) due = inl (omega arith)
       end_before (Assigns key) due = inl (omega arith)
 
   step_falls : (now : ℕ) (a : Address) → first_at end_date now xs ≡ None → first_at next_step now xs ≡ Some a → IsFirst rows now (falls_by a.key a.stage)
   step_falls now a none first =
-      let has = first_has next_step now xs a s.order first in
+      let has = due_has key_of next_step now xs a s.order first in
       record {
-        due = kept_due xs rows s now a.key a has (first_now next_step now xs a first);
+        due = kept_due xs rows s now a.key a has (due_now next_step now xs a first);
         first = λ others due. step_before others due;
       }
     where
       which : (falls_by a.key a.stage ≡ Solicits a.key) ⊎ (falls_by a.key a.stage ≡ Assigns a.key)
-      which = stage_falls a.key now a.stage (first_now next_step now xs a first)
+      which = stage_falls a.key now a.stage (due_now next_step now xs a first)
 
       step_before : (others : Falls) → IsDue rows now others → NotAfter (falls_by a.key a.stage) others
-      step_before (Ends key) due = let d = due_address xs rows s now (Ends key) due in absurd (none_first end_date now key xs d.0 none d.1 d.2)
+      step_before (Ends key) due = let d = due_address xs rows s now (Ends key) due in absurd (none_due key_of end_date now key xs d.0 none d.1 d.2)
       step_before (Solicits key) due =
           let d = due_address xs rows s now (Solicits key) due in
-          step_first a.key (falls_by a.key a.stage) (Solicits key) which refl (first_least next_step now key xs a d.0 s.order first d.1 d.2)
+          step_first a.key (falls_by a.key a.stage) (Solicits key) which refl (due_least key_of next_step now key xs a d.0 s.order first d.1 d.2)
       step_before (Assigns key) due =
           let d = due_address xs rows s now (Assigns key) due in
-          step_first a.key (falls_by a.key a.stage) (Assigns key) which refl (first_least next_step now key xs a d.0 s.order first d.1 d.2)
+          step_first a.key (falls_by a.key a.stage) (Assigns key) which refl (due_least key_of next_step now key xs a d.0 s.order first d.1 d.2)
 
   pub turn_falls : (now : ℕ) (new : List Address) (what : Falls) → Turns now xs new what → IsFirst rows now what
   turn_falls now new what (Goes i a lt is first what_is new_is) = subst (IsFirst rows now) (sym what_is) (end_falls now a first)
   turn_falls now new what (Steps i a lt is none first what_is new_is) = subst (IsFirst rows now) (sym what_is) (step_falls now a none first)
 
   pub rest_falls : (now : ℕ) → Rests now xs → FirstDue rows now None
-  rest_falls now rests (Ends key) due = let d = due_address xs rows s now (Ends key) due in none_first end_date now key xs d.0 rests.ends d.1 d.2
-  rest_falls now rests (Solicits key) due = let d = due_address xs rows s now (Solicits key) due in none_first next_step now key xs d.0 rests.steps d.1 d.2
-  rest_falls now rests (Assigns key) due = let d = due_address xs rows s now (Assigns key) due in none_first next_step now key xs d.0 rests.steps d.1 d.2
+  rest_falls now rests (Ends key) due = let d = due_address xs rows s now (Ends key) due in none_due key_of end_date now key xs d.0 rests.ends d.1 d.2
+  rest_falls now rests (Solicits key) due = let d = due_address xs rows s now (Solicits key) due in none_due key_of next_step now key xs d.0 rests.steps d.1 d.2
+  rest_falls now rests (Assigns key) due = let d = due_address xs rows s now (Assigns key) due in none_due key_of next_step now key xs d.0 rests.steps d.1 d.2
 
   -- a date of the table isn't before the next one
   next_least : (moment : ℕ) (falls : Falls) → IsDue rows moment falls → AtMost (next_in xs) moment
-  next_least moment (Ends key) due = let d = due_address xs rows s moment (Ends key) due in next_at_most key moment xs d.0 d.1 (at_most_end moment d.0 d.2)
-  next_least moment (Solicits key) due = let d = due_address xs rows s moment (Solicits key) due in next_at_most key moment xs d.0 d.1 (at_most_step moment d.0 d.2)
-  next_least moment (Assigns key) due = let d = due_address xs rows s moment (Assigns key) due in next_at_most key moment xs d.0 d.1 (at_most_step moment d.0 d.2)
+  next_least moment (Ends key) due = let d = due_address xs rows s moment (Ends key) due in least_at_most key_of earlier key xs d.0 moment d.1 (at_most_end moment d.0 d.2)
+  next_least moment (Solicits key) due = let d = due_address xs rows s moment (Solicits key) due in least_at_most key_of earlier key xs d.0 moment d.1 (at_most_step moment d.0 d.2)
+  next_least moment (Assigns key) due = let d = due_address xs rows s moment (Assigns key) due in least_at_most key_of earlier key xs d.0 moment d.1 (at_most_step moment d.0 d.2)
 
   pub next_is_due : (next : Option ℕ) → next_in xs ≡ next → NextDue rows next
   next_is_due None is = λ moment falls due. AtMost-none (next_in xs) moment is (next_least moment falls due)
   next_is_due (Some next) is =
-      let f = next_found xs next s.order is in (
-        elim f.2 [
+      let f = least_found key_of earlier xs next s.order is in (
+        elim (lesser_is (end_date f.0) (next_step f.0) next f.2) [
           | inl e ↦ (Ends f.0.key, end_due xs rows s next f.0.key f.0 f.1 e)
           | inr e ↦ (falls_by f.0.key f.0.stage, kept_due xs rows s next f.0.key f.0 f.1 e)
         ],
@@ -213,11 +214,11 @@ pub turn_gains : (now : ℕ) (old new : List Address) (what : Falls) → Turns n
 turn_gains now old new what (Goes i a lt is first what_is new_is) =
     subst (λ (f : Falls). GainsRow old new (due_row now f)) (sym what_is) (leaving old new a.key now i a lt is refl new_is)
 turn_gains now old new what (Steps i a lt is none first what_is new_is) =
-    let at : next_step a ≡ Some now = first_now next_step now old a first in
+    let at : next_step a ≡ Some now = due_now next_step now old a first in
     let which = stage_falls a.key now a.stage at in
     let gains : GainsRow old new (now, a.key, happens (falls_by a.key a.stage)) =
     changing old new a.key now (happens (falls_by a.key a.stage)) i a (stepped now a) (step_stays (falls_by a.key a.stage) a.key which) lt is refl refl new_is
-    (λ rows s. first_has next_step now old a s.order first) (λ s there. when_stepped a.key now s a there at) in
+    (λ rows s. due_has key_of next_step now old a s.order first) (λ s there. when_stepped a.key now s a there at) in
     subst (λ (f : Falls). GainsRow old new (due_row now f)) (sym what_is) (subst (GainsRow old new) (sym (stepped_falls now a which)) gains)
 
 turns-set : (xs : List Address) (i : ℕ) (a m : Address) → i < length xs → a ≡ get_or xs i a → turns_left (set xs i m) + turns_to a.stage ≡ turns_left xs + turns_to m.stage
@@ -247,7 +248,7 @@ fewer_to now (Detecting sent due retrans) h = elim (either (ltb sent transmits))
 pub turn_fewer : (now : ℕ) (old new : List Address) (what : Falls) → Turns now old new what → turns_left new < turns_left old
 turn_fewer now old new what (Goes i a lt is first what_is new_is) = rw new_is (omega (arith, turns-remove old i a lt is, some_turn a.stage))
 turn_fewer now old new what (Steps i a lt is none first what_is new_is) =
-    rw new_is (omega (arith, turns-set old i a (stepped now a) lt is, fewer_to now a.stage (first_now next_step now old a first)))
+    rw new_is (omega (arith, turns-set old i a (stepped now a) lt is, fewer_to now a.stage (due_now next_step now old a first)))
 
 later_to : (now : ℕ) (st : Stage) → NotBefore now (stage_date (stage_after now st))
 later_to now Failed = tt
@@ -259,6 +260,6 @@ later_to now (Detecting sent due retrans) = elim (either (ltb sent transmits)) [
 
 -- after a turn nothing is due before the moment
 pub turn_later : (now : ℕ) (old new : List Address) (what : Falls) → Turns now old new what → NoneBefore old now → NoneBefore new now
-turn_later now old new what (Goes i a lt is first what_is new_is) h = rw new_is (NoneBefore-remove now old i h)
+turn_later now old new what (Goes i a lt is first what_is new_is) h = rw new_is (NotBefore-remove earlier now old i h)
 turn_later now old new what (Steps i a lt is none first what_is new_is) h =
-    rw new_is (NoneBefore-set now old i (stepped now a) h (earlier_than now (stepped now a) (NoneBefore-at now old i a h lt is) (later_to now a.stage)))
+    rw new_is (NotBefore-set earlier now old i (stepped now a) h (NotBefore-both now (end_date (stepped now a)) (next_step (stepped now a)) (NoneBefore-at now old i a h lt is) (later_to now a.stage)))

@@ -1,9 +1,8 @@
 -- What is shown of the addresses.
-use Rattle.std.proofs.Common.{◌≡◌, ℕ, Bool, true, false, cond, eqb, List, [], ◌∷◌, Option, Some, None, refl, ◌∙◌, ap, inl, inr}
+use Rattle.std.proofs.Common.{◌≡◌, ℕ, Bool, true, false, cond, List, Option, Some, None, refl, ◌∙◌, ap}
 use Rattle.std.specs.Prelude.{map, is_some}
 use Rattle.std.specs.Option.{option_map}
-use Rattle.nd_keyed.specs.Keyed.{at_key, AllAbove, Rises}
-use Rattle.nd_keyed.proofs.Cases.{either}
+use Rattle.nd_keyed.proofs.Mapped.{at_key-map, Rises-map}
 use Rattle.nd_slaac.specs.Rows.{Row, story}
 use Rattle.nd_slaac.specs.Ends.{preferred_end, valid_end}
 use Rattle.nd_slaac.specs.State.{Forming, forming_of, has_conflict, was_assigned, sent_of, state_by}
@@ -25,23 +24,8 @@ seen_by_rows key t xs rows s =
     let st = story key rows in
     ap (option_map (seen t)) (s.each key) ∙ seen_by key t (forming_of st) (has_conflict st) (was_assigned st) (sent_of st) (preferred_end st) (valid_end st)
 
-shown_each : (key t : ℕ) (xs : List Address) → at_key seen_key key (map (seen t) xs) ≡ option_map (seen t) (address_in key xs)
-shown_each key t [] = refl
-shown_each key t (x ∷ xs) = elim (either (eqb x.key key)) [
-  | inl e ↦ rw e refl
-  | inr e ↦ rw e (shown_each key t xs)
-]
-
-shown_above : (key t : ℕ) (xs : List Address) → AllAbove key_of key xs → AllAbove seen_key key (map (seen t) xs)
-shown_above key t [] h = tt
-shown_above key t (x ∷ xs) h = (h.0, shown_above key t xs h.1)
-
-shown_rise : (t : ℕ) (xs : List Address) → Rises key_of xs → Rises seen_key (map (seen t) xs)
-shown_rise t [] h = tt
-shown_rise t (x ∷ xs) h = (shown_above x.key t xs h.0, shown_rise t xs h.1)
-
 pub lists_all : (t : ℕ) (xs : List Address) (rows : List Row) (shown : List Seen) → shown ≡ map (seen t) xs → Stands xs rows → Lists rows t shown
 lists_all t xs rows shown is s = rw is (record {
-  each = λ key. shown_each key t xs ∙ seen_by_rows key t xs rows s;
-  order = shown_rise t xs s.order;
+  each = λ key. at_key-map key_of seen_key (seen t) (λ a. refl) key xs ∙ seen_by_rows key t xs rows s;
+  order = Rises-map key_of seen_key (seen t) (λ a. refl) xs s.order;
 })

@@ -9,7 +9,7 @@ use Rattle.nd_slaac.specs.Address.{Address}
 use Rattle.nd_slaac.specs.Due.{Falls, Ends}
 use Rattle.nd_slaac.specs.Dates.{end_date, next_step, stage_date, first_at, falls_by, stepped, Turns, Goes, Steps}
 use Rattle.nd_slaac.specs.Calls.{is_detecting}
-use Rattle.nd_slaac.proofs.First.{first_now}
+use Rattle.nd_keyed.proofs.Due.{due_now}
 
 first_is : (date : Address → Option ℕ) (now : ℕ) (xs : List Address) (i : ℕ) (a : Address) → i < length xs → first_at date now xs ≡ slice_get xs i → a ≡ get_or xs i a → first_at date now xs ≡ Some a
 first_is date now xs i a lt first is = first ∙ (slice_get-get_or xs i a lt ∙ ap Some (sym is))
@@ -25,7 +25,7 @@ detects Passed now h = absurd (cc)
 
 -- its detection goes on
 pub goes_on : (now : ℕ) (xs : List Address) (i : ℕ) (a : Address) → i < length xs → first_at next_step now xs ≡ slice_get xs i → a ≡ get_or xs i a → is_detecting a.stage ≡ true
-goes_on now xs i a lt first is = detects a.stage now (first_now next_step now xs a (first_is next_step now xs i a lt first is))
+goes_on now xs i a lt first is = detects a.stage now (due_now next_step now xs a (first_is next_step now xs i a lt first is))
 
 -- and it takes a step
 pub stepped_on : (now : ℕ) (xs new : List Address) (i : ℕ) (a m : Address) (what : Falls) → i < length xs → first_at end_date now xs ≡ None → first_at next_step now xs ≡ slice_get xs i → a ≡ get_or xs i a → m ≡ stepped now a → what ≡ falls_by a.key a.stage → new ≡ set xs i m → Turns now xs new what

@@ -1,7 +1,8 @@
 -- The same of what is kept: the dates of addresses, the first that falls due, and the next moment.
-use Rattle.std.specs.Prelude.{◌≡◌, ℕ, ◌+◌, ◌-◌, ◌<◌, nat_lt, Bool, false, ◌==◌, if◌then◌else◌, List, [], ◌∷◌, length, slice_index_or, slice_set, Option, Some, None}
+use Rattle.std.specs.Prelude.{◌≡◌, ℕ, ◌+◌, ◌-◌, ◌<◌, nat_lt, if◌then◌else◌, List, [], ◌∷◌, length, slice_index_or, slice_set, Option, Some, None}
 use Rattle.std.specs.List.{remove}
-use Rattle.nd_keyed.specs.Due.{lesser, NotBefore}
+use Rattle.nd_keyed.specs.Due as due
+use Rattle.nd_keyed.specs.Due.{lesser, least_date, NotBefore}
 use Rattle.nd_slaac.specs.declared.stage.Stage.{Stage}
 use Rattle.nd_slaac.specs.declared.stage.Stage.TheVariants.{Detecting, Failed, Passed}
 use Rattle.nd_slaac.specs.Address.{Address}
@@ -18,19 +19,17 @@ stage_date Passed = None
 abbrev pub next_step : Address → Option ℕ
 next_step a = stage_date a.stage
 
-abbrev pub is_at : ℕ → Option ℕ → Bool
-is_at now None = false
-is_at now (Some date) = date == now
+-- either date of an address
+abbrev pub earlier : Address → Option ℕ
+earlier a = lesser (end_date a) (next_step a)
 
 -- the first of a list that has the date
 abbrev pub first_at : (Address → Option ℕ) → ℕ → List Address → Option Address
-first_at date now [] = None
-first_at date now (a ∷ addresses) = if is_at now (date a) then Some a else first_at date now addresses
+first_at date now addresses = due.first_at date now addresses
 
 -- the least date of a list
 abbrev pub next_in : List Address → Option ℕ
-next_in [] = None
-next_in (a ∷ addresses) = lesser (lesser (end_date a) (next_step a)) (next_in addresses)
+next_in addresses = least_date earlier addresses
 
 -- nothing fell due before the moment
 abbrev pub NoneBefore : List Address → ℕ → Type 0

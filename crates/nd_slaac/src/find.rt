@@ -1,9 +1,9 @@
 ghost use Rattle.std.specs.Prelude.{◌≡◌, ◌<◌, ◌≤◌, length, slice_get, IfSome, IfNone, None};
 ghost use Rattle.nd_addr.specs.Number.{number_of};
 ghost use Rattle.nd_keyed.specs.Keyed.{place_of};
-ghost use Rattle.nd_keyed.specs.Due.{lesser};
+ghost use Rattle.nd_keyed.specs.Due.{lesser, is_at};
 ghost use Rattle.nd_slaac.specs.Table.{key_of, address_in};
-ghost use Rattle.nd_slaac.specs.Dates.{end_date, next_step, first_at, is_at, next_in};
+ghost use Rattle.nd_slaac.specs.Dates.{end_date, next_step, first_at, next_in};
 
 use crate::entry::Entry;
 use crate::same::compare;
