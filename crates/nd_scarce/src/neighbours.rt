@@ -57,7 +57,15 @@ fn run(rt: &impl Abort, heap: &LocalHeap) -> Option<Call> {
         return Some(Call::Frame);
     };
     match cache.used(0, addr(2), first, TIMES) {
-        Ok(sent) => assert!(rt; matches!(sent, Use::Queued { solicit: true, replaced: None })),
+        Ok(sent) => assert!(rt;
+            matches!(
+                sent,
+                Use::Queued {
+                    solicit: true,
+                    replaced: None
+                }
+            )
+        ),
         Err((refusal, back)) => {
             // The frame comes back, and the cache is as it was.
             assert!(rt; refusal == CacheRefusal::Memory);

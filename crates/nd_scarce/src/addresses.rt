@@ -1,0 +1,54 @@
+use linked_list_allocator::LocalHeap;
+use nd_addr::{Addr, Mac};
+use nd_slaac::{Addresses, State};
+use std::process::Abort;
+use std::test::*;
+
+const MAC: Mac = Mac([0x34, 0x56, 0x78, 0x9a, 0xbc, 0xde]);
+
+/// The calls that take memory, in the order in which a run makes them.
+#[derive(Clone, Copy, Debug, PartialEq, Eq)]
+enum Call {
+    Start,
+    Rows,
+}
+
+/// The addresses of an interface that starts: the first call for which there is no memory.
+fn run(rt: &impl Abort, heap: &LocalHeap) -> Option<Call> {
+    let Ok(mut addresses) = Addresses::start(heap, 0, MAC, 0, 1000) else {
+        return Some(Call::Start);
+    };
+    let addr = Addr([
+        0xfe, 0x80, 0, 0, 0, 0, 0, 0, 0x36, 0x56, 0x78, 0xff, 0xfe, 0x9a, 0xbc, 0xde,
+    ]);
+    assert!(rt; addresses.state(0, addr) == Some(State::Tentative));
+    // A conflict takes no memory.
+    assert!(rt; addresses.conflict(addr));
+    match addresses.rows(0) {
+        Ok(rows) => assert!(rt; rows.len() == 1),
+        Err(_) => {
+            assert!(rt; addresses.state(0, addr) == Some(State::Duplicate));
+            return Some(Call::Rows);
+        }
+    }
+    None
+}
+
+#[test]
+fn each_request_of_the_addresses_is_refused_once(rt: HostRuntime) -> Result<(), Fail> {
+    let mut refused = [false; 2];
+    let mut whole = false;
+    for units in 0..400usize {
+        let heap = LocalHeap::new(rt.alloc(), 16 * units)?;
+        match run(&rt, &heap) {
+            None => whole = true,
+            Some(call) => {
+                assert!(rt; !whole);
+                refused[call as usize] = true;
+            }
+        }
+    }
+    assert!(rt; whole);
+    assert_eq!(rt; refused, [true; 2]);
+    Ok(())
+}
