@@ -1,5 +1,5 @@
 -- What a history says of an address that is tentative, and of one that is assigned.
-use Rattle.std.proofs.Common.{◌≡◌, ℕ, ◌+◌, ◌*◌, ◌<◌, ◌≤◌, Bool, true, false, eqb, ltb, List, [], ◌∷◌, length, Option, Some, None, refl, sym, ◌∙◌, ap, subst, arith, suc, inl, inr}
+use Rattle.std.proofs.Common.{◌≡◌, ℕ, ◌+◌, ◌-◌, ◌*◌, ◌<◌, ◌≤◌, Bool, true, false, eqb, ltb, List, [], ◌∷◌, length, Option, Some, None, refl, sym, ◌∙◌, ap, subst, arith, suc, inl, inr}
 use Rattle.std.specs.Prelude.{◌&&◌, not}
 use Rattle.std.proofs.lemmas.Bool.Decides.{nat_tests}
 use Rattle.std.proofs.lemmas.Bool.{true≢false, eqb-true, eq-eqb}
@@ -207,7 +207,11 @@ module _ (key : ℕ) (row : Row) (rows : List Row) where
     over = held.over;
     assigned_at = inr held.assigned_at;
     tried = held.tried;
-    date = held.date;
+    sent = held.sent;
+    earlier = held.earlier;
+    solicited_at = held.solicited_at;
+    solicited_since = held.solicited_since;
+    wait = held.wait;
     valid = held.valid;
     since = λ h p q. elim p [
       | inl e ↦ ap (λ l. is_assigned (story key l)) e ∙ now
@@ -246,6 +250,9 @@ module _ (key at : ℕ) (rows : List Row) (history : IsHistory rows) (before : i
       let t = tried key rows history step.0.tentative in
       let sent_is : sent_of s ≡ transmits = omega (arith, t.few, step.1) in
       let parts = tentative_parts s step.0.tentative in
+      let was : Tried key rows t.formed t.delay t.retrans transmits t.lifetimes t.below = subst (λ (n : ℕ). Tried key rows t.formed t.delay t.retrans n t.lifetimes t.below) sent_is t.tried in
+      let last = was.solicited (transmits - 1) (omega arith) in
+      let date : at ≡ t.formed + t.delay + transmits * t.retrans = date_is s t.formed t.delay t.retrans at t.forming step.0.date ∙ ap (λ n. t.formed + t.delay + n * t.retrans) sent_is in
       record {
         formed = t.formed;
         delay = t.delay;
@@ -255,8 +262,12 @@ module _ (key at : ℕ) (rows : List Row) (history : IsHistory rows) (before : i
         assigned = at;
         over = rows;
         assigned_at = inl refl;
-        tried = subst (λ (n : ℕ). Tried key rows t.formed t.delay t.retrans n t.lifetimes t.below) sent_is t.tried;
-        date = date_is s t.formed t.delay t.retrans at t.forming step.0.date ∙ ap (λ n. t.formed + t.delay + n * t.retrans) sent_is;
+        tried = was;
+        sent = t.formed + t.delay + (transmits - 1) * t.retrans;
+        earlier = last.0;
+        solicited_at = last.1;
+        solicited_since = last.2;
+        wait = omega (arith, date);
         valid = before_end rows key at (valid_end s) refl parts.0 may;
         since = λ h p q. ap (λ l. is_assigned (story key l)) (past-same h (at, key, Assigned) rows p q) ∙ now;
       }

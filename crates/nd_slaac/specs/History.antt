@@ -41,7 +41,7 @@ pub record Tried (key : ℕ) (rows : List Row) (formed delay retrans sent : ℕ)
   -- and no other
   pub only : (moment : ℕ) (earlier : List Row) → Past ((moment, key, Solicited) ∷ earlier) rows → Past ((formed, key, Formed delay retrans lifetimes) ∷ below) earlier → moment + retrans ≤ formed + delay + sent * retrans
 
--- The address holds: it was tried, was assigned one RetransTimer after the last solicitation and before its valid
+-- The address holds: it was tried, was assigned one RetransTimer after its last solicitation and before its valid
 -- lifetime ended, and has been assigned at each place since then.
 pub record Held (key : ℕ) (rows : List Row) : Type 0 where
   pub formed : ℕ
@@ -53,6 +53,10 @@ pub record Held (key : ℕ) (rows : List Row) : Type 0 where
   pub over : List Row
   pub assigned_at : Past ((assigned, key, Assigned) ∷ over) rows
   pub tried : Tried key over formed delay retrans transmits lifetimes below
-  pub date : assigned ≡ formed + delay + transmits * retrans
+  pub sent : ℕ
+  pub earlier : List Row
+  pub solicited_at : Past ((sent, key, Solicited) ∷ earlier) over
+  pub solicited_since : Past ((formed, key, Formed delay retrans lifetimes) ∷ below) earlier
+  pub wait : assigned ≡ sent + retrans
   pub valid : is_before assigned (valid_end (story key over)) ≡ true
   pub since : (h : List Row) → Past h rows → Past ((assigned, key, Assigned) ∷ over) h → is_assigned (story key h) ≡ true
