@@ -1,0 +1,11 @@
+//! What stands of announcements that have a lifetime: one definition for routers, prefixes, DNS servers and search names (RFC 4861,
+//! section 6.3.4; RFC 8106, section 6).
+#![tactic(auto)]
+
+mod changing;
+mod kept;
+mod names;
+
+pub use changing::{announce, drop_ended, end_time, has, remove, renew};
+pub use kept::Kept;
+pub use names::Names;
