@@ -1,3 +1,4 @@
 pub mod Finding
 pub mod Order
 pub mod Steps
+pub mod Unique

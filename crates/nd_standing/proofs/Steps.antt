@@ -126,3 +126,98 @@ module _ {K : Type 0} (same : K → K → Bool) (tells : Tells same) where
   gains_silently old rows now key w le s = record {
     lists = λ t later. lists_later (announced same now key w old) (Announced now key w ∷ rows) now (told_lists (open_at now old) rows now (s.lists now le) key w) t later;
   }
+
+  -- each entry hasn't ended
+  abbrev pub AllOpen : List (Kept K) → ℕ → Type 0
+  AllOpen [] now = Unit {0}
+  AllOpen (e ∷ es) now = (is_before now e.end ≡ true) × AllOpen es now
+
+  open_all : (es : List (Kept K)) (now : ℕ) → AllOpen es now → open_at now es ≡ es
+  open_all [] now h = refl
+  open_all (e ∷ es) now h = cond-true (is_before now e.end) (e ∷ open_at now es) (open_at now es) h.0 ∙ ap (λ (xs : List (Kept K)). e ∷ xs) (open_all es now h.1)
+
+  -- of entries none of which has ended each is found open
+  open_in : (now : ℕ) (key : K) (es : List (Kept K)) → AllOpen es now → Has same tells es key → is_open (end_in same key es) now ≡ true
+  open_in now key [] s h = absurd (true≢false (sym h))
+  open_in now key (e ∷ es) s h =
+      cond_both (same e.key key) (Some e.end) (end_in same key es) (λ (o : Option (Option ℕ)). is_some o ≡ true → is_open o now ≡ true) (λ _ _. s.0) (λ _ h'. open_in now key es s.1 h') h
+
+  open_of : (a b : Option (Option ℕ)) (now : ℕ) → a ≡ b → cond (is_open a now) a None ≡ cond (is_open b now) b None
+  open_of a b now is = rw is refl
+
+  -- what hasn't ended of the entries is what stands
+  pub lists_at : (es : List (Kept K)) (rows : List (Row K)) (now : ℕ) → Stands same es rows → Lists same rows now (open_at now es)
+  lists_at es rows now s = record {
+    ends = λ key. end_in-open same tells now key es (distinct_of same tells _ es s.order) ∙ open_of (end_in same key es) (end_of same key rows) now (s.ends key);
+    order = Rises-filter same tells _ _ es s.order;
+  }
+
+  back : (b : Bool) (now : ℕ) (end : Option ℕ) (a o : Option (Option ℕ)) (n : Option (Option ℕ)) → n ≡ cond (is_open (cond b a o) now) (cond b a o) None → (b ≡ true → cond (is_open a now) a None ≡ a) → (b ≡ false → cond (is_open o now) o None ≡ o) → n ≡ cond b a o
+  back true now end a o n is h k = is ∙ h refl
+  back false now end a o n is h k = is ∙ k refl
+
+  after_open : (now w : ℕ) → cond (is_open (end_after now w) now) (end_after now w) None ≡ end_after now w
+  after_open now w = cond_both (eqb w 0) None (Some (end_time now w)) (λ (o : Option (Option ℕ)). cond (is_open o now) o None ≡ o)
+      (λ _. refl) (λ n. cond-true (is_before now (end_time now w)) (Some (end_time now w)) None (lasts now w n))
+
+  stays_open : (o : Option (Option ℕ)) (now : ℕ) → (is_some o ≡ true → is_open o now ≡ true) → cond (is_open o now) o None ≡ o
+  stays_open None now h = refl
+  stays_open (Some e) now h = cond-true (is_before now e) (Some e) None (h refl)
+
+  -- a list whose keys are ended by rows gains an announcement, where none of them has ended
+  pub gains : (es : List (Kept K)) (rows : List (Row K)) (now : ℕ) (key : K) (w : ℕ) → AllOpen es now → Stands same es rows → Stands same (announced same now key w es) (Announced now key w ∷ rows)
+  gains es rows now key w opened s =
+      let l = told_lists (open_at now es) rows now (lists_at es rows now s) key w in
+      record {
+        ends = λ k. back (same key k) now None (end_after now w) (end_of same k rows) (end_in same k (announced same now key w es)) (l.ends k) (λ _. after_open now w)
+            (λ _. stays_open (end_of same k rows) now (λ h. ap (λ o. is_open o now) (sym (s.ends k)) ∙ open_in now k es opened (ap is_some (s.ends k) ∙ h)));
+        order = l.order;
+      }
+
+  -- and a row that ends a key
+  pub ends : (es : List (Kept K)) (rows : List (Row K)) (now : ℕ) (key : K) → Stands same es rows → Stands same (without same key es) (Ended now key ∷ rows)
+  ends es rows now key s = record {
+    ends = λ k. end_in-without same tells k key es ∙ ap (λ o. cond (same key k) None o) (s.ends k);
+    order = Rises-filter same tells _ _ es s.order;
+  }
+
+  AllOpen-filter : (now : ℕ) (p : Kept K → Bool) (es : List (Kept K)) → AllOpen es now → AllOpen (filter p es) now
+  AllOpen-filter now p [] h = tt
+  AllOpen-filter now p (e ∷ es) h =
+      let rest = AllOpen-filter now p es h.1 in
+      cond_both (p e) (e ∷ filter p es) (filter p es) (λ xs. AllOpen xs now) (λ _. (h.0, rest)) (λ _. rest)
+
+  AllOpen-renewed : (now : ℕ) (key : K) (end : Option ℕ) (es : List (Kept K)) → AllOpen es now → is_before now end ≡ true → AllOpen (map (renewed same key end) es) now
+  AllOpen-renewed now key end [] h b = tt
+  AllOpen-renewed now key end (e ∷ es) h b =
+      (cond_both (same e.key key) end e.end (λ o. is_before now o ≡ true) (λ _. b) (λ _. h.0), AllOpen-renewed now key end es h.1 b)
+
+  AllOpen-push : (now : ℕ) (es : List (Kept K)) (e : Kept K) → AllOpen es now → is_before now e.end ≡ true → AllOpen (es ++ e ∷ []) now
+  AllOpen-push now [] e h b = (b, tt)
+  AllOpen-push now (x ∷ es) e h b = (h.0, AllOpen-push now es e h.1 b)
+
+  pub AllOpen-open : (now : ℕ) (es : List (Kept K)) → AllOpen (open_at now es) now
+  AllOpen-open now [] = tt
+  AllOpen-open now (e ∷ es) =
+      let rest = AllOpen-open now es in
+      cond_both (is_before now e.end) (e ∷ open_at now es) (open_at now es) (λ xs. AllOpen xs now) (λ h. (h, rest)) (λ _. rest)
+
+  -- behind an announcement nothing has ended
+  pub AllOpen-announced : (now : ℕ) (key : K) (w : ℕ) (es : List (Kept K)) → AllOpen (announced same now key w es) now
+  AllOpen-announced now key w es =
+      let opened = AllOpen-open now es in
+      let xs = open_at now es in
+      cond_both (eqb w 0) (without same key xs) (cond (is_some (end_in same key xs)) (map (renewed same key (end_time now w)) xs) (xs ++ record { key = key; end = end_time now w } ∷ [])) (λ ys. AllOpen ys now)
+      (λ _. AllOpen-filter now _ xs opened)
+      (λ n. cond_both (is_some (end_in same key xs)) (map (renewed same key (end_time now w)) xs) (xs ++ record { key = key; end = end_time now w } ∷ []) (λ ys. AllOpen ys now)
+      (λ _. AllOpen-renewed now key (end_time now w) xs opened (lasts now w n))
+      (λ _. AllOpen-push now xs _ opened (lasts now w n)))
+
+  -- a list whose keys end silently gains a message's announcements
+  pub gains_all : (now : ℕ) (more : List (K × ℕ)) (old : List (Kept K)) (rows : List (Row K)) → last_moment rows ≤ now → StandsSilently same old rows → StandsSilently same (announced_all same now more old) (heard_rows same now more rows)
+  gains_all now [] old rows le s = s
+  gains_all now ((key, w) ∷ more) old rows le s = gains_all now more _ _ (omega arith) (gains_silently old rows now key w le s)
+
+  -- where all are ended nothing stands
+  pub clears : (now : ℕ) (rows : List (Row K)) → StandsSilently same [] (Cleared now ∷ rows)
+  clears now rows = record { lists = λ t le. record { ends = λ key. refl; order = tt } }

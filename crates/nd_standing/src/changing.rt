@@ -53,7 +53,7 @@ pub fn remove<K: Drop, Q: Names<K>, A: Allocator>(entries: &mut Vec<Kept<K>, A>,
 }
 
 /// Whether a moment is before an end.
-fn is_before(now: u64, end: Option<u64>) -> bool
+pub(crate) fn is_before(now: u64, end: Option<u64>) -> bool
     ensures { result ≡ is_before now end }
 {
     match end {
@@ -86,28 +86,55 @@ pub fn end_time(now: u64, lifetime: u32) -> Option<u64>
     }
 }
 
-/// A key is announced for a lifetime in seconds. There is room for it.
-pub fn announce<K: Names<K> + Drop, A: Allocator>(
+/// A key is announced for a lifetime in seconds, by a name. There is room for it.
+pub fn announce<K: Drop, Q: Names<K>, A: Allocator>(
     entries: &mut Vec<Kept<K>, A>,
     now: u64,
+    name: &Q,
     key: K,
     lifetime: u32,
 )
     requires moment { now < 2 ^ 62 }
-    requires room { length (announced K.same now (K.named key) lifetime entries.old.items) ≤ vec_capacity entries.old }
-    requires itself { K.named key ≡ key }
-    ensures items { entries.new.items ≡ announced K.same now key lifetime entries.old.items }
+    requires named { key ≡ Q.named name.now }
+    requires room { length (announced Q.same now (Q.named name.now) lifetime entries.old.items) ≤ vec_capacity entries.old }
+    ensures items { entries.new.items ≡ announced Q.same now (Q.named name.now) lifetime entries.old.items }
     ensures capacity { vec_capacity entries.new ≡ vec_capacity entries.old }
 {
     drop_ended(entries, now);
     if lifetime == 0 {
-        remove(entries, &key);
+        remove(entries, name);
         return;
     }
     let end = end_time(now, lifetime);
-    if has(entries, &key) {
-        renew(entries, &key, end);
+    if has(entries, name) {
+        renew(entries, name, end);
         return;
     }
     entries.push_reserved(Kept { key, end });
+}
+
+/// Whether the key has an entry that hasn't ended by now.
+pub fn stands<K, Q: Names<K>>(entries: &[Kept<K>], now: u64, name: &Q) -> bool
+    ensures { result ≡ is_some (end_in Q.same (Q.named name.now) (open_at now entries.now)) }
+{
+    for entry in entries {
+        if is_before(now, entry.end) && name.names(&entry.key) {
+            return true;
+        }
+    }
+    false
+}
+
+/// How many entries haven't ended by now.
+pub fn count<K>(entries: &[Kept<K>], now: u64) -> usize
+    ensures value { result ≡ length (open_at now entries.now) }
+    ensures within { result ≤ length entries.now }
+{
+    let mut count = 0;
+    for entry in entries {
+        if is_before(now, entry.end) {
+            count += 1;
+        }
+    }
+    count
 }

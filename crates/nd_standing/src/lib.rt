@@ -5,7 +5,9 @@
 mod changing;
 mod kept;
 mod names;
+mod standing;
 
-pub use changing::{announce, drop_ended, end_time, has, remove, renew};
+pub use changing::{announce, count, drop_ended, end_time, has, remove, renew, stands};
 pub use kept::Kept;
 pub use names::Names;
+pub use standing::Standing;
