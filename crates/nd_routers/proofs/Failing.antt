@@ -1,9 +1,13 @@
 -- What one more happening does to the routers that failed.
 use Rattle.std.proofs.Common.{◌≡◌, ℕ, ◌+◌, ◌<◌, ◌≤◌, Bool, true, false, cond, eqb, List, [], ◌∷◌, ◌++◌, length, Option, Some, None, refl, sym, ◌∙◌, ap, subst, arith, ⊎_elim}
 use Rattle.std.specs.Prelude.{filter, not, is_some, ◌&&◌, ◌||◌}
-use Rattle.std.proofs.lemmas.Bool.Decides.{nat_tests}
-use Rattle.std.proofs.lemmas.Bool.{cond_both, cond-true, cond-false, true≢false, cases_eq}
+use Rattle.std.proofs.lemmas.Bool.Decides.{nat_tests, eqb_tells}
+use Rattle.std.proofs.lemmas.Bool.{cond_both, eqb-true, cond-true, cond-false, true≢false, cases_eq}
 use Rattle.nd_standing.specs.Rows.{end_of, end_after, is_open, stands}
+use Rattle.nd_standing.specs.declared.kept.Kept.{Kept}
+use Rattle.nd_standing.specs.Listing.{end_in, without, Stands}
+use Rattle.nd_standing.proofs.Finding.{end_in-without}
+use Rattle.nd_routers.proofs.Dues.{length-without}
 use Rattle.nd_routers.specs.Happenings.{Happening, Heard, Left, Failed, announcements, failure_of}
 use Rattle.nd_routers.specs.Failures.{has_failed, AllLater, InOrder, number_in, Failures, others}
 use Rattle.nd_routers.specs.Routers.{same}
@@ -16,13 +20,10 @@ pub has_failed-push : (k key : ℕ) (ks : List ℕ) → has_failed k (ks ++ key 
 has_failed-push k key [] = grind (arith, nat_tests)
 has_failed-push k key (x ∷ ks) = grind (arith, nat_tests, has_failed-push k key ks)
 
-Agree : (ℕ → ℕ) → (ℕ → ℕ) → List ℕ → Type 0
-Agree f g ks = (k : ℕ) → has_failed k ks ≡ true → f k ≡ g k
-
-head_has : (k : ℕ) (ks : List ℕ) → has_failed k (k ∷ ks) ≡ true
+pub head_has : (k : ℕ) (ks : List ℕ) → has_failed k (k ∷ ks) ≡ true
 head_has k ks = grind (arith, nat_tests)
 
-tail_has : (x k : ℕ) (ks : List ℕ) → has_failed k ks ≡ true → has_failed k (x ∷ ks) ≡ true
+pub tail_has : (x k : ℕ) (ks : List ℕ) → has_failed k ks ≡ true → has_failed k (x ∷ ks) ≡ true
 tail_has x k ks h = grind (arith, nat_tests, h)
 
 AllLater-agree : (f g : ℕ → ℕ) (n : ℕ) (ks : List ℕ) → ((k : ℕ) → has_failed k ks ≡ true → f k ≡ g k) → AllLater f n ks → AllLater g n ks
@@ -106,3 +107,39 @@ module _ (rows : List Happening) (ks : List ℕ) (f : Failures rows ks) where
     each = λ k. grind (arith, nat_tests, f.each k, n, settled);
     order = InOrder-agree (λ k. number_in (failure_of k rows)) _ ks (λ k h. grind (arith, nat_tests, h, n, settled, some_of k)) f.order;
   }
+
+pub not_first : (f : ℕ → ℕ) (n key : ℕ) (ks : List ℕ) → AllLater f n ks → f key ≤ n → has_failed key ks ≡ false
+not_first f n key [] h le = refl
+not_first f n key (k ∷ ks) h le =
+    let rest = not_first f n key ks h.1 le in
+    let lt = h.0 in
+    ⊎_elim (λ s. let low = ap f s.1 in absurd (omega (arith, lt, low, le))) (λ d. grind (arith, d.0, rest)) (eqb_tells k key)
+
+differ : (a b c : ℕ) (ks : List ℕ) → has_failed a ks ≡ false → has_failed b ks ≡ true → eqb a b ≡ false
+differ a b c ks no_a b_in = ⊎_elim (λ s. absurd (true≢false (sym b_in ∙ (ap (λ k. has_failed k ks) (sym s.1) ∙ no_a)))) (λ d. d.0) (eqb_tells a b)
+
+some_end : (key : ℕ) (es : List (Kept ℕ)) → is_some (end_in same key es) ≡ true → (end : Option ℕ) × (end_in same key es ≡ Some end)
+some_end key es h = by (end_in same key es) refl h
+  where
+    by : (o : Option (Option ℕ)) → end_in same key es ≡ o → is_some o ≡ true → (end : Option ℕ) × (end_in same key es ≡ Some end)
+    by None e h' = absurd (true≢false (sym h'))
+    by (Some end) e h' = (end, e)
+
+-- keys that are in order and all have entries are no more than the entries
+few : (f : ℕ → ℕ) (ks : List ℕ) (es : List (Kept ℕ)) → InOrder f ks → ((k : ℕ) → has_failed k ks ≡ true → is_some (end_in same k es) ≡ true) → length ks ≤ length es
+few f [] es o h = omega arith
+few f (k ∷ ks) es o h =
+    let found = some_end k es (h k (head_has k ks)) in
+    let shorter = length-without k found.0 es found.1 in
+    let first = not_first f (f k) k ks o.0 (omega arith) in
+    let rest = few f ks (without same k es) o.1 (λ j p. let d = differ k j 0 ks first p in grind (arith, d, end_in-without same eqb_tells j k es, h j (tail_has k j ks p))) in
+    omega (arith, shorter, rest)
+
+-- there is room for a failure of a router that is listed
+pub has_room : (rows : List Happening) (ks : List ℕ) (es : List (Kept ℕ)) (key : ℕ) → Failures rows ks → Stands same es (announcements rows) → is_some (end_in same key es) ≡ true → length (others key ks) < length es
+has_room rows ks es key f s listed =
+    let found = some_end key es listed in
+    let shorter = length-without key found.0 es found.1 in
+    let rest = few (λ k. number_in (failure_of k rows)) (others key ks) (without same key es) (InOrder-others _ key ks f.order)
+        (λ j p. grind (arith, nat_tests, p, has_failed-others j key ks, end_in-without same eqb_tells j key es, ap is_some (s.ends j), some_of rows ks f j)) in
+    omega (arith, shorter, rest)

@@ -1,2 +1,6 @@
+pub mod Clearing
 pub mod Dues
 pub mod Failing
+pub mod Settled
+pub mod Steps
+pub mod Unique

@@ -37,3 +37,9 @@ others key keys = filter (λ k. not (k == key)) keys
 abbrev pub place_among : ℕ → List ℕ → Option ℕ
 place_among key [] = None
 place_among key (k ∷ keys) = if k == key then Some 0 else option_map (λ i. i + 1) (place_among key keys)
+
+-- where the router is among those that failed, if it did
+pub record FailsAt (rows : List Happening) (key : ℕ) (place : Option ℕ) : Type 0 where
+  pub keys : List ℕ
+  pub failures : Failures rows keys
+  pub place_is : place ≡ place_among key keys

@@ -2,8 +2,15 @@
 #![tactic(auto)]
 
 mod change;
+mod due;
+mod failures;
+pub mod laws;
+mod listed;
 mod router;
+mod routers;
 
 pub use change::Change;
-pub use nd_standing::{Kept, Standing};
+pub use listed::Listed;
+pub use nd_standing::{Kept, Limit, Standing, TableRefusal};
 pub use router::Router;
+pub use routers::Routers;

@@ -1,13 +1,13 @@
 -- What one more row does to the entries that stand for the rows.
-use Rattle.std.proofs.Common.{◌≡◌, ◌≢◌, ℕ, ◌<◌, ◌≤◌, Bool, true, false, cond, eqb, List, [], ◌∷◌, ◌++◌, length, Option, Some, None, refl, sym, ◌∙◌, ap, subst, arith, ◌⊎◌, inl, inr, ⊎_elim}
-use Rattle.std.specs.Prelude.{map, filter, not, is_some, ◌&&◌}
+use Rattle.std.proofs.Common.{◌≡◌, ℕ, ◌<◌, ◌≤◌, Bool, true, false, cond, eqb, List, [], ◌∷◌, ◌++◌, length, Option, Some, None, refl, sym, ◌∙◌, ap, arith}
+use Rattle.std.specs.Prelude.{not, ◌||◌, nat_le, nat_lt, ◌+◌, map, filter, is_some}
 use Rattle.std.proofs.lemmas.Bool.Decides.{nat_tests}
-use Rattle.std.proofs.lemmas.Bool.{cond_both, and_parts, and_from, cond-true, cond-false, true≢false}
+use Rattle.std.proofs.lemmas.Bool.{cond_both, cond-true, true≢false}
 use Rattle.nd_standing.specs.declared.kept.Kept.{Kept}
 use Rattle.nd_standing.specs.Rows.{Row, Announced, Ended, Cleared, last_moment, end_after, end_time, end_of, is_before, is_open, stands, place}
-use Rattle.nd_standing.specs.Listing.{open_at, end_in, AllAfter, Rises, Stands, StandsSilently, Lists, renewed, without, told, announced, announced_all, fits, heard_rows}
-use Rattle.nd_standing.proofs.Finding.{Tells, Has, Has-head, Has-tail, Distinct, end_in-renewed, end_in-without, end_in-push, end_in-open}
-use Rattle.nd_standing.proofs.Order.{Agree, Rises-agree, Rises-renewed, Rises-filter, Rises-push, distinct_of}
+use Rattle.nd_standing.specs.Listing.{open_at, end_in, Stands, StandsSilently, Lists, renewed, without, told, announced, announced_all, heard_rows}
+use Rattle.nd_standing.proofs.Finding.{Tells, Has, end_in-renewed, end_in-without, end_in-push, end_in-open}
+use Rattle.nd_standing.proofs.Order.{Rises-agree, Rises-renewed, Rises-filter, Rises-push, distinct_of}
 
 open_some : (o : Option (Option ℕ)) (t : ℕ) → is_open o t ≡ true → is_some o ≡ true
 open_some None t h = absurd (true≢false (sym h))
@@ -137,7 +137,7 @@ module _ {K : Type 0} (same : K → K → Bool) (tells : Tells same) where
   open_all (e ∷ es) now h = cond-true (is_before now e.end) (e ∷ open_at now es) (open_at now es) h.0 ∙ ap (λ (xs : List (Kept K)). e ∷ xs) (open_all es now h.1)
 
   -- of entries none of which has ended each is found open
-  open_in : (now : ℕ) (key : K) (es : List (Kept K)) → AllOpen es now → Has same tells es key → is_open (end_in same key es) now ≡ true
+  pub open_in : (now : ℕ) (key : K) (es : List (Kept K)) → AllOpen es now → Has same tells es key → is_open (end_in same key es) now ≡ true
   open_in now key [] s h = absurd (true≢false (sym h))
   open_in now key (e ∷ es) s h =
       cond_both (same e.key key) (Some e.end) (end_in same key es) (λ (o : Option (Option ℕ)). is_some o ≡ true → is_open o now ≡ true) (λ _ _. s.0) (λ _ h'. open_in now key es s.1 h') h
@@ -181,7 +181,7 @@ module _ {K : Type 0} (same : K → K → Bool) (tells : Tells same) where
     order = Rises-filter same tells _ _ es s.order;
   }
 
-  AllOpen-filter : (now : ℕ) (p : Kept K → Bool) (es : List (Kept K)) → AllOpen es now → AllOpen (filter p es) now
+  pub AllOpen-filter : (now : ℕ) (p : Kept K → Bool) (es : List (Kept K)) → AllOpen es now → AllOpen (filter p es) now
   AllOpen-filter now p [] h = tt
   AllOpen-filter now p (e ∷ es) h =
       let rest = AllOpen-filter now p es h.1 in
@@ -221,3 +221,30 @@ module _ {K : Type 0} (same : K → K → Bool) (tells : Tells same) where
   -- where all are ended nothing stands
   pub clears : (now : ℕ) (rows : List (Row K)) → StandsSilently same [] (Cleared now ∷ rows)
   clears now rows = record { lists = λ t le. record { ends = λ key. refl; order = tt } }
+
+  shorter : (p : Kept K → Bool) (es : List (Kept K)) → length (filter p es) ≤ length es
+  shorter p [] = omega arith
+  shorter p (e ∷ es) = let rest = shorter p es in cond_both (p e) (e ∷ filter p es) (filter p es) (λ xs. length xs ≤ length (e ∷ es)) (λ _. omega (arith, rest)) (λ _. omega (arith, rest))
+
+  as_long : (key : K) (end : Option ℕ) (es : List (Kept K)) → length (map (renewed same key end) es) ≡ length es
+  as_long key end [] = refl
+  as_long key end (e ∷ es) = let rest = as_long key end es in omega (arith, rest)
+
+  one_longer : (es : List (Kept K)) (e : Kept K) → length (es ++ e ∷ []) ≡ length es + 1
+  one_longer [] e = refl
+  one_longer (x ∷ es) e = let rest = one_longer es e in omega (arith, rest)
+
+  told_length : (now : ℕ) (key : K) (w limit : ℕ) (es : List (Kept K)) → length es ≤ limit → nat_le (length (told same now key w es)) limit ≡ (eqb w 0 || (is_some (end_in same key es) || nat_lt (length es) limit))
+  told_length now key w limit es le =
+      cond_both (eqb w 0) (without same key es) (cond (is_some (end_in same key es)) (map (renewed same key (end_time now w)) es) (es ++ record { key = key; end = end_time now w } ∷ []))
+      (λ xs. nat_le (length xs) limit ≡ (eqb w 0 || (is_some (end_in same key es) || nat_lt (length es) limit)))
+      (λ z. let s = shorter (λ e. not (same e.key key)) es in grind (arith, nat_tests, z, s, le))
+      (λ n. cond_both (is_some (end_in same key es)) (map (renewed same key (end_time now w)) es) (es ++ record { key = key; end = end_time now w } ∷ [])
+      (λ xs. nat_le (length xs) limit ≡ (eqb w 0 || (is_some (end_in same key es) || nat_lt (length es) limit)))
+      (λ h. grind (arith, nat_tests, h, as_long key (end_time now w) es, le, n))
+      (λ h. grind (arith, nat_tests, h, one_longer es (record { key = key; end = end_time now w }), n)))
+
+  -- an announcement leads to no more entries than the limit where it enters none, or there is room
+  pub announced_length : (now : ℕ) (key : K) (w limit : ℕ) (es : List (Kept K)) → length es ≤ limit → nat_le (length (announced same now key w es)) limit ≡ (eqb w 0 || (is_some (end_in same key (open_at now es)) || nat_lt (length (open_at now es)) limit))
+  announced_length now key w limit es le =
+      let s = shorter (λ e. is_before now e.end) es in told_length now key w limit (open_at now es) (omega (arith, s, le))

@@ -1,12 +1,11 @@
 -- One list of entries is that of the keys that stand.
-use Rattle.std.proofs.Common.{◌≡◌, ◌≢◌, ℕ, ◌<◌, ◌≤◌, Bool, true, false, cond, eqb, List, [], ◌∷◌, ◌++◌, length, Option, Some, None, refl, sym, ◌∙◌, ap, subst, arith, ◌⊎◌, inl, inr, ⊎_elim}
-use Rattle.std.specs.Prelude.{map, filter, not, is_some, ◌&&◌}
-use Rattle.std.proofs.lemmas.Bool.Decides.{nat_tests}
-use Rattle.std.proofs.lemmas.Bool.{cond_both, and_parts, and_from, cond-true, cond-false, true≢false}
+use Rattle.std.proofs.Common.{◌≡◌, ℕ, ◌<◌, ◌≤◌, Bool, List, [], ◌∷◌, Option, Some, None, refl, sym, ◌∙◌, ap, arith, ◌⊎◌, inl, inr, ⊎_elim}
+use Rattle.std.specs.Prelude.{is_some}
+use Rattle.std.proofs.lemmas.Bool.{cond-false, true≢false}
 use Rattle.nd_standing.specs.declared.kept.Kept.{Kept}
-use Rattle.nd_standing.specs.Rows.{Row, Announced, Ended, Cleared, last_moment, end_after, end_time, end_of, is_before, is_open, stands, place}
-use Rattle.nd_standing.specs.Listing.{open_at, end_in, AllAfter, Rises, Stands, StandsSilently, Lists, renewed, without, told, announced, announced_all, fits, heard_rows}
-use Rattle.nd_standing.proofs.Finding.{Tells, Has, Has-head, Has-tail, Distinct}
+use Rattle.nd_standing.specs.Rows.{Row}
+use Rattle.nd_standing.specs.Listing.{end_in, AllAfter, Rises, Lists}
+use Rattle.nd_standing.proofs.Finding.{Tells}
 use Rattle.nd_standing.proofs.Order.{AllAfter-has}
 
 module _ {K : Type 0} (same : K → K → Bool) (tells : Tells same) where

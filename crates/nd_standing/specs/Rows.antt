@@ -1,6 +1,6 @@
 -- What a list of announcements, the newest first, says of each key that was announced: a router, a prefix, a DNS server or a search
 -- name (RFC 4861, section 6.3.4; RFC 8106, section 6). Nothing here has a state: each question looks back.
-use Rattle.std.specs.Prelude.{◌≡◌, ℕ, ◌+◌, ◌*◌, ◌≤◌, Bool, true, false, ◌==◌, nat_lt, if◌then◌else◌, List, [], ◌∷◌, length, Option, Some, None}
+use Rattle.std.specs.Prelude.{ℕ, ◌+◌, ◌*◌, Bool, true, false, ◌==◌, nat_lt, if◌then◌else◌, List, [], ◌∷◌, length, Option, Some, None}
 
 -- a key is announced for a lifetime in seconds, or it is ended by something else, or all keys are
 pub data Row (K : Type 0) : Type 0 where

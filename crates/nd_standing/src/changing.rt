@@ -35,7 +35,11 @@ fn renew_each<K, Q: Names<K>>(entries: &mut [Kept<K>], name: &Q, end: Option<u64
 }
 
 /// The key's entry has this end from now on.
-pub fn renew<K, Q: Names<K>, A: Allocator>(entries: &mut Vec<Kept<K>, A>, name: &Q, end: Option<u64>)
+pub fn renew<K, Q: Names<K>, A: Allocator>(
+    entries: &mut Vec<Kept<K>, A>,
+    name: &Q,
+    end: Option<u64>,
+)
     ensures items { entries.new.items ≡ map (renewed Q.same (Q.named name.now) end) entries.old.items }
     ensures len { vec_len entries.new ≡ vec_len entries.old }
     ensures capacity { vec_capacity entries.new ≡ vec_capacity entries.old }

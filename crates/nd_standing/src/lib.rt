@@ -5,9 +5,11 @@
 mod changing;
 mod kept;
 mod names;
+mod refusal;
 mod standing;
 
 pub use changing::{announce, count, drop_ended, end_time, has, remove, renew, stands};
 pub use kept::Kept;
 pub use names::Names;
+pub use refusal::{Limit, TableRefusal};
 pub use standing::Standing;
