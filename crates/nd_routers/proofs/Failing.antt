@@ -141,5 +141,5 @@ has_room rows ks es key f s listed =
     let found = some_end key es listed in
     let shorter = length-without key found.0 es found.1 in
     let rest = few (λ k. number_in (failure_of k rows)) (others key ks) (without same key es) (InOrder-others _ key ks f.order)
-        (λ j p. grind (arith, nat_tests, p, has_failed-others j key ks, end_in-without same eqb_tells j key es, ap is_some (s.ends j), some_of rows ks f j)) in
+    (λ j p. grind (arith, nat_tests, p, has_failed-others j key ks, end_in-without same eqb_tells j key es, ap is_some (s.ends j), some_of rows ks f j)) in
     omega (arith, shorter, rest)

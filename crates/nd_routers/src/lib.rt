@@ -14,3 +14,6 @@ pub use listed::Listed;
 pub use nd_standing::{Kept, Limit, Standing, TableRefusal};
 pub use router::Router;
 pub use routers::Routers;
+
+#[cfg(test)]
+mod tests;

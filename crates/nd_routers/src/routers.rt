@@ -67,7 +67,12 @@ impl<A: Allocator + Clone> Routers<A> {
 
     /// A router is heard that announces itself for a lifetime in seconds (RFC 4861, section 6.3.4). No router's end has come that is
     /// still to be told. It takes no memory.
-    pub fn heard_ra(&mut self, now: u64, source: Addr, lifetime: u16) -> Result<Change, TableRefusal>
+    pub fn heard_ra(
+        &mut self,
+        now: u64,
+        source: Addr,
+        lifetime: u16,
+    ) -> Result<Change, TableRefusal>
         requires moment { now < 2 ^ 62 }
         requires settled { IsSettled self.old.entries now }
 
@@ -85,7 +90,13 @@ impl<A: Allocator + Clone> Routers<A> {
             return Err(TableRefusal::Full(Limit::Routers));
         }
         let before = has(&self.entries, &source);
-        announce(&mut self.entries, now, &source, Router::of(source), u32::from(lifetime));
+        announce(
+            &mut self.entries,
+            now,
+            &source,
+            Router::of(source),
+            u32::from(lifetime),
+        );
         if lifetime == 0 {
             forget(&mut self.failed, source);
             return Ok(change_by(before, false));
@@ -197,7 +208,9 @@ impl<A: Allocator + Clone> Routers<A> {
 }
 
 /// The addresses of the routers.
-fn addresses<A: Allocator + Clone>(entries: &Vec<Kept<Router>, A>) -> Result<Vec<Addr, A>, AllocError>
+fn addresses<A: Allocator + Clone>(
+    entries: &Vec<Kept<Router>, A>,
+) -> Result<Vec<Addr, A>, AllocError>
     ensures { IfOk result (λ addrs. map (λ a. number_of a.0) addrs.items ≡ map (λ e. e.key) entries.now.items) }
 {
     let alloc = entries.allocator().clone()?;
