@@ -3,7 +3,7 @@ use Rattle.std.proofs.Common.{◌≡◌, ◌≢◌, ℕ, Bool, true, false, cond
 use Rattle.std.specs.Prelude.{map, filter, is_some}
 use Rattle.nd_standing.specs.declared.kept.Kept.{Kept}
 use Rattle.nd_standing.specs.Rows.{is_before, is_open}
-use Rattle.nd_standing.specs.Listing.{open_at, end_in, renewed, without}
+use Rattle.nd_standing.specs.Listing.{open_at, end_in, renewed, without, Distinct}
 
 -- what the test of two keys tells
 abbrev pub Tells : {K : Type 0} → (K → K → Bool) → Type 0
@@ -32,16 +32,11 @@ module _ {K : Type 0} (same : K → K → Bool) (tells : Tells same) where
   pub Has-tail : (e : Kept K) (es : List (Kept K)) (k : K) → Has es k → Has (e ∷ es) k
   Has-tail e es k h = grind (arith, tells, h)
 
-  -- no entry comes twice
-  abbrev pub Distinct : List (Kept K) → Type 0
-  Distinct [] = Unit {0}
-  Distinct (e ∷ es) = (end_in same e.key es ≡ None) × Distinct es
-
   end_in-filter-none : (p : Kept K → Bool) (k : K) (es : List (Kept K)) → end_in same k es ≡ None → end_in same k (filter p es) ≡ None
   end_in-filter-none p k [] h = refl
   end_in-filter-none p k (e ∷ es) h = grind (arith, tells, h, end_in-filter-none p k es)
 
   -- what is left of an entry that is found, where some that have ended leave
-  pub end_in-open : (t : ℕ) (k : K) (es : List (Kept K)) → Distinct es → end_in same k (open_at t es) ≡ cond (is_open (end_in same k es) t) (end_in same k es) None
+  pub end_in-open : (t : ℕ) (k : K) (es : List (Kept K)) → Distinct same es → end_in same k (open_at t es) ≡ cond (is_open (end_in same k es) t) (end_in same k es) None
   end_in-open t k [] d = refl
   end_in-open t k (e ∷ es) d = grind (arith, tells, d.0, end_in-filter-none (λ e. is_before t e.end) e.key es d.0, end_in-open t k es d.1)

@@ -3,8 +3,8 @@ use Rattle.std.proofs.Common.{◌≡◌, ℕ, ◌<◌, Bool, true, List, [], ◌
 use Rattle.std.specs.Prelude.{map, filter, is_some}
 use Rattle.std.proofs.lemmas.Bool.{cond_both, true≢false}
 use Rattle.nd_standing.specs.declared.kept.Kept.{Kept}
-use Rattle.nd_standing.specs.Listing.{end_in, AllAfter, Rises, renewed}
-use Rattle.nd_standing.proofs.Finding.{Tells, Has, Has-head, Has-tail, Distinct}
+use Rattle.nd_standing.specs.Listing.{end_in, AllAfter, Rises, renewed, Distinct}
+use Rattle.nd_standing.proofs.Finding.{Tells, Has, Has-head, Has-tail}
 
 module _ {K : Type 0} (same : K → K → Bool) (tells : Tells same) where
   abbrev pub Agree : (K → ℕ) → (K → ℕ) → List (Kept K) → Type 0
@@ -63,7 +63,7 @@ module _ {K : Type 0} (same : K → K → Bool) (tells : Tells same) where
   none_or_some (Some x) h = absurd (h refl)
 
   -- entries whose numbers rise are distinct
-  pub distinct_of : (f : K → ℕ) (es : List (Kept K)) → Rises same f es → Distinct same tells es
+  pub distinct_of : (f : K → ℕ) (es : List (Kept K)) → Rises same f es → Distinct same es
   distinct_of f [] r = tt
   distinct_of f (e ∷ es) r =
       (none_or_some (end_in same e.key es) (λ has. let later = AllAfter-has f (f e.key) es e.key r.0 has in absurd (omega (arith, later))), distinct_of f es r.1)

@@ -1,5 +1,5 @@
 -- What a list of keys with their ends is to the announcements that it stands for.
-use Rattle.std.specs.Prelude.{◌≡◌, length, ℕ, ◌<◌, ◌≤◌, Bool, true, not, ◌&&◌, nat_le, ◌==◌, if◌then◌else◌, List, [], ◌∷◌, ◌++◌, Option, Some, None, filter, map, is_some}
+use Rattle.std.specs.Prelude.{◌+◌, ◌-◌, ◌≡◌, length, ℕ, ◌<◌, ◌≤◌, Bool, true, not, ◌&&◌, nat_le, ◌==◌, if◌then◌else◌, List, [], ◌∷◌, ◌++◌, Option, Some, None, filter, map, is_some}
 use Rattle.nd_standing.specs.declared.kept.Kept.{Kept}
 use Rattle.nd_standing.specs.Rows.{Row, Announced, last_moment, end_time, end_of, place, is_before, stands}
 
@@ -7,11 +7,20 @@ use Rattle.nd_standing.specs.Rows.{Row, Announced, last_moment, end_time, end_of
 abbrev pub open_at : {K : Type 0} → ℕ → List (Kept K) → List (Kept K)
 open_at now es = filter (λ e. is_before now e.end) es
 
+-- how many keys stand where one of them stood before or not, and stands then or not
+abbrev pub count_after : ℕ → Bool → Bool → ℕ
+count_after n before after = if before then (if after then n else n - 1) else (if after then n + 1 else n)
+
 module _ {K : Type 0} (same : K → K → Bool) where
   -- the end of the key's entry
   abbrev pub end_in : K → List (Kept K) → Option (Option ℕ)
   end_in key [] = None
   end_in key (e ∷ es) = if same e.key key then Some e.end else end_in key es
+
+  -- no key comes twice
+  abbrev pub Distinct : List (Kept K) → Type 0
+  Distinct [] = Unit {0}
+  Distinct (e ∷ es) = (end_in e.key es ≡ None) × Distinct es
 
   -- each entry has a greater number than this
   abbrev pub AllAfter : (K → ℕ) → ℕ → List (Kept K) → Type 0
@@ -73,3 +82,7 @@ module _ {K : Type 0} (same : K → K → Bool) where
   abbrev pub heard_rows : ℕ → List (K × ℕ) → List (Row K) → List (Row K)
   heard_rows now [] rows = rows
   heard_rows now ((key, lifetime) ∷ more) rows = heard_rows now more (Announced now key lifetime ∷ rows)
+
+  -- the keys that stand behind some announcements of a message
+  abbrev pub behind : ℕ → List (K × ℕ) → List (Kept K) → List (Kept K)
+  behind now told es = announced_all now told (open_at now es)
