@@ -3,4 +3,5 @@ pub mod Dues
 pub mod Failing
 pub mod Settled
 pub mod Steps
+pub mod Told
 pub mod Unique

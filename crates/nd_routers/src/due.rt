@@ -8,7 +8,7 @@ use nd_addr::Addr;
 use nd_standing::Kept;
 
 /// The lesser of two moments that may be missing.
-fn lesser(a: Option<u64>, b: Option<u64>) -> Option<u64>
+pub(crate) fn lesser(a: Option<u64>, b: Option<u64>) -> Option<u64>
     ensures { result ≡ lesser a b }
 {
     match (a, b) {

@@ -4,14 +4,18 @@
 mod change;
 mod due;
 mod failures;
+mod holding;
 pub mod laws;
 mod listed;
+mod on_link;
+mod prefixes;
 mod router;
 mod routers;
 
 pub use change::Change;
 pub use listed::Listed;
 pub use nd_standing::{Kept, Limit, Standing, TableRefusal};
+pub use prefixes::Prefixes;
 pub use router::Router;
 pub use routers::Routers;
 

@@ -214,7 +214,7 @@ module _ {K : Type 0} (same : K → K → Bool) (tells : Tells same) where
       (λ _. AllOpen-push now xs _ opened (lasts now w n)))
 
   -- a list whose keys end silently gains a message's announcements
-  pub gains_all : (now : ℕ) (more : List (K × ℕ)) (old : List (Kept K)) (rows : List (Row K)) → last_moment rows ≤ now → StandsSilently same old rows → StandsSilently same (announced_all same now more old) (heard_rows same now more rows)
+  pub gains_all : (now : ℕ) (more : List (K × ℕ)) (old : List (Kept K)) (rows : List (Row K)) → last_moment rows ≤ now → StandsSilently same old rows → StandsSilently same (announced_all same now more old) (heard_rows now more rows)
   gains_all now [] old rows le s = s
   gains_all now ((key, w) ∷ more) old rows le s = gains_all now more _ _ (omega arith) (gains_silently old rows now key w le s)
 

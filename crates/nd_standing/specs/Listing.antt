@@ -7,6 +7,11 @@ use Rattle.nd_standing.specs.Rows.{Row, Announced, last_moment, end_time, end_of
 abbrev pub open_at : {K : Type 0} → ℕ → List (Kept K) → List (Kept K)
 open_at now es = filter (λ e. is_before now e.end) es
 
+-- the rows of a message's announcements, in order
+abbrev pub heard_rows : {K : Type 0} → ℕ → List (K × ℕ) → List (Row K) → List (Row K)
+heard_rows now [] rows = rows
+heard_rows now ((key, lifetime) ∷ more) rows = heard_rows now more (Announced now key lifetime ∷ rows)
+
 -- how many keys stand where one of them stood before or not, and stands then or not
 abbrev pub count_after : ℕ → Bool → Bool → ℕ
 count_after n before after = if before then (if after then n else n - 1) else (if after then n + 1 else n)
@@ -78,10 +83,6 @@ module _ {K : Type 0} (same : K → K → Bool) where
   fits limit now ((key, lifetime) ∷ more) es =
       nat_le (length (announced now key lifetime es)) limit && fits limit now more (announced now key lifetime es)
 
-  -- the rows of a message's announcements, in order
-  abbrev pub heard_rows : ℕ → List (K × ℕ) → List (Row K) → List (Row K)
-  heard_rows now [] rows = rows
-  heard_rows now ((key, lifetime) ∷ more) rows = heard_rows now more (Announced now key lifetime ∷ rows)
 
   -- the keys that stand behind some announcements of a message
   abbrev pub behind : ℕ → List (K × ℕ) → List (Kept K) → List (Kept K)

@@ -7,6 +7,7 @@ mod changing;
 mod kept;
 mod message;
 mod names;
+mod prefix;
 mod refusal;
 mod standing;
 
