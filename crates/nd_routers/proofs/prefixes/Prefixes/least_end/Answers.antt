@@ -1,0 +1,12 @@
+use Rattle.std.proofs.Common.{◌∙◌, ap}
+use Rattle.nd_standing.specs.Listing.{open_at}
+use Rattle.nd_standing.specs.Same.{same_prefix, prefixes_tell}
+use Rattle.nd_standing.proofs.Unique.{one_listing}
+use Rattle.nd_routers.specs.Prefixes.{least_end}
+use Rattle.nd_routers.proofs.prefixes.Prefixes.least_end.Goals as goal
+
+pub returns-clause-by_rows : goal.returns-clause-by_rows
+returns-clause-by_rows g c = λ rows es s le l.
+    c.least_end.ensures
+    ∙ (ap (λ xs. least_end (open_at c.args.now xs)) (c.deref.ensures.value ∙ c.self.view_is)
+    ∙ ap least_end (one_listing same_prefix prefixes_tell rows c.args.now _ _ (s.lists c.args.now le) l))

@@ -1,0 +1,19 @@
+use Rattle.std.proofs.Common.{◌∙◌, ap, sym}
+use Rattle.nd_addr.specs.Number.{number_of}
+use Rattle.nd_standing.specs.Listing.{without}
+use Rattle.nd_routers.specs.Failures.{others}
+use Rattle.nd_routers.specs.Routers.{same, IsSettled}
+use Rattle.nd_routers.proofs.Steps.{gains_left, settled_without}
+use Rattle.nd_routers.proofs.routers.Routers.ended.Goals as goal
+
+pub returns-clause-stands : goal.returns-clause-stands
+returns-clause-stands g c = λ at.
+    let key = number_of c.args.source.0 in
+    gains_left c.args.self.now _ at key
+    (c.remove.ensures.items ∙ ap (λ t. without same key t.entries) c.self.view_is)
+    (c.forget.ensures.items ∙ ap (λ t. others key t.failed) c.self.view_is)
+
+pub returns-clause-settled : goal.returns-clause-settled
+returns-clause-settled g c = λ now h.
+    let key = number_of c.args.source.0 in
+    rw (c.remove.ensures.items ∙ ap (λ t. without same key t.entries) c.self.view_is) (settled_without c.args.self.now.entries now key h)

@@ -1,0 +1,70 @@
+-- What a table of routers is to the happenings that it stands for.
+use Rattle.std.specs.Prelude.{◌≡◌, ◌≤◌, ℕ, Bool, true, false, ◌==◌, if◌then◌else◌, IsTrue, MatchOption, min, List, [], ◌∷◌, ◌++◌, Option, Some, None, is_some, map}
+use Rattle.nd_standing.specs.declared.kept.Kept.{Kept}
+use Rattle.nd_standing.specs.Rows.{is_before}
+use Rattle.nd_standing.specs.Listing.{end_in, Stands}
+use Rattle.nd_routers.specs.Happenings.{Happening, Left, announcements}
+use Rattle.nd_routers.specs.Failures.{Failures, others}
+
+-- the routers with their ends, in the order in which they came, and those of them that failed, in the order of their last failures
+pub record Table : Type 0 where
+  pub entries : List (Kept ℕ)
+  pub failed : List ℕ
+
+-- two keys are the same
+abbrev pub same : ℕ → ℕ → Bool
+same a b = a == b
+
+-- the table is that of the rows
+pub record IsOf (table : Table) (rows : List Happening) : Type 0 where
+  pub routers : Stands same table.entries (announcements rows)
+  pub failures : Failures rows table.failed
+
+-- whatever rows old stands for, new stands for them with this one
+pub record Gains (old new : Table) (row : Happening) : Type 0 where
+  pub stands : (rows : List Happening) → IsOf old rows → IsOf new (row ∷ rows)
+
+-- the lesser of two numbers that may be missing
+abbrev pub lesser : Option ℕ → Option ℕ → Option ℕ
+lesser None b = b
+lesser (Some x) None = Some x
+lesser (Some x) (Some y) = Some (min x y)
+
+-- the least number that the entries have
+abbrev pub least_by : (Kept ℕ → Option ℕ) → List (Kept ℕ) → Option ℕ
+least_by number [] = None
+least_by number (e ∷ es) = lesser (number e) (least_by number es)
+
+-- the earliest end
+abbrev pub next_end : List (Kept ℕ) → Option ℕ
+next_end es = least_by (λ e. e.end) es
+
+-- the end comes at this moment
+abbrev pub is_at : ℕ → Option ℕ → Bool
+is_at now None = false
+is_at now (Some end) = end == now
+
+-- the key, if its end comes at this moment
+abbrev pub key_at : ℕ → Kept ℕ → Option ℕ
+key_at now e = if is_at now e.end then Some e.key else None
+
+-- the least key whose end comes at this moment
+abbrev pub first_due : ℕ → List (Kept ℕ) → Option ℕ
+first_due now es = least_by (key_at now) es
+
+-- no end has come by the moment
+abbrev pub IsSettled : List (Kept ℕ) → ℕ → Type 0
+IsSettled es now = IsTrue (is_before now (next_end es))
+
+-- no end came before the moment
+abbrev pub NoneBefore : List (Kept ℕ) → ℕ → Type 0
+NoneBefore es now = MatchOption (next_end es) (Unit {0}) (λ next. now ≤ next)
+
+-- the routers leave in this order
+abbrev pub left_rows : ℕ → List ℕ → List Happening → List Happening
+left_rows at [] rows = rows
+left_rows at (key ∷ keys) rows = left_rows at keys (Left at key ∷ rows)
+
+-- the keys of the entries
+abbrev pub keys : List (Kept ℕ) → List ℕ
+keys es = map (λ e. e.key) es

@@ -1,0 +1,52 @@
+ghost use Rattle.std.specs.Prelude.{◌≡◌, Some};
+ghost use Rattle.std.specs.Option.{option_map};
+ghost use Rattle.nd_addr.specs.Number.{number_of};
+ghost use Rattle.nd_routers.specs.Routers.{lesser, next_end, first_due};
+
+use crate::router::{Router, compare};
+use nd_addr::Addr;
+use nd_standing::Kept;
+
+/// The lesser of two moments that may be missing.
+pub(crate) fn lesser(a: Option<u64>, b: Option<u64>) -> Option<u64>
+    ensures { result ≡ lesser a b }
+{
+    match (a, b) {
+        (Some(x), Some(y)) => Some(x.min(y)),
+        (None, other) | (other, None) => other,
+    }
+}
+
+/// The earliest end.
+pub(crate) fn next_end(entries: &[Kept<Router>]) -> Option<u64>
+    ensures { result ≡ next_end entries.now }
+{
+    let mut least = None;
+    for entry in entries {
+        least = lesser(least, entry.end);
+    }
+    least
+}
+
+/// The lesser of two addresses, of which the first may be missing.
+fn lesser_addr(a: Option<Addr>, b: Addr) -> Addr
+    ensures { Some (number_of result.0) ≡ lesser (option_map (λ x. number_of x.0) a) (Some (number_of b.0)) }
+{
+    match a {
+        Some(a) if compare(a, b).is_lt() => a,
+        _ => b,
+    }
+}
+
+/// The least address of those whose end is now.
+pub(crate) fn first_due(entries: &[Kept<Router>], now: u64) -> Option<Addr>
+    ensures { option_map (λ a. number_of a.0) result ≡ first_due now entries.now }
+{
+    let mut least = None;
+    for entry in entries {
+        if entry.end == Some(now) {
+            least = Some(lesser_addr(least, entry.key.addr()));
+        }
+    }
+    least
+}

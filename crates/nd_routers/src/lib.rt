@@ -1,0 +1,23 @@
+//! The default routers of a host and the prefixes of its link (RFC 4861, section 6.3.4).
+#![tactic(auto)]
+
+mod change;
+mod due;
+mod failures;
+mod holding;
+pub mod laws;
+mod listed;
+mod on_link;
+mod prefixes;
+mod router;
+mod routers;
+
+pub use change::Change;
+pub use listed::Listed;
+pub use nd_standing::{Kept, Limit, Standing, TableRefusal};
+pub use prefixes::Prefixes;
+pub use router::Router;
+pub use routers::Routers;
+
+#[cfg(test)]
+mod tests;

@@ -1,0 +1,63 @@
+ghost use Rattle.std.specs.Prelude.{◌≡◌, ◌==◌};
+ghost use Rattle.std.specs.Ordering.{nat_cmp};
+ghost use Rattle.nd_addr.specs.Number.{number_of};
+
+use nd_addr::Addr;
+use nd_addr::laws::order_is_of_numbers;
+use nd_standing::Names;
+use std::cmp::Ordering;
+use std::marker::Model;
+
+/// A default router, by its address.
+#[derive(Debug, Drop)]
+pub struct Router {
+    addr: Addr,
+}
+
+impl Model for Router {
+    ghost use Rattle.std.specs.Prelude.{ℕ};
+    ghost use Rattle.nd_addr.specs.Number.{number_of};
+
+    ghost Value = { ℕ };
+
+    ghost view = { λ r. number_of r.addr.0 };
+}
+
+impl Router {
+    /// The router of an address.
+    pub(crate) fn of(addr: Addr) -> Router
+        ensures { result ≡ number_of addr.0 }
+    {
+        Router { addr }
+    }
+
+    /// Its address.
+    pub fn addr(&self) -> Addr
+        ensures { number_of result.0 ≡ self.now }
+    {
+        self.addr
+    }
+}
+
+/// The order of two addresses, which is that of their numbers.
+pub(crate) fn compare(a: Addr, b: Addr) -> Ordering
+    ensures { result ≡ nat_cmp (number_of a.0) (number_of b.0) }
+{
+    order_is_of_numbers(a, b);
+    a.cmp(&b)
+}
+
+impl Names<Router> for Addr {
+    ghost use Rattle.nd_routers.specs.Routers.{same};
+    ghost use Rattle.std.proofs.lemmas.Bool.Decides.{eqb_tells};
+
+    ghost named = { λ a. number_of a.0 };
+
+    ghost same = { same };
+
+    fn names(&self, key: &Router) -> bool {
+        compare(key.addr(), *self).is_eq()
+    }
+
+    ghost tells = { eqb_tells };
+}

@@ -1,0 +1,29 @@
+-- When two prefixes are the same, and what the test of it tells.
+use Rattle.std.proofs.Common.{◌≡◌, ◌≢◌, ℕ, Bool, true, false, List, refl, sym, ◌∙◌, ap, ◌⊎◌, inl, inr, ⊎_elim}
+use Rattle.std.specs.Prelude.{◌&&◌, nat_eq, bytes_eq}
+use Rattle.std.proofs.lemmas.Bool.Decides.{eqb_tells}
+use Rattle.std.proofs.lemmas.Bool.{true≢false}
+use Rattle.std.proofs.lemmas.Slice.Eq.{bytes_eq-Decides}
+use Rattle.nd_addr.specs.Prefix.{PrefixValue}
+
+abbrev pub same_prefix : PrefixValue → PrefixValue → Bool
+same_prefix a b = nat_eq a.length b.length && bytes_eq a.address.0 b.address.0
+
+bytes_tell : (a b : List ℕ) → ((bytes_eq a b ≡ true) × (a ≡ b)) ⊎ ((bytes_eq a b ≡ false) × (a ≢ b))
+bytes_tell a b = by (bytes_eq a b) refl
+  where
+    by : (t : Bool) → bytes_eq a b ≡ t → ((bytes_eq a b ≡ true) × (a ≡ b)) ⊎ ((bytes_eq a b ≡ false) × (a ≡ b → ⊥))
+    by true e = inl (e, (bytes_eq-Decides a b).0 e)
+    by false e = inr (e, λ same. true≢false (sym ((bytes_eq-Decides a b).1 same) ∙ e))
+
+abbrev made : ℕ → List ℕ → PrefixValue
+made length bytes = record { address = record { 0 = bytes }; length = length }
+
+pub prefixes_tell : (a b : PrefixValue) → ((same_prefix a b ≡ true) × (a ≡ b)) ⊎ ((same_prefix a b ≡ false) × (a ≢ b))
+prefixes_tell a b = ⊎_elim
+    (λ l. ⊎_elim
+    (λ s. inl (ap (λ t. t && bytes_eq a.address.0 b.address.0) l.0 ∙ s.0, ap (λ n. made n a.address.0) l.1 ∙ ap (λ bytes. made b.length bytes) s.1))
+    (λ d. inr (ap (λ t. t && bytes_eq a.address.0 b.address.0) l.0 ∙ d.0, λ same. d.1 (ap (λ (p : PrefixValue). p.address.0) same)))
+    (bytes_tell a.address.0 b.address.0))
+    (λ d. inr (ap (λ t. t && bytes_eq a.address.0 b.address.0) d.0, λ same. d.1 (ap (λ (p : PrefixValue). p.length) same)))
+    (eqb_tells a.length b.length)

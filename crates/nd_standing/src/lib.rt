@@ -1,0 +1,20 @@
+//! What stands of announcements that have a lifetime: one definition for routers, prefixes, DNS servers and search names (RFC 4861,
+//! section 6.3.4; RFC 8106, section 6).
+#![tactic(auto)]
+
+mod announces;
+mod changing;
+mod kept;
+mod message;
+mod names;
+mod prefix;
+mod refusal;
+mod standing;
+
+pub use announces::Announces;
+pub use changing::{announce, count, drop_ended, end_time, has, remove, renew, stands};
+pub use kept::Kept;
+pub use message::{announce_all, fits_all};
+pub use names::Names;
+pub use refusal::{Limit, TableRefusal};
+pub use standing::Standing;

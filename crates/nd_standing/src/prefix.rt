@@ -1,0 +1,16 @@
+use crate::names::Names;
+use nd_addr::Prefix;
+
+impl Names<Prefix> for Prefix {
+    ghost use Rattle.nd_standing.specs.Same.{same_prefix, prefixes_tell};
+
+    ghost named = { λ p. p };
+
+    ghost same = { same_prefix };
+
+    fn names(&self, key: &Prefix) -> bool {
+        key.length() == self.length() && key.address() == self.address()
+    }
+
+    ghost tells = { prefixes_tell };
+}
