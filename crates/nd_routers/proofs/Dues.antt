@@ -1,13 +1,15 @@
 -- What the least numbers of the entries say of the happenings that they stand for.
-use Rattle.std.proofs.Common.{◌≡◌, ℕ, ◌<◌, ◌≤◌, cond, eqb, List, [], ◌∷◌, length, Option, Some, None, refl, sym, ◌∙◌, ap, subst, arith, ◌⊎◌, inl, inr, ⊎_elim}
-use Rattle.std.specs.Prelude.{MatchOption, not}
+use Rattle.std.proofs.Common.{◌≡◌, ℕ, ◌<◌, ◌≤◌, cond, eqb, List, [], ◌∷◌, length, Option, Some, None, refl, sym, ◌∙◌, ap, subst, arith, ⊎_elim}
+use Rattle.std.specs.Prelude.{not}
 use Rattle.std.proofs.lemmas.Bool.Decides.{nat_tests}
 use Rattle.std.proofs.lemmas.Bool.{cond_both, eqb-true, eq-eqb, ne_eqb, cond-true, cond-false}
 use Rattle.nd_standing.specs.declared.kept.Kept.{Kept}
 use Rattle.nd_standing.specs.Rows.{place}
 use Rattle.nd_standing.specs.Listing.{end_in, AllAfter, Rises, without, Stands}
 use Rattle.nd_routers.specs.Happenings.{Happening, announcements}
-use Rattle.nd_routers.specs.Routers.{same, NoneBefore, lesser, least_by, next_end, is_at, key_at, first_due}
+use Rattle.nd_routers.specs.Routers.{same, NoneBefore, next_end, key_at, first_due}
+use Rattle.nd_keyed.specs.Due.{lesser, is_at, least_date}
+use Rattle.nd_keyed.proofs.Due.{AtMost, AtMost-left, AtMost-right, AtMost-same, AtMost-some, AtMost-none, lesser_is, NotBefore-left, NotBefore-right, NotBefore-both}
 use Rattle.nd_routers.specs.Due.{IsDue, FirstDue, NextDue}
 
 pub lesser_assoc : (a b c : Option ℕ) → lesser a (lesser b c) ≡ lesser (lesser a b) c
@@ -20,33 +22,12 @@ pub lesser_none : (a : Option ℕ) → lesser a None ≡ a
 lesser_none None = refl
 lesser_none (Some x) = refl
 
--- the least is at most this
-abbrev AtMost : Option ℕ → ℕ → Type 0
-AtMost None n = ⊥
-AtMost (Some x) n = x ≤ n
-
-AtMost-left : (a b : Option ℕ) (n : ℕ) → AtMost a n → AtMost (lesser a b) n
-AtMost-left None b n h = absurd h
-AtMost-left (Some x) None n h = h
-AtMost-left (Some x) (Some y) n h = omega arith
-
-AtMost-right : (a b : Option ℕ) (n : ℕ) → AtMost b n → AtMost (lesser a b) n
-AtMost-right None b n h = h
-AtMost-right (Some x) None n h = absurd h
-AtMost-right (Some x) (Some y) n h = omega arith
-
--- the least is one of the two
-lesser_cases : (a b : Option ℕ) (n : ℕ) → lesser a b ≡ Some n → (a ≡ Some n) ⊎ (b ≡ Some n)
-lesser_cases None b n h = inr h
-lesser_cases (Some x) None n h = inl h
-lesser_cases (Some x) (Some y) n h = grind arith
-
-least_at_most : (number : Kept ℕ → Option ℕ) (es : List (Kept ℕ)) (key n : ℕ) (end : Option ℕ) → end_in same key es ≡ Some end → ((e : Kept ℕ) → e.key ≡ key → e.end ≡ end → AtMost (number e) n) → AtMost (least_by number es) n
+least_at_most : (number : Kept ℕ → Option ℕ) (es : List (Kept ℕ)) (key n : ℕ) (end : Option ℕ) → end_in same key es ≡ Some end → ((e : Kept ℕ) → e.key ≡ key → e.end ≡ end → AtMost (number e) n) → AtMost (least_date number es) n
 least_at_most number [] key n end h f = absurd (grind arith)
 least_at_most number (e ∷ es) key n end h f =
-    cond_both (eqb e.key key) (Some e.end) (end_in same key es) (λ (o : Option (Option ℕ)). o ≡ Some end → AtMost (lesser (number e) (least_by number es)) n)
-    (λ at is. AtMost-left (number e) (least_by number es) n (f e (eqb-true e.key key at) (grind arith)))
-    (λ _ is. AtMost-right (number e) (least_by number es) n (least_at_most number es key n end is f)) h
+    cond_both (eqb e.key key) (Some e.end) (end_in same key es) (λ (o : Option (Option ℕ)). o ≡ Some end → AtMost (lesser (number e) (least_date number es)) n)
+    (λ at is. AtMost-left (number e) (least_date number es) n (f e (eqb-true e.key key at) (grind arith)))
+    (λ _ is. AtMost-right (number e) (least_date number es) n (least_at_most number es key n end is f)) h
 
 -- a key behind e comes later
 pub AllAfter-other : (f : ℕ → ℕ) (n : ℕ) (es : List (Kept ℕ)) (key : ℕ) (end : Option ℕ) → AllAfter same f n es → end_in same key es ≡ Some end → n < f key
@@ -74,7 +55,7 @@ some_not_none : {x : ℕ} → Some x ≡ None → ⊥
 some_not_none h = cc
 
 -- the least number is that of an entry, and where the entries rise that entry is its key's
-least_found : (f : ℕ → ℕ) (number : Kept ℕ → Option ℕ) (es : List (Kept ℕ)) (n : ℕ) → Rises same f es → least_by number es ≡ Some n → (e : Kept ℕ) × (end_in same e.key es ≡ Some e.end) × (number e ≡ Some n)
+least_found : (f : ℕ → ℕ) (number : Kept ℕ → Option ℕ) (es : List (Kept ℕ)) (n : ℕ) → Rises same f es → least_date number es ≡ Some n → (e : Kept ℕ) × (end_in same e.key es ≡ Some e.end) × (number e ≡ Some n)
 least_found f number [] n r h = absurd (grind arith)
 least_found f number (e ∷ es) n r h = ⊎_elim
     (λ p. (e, cond-true (eqb e.key e.key) (Some e.end) (end_in same e.key es) (eq-eqb e.key e.key refl), p))
@@ -82,25 +63,13 @@ least_found f number (e ∷ es) n r h = ⊎_elim
     let found = least_found f number es n r.1 q in
     let later : f e.key < f found.0.key = AllAfter-other f (f e.key) es found.0.key found.0.end r.0 found.1 in
     (found.0, cond-false (eqb e.key found.0.key) (Some e.end) (end_in same found.0.key es) (ne_eqb e.key found.0.key (λ at. let low = ap f at in absurd (omega (arith, later, low)))) ∙ found.1, found.2))
-    (lesser_cases (number e) (least_by number es) n h)
-
-AtMost-some : (o : Option ℕ) (n m : ℕ) → o ≡ Some m → AtMost o n → m ≤ n
-AtMost-some None n m is h = absurd h
-AtMost-some (Some x) n m is h = grind arith
-
-AtMost-none : (o : Option ℕ) (n : ℕ) → o ≡ None → AtMost o n → ⊥
-AtMost-none None n is h = h
-AtMost-none (Some x) n is h = absurd (grind arith)
-
-AtMost-at : (o : Option ℕ) (n : ℕ) → o ≡ Some n → AtMost o n
-AtMost-at None n is = absurd (grind arith)
-AtMost-at (Some x) n is = grind arith
+    (lesser_is (number e) (least_date number es) n h)
 
 module _ (es : List (Kept ℕ)) (rows : List Happening) (s : Stands same es (announcements rows)) where
   -- an end that is due is at least the earliest end
   due_at_most : (moment key : ℕ) → IsDue rows moment key → AtMost (next_end es) moment
   due_at_most moment key due =
-      least_at_most (λ e. e.end) es key moment (Some moment) (s.ends key ∙ due) (λ e _ is. AtMost-at e.end moment is)
+      least_at_most (λ e. e.end) es key moment (Some moment) (s.ends key ∙ due) (λ e _ is. AtMost-same e.end moment is)
 
   pub next_is_due : (next : Option ℕ) → next_end es ≡ next → NextDue rows next
   next_is_due None is = λ moment key due. AtMost-none (next_end es) moment is (due_at_most moment key due)
@@ -111,7 +80,7 @@ module _ (es : List (Kept ℕ)) (rows : List Happening) (s : Stands same es (ann
   first_at_most : (now key : ℕ) → IsDue rows now key → AtMost (first_due now es) key
   first_at_most now key due =
       least_at_most (key_at now) es key key (Some now) (s.ends key ∙ due)
-      (λ e at is. AtMost-at (key_at now e) key (key_at-now now e key at is))
+      (λ e at is. AtMost-same (key_at now e) key (key_at-now now e key at is))
 
   pub first_is_due : (now : ℕ) (first : Option ℕ) → first_due now es ≡ first → FirstDue rows now first
   first_is_due now None is = λ key due. AtMost-none (first_due now es) key is (first_at_most now key due)
@@ -120,31 +89,12 @@ module _ (es : List (Kept ℕ)) (rows : List Happening) (s : Stands same es (ann
       let at = at-key now found.0 first found.2 in
       (sym (s.ends first) ∙ (ap (λ k. end_in same k es) (sym at.0) ∙ (found.1 ∙ ap Some at.1)), λ key due. AtMost-some (first_due now es) key first is (first_at_most now key due))
 
--- no number is below this
-abbrev Above : ℕ → Option ℕ → Type 0
-Above n o = MatchOption o (Unit {0}) (λ x. n ≤ x)
-
-lesser_above : (n : ℕ) (a b : Option ℕ) → Above n a → Above n b → Above n (lesser a b)
-lesser_above n None b h k = k
-lesser_above n (Some x) None h k = h
-lesser_above n (Some x) (Some y) h k = omega arith
-
-above_left : (n : ℕ) (a b : Option ℕ) → Above n (lesser a b) → Above n a
-above_left n None b h = tt
-above_left n (Some x) None h = h
-above_left n (Some x) (Some y) h = omega arith
-
-above_right : (n : ℕ) (a b : Option ℕ) → Above n (lesser a b) → Above n b
-above_right n None b h = h
-above_right n (Some x) None h = tt
-above_right n (Some x) (Some y) h = omega arith
-
 pub NoneBefore-without : (now key : ℕ) (es : List (Kept ℕ)) → NoneBefore es now → NoneBefore (without same key es) now
 NoneBefore-without now key [] h = tt
 NoneBefore-without now key (e ∷ es) h =
-    let rest = NoneBefore-without now key es (above_right now e.end (next_end es) h) in
+    let rest = NoneBefore-without now key es (NotBefore-right now e.end (next_end es) h) in
     cond_both (not (eqb e.key key)) (e ∷ without same key es) (without same key es) (λ xs. NoneBefore xs now)
-    (λ _. lesser_above now e.end (next_end (without same key es)) (above_left now e.end (next_end es) h) rest) (λ _. rest)
+    (λ _. NotBefore-both now e.end (next_end (without same key es)) (NotBefore-left now e.end (next_end es) h) rest) (λ _. rest)
 
 shorter : (key : ℕ) (es : List (Kept ℕ)) → length (without same key es) ≤ length es
 shorter key [] = omega arith
@@ -160,7 +110,7 @@ first_has now key [] h = absurd (grind arith)
 first_has now key (e ∷ es) h = ⊎_elim
     (λ p. (e.end, cond-true (eqb e.key key) (Some e.end) (end_in same key es) (eq-eqb e.key key (at-key now e key p).0)))
     (λ q. cond_both (eqb e.key key) (Some e.end) (end_in same key es) (λ (o : Option (Option ℕ)). (end : Option ℕ) × (o ≡ Some end)) (λ _. (e.end, refl)) (λ _. first_has now key es q))
-    (lesser_cases (key_at now e) (first_due now es) key h)
+    (lesser_is (key_at now e) (first_due now es) key h)
 
 -- where the earliest end is now, a key is due now
 pub first_at_next : (now : ℕ) (es : List (Kept ℕ)) → next_end es ≡ Some now → first_due now es ≡ None → ⊥
@@ -170,4 +120,4 @@ first_at_next now (e ∷ es) h none =
     ⊎_elim
     (λ p. absurd (some_not_none (sym (key_at-now now e e.key refl p) ∙ parts.0)))
     (λ q. first_at_next now es q parts.1)
-    (lesser_cases e.end (next_end es) now h)
+    (lesser_is e.end (next_end es) now h)

@@ -1,10 +1,10 @@
 -- What is asked of the prefixes that stand.
-use Rattle.std.specs.Prelude.{ℕ, Bool, ◌||◌, List, [], ◌∷◌, replicate, Option, Some, None}
+use Rattle.std.specs.Prelude.{ℕ, Bool, ◌||◌, List, [], ◌∷◌, replicate, Option, None}
 use Rattle.std.specs.List.{list_any}
 use Rattle.nd_addr.specs.Number.{holds}
 use Rattle.nd_addr.specs.Prefix.{PrefixValue}
 use Rattle.nd_standing.specs.declared.kept.Kept.{Kept}
-use Rattle.nd_routers.specs.Routers.{lesser}
+use Rattle.nd_keyed.specs.Due.{lesser}
 
 -- the earliest end
 abbrev pub least_end : List (Kept PrefixValue) → Option ℕ

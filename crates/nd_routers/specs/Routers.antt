@@ -1,10 +1,11 @@
 -- What a table of routers is to the happenings that it stands for.
-use Rattle.std.specs.Prelude.{◌≡◌, ◌≤◌, ℕ, Bool, true, false, ◌==◌, if◌then◌else◌, IsTrue, MatchOption, min, List, [], ◌∷◌, ◌++◌, Option, Some, None, is_some, map}
+use Rattle.std.specs.Prelude.{ℕ, Bool, ◌==◌, if◌then◌else◌, IsTrue, List, [], ◌∷◌, Option, Some, None, map}
+use Rattle.nd_keyed.specs.Due.{is_at, least_date, NotBefore}
 use Rattle.nd_standing.specs.declared.kept.Kept.{Kept}
 use Rattle.nd_standing.specs.Rows.{is_before}
-use Rattle.nd_standing.specs.Listing.{end_in, Stands}
+use Rattle.nd_standing.specs.Listing.{Stands}
 use Rattle.nd_routers.specs.Happenings.{Happening, Left, announcements}
-use Rattle.nd_routers.specs.Failures.{Failures, others}
+use Rattle.nd_routers.specs.Failures.{Failures}
 
 -- the routers with their ends, in the order in which they came, and those of them that failed, in the order of their last failures
 pub record Table : Type 0 where
@@ -24,25 +25,9 @@ pub record IsOf (table : Table) (rows : List Happening) : Type 0 where
 pub record Gains (old new : Table) (row : Happening) : Type 0 where
   pub stands : (rows : List Happening) → IsOf old rows → IsOf new (row ∷ rows)
 
--- the lesser of two numbers that may be missing
-abbrev pub lesser : Option ℕ → Option ℕ → Option ℕ
-lesser None b = b
-lesser (Some x) None = Some x
-lesser (Some x) (Some y) = Some (min x y)
-
--- the least number that the entries have
-abbrev pub least_by : (Kept ℕ → Option ℕ) → List (Kept ℕ) → Option ℕ
-least_by number [] = None
-least_by number (e ∷ es) = lesser (number e) (least_by number es)
-
 -- the earliest end
 abbrev pub next_end : List (Kept ℕ) → Option ℕ
-next_end es = least_by (λ e. e.end) es
-
--- the end comes at this moment
-abbrev pub is_at : ℕ → Option ℕ → Bool
-is_at now None = false
-is_at now (Some end) = end == now
+next_end es = least_date (λ e. e.end) es
 
 -- the key, if its end comes at this moment
 abbrev pub key_at : ℕ → Kept ℕ → Option ℕ
@@ -50,7 +35,7 @@ key_at now e = if is_at now e.end then Some e.key else None
 
 -- the least key whose end comes at this moment
 abbrev pub first_due : ℕ → List (Kept ℕ) → Option ℕ
-first_due now es = least_by (key_at now) es
+first_due now es = least_date (key_at now) es
 
 -- no end has come by the moment
 abbrev pub IsSettled : List (Kept ℕ) → ℕ → Type 0
@@ -58,7 +43,7 @@ IsSettled es now = IsTrue (is_before now (next_end es))
 
 -- no end came before the moment
 abbrev pub NoneBefore : List (Kept ℕ) → ℕ → Type 0
-NoneBefore es now = MatchOption (next_end es) (Unit {0}) (λ next. now ≤ next)
+NoneBefore es now = NotBefore now (next_end es)
 
 -- the routers leave in this order
 abbrev pub left_rows : ℕ → List ℕ → List Happening → List Happening

@@ -1,7 +1,8 @@
 ghost use Rattle.std.specs.Prelude.{◌≡◌, Some};
 ghost use Rattle.std.specs.Option.{option_map};
 ghost use Rattle.nd_addr.specs.Number.{number_of};
-ghost use Rattle.nd_routers.specs.Routers.{lesser, next_end, first_due};
+ghost use Rattle.nd_routers.specs.Routers.{next_end, first_due};
+ghost use Rattle.nd_keyed.specs.Due.{lesser};
 
 use crate::router::{Router, compare};
 use nd_addr::Addr;

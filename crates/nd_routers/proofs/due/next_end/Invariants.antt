@@ -1,5 +1,6 @@
 use Rattle.std.proofs.Common.{◌≡◌, drop}
-use Rattle.nd_routers.specs.Routers.{lesser, next_end}
+use Rattle.nd_routers.specs.Routers.{next_end}
+use Rattle.nd_keyed.specs.Due.{lesser}
 use Rattle.nd_routers.proofs.due.next_end.Given as goal
 
 -- the least so far and the least of the rest are the least of all
