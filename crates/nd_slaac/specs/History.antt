@@ -36,9 +36,9 @@ pub record Tried (key : ℕ) (rows : List Row) (formed delay retrans sent : ℕ)
   pub formed_at : Past ((formed, key, Formed delay retrans lifetimes) ∷ below) rows
   pub positive : 0 < retrans
   pub tentative : (h : List Row) → Past h rows → Past ((formed, key, Formed delay retrans lifetimes) ∷ below) h → is_tentative (story key h) ≡ true
-  -- there is each of them
+  -- each of them stands since then
   pub solicited : (number : ℕ) → number < sent → (earlier : List Row) × Past ((formed + delay + number * retrans, key, Solicited) ∷ earlier) rows × Past ((formed, key, Formed delay retrans lifetimes) ∷ below) earlier
-  -- and no other
+  -- and any that stands since then comes at least a RetransTimer before the next step
   pub only : (moment : ℕ) (earlier : List Row) → Past ((moment, key, Solicited) ∷ earlier) rows → Past ((formed, key, Formed delay retrans lifetimes) ∷ below) earlier → moment + retrans ≤ formed + delay + sent * retrans
 
 -- The address holds: it was tried, was assigned one RetransTimer after its last solicitation and before its valid
