@@ -1,9 +1,9 @@
 -- What one more happening does to the routers that failed.
-use Rattle.std.proofs.Common.{◌≡◌, ℕ, ◌+◌, ◌<◌, ◌≤◌, Bool, true, false, cond, eqb, List, [], ◌∷◌, ◌++◌, length, Option, Some, None, refl, sym, ◌∙◌, ap, subst, arith, ⊎_elim}
-use Rattle.std.specs.Prelude.{filter, not, is_some, ◌&&◌, ◌||◌}
+use Rattle.std.proofs.Common.{◌≡◌, ℕ, ◌<◌, ◌≤◌, Bool, true, false, eqb, List, [], ◌∷◌, ◌++◌, length, Option, Some, None, refl, sym, ◌∙◌, ap, subst, arith, ⊎_elim}
+use Rattle.std.specs.Prelude.{not, is_some, ◌&&◌, ◌||◌}
 use Rattle.std.proofs.lemmas.Bool.Decides.{nat_tests, eqb_tells}
-use Rattle.std.proofs.lemmas.Bool.{cond_both, eqb-true, cond-true, cond-false, true≢false, cases_eq}
-use Rattle.nd_standing.specs.Rows.{end_of, end_after, is_open, stands}
+use Rattle.std.proofs.lemmas.Bool.{cond_both, true≢false}
+use Rattle.nd_standing.specs.Rows.{end_of, stands}
 use Rattle.nd_standing.specs.declared.kept.Kept.{Kept}
 use Rattle.nd_standing.specs.Listing.{end_in, without, Stands}
 use Rattle.nd_standing.proofs.Finding.{end_in-without}

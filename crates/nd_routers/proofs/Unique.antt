@@ -1,5 +1,5 @@
 -- One table is that of the happenings, and one order is that of the failures.
-use Rattle.std.proofs.Common.{◌≡◌, ℕ, ◌<◌, Bool, true, false, eqb, List, [], ◌∷◌, refl, sym, ◌∙◌, ap, arith, ⊎_elim}
+use Rattle.std.proofs.Common.{◌≡◌, ℕ, ◌<◌, true, false, eqb, List, [], ◌∷◌, refl, sym, ◌∙◌, ap, arith, ⊎_elim}
 use Rattle.std.specs.Prelude.{◌||◌}
 use Rattle.std.proofs.lemmas.Bool.Decides.{nat_tests, eqb_tells}
 use Rattle.std.proofs.lemmas.Bool.{true≢false}
@@ -8,7 +8,7 @@ use Rattle.nd_standing.proofs.Unique.{one_list}
 use Rattle.nd_routers.specs.Happenings.{Happening}
 use Rattle.nd_routers.specs.Failures.{has_failed, AllLater, InOrder, Failures}
 use Rattle.nd_routers.specs.Routers.{Table, same, IsOf}
-use Rattle.nd_routers.proofs.Failing.{head_has, tail_has, not_first}
+use Rattle.nd_routers.proofs.Failing.{head_has, not_first}
 
 abbrev SameKeys : List ℕ → List ℕ → Type 0
 SameKeys js ks = (key : ℕ) → has_failed key js ≡ has_failed key ks

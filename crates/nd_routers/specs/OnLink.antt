@@ -1,5 +1,5 @@
 -- Which prefixes a Router Advertisement says are on the link (RFC 4861, section 6.3.4).
-use Rattle.std.specs.Prelude.{ℕ, Bool, ◌&&◌, ◌||◌, not, if◌then◌else◌, List, [], ◌∷◌, ◌++◌, Option, Some, None}
+use Rattle.std.specs.Prelude.{ℕ, Bool, ◌&&◌, not, if◌then◌else◌, List, [], ◌∷◌, ◌++◌, Option, Some, None}
 use Rattle.std.specs.Option.{option_to_list}
 use Rattle.nd_addr.specs.Kind.{multicast_prefix, link_local_prefix}
 use Rattle.nd_addr.specs.Number.{holds}

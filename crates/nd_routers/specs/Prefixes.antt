@@ -1,5 +1,5 @@
 -- What is asked of the prefixes that stand.
-use Rattle.std.specs.Prelude.{ℕ, Bool, ◌||◌, List, [], ◌∷◌, replicate, Option, Some, None}
+use Rattle.std.specs.Prelude.{ℕ, Bool, ◌||◌, List, [], ◌∷◌, replicate, Option, None}
 use Rattle.std.specs.List.{list_any}
 use Rattle.nd_addr.specs.Number.{holds}
 use Rattle.nd_addr.specs.Prefix.{PrefixValue}

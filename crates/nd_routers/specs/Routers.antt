@@ -1,10 +1,10 @@
 -- What a table of routers is to the happenings that it stands for.
-use Rattle.std.specs.Prelude.{◌≡◌, ◌≤◌, ℕ, Bool, true, false, ◌==◌, if◌then◌else◌, IsTrue, MatchOption, min, List, [], ◌∷◌, ◌++◌, Option, Some, None, is_some, map}
+use Rattle.std.specs.Prelude.{◌≤◌, ℕ, Bool, false, ◌==◌, if◌then◌else◌, IsTrue, MatchOption, min, List, [], ◌∷◌, Option, Some, None, map}
 use Rattle.nd_standing.specs.declared.kept.Kept.{Kept}
 use Rattle.nd_standing.specs.Rows.{is_before}
-use Rattle.nd_standing.specs.Listing.{end_in, Stands}
+use Rattle.nd_standing.specs.Listing.{Stands}
 use Rattle.nd_routers.specs.Happenings.{Happening, Left, announcements}
-use Rattle.nd_routers.specs.Failures.{Failures, others}
+use Rattle.nd_routers.specs.Failures.{Failures}
 
 -- the routers with their ends, in the order in which they came, and those of them that failed, in the order of their last failures
 pub record Table : Type 0 where

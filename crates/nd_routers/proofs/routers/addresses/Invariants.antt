@@ -1,4 +1,4 @@
-use Rattle.std.proofs.Common.{◌≡◌, ◌≤◌, ◌+◌, take, length}
+use Rattle.std.proofs.Common.{◌≡◌, ◌≤◌, take, length}
 use Rattle.std.specs.Prelude.{map, vec_len, vec_capacity}
 use Rattle.nd_addr.specs.Number.{number_of}
 use Rattle.nd_routers.proofs.routers.addresses.Given as goal

@@ -1,4 +1,4 @@
-use Rattle.std.proofs.Common.{◌≡◌, ◌∙◌, sym, ap, subst, arith, List}
+use Rattle.std.proofs.Common.{◌∙◌, sym, ap, subst, arith, List}
 use Rattle.nd_addr.specs.Prefix.{PrefixValue}
 use Rattle.nd_decode.specs.Pieces.{options_left}
 use Rattle.nd_standing.specs.declared.kept.Kept.{Kept}

@@ -1,4 +1,4 @@
-use Rattle.std.proofs.Common.{◌≡◌, ◌∙◌, sym, ap, false, Bool, List}
+use Rattle.std.proofs.Common.{◌∙◌, sym, ap, Bool, List}
 use Rattle.std.specs.Prelude.{◌||◌}
 use Rattle.std.specs.List.{list_any}
 use Rattle.nd_addr.specs.Number.{holds}
@@ -7,7 +7,6 @@ use Rattle.nd_standing.specs.declared.kept.Kept.{Kept}
 use Rattle.nd_standing.specs.Listing.{open_at}
 use Rattle.nd_standing.specs.Same.{same_prefix, prefixes_tell}
 use Rattle.nd_standing.proofs.Unique.{one_listing}
-use Rattle.nd_routers.specs.Prefixes.{is_held, link_local_subnet}
 use Rattle.nd_routers.proofs.prefixes.Prefixes.on_link.Goals as goal
 
 pub returns-else-is_link_local-clause-by_rows : goal.returns-else-is_link_local-clause-by_rows

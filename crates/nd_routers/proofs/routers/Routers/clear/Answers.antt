@@ -1,5 +1,3 @@
-use Rattle.std.proofs.Common.{◌≡◌, ◌∙◌, ap, sym, List, ℕ, []}
-use Rattle.nd_routers.specs.Routers.{Table, IsOf, left_rows, keys}
 use Rattle.nd_routers.proofs.Clearing.{all_leave}
 use Rattle.nd_routers.proofs.routers.Routers.clear.Goals as goal
 

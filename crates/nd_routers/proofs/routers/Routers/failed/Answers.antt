@@ -1,4 +1,4 @@
-use Rattle.std.proofs.Common.{◌≡◌, ◌∙◌, ◌++◌, ◌∷◌, [], sym, ap, refl, arith, true, false, List, ℕ, rules}
+use Rattle.std.proofs.Common.{◌≡◌, ◌∙◌, ◌++◌, ◌∷◌, [], sym, ap, refl, arith}
 use Rattle.std.specs.Prelude.{is_some, length}
 use Rattle.nd_addr.specs.Number.{number_of}
 use Rattle.nd_standing.specs.Listing.{end_in}

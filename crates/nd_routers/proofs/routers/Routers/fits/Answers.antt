@@ -1,8 +1,7 @@
-use Rattle.std.proofs.Common.{◌≡◌, ◌∙◌, ap, arith, ◌≤◌, length}
+use Rattle.std.proofs.Common.{◌∙◌, ap, arith, ◌≤◌, length}
 use Rattle.std.specs.Prelude.{is_some}
 use Rattle.std.proofs.lemmas.Bool.Decides.{eqb_tells, nat_tests}
 use Rattle.nd_addr.specs.Number.{number_of}
-use Rattle.nd_standing.specs.declared.kept.Kept.{Kept}
 use Rattle.nd_standing.specs.Listing.{end_in, open_at}
 use Rattle.nd_standing.proofs.Steps.{announced_length}
 use Rattle.nd_routers.specs.Routers.{same}

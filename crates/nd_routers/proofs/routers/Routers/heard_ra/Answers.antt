@@ -1,4 +1,4 @@
-use Rattle.std.proofs.Common.{◌≡◌, ◌∙◌, sym, ap, subst, true, false, ◌≤◌, ℕ, List, arith}
+use Rattle.std.proofs.Common.{◌≡◌, ◌∙◌, sym, ap, subst, true, false, ℕ, List, arith}
 use Rattle.std.specs.Prelude.{is_some}
 use Rattle.std.proofs.lemmas.Bool.{ne_eqb}
 use Rattle.std.proofs.lemmas.Bool.Decides.{nat_tests}
@@ -8,7 +8,6 @@ use Rattle.nd_standing.specs.Listing.{end_in, announced}
 use Rattle.nd_routers.specs.Happenings.{Heard}
 use Rattle.nd_routers.specs.Failures.{others}
 use Rattle.nd_routers.specs.Routers.{same, IsSettled, Gains}
-use Rattle.nd_routers.specs.Change.{change_of}
 use Rattle.nd_routers.proofs.Steps.{gains_removed, gains_heard, settled_announced, changes}
 use Rattle.nd_routers.proofs.routers.Routers.heard_ra.Goals as goal
 
