@@ -14,6 +14,7 @@ mod routers;
 
 pub use change::Change;
 pub use listed::Listed;
+pub use nd_params::{Params, reachable_range};
 pub use nd_standing::{Kept, Limit, Standing, TableRefusal};
 pub use prefixes::Prefixes;
 pub use router::Router;

@@ -1,7 +1,8 @@
 ghost use Rattle.std.specs.Prelude.{◌<◌, ◌^◌};
 
 use super::*;
-use nd_addr::Addr;
+use nd_addr::{Addr, Prefix};
+use nd_decode::decode;
 use std::alloc::Global;
 use std::process::Abort;
 use std::test::*;
@@ -187,5 +188,202 @@ fn clears_in_the_order_of_the_list(rt: HostRuntime) -> Result<(), Fail> {
                 failed: None
             })
     );
+    Ok(())
+}
+
+/// A prefix option of an advertisement: the last byte of 2001:db8:0:n::/64, its flags, and its valid lifetime in seconds.
+#[derive(Clone, Copy)]
+struct Told {
+    n: u8,
+    flags: u8,
+    valid: u8,
+}
+
+/// A prefix that is on the link.
+fn lasting(n: u8, valid: u8) -> Told {
+    Told {
+        n,
+        flags: 0x80,
+        valid,
+    }
+}
+
+/// 2001:db8:0:n::/64.
+fn prefix(n: u8) -> Option<Prefix> {
+    Prefix::new(
+        Addr([0x20, 0x01, 0x0d, 0xb8, 0, 0, 0, n, 0, 0, 0, 0, 0, 0, 0, 0]),
+        64,
+    )
+}
+
+/// Hears an advertisement with two prefix options. The addresses of the prefixes begin with these two bytes.
+fn hear_from(
+    prefixes: &mut Prefixes<Global>,
+    now: u64,
+    first: [u8; 2],
+    a: Told,
+    b: Told,
+) -> Option<(bool, Result<(), TableRefusal>)>
+    requires { now < 2 ^ 62 }
+{
+    let [x, y] = first;
+    let bytes = [
+        0x86, 0, 0, 0, 0, 0, 0, 0, 0, 0, 0, 0, 0, 0, 0, 0, 3, 4, 64, a.flags, 0, 0, 0, a.valid, 0,
+        0, 0, 1, 0, 0, 0, 0, x, y, 0x0d, 0xb8, 0, 0, 0, a.n, 0, 0, 0, 0, 0, 0, 0, 0, 3, 4, 64,
+        b.flags, 0, 0, 0, b.valid, 0, 0, 0, 1, 0, 0, 0, 0, x, y, 0x0d, 0xb8, 0, 0, 0, b.n, 0, 0, 0,
+        0, 0, 0, 0, 0,
+    ];
+    let message = decode(&bytes).ok()?;
+    let fits = prefixes.fits(now, message.options);
+    Some((fits, prefixes.heard_ra(now, message.options)))
+}
+
+/// Hears an advertisement with two prefix options.
+fn hear_both(
+    prefixes: &mut Prefixes<Global>,
+    now: u64,
+    a: Told,
+    b: Told,
+) -> Option<(bool, Result<(), TableRefusal>)>
+    requires { now < 2 ^ 62 }
+{
+    hear_from(prefixes, now, [0x20, 0x01], a, b)
+}
+
+/// The prefixes that stand, each by its byte n, with their ends.
+fn standing(rt: &impl Abort, prefixes: &Prefixes<Global>, now: u64, wanted: &[(u8, u64)]) {
+    let mut rest = wanted;
+    for entry in prefixes.rows(now) {
+        match rest {
+            [(n, end), more @ ..] => {
+                assert!(rt; Some(entry.key) == prefix(*n));
+                assert!(rt; entry.end == Some(*end));
+                rest = more;
+            }
+            [] => assert!(rt; false),
+        }
+    }
+    assert!(rt; rest.is_empty());
+}
+
+/// How many prefixes stand.
+fn count_at(prefixes: &Prefixes<Global>, now: u64) -> usize {
+    let mut count = 0usize;
+    for _ in prefixes.rows(now) {
+        count = count.saturating_add(1);
+    }
+    count
+}
+
+const TAKEN: Option<(bool, Result<(), TableRefusal>)> = Some((true, Ok(())));
+
+const FULL: Option<(bool, Result<(), TableRefusal>)> = Some((
+    false,
+    Err(TableRefusal::Full(Limit::Prefixes)),
+));
+
+#[test]
+fn keeps_prefixes_in_the_order_of_coming(rt: HostRuntime) -> Result<(), Fail> {
+    let mut prefixes = Prefixes::new(rt.alloc())?;
+    assert!(rt; hear_both(&mut prefixes, 1_000, lasting(2, 100), lasting(1, 50)) == TAKEN);
+    // A refreshed one keeps its place; a new one with a lifetime of 0 is ignored.
+    assert!(rt; hear_both(&mut prefixes, 2_000, lasting(2, 10), lasting(3, 0)) == TAKEN);
+    standing(&rt, &prefixes, 2_000, &[(2, 12_000), (1, 51_000)]);
+    assert!(rt; prefixes.least_end(2_000) == Some(12_000));
+    // One that is removed and comes again in the same message is last.
+    assert!(rt; hear_both(&mut prefixes, 3_000, lasting(2, 0), lasting(2, 100)) == TAKEN);
+    standing(&rt, &prefixes, 3_000, &[(1, 51_000), (2, 103_000)]);
+    // They end silently, and one that is announced exactly at its end comes last.
+    standing(&rt, &prefixes, 50_999, &[(1, 51_000), (2, 103_000)]);
+    standing(&rt, &prefixes, 51_000, &[(2, 103_000)]);
+    assert!(rt; prefixes.least_end(51_000) == Some(103_000));
+    assert!(rt; hear_both(&mut prefixes, 51_000, lasting(1, 100), lasting(2, 100)) == TAKEN);
+    standing(&rt, &prefixes, 51_000, &[(2, 151_000), (1, 151_000)]);
+    prefixes.clear();
+    standing(&rt, &prefixes, 51_000, &[]);
+    assert!(rt; prefixes.least_end(51_000).is_none());
+    Ok(())
+}
+
+#[test]
+fn takes_no_prefix_that_is_not_on_the_link(rt: HostRuntime) -> Result<(), Fail> {
+    let mut prefixes = Prefixes::new(rt.alloc())?;
+    let without = Told {
+        n: 1,
+        flags: 0x40,
+        valid: 100,
+    };
+    assert!(rt; hear_both(&mut prefixes, 1_000, without, without) == TAKEN);
+    assert!(rt;
+        hear_from(
+            &mut prefixes,
+            1_000,
+            [0xfe, 0x80],
+            lasting(1, 100),
+            lasting(2, 100)
+        ) == TAKEN
+    );
+    assert!(rt;
+        hear_from(
+            &mut prefixes,
+            1_000,
+            [0xff, 0x02],
+            lasting(1, 100),
+            lasting(2, 100)
+        ) == TAKEN
+    );
+    standing(&rt, &prefixes, 1_000, &[]);
+    Ok(())
+}
+
+#[test]
+fn tells_which_addresses_are_on_the_link(rt: HostRuntime) -> Result<(), Fail> {
+    let mut prefixes = Prefixes::new(rt.alloc())?;
+    let inside = Addr([0x20, 0x01, 0x0d, 0xb8, 0, 0, 0, 1, 0, 0, 0, 0, 0, 0, 0, 7]);
+    let outside = Addr([0x20, 0x01, 0x0d, 0xb8, 0, 0, 0, 3, 0, 0, 0, 0, 0, 0, 0, 7]);
+    let link_local = Addr([0xfe, 0x80, 0, 0, 0, 0, 0, 0, 1, 2, 3, 4, 5, 6, 7, 8]);
+    let no_subnet = Addr([0xfe, 0x80, 0, 0, 0, 0, 0, 1, 1, 2, 3, 4, 5, 6, 7, 8]);
+    assert!(rt; !prefixes.on_link(1_000, inside));
+    assert!(rt; prefixes.on_link(1_000, link_local));
+    assert!(rt; !prefixes.on_link(1_000, no_subnet));
+    assert!(rt; hear_both(&mut prefixes, 1_000, lasting(1, 10), lasting(2, 10)) == TAKEN);
+    assert!(rt; prefixes.on_link(10_999, inside));
+    assert!(rt; !prefixes.on_link(11_000, inside));
+    assert!(rt; !prefixes.on_link(1_000, outside));
+    Ok(())
+}
+
+#[test]
+fn has_room_for_sixty_four(rt: HostRuntime) -> Result<(), Fail> {
+    let mut prefixes = Prefixes::new(rt.alloc())?;
+    for n in 0..64u8 {
+        assert!(rt; hear_both(&mut prefixes, 1_000, lasting(n, 100), lasting(n, 200)) == TAKEN);
+    }
+    // A new prefix before the old one leaves is one too many, and nothing changes.
+    assert!(rt; hear_both(&mut prefixes, 2_000, lasting(64, 100), lasting(0, 0)) == FULL);
+    assert!(rt; count_at(&prefixes, 2_000) == 64);
+    assert!(rt;
+        !prefixes.on_link(
+            2_000,
+            Addr([0x20, 0x01, 0x0d, 0xb8, 0, 0, 0, 64, 0, 0, 0, 0, 0, 0, 0, 1])
+        )
+    );
+    assert!(rt;
+        prefixes.on_link(
+            2_000,
+            Addr([0x20, 0x01, 0x0d, 0xb8, 0, 0, 0, 0, 0, 0, 0, 0, 0, 0, 0, 1])
+        )
+    );
+    // In the other order it is taken, and the new one is last.
+    assert!(rt; hear_both(&mut prefixes, 2_000, lasting(0, 0), lasting(64, 100)) == TAKEN);
+    assert!(rt; count_at(&prefixes, 2_000) == 64);
+    let mut last = None;
+    for entry in prefixes.rows(2_000) {
+        last = Some(entry.key);
+    }
+    assert!(rt; last == prefix(64));
+    // Those that have ended don't count.
+    assert!(rt; hear_both(&mut prefixes, 201_000, lasting(65, 100), lasting(66, 100)) == TAKEN);
+    assert!(rt; count_at(&prefixes, 201_000) == 2);
     Ok(())
 }

@@ -1,8 +1,7 @@
 -- What the announcements of a message do to a list, one behind the other.
-use Rattle.std.proofs.Common.{◌≡◌, ℕ, zero, suc, ◌+◌, ◌<◌, ◌≤◌, Bool, true, false, cond, eqb, List, [], ◌∷◌, ◌++◌, length, take, drop, Option, Some, None, refl, sym, ◌∙◌, ap, subst, arith, ⊎_elim}
+use Rattle.std.proofs.Common.{◌≡◌, ℕ, zero, suc, ◌+◌, ◌≤◌, Bool, true, false, cond, eqb, List, [], ◌∷◌, ◌++◌, length, take, drop, Option, Some, None, refl, sym, ◌∙◌, ap, arith, ⊎_elim}
 use Rattle.std.specs.Prelude.{map, filter, not, is_some, ◌&&◌, nat_le}
-use Rattle.std.proofs.lemmas.Bool.Decides.{nat_tests}
-use Rattle.std.proofs.lemmas.Bool.{cond_both, cond-true, cond-false, true≢false}
+use Rattle.std.proofs.lemmas.Bool.{cond_both, cond-true, true≢false}
 use Rattle.nd_standing.specs.declared.kept.Kept.{Kept}
 use Rattle.nd_standing.specs.Rows.{end_time, is_before}
 use Rattle.nd_standing.specs.Listing.{open_at, end_in, renewed, without, told, announced, announced_all, fits, behind, Distinct, count_after}
@@ -116,7 +115,7 @@ module _ {K : Type 0} (same : K → K → Bool) (tells : Tells same) where
   one_shorter key (e ∷ es) d h = ⊎_elim
       (λ s. let rest : without same key (e ∷ es) ≡ es = grind (arith, tells, s.0, without_absent key es (ap (λ k. end_in same k es) (sym s.1) ∙ d.0)) in omega (arith, ap length rest))
       (λ n. let rest : without same key (e ∷ es) ≡ e ∷ without same key es = grind (arith, n.0) in
-          let shorter = one_shorter key es d.1 (grind (arith, n.0, h)) in omega (arith, ap length rest, shorter))
+      let shorter = one_shorter key es d.1 (grind (arith, n.0, h)) in omega (arith, ap length rest, shorter))
       (tells e.key key)
 
   as_long : (key : K) (end : Option ℕ) (es : List (Kept K)) → length (map (renewed same key end) es) ≡ length es

@@ -83,7 +83,6 @@ module _ {K : Type 0} (same : K → K → Bool) where
   fits limit now ((key, lifetime) ∷ more) es =
       nat_le (length (announced now key lifetime es)) limit && fits limit now more (announced now key lifetime es)
 
-
   -- the keys that stand behind some announcements of a message
   abbrev pub behind : ℕ → List (K × ℕ) → List (Kept K) → List (Kept K)
   behind now told es = announced_all now told (open_at now es)

@@ -1,5 +1,6 @@
 use Rattle.std.proofs.lemmas.Bool.Decides.{eqb_tells}
 use Rattle.nd_standing.proofs.Unique.{one_listing}
+use Rattle.nd_standing.specs.Same.{same_prefix, prefixes_tell}
 use Rattle.nd_routers.specs.Routers.{same}
 use Rattle.nd_routers.proofs.Unique.{one_failures, one_table}
 use Rattle.nd_routers.proofs.laws.one_answer.Goals as goal
@@ -12,3 +13,6 @@ returns-clause-table c = one_table
 
 pub returns-clause-failures : goal.returns-clause-failures
 returns-clause-failures c = one_failures
+
+pub returns-clause-prefixes : goal.returns-clause-prefixes
+returns-clause-prefixes c = one_listing same_prefix prefixes_tell

@@ -1,14 +1,17 @@
-use Rattle.std.proofs.Common.{◌≡◌, ◌∙◌, ◌∷◌, sym, ap, refl, arith, eqb, List, ℕ, ◌≤◌, length, take, true, false, ◌+◌}
-use Rattle.std.specs.Prelude.{is_some, not, nat_le, ◌&&◌}
+use Rattle.std.proofs.Common.{◌≡◌, ◌∙◌, sym, ap, refl, arith, eqb, List, ℕ, length, take, true, false, ◌+◌}
+use Rattle.std.specs.Prelude.{not, nat_le, ◌&&◌}
 use Rattle.std.proofs.lemmas.Bool.Decides.{nat_tests}
-use Rattle.nd_standing.specs.Listing.{end_in, behind, fits, count_after}
+use Rattle.nd_standing.specs.Listing.{behind, fits, count_after}
 use Rattle.nd_standing.proofs.Behind.{fits_open, counted, fits_more, next_is}
 use Rattle.nd_standing.proofs.message.fits_all.Goals as goal
 
 pub loop-key-init : goal.loop-key-init
-loop-key-init g c =
-    (c.count-standing.ensures.value, omega (arith, c.count-standing.ensures.within, c.requires.few), refl,
-      fits_open g.K.Names.same g.met.K.Names.tells c.args.limit c.args.now (g.I.Announces.told c.args.announced) c.args.entries.now)
+loop-key-init g c = (
+  c.count-standing.ensures.value,
+  omega (arith, c.count-standing.ensures.within, c.requires.few),
+  refl,
+  fits_open g.K.Names.same g.met.K.Names.tells c.args.limit c.args.now (g.I.Announces.told c.args.announced) c.args.entries.now,
+)
 
 pub returns-then-standing-limit : goal.returns-then-standing-limit
 returns-then-standing-limit g c =
@@ -22,9 +25,9 @@ returns-then-standing-limit g c =
     let after = not (eqb c.in-Some.lifetime 0) in
     let at = sym c.loop-key.invariant.2 ∙ c.in-Some.ensures in
     let count : c.count_after-standing.result ≡ length (behind same now (take (i + 1) all) es) =
-        c.count_after-standing.ensures ∙ (ap (λ n. count_after n c.stands_behind-before.result after) c.loop-key.invariant.0
-        ∙ (ap (λ b. count_after (length cur) b after) c.stands_behind-before.ensures
-        ∙ counted same tells now c.in-Some.key c.in-Some.lifetime i all (g.I.Announces.told c.next_told.new.self) es c.requires.distinct at)) in
+    c.count_after-standing.ensures ∙ (ap (λ n. count_after n c.stands_behind-before.result after) c.loop-key.invariant.0
+    ∙ (ap (λ b. count_after (length cur) b after) c.stands_behind-before.ensures
+    ∙ counted same tells now c.in-Some.key c.in-Some.lifetime i all (g.I.Announces.told c.next_told.new.self) es c.requires.distinct at)) in
     let over : nat_le (length (behind same now (take (i + 1) all) es)) c.args.limit ≡ false = grind (arith, nat_tests, count, c.if-standing-limit.true) in
     sym (sym c.loop-key.invariant.3
     ∙ (ap (λ (l : List (g.row.K.Denot × ℕ)). fits same c.args.limit now l cur) c.in-Some.ensures
@@ -43,12 +46,15 @@ loop-key-preserved g c =
     let after = not (eqb c.in-Some.lifetime 0) in
     let at = sym c.loop-key.invariant.2 ∙ c.in-Some.ensures in
     let count : c.count_after-standing.result ≡ length (behind same now (take (i + 1) all) es) =
-        c.count_after-standing.ensures ∙ (ap (λ n. count_after n c.stands_behind-before.result after) c.loop-key.invariant.0
-        ∙ (ap (λ b. count_after (length cur) b after) c.stands_behind-before.ensures
-        ∙ counted same tells now c.in-Some.key c.in-Some.lifetime i all (g.I.Announces.told c.next_told.new.self) es c.requires.distinct at)) in
+    c.count_after-standing.ensures ∙ (ap (λ n. count_after n c.stands_behind-before.result after) c.loop-key.invariant.0
+    ∙ (ap (λ b. count_after (length cur) b after) c.stands_behind-before.ensures
+    ∙ counted same tells now c.in-Some.key c.in-Some.lifetime i all (g.I.Announces.told c.next_told.new.self) es c.requires.distinct at)) in
     let within : nat_le (length (behind same now (take (i + 1) all) es)) c.args.limit ≡ true = grind (arith, nat_tests, count, c.if-standing-limit.false) in
-    let rest = fits same c.args.limit now (g.I.Announces.told c.next_told.new.self) (behind same now (take (i + 1) all) es) in
-    (count, omega (arith, c.if-standing-limit.false), next_is i c.in-Some.key c.in-Some.lifetime all (g.I.Announces.told c.next_told.new.self) at,
+    let rest = fits same c.args.limit now (g.I.Announces.told c.next_told.new.self) (behind same now (take (i + 1) all) es) in (
+      count,
+      omega (arith, c.if-standing-limit.false),
+      next_is i c.in-Some.key c.in-Some.lifetime all (g.I.Announces.told c.next_told.new.self) at,
       ap (λ b. b && rest) (sym within)
-      ∙ (sym (fits_more same tells now c.in-Some.key c.in-Some.lifetime i all (g.I.Announces.told c.next_told.new.self) es c.requires.distinct at c.args.limit)
-      ∙ (ap (λ (l : List (g.row.K.Denot × ℕ)). fits same c.args.limit now l cur) (sym c.in-Some.ensures) ∙ c.loop-key.invariant.3)))
+          ∙ (sym (fits_more same tells now c.in-Some.key c.in-Some.lifetime i all (g.I.Announces.told c.next_told.new.self) es c.requires.distinct at c.args.limit)
+          ∙ (ap (λ (l : List (g.row.K.Denot × ℕ)). fits same c.args.limit now l cur) (sym c.in-Some.ensures) ∙ c.loop-key.invariant.3)),
+    )

@@ -1,4 +1,4 @@
-use Rattle.std.proofs.Common.{◌≡◌, ◌∙◌, sym, ap, arith, cond, eqb, List, ℕ, ◌≤◌}
+use Rattle.std.proofs.Common.{◌∙◌, sym, ap, arith, cond, eqb, List, ℕ}
 use Rattle.std.specs.Prelude.{is_some, not}
 use Rattle.nd_standing.specs.Listing.{end_in, behind}
 use Rattle.nd_standing.proofs.Behind.{has_behind, take_past, next_is}
@@ -14,9 +14,10 @@ pub loop-preserved : goal.loop-preserved
 loop-preserved g c =
     let all = g.I.Announces.told c.args.announced in
     let key = c.args.key.now in
-    let at = sym c.loop.invariant.1 ∙ c.in-Some.ensures in
-    (c.stands_after-listed.ensures
-    ∙ (ap (λ b. cond b (not (eqb c.in-Some.lifetime 0)) c.loop.listed) (c.names.ensures ∙ ap (g.K.Names.same c.in-Some.other) (c.requires key))
-    ∙ (ap (λ b. cond (g.K.Names.same c.in-Some.other key) (not (eqb c.in-Some.lifetime 0)) b) c.loop.invariant.0
-    ∙ sym (has_behind g.K.Names.same g.met.K.Names.tells key c.args.now c.loop.counter c.in-Some.other c.in-Some.lifetime all _ c.args.entries.now at))),
-    next_is c.loop.counter c.in-Some.other c.in-Some.lifetime all _ at)
+    let at = sym c.loop.invariant.1 ∙ c.in-Some.ensures in (
+      c.stands_after-listed.ensures
+          ∙ (ap (λ b. cond b (not (eqb c.in-Some.lifetime 0)) c.loop.listed) (c.names.ensures ∙ ap (g.K.Names.same c.in-Some.other) (c.requires key))
+          ∙ (ap (λ b. cond (g.K.Names.same c.in-Some.other key) (not (eqb c.in-Some.lifetime 0)) b) c.loop.invariant.0
+          ∙ sym (has_behind g.K.Names.same g.met.K.Names.tells key c.args.now c.loop.counter c.in-Some.other c.in-Some.lifetime all _ c.args.entries.now at))),
+      next_is c.loop.counter c.in-Some.other c.in-Some.lifetime all _ at,
+    )
