@@ -7,3 +7,5 @@
 mod addresses;
 #[cfg(test)]
 mod neighbours;
+#[cfg(test)]
+mod routers;
