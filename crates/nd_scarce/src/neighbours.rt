@@ -47,6 +47,21 @@ fn state(cache: &Cache<&LocalHeap>, n: u8) -> Option<Reachability> {
     cache.entry(0, addr(n)).map(|entry| entry.state)
 }
 
+/// Whether the cache has the first neighbour alone, and place for another.
+fn has_one(cache: &Cache<&LocalHeap>) -> bool {
+    state(cache, 1) == Some(Reachability::Stale)
+        && state(cache, 2) == None
+        && cache.waiting() == 0
+        && cache.room(0, addr(2), None)
+}
+
+/// Whether it has both, and a packet that waits for the second one.
+fn has_both(cache: &Cache<&LocalHeap>) -> bool {
+    state(cache, 1) == Some(Reachability::Stale)
+        && state(cache, 2) == Some(Reachability::Incomplete)
+        && cache.waiting() == 1
+}
+
 /// A cache of two, of which one is there: the first call for which there is no memory.
 fn run(rt: &impl Abort, heap: &LocalHeap) -> Option<Call> {
     let Ok(mut cache) = Cache::new(heap, 2) else {
@@ -57,23 +72,22 @@ fn run(rt: &impl Abort, heap: &LocalHeap) -> Option<Call> {
         return Some(Call::Frame);
     };
     match cache.used(0, addr(2), first, TIMES) {
-        Ok(sent) => assert!(rt;
-            matches!(
-                sent,
-                Use::Queued {
-                    solicit: true,
-                    replaced: None
-                }
-            )
-        ),
+        Ok(sent) => {
+            assert!(rt;
+                matches!(
+                    sent,
+                    Use::Queued {
+                        solicit: true,
+                        replaced: None
+                    }
+                )
+            );
+        }
         Err((refusal, back)) => {
             // The frame comes back, and the cache is as it was.
             assert!(rt; refusal == CacheRefusal::Memory);
             assert!(rt; back.0.first() == Some(&7));
-            assert!(rt; state(&cache, 1) == Some(Reachability::Stale));
-            assert!(rt; state(&cache, 2) == None);
-            assert!(rt; cache.waiting() == 0);
-            assert!(rt; cache.room(0, addr(2), None));
+            assert!(rt; has_one(&cache));
             return Some(Call::Used);
         }
     }
@@ -82,19 +96,14 @@ fn run(rt: &impl Abort, heap: &LocalHeap) -> Option<Call> {
         Err(_) => return Some(Call::Rows),
     }
     if cache.ready(2).is_err() {
-        assert!(rt; cache.waiting() == 1);
-        assert!(rt; state(&cache, 2) == Some(Reachability::Incomplete));
+        assert!(rt; has_both(&cache));
         return Some(Call::Ready);
     }
-    match cache.clear() {
-        Ok(packets) => assert!(rt; packets.len() == 1),
-        Err(_) => {
-            assert!(rt; cache.waiting() == 1);
-            assert!(rt; state(&cache, 1) == Some(Reachability::Stale));
-            assert!(rt; state(&cache, 2) == Some(Reachability::Incomplete));
-            return Some(Call::Clear);
-        }
-    }
+    let Ok(packets) = cache.clear() else {
+        assert!(rt; has_both(&cache));
+        return Some(Call::Clear);
+    };
+    assert!(rt; packets.len() == 1);
     assert!(rt; cache.waiting() == 0);
     None
 }

@@ -344,31 +344,20 @@ fn some_options_say_nothing_of_an_address(rt: HostRuntime) -> Result<(), Fail> {
     };
     let preferred_for_longer = option(0, 1799, 1800).ok_or("option")?;
     let over = option(0, 0, 0).ok_or("option")?;
-    assert_eq!(rt;
-        addresses.heard_prefix(1200, &link_local, 0, 1000),
-        Ok(Taken::Ignored)
-    );
-    assert_eq!(rt;
-        addresses.heard_prefix(1200, &multicast, 0, 1000),
-        Ok(Taken::Ignored)
-    );
-    assert_eq!(rt;
-        addresses.heard_prefix(1200, &short, 0, 1000),
-        Ok(Taken::Ignored)
-    );
-    assert_eq!(rt;
-        addresses.heard_prefix(1200, &on_link_alone, 0, 1000),
-        Ok(Taken::Ignored)
-    );
-    assert_eq!(rt;
-        addresses.heard_prefix(1200, &preferred_for_longer, 0, 1000),
-        Ok(Taken::Ignored)
-    );
     assert!(rt; !addresses.would_form(1200, &over));
-    assert_eq!(rt;
-        addresses.heard_prefix(1200, &over, 0, 1000),
-        Ok(Taken::Ignored)
-    );
+    for said in [
+        link_local,
+        multicast,
+        short,
+        on_link_alone,
+        preferred_for_longer,
+        over,
+    ] {
+        assert_eq!(rt;
+            addresses.heard_prefix(1200, &said, 0, 1000),
+            Ok(Taken::Ignored)
+        );
+    }
     assert_eq!(rt; addresses.rows(1200)?.len(), 1);
     Ok(())
 }
