@@ -1,20 +1,17 @@
 -- What is left where all routers leave.
-use Rattle.std.proofs.Common.{◌≡◌, ℕ, false, List, [], ◌∷◌, None, refl, sym, ◌∙◌, ap, subst, arith}
+use Rattle.std.proofs.Common.{◌≡◌, ℕ, false, List, [], ◌∷◌, refl, sym, ◌∙◌, ap, subst, arith}
 use Rattle.std.specs.Prelude.{is_some, ◌&&◌}
 use Rattle.std.proofs.lemmas.Bool.Decides.{nat_tests, eqb_tells}
 use Rattle.std.proofs.lemmas.Bool.{true≢false}
 use Rattle.nd_standing.specs.declared.kept.Kept.{Kept}
-use Rattle.nd_standing.specs.Listing.{end_in, without}
+use Rattle.nd_standing.specs.Listing.{without}
+use Rattle.nd_standing.proofs.Finding.{without_absent}
 use Rattle.nd_standing.proofs.Order.{distinct_of}
 use Rattle.nd_routers.specs.Happenings.{Happening, Left, failure_of}
 use Rattle.nd_routers.specs.Failures.{has_failed, others}
 use Rattle.nd_routers.specs.Routers.{Table, same, IsOf, left_rows, keys}
 use Rattle.nd_routers.proofs.Failing.{head_has}
 use Rattle.nd_routers.proofs.Steps.{gains_left}
-
-without_absent : (key : ℕ) (es : List (Kept ℕ)) → end_in same key es ≡ None → without same key es ≡ es
-without_absent key [] h = refl
-without_absent key (e ∷ es) h = grind (arith, nat_tests, h, without_absent key es)
 
 no_failures : (ks : List ℕ) → ((k : ℕ) → has_failed k ks ≡ false) → ks ≡ []
 no_failures [] h = refl
@@ -29,5 +26,5 @@ all_leave at [] ks rows s =
     subst (λ (l : List ℕ). IsOf (tabled [] l) rows) none s
 all_leave at (e ∷ es) ks rows s =
     let distinct = distinct_of same eqb_tells _ (e ∷ es) s.routers.order in
-    let left : without same e.key (e ∷ es) ≡ es = grind (arith, nat_tests, without_absent e.key es distinct.0) in
+    let left : without same e.key (e ∷ es) ≡ es = grind (arith, nat_tests, without_absent same eqb_tells e.key es distinct.0) in
     all_leave at es (others e.key ks) (Left at e.key ∷ rows) ((gains_left (tabled (e ∷ es) ks) (tabled es (others e.key ks)) at e.key (sym left) refl).stands rows s)

@@ -2,7 +2,7 @@ ghost use Rattle.std.specs.Prelude.{◌<◌, ◌^◌};
 
 use super::*;
 use nd_addr::{Addr, Prefix};
-use nd_decode::decode;
+use nd_decode::{Body, decode};
 use std::alloc::Global;
 use std::process::Abort;
 use std::test::*;
@@ -385,5 +385,44 @@ fn has_room_for_sixty_four(rt: HostRuntime) -> Result<(), Fail> {
     // Those that have ended don't count.
     assert!(rt; hear_both(&mut prefixes, 201_000, lasting(65, 100), lasting(66, 100)) == TAKEN);
     assert!(rt; count_at(&prefixes, 201_000) == 2);
+    Ok(())
+}
+
+/// An advertisement with an option of every kind: hop limit 64, flags M and O, lifetime 1800, ReachableTime 32047, RetransTimer 2000;
+/// the link-layer address of its source, the prefix 2001:db8::/64 for 2592000 seconds, an MTU of 1400, a DNS server, a search name, an
+/// unknown option, a redirected header and the link-layer address of a target.
+const EVERY_OPTION: [u8; 136] = [
+    0x86, 0, 0, 0, 0x40, 0xc0, 0x07, 0x08, 0, 0, 0x7d, 0x2f, 0, 0, 0x07, 0xd0, 1, 1, 2, 0, 0, 0, 0,
+    1, 3, 4, 64, 0xc0, 0, 0x27, 0x8d, 0, 0, 9, 0x3a, 0x80, 0, 0, 0, 0, 0x20, 1, 0x0d, 0xb8, 0, 0,
+    0, 0, 0, 0, 0, 0, 0, 0, 0, 0, 5, 1, 0, 0, 0, 0, 5, 0x78, 0x19, 3, 0, 0, 0, 0, 7, 8, 0x20, 1,
+    0x0d, 0xb8, 0, 0, 0, 0, 0, 0, 0, 0, 0, 0, 0, 0x53, 0x1f, 3, 0, 0, 0, 0, 7, 8, 1, 0x41, 7, 0x65,
+    0x78, 0x61, 0x6d, 0x70, 0x6c, 0x65, 0, 0, 0, 0, 0, 0, 14, 1, 1, 2, 3, 4, 5, 6, 4, 1, 0, 0, 0,
+    0, 0, 0, 2, 1, 2, 0, 0, 0, 0, 2,
+];
+
+#[test]
+fn takes_every_kind_of_option(rt: HostRuntime) -> Result<(), Fail> {
+    let message = decode(&EVERY_OPTION).ok().ok_or("message")?;
+    let mut params = Params::new(0, 15_000);
+    let mut routers = Routers::new(rt.alloc())?;
+    let mut prefixes = Prefixes::new(rt.alloc())?;
+    match message.body {
+        Body::Ra(ra) => {
+            if params.redraws(&ra) {
+                params.heard_ra(1_200, &ra, message.options, Some(16_023));
+            }
+            assert!(rt;
+                hear(&mut routers, 1_200, addr(1), ra.router_lifetime) == Some(Ok(Change::Entered))
+            );
+        }
+        _ => assert!(rt; false),
+    }
+    assert!(rt; prefixes.heard_ra(1_200, message.options) == Ok(()));
+    assert_eq!(rt; params.mtu(), 1400);
+    assert_eq!(rt; params.base_reachable_time(), 32_047);
+    assert_eq!(rt; params.reachable_time(), 16_023);
+    assert_eq!(rt; params.retrans_timer(), 2_000);
+    listed(&rt, &routers, 1_200, &[(addr(1), Some(1_801_200))]);
+    standing(&rt, &prefixes, 1_200, &[(0, 2_592_001_200)]);
     Ok(())
 }

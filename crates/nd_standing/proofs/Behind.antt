@@ -1,11 +1,11 @@
 -- What the announcements of a message do to a list, one behind the other.
-use Rattle.std.proofs.Common.{◌≡◌, ℕ, zero, suc, ◌+◌, ◌≤◌, Bool, true, false, cond, eqb, List, [], ◌∷◌, ◌++◌, length, take, drop, Option, Some, None, refl, sym, ◌∙◌, ap, arith, ⊎_elim}
+use Rattle.std.proofs.Common.{◌≡◌, ℕ, zero, suc, ◌+◌, ◌≤◌, Bool, true, false, cond, eqb, List, [], ◌∷◌, ◌++◌, length, take, drop, Option, None, refl, sym, ◌∙◌, ap, arith, ⊎_elim}
 use Rattle.std.specs.Prelude.{map, filter, not, is_some, ◌&&◌, nat_le}
 use Rattle.std.proofs.lemmas.Bool.{cond_both, cond-true, true≢false}
 use Rattle.nd_standing.specs.declared.kept.Kept.{Kept}
 use Rattle.nd_standing.specs.Rows.{end_time, is_before}
 use Rattle.nd_standing.specs.Listing.{open_at, end_in, renewed, without, told, announced, announced_all, fits, behind, Distinct, count_after}
-use Rattle.nd_standing.proofs.Finding.{Tells, end_in-renewed, end_in-without, end_in-push}
+use Rattle.nd_standing.proofs.Finding.{Tells, end_in-renewed, end_in-without, end_in-push, end_in-filter-none, absent_of, as_long, one_longer, without_absent}
 use Rattle.nd_standing.proofs.Steps.{AllOpen, AllOpen-open, AllOpen-announced}
 
 module _ {K : Type 0} (same : K → K → Bool) (tells : Tells same) where
@@ -46,11 +46,7 @@ module _ {K : Type 0} (same : K → K → Bool) (tells : Tells same) where
       (λ n. cond_both (is_some (end_in same key es)) (map (renewed same key (end_time now w)) es) (es ++ record { key = key; end = end_time now w } ∷ [])
       (λ xs. is_some (end_in same k xs) ≡ cond (same key k) (not (eqb w 0)) (is_some (end_in same k es)))
       (λ h. grind (arith, tells, n, h, end_in-renewed same tells k key (end_time now w) es))
-      (λ h. grind (arith, tells, n, h, end_in-push same tells k es (record { key = key; end = end_time now w }) (absent (end_in same key es) h))))
-    where
-      absent : (o : Option (Option ℕ)) → is_some o ≡ false → o ≡ None
-      absent None h = refl
-      absent (Some x) h = absurd (true≢false h)
+      (λ h. grind (arith, tells, n, h, end_in-push same tells k es (record { key = key; end = end_time now w }) (absent_of (end_in same key es) h))))
 
   pub has_behind : (k : K) (now i : ℕ) (key : K) (w : ℕ) (all rest : List (K × ℕ)) (es : List (Kept K)) → drop i all ≡ (key, w) ∷ rest → is_some (end_in same k (behind same now (take (i + 1) all) es)) ≡ cond (same key k) (not (eqb w 0)) (is_some (end_in same k (behind same now (take i all) es)))
   has_behind k now i key w all rest es h =
@@ -68,15 +64,11 @@ module _ {K : Type 0} (same : K → K → Bool) (tells : Tells same) where
   take_past (suc i) zero (p ∷ all) h le = absurd (omega (arith, le))
   take_past (suc i) (suc n) (p ∷ all) h le = ap (λ (x : List (K × ℕ)). p ∷ x) (take_past i n all h (omega (arith, le)))
 
-  filter_none : (p : Kept K → Bool) (k : K) (es : List (Kept K)) → end_in same k es ≡ None → end_in same k (filter p es) ≡ None
-  filter_none p k [] h = refl
-  filter_none p k (e ∷ es) h = grind (arith, tells, h, filter_none p k es)
-
   Distinct-filter : (p : Kept K → Bool) (es : List (Kept K)) → Distinct same es → Distinct same (filter p es)
   Distinct-filter p [] d = tt
   Distinct-filter p (e ∷ es) d =
       let rest = Distinct-filter p es d.1 in
-      cond_both (p e) (e ∷ filter p es) (filter p es) (Distinct same) (λ _. (filter_none p e.key es d.0, rest)) (λ _. rest)
+      cond_both (p e) (e ∷ filter p es) (filter p es) (Distinct same) (λ _. (end_in-filter-none same tells p e.key es d.0, rest)) (λ _. rest)
 
   Distinct-renewed : (key : K) (end : Option ℕ) (es : List (Kept K)) → Distinct same es → Distinct same (map (renewed same key end) es)
   Distinct-renewed key end [] d = tt
@@ -85,10 +77,6 @@ module _ {K : Type 0} (same : K → K → Bool) (tells : Tells same) where
   Distinct-push : (es : List (Kept K)) (e : Kept K) → Distinct same es → end_in same e.key es ≡ None → Distinct same (es ++ e ∷ [])
   Distinct-push [] e d h = (refl, tt)
   Distinct-push (x ∷ es) e d h = (grind (arith, tells, d.0, h, end_in-push same tells x.key es e), Distinct-push es e d.1 (grind (arith, tells, h)))
-
-  absent_of : (o : Option (Option ℕ)) → is_some o ≡ false → o ≡ None
-  absent_of None h = refl
-  absent_of (Some x) h = absurd (true≢false h)
 
   Distinct-told : (now : ℕ) (key : K) (w : ℕ) (es : List (Kept K)) → Distinct same es → Distinct same (told same now key w es)
   Distinct-told now key w es d =
@@ -105,39 +93,14 @@ module _ {K : Type 0} (same : K → K → Bool) (tells : Tells same) where
   Distinct-all now [] es d = d
   Distinct-all now ((key, w) ∷ more) es d = Distinct-all now more (announced same now key w es) (Distinct-announced now key w es d)
 
-  without_absent : (key : K) (es : List (Kept K)) → end_in same key es ≡ None → without same key es ≡ es
-  without_absent key [] h = refl
-  without_absent key (e ∷ es) h = grind (arith, tells, h, without_absent key es)
-
   -- how many entries there are behind one more announcement
   one_shorter : (key : K) (es : List (Kept K)) → Distinct same es → is_some (end_in same key es) ≡ true → length (without same key es) + 1 ≡ length es
   one_shorter key [] d h = absurd (true≢false (sym h))
   one_shorter key (e ∷ es) d h = ⊎_elim
-      (λ s. let rest : without same key (e ∷ es) ≡ es = grind (arith, tells, s.0, without_absent key es (ap (λ k. end_in same k es) (sym s.1) ∙ d.0)) in omega (arith, ap length rest))
+      (λ s. let rest : without same key (e ∷ es) ≡ es = grind (arith, tells, s.0, without_absent same tells key es (ap (λ k. end_in same k es) (sym s.1) ∙ d.0)) in omega (arith, ap length rest))
       (λ n. let rest : without same key (e ∷ es) ≡ e ∷ without same key es = grind (arith, n.0) in
       let shorter = one_shorter key es d.1 (grind (arith, n.0, h)) in omega (arith, ap length rest, shorter))
       (tells e.key key)
-
-  as_long : (key : K) (end : Option ℕ) (es : List (Kept K)) → length (map (renewed same key end) es) ≡ length es
-  as_long key end [] = refl
-  as_long key end (e ∷ es) = let rest = as_long key end es in omega (arith, rest)
-
-  one_longer : (es : List (Kept K)) (e : Kept K) → length (es ++ e ∷ []) ≡ length es + 1
-  one_longer [] e = refl
-  one_longer (x ∷ es) e = let rest = one_longer es e in omega (arith, rest)
-
-  -- a removal, a refreshment, nothing and an entry
-  pub leaves : (now : ℕ) (key : K) (es : List (Kept K)) → Distinct same es → is_some (end_in same key es) ≡ true → length (told same now key 0 es) + 1 ≡ length es
-  leaves now key es d h = one_shorter key es d h
-
-  pub stays_away : (now : ℕ) (key : K) (es : List (Kept K)) → is_some (end_in same key es) ≡ false → told same now key 0 es ≡ es
-  stays_away now key es h = without_absent key es (absent_of (end_in same key es) h)
-
-  pub stays : (now : ℕ) (key : K) (w : ℕ) (es : List (Kept K)) → eqb w 0 ≡ false → is_some (end_in same key es) ≡ true → length (told same now key w es) ≡ length es
-  stays now key w es n h = grind (arith, n, h, as_long key (end_time now w) es)
-
-  pub enters : (now : ℕ) (key : K) (w : ℕ) (es : List (Kept K)) → eqb w 0 ≡ false → is_some (end_in same key es) ≡ false → length (told same now key w es) ≡ length es + 1
-  enters now key w es n h = grind (arith, n, h, one_longer es (record { key = key; end = end_time now w }))
 
   some_of : (key : K) (es : List (Kept K)) → is_some (end_in same key es) ≡ true → 1 ≤ length es
   some_of key [] h = absurd (true≢false (sym h))
@@ -150,12 +113,12 @@ module _ {K : Type 0} (same : K → K → Bool) (tells : Tells same) where
       (λ z. removed (is_some (end_in same key es)) refl z)
       (λ n. cond_both (is_some (end_in same key es)) (map (renewed same key (end_time now w)) es) (es ++ record { key = key; end = end_time now w } ∷ [])
       (λ xs. count_after (length es) (is_some (end_in same key es)) (not (eqb w 0)) ≡ length xs)
-      (λ h. let long = as_long key (end_time now w) es in grind (arith, n, h, long))
+      (λ h. let long = as_long same tells key (end_time now w) es in grind (arith, n, h, long))
       (λ h. let long = one_longer es (record { key = key; end = end_time now w }) in grind (arith, n, h, long)))
     where
       removed : (b : Bool) → is_some (end_in same key es) ≡ b → eqb w 0 ≡ true → count_after (length es) (is_some (end_in same key es)) (not (eqb w 0)) ≡ length (without same key es)
       removed true h z = let shorter = one_shorter key es d h in let some = some_of key es h in grind (arith, z, h, shorter, some)
-      removed false h z = let kept = ap length (without_absent key es (absent_of (end_in same key es) h)) in grind (arith, z, h, kept)
+      removed false h z = let kept = ap length (without_absent same tells key es (absent_of (end_in same key es) h)) in grind (arith, z, h, kept)
 
   module _ (now : ℕ) (key : K) (w i : ℕ) (all rest : List (K × ℕ)) (es : List (Kept K)) (d : Distinct same es) (at : drop i all ≡ (key, w) ∷ rest) where
     opened : AllOpen same tells (behind same now (take i all) es) now

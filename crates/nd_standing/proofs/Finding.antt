@@ -1,6 +1,7 @@
 -- An entry found by its key, in lists that are changed.
-use Rattle.std.proofs.Common.{◌≡◌, ◌≢◌, ℕ, Bool, true, false, cond, List, [], ◌∷◌, ◌++◌, Option, Some, None, refl, arith, ◌⊎◌}
+use Rattle.std.proofs.Common.{length, ◌+◌, ◌≡◌, ◌≢◌, ℕ, Bool, true, false, cond, List, [], ◌∷◌, ◌++◌, Option, Some, None, refl, arith, ◌⊎◌}
 use Rattle.std.specs.Prelude.{map, filter, is_some}
+use Rattle.std.proofs.lemmas.Bool.{true≢false}
 use Rattle.nd_standing.specs.declared.kept.Kept.{Kept}
 use Rattle.nd_standing.specs.Rows.{is_before, is_open}
 use Rattle.nd_standing.specs.Listing.{open_at, end_in, renewed, without, Distinct}
@@ -8,6 +9,14 @@ use Rattle.nd_standing.specs.Listing.{open_at, end_in, renewed, without, Distinc
 -- what the test of two keys tells
 abbrev pub Tells : {K : Type 0} → (K → K → Bool) → Type 0
 Tells {K} same = (a b : K) → ((same a b ≡ true) × (a ≡ b)) ⊎ ((same a b ≡ false) × (a ≢ b))
+
+pub absent_of : (o : Option (Option ℕ)) → is_some o ≡ false → o ≡ None
+absent_of None h = refl
+absent_of (Some x) h = absurd (true≢false h)
+
+pub one_longer : {K : Type 0} (es : List (Kept K)) (e : Kept K) → length (es ++ e ∷ []) ≡ length es + 1
+one_longer [] e = refl
+one_longer (x ∷ es) e = let rest = one_longer es e in omega (arith, rest)
 
 module _ {K : Type 0} (same : K → K → Bool) (tells : Tells same) where
   pub end_in-renewed : (k key : K) (end : Option ℕ) (es : List (Kept K)) → end_in same k (map (renewed same key end) es) ≡ cond (same key k) (cond (is_some (end_in same key es)) (Some end) None) (end_in same k es)
@@ -32,7 +41,7 @@ module _ {K : Type 0} (same : K → K → Bool) (tells : Tells same) where
   pub Has-tail : (e : Kept K) (es : List (Kept K)) (k : K) → Has es k → Has (e ∷ es) k
   Has-tail e es k h = grind (arith, tells, h)
 
-  end_in-filter-none : (p : Kept K → Bool) (k : K) (es : List (Kept K)) → end_in same k es ≡ None → end_in same k (filter p es) ≡ None
+  pub end_in-filter-none : (p : Kept K → Bool) (k : K) (es : List (Kept K)) → end_in same k es ≡ None → end_in same k (filter p es) ≡ None
   end_in-filter-none p k [] h = refl
   end_in-filter-none p k (e ∷ es) h = grind (arith, tells, h, end_in-filter-none p k es)
 
@@ -40,3 +49,11 @@ module _ {K : Type 0} (same : K → K → Bool) (tells : Tells same) where
   pub end_in-open : (t : ℕ) (k : K) (es : List (Kept K)) → Distinct same es → end_in same k (open_at t es) ≡ cond (is_open (end_in same k es) t) (end_in same k es) None
   end_in-open t k [] d = refl
   end_in-open t k (e ∷ es) d = grind (arith, tells, d.0, end_in-filter-none (λ e. is_before t e.end) e.key es d.0, end_in-open t k es d.1)
+
+  pub as_long : (key : K) (end : Option ℕ) (es : List (Kept K)) → length (map (renewed same key end) es) ≡ length es
+  as_long key end [] = refl
+  as_long key end (e ∷ es) = let rest = as_long key end es in omega (arith, rest)
+
+  pub without_absent : (key : K) (es : List (Kept K)) → end_in same key es ≡ None → without same key es ≡ es
+  without_absent key [] h = refl
+  without_absent key (e ∷ es) h = grind (arith, tells, h, without_absent key es)

@@ -1,12 +1,12 @@
 -- What one more row does to the entries that stand for the rows.
 use Rattle.std.proofs.Common.{◌≡◌, ℕ, ◌<◌, ◌≤◌, Bool, true, false, cond, eqb, List, [], ◌∷◌, ◌++◌, length, Option, Some, None, refl, sym, ◌∙◌, ap, arith}
-use Rattle.std.specs.Prelude.{not, ◌||◌, nat_le, nat_lt, ◌+◌, map, filter, is_some}
+use Rattle.std.specs.Prelude.{not, ◌||◌, nat_le, nat_lt, map, filter, is_some}
 use Rattle.std.proofs.lemmas.Bool.Decides.{nat_tests}
 use Rattle.std.proofs.lemmas.Bool.{cond_both, cond-true, true≢false}
 use Rattle.nd_standing.specs.declared.kept.Kept.{Kept}
 use Rattle.nd_standing.specs.Rows.{Row, Announced, Ended, Cleared, last_moment, end_after, end_time, end_of, is_before, is_open, stands, place}
 use Rattle.nd_standing.specs.Listing.{open_at, end_in, Stands, StandsSilently, Lists, renewed, without, told, announced, announced_all, heard_rows}
-use Rattle.nd_standing.proofs.Finding.{Tells, Has, end_in-renewed, end_in-without, end_in-push, end_in-open}
+use Rattle.nd_standing.proofs.Finding.{Tells, Has, end_in-renewed, end_in-without, end_in-push, end_in-open, absent_of, as_long, one_longer}
 use Rattle.nd_standing.proofs.Order.{Rises-agree, Rises-renewed, Rises-filter, Rises-push, distinct_of}
 
 open_some : (o : Option (Option ℕ)) (t : ℕ) → is_open o t ≡ true → is_some o ≡ true
@@ -93,10 +93,6 @@ module _ {K : Type 0} (same : K → K → Bool) (tells : Tells same) where
           order = Rises-agree same tells (λ k. place same k rows) _ (without same key es) (λ k h. grind (arith, tells, h, end_in-without same tells k key es)) (Rises-filter same tells _ _ es l.order);
         }
 
-    absent_of : (o : Option (Option ℕ)) → is_some o ≡ false → o ≡ None
-    absent_of None h = refl
-    absent_of (Some x) h = absurd (true≢false h)
-
     -- an announcement leads from the keys that stand at its moment to those that stand then with it
     pub told_lists : (key : K) (w : ℕ) → Lists same (Announced now key w ∷ rows) now (told same now key w es)
     told_lists key w =
@@ -131,10 +127,6 @@ module _ {K : Type 0} (same : K → K → Bool) (tells : Tells same) where
   abbrev pub AllOpen : List (Kept K) → ℕ → Type 0
   AllOpen [] now = Unit {0}
   AllOpen (e ∷ es) now = (is_before now e.end ≡ true) × AllOpen es now
-
-  open_all : (es : List (Kept K)) (now : ℕ) → AllOpen es now → open_at now es ≡ es
-  open_all [] now h = refl
-  open_all (e ∷ es) now h = cond-true (is_before now e.end) (e ∷ open_at now es) (open_at now es) h.0 ∙ ap (λ (xs : List (Kept K)). e ∷ xs) (open_all es now h.1)
 
   -- of entries none of which has ended each is found open
   pub open_in : (now : ℕ) (key : K) (es : List (Kept K)) → AllOpen es now → Has same tells es key → is_open (end_in same key es) now ≡ true
@@ -226,14 +218,6 @@ module _ {K : Type 0} (same : K → K → Bool) (tells : Tells same) where
   shorter p [] = omega arith
   shorter p (e ∷ es) = let rest = shorter p es in cond_both (p e) (e ∷ filter p es) (filter p es) (λ xs. length xs ≤ length (e ∷ es)) (λ _. omega (arith, rest)) (λ _. omega (arith, rest))
 
-  as_long : (key : K) (end : Option ℕ) (es : List (Kept K)) → length (map (renewed same key end) es) ≡ length es
-  as_long key end [] = refl
-  as_long key end (e ∷ es) = let rest = as_long key end es in omega (arith, rest)
-
-  one_longer : (es : List (Kept K)) (e : Kept K) → length (es ++ e ∷ []) ≡ length es + 1
-  one_longer [] e = refl
-  one_longer (x ∷ es) e = let rest = one_longer es e in omega (arith, rest)
-
   told_length : (now : ℕ) (key : K) (w limit : ℕ) (es : List (Kept K)) → length es ≤ limit → nat_le (length (told same now key w es)) limit ≡ (eqb w 0 || (is_some (end_in same key es) || nat_lt (length es) limit))
   told_length now key w limit es le =
       cond_both (eqb w 0) (without same key es) (cond (is_some (end_in same key es)) (map (renewed same key (end_time now w)) es) (es ++ record { key = key; end = end_time now w } ∷ []))
@@ -241,7 +225,7 @@ module _ {K : Type 0} (same : K → K → Bool) (tells : Tells same) where
       (λ z. let s = shorter (λ e. not (same e.key key)) es in grind (arith, nat_tests, z, s, le))
       (λ n. cond_both (is_some (end_in same key es)) (map (renewed same key (end_time now w)) es) (es ++ record { key = key; end = end_time now w } ∷ [])
       (λ xs. nat_le (length xs) limit ≡ (eqb w 0 || (is_some (end_in same key es) || nat_lt (length es) limit)))
-      (λ h. grind (arith, nat_tests, h, as_long key (end_time now w) es, le, n))
+      (λ h. grind (arith, nat_tests, h, as_long same tells key (end_time now w) es, le, n))
       (λ h. grind (arith, nat_tests, h, one_longer es (record { key = key; end = end_time now w }), n)))
 
   -- an announcement leads to no more entries than the limit where it enters none, or there is room
