@@ -18,10 +18,7 @@ pub(crate) fn rdnss_length(lifetime: u32, servers: &[Addr]) -> Option<usize>
     ensures { SomeIff result (FitsRdnss lifetime servers.now) (length (rdnss_piece lifetime servers.now)) }
 {
     let _lifetime = lifetime;
-    if servers.len() < FEWEST_SERVERS
-        || servers.len() > MOST_SERVERS
-        || !are_servers(servers)
-    {
+    if servers.len() < FEWEST_SERVERS || servers.len() > MOST_SERVERS || !are_servers(servers) {
         return None;
     }
     Some(8 + 16 * servers.len())

@@ -152,9 +152,9 @@ module _ (limit now key next retrans : ℕ) (packet : List ℕ) (old : List Node
         (λ e. or_left (is_some (node_in next old)) _ (was_there next old i the_used n r lt same_key e))
         (λ e. or_right (is_some (node_in next old)) _ (or_left (ltb (length old) limit) _ (sym (ap (λ x. ltb x limit) (length-set old i the_used)) ∙ e)))
         (λ e. or_right (is_some (node_in next old)) _ (or_right (ltb (length old) limit) _
-            (any_was_set address key (λ x. is_stale x.kept now) (stays_stale key now)
-            (λ x differ f. and_both (is_stale x.kept now) _ f (or_left (not (eqb x.key key)) _ (ap not (ne_eqb x.key key differ))))
-            old i the_used n r lt (ap (λ (x : Node). x.key) (sym at) ∙ n_key) (λ f. it_stays ∙ f) e)))
+        (any_was_set address key (λ x. is_stale x.kept now) (stays_stale key now)
+        (λ x differ f. and_both (is_stale x.kept now) _ f (or_left (not (eqb x.key key)) _ (ap not (ne_eqb x.key key differ))))
+        old i the_used n r lt (ap (λ (x : Node). x.key) (sym at) ∙ n_key) (λ f. it_stays ∙ f) e)))
 
   -- the first enters
   the_asked : Node
@@ -259,9 +259,9 @@ module _ (limit now key next retrans : ℕ) (packet : List ℕ) (old : List Node
         ])
         (λ e. let few : length old < limit = grind (arith, nat_tests, as_many, e) in absurd (omega arith))
         (λ e. or_right (eqb key next) _ (or_right (not (eqb n.key next) && is_some (node_in next old)) _
-            (any_was_removed address n.key (λ x. is_stale x.kept now) (stale_beside n.key now)
-            (λ x differ f. and_both (is_stale x.kept now) _ f (ap not (ne_eqb x.key n.key differ)))
-            old i n r lt gone_key (entered_stale left e))))
+        (any_was_removed address n.key (λ x. is_stale x.kept now) (stale_beside n.key now)
+        (λ x differ f. and_both (is_stale x.kept now) _ f (ap not (ne_eqb x.key n.key differ)))
+        old i n r lt gone_key (entered_stale left e))))
 
   -- where the first is there
   there_on : is_some (node_in key old) ≡ true → has_second limit now key next old ≡ place_beside limit now key next old
@@ -296,11 +296,11 @@ module _ (limit now key next retrans : ℕ) (packet : List ℕ) (old : List Node
   gives_back new r (Came mid none (Enough few mid_is) is) h =
       absent_on none (stalest now old) refl
       ∙ enough_back (stalest now old) refl few
-        (subst (λ (l : List Node). place_after limit now next l ≡ true) (is ∙ ap (put_in address (asked_node key now retrans packet)) mid_is) h)
+      (subst (λ (l : List Node). place_after limit now next l ≡ true) (is ∙ ap (put_in address (asked_node key now retrans packet)) mid_is) h)
   gives_back new r (Came mid none (Went i n many lt at first gone) is) h =
       absent_on none (Some n) first
       ∙ or_right (ltb (length old) limit) _ (went_back i n many lt at first r
-        (subst (λ (l : List Node). place_after limit now next l ≡ true) (is ∙ ap (put_in address (asked_node key now retrans packet)) gone) h))
+      (subst (λ (l : List Node). place_after limit now next l ≡ true) (is ∙ ap (put_in address (asked_node key now retrans packet)) gone) h))
 
 -- whether the first has place
 module _ (limit now key : ℕ) (ns : List Node) where

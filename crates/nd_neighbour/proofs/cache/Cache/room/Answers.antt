@@ -14,6 +14,6 @@ returns-clause-rows g c = λ rows s.
     let then' = option_map (λ next. number_of next.0) c.args.then in
     let table = c.args.self.now in
     let is : c.has_room.result ≡ has_room table.limit c.args.now key then' table.nodes = c.has_room.ensures
-        ∙ (ap (λ (l : List Node). has_room c.self.inside.limit c.args.now key then' l) c.deref.ensures.value
-        ∙ ap (λ (t : Table). has_room t.limit c.args.now key then' t.nodes) c.self.view_is) in
+    ∙ (ap (λ (l : List Node). has_room c.self.inside.limit c.args.now key then' l) c.deref.ensures.value
+    ∙ ap (λ (t : Table). has_room t.limit c.args.now key then' t.nodes) c.self.view_is) in
     subst (λ (b : Bool). (b ≡ true) ↔ HasRoom table.limit c.args.now key then' rows) (sym is) (room_by_rows table.limit c.args.now key table.nodes rows s then')
