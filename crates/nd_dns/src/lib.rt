@@ -1,0 +1,10 @@
+//! The DNS servers and search names that a host has heard of (RFC 8106, section 5).
+#![tactic(auto)]
+
+mod dns;
+mod search_name;
+mod told_servers;
+
+pub use dns::Dns;
+pub use nd_standing::{Kept, Limit, Standing, TableRefusal};
+pub use search_name::SearchName;

@@ -1,0 +1,43 @@
+ghost use Rattle.std.specs.Prelude.{◌≡◌, IfOk};
+ghost use Rattle.nd_names.specs.Name.{IsName};
+ghost use Rattle.nd_names.specs.NameRef.{name_of};
+
+use nd_decode::NameRef;
+use std::alloc::{AllocError, Allocator};
+use std::marker::Model;
+
+/// A search name that is kept: its labels in small letters, each behind its length byte (RFC 1035, section 3.1).
+#[derive(Drop)]
+pub struct SearchName<A: Allocator> {
+    bytes: Vec<u8, A>,
+}
+
+impl<A: Allocator> Model for SearchName<A> {
+    ghost use Rattle.std.specs.Prelude.{ℕ, List};
+    ghost use Rattle.nd_names.specs.Name.{IsName};
+
+    ghost Value = { List ℕ };
+
+    ghost view = { λ n. n.bytes.items };
+
+    ghost invariant = { λ n. IsName n.bytes.items };
+}
+
+impl<A: Allocator> SearchName<A> {
+    /// A name that was heard, in small letters. The error is want of memory.
+    pub(crate) fn copied(alloc: A, name: &NameRef<'_>) -> Result<Self, AllocError>
+        ensures { IfOk result (λ n. n ≡ name_of name.now) }
+    {
+        Ok(SearchName {
+            bytes: name.lowered(alloc)?,
+        })
+    }
+
+    /// Its labels in small letters, each behind its length byte, without the zero byte at the end.
+    pub fn as_bytes(&self) -> &[u8]
+        ensures value { result.now ≡ self.now }
+        ensures name { IsName result.now }
+    {
+        &self.bytes
+    }
+}
