@@ -1,5 +1,5 @@
 -- A message tells no more servers or names than it has bytes.
-use Rattle.std.proofs.Common.{◌≡◌, ℕ, ◌≤◌, List, [], ◌∷◌, ◌++◌, length, drop, map, ap, arith}
+use Rattle.std.proofs.Common.{ℕ, ◌≤◌, List, [], ◌∷◌, length, drop, ap, arith}
 use Rattle.std.specs.List.{flat_map, AllByRecursion}
 use Rattle.std.proofs.lemmas.List.{length-append, length-drop, length-map}
 use Rattle.nd_addr.specs.declared.addr.Addr.{Addr}
@@ -41,4 +41,34 @@ pub few_servers : (bytes : List ℕ) → length (servers_told (options_in bytes)
 few_servers bytes =
     let s = spelled (length bytes) bytes (omega arith) in
     let few = spelled_servers (options_in bytes) s.0 s.2 in
+    omega (arith, few, ap length s.1, length-append s.0 (rest_in bytes))
+
+names_few : (names : List (List ℕ)) (bytes : List ℕ) → SpellsBefore bytes names → length names ≤ length bytes
+names_few [] bytes h = omega arith
+names_few (name ∷ names) bytes h =
+    let rest = names_few names h.1 h.5 in omega (arith, rest, ap length h.2, length-append h.0 (0 ∷ h.1))
+
+piece_names : (piece : List ℕ) (option : Said) → Says piece option → length (names_of option) ≤ length piece
+piece_names piece (dnssl lifetime names) h =
+    let few = names_few names (drop 8 piece) h.2.spelled in
+    omega (arith, few, length-drop 8 piece, length-map {B = List ℕ × ℕ} names (λ (n : List ℕ). (n, lifetime)))
+piece_names piece (slla _) h = omega arith
+piece_names piece (tlla _) h = omega arith
+piece_names piece (prefix _) h = omega arith
+piece_names piece (redirected _) h = omega arith
+piece_names piece (mtu _) h = omega arith
+piece_names piece (rdnss _ _) h = omega arith
+piece_names piece (other _ _) h = omega arith
+
+spelled_names : (options : List Said) (bytes : List ℕ) → SpellsOptions bytes options → length (names_told options) ≤ length bytes
+spelled_names [] bytes h = omega arith
+spelled_names (option ∷ options) bytes h =
+    let first = piece_names h.0 option h.4 in
+    let rest = spelled_names options h.1 h.5 in
+    omega (arith, first, rest, ap length h.2, length-append h.0 h.1, length-append (names_of option) (names_told options))
+
+pub few_names : (bytes : List ℕ) → length (names_told (options_in bytes)) ≤ length bytes
+few_names bytes =
+    let s = spelled (length bytes) bytes (omega arith) in
+    let few = spelled_names (options_in bytes) s.0 s.2 in
     omega (arith, few, ap length s.1, length-append s.0 (rest_in bytes))

@@ -3,6 +3,7 @@ ghost use Rattle.nd_names.specs.Name.{IsName};
 ghost use Rattle.nd_names.specs.NameRef.{name_of};
 
 use nd_decode::NameRef;
+use nd_standing::Names;
 use std::alloc::{AllocError, Allocator};
 use std::marker::Model;
 
@@ -40,4 +41,24 @@ impl<A: Allocator> SearchName<A> {
     {
         &self.bytes
     }
+}
+
+impl<A: Allocator> Names<SearchName<A>> for NameRef<'_> {
+    ghost use Rattle.nd_names.specs.NameRef.{name_of};
+    ghost use Rattle.nd_standing.specs.Same.{bytes_tell};
+    ghost use Rattle.nd_dns.specs.Names.{same_name};
+
+    ghost named = { name_of };
+
+    ghost same = { same_name };
+
+    fn names(&self, key: &SearchName<A>) -> bool {
+        self.is(&key.bytes)
+    }
+
+    fn names_same(&self, other: &Self) -> bool {
+        self.is_same_as(other)
+    }
+
+    ghost tells = { bytes_tell };
 }

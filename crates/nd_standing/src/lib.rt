@@ -15,7 +15,7 @@ mod standing;
 pub use announces::Announces;
 pub use changing::{announce, count, drop_ended, end_time, enters, has, remove, renew, stands};
 pub use kept::Kept;
-pub use message::{announce_all, fits_all, stands_behind};
+pub use message::{announce_all, enters_behind, fits_all};
 pub use names::Names;
 pub use refusal::{Limit, TableRefusal};
 pub use standing::Standing;

@@ -1,4 +1,4 @@
-ghost use Rattle.std.specs.Prelude.{◌≡◌, ◌≤◌, ◌<◌, ◌^◌, true, false, is_some, if◌then◌else◌, not, ◌==◌, ◌+◌, ◌-◌, length, take, vec_len, vec_capacity};
+ghost use Rattle.std.specs.Prelude.{◌≡◌, ◌≤◌, ◌<◌, ◌^◌, true, false, is_some, if◌then◌else◌, not, ◌&&◌, ◌==◌, ◌+◌, ◌-◌, length, take, vec_len, vec_capacity};
 ghost use Rattle.nd_standing.specs.Listing.{end_in, fits, behind, announced_all, Distinct, count_after};
 
 use crate::announces::Announces;
@@ -18,7 +18,7 @@ fn stands_after(before: bool, named: bool, lifetime: u32) -> bool
 }
 
 /// Whether a key stands behind the first few announcements of a message.
-pub fn stands_behind<K, Q: Names<K> + Drop, I: Announces<K, Q> + Copy>(
+fn stands_behind<K, Q: Names<K> + Drop, I: Announces<K, Q> + Copy>(
     entries: &[Kept<K>],
     now: u64,
     announced: I,
@@ -38,6 +38,20 @@ pub fn stands_behind<K, Q: Names<K> + Drop, I: Announces<K, Q> + Copy>(
         }
     }
     listed
+}
+
+/// Whether an announcement of a message enters its key, behind the first few.
+pub fn enters_behind<K, Q: Names<K> + Drop, I: Announces<K, Q> + Copy>(
+    entries: &[Kept<K>],
+    now: u64,
+    announced: I,
+    taken: usize,
+    name: &Q,
+    lifetime: u32,
+) -> bool
+    ensures { result ≡ (not (lifetime == 0) && not (is_some (end_in Q.same (Q.named name.now) (behind Q.same now (take taken (I.told announced)) entries.now)))) }
+{
+    lifetime != 0 && !stands_behind(entries, now, announced, taken, name)
 }
 
 /// Whether the announcements of a message, taken in order, never lead to more entries than a limit. It takes no memory.

@@ -1,4 +1,4 @@
-use Rattle.std.proofs.Common.{◌∙◌, ap, arith, length}
+use Rattle.std.proofs.Common.{ap, arith, length}
 use Rattle.nd_dns.proofs.Few.{few_servers}
 use Rattle.nd_dns.proofs.dns.Dns.fits_servers.Goals as goal
 
