@@ -4,6 +4,7 @@
 mod announcing;
 mod copying;
 mod dns;
+pub mod laws;
 mod new_names;
 mod search_name;
 mod told_names;

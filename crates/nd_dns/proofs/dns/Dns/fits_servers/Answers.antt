@@ -4,4 +4,4 @@ use Rattle.nd_dns.proofs.dns.Dns.fits_servers.Goals as goal
 
 pub fits_all-requires-clause-bounded : goal.fits_all-requires-clause-bounded
 fits_all-requires-clause-bounded g c =
-    let few = few_servers c.args.options.rest.now in omega (arith, few, ap length c.new.ensures, c.ranges.options.0)
+    let few = few_servers c.args.options.rest.now in omega (arith, few, ap length c.new-told.ensures, c.ranges.options.0)
