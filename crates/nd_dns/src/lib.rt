@@ -14,3 +14,6 @@ pub use dns::Dns;
 pub use nd_standing::{Kept, Limit, Standing, TableRefusal};
 pub use new_names::NewNames;
 pub use search_name::SearchName;
+
+#[cfg(test)]
+mod tests;
