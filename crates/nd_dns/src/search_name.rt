@@ -1,6 +1,6 @@
 ghost use Rattle.std.specs.Prelude.{◌≡◌, IfOk};
 ghost use Rattle.nd_names.specs.Name.{IsName};
-ghost use Rattle.nd_names.specs.NameRef.{name_of};
+ghost use Rattle.nd_names.specs.NameRef.{bytes_of, name_of};
 
 use nd_decode::NameRef;
 use nd_standing::Names;
@@ -34,12 +34,13 @@ impl<A: Allocator> SearchName<A> {
         })
     }
 
-    /// Its labels in small letters, each behind its length byte, without the zero byte at the end.
-    pub fn as_bytes(&self) -> &[u8]
-        ensures value { result.now ≡ self.now }
-        ensures name { IsName result.now }
+    /// The name where its bytes lie, which also writes its text.
+    pub fn as_name(&self) -> NameRef<'_>
+        ensures value { name_of result ≡ self.now }
+        ensures bytes { bytes_of result ≡ self.now }
+        ensures name { IsName self.now }
     {
-        &self.bytes
+        NameRef::of_name(&self.bytes)
     }
 }
 

@@ -91,7 +91,7 @@ fn names_are(rt: &impl Abort, dns: &Dns<Global>, now: u64, wanted: &[(u8, Option
     for entry in dns.search_names(now) {
         match rest {
             [(n, end), more @ ..] => {
-                assert!(rt; entry.key.as_bytes() == [2, b'x', *n].as_slice());
+                assert!(rt; entry.key.as_name().as_bytes() == [2, b'x', *n].as_slice());
                 assert!(rt; entry.end == *end);
                 rest = more;
             }
@@ -116,9 +116,6 @@ const BOTH: [u8; 72] = [
     0, 0, 7, 8, 1, 0x41, 7, 0x65, 0x78, 0x61, 0x6d, 0x70, 0x6c, 0x65, 0, 0, 0, 0, 0, 0,
 ];
 
-/// a.example, each label behind its length byte.
-const A_EXAMPLE: [u8; 10] = [1, b'a', 7, b'e', b'x', b'a', b'm', b'p', b'l', b'e'];
-
 #[test]
 fn hears_a_server_and_a_name(rt: HostRuntime) -> Result<(), Fail> {
     let mut dns = Dns::new(rt.alloc())?;
@@ -127,7 +124,9 @@ fn hears_a_server_and_a_name(rt: HostRuntime) -> Result<(), Fail> {
     servers_are(&rt, &dns, 1_200, &[(0x53, Some(1_801_200))]);
     let mut count = 0u8;
     for entry in dns.search_names(1_801_199) {
-        assert!(rt; entry.key.as_bytes() == A_EXAMPLE.as_slice());
+        let mut text = String::new(rt.alloc());
+        entry.key.as_name().write_text(&mut text)?;
+        assert!(rt; text.as_str() == "a.example");
         assert!(rt; entry.end == Some(1_801_200));
         count = count.saturating_add(1);
     }

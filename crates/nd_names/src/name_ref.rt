@@ -26,6 +26,15 @@ impl<'a> NameRef<'a> {
         NameRef { bytes }
     }
 
+    /// A name that is in small letters already.
+    pub fn of_name(bytes: &'a [u8]) -> NameRef<'a>
+        requires { IsName bytes.now }
+        ensures value { name_of result ≡ bytes.entry.now }
+        ensures bytes { bytes_of result ≡ bytes.entry.now }
+    {
+        NameRef::new(bytes)
+    }
+
     /// Its labels as they lie, each behind its length byte, without the zero byte at the end.
     pub fn as_bytes(&self) -> &'a [u8]
         ensures value { result.now ≡ bytes_of self.now }
