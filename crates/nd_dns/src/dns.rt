@@ -71,7 +71,9 @@ impl<A: Allocator + Clone> Dns<A> {
 
     /// Whether there is room for the servers that the options of a Router Advertisement tell, taken in order. It takes no memory.
     pub fn fits_servers(&self, now: u64, options: Options<'_>) -> bool
-        ensures { result ≡ fits same_addr 32 now (servers_told (options_left options.entry)) self.now.servers }
+        ensures value { result ≡ fits same_addr 32 now (servers_told (options_left options.entry)) self.now.servers }
+        ensures by_rows { (rows : List (Row Addr)) (names : List (Row (List ℕ))) (es : List (Kept Addr)) → AreOf self.now rows names → last_moment rows ≤ now → Lists same_addr rows now es
+            → result ≡ fits same_addr 32 now (servers_told (options_left options.entry)) es }
     {
         let told = ToldServers::new(options);
         fits_all(&self.servers, MAX_SERVERS, now, told)
@@ -79,7 +81,9 @@ impl<A: Allocator + Clone> Dns<A> {
 
     /// Whether there is room for the search names that they tell, taken in order. It takes no memory.
     pub fn fits_names(&self, now: u64, options: Options<'_>) -> bool
-        ensures { result ≡ fits same_name 32 now (names_told (options_left options.entry)) self.now.names }
+        ensures value { result ≡ fits same_name 32 now (names_told (options_left options.entry)) self.now.names }
+        ensures by_rows { (servers : List (Row Addr)) (rows : List (Row (List ℕ))) (es : List (Kept (List ℕ))) → AreOf self.now servers rows → last_moment rows ≤ now → Lists same_name rows now es
+            → result ≡ fits same_name 32 now (names_told (options_left options.entry)) es }
     {
         let told = ToldNames::new(options);
         fits_all(&self.names, MAX_NAMES, now, told)
