@@ -6,9 +6,9 @@ use std::test::*;
 
 /// An advertisement with the DNS server 2001:db8::53 and the search name a.example, both for 1800 seconds.
 const HEARD: [u8; 64] = [
-    0x86, 0, 0, 0, 0, 0, 0, 0, 0, 0, 0, 0, 0, 0, 0, 0, 0x19, 3, 0, 0, 0, 0, 7, 8, 0x20, 1, 0x0d, 0xb8,
-    0, 0, 0, 0, 0, 0, 0, 0, 0, 0, 0, 0x53, 0x1f, 3, 0, 0, 0, 0, 7, 8, 1, 0x61, 7, 0x65, 0x78, 0x61,
-    0x6d, 0x70, 0x6c, 0x65, 0, 0, 0, 0, 0, 0,
+    0x86, 0, 0, 0, 0, 0, 0, 0, 0, 0, 0, 0, 0, 0, 0, 0, 0x19, 3, 0, 0, 0, 0, 7, 8, 0x20, 1, 0x0d,
+    0xb8, 0, 0, 0, 0, 0, 0, 0, 0, 0, 0, 0, 0x53, 0x1f, 3, 0, 0, 0, 0, 7, 8, 1, 0x61, 7, 0x65, 0x78,
+    0x61, 0x6d, 0x70, 0x6c, 0x65, 0, 0, 0, 0, 0, 0,
 ];
 
 /// The calls that take memory, in the order in which a run makes them.
