@@ -1,7 +1,7 @@
 ghost use Rattle.std.specs.Prelude.{IsTrue};
 ghost use Rattle.nd_names.specs.Reading.{is_spelled};
 
-use crate::reading::is_same;
+use crate::reading::{are_same, is_same};
 use std::alloc::{AllocError, Allocator};
 
 /// A name of a search list, with its bytes where they lie (RFC 1035, section 3.1).
@@ -26,6 +26,15 @@ impl<'a> NameRef<'a> {
         NameRef { bytes }
     }
 
+    /// A name that is in small letters already.
+    pub fn of_name(bytes: &'a [u8]) -> NameRef<'a>
+        requires { IsName bytes.now }
+        ensures value { name_of result ≡ bytes.entry.now }
+        ensures bytes { bytes_of result ≡ bytes.entry.now }
+    {
+        NameRef::new(bytes)
+    }
+
     /// Its labels as they lie, each behind its length byte, without the zero byte at the end.
     pub fn as_bytes(&self) -> &'a [u8]
         ensures value { result.now ≡ bytes_of self.now }
@@ -39,6 +48,15 @@ impl<'a> NameRef<'a> {
         ensures { IsTrue result ↔ (name_of self.now ≡ name.now) }
     {
         is_same(self.as_bytes(), name)
+    }
+
+    /// Whether another one is the same name, without regard to case.
+    pub fn is_same_as(&self, other: &NameRef<'_>) -> bool
+        ensures { IsTrue result ↔ (name_of self.now ≡ name_of other.now) }
+    {
+        let bytes = self.as_bytes();
+        let others = other.as_bytes();
+        are_same(bytes, others)
     }
 
     /// The name in small letters, each label behind its length byte. The error is want of memory.

@@ -1,6 +1,6 @@
 ghost use Rattle.std.specs.Prelude.{◌≡◌, ◌↔◌, ◌<◌, IsTrue, length};
 ghost use Rattle.nd_names.specs.Label.{is_sign};
-ghost use Rattle.nd_names.specs.Name.{IsName};
+ghost use Rattle.nd_names.specs.Name.{IsName, lowered};
 ghost use Rattle.nd_names.specs.Reading.{labels_length, name_length, are_small, are_zeros, is_same, is_spelled};
 
 /// How many bytes a label has at most (RFC 1035, section 2.3.4).
@@ -113,4 +113,22 @@ pub(crate) fn is_same(bytes: &[u8], others: &[u8]) -> bool
         rest = after;
     }
     left.is_empty()
+}
+
+/// Whether both are the same in small letters.
+pub(crate) fn are_same(bytes: &[u8], others: &[u8]) -> bool
+    ensures { result ≡ is_same bytes.now (lowered others.now) }
+{
+    let mut first = bytes;
+    let mut second = others;
+    while let [byte, after @ ..] = first {
+        match second {
+            [other, behind @ ..] if byte.to_ascii_lowercase() == other.to_ascii_lowercase() => {
+                second = behind;
+            }
+            _ => return false,
+        }
+        first = after;
+    }
+    second.is_empty()
 }

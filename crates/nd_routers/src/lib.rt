@@ -1,4 +1,5 @@
-//! The default routers of a host and the prefixes of its link (RFC 4861, section 6.3.4).
+//! The default routers of a host and the prefixes of its link (RFC 4861, section 6.3.4). The parameters of the link, and the DNS servers
+//! and search names (RFC 8106) are given on.
 #![tactic(auto)]
 
 mod change;
@@ -14,6 +15,7 @@ mod routers;
 
 pub use change::Change;
 pub use listed::Listed;
+pub use nd_dns::{Dns, NewNames, SearchName};
 pub use nd_params::{Params, reachable_range};
 pub use nd_standing::{Kept, Limit, Standing, TableRefusal};
 pub use prefixes::Prefixes;

@@ -11,7 +11,7 @@ pub(crate) struct OnLink<'a> {
     pub(crate) options: Options<'a>,
 }
 
-impl Announces<Prefix> for OnLink<'_> {
+impl Announces<Prefix, Prefix> for OnLink<'_> {
     ghost use Rattle.nd_routers.specs.OnLink.{prefixes_left};
 
     ghost told = { prefixes_left };

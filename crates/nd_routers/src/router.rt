@@ -59,5 +59,9 @@ impl Names<Router> for Addr {
         compare(key.addr(), *self).is_eq()
     }
 
+    fn names_same(&self, other: &Addr) -> bool {
+        compare(*other, *self).is_eq()
+    }
+
     ghost tells = { eqb_tells };
 }

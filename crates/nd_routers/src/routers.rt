@@ -94,7 +94,7 @@ impl<A: Allocator + Clone> Routers<A> {
             &mut self.entries,
             now,
             &source,
-            Router::of(source),
+            Some(Router::of(source)),
             u32::from(lifetime),
         );
         if lifetime == 0 {

@@ -6,6 +6,8 @@
 #[cfg(test)]
 mod addresses;
 #[cfg(test)]
+mod dns;
+#[cfg(test)]
 mod neighbours;
 #[cfg(test)]
 mod routers;

@@ -4,7 +4,7 @@ use Rattle.std.specs.Prelude.{map, filter, not, is_some, ◌&&◌, nat_le}
 use Rattle.std.proofs.lemmas.Bool.{cond_both, cond-true, true≢false}
 use Rattle.nd_standing.specs.declared.kept.Kept.{Kept}
 use Rattle.nd_standing.specs.Rows.{end_time, is_before}
-use Rattle.nd_standing.specs.Listing.{open_at, end_in, renewed, without, told, announced, announced_all, fits, behind, Distinct, count_after}
+use Rattle.nd_standing.specs.Listing.{open_at, end_in, renewed, without, told, announced, announced_all, entered, fits, behind, Distinct, count_after}
 use Rattle.nd_standing.proofs.Finding.{Tells, end_in-renewed, end_in-without, end_in-push, end_in-filter-none, absent_of, as_long, one_longer, without_absent}
 use Rattle.nd_standing.proofs.Steps.{AllOpen, AllOpen-open, AllOpen-announced}
 
@@ -53,6 +53,24 @@ module _ {K : Type 0} (same : K → K → Bool) (tells : Tells same) where
       ap (λ xs. is_some (end_in same k xs)) (behind_more now i key w all rest es h)
       ∙ (ap (λ xs. is_some (end_in same k (told same now key w xs))) (open_all (behind same now (take i all) es) now (behind_open now (take i all) (open_at now es) (AllOpen-open same tells now es)))
       ∙ told_has k key now w (behind same now (take i all) es))
+
+  -- what has ended doesn't change what a message enters
+  pub entered_open : (now : ℕ) (more : List (K × ℕ)) (es : List (Kept K)) → entered same now more (open_at now es) ≡ entered same now more es
+  entered_open now [] es = refl
+  entered_open now ((key, w) ∷ more) es =
+      let last : List (Kept K) → List K = λ xs. entered same now more (told same now key w xs) in
+      ap (λ xs. cond (not (eqb w 0) && not (is_some (end_in same key xs))) (key ∷ last xs) (last xs)) (open_all (open_at now es) now (AllOpen-open same tells now es))
+
+  -- what one more announcement enters
+  pub entered_more : (now i : ℕ) (key : K) (w : ℕ) (all rest : List (K × ℕ)) (es : List (Kept K)) → drop i all ≡ (key, w) ∷ rest
+      → entered same now ((key, w) ∷ rest) (behind same now (take i all) es)
+      ≡ cond (not (eqb w 0) && not (is_some (end_in same key (behind same now (take i all) es)))) (key ∷ entered same now rest (behind same now (take (i + 1) all) es)) (entered same now rest (behind same now (take (i + 1) all) es))
+  entered_more now i key w all rest es at =
+      let cur = behind same now (take i all) es in
+      let last : List (Kept K) → List K = λ xs. entered same now rest xs in
+      ap (λ xs. cond (not (eqb w 0) && not (is_some (end_in same key xs))) (key ∷ last (announced same now key w cur)) (last (announced same now key w cur)))
+      (open_all cur now (behind_open now (take i all) (open_at now es) (AllOpen-open same tells now es)))
+      ∙ ap (λ ys. cond (not (eqb w 0) && not (is_some (end_in same key cur))) (key ∷ last ys) (last ys)) (sym (behind_more now i key w all rest es at))
 
   take_none : (n : ℕ) → take {A = K × ℕ} n [] ≡ []
   take_none zero = refl

@@ -77,6 +77,16 @@ module _ {K : Type 0} (same : K → K → Bool) where
   announced_all now [] es = es
   announced_all now ((key, lifetime) ∷ more) es = announced_all now more (announced now key lifetime es)
 
+  -- an announcement enters its key, which doesn't stand
+  abbrev pub enters : ℕ → K → ℕ → List (Kept K) → Bool
+  enters now key lifetime es = not (lifetime == 0) && not (is_some (end_in key (open_at now es)))
+
+  -- the keys that a message's announcements enter, each as often as it enters
+  abbrev pub entered : ℕ → List (K × ℕ) → List (Kept K) → List K
+  entered now [] es = []
+  entered now ((key, lifetime) ∷ more) es =
+      if enters now key lifetime es then key ∷ entered now more (announced now key lifetime es) else entered now more (announced now key lifetime es)
+
   -- none of these steps leads to more entries than this
   abbrev pub fits : ℕ → ℕ → List (K × ℕ) → List (Kept K) → Bool
   fits limit now [] es = true

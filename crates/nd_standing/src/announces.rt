@@ -1,11 +1,13 @@
 ghost use Rattle.std.specs.Prelude.{◌≡◌, ℕ, List, [], ◌∷◌, MatchOption};
 
-/// The announcements of a message: keys, each with a lifetime in seconds, in their order.
-pub trait Announces<K> {
-    /// What is still to come.
+use crate::names::Names;
+
+/// The announcements of a message: names of keys, each with a lifetime in seconds, in their order.
+pub trait Announces<K, Q: Names<K>> {
+    /// The keys that are still to come.
     ghost told: { Self → List (K × ℕ) };
 
     /// The next one.
-    fn next_told(&mut self) -> Option<(K, u32)>
-        ensures { MatchOption result (told self.old ≡ []) (λ p. told self.old ≡ (p.0, p.1) ∷ told self.new) };
+    fn next_told(&mut self) -> Option<(Q, u32)>
+        ensures { MatchOption result (told self.old ≡ []) (λ p. told self.old ≡ (Q.named p.0, p.1) ∷ told self.new) };
 }

@@ -1,6 +1,6 @@
-ghost use Rattle.std.specs.Prelude.{◌≡◌, ◌≤◌, ◌<◌, ◌^◌, ◌≢◌, Some, IsTrue, length, map, is_some, vec_len, vec_capacity};
+ghost use Rattle.std.specs.Prelude.{◌≡◌, ◌≤◌, ◌<◌, ◌^◌, ◌≢◌, Some, false, MatchOption, IsTrue, length, map, is_some, vec_len, vec_capacity};
 ghost use Rattle.nd_standing.specs.Rows.{is_before, end_time};
-ghost use Rattle.nd_standing.specs.Listing.{end_in, renewed, without, open_at, announced};
+ghost use Rattle.nd_standing.specs.Listing.{end_in, renewed, without, open_at, announced, enters};
 
 use crate::kept::Kept;
 use crate::names::Names;
@@ -90,16 +90,16 @@ pub fn end_time(now: u64, lifetime: u32) -> Option<u64>
     }
 }
 
-/// A key is announced for a lifetime in seconds, by a name. There is room for it.
+/// A key is announced for a lifetime in seconds, by a name. There is room for it, and the key itself is given where it enters.
 pub fn announce<K: Drop, Q: Names<K>, A: Allocator>(
     entries: &mut Vec<Kept<K>, A>,
     now: u64,
     name: &Q,
-    key: K,
+    key: Option<K>,
     lifetime: u32,
 )
     requires moment { now < 2 ^ 62 }
-    requires named { key ≡ Q.named name.now }
+    requires named { MatchOption key (enters Q.same now (Q.named name.now) lifetime entries.old.items ≡ false) (λ k. k ≡ Q.named name.now) }
     requires room { length (announced Q.same now (Q.named name.now) lifetime entries.old.items) ≤ vec_capacity entries.old }
     ensures items { entries.new.items ≡ announced Q.same now (Q.named name.now) lifetime entries.old.items }
     ensures capacity { vec_capacity entries.new ≡ vec_capacity entries.old }
@@ -114,7 +114,16 @@ pub fn announce<K: Drop, Q: Names<K>, A: Allocator>(
         renew(entries, name, end);
         return;
     }
-    entries.push_reserved(Kept { key, end });
+    if let Some(key) = key {
+        entries.push_reserved(Kept { key, end });
+    }
+}
+
+/// Whether an announcement enters the key that it names.
+pub fn enters<K, Q: Names<K>>(entries: &[Kept<K>], now: u64, name: &Q, lifetime: u32) -> bool
+    ensures { result ≡ enters Q.same now (Q.named name.now) lifetime entries.now }
+{
+    lifetime != 0 && !stands(entries, now, name)
 }
 
 /// Whether the key has an entry that hasn't ended by now.

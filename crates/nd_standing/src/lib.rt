@@ -2,6 +2,7 @@
 //! section 6.3.4; RFC 8106, section 6).
 #![tactic(auto)]
 
+mod addr;
 mod announces;
 mod changing;
 mod kept;
@@ -12,9 +13,9 @@ mod refusal;
 mod standing;
 
 pub use announces::Announces;
-pub use changing::{announce, count, drop_ended, end_time, has, remove, renew, stands};
+pub use changing::{announce, count, drop_ended, end_time, enters, has, remove, renew, stands};
 pub use kept::Kept;
-pub use message::{announce_all, fits_all};
+pub use message::{announce_all, enters_behind, fits_all};
 pub use names::Names;
 pub use refusal::{Limit, TableRefusal};
 pub use standing::Standing;

@@ -1,4 +1,4 @@
-ghost use Rattle.std.specs.Prelude.{◌≡◌, ◌≤◌, ◌<◌, ◌^◌, true, false, is_some, if◌then◌else◌, not, ◌==◌, ◌+◌, ◌-◌, length, take, vec_len, vec_capacity};
+ghost use Rattle.std.specs.Prelude.{◌≡◌, ◌≤◌, ◌<◌, ◌^◌, true, false, is_some, if◌then◌else◌, not, ◌&&◌, ◌==◌, ◌+◌, ◌-◌, length, take, vec_len, vec_capacity};
 ghost use Rattle.nd_standing.specs.Listing.{end_in, fits, behind, announced_all, Distinct, count_after};
 
 use crate::announces::Announces;
@@ -18,22 +18,21 @@ fn stands_after(before: bool, named: bool, lifetime: u32) -> bool
 }
 
 /// Whether a key stands behind the first few announcements of a message.
-fn stands_behind<K: Names<K> + Drop, I: Announces<K> + Copy>(
+fn stands_behind<K, Q: Names<K> + Drop, I: Announces<K, Q> + Copy>(
     entries: &[Kept<K>],
     now: u64,
     announced: I,
     taken: usize,
-    key: &K,
+    name: &Q,
 ) -> bool
-    requires { (k : K) → K.named k ≡ k }
-    ensures { result ≡ is_some (end_in K.same key.now (behind K.same now (take taken (I.told announced)) entries.now)) }
+    ensures { result ≡ is_some (end_in Q.same (Q.named name.now) (behind Q.same now (take taken (I.told announced)) entries.now)) }
 {
-    let mut listed = stands(entries, now, key);
+    let mut listed = stands(entries, now, name);
     let mut rest = announced;
     for _ in 0..taken {
         match rest.next_told() {
             Some((other, lifetime)) => {
-                listed = stands_after(listed, key.names(&other), lifetime);
+                listed = stands_after(listed, name.names_same(&other), lifetime);
             }
             None => return listed,
         }
@@ -41,25 +40,38 @@ fn stands_behind<K: Names<K> + Drop, I: Announces<K> + Copy>(
     listed
 }
 
+/// Whether an announcement of a message enters its key, behind the first few.
+pub fn enters_behind<K, Q: Names<K> + Drop, I: Announces<K, Q> + Copy>(
+    entries: &[Kept<K>],
+    now: u64,
+    announced: I,
+    taken: usize,
+    name: &Q,
+    lifetime: u32,
+) -> bool
+    ensures { result ≡ (not (lifetime == 0) && not (is_some (end_in Q.same (Q.named name.now) (behind Q.same now (take taken (I.told announced)) entries.now)))) }
+{
+    lifetime != 0 && !stands_behind(entries, now, announced, taken, name)
+}
+
 /// Whether the announcements of a message, taken in order, never lead to more entries than a limit. It takes no memory.
-pub fn fits_all<K: Names<K> + Drop, I: Announces<K> + Copy>(
+pub fn fits_all<K, Q: Names<K> + Drop, I: Announces<K, Q> + Copy>(
     entries: &[Kept<K>],
     limit: usize,
     now: u64,
     announced: I,
 ) -> bool
-    requires itself { (k : K) → K.named k ≡ k }
-    requires distinct { Distinct K.same entries.now }
+    requires distinct { Distinct Q.same entries.now }
     requires few { length entries.now ≤ limit }
     requires limited { limit < 2 ^ 32 }
     requires bounded { length (I.told announced) < 2 ^ 64 }
-    ensures { result ≡ fits K.same limit now (I.told announced) entries.now }
+    ensures { result ≡ fits Q.same limit now (I.told announced) entries.now }
 {
     let mut standing = count(entries, now);
     let mut rest = announced;
     let mut taken = 0;
-    while let Some((key, lifetime)) = rest.next_told() {
-        let before = stands_behind(entries, now, announced, taken, &key);
+    while let Some((name, lifetime)) = rest.next_told() {
+        let before = stands_behind(entries, now, announced, taken, &name);
         standing = count_after(standing, before, lifetime != 0);
         if standing > limit {
             return false;
@@ -83,7 +95,7 @@ fn count_after(standing: usize, before: bool, after: bool) -> usize
 }
 
 /// Takes the announcements of a message in order. There is room for them.
-pub fn announce_all<K: Names<K> + Copy + Drop, I: Announces<K> + Drop, A: Allocator>(
+pub fn announce_all<K: Names<K> + Copy + Drop, I: Announces<K, K> + Drop, A: Allocator>(
     entries: &mut Vec<Kept<K>, A>,
     limit: usize,
     now: u64,
@@ -100,6 +112,6 @@ pub fn announce_all<K: Names<K> + Copy + Drop, I: Announces<K> + Drop, A: Alloca
 {
     let mut rest = announced;
     while let Some((key, lifetime)) = rest.next_told() {
-        announce(entries, now, &key, key, lifetime);
+        announce(entries, now, &key, Some(key), lifetime);
     }
 }

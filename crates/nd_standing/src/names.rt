@@ -12,5 +12,9 @@ pub trait Names<K> {
     fn names(&self, key: &K) -> bool
         ensures { result ≡ same key.now (named self.now) };
 
+    /// Whether another one names the same key.
+    fn names_same(&self, other: &Self) -> bool
+        ensures { result ≡ same (named other.now) (named self.now) };
+
     ghost tells: { (a b : K) → ((same a b ≡ true) × (a ≡ b)) ⊎ ((same a b ≡ false) × (a ≢ b)) };
 }

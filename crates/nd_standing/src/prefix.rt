@@ -12,5 +12,9 @@ impl Names<Prefix> for Prefix {
         key.length() == self.length() && key.address() == self.address()
     }
 
+    fn names_same(&self, other: &Prefix) -> bool {
+        self.names(other)
+    }
+
     ghost tells = { prefixes_tell };
 }

@@ -1,0 +1,10 @@
+use Rattle.nd_standing.proofs.Unique.{one_listing}
+use Rattle.nd_standing.specs.Same.{same_addr, addrs_tell, bytes_tell}
+use Rattle.nd_dns.specs.Names.{same_name}
+use Rattle.nd_dns.proofs.laws.one_answer.Goals as goal
+
+pub returns-clause-servers : goal.returns-clause-servers
+returns-clause-servers c = one_listing same_addr addrs_tell
+
+pub returns-clause-names : goal.returns-clause-names
+returns-clause-names c = one_listing same_name bytes_tell

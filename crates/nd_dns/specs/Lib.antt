@@ -1,0 +1,3 @@
+pub mod Dns
+pub mod Names
+pub mod Servers

@@ -1,0 +1,168 @@
+ghost use Rattle.std.specs.Prelude.{◌≡◌, ◌≤◌, ◌<◌, ◌^◌, ◌↔◌, ◌∷◌, ℕ, List, [], IfOk, IfErr, OnOk, OnErr, IsErr, false, ◌&&◌, ◌⊎◌, if◌then◌else◌};
+ghost use Rattle.std.specs.Result.{IsErrAnd};
+ghost use Rattle.nd_addr.specs.declared.addr.Addr.{Addr};
+ghost use Rattle.nd_decode.specs.Pieces.{options_left};
+ghost use Rattle.nd_standing.specs.declared.kept.Kept.{Kept};
+ghost use Rattle.nd_standing.specs.Rows.{Row, Cleared, last_moment};
+ghost use Rattle.nd_standing.specs.Listing.{open_at, fits, announced_all, heard_rows, Lists};
+ghost use Rattle.nd_standing.specs.Left.{left};
+ghost use Rattle.nd_standing.specs.Same.{same_addr};
+
+use crate::announcing::announce_names;
+use crate::copying::copies;
+use crate::new_names::NewNames;
+use crate::search_name::SearchName;
+use crate::told_names::ToldNames;
+use crate::told_servers::ToldServers;
+use nd_addr::Addr;
+use nd_decode::Options;
+use nd_standing::{Kept, Limit, Standing, TableRefusal, announce_all, fits_all};
+use std::alloc::{AllocError, Allocator};
+use std::marker::Model;
+
+/// How many servers may be known.
+const MAX_SERVERS: usize = 32;
+
+/// How many search names may be known.
+const MAX_NAMES: usize = 32;
+
+/// The DNS servers and search names that a host has heard of, each list in the order in which they came (RFC 8106, section 6.1).
+#[derive(Drop)]
+pub struct Dns<A: Allocator> {
+    alloc: A,
+    servers: Vec<Kept<Addr>, A>,
+    names: Vec<Kept<SearchName<A>>, A>,
+}
+
+impl<A: Allocator> Model for Dns<A> {
+    ghost use Rattle.std.specs.Prelude.{◌≤◌};
+    ghost use Rattle.std.specs.Vec.{vec_len, vec_capacity};
+    ghost use Rattle.nd_standing.specs.Listing.{Distinct};
+    ghost use Rattle.nd_standing.specs.Same.{same_addr};
+    ghost use Rattle.nd_dns.specs.Dns.{Heard};
+    ghost use Rattle.nd_dns.specs.Names.{same_name};
+
+    ghost Value = { Heard };
+
+    ghost view = { λ d. record { servers = d.servers.items; names = d.names.items } };
+
+    ghost invariant = { λ d. (vec_len d.servers ≤ 32) × (32 ≤ vec_capacity d.servers) × Distinct same_addr d.servers.items
+        × (vec_len d.names ≤ 32) × (32 ≤ vec_capacity d.names) × Distinct same_name d.names.items };
+}
+
+impl<A: Allocator + Clone> Dns<A> {
+    ghost use Rattle.nd_dns.specs.Dns.{Heard, AreOf, after, new_names};
+    ghost use Rattle.nd_dns.specs.Servers.{servers_told};
+    ghost use Rattle.nd_dns.specs.Names.{same_name, names_told};
+
+    /// Nothing heard, with room for 32 servers and for 32 names. All of it is reserved here.
+    pub fn new(alloc: A) -> Result<Self, AllocError>
+        ensures empty { IfOk result (λ dns. dns ≡ record { servers = []; names = [] }) }
+        ensures stands { IfOk result (λ dns. AreOf dns [] []) }
+    {
+        let servers = Vec::with_capacity(alloc.clone()?, MAX_SERVERS)?;
+        let names = Vec::with_capacity(alloc.clone()?, MAX_NAMES)?;
+        Ok(Dns {
+            alloc,
+            servers,
+            names,
+        })
+    }
+
+    /// Whether there is room for the servers that the options of a Router Advertisement tell, taken in order. It takes no memory.
+    pub fn fits_servers(&self, now: u64, options: Options<'_>) -> bool
+        ensures value { result ≡ fits same_addr 32 now (servers_told (options_left options.entry)) self.now.servers }
+        ensures by_rows { (rows : List (Row Addr)) (names : List (Row (List ℕ))) (es : List (Kept Addr)) → AreOf self.now rows names → last_moment rows ≤ now → Lists same_addr rows now es
+            → result ≡ fits same_addr 32 now (servers_told (options_left options.entry)) es }
+    {
+        let told = ToldServers::new(options);
+        fits_all(&self.servers, MAX_SERVERS, now, told)
+    }
+
+    /// Whether there is room for the search names that they tell, taken in order. It takes no memory.
+    pub fn fits_names(&self, now: u64, options: Options<'_>) -> bool
+        ensures value { result ≡ fits same_name 32 now (names_told (options_left options.entry)) self.now.names }
+        ensures by_rows { (servers : List (Row Addr)) (rows : List (Row (List ℕ))) (es : List (Kept (List ℕ))) → AreOf self.now servers rows → last_moment rows ≤ now → Lists same_name rows now es
+            → result ≡ fits same_name 32 now (names_told (options_left options.entry)) es }
+    {
+        let told = ToldNames::new(options);
+        fits_all(&self.names, MAX_NAMES, now, told)
+    }
+
+    /// Copies the search names that they add, each as often as it enters: the one thing for which hearing them takes memory. The errors
+    /// are that there is no room for the names that they tell, before anything is copied, and want of memory.
+    pub fn names(&self, now: u64, options: Options<'_>) -> Result<NewNames<A>, TableRefusal>
+        ensures value { IfOk result (λ names. names ≡ new_names now (options_left options.entry) self.now) }
+
+        // There is no room exactly where the names, taken in order, are too many at some point.
+        ensures full { IsErrAnd result (λ refusal. refusal ≡ TableRefusal.Full Limit.Names) ↔ (fits same_name 32 now (names_told (options_left options.entry)) self.now.names ≡ false) }
+        ensures refusal { IfErr result (λ refusal. (refusal ≡ TableRefusal.Full Limit.Names) ⊎ (refusal ≡ TableRefusal.Memory)) }
+    {
+        if !self.fits_names(now, options) {
+            return Err(TableRefusal::Full(Limit::Names));
+        }
+        match copies(&self.alloc, &self.names, now, ToldNames::new(options)) {
+            Ok(names) => Ok(NewNames::of(names)),
+            Err(_) => Err(TableRefusal::Memory),
+        }
+    }
+
+    /// The options of a Router Advertisement are heard, in order, with the names that they add (RFC 8106, section 6.1). It takes no
+    /// memory.
+    pub fn heard_ra(
+        &mut self,
+        now: u64,
+        options: Options<'_>,
+        names: NewNames<A>,
+    ) -> Result<(), TableRefusal>
+        requires moment { now < 2 ^ 62 }
+        requires names { names ≡ new_names now (options_left options) self.old }
+
+        ensures stands { OnOk result ((servers : List (Row Addr)) (names : List (Row (List ℕ))) → last_moment servers ≤ now → last_moment names ≤ now → AreOf self.old servers names
+            → AreOf self.new (heard_rows now (servers_told (options_left options.entry)) servers) (heard_rows now (names_told (options_left options.entry)) names)) }
+        ensures value { OnOk result (self.new ≡ after now (options_left options.entry) self.old) }
+
+        // It is refused exactly where the servers or the names, taken in order, are too many at some point.
+        ensures full { IsErr result ↔ ((fits same_addr 32 now (servers_told (options_left options.entry)) self.old.servers && fits same_name 32 now (names_told (options_left options.entry)) self.old.names) ≡ false) }
+        ensures refusal { IfErr result (λ refusal. refusal ≡ TableRefusal.Full (if fits same_addr 32 now (servers_told (options_left options.entry)) self.old.servers then Limit.Names else Limit.Servers)) }
+        ensures same { OnErr result (self.new ≡ self.old) }
+    {
+        if !self.fits_servers(now, options) {
+            return Err(TableRefusal::Full(Limit::Servers));
+        }
+        if !self.fits_names(now, options) {
+            return Err(TableRefusal::Full(Limit::Names));
+        }
+        let told_servers = ToldServers::new(options);
+        announce_all(&mut self.servers, MAX_SERVERS, now, told_servers);
+        let told_names = ToldNames::new(options);
+        let names = names.into_names();
+        announce_names(&mut self.names, MAX_NAMES, now, told_names, names);
+        Ok(())
+    }
+
+    /// The servers that stand at a moment, in the order in which they came.
+    pub fn servers(&self, now: u64) -> Standing<'_, Addr>
+        ensures value { left result ≡ open_at now self.now.servers }
+        ensures lists { (rows : List (Row Addr)) (names : List (Row (List ℕ))) → AreOf self.now rows names → last_moment rows ≤ now → Lists same_addr rows now (left result) }
+    {
+        Standing::new(&self.servers, now)
+    }
+
+    /// The search names that stand at a moment, in the order in which they came.
+    pub fn search_names(&self, now: u64) -> Standing<'_, SearchName<A>>
+        ensures value { left result ≡ open_at now self.now.names }
+        ensures lists { (servers : List (Row Addr)) (rows : List (Row (List ℕ))) → AreOf self.now servers rows → last_moment rows ≤ now → Lists same_name rows now (left result) }
+    {
+        Standing::new(&self.names, now)
+    }
+
+    /// Nothing has been heard from now on.
+    pub fn clear(&mut self)
+        ensures value { self.new ≡ record { servers = []; names = [] } }
+        ensures stands { (at : ℕ) (servers : List (Row Addr)) (names : List (Row (List ℕ))) → AreOf self.new (Cleared at ∷ servers) (Cleared at ∷ names) }
+    {
+        self.servers.clear();
+        self.names.clear();
+    }
+}

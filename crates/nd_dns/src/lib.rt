@@ -1,0 +1,19 @@
+//! The DNS servers and search names that a host has heard of (RFC 8106, section 5).
+#![tactic(auto)]
+
+mod announcing;
+mod copying;
+mod dns;
+pub mod laws;
+mod new_names;
+mod search_name;
+mod told_names;
+mod told_servers;
+
+pub use dns::Dns;
+pub use nd_standing::{Kept, Limit, Standing, TableRefusal};
+pub use new_names::NewNames;
+pub use search_name::SearchName;
+
+#[cfg(test)]
+mod tests;

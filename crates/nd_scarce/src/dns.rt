@@ -1,0 +1,59 @@
+use linked_list_allocator::LocalHeap;
+use nd_decode::decode;
+use nd_dns::{Dns, TableRefusal};
+use std::process::Abort;
+use std::test::*;
+
+/// An advertisement with the DNS server 2001:db8::53 and the search name a.example, both for 1800 seconds.
+const HEARD: [u8; 64] = [
+    0x86, 0, 0, 0, 0, 0, 0, 0, 0, 0, 0, 0, 0, 0, 0, 0, 0x19, 3, 0, 0, 0, 0, 7, 8, 0x20, 1, 0x0d,
+    0xb8, 0, 0, 0, 0, 0, 0, 0, 0, 0, 0, 0, 0x53, 0x1f, 3, 0, 0, 0, 0, 7, 8, 1, 0x61, 7, 0x65, 0x78,
+    0x61, 0x6d, 0x70, 0x6c, 0x65, 0, 0, 0, 0, 0, 0,
+];
+
+/// The calls that take memory, in the order in which a run makes them.
+#[derive(Clone, Copy, Debug, PartialEq, Eq)]
+enum Call {
+    New,
+    Names,
+}
+
+/// A server and a name are heard: the first call for which there is no memory.
+fn run(rt: &impl Abort, heap: &LocalHeap) -> Option<Call> {
+    let Ok(mut dns) = Dns::new(heap) else {
+        return Some(Call::New);
+    };
+    let message = decode(&HEARD).ok()?;
+    let names = match dns.names(0, message.options) {
+        Ok(names) => names,
+        Err(refusal) => {
+            assert!(rt; refusal == TableRefusal::Memory);
+            assert!(rt; dns.search_names(0).next().is_none());
+            assert!(rt; dns.servers(0).next().is_none());
+            return Some(Call::Names);
+        }
+    };
+    assert!(rt; dns.heard_ra(0, message.options, names).is_ok());
+    assert!(rt; dns.search_names(0).next().is_some());
+    assert!(rt; dns.servers(0).next().is_some());
+    None
+}
+
+#[test]
+fn each_request_of_the_names_is_refused_once(rt: HostRuntime) -> Result<(), Fail> {
+    let mut refused = [false; 2];
+    let mut whole = false;
+    for units in 0..400usize {
+        let heap = LocalHeap::new(rt.alloc(), 16 * units)?;
+        match run(&rt, &heap) {
+            None => whole = true,
+            Some(call) => {
+                assert!(rt; !whole);
+                refused[call as usize] = true;
+            }
+        }
+    }
+    assert!(rt; whole);
+    assert_eq!(rt; refused, [true; 2]);
+    Ok(())
+}
