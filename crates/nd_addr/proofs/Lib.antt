@@ -1,13 +1,6 @@
-pub mod DigitLemmas
 pub mod Folding
-pub mod LongestRun
 pub mod Masking
 pub mod Numbers
-pub mod Words
-pub mod Gaps
-pub mod GroupLists
 pub mod GroupBytes
-pub mod AddressTexts
-pub mod RoundTrip
 pub mod MacTexts
 pub mod PrefixTexts

@@ -10,7 +10,8 @@ use Rattle.std.proofs.lemmas.List.{length-append, get_or-drop, take_at, drop_at,
 use Rattle.std.proofs.Math.Seq.{drop-cons}
 use Rattle.nd_addr.specs.Bytes.{IsBytes, AreBytes}
 use Rattle.nd_addr.specs.Prefix.{PrefixValue, IsPrefix, prefix_at}
-use Rattle.nd_addr.specs.Spelling.{SpellsAddress, SpellsPrefix}
+use Rattle.nd_text.specs.Spelling.{SpellsAddress}
+use Rattle.nd_addr.specs.Spelling.{SpellsPrefix}
 use Rattle.nd_addr.specs.Text.{group_at, groups_of, address_text, prefix_text}
 
 -- ---- an address is told by its groups

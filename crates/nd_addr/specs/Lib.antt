@@ -5,9 +5,7 @@ pub mod Frame
 pub mod Ip6
 pub mod Prefix
 pub mod Checksum
-pub mod Digits
 pub mod Text
 pub mod Number
 pub mod Kind
 pub mod Spelling
-pub mod Parsing

@@ -1,9 +1,8 @@
-//! Laws of the definitions, each the contract of a function that does nothing.
+//! What is true of all addresses: the contract of a function that does nothing.
 
-ghost use Rattle.std.specs.Prelude.{◌≡◌, ℕ, List};
+ghost use Rattle.std.specs.Prelude.{◌≡◌};
 ghost use Rattle.std.specs.Ordering.{nat_cmp};
 ghost use Rattle.nd_addr.specs.Number.{number_of};
-ghost use Rattle.nd_addr.specs.Text.{IsText};
 
 use crate::addr::Addr;
 
@@ -14,8 +13,3 @@ pub fn order_is_of_numbers(a: Addr, b: Addr)
     let _a = a.as_bytes();
     let _b = b.as_bytes();
 }
-
-/// An address has one text that the rules of RFC 5952 allow.
-pub fn one_text()
-    ensures { (groups text other : List ℕ) → IsText groups text → IsText groups other → text ≡ other }
-{}

@@ -5,7 +5,6 @@
 mod addr;
 mod bytes;
 mod checksum;
-mod digits;
 mod frame;
 mod ip6;
 mod kind;
@@ -21,7 +20,6 @@ mod why;
 
 pub use addr::Addr;
 pub use checksum::{sum_for, sum_is_good};
-pub use digits::write_hex;
 pub use frame::{ETHERNET_IPV6, Frame, FrameRef, write_frame};
 pub use ip6::{Ip6, Ip6Ref};
 pub use mac::Mac;

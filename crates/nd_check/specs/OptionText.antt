@@ -2,7 +2,7 @@
 use Rattle.std.specs.Prelude.{ℕ, List, ◌++◌, length, codes}
 use Rattle.std.specs.Fmt.{decimal}
 use Rattle.std.specs.List.{flat_map}
-use Rattle.nd_addr.specs.Digits.{hex_text}
+use Rattle.nd_text.specs.Digits.{hex_text}
 use Rattle.nd_addr.specs.Text.{address_text, mac_text, prefix_text}
 use Rattle.nd_addr.specs.declared.addr.Addr.{Addr}
 use Rattle.nd_names.specs.Text.{name_text}

@@ -1,14 +1,16 @@
-use Rattle.std.proofs.Common.{ℕ, List, sym, subst, ◌∙◌}
-use Rattle.nd_addr.specs.Spelling.{SpellsAddress}
-use Rattle.nd_addr.proofs.AddressTexts.{address_found, found_one, found_none}
+use Rattle.std.proofs.Common.{◌≡◌, ℕ, List, Some, None, sym, subst, ◌∙◌}
+use Rattle.nd_text.specs.Spelling.{SpellsAddress}
 use Rattle.nd_addr.proofs.addr.Addr.parse.Goals as goal
 
 pub returns-in-Some-clause-found : goal.returns-in-Some-clause-found
 returns-in-Some-clause-found c =
-    subst (λ (groups : List ℕ). SpellsAddress c.args.text.now groups) (sym c.address_of.ensures) (address_found c.args.text.now c.in-Some.groups (sym c.in-Some.ensures))
+    subst (λ (groups : List ℕ). SpellsAddress c.args.text.now groups) (sym c.address_of.ensures) c.in-Some.ensures.found
 
 pub returns-in-Some-clause-only : goal.returns-in-Some-clause-only
-returns-in-Some-clause-only c = λ groups s. c.address_of.ensures ∙ found_one c.args.text.now c.in-Some.groups groups c.in-Some.ensures s
+returns-in-Some-clause-only c = λ groups s.
+    let some : Some c.in-Some.groups ≡ Some groups = c.in-Some.ensures.only groups s in
+    let same : c.in-Some.groups ≡ groups = cc in
+    c.address_of.ensures ∙ same
 
 pub returns-in-None-clause-only : goal.returns-in-None-clause-only
-returns-in-None-clause-only c = λ groups s. found_none c.args.text.now groups c.in-None.ensures s
+returns-in-None-clause-only c = λ groups s. let none : None ≡ Some groups = c.in-None.ensures.only groups s in cc

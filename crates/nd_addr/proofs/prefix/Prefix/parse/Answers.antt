@@ -1,6 +1,6 @@
 use Rattle.std.proofs.Common.{◌≡◌, ℕ, ◌+◌, List, Some, sym, subst, ◌∙◌}
 use Rattle.std.proofs.lemmas.List.{take_rest}
-use Rattle.nd_addr.specs.Spelling.{SpellsAddress}
+use Rattle.nd_text.specs.Spelling.{SpellsAddress}
 use Rattle.nd_addr.specs.Text.{groups_of}
 use Rattle.nd_addr.proofs.PrefixTexts.{cut_of, no_slash, prefix_spelled, prefix_one}
 use Rattle.nd_addr.proofs.prefix.Prefix.parse.Goals as goal

@@ -1,6 +1,0 @@
-use Rattle.nd_addr.proofs.GroupLists.{IsSoFar}
-use Rattle.nd_addr.proofs.parse.read_groups.Given as goal
-
--- the groups so far, and those that are left
-abbrev pub invariant-loop-count : goal.invariant-loop-count
-invariant-loop-count l = IsSoFar l.text l.groups l.count l.rest

@@ -1,0 +1,7 @@
+pub mod DigitLemmas
+pub mod LongestRun
+pub mod Words
+pub mod Gaps
+pub mod GroupLists
+pub mod AddressTexts
+pub mod RoundTrip

@@ -1,0 +1,72 @@
+//! Digits at the end of a text.
+
+ghost use Rattle.std.specs.Prelude.{◌≡◌, ◌<◌, [], ◌∷◌, ◌++◌, OnOk, string_bytes, false};
+ghost use Rattle.std.specs.Fmt.{digits, digit_glyph};
+ghost use Rattle.nd_text.specs.Digits.{byte_text, digit_at, hex_text};
+
+use std::alloc::{AllocError, Allocator};
+
+/// The digit of a number below 16, in lower case.
+fn hex_digit(n: u16) -> char
+    requires { n < 16 }
+    ensures { result ≡ digit_glyph false n }
+{
+    let n = n as u8;
+    char::from(if n < 10 { b'0' + n } else { b'a' - 10 + n })
+}
+
+/// Writes the digit of a number below 16.
+fn push_digit<A: Allocator>(text: &mut String<A>, n: u16) -> Result<(), AllocError>
+    requires { n < 16 }
+    ensures { OnOk result (string_bytes text.new ≡ string_bytes text.old ++ digit_glyph false n ∷ []) }
+{
+    text.push(hex_digit(n))
+}
+
+/// Writes the digit of a number at a place, 16, 256 or 4096, unless it is a leading zero.
+fn push_digit_at<A: Allocator>(
+    text: &mut String<A>,
+    group: u16,
+    place: u16,
+) -> Result<(), AllocError>
+    requires { 0 < place }
+    ensures { OnOk result (string_bytes text.new ≡ string_bytes text.old ++ digit_at group place) }
+{
+    if group >= place {
+        push_digit(text, group / place % 16)?;
+    }
+    Ok(())
+}
+
+/// Writes a group of an address in lower case, without leading zeros (RFC 5952, sections 4.1 and 4.3).
+pub(crate) fn push_group<A: Allocator>(text: &mut String<A>, group: u16) -> Result<(), AllocError>
+    ensures { OnOk result (string_bytes text.new ≡ string_bytes text.old ++ digits 16 false group) }
+{
+    push_digit_at(text, group, 0x1000)?;
+    push_digit_at(text, group, 0x100)?;
+    push_digit_at(text, group, 0x10)?;
+    push_digit(text, group % 16)?;
+    Ok(())
+}
+
+/// Writes a byte as two hexadecimal digits in lower case at the end. The error is want of memory.
+pub fn push_byte<A: Allocator>(text: &mut String<A>, byte: u8) -> Result<(), AllocError>
+    ensures { OnOk result (string_bytes text.new ≡ string_bytes text.old ++ byte_text byte) }
+{
+    let byte = byte as u16;
+    push_digit(text, byte / 16)?;
+    push_digit(text, byte % 16)?;
+    Ok(())
+}
+
+/// Writes bytes as two hexadecimal digits each, in lower case, at the end. The error is want of memory.
+pub fn write_hex<A: Allocator>(text: &mut String<A>, bytes: &[u8]) -> Result<(), AllocError>
+    ensures { OnOk result (string_bytes text.new ≡ string_bytes text.old ++ hex_text bytes.now) }
+{
+    let mut rest = bytes;
+    while let [byte, after @ ..] = rest {
+        push_byte(text, *byte)?;
+        rest = after;
+    }
+    Ok(())
+}
