@@ -10,4 +10,6 @@ mod dns;
 #[cfg(test)]
 mod neighbours;
 #[cfg(test)]
+mod refusing;
+#[cfg(test)]
 mod routers;

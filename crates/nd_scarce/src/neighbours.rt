@@ -1,3 +1,4 @@
+use crate::refusing::each_is_refused_once;
 use linked_list_allocator::LocalHeap;
 use nd_addr::{Addr, Mac};
 use nd_neighbour::{Cache, CacheRefusal, News, Packet, Reachability, Times, Use};
@@ -110,19 +111,5 @@ fn run(rt: &impl Abort, heap: &LocalHeap) -> Option<Call> {
 
 #[test]
 fn each_request_of_the_neighbour_cache_is_refused_once(rt: HostRuntime) -> Result<(), Fail> {
-    let mut refused = [false; 6];
-    let mut whole = false;
-    for units in 0..200usize {
-        let heap = LocalHeap::new(rt.alloc(), 16 * units)?;
-        match run(&rt, &heap) {
-            None => whole = true,
-            Some(call) => {
-                assert!(rt; !whole);
-                refused[call as usize] = true;
-            }
-        }
-    }
-    assert!(rt; whole);
-    assert_eq!(rt; refused, [true; 6]);
-    Ok(())
+    each_is_refused_once::<6, _>(&rt, |heap| run(&rt, heap).map(|call| call as usize))
 }

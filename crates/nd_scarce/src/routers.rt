@@ -1,3 +1,4 @@
+use crate::refusing::each_is_refused_once;
 use linked_list_allocator::LocalHeap;
 use nd_addr::Addr;
 use nd_routers::{Prefixes, Routers};
@@ -38,19 +39,5 @@ fn run(rt: &impl Abort, heap: &LocalHeap) -> Option<Call> {
 
 #[test]
 fn each_request_of_the_routers_is_refused_once(rt: HostRuntime) -> Result<(), Fail> {
-    let mut refused = [false; 3];
-    let mut whole = false;
-    for units in 0..400usize {
-        let heap = LocalHeap::new(rt.alloc(), 16 * units)?;
-        match run(&rt, &heap) {
-            None => whole = true,
-            Some(call) => {
-                assert!(rt; !whole);
-                refused[call as usize] = true;
-            }
-        }
-    }
-    assert!(rt; whole);
-    assert_eq!(rt; refused, [true; 3]);
-    Ok(())
+    each_is_refused_once::<3, _>(&rt, |heap| run(&rt, heap).map(|call| call as usize))
 }
