@@ -8,8 +8,8 @@ ghost use Rattle.nd_decode.specs.Servers.{servers_left};
 ghost use Rattle.nd_check.specs.OptionText.{lifetimes_text, behind_prefix_text, server_text, search_text, option_text};
 
 use crate::words::{write_count, write_flags, write_number};
-use nd_text::write_hex;
 use nd_decode::{Names, OptionRef, Options, PrefixInfo, Servers};
+use nd_text::write_hex;
 use std::alloc::{AllocError, Allocator};
 
 /// Writes the two times of a Prefix Information.

@@ -5,7 +5,7 @@ ghost use Rattle.std.specs.Io.KnownBytes.{Appends};
 ghost use Rattle.nd_io.specs.Answers.{TellsUpTo, Passes, IsMalformed};
 ghost use Rattle.nd_io.specs.Counts.{HasRisen, HasGrownBy};
 ghost use Rattle.nd_io.specs.Lines.{lines_of};
-ghost use Rattle.nd_io.specs.Run.{Wrote, WroteFrom, WroteFront};
+ghost use Rattle.nd_io.specs.Run.{Wrote, WroteFrom, WroteFront, Answered};
 ghost use Rattle.nd_io.specs.Written.{AppendsFront};
 
 use crate::ahead::{Ahead, FirstLine};
@@ -106,6 +106,8 @@ pub fn run_lines<R: Input, W: Output, L: Answering, A: Allocator + Clone>(
     ensures line { (n : ℕ) → IsErrOf result (ToolFault.Line n) → Wrote (L.text_for answering.old) (L.malformed_from answering.old) (R.remaining reader.old) (W.contents writer.old) (W.contents writer.new) (Some n) }
     ensures front { OnErr result (WroteFront (L.text_for answering.old) (R.remaining reader.old) (W.contents writer.old) (W.contents writer.new)) }
     ensures read_failed { IsErrOf result ToolFault.Read → HasRisen (R.failed reader.old) (R.failed reader.new) ⊎ HasGrownBy (2 ^ 40) (R.given reader.old) (R.given reader.new) }
+    // Where a read fails, the answers to all lines that were read before it are written.
+    ensures answered { IsErrOf result ToolFault.Read → Answered (L.text_for answering.old) (L.malformed_from answering.old) (R.remaining reader.old) (R.remaining reader.new) (W.contents writer.old) (W.contents writer.new) }
     ensures write_failed { IsErrOf result ToolFault.Write → HasRisen (W.failed writer.old) (W.failed writer.new) }
     ensures never_wire { result ≢ Err ToolFault.Wire }
 {
@@ -125,7 +127,7 @@ pub fn run_lines<R: Input, W: Output, L: Answering, A: Allocator + Clone>(
                 return Err(ToolFault::Line(number));
             }
             FirstLine::Unfinished => {
-                write_out(&mut text, writer)?;
+                write_out(&mut text, writer)?; // The read may block.
                 if !ahead.fill(reader)? {
                     return answer_last(ahead.in_hand(), number, answering, &mut text, writer);
                 }

@@ -1,5 +1,10 @@
-use Rattle.std.proofs.Common.{rules, arith, ap, Ok, ◌≡◌}
-use Rattle.nd_io.proofs.RunLemmas.{Along-written, Along-kept, Along-answered, Along-waiting_front, Along-line_front, Along-end_front, Along-long, WroteFront-nothing, OnErr-map}
+use Rattle.std.proofs.Common.{rules, arith, ap, Ok, Some, ◌≡◌, ℕ}
+use Rattle.std.specs.Prelude.{string_bytes, IsErrOf}
+use Rattle.nd_io.specs.Run.{Wrote}
+use Rattle.nd_io.specs.declared.tool_fault.ToolFault.TheVariants.{Line}
+use Rattle.nd_io.specs.Ahead.{in_hand}
+use Rattle.nd_io.proofs.AheadLemmas.{none_in_hand}
+use Rattle.nd_io.proofs.RunLemmas.{Along-start, Along-written, Along-kept, Along-answered, Along-waiting_front, Along-line_front, Along-end_front, Along-long, Along-malformed, Along-answered_as_read, WroteFront-nothing, OnErr-map}
 use Rattle.nd_io.proofs.WrittenLemmas.{AppendsFront-whole}
 use Rattle.nd_io.proofs.run.run_lines.Goals as goal
 
@@ -75,3 +80,22 @@ returns-then-not-branch-clause-front g c =
     let ended = filled.end (ap Ok c.if-not-branch.true) in
     let front = rw c.in_hand-then-not-branch.ensures.bytes at c.answer_last.ensures.front in
     OnErr-map c.answer_last.result _ _ (Along-end_front _ _ _ _ _ _ _ _ _ _ _ _ along c.in_ok-write_out-in-Unfinished.ensures.emptied ended) front
+
+pub loop-count-init : goal.loop-count-init
+loop-count-init g c =
+    let along = Along-start (g.L.Answering.text_for c.args.answering.now) (g.L.Answering.malformed_from c.args.answering.now) (g.R.Input.remaining c.args.reader.now) (g.W.Output.contents c.args.writer.now) (in_hand c.in_ok-ahead.ahead.buffer.items c.in_ok-ahead.ahead.start c.in_ok-ahead.ahead.end) (string_bytes c.new-text.result) (rw c.in_ok-ahead.ensures.empty (none_in_hand c.in_ok-ahead.ahead.buffer.items c.in_ok-ahead.ahead.end)) c.new-text.ensures.bytes in
+    search rules
+
+pub returns-in_err-answer_line-in-Whole-clause-line : goal.returns-in_err-answer_line-in-Whole-clause-line
+returns-in_err-answer_line-in-Whole-clause-line g c =
+    let wrote : (n : ℕ) → IsErrOf c.answer_line.result (Line n) → Wrote (g.L.Answering.text_for c.args.answering.now) (g.L.Answering.malformed_from c.args.answering.now) (g.R.Input.remaining c.args.reader.now) (g.W.Output.contents c.args.writer.now) (g.W.Output.contents c.answer_line.new.writer) (Some n) =
+    λ n is.
+    let same : n ≡ c.loop-count.number = c.answer_line.ensures.numbered n is in
+    let bad = rw c.in_hand.ensures.bytes at (c.answer_line.ensures.malformed n is) in
+    rw same (Along-malformed _ _ _ _ _ _ _ _ _ (g.W.Output.contents c.answer_line.new.writer) _ _ _ c.loop-count.invariant.along c.in-Whole.ensures.2 bad (c.answer_line.ensures.written n is)) in
+    search rules
+
+pub returns-in_err-fill-in-Unfinished-clause-answered : goal.returns-in_err-fill-in-Unfinished-clause-answered
+returns-in_err-fill-in-Unfinished-clause-answered g c = λ is.
+    let written = Along-written _ _ _ _ _ _ _ _ _ (g.W.Output.contents c.write_out-in-Unfinished.new.writer) _ _ _ c.loop-count.invariant.along c.in_ok-write_out-in-Unfinished.ensures.ok c.in_ok-write_out-in-Unfinished.ensures.emptied in
+    Along-answered_as_read _ _ _ _ _ _ _ _ _ _ _ _ written c.in_ok-write_out-in-Unfinished.ensures.emptied c.in-Unfinished.ensures.1 c.in_err-fill-in-Unfinished.ensures.kept (g.met.L.Answering.no_lines c.loop-count.answering) (g.met.L.Answering.none_malformed c.loop-count.answering c.loop-count.number)
