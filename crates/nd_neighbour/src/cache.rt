@@ -4,7 +4,7 @@ ghost use Rattle.nd_addr.specs.Number.{number_of};
 
 use crate::due::Due;
 use crate::entry::Entry;
-use crate::find::{find, next};
+use crate::find::next;
 use crate::neighbour::Neighbour;
 use crate::packets::Packets;
 use crate::ring::Ring;

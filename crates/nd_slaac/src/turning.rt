@@ -5,6 +5,7 @@ ghost use Rattle.nd_slaac.specs.View.{falls_of};
 use crate::due::Due;
 use crate::entry::Entry;
 use crate::find::{ended_at, step_at};
+use nd_keyed::Addressed;
 use std::alloc::Allocator;
 
 /// The first entry whose valid lifetime ends now goes; where there is none, the first whose detection has a step now

@@ -7,7 +7,7 @@ use nd_addr::laws::order_is_of_numbers;
 use std::cmp::Ordering;
 
 /// The order of two addresses, which is that of their numbers.
-pub(crate) fn compare(a: Addr, b: Addr) -> Ordering
+pub fn compare(a: Addr, b: Addr) -> Ordering
     ensures { result ≡ nat_cmp (number_of a.0) (number_of b.0) }
 {
     order_is_of_numbers(a, b);
