@@ -14,7 +14,7 @@ use crate::same::is_same_mac;
 use crate::sending::Use;
 use crate::stage::Stage;
 use nd_addr::{Addr, Mac};
-use nd_keyed::Addressed;
+use nd_keyed::{Addressed, Dated};
 use std::alloc::Allocator;
 use std::marker::Model;
 use std::mem;
@@ -58,6 +58,16 @@ impl<A: Allocator> Addressed for Entry<A> {
 
     fn addr(&self) -> Addr {
         self.addr
+    }
+}
+
+impl<A: Allocator> Dated<()> for Entry<A> {
+    ghost use Rattle.nd_neighbour.specs.Due.{date_of};
+
+    ghost date = { date_of };
+
+    fn date(&self) -> Option<u64> {
+        Some(self.due)
     }
 }
 
@@ -218,13 +228,6 @@ impl<A: Allocator> Entry<A> {
                 waiting: ring.with(packet),
             },
         }
-    }
-
-    /// The moment at which something falls due.
-    pub(crate) fn due(&self) -> u64
-        ensures { result ≡ self.now.due }
-    {
-        self.due
     }
 
     /// A message says whether it is a router.

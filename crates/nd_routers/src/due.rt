@@ -1,24 +1,13 @@
 ghost use Rattle.std.specs.Prelude.{◌≡◌, Some};
 ghost use Rattle.std.specs.Option.{option_map};
 ghost use Rattle.nd_addr.specs.Number.{number_of};
-ghost use Rattle.nd_routers.specs.Routers.{next_end, first_due};
+ghost use Rattle.nd_routers.specs.Routers.{first_due};
 ghost use Rattle.nd_keyed.specs.Due.{lesser};
 
 use crate::router::Router;
 use nd_addr::Addr;
-use nd_keyed::{compare, is_at, lesser};
+use nd_keyed::{compare, is_at};
 use nd_standing::Kept;
-
-/// The earliest end.
-pub(crate) fn next_end(entries: &[Kept<Router>]) -> Option<u64>
-    ensures { result ≡ next_end entries.now }
-{
-    let mut least = None;
-    for entry in entries {
-        least = lesser(least, entry.end);
-    }
-    least
-}
 
 /// The lesser of two addresses, of which the first may be missing.
 fn lesser_addr(a: Option<Addr>, b: Addr) -> Addr

@@ -59,7 +59,7 @@ impl Entry {
     ghost use Rattle.nd_slaac.specs.Address.{Address, state_in};
     ghost use Rattle.nd_slaac.specs.Announcing.{lifetimes_of};
     ghost use Rattle.nd_slaac.specs.Calls.{formed, announced, failed, is_detecting};
-    ghost use Rattle.nd_slaac.specs.Dates.{end_date, next_step, falls_by, stepped};
+    ghost use Rattle.nd_slaac.specs.Dates.{falls_by, stepped};
     ghost use Rattle.nd_slaac.specs.Seen.{seen, state_at};
     ghost use Rattle.nd_slaac.specs.View.{falls_of, seen_in};
 
@@ -86,23 +86,6 @@ impl Entry {
             preferred_end: end_time(now, info.preferred_lifetime),
             valid_end: end_time(now, info.valid_lifetime),
             stage: Stage::begin(now, delay, retrans),
-        }
-    }
-
-    /// The end of its valid lifetime, if it has one.
-    pub(crate) fn valid_end(&self) -> Option<u64>
-        ensures { result ≡ end_date self.now }
-    {
-        self.valid_end
-    }
-
-    /// The date of the next step of its detection, if that goes on.
-    pub(crate) fn next_step(&self) -> Option<u64>
-        ensures { result ≡ next_step self.now }
-    {
-        match self.stage {
-            Stage::Detecting { due, .. } => Some(due),
-            Stage::Failed | Stage::Passed => None,
         }
     }
 

@@ -4,9 +4,9 @@
 mod addresses;
 mod announcing;
 mod conflicting;
+mod dates;
 mod due;
 mod entry;
-mod find;
 mod fitting;
 mod hearing;
 pub mod laws;
