@@ -38,6 +38,30 @@ pub AtMost-none : (o : Option ℕ) (n : ℕ) → o ≡ None → AtMost o n → �
 AtMost-none None n is h = h
 AtMost-none (Some x) n is h = absurd (cc)
 
+lesser_assoc : (a b c : Option ℕ) → lesser a (lesser b c) ≡ lesser (lesser a b) c
+lesser_assoc None b c = refl
+lesser_assoc (Some x) None c = refl
+lesser_assoc (Some x) (Some y) None = refl
+lesser_assoc (Some x) (Some y) (Some z) = ap Some (omega arith)
+
+lesser_comm : (a b : Option ℕ) → lesser a b ≡ lesser b a
+lesser_comm None None = refl
+lesser_comm None (Some y) = refl
+lesser_comm (Some x) None = refl
+lesser_comm (Some x) (Some y) = ap Some (omega arith)
+
+lesser_swap : (a b c d : Option ℕ) → lesser (lesser a b) (lesser c d) ≡ lesser (lesser a c) (lesser b d)
+lesser_swap a b c d =
+    sym (lesser_assoc a b (lesser c d))
+    ∙ (ap (lesser a) (lesser_assoc b c d ∙ (ap (λ o. lesser o d) (lesser_comm b c) ∙ sym (lesser_assoc c b d)))
+    ∙ lesser_assoc a c (lesser b d))
+
+-- where entries have two dates, the least of all is the lesser of the least of each kind
+pub least_both : {N : Type 0} (f g : N → Option ℕ) (ns : List N) → least_date (λ n. lesser (f n) (g n)) ns ≡ lesser (least_date f ns) (least_date g ns)
+least_both f g [] = refl
+least_both f g (n ∷ ns) =
+    ap (lesser (lesser (f n) (g n))) (least_both f g ns) ∙ lesser_swap (f n) (g n) (least_date f ns) (least_date g ns)
+
 pub lesser_is : (a b : Option ℕ) (n : ℕ) → lesser a b ≡ Some n → (a ≡ Some n) ⊎ (b ≡ Some n)
 lesser_is None b n h = inr h
 lesser_is (Some x) None n h = inl h

@@ -1,4 +1,20 @@
 #![tactic(auto)]
-//! Lists of entries that are found by a number, as an address, and of which each falls due at a moment: the words
-//! for them and what is true of them, for the tables that keep such a list in the order of its numbers. There is no
-//! code here.
+//! What tables share that keep entries by their addresses: the order of addresses, moments at which something falls due, the ends of
+//! lifetimes, and what is true of a list that is kept in that order.
+
+mod addressed;
+mod dated;
+mod ends;
+mod moments;
+mod order;
+mod table;
+
+pub use addressed::Addressed;
+pub use dated::{Dated, first_at, next_date};
+pub use ends::{end_time, is_before};
+pub use moments::{is_at, lesser};
+pub use order::compare;
+pub use table::{find, holds, place, put};
+
+#[cfg(test)]
+mod tests;

@@ -4,12 +4,12 @@ ghost use Rattle.nd_addr.specs.Number.{number_of};
 
 use crate::due::Due;
 use crate::entry::Entry;
-use crate::find::{find, next};
 use crate::neighbour::Neighbour;
 use crate::packets::Packets;
 use crate::ring::Ring;
 use crate::turning::turn_first;
 use nd_addr::Addr;
+use nd_keyed::next_date;
 use std::alloc::{AllocError, Allocator};
 use std::marker::Model;
 
@@ -62,7 +62,7 @@ impl<A: Allocator + Clone> Cache<A> {
         ensures value { result ≡ next_in self.now.nodes }
         ensures due { (rows : List Row) → Stands self.now.nodes rows → NextDue rows result }
     {
-        next(&self.entries)
+        next_date(&self.entries)
     }
 
     /// What falls due now, for the least address for which something does (RFC 4861, sections 7.2.2 and 7.3.3).

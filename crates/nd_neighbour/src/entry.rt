@@ -14,6 +14,7 @@ use crate::same::is_same_mac;
 use crate::sending::Use;
 use crate::stage::Stage;
 use nd_addr::{Addr, Mac};
+use nd_keyed::{Addressed, Dated};
 use std::alloc::Allocator;
 use std::marker::Model;
 use std::mem;
@@ -50,6 +51,26 @@ impl<A: Allocator> Model for Entry<A> {
     ghost view = { λ e. record { key = number_of e.addr.0; router = e.router; due = e.due; kept = kept_of e.stage } };
 }
 
+impl<A: Allocator> Addressed for Entry<A> {
+    ghost use Rattle.nd_neighbour.specs.Table.{address};
+
+    ghost key = { address };
+
+    fn addr(&self) -> Addr {
+        self.addr
+    }
+}
+
+impl<A: Allocator> Dated<()> for Entry<A> {
+    ghost use Rattle.nd_neighbour.specs.Due.{date_of};
+
+    ghost date = { date_of };
+
+    fn date(&self) -> Option<u64> {
+        Some(self.due)
+    }
+}
+
 impl<A: Allocator> Entry<A> {
     ghost use Rattle.nd_neighbour.specs.Node.{Node, Reaches};
     ghost use Rattle.nd_neighbour.specs.Change.{stale_node, asked_node, given, advertised, conforming, known_mac, waiting_in, released, is_reachable, confirmed, with_mark, used, sending_to, solicited, falls, stays};
@@ -73,13 +94,6 @@ impl<A: Allocator> Entry<A> {
                 probing: None,
             },
         }
-    }
-
-    /// The address.
-    pub(crate) fn addr(&self) -> Addr
-        ensures { number_of result.0 ≡ self.now.key }
-    {
-        self.addr
     }
 
     /// The link-layer address, if it is known.
@@ -214,13 +228,6 @@ impl<A: Allocator> Entry<A> {
                 waiting: ring.with(packet),
             },
         }
-    }
-
-    /// The moment at which something falls due.
-    pub(crate) fn due(&self) -> u64
-        ensures { result ≡ self.now.due }
-    {
-        self.due
     }
 
     /// A message says whether it is a router.

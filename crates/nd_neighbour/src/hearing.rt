@@ -7,13 +7,13 @@ ghost use Rattle.nd_neighbour.specs.Room.{Alters, Gives, NoPlace};
 ghost use Rattle.nd_neighbour.specs.Calls.{told_released, told_turned};
 
 use crate::entry::Entry;
-use crate::find::{find, holds};
 use crate::news::Flags;
 use crate::packets::Packets;
-use crate::place::{has_place, make_place, put};
+use crate::place::{has_place, make_place};
 use crate::refusal::CacheRefusal;
 use crate::touched::Touched;
 use nd_addr::{Addr, Mac};
+use nd_keyed::{find, holds, put};
 use std::alloc::Allocator;
 
 /// An address is given: it changes the entry that is there, or makes one, where there is place.

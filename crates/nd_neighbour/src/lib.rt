@@ -4,7 +4,6 @@
 mod cache;
 mod due;
 mod entry;
-mod find;
 mod forget;
 mod heard;
 mod hearing;

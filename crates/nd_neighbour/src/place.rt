@@ -1,10 +1,7 @@
-ghost use Rattle.std.specs.Prelude.{◌≡◌, ◌<◌, ◌≤◌, length, slice_get, IfSome, IfNone, None, true, ◌+◌, vec_len, vec_capacity};
-ghost use Rattle.std.specs.List.{insert};
-ghost use Rattle.nd_neighbour.specs.Table.{place_in};
+ghost use Rattle.std.specs.Prelude.{◌≡◌, ◌<◌, ◌≤◌, length, slice_get, IfSome, IfNone, None, true, vec_len, vec_capacity};
 ghost use Rattle.nd_neighbour.specs.Room.{stalest, has_place, Places, longer, picked, picked_stale};
 
 use crate::entry::Entry;
-use crate::find::place;
 use std::alloc::Allocator;
 
 /// The place of the one of two entries that is stale for longer, at a tie of the first.
@@ -61,19 +58,5 @@ pub(crate) fn make_place<A: Allocator>(entries: &mut Vec<Entry<A>, A>, limit: us
     }
     if let Some(i) = stalest(entries, now) {
         let _ = entries.remove(i);
-    }
-}
-
-/// Puts an entry in its place. There is room for it.
-pub(crate) fn put<A: Allocator>(entries: &mut Vec<Entry<A>, A>, entry: Entry<A>)
-    requires { vec_len entries.old < vec_capacity entries.old }
-    ensures items { entries.new.items ≡ insert entries.old.items (place_in entry.key entries.old.items) entry }
-    ensures len { vec_len entries.new ≡ vec_len entries.old + 1 }
-    ensures capacity { vec_capacity entries.new ≡ vec_capacity entries.old }
-{
-    let at = place(entries, entry.addr());
-    match entries.insert(at, entry) {
-        Ok(()) => {}
-        Err(_) => unreachable!(),
     }
 }

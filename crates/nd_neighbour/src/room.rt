@@ -8,10 +8,9 @@ ghost use Rattle.nd_neighbour.specs.Second.{has_room, place_beside, place_withou
 
 use crate::cache::Cache;
 use crate::entry::Entry;
-use crate::find::holds;
 use crate::place::{has_place, stalest};
-use crate::same::compare;
 use nd_addr::Addr;
+use nd_keyed::{Addressed, compare, holds};
 use std::alloc::Allocator;
 
 impl<A: Allocator + Clone> Cache<A> {

@@ -1,10 +1,7 @@
 ghost use Rattle.std.specs.Prelude.{◌≡◌, ◌==◌};
-ghost use Rattle.std.specs.Ordering.{nat_cmp};
 ghost use Rattle.nd_addr.specs.Number.{number_of};
 
-use nd_addr::laws::order_is_of_numbers;
-use nd_addr::{Addr, Mac};
-use std::cmp::Ordering;
+use nd_addr::Mac;
 
 /// Whether two link-layer addresses are the same.
 pub(crate) fn is_same_mac(a: Mac, b: Mac) -> bool
@@ -13,12 +10,4 @@ pub(crate) fn is_same_mac(a: Mac, b: Mac) -> bool
     let _a = a.as_bytes();
     let _b = b.as_bytes();
     a == b
-}
-
-/// The order of two addresses, which is that of their numbers.
-pub(crate) fn compare(a: Addr, b: Addr) -> Ordering
-    ensures { result ≡ nat_cmp (number_of a.0) (number_of b.0) }
-{
-    order_is_of_numbers(a, b);
-    a.cmp(&b)
 }

@@ -6,9 +6,9 @@ ghost use Rattle.nd_neighbour.specs.Seen.{seen};
 ghost use Rattle.nd_neighbour.specs.View.{seen_in};
 
 use crate::entry::Entry;
-use crate::find::find;
 use crate::neighbour::Neighbour;
 use nd_addr::Addr;
+use nd_keyed::find;
 use std::alloc::{AllocError, Allocator};
 
 /// What is shown of an entry that may be there.

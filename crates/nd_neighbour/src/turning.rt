@@ -4,7 +4,7 @@ ghost use Rattle.nd_neighbour.specs.View.{falls_of};
 
 use crate::due::Due;
 use crate::entry::Entry;
-use crate::find::due_at;
+use nd_keyed::first_at;
 use std::alloc::Allocator;
 
 /// What falls due now for the first entry for which something does: it is asked once more, or goes.
@@ -16,7 +16,7 @@ pub(crate) fn turn_first<A: Allocator>(entries: &mut Vec<Entry<A>, A>, now: u64)
     ensures len { vec_len entries.new ≤ vec_len entries.old }
     ensures capacity { vec_capacity entries.new ≡ vec_capacity entries.old }
 {
-    let i = due_at(entries, now)?;
+    let i = first_at(entries, now)?;
     let entry = &mut entries[i];
     if let Some(due) = entry.solicit(now) {
         return Some(due);

@@ -12,16 +12,6 @@ use Rattle.nd_keyed.specs.Due.{lesser, is_at, least_date}
 use Rattle.nd_keyed.proofs.Due.{AtMost, AtMost-left, AtMost-right, AtMost-same, AtMost-some, AtMost-none, lesser_is, NotBefore-left, NotBefore-right, NotBefore-both}
 use Rattle.nd_routers.specs.Due.{IsDue, FirstDue, NextDue}
 
-pub lesser_assoc : (a b c : Option ℕ) → lesser a (lesser b c) ≡ lesser (lesser a b) c
-lesser_assoc None b c = refl
-lesser_assoc (Some x) None c = refl
-lesser_assoc (Some x) (Some y) None = refl
-lesser_assoc (Some x) (Some y) (Some z) = ap Some (omega arith)
-
-pub lesser_none : (a : Option ℕ) → lesser a None ≡ a
-lesser_none None = refl
-lesser_none (Some x) = refl
-
 least_at_most : (number : Kept ℕ → Option ℕ) (es : List (Kept ℕ)) (key n : ℕ) (end : Option ℕ) → end_in same key es ≡ Some end → ((e : Kept ℕ) → e.key ≡ key → e.end ≡ end → AtMost (number e) n) → AtMost (least_date number es) n
 least_at_most number [] key n end h f = absurd (grind arith)
 least_at_most number (e ∷ es) key n end h f =

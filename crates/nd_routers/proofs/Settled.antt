@@ -4,7 +4,7 @@ use Rattle.std.specs.Prelude.{◌&&◌}
 use Rattle.std.proofs.lemmas.Bool.Decides.{nat_tests, eqb_tells}
 use Rattle.std.proofs.lemmas.Bool.{and_parts, and_from}
 use Rattle.nd_standing.specs.declared.kept.Kept.{Kept}
-use Rattle.nd_standing.specs.Rows.{is_before}
+use Rattle.nd_keyed.specs.Ends.{is_before}
 use Rattle.nd_standing.proofs.Steps.{AllOpen}
 use Rattle.nd_routers.specs.Routers.{same, IsSettled, next_end}
 use Rattle.nd_keyed.specs.Due.{lesser}

@@ -1,33 +1,13 @@
 ghost use Rattle.std.specs.Prelude.{◌≡◌, Some};
 ghost use Rattle.std.specs.Option.{option_map};
 ghost use Rattle.nd_addr.specs.Number.{number_of};
-ghost use Rattle.nd_routers.specs.Routers.{next_end, first_due};
+ghost use Rattle.nd_routers.specs.Routers.{first_due};
 ghost use Rattle.nd_keyed.specs.Due.{lesser};
 
-use crate::router::{Router, compare};
+use crate::router::Router;
 use nd_addr::Addr;
+use nd_keyed::{compare, is_at};
 use nd_standing::Kept;
-
-/// The lesser of two moments that may be missing.
-pub(crate) fn lesser(a: Option<u64>, b: Option<u64>) -> Option<u64>
-    ensures { result ≡ lesser a b }
-{
-    match (a, b) {
-        (Some(x), Some(y)) => Some(x.min(y)),
-        (None, other) | (other, None) => other,
-    }
-}
-
-/// The earliest end.
-pub(crate) fn next_end(entries: &[Kept<Router>]) -> Option<u64>
-    ensures { result ≡ next_end entries.now }
-{
-    let mut least = None;
-    for entry in entries {
-        least = lesser(least, entry.end);
-    }
-    least
-}
 
 /// The lesser of two addresses, of which the first may be missing.
 fn lesser_addr(a: Option<Addr>, b: Addr) -> Addr
@@ -45,7 +25,7 @@ pub(crate) fn first_due(entries: &[Kept<Router>], now: u64) -> Option<Addr>
 {
     let mut least = None;
     for entry in entries {
-        if entry.end == Some(now) {
+        if is_at(now, entry.end) {
             least = Some(lesser_addr(least, entry.key.addr()));
         }
     }

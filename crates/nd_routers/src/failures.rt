@@ -2,8 +2,9 @@ ghost use Rattle.std.specs.Prelude.{◌≡◌, ◌≤◌, ◌++◌, ◌∷◌, �
 ghost use Rattle.nd_addr.specs.Number.{number_of};
 ghost use Rattle.nd_routers.specs.Failures.{others, place_among};
 
-use crate::router::{Router, compare};
+use crate::router::Router;
 use nd_addr::Addr;
+use nd_keyed::compare;
 use std::alloc::Allocator;
 
 /// The router has no failure from now on.

@@ -4,8 +4,8 @@ ghost use Rattle.nd_addr.specs.Number.{holds};
 ghost use Rattle.nd_standing.specs.Listing.{open_at};
 ghost use Rattle.nd_routers.specs.Prefixes.{least_end, link_local_subnet};
 
-use crate::due::lesser;
 use nd_addr::{Addr, Prefix};
+use nd_keyed::lesser;
 use nd_standing::{Kept, Standing};
 
 /// Whether a prefix holds an address.

@@ -1,11 +1,9 @@
-ghost use Rattle.std.specs.Prelude.{◌≡◌, ◌==◌};
-ghost use Rattle.std.specs.Ordering.{nat_cmp};
+ghost use Rattle.std.specs.Prelude.{◌≡◌};
 ghost use Rattle.nd_addr.specs.Number.{number_of};
 
 use nd_addr::Addr;
-use nd_addr::laws::order_is_of_numbers;
+use nd_keyed::compare;
 use nd_standing::Names;
-use std::cmp::Ordering;
 use std::marker::Model;
 
 /// A default router, by its address.
@@ -37,14 +35,6 @@ impl Router {
     {
         self.addr
     }
-}
-
-/// The order of two addresses, which is that of their numbers.
-pub(crate) fn compare(a: Addr, b: Addr) -> Ordering
-    ensures { result ≡ nat_cmp (number_of a.0) (number_of b.0) }
-{
-    order_is_of_numbers(a, b);
-    a.cmp(&b)
 }
 
 impl Names<Router> for Addr {

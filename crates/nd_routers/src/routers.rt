@@ -6,11 +6,12 @@ ghost use Rattle.nd_standing.specs.Listing.{end_in, open_at, fits, Lists};
 ghost use Rattle.nd_standing.specs.Left.{left};
 
 use crate::change::{Change, change_by};
-use crate::due::{first_due, next_end};
+use crate::due::first_due;
 use crate::failures::{forget, place};
 use crate::listed::Listed;
 use crate::router::Router;
 use nd_addr::Addr;
+use nd_keyed::next_date;
 use nd_standing::{Kept, Limit, Standing, TableRefusal, announce, count, has, remove, stands};
 use std::alloc::{AllocError, Allocator};
 use std::marker::Model;
@@ -109,7 +110,7 @@ impl<A: Allocator + Clone> Routers<A> {
         ensures value { result ≡ next_end self.now.entries }
         ensures due { (rows : List Happening) → IsOf self.now rows → NextDue rows result }
     {
-        next_end(&self.entries)
+        next_date(&self.entries)
     }
 
     /// The least address of the routers whose lifetime ends now, which leaves the list (RFC 4861, section 6.3.5).

@@ -4,7 +4,8 @@ use Rattle.nd_keyed.proofs.Cases.{either}
 use Rattle.nd_slaac.specs.declared.stage.Stage.TheVariants.{Detecting}
 use Rattle.nd_slaac.specs.Rows as rows
 use Rattle.nd_slaac.specs.Rows.{Story, Lifetimes}
-use Rattle.nd_slaac.specs.Ends.{end_after, renewed, preferred_end, valid_end}
+use Rattle.nd_keyed.specs.Ends.{end_time}
+use Rattle.nd_slaac.specs.Ends.{renewed, preferred_end, valid_end}
 use Rattle.nd_slaac.specs.State.{Forming, forming_of, has_conflict, was_assigned, sent_of}
 use Rattle.nd_slaac.specs.Address.{Address, step_at, stage_by, address_by, address_of}
 use Rattle.nd_slaac.specs.Due.{transmits, happens}
@@ -36,7 +37,7 @@ module _ (key at : ℕ) (s : Story) (a : Address) (there : address_of key s ≡ 
   pub when_announced : (lifetimes : Lifetimes) → address_of key ((at, rows.Announced lifetimes) ∷ s) ≡ Some (announced at lifetimes a)
   when_announced lifetimes =
       let was = was_formed key s a there in
-      ap (λ o. address_by key o (has_conflict s) (was_assigned s) (sent_of s) (end_after at lifetimes.preferred) (renewed at (valid_end s) lifetimes.valid)) was.1
+      ap (λ o. address_by key o (has_conflict s) (was_assigned s) (sent_of s) (end_time at lifetimes.preferred) (renewed at (valid_end s) lifetimes.valid)) was.1
       ∙ ap (λ (m : Address). Some (announced at lifetimes m)) (sym was.2)
 
   pub when_conflict : address_of key ((at, rows.Conflict) ∷ s) ≡ Some (failed a)

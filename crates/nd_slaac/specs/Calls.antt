@@ -11,7 +11,8 @@ use Rattle.nd_slaac.specs.declared.taken.Taken.TheVariants.{Formed, Renewed, Ign
 use Rattle.nd_slaac.specs.declared.taken.Full.{Full}
 use Rattle.nd_slaac.specs.Rows as rows
 use Rattle.nd_slaac.specs.Rows.{Row, Lifetimes, Happening}
-use Rattle.nd_slaac.specs.Ends.{end_after, renewed}
+use Rattle.nd_keyed.specs.Ends.{end_time}
+use Rattle.nd_slaac.specs.Ends.{renewed}
 use Rattle.nd_slaac.specs.Address.{Address}
 use Rattle.nd_slaac.specs.Table.{key_of, address_in, GainsRow}
 use Rattle.nd_slaac.specs.Announcing.{is_taken, named_by, lifetimes_of}
@@ -25,12 +26,12 @@ abbrev pub formed : ℕ → ℕ → ℕ → ℕ → Option Lifetimes → Address
 formed key now delay retrans None =
     record { key = key; preferred_end = None; valid_end = None; stage = Detecting 0 (now + delay) retrans }
 formed key now delay retrans (Some lifetimes) =
-    record { key = key; preferred_end = end_after now lifetimes.preferred; valid_end = end_after now lifetimes.valid; stage = Detecting 0 (now + delay) retrans }
+    record { key = key; preferred_end = end_time now lifetimes.preferred; valid_end = end_time now lifetimes.valid; stage = Detecting 0 (now + delay) retrans }
 
 -- an address whose prefix is announced again
 abbrev pub announced : ℕ → Lifetimes → Address → Address
 announced now lifetimes a =
-    record { key = a.key; preferred_end = end_after now lifetimes.preferred; valid_end = renewed now a.valid_end lifetimes.valid; stage = a.stage }
+    record { key = a.key; preferred_end = end_time now lifetimes.preferred; valid_end = renewed now a.valid_end lifetimes.valid; stage = a.stage }
 
 -- an address that another node has
 abbrev pub failed : Address → Address

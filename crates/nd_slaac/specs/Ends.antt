@@ -1,10 +1,7 @@
 -- When the lifetimes of an address end (RFC 4862, sections 5.5.3 and 5.5.4).
-use Rattle.std.specs.Prelude.{ℕ, ◌+◌, ◌*◌, nat_lt, min, max, Bool, true, ◌==◌, if◌then◌else◌, [], ◌∷◌, Option, Some, None}
+use Rattle.std.specs.Prelude.{ℕ, ◌+◌, ◌*◌, nat_lt, min, max, if◌then◌else◌, [], ◌∷◌, Option, Some, None}
+use Rattle.nd_keyed.specs.Ends.{end_time}
 use Rattle.nd_slaac.specs.Rows.{Story, Formed, Announced}
-
--- the end of a lifetime that begins now: there is none for all ones
-abbrev pub end_after : ℕ → ℕ → Option ℕ
-end_after now lifetime = if lifetime == 4294967295 then None else Some (now + 1000 * lifetime)
 
 -- the end that is there, or two hours from now where that is earlier
 abbrev pub within_two_hours : ℕ → Option ℕ → ℕ
@@ -15,25 +12,20 @@ within_two_hours now (Some end) = min end (now + 7200000)
 -- the rest; else the rest is cut to two hours, and a rest that is less stays (section 5.5.3 e).
 abbrev pub renewed : ℕ → Option ℕ → ℕ → Option ℕ
 renewed now end valid =
-    if nat_lt 7200 valid then end_after now valid else Some (max (now + 1000 * valid) (within_two_hours now end))
+    if nat_lt 7200 valid then end_time now valid else Some (max (now + 1000 * valid) (within_two_hours now end))
 
 -- the preferred end: that of the last announcement
 abbrev pub preferred_end : Story → Option ℕ
 preferred_end [] = None
 preferred_end ((at, Formed delay retrans None) ∷ s) = None
-preferred_end ((at, Formed delay retrans (Some lifetimes)) ∷ s) = end_after at lifetimes.preferred
-preferred_end ((at, Announced lifetimes) ∷ s) = end_after at lifetimes.preferred
+preferred_end ((at, Formed delay retrans (Some lifetimes)) ∷ s) = end_time at lifetimes.preferred
+preferred_end ((at, Announced lifetimes) ∷ s) = end_time at lifetimes.preferred
 preferred_end ((at, _) ∷ s) = preferred_end s
 
 -- the valid end: that of the first announcement, which each further one renews
 abbrev pub valid_end : Story → Option ℕ
 valid_end [] = None
 valid_end ((at, Formed delay retrans None) ∷ s) = None
-valid_end ((at, Formed delay retrans (Some lifetimes)) ∷ s) = end_after at lifetimes.valid
+valid_end ((at, Formed delay retrans (Some lifetimes)) ∷ s) = end_time at lifetimes.valid
 valid_end ((at, Announced lifetimes) ∷ s) = renewed at (valid_end s) lifetimes.valid
 valid_end ((at, _) ∷ s) = valid_end s
-
--- the moment is before the end, if there is one
-abbrev pub is_before : ℕ → Option ℕ → Bool
-is_before t None = true
-is_before t (Some end) = nat_lt t end

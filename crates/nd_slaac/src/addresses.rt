@@ -4,9 +4,9 @@ ghost use Rattle.nd_addr.specs.Number.{number_of};
 
 use crate::announcing::link_local;
 use crate::conflicting::fail;
+use crate::dates::next;
 use crate::due::Due;
 use crate::entry::Entry;
-use crate::find::next;
 use crate::turning::turn_first;
 use nd_addr::{Addr, Mac};
 use std::alloc::{AllocError, Allocator};

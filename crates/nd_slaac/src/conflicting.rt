@@ -4,8 +4,8 @@ ghost use Rattle.nd_slaac.specs.Table.{address_in};
 ghost use Rattle.nd_slaac.specs.Calls.{Alters, failed, detects_in};
 
 use crate::entry::Entry;
-use crate::find::find;
 use nd_addr::Addr;
+use nd_keyed::find;
 use std::alloc::Allocator;
 
 /// Another node has an address, or tries for it: where its detection goes on, it fails.

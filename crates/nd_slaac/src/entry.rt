@@ -1,15 +1,15 @@
 ghost use Rattle.std.specs.Prelude.{◌≡◌, ◌<◌, ◌^◌, true, None, Some};
 ghost use Rattle.nd_addr.specs.Number.{number_of};
-ghost use Rattle.nd_slaac.specs.Ends.{is_before};
 ghost use Rattle.nd_slaac.specs.Seen.{left};
 
 use crate::due::Due;
 use crate::own_address::OwnAddress;
-use crate::renewing::{end_after, renewed};
+use crate::renewing::renewed;
 use crate::stage::Stage;
 use crate::state::State;
 use nd_addr::Addr;
 use nd_decode::PrefixInfo;
+use nd_keyed::{Addressed, end_time, is_before};
 use std::marker::Model;
 
 /// How many solicitations a detection sends (RFC 4862, section 5.1, DupAddrDetectTransmits).
@@ -35,16 +35,6 @@ impl Model for Entry {
     ghost view = { λ e. record { key = number_of e.addr.0; preferred_end = e.preferred_end; valid_end = e.valid_end; stage = e.stage } };
 }
 
-/// Whether a moment is before an end, if there is one.
-fn is_before(now: u64, end: Option<u64>) -> bool
-    ensures { result ≡ is_before now end }
-{
-    match end {
-        None => true,
-        Some(end) => now < end,
-    }
-}
-
 /// What is left until an end, if there is one.
 fn left(now: u64, end: Option<u64>) -> Option<u64>
     ensures { result ≡ left now end }
@@ -55,11 +45,21 @@ fn left(now: u64, end: Option<u64>) -> Option<u64>
     }
 }
 
+impl Addressed for Entry {
+    ghost use Rattle.nd_slaac.specs.Table.{key_of};
+
+    ghost key = { key_of };
+
+    fn addr(&self) -> Addr {
+        self.addr
+    }
+}
+
 impl Entry {
     ghost use Rattle.nd_slaac.specs.Address.{Address, state_in};
     ghost use Rattle.nd_slaac.specs.Announcing.{lifetimes_of};
     ghost use Rattle.nd_slaac.specs.Calls.{formed, announced, failed, is_detecting};
-    ghost use Rattle.nd_slaac.specs.Dates.{end_date, next_step, falls_by, stepped};
+    ghost use Rattle.nd_slaac.specs.Dates.{falls_by, stepped};
     ghost use Rattle.nd_slaac.specs.Seen.{seen, state_at};
     ghost use Rattle.nd_slaac.specs.View.{falls_of, seen_in};
 
@@ -83,33 +83,9 @@ impl Entry {
     {
         Entry {
             addr,
-            preferred_end: end_after(now, info.preferred_lifetime),
-            valid_end: end_after(now, info.valid_lifetime),
+            preferred_end: end_time(now, info.preferred_lifetime),
+            valid_end: end_time(now, info.valid_lifetime),
             stage: Stage::begin(now, delay, retrans),
-        }
-    }
-
-    /// The address.
-    pub(crate) fn addr(&self) -> Addr
-        ensures { number_of result.0 ≡ self.now.key }
-    {
-        self.addr
-    }
-
-    /// The end of its valid lifetime, if it has one.
-    pub(crate) fn valid_end(&self) -> Option<u64>
-        ensures { result ≡ end_date self.now }
-    {
-        self.valid_end
-    }
-
-    /// The date of the next step of its detection, if that goes on.
-    pub(crate) fn next_step(&self) -> Option<u64>
-        ensures { result ≡ next_step self.now }
-    {
-        match self.stage {
-            Stage::Detecting { due, .. } => Some(due),
-            Stage::Failed | Stage::Passed => None,
         }
     }
 
@@ -149,7 +125,7 @@ impl Entry {
         requires { now < 2 ^ 62 }
         ensures { self.new ≡ announced now (lifetimes_of info.now) self.old }
     {
-        self.preferred_end = end_after(now, info.preferred_lifetime);
+        self.preferred_end = end_time(now, info.preferred_lifetime);
         self.valid_end = renewed(now, self.valid_end, info.valid_lifetime);
     }
 

@@ -7,10 +7,9 @@ ghost use Rattle.nd_slaac.specs.Calls.{keys_in};
 use crate::addresses::LIMIT;
 use crate::announcing::{is_taken, named_by};
 use crate::entry::Entry;
-use crate::find::find;
-use crate::same::compare;
 use nd_addr::{Addr, Mac};
 use nd_decode::{OptionRef, Options, PrefixInfo};
+use nd_keyed::{compare, find};
 
 /// Whether an address is known.
 fn is_known(entries: &[Entry], addr: Addr) -> bool

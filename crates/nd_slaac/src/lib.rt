@@ -4,17 +4,15 @@
 mod addresses;
 mod announcing;
 mod conflicting;
+mod dates;
 mod due;
 mod entry;
-mod find;
 mod fitting;
 mod hearing;
 pub mod laws;
 mod look;
 mod own_address;
-mod place;
 mod renewing;
-mod same;
 mod showing;
 mod stage;
 mod state;

@@ -1,23 +1,10 @@
 ghost use Rattle.std.specs.Prelude.{◌≡◌, ◌<◌, ◌^◌};
-ghost use Rattle.nd_slaac.specs.Ends.{end_after, within_two_hours, renewed};
+ghost use Rattle.nd_slaac.specs.Ends.{within_two_hours, renewed};
 
-/// A lifetime without an end, in seconds (RFC 4861, section 4.6.2).
-const INFINITY: u32 = 0xffff_ffff;
+use nd_keyed::end_time;
 
 /// Two hours, in seconds (RFC 4862, section 5.5.3 e).
 const TWO_HOURS: u32 = 7200;
-
-/// The end of a lifetime that begins now, in seconds.
-pub(crate) fn end_after(now: u64, lifetime: u32) -> Option<u64>
-    requires { now < 2 ^ 62 }
-    ensures { result ≡ end_after now lifetime }
-{
-    if lifetime == INFINITY {
-        None
-    } else {
-        Some(now + 1000 * u64::from(lifetime))
-    }
-}
 
 /// The end that is there, or two hours from now where that is earlier.
 fn within_two_hours(now: u64, end: Option<u64>) -> u64
@@ -38,7 +25,7 @@ pub fn renewed(now: u64, end: Option<u64>, valid: u32) -> Option<u64>
     ensures { result ≡ renewed now end valid }
 {
     if valid > TWO_HOURS {
-        return end_after(now, valid);
+        return end_time(now, valid);
     }
     let announced = now + 1000 * u64::from(valid);
     Some(announced.max(within_two_hours(now, end)))

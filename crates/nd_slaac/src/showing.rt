@@ -6,10 +6,10 @@ ghost use Rattle.nd_slaac.specs.Seen.{state_at, seen};
 ghost use Rattle.nd_slaac.specs.View.{seen_in};
 
 use crate::entry::Entry;
-use crate::find::find;
 use crate::own_address::OwnAddress;
 use crate::state::State;
 use nd_addr::Addr;
+use nd_keyed::find;
 use std::alloc::{AllocError, Allocator};
 
 /// The state of an entry that may be there.

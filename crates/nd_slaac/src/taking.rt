@@ -7,11 +7,10 @@ ghost use Rattle.nd_slaac.specs.Calls.{taken_by, Changes};
 
 use crate::addresses::LIMIT;
 use crate::entry::Entry;
-use crate::find::find;
-use crate::place::put;
 use crate::taken::{Full, Taken};
 use nd_addr::Addr;
 use nd_decode::PrefixInfo;
+use nd_keyed::{find, put};
 use std::alloc::Allocator;
 
 /// An option that is taken, for the address that it names (RFC 4862, section 5.5.3 d and e).

@@ -2,9 +2,10 @@ ghost use Rattle.std.specs.Prelude.{◌≡◌, ◌≤◌, ◌<◌, ◌^◌, IfSo
 ghost use Rattle.nd_slaac.specs.Dates.{Turns, Rests};
 ghost use Rattle.nd_slaac.specs.View.{falls_of};
 
+use crate::dates::{NextStep, ValidEnd};
 use crate::due::Due;
 use crate::entry::Entry;
-use crate::find::{ended_at, step_at};
+use nd_keyed::{Addressed, first_at};
 use std::alloc::Allocator;
 
 /// The first entry whose valid lifetime ends now goes; where there is none, the first whose detection has a step now
@@ -17,11 +18,11 @@ pub(crate) fn turn_first<A: Allocator>(entries: &mut Vec<Entry, A>, now: u64) ->
     ensures len { vec_len entries.new ≤ vec_len entries.old }
     ensures capacity { vec_capacity entries.new ≡ vec_capacity entries.old }
 {
-    if let Some(i) = ended_at(entries, now) {
+    if let Some(i) = first_at::<ValidEnd, _>(entries, now) {
         let entry = entries.remove(i);
         return Some(Due::End(entry.addr()));
     }
-    let i = step_at(entries, now)?;
+    let i = first_at::<NextStep, _>(entries, now)?;
     let entry = &mut entries[i];
     Some(entry.step(now))
 }

@@ -3,7 +3,7 @@ use Rattle.std.proofs.Common.{◌≡◌, ℕ, zero, suc, ◌+◌, ◌≤◌, Boo
 use Rattle.std.specs.Prelude.{map, filter, not, is_some, ◌&&◌, nat_le}
 use Rattle.std.proofs.lemmas.Bool.{cond_both, cond-true, true≢false}
 use Rattle.nd_standing.specs.declared.kept.Kept.{Kept}
-use Rattle.nd_standing.specs.Rows.{end_time, is_before}
+use Rattle.nd_keyed.specs.Ends.{end_time, is_before}
 use Rattle.nd_standing.specs.Listing.{open_at, end_in, renewed, without, told, announced, announced_all, entered, fits, behind, Distinct, count_after}
 use Rattle.nd_standing.proofs.Finding.{Tells, end_in-renewed, end_in-without, end_in-push, end_in-filter-none, absent_of, as_long, one_longer, without_absent}
 use Rattle.nd_standing.proofs.Steps.{AllOpen, AllOpen-open, AllOpen-announced}

@@ -3,7 +3,8 @@ use Rattle.std.proofs.Common.{length, ◌+◌, ◌≡◌, ◌≢◌, ℕ, Bool, 
 use Rattle.std.specs.Prelude.{map, filter, is_some}
 use Rattle.std.proofs.lemmas.Bool.{true≢false}
 use Rattle.nd_standing.specs.declared.kept.Kept.{Kept}
-use Rattle.nd_standing.specs.Rows.{is_before, is_open}
+use Rattle.nd_keyed.specs.Ends.{is_before}
+use Rattle.nd_standing.specs.Rows.{is_open}
 use Rattle.nd_standing.specs.Listing.{open_at, end_in, renewed, without, Distinct}
 
 -- what the test of two keys tells

@@ -4,7 +4,8 @@ use Rattle.std.specs.Prelude.{not, ◌||◌, nat_le, nat_lt, map, filter, is_som
 use Rattle.std.proofs.lemmas.Bool.Decides.{nat_tests}
 use Rattle.std.proofs.lemmas.Bool.{cond_both, cond-true, true≢false}
 use Rattle.nd_standing.specs.declared.kept.Kept.{Kept}
-use Rattle.nd_standing.specs.Rows.{Row, Announced, Ended, Cleared, last_moment, end_after, end_time, end_of, is_before, is_open, stands, place}
+use Rattle.nd_keyed.specs.Ends.{end_time, is_before}
+use Rattle.nd_standing.specs.Rows.{Row, Announced, Ended, Cleared, last_moment, end_after, end_of, is_open, stands, place}
 use Rattle.nd_standing.specs.Listing.{open_at, end_in, Stands, StandsSilently, Lists, renewed, without, told, announced, announced_all, heard_rows}
 use Rattle.nd_standing.proofs.Finding.{Tells, Has, end_in-renewed, end_in-without, end_in-push, end_in-open, absent_of, as_long, one_longer}
 use Rattle.nd_standing.proofs.Order.{Rises-agree, Rises-renewed, Rises-filter, Rises-push, distinct_of}

@@ -1,7 +1,8 @@
 -- What a list of keys with their ends is to the announcements that it stands for.
 use Rattle.std.specs.Prelude.{◌+◌, ◌-◌, ◌≡◌, length, ℕ, ◌<◌, ◌≤◌, Bool, true, not, ◌&&◌, nat_le, ◌==◌, if◌then◌else◌, List, [], ◌∷◌, ◌++◌, Option, Some, None, filter, map, is_some}
 use Rattle.nd_standing.specs.declared.kept.Kept.{Kept}
-use Rattle.nd_standing.specs.Rows.{Row, Announced, last_moment, end_time, end_of, place, is_before, stands}
+use Rattle.nd_keyed.specs.Ends.{end_time, is_before}
+use Rattle.nd_standing.specs.Rows.{Row, Announced, last_moment, end_of, place, stands}
 
 -- the keys that haven't ended by the moment
 abbrev pub open_at : {K : Type 0} → ℕ → List (Kept K) → List (Kept K)

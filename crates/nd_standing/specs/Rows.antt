@@ -1,6 +1,7 @@
 -- What a list of announcements, the newest first, says of each key that was announced: a router, a prefix, a DNS server or a search
 -- name (RFC 4861, section 6.3.4; RFC 8106, section 6). Nothing here has a state: each question looks back.
-use Rattle.std.specs.Prelude.{ℕ, ◌+◌, ◌*◌, Bool, true, false, ◌==◌, nat_lt, if◌then◌else◌, List, [], ◌∷◌, length, Option, Some, None}
+use Rattle.std.specs.Prelude.{ℕ, Bool, false, ◌==◌, if◌then◌else◌, List, [], ◌∷◌, length, Option, Some, None}
+use Rattle.nd_keyed.specs.Ends.{end_time, is_before}
 
 -- a key is announced for a lifetime in seconds, or it is ended by something else, or all keys are
 pub data Row (K : Type 0) : Type 0 where
@@ -15,18 +16,9 @@ last_moment (Announced at key lifetime ∷ rows) = at
 last_moment (Ended at key ∷ rows) = at
 last_moment (Cleared at ∷ rows) = at
 
--- when a lifetime in seconds ends that begins at a moment: all ones have no end (RFC 4861, section 4.6.2)
-abbrev pub end_time : ℕ → ℕ → Option ℕ
-end_time at lifetime = if lifetime == 4294967295 then None else Some (at + 1000 * lifetime)
-
 -- the end of an announcement that was made at this moment, where a lifetime of 0 ends the key
 abbrev pub end_after : ℕ → ℕ → Option (Option ℕ)
 end_after at lifetime = if lifetime == 0 then None else Some (end_time at lifetime)
-
--- the moment is before the end
-abbrev pub is_before : ℕ → Option ℕ → Bool
-is_before t None = true
-is_before t (Some end) = nat_lt t end
 
 -- there is an end, and the moment is before it
 abbrev pub is_open : Option (Option ℕ) → ℕ → Bool

@@ -1,9 +1,9 @@
 ghost use Rattle.std.specs.Prelude.{◌≡◌, ◌≤◌, ◌<◌, ◌^◌, ◌≢◌, Some, false, MatchOption, IsTrue, length, map, is_some, vec_len, vec_capacity};
-ghost use Rattle.nd_standing.specs.Rows.{is_before, end_time};
 ghost use Rattle.nd_standing.specs.Listing.{end_in, renewed, without, open_at, announced, enters};
 
 use crate::kept::Kept;
 use crate::names::Names;
+use nd_keyed::{end_time, is_before};
 use std::alloc::Allocator;
 
 /// Whether there is an entry of the key.
@@ -56,16 +56,6 @@ pub fn remove<K: Drop, Q: Names<K>, A: Allocator>(entries: &mut Vec<Kept<K>, A>,
     entries.retain(|entry| !name.names(&entry.key));
 }
 
-/// Whether a moment is before an end.
-pub(crate) fn is_before(now: u64, end: Option<u64>) -> bool
-    ensures { result ≡ is_before now end }
-{
-    match end {
-        None => true,
-        Some(end) => now < end,
-    }
-}
-
 /// The keys that have ended by now have no entry from now on.
 pub fn drop_ended<K: Drop, A: Allocator>(entries: &mut Vec<Kept<K>, A>, now: u64)
     ensures items { entries.new.items ≡ open_at now entries.old.items }
@@ -73,21 +63,6 @@ pub fn drop_ended<K: Drop, A: Allocator>(entries: &mut Vec<Kept<K>, A>, now: u64
     ensures capacity { vec_capacity entries.new ≡ vec_capacity entries.old }
 {
     entries.retain(|entry| is_before(now, entry.end));
-}
-
-/// A lifetime without an end (RFC 4861, section 4.6.2).
-const FOREVER: u32 = 0xffff_ffff;
-
-/// The end of a lifetime in seconds that begins now.
-pub fn end_time(now: u64, lifetime: u32) -> Option<u64>
-    requires { now < 2 ^ 62 }
-    ensures { result ≡ end_time now lifetime }
-{
-    if lifetime == FOREVER {
-        None
-    } else {
-        Some(now + 1000 * u64::from(lifetime))
-    }
 }
 
 /// A key is announced for a lifetime in seconds, by a name. There is room for it, and the key itself is given where it enters.

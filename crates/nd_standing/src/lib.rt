@@ -13,7 +13,7 @@ mod refusal;
 mod standing;
 
 pub use announces::Announces;
-pub use changing::{announce, count, drop_ended, end_time, enters, has, remove, renew, stands};
+pub use changing::{announce, count, drop_ended, enters, has, remove, renew, stands};
 pub use kept::Kept;
 pub use message::{announce_all, enters_behind, fits_all};
 pub use names::Names;

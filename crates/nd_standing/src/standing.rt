@@ -1,5 +1,5 @@
-use crate::changing::is_before;
 use crate::kept::Kept;
+use nd_keyed::is_before;
 
 /// The keys that stand at a moment, with their ends, in the order in which they came.
 #[derive(Clone, Copy, Debug)]

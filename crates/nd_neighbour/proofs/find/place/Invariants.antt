@@ -1,8 +1,0 @@
-use Rattle.std.proofs.Common.{◌≡◌, ◌+◌, drop}
-use Rattle.nd_addr.specs.Number.{number_of}
-use Rattle.nd_neighbour.specs.Table.{place_in}
-use Rattle.nd_neighbour.proofs.find.place.Given as goal
-
--- all so far are lower
-abbrev pub invariant-loop-i : goal.invariant-loop-i
-invariant-loop-i g l = place_in (number_of l.addr.0) l.entries ≡ l.i + place_in (number_of l.addr.0) (drop l.i l.entries)
