@@ -31,9 +31,19 @@ fn fail(rt: &HostRuntime, fault: ToolFault) -> ExitCode {
     ExitCode::from(fault.status())
 }
 
+/// Tells that the words can't be read, and answers the status.
+fn fail_on_words(rt: &HostRuntime, error: &io::Error) -> ExitCode {
+    if error.kind() == io::ErrorKind::OutOfMemory {
+        return fail(rt, ToolFault::Memory);
+    }
+    let _ = eprintln!(rt; "ndpctl: a word is not UTF-8");
+    ExitCode::from(BAD_COMMAND_LINE)
+}
+
 fn main(rt: HostRuntime) -> ExitCode {
-    let Ok(args) = std::env::args(&rt) else {
-        return ExitCode::from(BAD_COMMAND_LINE);
+    let args = match std::env::args(&rt) {
+        Ok(args) => args,
+        Err(error) => return fail_on_words(&rt, &error),
     };
     let Ok(words) = args.collect::<Vec<String>>(rt.alloc()) else {
         return fail(&rt, ToolFault::Memory);
