@@ -5,11 +5,10 @@ ghost use Rattle.nd_addr.specs.Number.{number_of};
 use crate::due::Due;
 use crate::entry::Entry;
 use crate::neighbour::Neighbour;
-use crate::packets::Packets;
-use crate::ring::Ring;
 use crate::turning::turn_first;
 use nd_addr::Addr;
 use nd_keyed::next_date;
+use nd_waiting::{Packets, Ring};
 use std::alloc::{AllocError, Allocator};
 use std::marker::Model;
 

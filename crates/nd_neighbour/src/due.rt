@@ -1,5 +1,5 @@
-use crate::packets::Packets;
 use nd_addr::{Addr, Mac};
+use nd_waiting::Packets;
 use std::alloc::Allocator;
 
 /// What falls due for a neighbour.

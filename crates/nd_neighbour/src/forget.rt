@@ -2,10 +2,9 @@ ghost use Rattle.std.specs.Prelude.{◌≡◌, ℕ, List, [], OnOk, IfOk, OnErr,
 ghost use Rattle.nd_addr.specs.Number.{number_of};
 
 use crate::cache::Cache;
-use crate::packet::Packet;
-use crate::packets::Packets;
 use crate::removing::{count_waiting, remove, take_all};
 use nd_addr::Addr;
+use nd_waiting::{Packet, Packets};
 use std::alloc::{AllocError, Allocator};
 
 impl<A: Allocator + Clone> Cache<A> {

@@ -8,12 +8,12 @@ ghost use Rattle.nd_neighbour.specs.Calls.{told_released, told_turned};
 
 use crate::entry::Entry;
 use crate::news::Flags;
-use crate::packets::Packets;
 use crate::place::{has_place, make_place};
 use crate::refusal::CacheRefusal;
 use crate::touched::Touched;
 use nd_addr::{Addr, Mac};
 use nd_keyed::{find, holds, put};
+use nd_waiting::Packets;
 use std::alloc::Allocator;
 
 /// An address is given: it changes the entry that is there, or makes one, where there is place.

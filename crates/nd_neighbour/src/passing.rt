@@ -7,13 +7,12 @@ ghost use Rattle.nd_neighbour.specs.Calls.{sending_in};
 ghost use Rattle.nd_neighbour.specs.View.{sending_of};
 
 use crate::entry::Entry;
-use crate::packet::Packet;
 use crate::place::make_place;
 use crate::refusal::CacheRefusal;
-use crate::ring::Ring;
 use crate::sending::Use;
 use nd_addr::Addr;
 use nd_keyed::{find, put};
+use nd_waiting::{Packet, Ring};
 use std::alloc::{AllocError, Allocator};
 
 /// A packet for an entry that is there (RFC 4861, sections 7.2.2 and 7.3.3).

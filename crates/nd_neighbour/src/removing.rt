@@ -5,10 +5,9 @@ ghost use Rattle.nd_neighbour.specs.Room.{Removes};
 ghost use Rattle.nd_neighbour.specs.Calls.{waiting_at, all_waiting};
 
 use crate::entry::Entry;
-use crate::packet::Packet;
-use crate::packets::Packets;
 use nd_addr::Addr;
 use nd_keyed::find;
+use nd_waiting::{Packet, Packets};
 use std::alloc::{AllocError, Allocator};
 
 /// Takes an entry out, if it is there.

@@ -1,5 +1,5 @@
-use crate::packet::Packet;
 use nd_addr::Mac;
+use nd_waiting::Packet;
 use std::alloc::Allocator;
 
 /// What becomes of a packet for a neighbour.

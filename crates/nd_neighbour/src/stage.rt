@@ -1,6 +1,6 @@
 use crate::probing::Probing;
-use crate::waiting::Waiting;
 use nd_addr::Mac;
+use nd_waiting::Waiting;
 use std::alloc::Allocator;
 
 /// What is kept of a neighbour beside its address and its mark.

@@ -1,6 +1,6 @@
 ghost use Rattle.std.specs.Prelude.{◌≡◌, ◌&&◌, not, [], false};
 
-use crate::packets::Packets;
+use nd_waiting::Packets;
 use std::alloc::Allocator;
 
 /// What news of a neighbour bring with them.

@@ -2,7 +2,6 @@ ghost use Rattle.std.specs.Prelude.{◌≡◌, ◌<◌, ◌≤◌, ◌^◌, ◌+
 ghost use Rattle.nd_addr.specs.Number.{number_of};
 
 use crate::cache::Cache;
-use crate::packet::Packet;
 use crate::passing::{begin, pass, take_ring};
 use crate::place::has_place;
 use crate::refusal::CacheRefusal;
@@ -10,6 +9,7 @@ use crate::sending::Use;
 use crate::times::Times;
 use nd_addr::Addr;
 use nd_keyed::holds;
+use nd_waiting::Packet;
 use std::alloc::Allocator;
 
 impl<A: Allocator + Clone> Cache<A> {

@@ -4,23 +4,23 @@ use crate::packet::Packet;
 use crate::waiting::Waiting;
 use std::alloc::{AllocError, Allocator};
 
-/// A ring in hand for packets of a new entry.
+/// Room for the packets of a neighbour that is to come, taken beforehand, so that the neighbour itself takes no memory.
 #[derive(Drop)]
-pub(crate) struct Ring<A: Allocator> {
+pub struct Ring<A: Allocator> {
     waiting: Waiting<A>,
     ghost empty: { waiting ≡ [] },
 }
 
 impl<A: Allocator> Ring<A> {
-    /// A ring. No other call takes memory.
-    pub(crate) fn new(alloc: A) -> Result<Self, AllocError> {
+    /// Such room. No other call takes memory.
+    pub fn new(alloc: A) -> Result<Self, AllocError> {
         Ok(Ring {
             waiting: Waiting::new(alloc)?,
         })
     }
 
-    /// The ring with a first packet.
-    pub(crate) fn with(self, packet: Packet<A>) -> Waiting<A>
+    /// The packets of the neighbour, of which this is the first.
+    pub fn with(self, packet: Packet<A>) -> Waiting<A>
         ensures { result ≡ packet ∷ [] }
     {
         let mut waiting = self.waiting;

@@ -12,7 +12,7 @@ const MAX_WAITING: usize = 3;
 
 /// Packets that wait for an address, the oldest first.
 #[derive(Drop)]
-pub(crate) struct Waiting<A: Allocator> {
+pub struct Waiting<A: Allocator> {
     ring: HeapCircularBuffer<Packet<A>, A>,
 }
 
@@ -28,7 +28,7 @@ impl<A: Allocator> Model for Waiting<A> {
 
 impl<A: Allocator> Waiting<A> {
     /// Room for packets. No other call takes memory.
-    pub(crate) fn new(alloc: A) -> Result<Self, AllocError>
+    pub fn new(alloc: A) -> Result<Self, AllocError>
         ensures { IfOk result (λ w. w ≡ []) }
     {
         Ok(Waiting {
@@ -37,7 +37,7 @@ impl<A: Allocator> Waiting<A> {
     }
 
     /// Puts a packet last. A fourth packet takes the place of the oldest, which is handed back.
-    pub(crate) fn put(&mut self, packet: Packet<A>) -> Option<Packet<A>>
+    pub fn put(&mut self, packet: Packet<A>) -> Option<Packet<A>>
         ensures last { self.new ≡ keep_last 3 (self.old ++ packet ∷ []) }
         ensures replaced { result ≡ (if nat_lt (length self.old) 3 then None else slice_get (self.old ++ packet ∷ []) 0) }
     {
@@ -45,7 +45,7 @@ impl<A: Allocator> Waiting<A> {
     }
 
     /// Takes the oldest packet out.
-    pub(crate) fn take(&mut self) -> Option<Packet<A>>
+    pub fn take(&mut self) -> Option<Packet<A>>
         ensures rest { self.new ≡ drop 1 self.old }
         ensures oldest { result ≡ slice_get self.old 0 }
     {
@@ -53,7 +53,7 @@ impl<A: Allocator> Waiting<A> {
     }
 
     /// How many wait.
-    pub(crate) fn len(&self) -> usize
+    pub fn len(&self) -> usize
         ensures value { result ≡ length self.now }
         ensures few { result ≤ 3 }
     {

@@ -20,13 +20,15 @@ impl<A: Allocator> Model for Packets<A> {
 }
 
 impl<A: Allocator> Packets<A> {
-    pub(crate) fn none() -> Self
+    /// No packets.
+    pub fn none() -> Self
         ensures { result ≡ [] }
     {
         Packets { waiting: None }
     }
 
-    pub(crate) fn of(waiting: Waiting<A>) -> Self
+    /// All that waited for one address.
+    pub fn of(waiting: Waiting<A>) -> Self
         ensures { result ≡ waiting }
     {
         Packets {
