@@ -1,4 +1,4 @@
-ghost use Rattle.std.specs.Prelude.{◌≡◌, ◌<◌, ◌≤◌, ◌^◌, ◌+◌, IsOk, OnOk, IfErr, OnErr, None, true, is_some, length, vec_len, vec_capacity};
+ghost use Rattle.std.specs.Prelude.{◌≡◌, ◌<◌, ◌≤◌, ◌^◌, ◌-◌, max, IsOk, OnOk, IfErr, OnErr, None, true, is_some, length, vec_len, vec_capacity};
 ghost use Rattle.nd_addr.specs.Number.{number_of};
 ghost use Rattle.nd_neighbour.specs.Change.{used, asked_node};
 ghost use Rattle.nd_neighbour.specs.Table.{node_in};
@@ -65,7 +65,7 @@ pub(crate) fn take_ring<A: Allocator + Clone>(
     rings: &mut Vec<Ring<A>, A>,
 ) -> Result<Ring<A>, AllocError>
     ensures in_hand { 0 < length rings.old.items → IsOk result }
-    ensures fewer { length rings.old.items ≤ length rings.new.items + 1 }
+    ensures fewer { OnOk result (length rings.new.items ≡ length rings.old.items - 1) }
     ensures len { vec_len rings.new ≤ vec_len rings.old }
     ensures same { OnErr result (rings.new.items ≡ rings.old.items) }
     ensures capacity { vec_capacity rings.new ≡ vec_capacity rings.old }
@@ -89,6 +89,7 @@ pub(crate) fn fill<A: Allocator + Clone>(
     ensures err { IfErr result (λ refusal. refusal ≡ CacheRefusal.Memory) }
     ensures in_hand { n ≤ vec_len rings.old → IsOk result }
     ensures kept { vec_len rings.old ≤ vec_len rings.new }
+    ensures no_more { vec_len rings.new ≤ max n (vec_len rings.old) }
     ensures few { vec_len rings.new ≤ 2 }
     ensures capacity { vec_capacity rings.new ≡ vec_capacity rings.old }
 {

@@ -1,4 +1,4 @@
-ghost use Rattle.std.specs.Prelude.{◌≡◌, ◌≤◌, IsOk, OnOk, IfErr};
+ghost use Rattle.std.specs.Prelude.{◌≡◌, ◌≤◌, max, IsOk, OnOk, IfErr};
 
 use crate::cache::Cache;
 use crate::passing::fill;
@@ -13,6 +13,7 @@ impl<A: Allocator + Clone> Cache<A> {
         ensures err { IfErr result (λ refusal. refusal ≡ CacheRefusal.Memory) }
         ensures in_hand { n ≤ self.old.rings → IsOk result }
         ensures kept { self.old.rings ≤ self.new.rings }
+        ensures no_more { self.new.rings ≤ max n self.old.rings }
         ensures nodes { self.new.nodes ≡ self.old.nodes }
         ensures limit { self.new.limit ≡ self.old.limit }
     {

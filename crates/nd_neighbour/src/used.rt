@@ -1,4 +1,4 @@
-ghost use Rattle.std.specs.Prelude.{◌≡◌, ◌<◌, ◌≤◌, ◌^◌, ◌+◌, ◌↔◌, List, OnOk, IfOk, IfErr, OnErr, Some, None};
+ghost use Rattle.std.specs.Prelude.{◌≡◌, ◌<◌, ◌≤◌, ◌^◌, ◌-◌, ◌↔◌, if◌then◌else◌, List, OnOk, IfOk, IfErr, OnErr, Some, None, is_some};
 ghost use Rattle.nd_addr.specs.Number.{number_of};
 
 use crate::cache::Cache;
@@ -44,7 +44,9 @@ impl<A: Allocator + Clone> Cache<A> {
         ensures leaves { OnOk result (LeavesRoom self.old.limit now (number_of addr.0) self.old.nodes self.new.nodes) }
 
         ensures limit { self.new.limit ≡ self.old.limit }
-        ensures rings { self.old.rings ≤ self.new.rings + 1 }
+
+        // Only a new neighbour takes a ring, one of those in hand where there is one.
+        ensures rings { OnOk result (self.new.rings ≡ (if is_some (node_in (number_of addr.0) self.old.nodes) then self.old.rings else self.old.rings - 1)) }
     {
         if holds(&self.entries, addr) {
             return Ok(pass(&mut self.entries, now, addr, times.retrans, packet));
