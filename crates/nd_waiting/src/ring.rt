@@ -13,7 +13,9 @@ pub struct Ring<A: Allocator> {
 
 impl<A: Allocator> Ring<A> {
     /// Such room. No other call takes memory.
-    pub fn new(alloc: A) -> Result<Self, AllocError> {
+    pub fn new(alloc: A) -> Result<Self, AllocError>
+        ensures { IfOk result (λ ring. ring.waiting ≡ []) }
+    {
         Ok(Ring {
             waiting: Waiting::new(alloc)?,
         })
