@@ -65,7 +65,7 @@ impl<'a> NameRef<'a> {
         ensures name { IsName (name_of self.now) }
     {
         let bytes = self.as_bytes();
-        let mut name = Vec::new(alloc);
+        let mut name = Vec::with_capacity(alloc, bytes.len())?;
         for byte in bytes {
             name.push(byte.to_ascii_lowercase())?;
         }
