@@ -75,10 +75,6 @@ name_says bytes e = let a = and_parts (is_spelled bytes) (are_small bytes) e in 
 pub name_tests : (bytes : List ℕ) → IsName bytes → is_name bytes ≡ true
 name_tests bytes h = and_from (is_spelled bytes) (are_small bytes) (spelled_tests bytes h.spelled) (small_tests_all bytes h.small)
 
--- what the two tests say together
-pub name_of_tests : (bytes : List ℕ) (spelled small : Bool) → spelled ≡ is_spelled bytes → small ≡ are_small bytes → (spelled && small) ≡ true → IsName bytes
-name_of_tests bytes spelled small e f t = name_says bytes (rw (sym e, sym f) t)
-
 pub tests_of_name : (bytes : List ℕ) → IsName bytes → (is_spelled bytes ≡ true) × (are_small bytes ≡ true)
 tests_of_name bytes h = and_parts (is_spelled bytes) (are_small bytes) (name_tests bytes h)
 
