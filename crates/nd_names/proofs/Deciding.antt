@@ -1,5 +1,5 @@
 -- The functions decide the relation.
-use Rattle.std.proofs.Common.{◌≡◌, ℕ, zero, suc, ◌+◌, ◌<◌, ◌≤◌, Bool, true, false, eqb, not, List, [], ◌∷◌, ◌++◌, length, take, drop, Option, Some, None, refl, sym, ap, ◌∙◌, arith, inl, inr, append_assoc}
+use Rattle.std.proofs.Common.{◌≡◌, ℕ, zero, suc, ◌+◌, ◌<◌, ◌≤◌, true, false, eqb, not, List, [], ◌∷◌, ◌++◌, length, take, drop, Option, Some, None, refl, sym, ap, ◌∙◌, arith, inl, inr, append_assoc}
 use Rattle.std.specs.Prelude.{IfSome, MatchOption}
 use Rattle.std.specs.Option.{IsSomeAnd}
 use Rattle.std.specs.List.{AllByRecursion}
@@ -73,16 +73,16 @@ names_one bytes names h =
 
 -- ---- the test by how many bytes are left
 
-pub fewer_left : (bytes rest : List ℕ) (zeros : Bool) → rest ≡ rest_in bytes → zeros ≡ are_zeros rest → length rest < length bytes → spells_names bytes ≡ zeros
+pub fewer_left : (bytes : List ℕ) → length (rest_in bytes) < length bytes → spells_names bytes ≡ are_zeros (rest_in bytes)
 unfolding spells_names
-fewer_left bytes rest zeros e z less =
-    let some : eqb (name_length bytes) 0 ≡ false = ne_eqb _ _ (λ (none : name_length bytes ≡ 0). omega (arith, less, ap length (e ∙ rest_in_stop bytes none))) in
-    rw some (ap are_zeros (sym e) ∙ sym z)
+fewer_left bytes less =
+    let some : eqb (name_length bytes) 0 ≡ false = ne_eqb _ _ (λ (none : name_length bytes ≡ 0). omega (arith, less, ap length (rest_in_stop bytes none))) in
+    rw some refl
 
-pub all_left : (bytes rest : List ℕ) → rest ≡ rest_in bytes → length bytes ≤ length rest → spells_names bytes ≡ false
+pub all_left : (bytes : List ℕ) → length bytes ≤ length (rest_in bytes) → spells_names bytes ≡ false
 unfolding spells_names
-all_left bytes rest e le = elim (cases_lt 0 (name_length bytes)) [
-  | inl some ↦ absurd (omega (arith, le, ap length e, rest_in_less bytes some))
+all_left bytes le = elim (cases_lt 0 (name_length bytes)) [
+  | inl some ↦ absurd (omega (arith, le, rest_in_less bytes some))
   | inr none ↦ rw (eq-eqb (name_length bytes) 0 (omega arith)) refl
 ]
 

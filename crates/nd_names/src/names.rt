@@ -42,6 +42,7 @@ impl<'a> Names<'a> {
     }
 
     /// The same, by the functions that decide it.
+    #[tactic(auto, using(crate::proofs::Deciding::fewer_left, crate::proofs::Deciding::all_left))]
     fn read_exactly(bytes: &'a [u8]) -> Option<Names<'a>>
         ensures { MatchOption result (spells_names bytes.entry.now ≡ false) (λ n. (spells_names bytes.entry.now ≡ true) × (names_left n ≡ names_in bytes.entry.now)) }
     {

@@ -6,4 +6,4 @@ pub returns-in_err-push-clause-succeeds : goal.returns-in_err-push-clause-succee
 returns-in_err-push-clause-succeeds g c = absurd (omega (arith, c.in_err-push.ensures.full, c.in_err-push.ensures.ascii_len))
 
 pub returns-in_err-push-2-clause-succeeds : goal.returns-in_err-push-2-clause-succeeds
-returns-in_err-push-2-clause-succeeds g c = absurd (grind (arith, common_steps, c.in_err-push-2.ensures.full, c.in_err-push-2.ensures.ascii_len, c.to_ascii_lowercase-byte.ensures.cases))
+returns-in_err-push-2-clause-succeeds g c = absurd (grind (arith, common_steps, c.in_err-push-2.ensures.full, c.in_err-push-2.ensures.ascii_len))
