@@ -32,7 +32,9 @@ pub const OPTION_DNS_SEARCH_LIST: u8 = 31;
 /// An option of a message, with its bytes where they lie (RFC 4861, section 4.6; RFC 8106, section 5).
 #[derive(Clone, Copy, Debug)]
 pub enum OptionRef<'a> {
+    /// Source Link-Layer Address: the sender's.
     Slla(Mac),
+    /// Target Link-Layer Address: that of the message's target.
     Tlla(Mac),
     Prefix(PrefixInfo),
     /// The beginning of the packet that was redirected, and what pads it to a multiple of 8 bytes.

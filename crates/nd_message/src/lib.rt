@@ -30,7 +30,7 @@ pub use nd_decode::{
     NeighborAdvertisement, NeighborSolicitation, OPTION_DNS_SEARCH_LIST, OPTION_MTU,
     OPTION_PREFIX_INFORMATION, OPTION_RECURSIVE_DNS_SERVER, OPTION_REDIRECTED_HEADER,
     OPTION_SOURCE_LINK_LAYER_ADDRESS, OPTION_TARGET_LINK_LAYER_ADDRESS, OptionRef, Options,
-    PrefixInfo, Redirect, RouterAdvertisement, Servers, decode,
+    PrefixInfo, Redirect, RouterAdvertisement, Servers, decode, is_server,
 };
 pub use opt::Opt;
 

@@ -19,7 +19,9 @@ use std::alloc::{AllocError, Allocator};
 /// An option that owns its bytes (RFC 4861, section 4.6; RFC 8106, section 5).
 #[derive(Debug, Drop)]
 pub enum Opt<A: Allocator> {
+    /// Source Link-Layer Address: the sender's.
     Slla(Mac),
+    /// Target Link-Layer Address: that of the message's target.
     Tlla(Mac),
     Prefix(PrefixInfo),
     /// The beginning of the packet that was redirected, and what pads it to a multiple of 8 bytes.

@@ -1,15 +1,15 @@
 -- The functions decide the relation.
-use Rattle.std.proofs.Common.{◌≡◌, ℕ, zero, suc, ◌+◌, ◌<◌, ◌≤◌, Bool, true, false, eqb, not, ◌&&◌, List, [], ◌∷◌, ◌++◌, length, take, drop, Option, Some, None, refl, sym, ap, subst, ◌∙◌, arith, inl, inr, append_assoc}
+use Rattle.std.proofs.Common.{◌≡◌, ℕ, zero, suc, ◌+◌, ◌<◌, ◌≤◌, true, false, eqb, not, List, [], ◌∷◌, ◌++◌, length, take, drop, Option, Some, None, refl, sym, ap, ◌∙◌, arith, inl, inr, append_assoc}
 use Rattle.std.specs.Prelude.{IfSome, MatchOption}
 use Rattle.std.specs.Option.{IsSomeAnd}
 use Rattle.std.specs.List.{AllByRecursion}
-use Rattle.std.proofs.lemmas.Bool.{cases_Bool, cases_lt, and_parts, and_from, and_left, eqb-true, eqb-false, eq-eqb, ne_eqb, not-true}
-use Rattle.std.proofs.lemmas.List.{length-drop, nil_from_length, take_at, drop_at, length-append}
-use Rattle.nd_names.specs.Name.{IsSpelled, lowered}
+use Rattle.std.proofs.lemmas.Bool.{cases_lt, and_parts, and_from, eqb-true, eqb-false, eq-eqb, ne_eqb, not-true}
+use Rattle.std.proofs.lemmas.List.{length-drop, take_at, drop_at, length-append}
+use Rattle.nd_names.specs.Name.{lowered}
 use Rattle.nd_names.specs.Reading.{name_length, are_zeros}
 use Rattle.nd_names.specs.Names.{SpellsBefore, SpellsNames, names_in, rest_in, spells_names, names_left}
 use Rattle.nd_names.specs.declared.names.Names.{Names}
-use Rattle.nd_names.proofs.Walk.{first_is, name_first, name_none, names_in_step, names_in_stop, rest_in_step, rest_in_stop}
+use Rattle.nd_names.proofs.Walk.{first_is, name_first, name_none, names_in_step, names_in_stop, rest_in_step, rest_in_stop, rest_in_less}
 use Rattle.nd_names.proofs.Labels.{spelled_some}
 
 zeros_say : (bytes : List ℕ) → are_zeros bytes ≡ true → AllByRecursion (λ byte. byte ≡ 0) bytes
@@ -70,6 +70,21 @@ names_one bytes names h =
     let r = spelled_read names bytes h.spelled in
     let some : eqb (name_length bytes) 0 ≡ false = ne_eqb _ _ (λ e. let none : names ≡ [] = sym r.0 ∙ names_in_stop bytes e in omega (arith, h.some, ap length none)) in
     (rw some r.1, r.0)
+
+-- ---- the test by how many bytes are left
+
+pub fewer_left : (bytes : List ℕ) → length (rest_in bytes) < length bytes → spells_names bytes ≡ are_zeros (rest_in bytes)
+unfolding spells_names
+fewer_left bytes less =
+    let some : eqb (name_length bytes) 0 ≡ false = ne_eqb _ _ (λ (none : name_length bytes ≡ 0). omega (arith, less, ap length (rest_in_stop bytes none))) in
+    rw some refl
+
+pub all_left : (bytes : List ℕ) → length bytes ≤ length (rest_in bytes) → spells_names bytes ≡ false
+unfolding spells_names
+all_left bytes le = elim (cases_lt 0 (name_length bytes)) [
+  | inl some ↦ absurd (omega (arith, le, rest_in_less bytes some))
+  | inr none ↦ rw (eq-eqb (name_length bytes) 0 (omega arith)) refl
+]
 
 -- ---- what a call that decides it returns
 

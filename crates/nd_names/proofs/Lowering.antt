@@ -1,12 +1,12 @@
 -- Names in small letters.
-use Rattle.std.proofs.Common.{◌≡◌, ℕ, suc, ◌≤◌, ◌<◌, Bool, true, false, eqb, not, ◌&&◌, List, [], ◌∷◌, ◌++◌, length, map, refl, sym, ap, subst, ◌∙◌, arith, inl, inr}
-use Rattle.std.specs.List.{flat_map, AllByRecursion}
+use Rattle.std.proofs.Common.{◌≡◌, ℕ, ◌<◌, true, eqb, not, List, [], ◌∷◌, ◌++◌, length, map, refl, sym, ap, subst, ◌∙◌, arith}
+use Rattle.std.specs.List.{AllByRecursion}
 use Rattle.std.specs.Char.{IsAsciiUppercase, is_ascii_uppercase, to_ascii_lowercase}
 use Rattle.std.proofs.lemmas.Bool.{and_parts, and_from, eqb-true, eq-eqb, not-true}
-use Rattle.std.proofs.lemmas.List.{length-append, length-map, map-append}
+use Rattle.std.proofs.lemmas.List.{length-map, map-append}
 use Rattle.nd_names.specs.Label.{IsSign, IsLabel}
-use Rattle.nd_names.specs.Name.{label_bytes, IsSpelled, lowered, IsName}
-use Rattle.nd_names.specs.Reading.{is_spelled, are_small, is_name, is_same}
+use Rattle.nd_names.specs.Name.{IsSpelled, lowered, IsName}
+use Rattle.nd_names.specs.Reading.{is_spelled, are_small, is_name, lowers_to}
 use Rattle.nd_names.proofs.Signs.{sign_low, lower_same, lower_is_small, low_is_no_capital, lower_sign, small_is, small_tests}
 use Rattle.nd_names.proofs.Labels.{joined, spelled_says, spelled_tests}
 
@@ -75,26 +75,22 @@ name_says bytes e = let a = and_parts (is_spelled bytes) (are_small bytes) e in 
 pub name_tests : (bytes : List ℕ) → IsName bytes → is_name bytes ≡ true
 name_tests bytes h = and_from (is_spelled bytes) (are_small bytes) (spelled_tests bytes h.spelled) (small_tests_all bytes h.small)
 
--- what the two tests say together
-pub name_of_tests : (bytes : List ℕ) (spelled small : Bool) → spelled ≡ is_spelled bytes → small ≡ are_small bytes → (spelled && small) ≡ true → IsName bytes
-name_of_tests bytes spelled small e f t = name_says bytes (rw (sym e, sym f) t)
-
 pub tests_of_name : (bytes : List ℕ) → IsName bytes → (is_spelled bytes ≡ true) × (are_small bytes ≡ true)
 tests_of_name bytes h = and_parts (is_spelled bytes) (are_small bytes) (name_tests bytes h)
 
-pub same_says : (bytes others : List ℕ) → is_same bytes others ≡ true → lowered bytes ≡ others
+pub same_says : (bytes others : List ℕ) → lowers_to bytes others ≡ true → lowered bytes ≡ others
 same_says [] [] e = refl
 same_says [] (other ∷ others) e = absurd cc
 same_says (byte ∷ bytes) [] e = absurd cc
 same_says (byte ∷ bytes) (other ∷ others) e =
-    let a = and_parts (eqb (to_ascii_lowercase byte) other) (is_same bytes others) e in rw (eqb-true _ _ a.0, same_says bytes others a.1) refl
+    let a = and_parts (eqb (to_ascii_lowercase byte) other) (lowers_to bytes others) e in rw (eqb-true _ _ a.0, same_says bytes others a.1) refl
 
-same_tests_itself : (bytes : List ℕ) → is_same bytes (lowered bytes) ≡ true
+same_tests_itself : (bytes : List ℕ) → lowers_to bytes (lowered bytes) ≡ true
 same_tests_itself [] = refl
-same_tests_itself (byte ∷ bytes) = and_from (eqb (to_ascii_lowercase byte) (to_ascii_lowercase byte)) (is_same bytes (lowered bytes)) (eq-eqb _ _ refl) (same_tests_itself bytes)
+same_tests_itself (byte ∷ bytes) = and_from (eqb (to_ascii_lowercase byte) (to_ascii_lowercase byte)) (lowers_to bytes (lowered bytes)) (eq-eqb _ _ refl) (same_tests_itself bytes)
 
-pub same_tests : (bytes others : List ℕ) → lowered bytes ≡ others → is_same bytes others ≡ true
-same_tests bytes others e = subst (λ (t : List ℕ). is_same bytes t ≡ true) e (same_tests_itself bytes)
+pub same_tests : (bytes others : List ℕ) → lowered bytes ≡ others → lowers_to bytes others ≡ true
+same_tests bytes others e = subst (λ (t : List ℕ). lowers_to bytes t ≡ true) e (same_tests_itself bytes)
 
 -- ---- bytes of a name
 

@@ -1,7 +1,7 @@
 -- Bytes of labels.
-use Rattle.std.proofs.Common.{◌≡◌, ℕ, ◌+◌, ◌<◌, ◌≤◌, Bool, true, false, ltb, leb, eqb, ◌&&◌, ◌||◌, ◌⊎◌, refl, arith, inl, inr}
+use Rattle.std.proofs.Common.{◌≡◌, ℕ, ◌+◌, ◌<◌, ◌≤◌, true, false, leb, eqb, ◌&&◌, ◌||◌, ◌⊎◌, refl, arith, inl, inr}
 use Rattle.std.specs.Char.{IsAsciiUppercase, IsAsciiAlphanumeric, is_ascii_alphanumeric, is_ascii_uppercase, to_ascii_lowercase}
-use Rattle.std.proofs.lemmas.Bool.{cases_Bool, cases_lt, or_cases, or_left, or_right, and_parts, and_from, and_left, and_right, false_from_ne_true, leb-true, le-leb, lt-leb, eqb-true, eq-eqb, lt-ltb, le-ltb}
+use Rattle.std.proofs.lemmas.Bool.{cases_lt, or_cases, or_left, or_right, and_parts, and_from, false_from_ne_true, leb-true, le-leb, eqb-true, eq-eqb, lt-ltb, le-ltb}
 use Rattle.nd_names.specs.Label.{IsSign, is_sign}
 
 in_range : (low high byte : ℕ) → (leb low byte && leb byte high) ≡ true → (low ≤ byte) × (byte ≤ high)

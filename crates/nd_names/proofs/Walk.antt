@@ -1,8 +1,8 @@
 -- Going over names: the first name, a step, the end.
-use Rattle.std.proofs.Common.{◌≡◌, ℕ, zero, suc, ◌+◌, ◌-◌, ◌<◌, ◌≤◌, Bool, true, false, cond, ltb, leb, eqb, ◌&&◌, List, [], ◌∷◌, ◌++◌, length, take, drop, slice_index, get_or, refl, sym, ap, subst, ◌∙◌, arith, inl, inr}
+use Rattle.std.proofs.Common.{◌≡◌, ℕ, zero, suc, ◌+◌, ◌-◌, ◌<◌, ◌≤◌, Bool, true, false, cond, ltb, leb, eqb, ◌&&◌, List, [], ◌∷◌, ◌++◌, length, take, drop, slice_index, refl, sym, ap, ◌∙◌, arith, inl, inr}
 use Rattle.std.specs.List.{AllByRecursion}
-use Rattle.std.proofs.lemmas.Bool.{cases_Bool, cases_lt, and_parts, and_from, and_left, leb-true, le-leb, ltb-true, lt-ltb, eq-eqb, ne_eqb, eqb-true, eqb-false}
-use Rattle.std.proofs.lemmas.List.{length-append, length-drop, append-nil, nil_from_length, take_at, drop_at, get_or-append_right, take-append-drop, drop_more}
+use Rattle.std.proofs.lemmas.Bool.{cases_Bool, cases_lt, and_parts, and_from, leb-true, le-leb, ltb-true, lt-ltb, eq-eqb, ne_eqb, eqb-true}
+use Rattle.std.proofs.lemmas.List.{length-append, length-drop, nil_from_length, take_at, get_or-append_right, take-append-drop, drop_more}
 use Rattle.nd_names.specs.Name.{IsSpelled, lowered}
 use Rattle.nd_names.specs.Reading.{labels_length, name_length, is_spelled}
 use Rattle.nd_names.specs.Names.{names_behind, names_in, rest_behind, rest_in}
@@ -123,3 +123,26 @@ rest_in_step (byte ∷ bytes) h =
     let some : eqb (name_length (byte ∷ bytes)) 0 ≡ false = ne_eqb _ _ (λ e. omega (arith, e, h)) in
     let behind = rest_behind-drop bytes (name_length (byte ∷ bytes)) ∙ ap (rest_behind 0) (sym (drop_one (name_length (byte ∷ bytes)) byte bytes)) in
     rw some behind
+
+-- there are no more of them than there were
+rest_in-le : (n : ℕ) (bytes : List ℕ) → length bytes ≤ n → length (rest_in bytes) ≤ length bytes
+rest_in-le zero bytes le = elim (cases_lt 0 (name_length bytes)) [
+  | inr none ↦ omega (arith, ap length (rest_in_stop bytes (omega arith)))
+  | inl some ↦ absurd (omega (arith, le, (first_is bytes some).within))
+]
+rest_in-le (suc n) bytes le = elim (cases_lt 0 (name_length bytes)) [
+  | inr none ↦ omega (arith, ap length (rest_in_stop bytes (omega arith)))
+  | inl some ↦
+      let f = first_is bytes some in
+      let after = length-drop (name_length bytes + 1) bytes in
+      let ih = rest_in-le n (drop (name_length bytes + 1) bytes) (omega (arith, le, after, f.within)) in
+      omega (arith, ap length (rest_in_step bytes some), ih, after)
+]
+
+-- and behind a name there are fewer
+pub rest_in_less : (bytes : List ℕ) → 0 < name_length bytes → length (rest_in bytes) < length bytes
+rest_in_less bytes some =
+    let f = first_is bytes some in
+    let after = length-drop (name_length bytes + 1) bytes in
+    let le = rest_in-le (length bytes) (drop (name_length bytes + 1) bytes) (omega (arith, after)) in
+    omega (arith, ap length (rest_in_step bytes some), le, after, f.within)

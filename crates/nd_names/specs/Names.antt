@@ -1,5 +1,5 @@
 -- Which bytes spell which names, and reading them as functions, which decide it (RFC 8106, section 5.2).
-use Rattle.std.specs.Prelude.{◌≡◌, ℕ, ◌+◌, ◌-◌, ◌≤◌, Bool, ◌&&◌, not, nat_eq, List, [], ◌∷◌, ◌++◌, length, take, if◌then◌else◌}
+use Rattle.std.specs.Prelude.{◌≡◌, ℕ, ◌-◌, ◌≤◌, Bool, ◌&&◌, not, nat_eq, List, [], ◌∷◌, ◌++◌, length, take, if◌then◌else◌}
 use Rattle.std.specs.List.{AllByRecursion}
 use Rattle.nd_names.specs.Name.{IsSpelled, lowered}
 use Rattle.nd_names.specs.Reading.{name_length, are_zeros}

@@ -40,9 +40,9 @@ is_spelled bytes = nat_le 1 (length bytes) && nat_le (length bytes) 254 && nat_e
 abbrev pub is_name : List ℕ → Bool
 is_name bytes = is_spelled bytes && are_small bytes
 
--- the first bytes in small letters are the second
-abbrev pub is_same : List ℕ → List ℕ → Bool
-is_same [] [] = true
-is_same [] (other ∷ others) = false
-is_same (byte ∷ bytes) [] = false
-is_same (byte ∷ bytes) (other ∷ others) = nat_eq (to_ascii_lowercase byte) other && is_same bytes others
+-- the bytes in small letters are the others
+abbrev pub lowers_to : List ℕ → List ℕ → Bool
+lowers_to [] [] = true
+lowers_to [] (other ∷ others) = false
+lowers_to (byte ∷ bytes) [] = false
+lowers_to (byte ∷ bytes) (other ∷ others) = nat_eq (to_ascii_lowercase byte) other && lowers_to bytes others

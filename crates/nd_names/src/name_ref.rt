@@ -1,7 +1,7 @@
 ghost use Rattle.std.specs.Prelude.{IsTrue};
 ghost use Rattle.nd_names.specs.Reading.{is_spelled};
 
-use crate::reading::{are_same, is_same};
+use crate::reading::{are_same, lowers_to};
 use std::alloc::{AllocError, Allocator};
 
 /// A name of a search list, with its bytes where they lie (RFC 1035, section 3.1).
@@ -16,7 +16,7 @@ impl<'a> NameRef<'a> {
     ghost use Rattle.std.specs.Prelude.{◌≡◌, ◌↔◌, IfOk};
     ghost use Rattle.nd_names.specs.Name.{IsSpelled, IsName};
     ghost use Rattle.nd_names.specs.NameRef.{bytes_of, name_of};
-    ghost use Rattle.nd_names.specs.Reading.{is_same};
+    ghost use Rattle.nd_names.specs.Reading.{lowers_to};
 
     /// The labels of a name.
     pub(crate) fn new(bytes: &'a [u8]) -> NameRef<'a>
@@ -47,7 +47,7 @@ impl<'a> NameRef<'a> {
     pub fn is(&self, name: &[u8]) -> bool
         ensures { IsTrue result ↔ (name_of self.now ≡ name.now) }
     {
-        is_same(self.as_bytes(), name)
+        lowers_to(self.as_bytes(), name)
     }
 
     /// Whether another one is the same name, without regard to case.
@@ -65,7 +65,7 @@ impl<'a> NameRef<'a> {
         ensures name { IsName (name_of self.now) }
     {
         let bytes = self.as_bytes();
-        let mut name = Vec::new(alloc);
+        let mut name = Vec::with_capacity(alloc, bytes.len())?;
         for byte in bytes {
             name.push(byte.to_ascii_lowercase())?;
         }

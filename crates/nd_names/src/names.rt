@@ -42,11 +42,12 @@ impl<'a> Names<'a> {
     }
 
     /// The same, by the functions that decide it.
-    #[tactic(auto, unfolding(crate::specs::Names::spells_names))]
+    #[tactic(auto, using(crate::proofs::Deciding::fewer_left, crate::proofs::Deciding::all_left))]
     fn read_exactly(bytes: &'a [u8]) -> Option<Names<'a>>
         ensures { MatchOption result (spells_names bytes.entry.now ≡ false) (λ n. (spells_names bytes.entry.now ≡ true) × (names_left n ≡ names_in bytes.entry.now)) }
     {
-        if name_length(bytes) > 0 && are_zeros(rest_in(bytes)) {
+        let padding = rest_in(bytes);
+        if padding.len() < bytes.len() && are_zeros(padding) {
             Some(Names { rest: bytes })
         } else {
             None

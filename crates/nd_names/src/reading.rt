@@ -1,7 +1,7 @@
 ghost use Rattle.std.specs.Prelude.{◌≡◌, ◌↔◌, ◌<◌, IsTrue, length};
 ghost use Rattle.nd_names.specs.Label.{is_sign};
 ghost use Rattle.nd_names.specs.Name.{IsName, lowered};
-ghost use Rattle.nd_names.specs.Reading.{labels_length, name_length, are_small, are_zeros, is_same, is_spelled};
+ghost use Rattle.nd_names.specs.Reading.{labels_length, name_length, are_small, are_zeros, lowers_to, is_spelled};
 
 /// How many bytes a label has at most (RFC 1035, section 2.3.4).
 const LONGEST_LABEL: u8 = 63;
@@ -99,9 +99,9 @@ pub(crate) fn are_zeros(bytes: &[u8]) -> bool
     true
 }
 
-/// Whether the first bytes in small letters are the second.
-pub(crate) fn is_same(bytes: &[u8], others: &[u8]) -> bool
-    ensures { result ≡ is_same bytes.now others.now }
+/// Whether the bytes in small letters are the others.
+pub(crate) fn lowers_to(bytes: &[u8], others: &[u8]) -> bool
+    ensures { result ≡ lowers_to bytes.now others.now }
 {
     let mut rest = bytes;
     let mut left = others;
@@ -117,7 +117,7 @@ pub(crate) fn is_same(bytes: &[u8], others: &[u8]) -> bool
 
 /// Whether both are the same in small letters.
 pub(crate) fn are_same(bytes: &[u8], others: &[u8]) -> bool
-    ensures { result ≡ is_same bytes.now (lowered others.now) }
+    ensures { result ≡ lowers_to bytes.now (lowered others.now) }
 {
     let mut first = bytes;
     let mut second = others;

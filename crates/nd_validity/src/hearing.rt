@@ -6,10 +6,10 @@ use nd_addr::{Addr, Frame, Ip6, Ip6Ref, Role, Why, sum_is_good};
 use nd_decode::{ICMPV6_REDIRECT, ICMPV6_ROUTER_SOLICITATION, MessageRef, decode};
 
 /// The next header of ICMPv6 (RFC 4443, section 1).
-pub const ICMPV6: u8 = 58;
+const ICMPV6: u8 = 58;
 
 /// The hop limit of every message of Neighbor Discovery: no router can have sent it on (RFC 4861, section 3.1).
-pub const HOP_LIMIT: u8 = 255;
+const HOP_LIMIT: u8 = 255;
 
 /// A valid message, with the addresses of its packet.
 #[derive(Clone, Copy, Debug)]

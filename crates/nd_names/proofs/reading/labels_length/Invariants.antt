@@ -1,5 +1,5 @@
 use Rattle.std.proofs.Common.{◌≡◌, ◌+◌, ◌<◌, length}
-use Rattle.nd_names.specs.Reading.{labels_from, labels_length}
+use Rattle.nd_names.specs.Reading.{labels_from}
 use Rattle.nd_names.proofs.reading.labels_length.Given as goal
 
 -- what is left gives what all gives

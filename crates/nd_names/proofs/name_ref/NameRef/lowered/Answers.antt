@@ -7,3 +7,6 @@ returns-in_err-push-clause-name g c = lowered_is_name c.args.self.now.bytes.now 
 
 pub returns-clause-name : goal.returns-clause-name
 returns-clause-name g c = lowered_is_name c.args.self.now.bytes.now (spelled_says c.args.self.now.bytes.now c.args.self.now.spelled)
+
+pub returns-in_err-name-clause-name : goal.returns-in_err-name-clause-name
+returns-in_err-name-clause-name g c = lowered_is_name c.args.self.now.bytes.now (spelled_says c.args.self.now.bytes.now c.args.self.now.spelled)
