@@ -21,6 +21,8 @@ pub trait AnsweringEach {
         requires { length line.now ≤ 16384 }
         ensures answered { OnOk result (IsSomeAnd (answer_to line.now) (λ told. string_bytes text.new ≡ string_bytes text.old ++ told)) }
         ensures malformed { IsErrOf result Unanswered.Malformed → answer_to line.now ≡ None }
+        // A malformed line is told, whatever memory there is.
+        ensures none { answer_to line.now ≡ None → IsErrOf result Unanswered.Malformed }
         ensures text_kept { IsErrOf result Unanswered.Malformed → string_bytes text.new ≡ string_bytes text.old };
 }
 
