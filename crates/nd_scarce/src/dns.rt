@@ -42,5 +42,10 @@ fn run(rt: &impl Abort, heap: &LocalHeap) -> Option<Call> {
 
 #[test]
 fn each_request_of_the_names_is_refused_once(rt: HostRuntime) -> Result<(), Fail> {
-    each_is_refused_once::<2, _>(&rt, |heap| run(&rt, heap).map(|call| call as usize))
+    each_is_refused_once(
+        &rt,
+        rt.alloc(),
+        2,
+        |heap| run(&rt, heap).map(|call| call as usize),
+    )
 }

@@ -111,5 +111,10 @@ fn run(rt: &impl Abort, heap: &LocalHeap) -> Option<Call> {
 
 #[test]
 fn each_request_of_the_neighbour_cache_is_refused_once(rt: HostRuntime) -> Result<(), Fail> {
-    each_is_refused_once::<6, _>(&rt, |heap| run(&rt, heap).map(|call| call as usize))
+    each_is_refused_once(
+        &rt,
+        rt.alloc(),
+        6,
+        |heap| run(&rt, heap).map(|call| call as usize),
+    )
 }

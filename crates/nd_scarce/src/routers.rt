@@ -39,5 +39,10 @@ fn run(rt: &impl Abort, heap: &LocalHeap) -> Option<Call> {
 
 #[test]
 fn each_request_of_the_routers_is_refused_once(rt: HostRuntime) -> Result<(), Fail> {
-    each_is_refused_once::<3, _>(&rt, |heap| run(&rt, heap).map(|call| call as usize))
+    each_is_refused_once(
+        &rt,
+        rt.alloc(),
+        3,
+        |heap| run(&rt, heap).map(|call| call as usize),
+    )
 }
