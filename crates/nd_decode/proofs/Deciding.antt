@@ -1,8 +1,8 @@
 -- The function decides the relation.
-use Rattle.std.proofs.Common.{◌≡◌, ◌≢◌, ℕ, ◌*◌, ◌<◌, ◌≤◌, ◌⊎◌, true, false, cond, leb, eqb, ◌&&◌, List, [], ◌++◌, length, slice_index, Some, None, Result, Ok, Err, refl, sym, ap, subst, ◌∙◌, arith, inl, inr}
+use Rattle.std.proofs.Common.{◌≡◌, ◌≢◌, ℕ, ◌*◌, ◌<◌, ◌≤◌, ◌⊎◌, true, false, cond, leb, eqb, ◌&&◌, List, [], ◌++◌, length, slice_index, Some, None, Result, Ok, Err, refl, sym, ap, subst, ◌∙◌, arith, inl, inr, ◌-◌, take, drop, Option}
 use Rattle.std.specs.Prelude.{IfOk, IfErr}
 use Rattle.std.proofs.lemmas.Bool.{cases_Bool, cases_lt, and_parts, and_from, and_left, and_right, leb-true, le-leb, lt-leb, eqb-true, eqb-false, eq-eqb, ne_eqb, lt-ltb, le-ltb, false_from_ne_true}
-use Rattle.std.proofs.lemmas.List.{nil_from_length, append-nil, get_or_past}
+use Rattle.std.proofs.lemmas.List.{nil_from_length, append-nil, get_or_past, length-drop, take_all}
 use Rattle.nd_addr.specs.Given.{Gives}
 use Rattle.nd_addr.specs.declared.why.Why.{Why}
 use Rattle.nd_addr.specs.declared.why.Why.TheVariants.{Code, Length, OptionZero, OptionOver}
@@ -32,6 +32,27 @@ decode_short bytes h lt = rw (eq-eqb _ _ h, lt-ltb _ _ lt) refl
 decode_fields : (bytes : List ℕ) → HasFields bytes → decode_of bytes ≡ unless (fault_of (rest_in (behind_fields bytes))) (read_of bytes)
 unfolding decode_of
 decode_fields bytes h = rw (eq-eqb _ _ h.code, le-ltb _ _ h.long) refl
+
+-- what the parts of the code say together
+
+pub code_is_zero : (bytes : List ℕ) → length bytes ≤ 1 → slice_index bytes 1 ≡ 0
+code_is_zero bytes short = get_or_past bytes 1 0 short
+
+pub behind_is : (bytes : List ℕ) (least : ℕ) → least ≡ least_length (slice_index bytes 0) → take (length bytes - least) (drop least bytes) ≡ behind_fields bytes
+behind_is bytes least e = take_all (length bytes - least) (drop least bytes) (omega (arith, length-drop least bytes)) ∙ ap (λ (n : ℕ). drop n bytes) e
+
+pub decode_fault : (bytes rest : List ℕ) (found : Option Why) (why : Why) → HasFields bytes → rest ≡ behind_fields bytes → found ≡ fault_of (rest_in rest) → found ≡ Some why
+    → decode_of bytes ≡ Err why
+decode_fault bytes rest found why h e f s =
+    let fault : fault_of (rest_in (behind_fields bytes)) ≡ Some why = ap (λ (t : List ℕ). fault_of (rest_in t)) (sym e) ∙ sym f ∙ s in
+    rw (decode_fields bytes h, fault) refl
+
+pub decode_whole : (bytes rest : List ℕ) (found : Option Why) (message : Parts) → HasFields bytes → rest ≡ behind_fields bytes → found ≡ fault_of (rest_in rest) → found ≡ None
+    → message.body ≡ body_of bytes → message.options ≡ options_in rest → decode_of bytes ≡ Ok message
+decode_whole bytes rest found message h e f n body options =
+    let fault : fault_of (rest_in (behind_fields bytes)) ≡ None = ap (λ (t : List ℕ). fault_of (rest_in t)) (sym e) ∙ sym f ∙ n in
+    let read : read_of bytes ≡ message = rw (body, options, e) refl in
+    rw (decode_fields bytes h, fault) (ap Ok read)
 
 -- ---- faults
 

@@ -1,11 +1,10 @@
 -- The table of options, read as a function and as a relation.
-use Rattle.std.proofs.Common.{◌≡◌, ℕ, ◌≤◌, ◌%◌, Bool, true, false, leb, eqb, ◌&&◌, List, drop, slice_index, Option, Some, None, refl, sym, ap, subst, arith, inl, inr, ◌∙◌}
+use Rattle.std.proofs.Common.{◌≡◌, ℕ, ◌%◌, Bool, true, false, leb, eqb, ◌&&◌, List, drop, slice_index, Option, Some, None, refl, sym, inl, inr}
 use Rattle.std.specs.List.{list_all}
-use Rattle.std.proofs.lemmas.Bool.{cases_Bool, and_parts, and_from, leb-true, le-leb, eqb-true, eqb-false, eq-eqb, ne_eqb}
-use Rattle.nd_addr.specs.declared.addr.Addr.{Addr}
-use Rattle.nd_names.specs.Names.{SpellsNames, spells_names, names_in}
+use Rattle.std.proofs.lemmas.Bool.{cases_Bool, and_parts, leb-true, le-leb, eqb-true, eq-eqb}
+use Rattle.nd_names.specs.Names.{spells_names, names_in}
 use Rattle.nd_names.proofs.Deciding.{names_spelled, names_one}
-use Rattle.nd_decode.specs.Servers.{SpellsServers, servers_in, is_server}
+use Rattle.nd_decode.specs.Servers.{servers_in, is_server}
 use Rattle.nd_decode.specs.Option.{Said, slla, tlla, prefix, redirected, mtu, rdnss, dnssl, other, given, known_of, option_of, number_in, mac_of, prefix_of, IsPiece, IsRow, IsServersRow, IsNamesRow, SaysKnown, Says}
 use Rattle.nd_decode.proofs.Addresses.{servers_spelled, servers_one}
 

@@ -1,6 +1,6 @@
 -- The DNS servers of an option: addresses of 16 bytes, one behind the other (RFC 8106, section 5.1).
-use Rattle.std.specs.Prelude.{◌≡◌, ◌≢◌, ℕ, zero, suc, ◌/◌, ◌%◌, ◌≤◌, Bool, ◌&&◌, not, nat_eq, nat_le, bytes_eq, List, [], ◌∷◌, length, take, drop, slice_index}
-use Rattle.std.specs.List.{flat_map, list_all, AllByRecursion}
+use Rattle.std.specs.Prelude.{◌≡◌, ◌≢◌, ℕ, zero, suc, ◌/◌, Bool, ◌&&◌, not, nat_eq, bytes_eq, List, [], ◌∷◌, length, take, drop, slice_index}
+use Rattle.std.specs.List.{flat_map, AllByRecursion}
 use Rattle.nd_addr.specs.Kind.{unspecified_address, loopback_address}
 use Rattle.nd_addr.specs.declared.addr.Addr.{Addr}
 use Rattle.nd_decode.specs.declared.servers.Servers.{Servers}

@@ -12,7 +12,7 @@ pub struct Servers<'a> {
 }
 
 impl<'a> Servers<'a> {
-    /// The addresses in these bytes, if each is one that a server can have.
+    /// The addresses in these bytes, if each is one that a server can have. What is left behind the last whole one is not looked at.
     pub fn read(bytes: &'a [u8]) -> Option<Servers<'a>>
         ensures { MatchOption result (list_all is_server (servers_in bytes.entry.now) ≡ false)
             (λ s. (list_all is_server (servers_in bytes.entry.now) ≡ true) × (servers_left s ≡ servers_in bytes.entry.now)) }

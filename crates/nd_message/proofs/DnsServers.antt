@@ -1,14 +1,13 @@
 -- Servers that are written are spelled, and servers that are spelled fit.
-use Rattle.std.proofs.Common.{◌≡◌, ℕ, ◌+◌, ◌*◌, ◌%◌, ◌<◌, ◌≤◌, Bool, true, false, List, [], ◌∷◌, ◌++◌, length, drop, slice_index, get_or, refl, sym, ap, subst, ◌∙◌, arith}
+use Rattle.std.proofs.Common.{◌≡◌, ℕ, ◌+◌, ◌*◌, ◌<◌, ◌≤◌, Bool, false, List, [], ◌∷◌, length, drop, slice_index, get_or, refl, ap, subst, ◌∙◌, arith}
 use Rattle.std.specs.List.{flat_map, AllByRecursion}
 use Rattle.std.proofs.lemmas.List.{length-append, length-drop, drop_more}
-use Rattle.byteorder.specs.Endian.{big_bytes}
 use Rattle.byteorder.specs.Numbers.{big_from-lt}
 use Rattle.nd_addr.specs.Bytes.{IsBytes}
 use Rattle.nd_addr.specs.declared.addr.Addr.{Addr}
 use Rattle.nd_decode.specs.Servers.{IsServer, SpellsServers, is_server}
 use Rattle.nd_decode.proofs.Addresses.{server_tests}
-use Rattle.nd_decode.specs.Option.{rdnss, IsPiece, IsServersRow, number_in, Says}
+use Rattle.nd_decode.specs.Option.{rdnss, IsPiece, IsServersRow, Says}
 use Rattle.nd_message.specs.Rdnss.{rdnss_piece, FitsServer, FitsRdnss}
 use Rattle.nd_message.proofs.Bytes.{AreSmall, AreSmall-from, AreSmall-append, IsBytes-drop, IsBytes-left, IsBytes-right, small_four}
 

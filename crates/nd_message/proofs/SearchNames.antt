@@ -1,16 +1,15 @@
 -- Names that are written are spelled, and names that are spelled fit.
-use Rattle.std.proofs.Common.{◌≡◌, ℕ, zero, suc, ◌+◌, ◌-◌, ◌*◌, ◌/◌, ◌%◌, ◌<◌, ◌≤◌, List, [], ◌∷◌, ◌++◌, length, drop, slice_index, refl, sym, ap, subst, ◌∙◌, arith, append_assoc}
+use Rattle.std.proofs.Common.{◌≡◌, ℕ, zero, suc, ◌+◌, ◌*◌, ◌/◌, ◌<◌, ◌≤◌, List, [], ◌∷◌, ◌++◌, length, drop, slice_index, refl, sym, ap, ◌∙◌, arith, append_assoc}
 use Rattle.std.specs.Prelude.{replicate}
-use Rattle.std.specs.List.{flat_map, AllByRecursion}
+use Rattle.std.specs.List.{AllByRecursion}
 use Rattle.std.specs.Char.{to_ascii_lowercase}
 use Rattle.std.proofs.lemmas.List.{length-append, length-drop, length-map, length-replicate}
-use Rattle.byteorder.specs.Endian.{big_bytes}
 use Rattle.byteorder.specs.Numbers.{big_from-lt}
 use Rattle.nd_addr.specs.Bytes.{IsBytes}
-use Rattle.nd_names.specs.Name.{IsName, lowered}
+use Rattle.nd_names.specs.Name.{IsName}
 use Rattle.nd_names.specs.Names.{SpellsBefore, SpellsNames}
 use Rattle.nd_names.proofs.Lowering.{name_lowered, lowered_is_name, spelled_low}
-use Rattle.nd_decode.specs.Option.{dnssl, IsPiece, IsNamesRow, number_in, Says}
+use Rattle.nd_decode.specs.Option.{dnssl, IsPiece, IsNamesRow, Says}
 use Rattle.nd_message.specs.Dnssl.{ended, names_data, missing, dnssl_piece, FitNames, FitsDnssl}
 use Rattle.nd_message.proofs.Bytes.{AreSmall, AreSmall-append, IsBytes-drop, small_four}
 

@@ -1,5 +1,5 @@
 -- What is written is a spelling.
-use Rattle.std.proofs.Common.{◌≡◌, ℕ, zero, suc, ◌+◌, ◌/◌, ◌^◌, ◌<◌, Bool, true, false, List, [], ◌∷◌, ◌++◌, length, take, drop, Some, None, refl, sym, ap, subst, ◌∙◌, arith, append_assoc}
+use Rattle.std.proofs.Common.{◌≡◌, ℕ, zero, suc, ◌^◌, ◌<◌, Bool, true, false, List, [], ◌∷◌, ◌++◌, length, take, drop, Some, refl, sym, ap, subst, ◌∙◌, arith, append_assoc}
 use Rattle.std.specs.Prelude.{replicate}
 use Rattle.std.specs.List.{flat_map, AllByRecursion}
 use Rattle.std.proofs.lemmas.List.{length-append, drop_at}
@@ -16,7 +16,7 @@ use Rattle.nd_decode.specs.declared.redirect.Redirect.{Redirect}
 use Rattle.nd_decode.specs.declared.body.Body.{Body}
 use Rattle.nd_decode.specs.declared.body.Body.TheVariants as bodies
 use Rattle.nd_decode.specs.declared.prefix_info.PrefixInfo.{PrefixInfo}
-use Rattle.nd_decode.specs.Option.{Said, slla, tlla, prefix, redirected, mtu, rdnss, dnssl, other, IsPiece, SaysKnown, Says, known_of, mac_of, prefix_of, is_set}
+use Rattle.nd_decode.specs.Option.{Said, slla, tlla, prefix, redirected, mtu, rdnss, dnssl, other, IsPiece, Says, known_of, mac_of, prefix_of, is_set}
 use Rattle.nd_decode.specs.Options.{SpellsOptions}
 use Rattle.nd_decode.specs.Message.{Parts, HasBody, HasFields, Spells, behind_fields, router_advertisement_of, neighbor_solicitation_of, neighbor_advertisement_of, redirect_of}
 use Rattle.nd_decode.proofs.Says.{known_one}

@@ -1,4 +1,4 @@
-use Rattle.std.proofs.Common.{◌∙◌, ◌≤◌, arith}
+use Rattle.std.proofs.Common.{◌∙◌, arith}
 use Rattle.nd_message.specs.Owned.{said, whole}
 use Rattle.nd_message.proofs.Formed.{formed, fits_of}
 use Rattle.nd_message.proofs.Looping.{next_fits, next_behind, next_left, piece_short, over, fits_none, whole_length}
