@@ -5,7 +5,7 @@ use Rattle.std.specs.List.{flat_map}
 use Rattle.nd_text.specs.Digits.{hex_text}
 use Rattle.nd_addr.specs.Text.{address_text, mac_text, prefix_text}
 use Rattle.nd_addr.specs.declared.addr.Addr.{Addr}
-use Rattle.nd_names.specs.Text.{name_text}
+use Rattle.nd_search_list.specs.Text.{name_text}
 use Rattle.nd_decode.specs.Option.{Said, slla, tlla, prefix, redirected, mtu, rdnss, dnssl, other}
 use Rattle.nd_decode.specs.declared.prefix_info.PrefixInfo.{PrefixInfo}
 use Rattle.nd_check.specs.Words.{flags_text}

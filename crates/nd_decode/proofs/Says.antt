@@ -2,8 +2,8 @@
 use Rattle.std.proofs.Common.{◌≡◌, ℕ, ◌%◌, Bool, true, false, leb, eqb, ◌&&◌, List, drop, slice_index, Option, Some, None, refl, sym, inl, inr}
 use Rattle.std.specs.List.{list_all}
 use Rattle.std.proofs.lemmas.Bool.{cases_Bool, and_parts, leb-true, le-leb, eqb-true, eq-eqb}
-use Rattle.nd_names.specs.Names.{spells_names, names_in}
-use Rattle.nd_names.proofs.Deciding.{names_spelled, names_one}
+use Rattle.nd_search_list.specs.Names.{spells_names, names_in}
+use Rattle.nd_search_list.proofs.Deciding.{names_spelled, names_one}
 use Rattle.nd_decode.specs.Servers.{servers_in, is_server}
 use Rattle.nd_decode.specs.Option.{Said, slla, tlla, prefix, redirected, mtu, rdnss, dnssl, other, given, known_of, option_of, number_in, mac_of, prefix_of, IsPiece, IsRow, IsServersRow, IsNamesRow, SaysKnown, Says}
 use Rattle.nd_decode.proofs.Addresses.{servers_spelled, servers_one}

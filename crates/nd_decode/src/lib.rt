@@ -20,7 +20,7 @@ pub use body::{
 };
 pub use decoding::decode;
 pub use message_ref::MessageRef;
-pub use nd_names::{NameRef, Names};
+pub use nd_search_list::{NameRef, Names};
 pub use neighbor_advertisement::NeighborAdvertisement;
 pub use neighbor_solicitation::NeighborSolicitation;
 pub use option_ref::{

@@ -6,7 +6,7 @@ use crate::prefix_info::PrefixInfo;
 use crate::servers::Servers;
 use byteorder::{BigEndian, ByteOrder};
 use nd_addr::Mac;
-use nd_names::Names;
+use nd_search_list::Names;
 
 /// The type of a Source Link-Layer Address (RFC 4861, section 4.6.1).
 pub const OPTION_SOURCE_LINK_LAYER_ADDRESS: u8 = 1;

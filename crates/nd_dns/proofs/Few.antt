@@ -3,7 +3,7 @@ use Rattle.std.proofs.Common.{ℕ, ◌≤◌, List, [], ◌∷◌, length, drop,
 use Rattle.std.specs.List.{flat_map, AllByRecursion}
 use Rattle.std.proofs.lemmas.List.{length-append, length-drop, length-map}
 use Rattle.nd_addr.specs.declared.addr.Addr.{Addr}
-use Rattle.nd_names.specs.Names.{SpellsBefore}
+use Rattle.nd_search_list.specs.Names.{SpellsBefore}
 use Rattle.nd_decode.specs.Servers.{IsServer}
 use Rattle.nd_decode.specs.Option.{Said, slla, tlla, prefix, redirected, mtu, rdnss, dnssl, other, Says}
 use Rattle.nd_decode.specs.Options.{SpellsOptions}

@@ -2,10 +2,10 @@
 use Rattle.std.specs.Prelude.{ℕ, List}
 use Rattle.nd_addr.specs.declared.addr.Addr.{Addr}
 use Rattle.nd_decode.specs.Option.{Said}
-use Rattle.nd_standing.specs.declared.kept.Kept.{Kept}
-use Rattle.nd_standing.specs.Rows.{Row}
-use Rattle.nd_standing.specs.Listing.{StandsSilently, announced_all, entered}
-use Rattle.nd_standing.specs.Same.{same_addr}
+use Rattle.nd_lifetime.specs.declared.kept.Kept.{Kept}
+use Rattle.nd_lifetime.specs.Rows.{Row}
+use Rattle.nd_lifetime.specs.Listing.{StandsSilently, announced_all, entered}
+use Rattle.nd_lifetime.specs.Same.{same_addr}
 use Rattle.nd_dns.specs.Servers.{servers_told}
 use Rattle.nd_dns.specs.Names.{same_name, names_told}
 

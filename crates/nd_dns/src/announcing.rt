@@ -1,10 +1,10 @@
 ghost use Rattle.std.specs.Prelude.{◌≡◌, ◌≤◌, ◌<◌, ◌^◌, true, vec_len, vec_capacity};
-ghost use Rattle.nd_standing.specs.Listing.{fits, announced_all, entered};
+ghost use Rattle.nd_lifetime.specs.Listing.{fits, announced_all, entered};
 ghost use Rattle.nd_dns.specs.Names.{same_name, names_to_come};
 
 use crate::search_name::SearchName;
 use crate::told_names::ToldNames;
-use nd_standing::{Kept, announce, enters};
+use nd_lifetime::{Kept, announce, enters};
 use std::alloc::Allocator;
 
 /// Takes the announcements of names of a message in order, with copies of those that enter. There is room for them.

@@ -1,10 +1,10 @@
 ghost use Rattle.std.specs.Prelude.{◌≡◌, ◌<◌, ◌^◌, IfOk, length};
-ghost use Rattle.nd_standing.specs.Listing.{entered};
+ghost use Rattle.nd_lifetime.specs.Listing.{entered};
 ghost use Rattle.nd_dns.specs.Names.{same_name, names_to_come};
 
 use crate::search_name::SearchName;
 use crate::told_names::ToldNames;
-use nd_standing::{Kept, enters_behind};
+use nd_lifetime::{Kept, enters_behind};
 use std::alloc::{AllocError, Allocator};
 
 /// Copies of the names that the announcements of a message enter, in their order. The error is want of memory.

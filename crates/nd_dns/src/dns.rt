@@ -2,11 +2,11 @@ ghost use Rattle.std.specs.Prelude.{◌≡◌, ◌≤◌, ◌<◌, ◌^◌, ◌�
 ghost use Rattle.std.specs.Result.{IsErrAnd};
 ghost use Rattle.nd_addr.specs.declared.addr.Addr.{Addr};
 ghost use Rattle.nd_decode.specs.Pieces.{options_left};
-ghost use Rattle.nd_standing.specs.declared.kept.Kept.{Kept};
-ghost use Rattle.nd_standing.specs.Rows.{Row, Cleared, last_moment};
-ghost use Rattle.nd_standing.specs.Listing.{open_at, fits, announced_all, heard_rows, Lists};
-ghost use Rattle.nd_standing.specs.Left.{left};
-ghost use Rattle.nd_standing.specs.Same.{same_addr};
+ghost use Rattle.nd_lifetime.specs.declared.kept.Kept.{Kept};
+ghost use Rattle.nd_lifetime.specs.Rows.{Row, Cleared, last_moment};
+ghost use Rattle.nd_lifetime.specs.Listing.{open_at, fits, announced_all, heard_rows, Lists};
+ghost use Rattle.nd_lifetime.specs.Left.{left};
+ghost use Rattle.nd_lifetime.specs.Same.{same_addr};
 
 use crate::announcing::announce_names;
 use crate::copying::copies;
@@ -16,7 +16,7 @@ use crate::told_names::ToldNames;
 use crate::told_servers::ToldServers;
 use nd_addr::Addr;
 use nd_decode::Options;
-use nd_standing::{Kept, Limit, Standing, TableRefusal, announce_all, fits_all};
+use nd_lifetime::{Kept, Limit, Standing, TableRefusal, announce_all, fits_all};
 use std::alloc::{AllocError, Allocator};
 use std::marker::Model;
 
@@ -37,8 +37,8 @@ pub struct Dns<A: Allocator> {
 impl<A: Allocator> Model for Dns<A> {
     ghost use Rattle.std.specs.Prelude.{◌≤◌};
     ghost use Rattle.std.specs.Vec.{vec_len, vec_capacity};
-    ghost use Rattle.nd_standing.specs.Listing.{Distinct};
-    ghost use Rattle.nd_standing.specs.Same.{same_addr};
+    ghost use Rattle.nd_lifetime.specs.Listing.{Distinct};
+    ghost use Rattle.nd_lifetime.specs.Same.{same_addr};
     ghost use Rattle.nd_dns.specs.Dns.{Heard};
     ghost use Rattle.nd_dns.specs.Names.{same_name};
 

@@ -2,10 +2,10 @@
 
 ghost use Rattle.std.specs.Prelude.{◌≡◌, ℕ, List};
 ghost use Rattle.nd_addr.specs.declared.addr.Addr.{Addr};
-ghost use Rattle.nd_standing.specs.declared.kept.Kept.{Kept};
-ghost use Rattle.nd_standing.specs.Rows.{Row};
-ghost use Rattle.nd_standing.specs.Listing.{Lists};
-ghost use Rattle.nd_standing.specs.Same.{same_addr};
+ghost use Rattle.nd_lifetime.specs.declared.kept.Kept.{Kept};
+ghost use Rattle.nd_lifetime.specs.Rows.{Row};
+ghost use Rattle.nd_lifetime.specs.Listing.{Lists};
+ghost use Rattle.nd_lifetime.specs.Same.{same_addr};
 ghost use Rattle.nd_dns.specs.Names.{same_name};
 
 /// What was announced gives one list of servers and one of search names at each moment.

@@ -1,9 +1,9 @@
 ghost use Rattle.std.specs.Prelude.{◌≡◌, IfOk};
-ghost use Rattle.nd_names.specs.Name.{IsName};
-ghost use Rattle.nd_names.specs.NameRef.{bytes_of, name_of};
+ghost use Rattle.nd_search_list.specs.Name.{IsName};
+ghost use Rattle.nd_search_list.specs.NameRef.{bytes_of, name_of};
 
 use nd_decode::NameRef;
-use nd_standing::Names;
+use nd_lifetime::Names;
 use std::alloc::{AllocError, Allocator};
 use std::marker::Model;
 
@@ -15,7 +15,7 @@ pub struct SearchName<A: Allocator> {
 
 impl<A: Allocator> Model for SearchName<A> {
     ghost use Rattle.std.specs.Prelude.{ℕ, List};
-    ghost use Rattle.nd_names.specs.Name.{IsName};
+    ghost use Rattle.nd_search_list.specs.Name.{IsName};
 
     ghost Value = { List ℕ };
 
@@ -45,8 +45,8 @@ impl<A: Allocator> SearchName<A> {
 }
 
 impl<A: Allocator> Names<SearchName<A>> for NameRef<'_> {
-    ghost use Rattle.nd_names.specs.NameRef.{name_of};
-    ghost use Rattle.nd_standing.specs.Same.{bytes_tell};
+    ghost use Rattle.nd_search_list.specs.NameRef.{name_of};
+    ghost use Rattle.nd_lifetime.specs.Same.{bytes_tell};
     ghost use Rattle.nd_dns.specs.Names.{same_name};
 
     ghost named = { name_of };

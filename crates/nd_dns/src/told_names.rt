@@ -1,10 +1,10 @@
 ghost use Rattle.std.specs.Prelude.{◌≡◌, [], ◌∷◌, MatchOption};
-ghost use Rattle.nd_names.specs.NameRef.{name_of};
+ghost use Rattle.nd_search_list.specs.NameRef.{name_of};
 ghost use Rattle.nd_dns.specs.Names.{at_hand};
 
 use crate::search_name::SearchName;
 use nd_decode::{NameRef, Names, OptionRef, Options};
-use nd_standing::Announces;
+use nd_lifetime::Announces;
 use std::alloc::Allocator;
 
 /// The search names that the options of a Router Advertisement tell, with the lifetimes of their options (RFC 8106, section 5.2).

@@ -1,6 +1,6 @@
 use nd_addr::Addr;
 use nd_decode::{OptionRef, Options, Servers};
-use nd_standing::Announces;
+use nd_lifetime::Announces;
 
 /// The DNS servers that the options of a Router Advertisement tell, with the lifetimes of their options (RFC 8106, section 5.1).
 #[derive(Clone, Copy, Debug)]

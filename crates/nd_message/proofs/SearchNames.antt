@@ -6,9 +6,9 @@ use Rattle.std.specs.Char.{to_ascii_lowercase}
 use Rattle.std.proofs.lemmas.List.{length-append, length-drop, length-map, length-replicate}
 use Rattle.byteorder.specs.Numbers.{big_from-lt}
 use Rattle.nd_addr.specs.Bytes.{IsBytes}
-use Rattle.nd_names.specs.Name.{IsName}
-use Rattle.nd_names.specs.Names.{SpellsBefore, SpellsNames}
-use Rattle.nd_names.proofs.Lowering.{name_lowered, lowered_is_name, spelled_low}
+use Rattle.nd_search_list.specs.Name.{IsName}
+use Rattle.nd_search_list.specs.Names.{SpellsBefore, SpellsNames}
+use Rattle.nd_search_list.proofs.Lowering.{name_lowered, lowered_is_name, spelled_low}
 use Rattle.nd_decode.specs.Option.{dnssl, IsPiece, IsNamesRow, Says}
 use Rattle.nd_message.specs.Dnssl.{ended, names_data, missing, dnssl_piece, FitNames, FitsDnssl}
 use Rattle.nd_message.proofs.Bytes.{AreSmall, AreSmall-append, IsBytes-drop, small_four}

@@ -2,7 +2,7 @@
 use Rattle.std.specs.Prelude.{ℕ, ◌+◌, ◌-◌, ◌/◌, ◌%◌, ◌^◌, ◌<◌, ◌≤◌, List, [], ◌∷◌, ◌++◌, length, replicate}
 use Rattle.std.specs.List.{flat_map, AllByRecursion}
 use Rattle.byteorder.specs.Endian.{big_bytes}
-use Rattle.nd_names.specs.Name.{IsName}
+use Rattle.nd_search_list.specs.Name.{IsName}
 
 -- a name, and the zero byte that ends it
 abbrev pub ended : List ℕ → List ℕ

@@ -5,7 +5,7 @@ ghost use Rattle.nd_message.specs.Dnssl.{missing, names_data, dnssl_piece, FitNa
 
 use crate::name::Name;
 use nd_decode::OPTION_DNS_SEARCH_LIST;
-use nd_names::is_name;
+use nd_search_list::is_name;
 use std::alloc::{AllocError, Allocator};
 
 /// How many bytes of names a DNS Search List has at most: 255 units of 8 bytes, but for the first.

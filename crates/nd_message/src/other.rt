@@ -9,7 +9,7 @@ use nd_decode::{
     OPTION_REDIRECTED_HEADER, OPTION_SOURCE_LINK_LAYER_ADDRESS, OPTION_TARGET_LINK_LAYER_ADDRESS,
     Servers,
 };
-use nd_names::Names;
+use nd_search_list::Names;
 use std::alloc::{AllocError, Allocator};
 
 /// Whether a piece of this type and with these bytes behind its length is whole and reads as no known option.

@@ -12,7 +12,7 @@ use Rattle.nd_neighbour.specs.Node.{Node, due_by, due_of, kept_by, the_node, nod
 use Rattle.circular_buffer.specs.Buffer.{keep_last}
 use Rattle.nd_neighbour.specs.Change.{given, advertised, confirmed, used, solicited, asked_node, mark_or, with_mark, stale_node, falls, stays}
 use Rattle.nd_neighbour.proofs.LastThree.{keep_more}
-use Rattle.nd_keyed.proofs.Cases.{either}
+use Rattle.nd_table.proofs.Cases.{either}
 use Rattle.nd_neighbour.proofs.Stories.{absent_mac, absent_router, resolving, known_word}
 
 -- a node by its parts

@@ -11,8 +11,8 @@ use Rattle.nd_neighbour.specs.Node.{Node, Kept, Resolves, Reaches, due_of, kept_
 use Rattle.nd_neighbour.specs.Change.{Falls, falls, falls_to, stays, solicited, known_mac}
 use Rattle.nd_neighbour.specs.Table.{address, node_in, Stands, GainsRow}
 use Rattle.nd_neighbour.specs.Due.{date_of, IsDue, falling_by, IsFirst, FirstDue, NextDue, due_row, next_in, due_in, NoneBefore, turns_to, turns_left, Turns}
-use Rattle.nd_keyed.proofs.Cases.{either}
-use Rattle.nd_keyed.proofs.Due.{AtMost-some, AtMost-none, due_now, due_has, due_least, none_due, least_at_most, least_found, NotBefore-set, NotBefore-remove}
+use Rattle.nd_table.proofs.Cases.{either}
+use Rattle.nd_table.proofs.Due.{AtMost-some, AtMost-none, due_now, due_has, due_least, none_due, least_at_most, least_found, NotBefore-set, NotBefore-remove}
 use Rattle.nd_neighbour.proofs.Changes.{when_solicited, when_probed}
 use Rattle.nd_neighbour.proofs.Steps.{changing, leaving, node_present}
 

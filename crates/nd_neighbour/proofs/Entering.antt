@@ -12,8 +12,8 @@ use Rattle.nd_neighbour.specs.Reachability.{state_by}
 use Rattle.nd_neighbour.specs.Node.{Node, kept_by, the_node, node_of, since_in}
 use Rattle.nd_neighbour.specs.Table.{address, node_in, Rises, Stands, GainsRow}
 use Rattle.nd_neighbour.specs.Room.{IsStale, stale_since, IsLongestStale, MakesPlace, HadPlace, Pushed, is_stale, since_kept, longer, if_stale, stalest, Places, Enough, Went, Alters, NotThere, There}
-use Rattle.nd_keyed.proofs.Cases.{either}
-use Rattle.nd_keyed.proofs.Keyed.{key_is, above_in, at_place, at_key-remove}
+use Rattle.nd_table.proofs.Cases.{either}
+use Rattle.nd_table.proofs.Keyed.{key_is, above_in, at_place, at_key-remove}
 use Rattle.nd_neighbour.proofs.Steps.{changing, passing, leaving, node_present, node_absent}
 
 -- a neighbour changes by what happens, if it is there

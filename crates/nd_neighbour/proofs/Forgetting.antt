@@ -11,12 +11,12 @@ use Rattle.nd_neighbour.specs.Resolving.{Resolution, resolution_of, waiting_of}
 use Rattle.nd_neighbour.specs.Reachability.{state_by}
 use Rattle.nd_neighbour.specs.Node.{Node, kept_by, the_node, node_of}
 use Rattle.nd_neighbour.specs.Table.{address, node_in, Stands, GainsRow}
-use Rattle.nd_keyed.proofs.Mapped.{at_key-map, Rises-map}
+use Rattle.nd_table.proofs.Mapped.{at_key-map, Rises-map}
 use Rattle.nd_neighbour.specs.Room.{Removes, WasNot, Gone}
 use Rattle.nd_neighbour.specs.Seen.{Seen, seen, seen_of, state_in, waits_of, seen_key, Lists}
 use Rattle.nd_neighbour.specs.Calls.{waiting_at, cleared}
-use Rattle.nd_keyed.proofs.Cases.{either}
-use Rattle.nd_keyed.proofs.Keyed.{key_is}
+use Rattle.nd_table.proofs.Cases.{either}
+use Rattle.nd_table.proofs.Keyed.{key_is}
 use Rattle.nd_neighbour.proofs.Steps.{leaving, each_other, ended_story, node_present, node_absent}
 use Rattle.nd_neighbour.proofs.Dues.{known_by}
 use Rattle.nd_neighbour.proofs.NewsCalls.{node_waits, none_waits}

@@ -16,7 +16,7 @@ use Rattle.nd_neighbour.specs.Calls.{released_by, ends_router, Tells, told_relea
 use Rattle.nd_neighbour.proofs.Stories.{absent_router}
 use Rattle.nd_neighbour.proofs.Changes.{when_given, when_advertised, when_marked, when_confirmed, first_given}
 use Rattle.nd_neighbour.proofs.Steps.{changing, entering, node_present, node_absent}
-use Rattle.nd_keyed.proofs.Keyed.{key_is}
+use Rattle.nd_table.proofs.Keyed.{key_is}
 use Rattle.nd_neighbour.proofs.Dues.{known_by}
 use Rattle.nd_neighbour.proofs.Entering.{altered_gains, place_made}
 

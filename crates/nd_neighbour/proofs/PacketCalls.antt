@@ -11,10 +11,10 @@ use Rattle.nd_neighbour.specs.Change.{used, used_to, asked_node, known_mac, send
 use Rattle.nd_neighbour.specs.Table.{address, node_in, Stands}
 use Rattle.nd_neighbour.specs.Room.{Alters, NotThere, There, Gives, Was, Came}
 use Rattle.nd_neighbour.specs.Calls.{Takes, packet_rows, sending_by, sending_of_story, sending_in}
-use Rattle.nd_keyed.proofs.Cases.{either}
+use Rattle.nd_table.proofs.Cases.{either}
 use Rattle.nd_neighbour.proofs.Stories.{absent_mac, absent_router}
 use Rattle.nd_neighbour.proofs.Changes.{when_used, when_waits, first_asked}
-use Rattle.nd_keyed.proofs.Keyed.{key_is, put_in, at_key-put, Rises-put}
+use Rattle.nd_table.proofs.Keyed.{key_is, put_in, at_key-put, Rises-put}
 use Rattle.nd_neighbour.proofs.Steps.{changing, entering, each_other, same_story, node_present, node_absent}
 use Rattle.nd_neighbour.proofs.Dues.{mac_is}
 use Rattle.nd_neighbour.proofs.Entering.{place_made}

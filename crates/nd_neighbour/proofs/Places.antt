@@ -7,7 +7,7 @@ use Rattle.std.proofs.lemmas.Bool.{cond_both}
 use Rattle.std.proofs.lemmas.Option.{slice_get-get_or}
 use Rattle.nd_neighbour.specs.Node.{Node}
 use Rattle.nd_neighbour.specs.Room.{since_kept, longer, stalest, picked, picked_stale, Places, Went}
-use Rattle.nd_keyed.proofs.Cases.{either}
+use Rattle.nd_table.proofs.Cases.{either}
 
 longer_assoc : (a b c : Option Node) → longer (longer a b) c ≡ longer a (longer b c)
 longer_assoc None b c = refl

@@ -6,10 +6,10 @@ use Rattle.std.proofs.lemmas.List.{length-set}
 use Rattle.std.proofs.lemmas.List.Edits.{length-insert, length-remove}
 use Rattle.std.proofs.lemmas.Bool.Decides.{nat_tests}
 use Rattle.std.proofs.lemmas.Bool.{cond-true, cond-false, true≢false, eqb-true, ne_eqb, eq-eqb}
-use Rattle.nd_keyed.specs.Keyed.{place_of}
-use Rattle.nd_keyed.proofs.Cases.{either}
-use Rattle.nd_keyed.proofs.Any.{or_left, or_right, or_either, any_set, any_remove, any_insert, any_inserted, any_was_set, any_was_removed, still_set, still_removed, held_at}
-use Rattle.nd_keyed.proofs.Keyed.{key_is, place_found, place_of-le, put_in, at_key-put, at_key-set, at_key-remove}
+use Rattle.nd_table.specs.Keyed.{place_of}
+use Rattle.nd_table.proofs.Cases.{either}
+use Rattle.nd_table.proofs.Any.{or_left, or_right, or_either, any_set, any_remove, any_insert, any_inserted, any_was_set, any_was_removed, still_set, still_removed, held_at}
+use Rattle.nd_table.proofs.Keyed.{key_is, place_found, place_of-le, put_in, at_key-put, at_key-set, at_key-remove}
 use Rattle.nd_neighbour.specs.Rows.{Row, story, Forgot, PushedOut}
 use Rattle.nd_neighbour.specs.Address.{is_present, mac_of}
 use Rattle.nd_neighbour.specs.Node.{Node, Kept, Resolves, Reaches}

@@ -6,8 +6,8 @@ use Rattle.nd_neighbour.specs.Rows.{Happening, Forgot, Why, is_end, Row, Story, 
 use Rattle.nd_neighbour.specs.Address.{is_present}
 use Rattle.nd_neighbour.specs.Node.{Node, the_node, node_of}
 use Rattle.nd_neighbour.specs.Table.{address, node_in, GainsRow}
-use Rattle.nd_keyed.proofs.Cases.{either}
-use Rattle.nd_keyed.proofs.Keyed.{at_key-set, Rises-set, at_key-remove, Rises-remove, put_in, at_key-put, Rises-put}
+use Rattle.nd_table.proofs.Cases.{either}
+use Rattle.nd_table.proofs.Keyed.{at_key-set, Rises-set, at_key-remove, Rises-remove, put_in, at_key-put, Rises-put}
 
 -- the story of another neighbour goes on unchanged
 other_story : (k key at : ℕ) (h : Happening) (rows : List Row) → eqb key k ≡ false → story k ((at, key, h) ∷ rows) ≡ story k rows

@@ -8,7 +8,7 @@ use Rattle.nd_neighbour.specs.Change.{Falls}
 use Rattle.nd_neighbour.specs.Table.{Stands, GainsRow}
 use Rattle.nd_neighbour.specs.Due.{FirstDue, due_row, next_in, due_in, NoneBefore, turns_left, Turns}
 use Rattle.nd_neighbour.proofs.Dues.{first_falls, none_falls, turned_gains, turned_fewer, turned_later}
-use Rattle.nd_keyed.proofs.Due.{next_not_now}
+use Rattle.nd_table.proofs.Due.{next_not_now}
 use Rattle.nd_neighbour.specs.Due.{date_of}
 
 module _ {X : Type 0} (f : X → Falls) (now : ℕ) (new : List Node) where

@@ -11,7 +11,7 @@ use Rattle.nd_neighbour.specs.Table.{address, Stands}
 use Rattle.nd_neighbour.specs.Due.{falling, FirstDue}
 use Rattle.nd_neighbour.specs.Room.{IsStale, IsLongestStale, stalest, NoPlace, WouldBeFull}
 use Rattle.nd_neighbour.proofs.Steps.{node_absent}
-use Rattle.nd_keyed.proofs.Unique.{one_list}
+use Rattle.nd_table.proofs.Unique.{one_list}
 use Rattle.nd_neighbour.proofs.Entering.{none_is_stale, some_stale}
 
 pub one_table : (rows : List Row) (a b : List Node) → Stands a rows → Stands b rows → a ≡ b

@@ -1,7 +1,7 @@
 -- What falls due, asked of what happened (RFC 4861, sections 7.2.2, 7.3.3 and 10).
 use Rattle.std.specs.Prelude.{◌≡◌, ℕ, ◌+◌, ◌-◌, ◌≤◌, nat_lt, true, if◌then◌else◌, List, [], ◌∷◌, length, slice_index_or, slice_set, ◌<◌, Option, Some, None}
 use Rattle.std.specs.List.{remove}
-use Rattle.nd_keyed.specs.Due.{least_date, first_at, NotBefore}
+use Rattle.nd_table.specs.Due.{least_date, first_at, NotBefore}
 use Rattle.nd_neighbour.specs.Rows.{Row, Story, story, Solicited, Probed, Forgot, Failed, Aged}
 use Rattle.nd_neighbour.specs.Address.{is_present, mac_of}
 use Rattle.nd_neighbour.specs.Confirming.{Use, use_of}

@@ -1,6 +1,6 @@
 -- What is shown of a neighbour at a moment.
 use Rattle.std.specs.Prelude.{◌≡◌, ℕ, nat_lt, Bool, ◌&&◌, if◌then◌else◌, List, [], Option, Some, None}
-use Rattle.nd_keyed.specs.Keyed.{at_key, Rises}
+use Rattle.nd_table.specs.Keyed.{at_key, Rises}
 use Rattle.nd_neighbour.specs.declared.reachability.Reachability.{Reachability}
 use Rattle.nd_neighbour.specs.declared.reachability.Reachability.TheVariants.{Incomplete, Reachable, Stale, Delay, Probe}
 use Rattle.nd_neighbour.specs.declared.probing.Probing.{Probing}

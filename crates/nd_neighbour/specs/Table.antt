@@ -1,7 +1,7 @@
 -- What a table of neighbours is to what happened to them.
 use Rattle.std.specs.Prelude.{◌≡◌, ℕ, List, ◌∷◌, Option}
-use Rattle.nd_keyed.specs.Keyed as keyed
-use Rattle.nd_keyed.specs.Keyed.{at_key, place_of}
+use Rattle.nd_table.specs.Keyed as keyed
+use Rattle.nd_table.specs.Keyed.{at_key, place_of}
 use Rattle.nd_neighbour.specs.Rows.{Row, story}
 use Rattle.nd_neighbour.specs.Node.{Node, node_of}
 

@@ -7,7 +7,7 @@ use crate::entry::Entry;
 use crate::neighbour::Neighbour;
 use crate::turning::turn_first;
 use nd_addr::Addr;
-use nd_keyed::next_date;
+use nd_table::next_date;
 use nd_waiting::{Packets, Ring};
 use std::alloc::{AllocError, Allocator};
 use std::marker::Model;

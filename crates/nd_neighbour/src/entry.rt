@@ -11,7 +11,7 @@ use crate::same::is_same_mac;
 use crate::sending::Use;
 use crate::stage::Stage;
 use nd_addr::{Addr, Mac};
-use nd_keyed::{Addressed, Dated};
+use nd_table::{Addressed, Dated};
 use nd_waiting::{Packet, Packets, Ring};
 use std::alloc::Allocator;
 use std::marker::Model;

@@ -12,7 +12,7 @@ use crate::place::{has_place, make_place};
 use crate::refusal::CacheRefusal;
 use crate::touched::Touched;
 use nd_addr::{Addr, Mac};
-use nd_keyed::{find, holds, put};
+use nd_table::{find, holds, put};
 use nd_waiting::Packets;
 use std::alloc::Allocator;
 

@@ -11,7 +11,7 @@ use crate::place::make_place;
 use crate::refusal::CacheRefusal;
 use crate::sending::Use;
 use nd_addr::Addr;
-use nd_keyed::{find, put};
+use nd_table::{find, put};
 use nd_waiting::{Packet, Ring};
 use std::alloc::{AllocError, Allocator};
 

@@ -6,7 +6,7 @@ ghost use Rattle.nd_neighbour.specs.Calls.{waiting_at, all_waiting};
 
 use crate::entry::Entry;
 use nd_addr::Addr;
-use nd_keyed::find;
+use nd_table::find;
 use nd_waiting::{Packet, Packets};
 use std::alloc::{AllocError, Allocator};
 

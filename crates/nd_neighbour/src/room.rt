@@ -10,7 +10,7 @@ use crate::cache::Cache;
 use crate::entry::Entry;
 use crate::place::{has_place, stalest};
 use nd_addr::Addr;
-use nd_keyed::{Addressed, compare, holds};
+use nd_table::{Addressed, compare, holds};
 use std::alloc::Allocator;
 
 impl<A: Allocator + Clone> Cache<A> {

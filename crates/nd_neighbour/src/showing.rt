@@ -8,7 +8,7 @@ ghost use Rattle.nd_neighbour.specs.View.{seen_in};
 use crate::entry::Entry;
 use crate::neighbour::Neighbour;
 use nd_addr::Addr;
-use nd_keyed::find;
+use nd_table::find;
 use std::alloc::{AllocError, Allocator};
 
 /// What is shown of an entry that may be there.

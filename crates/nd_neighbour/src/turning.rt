@@ -4,7 +4,7 @@ ghost use Rattle.nd_neighbour.specs.View.{falls_of};
 
 use crate::due::Due;
 use crate::entry::Entry;
-use nd_keyed::first_at;
+use nd_table::first_at;
 use std::alloc::Allocator;
 
 /// What falls due now for the first entry for which something does: it is asked once more, or goes.

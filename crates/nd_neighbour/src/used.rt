@@ -8,7 +8,7 @@ use crate::refusal::CacheRefusal;
 use crate::sending::Use;
 use crate::times::Times;
 use nd_addr::Addr;
-use nd_keyed::holds;
+use nd_table::holds;
 use nd_waiting::Packet;
 use std::alloc::Allocator;
 

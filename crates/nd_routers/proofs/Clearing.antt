@@ -3,10 +3,10 @@ use Rattle.std.proofs.Common.{◌≡◌, ℕ, false, List, [], ◌∷◌, refl, 
 use Rattle.std.specs.Prelude.{is_some, ◌&&◌}
 use Rattle.std.proofs.lemmas.Bool.Decides.{nat_tests, eqb_tells}
 use Rattle.std.proofs.lemmas.Bool.{true≢false}
-use Rattle.nd_standing.specs.declared.kept.Kept.{Kept}
-use Rattle.nd_standing.specs.Listing.{without}
-use Rattle.nd_standing.proofs.Finding.{without_absent}
-use Rattle.nd_standing.proofs.Order.{distinct_of}
+use Rattle.nd_lifetime.specs.declared.kept.Kept.{Kept}
+use Rattle.nd_lifetime.specs.Listing.{without}
+use Rattle.nd_lifetime.proofs.Finding.{without_absent}
+use Rattle.nd_lifetime.proofs.Order.{distinct_of}
 use Rattle.nd_routers.specs.Happenings.{Happening, Left, failure_of}
 use Rattle.nd_routers.specs.Failures.{has_failed, others}
 use Rattle.nd_routers.specs.Routers.{Table, same, IsOf, left_rows, keys}

@@ -3,13 +3,13 @@ use Rattle.std.proofs.Common.{◌≡◌, ℕ, ◌<◌, ◌≤◌, cond, eqb, Lis
 use Rattle.std.specs.Prelude.{not}
 use Rattle.std.proofs.lemmas.Bool.Decides.{nat_tests}
 use Rattle.std.proofs.lemmas.Bool.{cond_both, eqb-true, eq-eqb, ne_eqb, cond-true, cond-false}
-use Rattle.nd_standing.specs.declared.kept.Kept.{Kept}
-use Rattle.nd_standing.specs.Rows.{place}
-use Rattle.nd_standing.specs.Listing.{end_in, AllAfter, Rises, without, Stands}
+use Rattle.nd_lifetime.specs.declared.kept.Kept.{Kept}
+use Rattle.nd_lifetime.specs.Rows.{place}
+use Rattle.nd_lifetime.specs.Listing.{end_in, AllAfter, Rises, without, Stands}
 use Rattle.nd_routers.specs.Happenings.{Happening, announcements}
 use Rattle.nd_routers.specs.Routers.{same, NoneBefore, next_end, key_at, first_due}
-use Rattle.nd_keyed.specs.Due.{lesser, is_at, least_date}
-use Rattle.nd_keyed.proofs.Due.{AtMost, AtMost-left, AtMost-right, AtMost-same, AtMost-some, AtMost-none, lesser_is, NotBefore-left, NotBefore-right, NotBefore-both}
+use Rattle.nd_table.specs.Due.{lesser, is_at, least_date}
+use Rattle.nd_table.proofs.Due.{AtMost, AtMost-left, AtMost-right, AtMost-same, AtMost-some, AtMost-none, lesser_is, NotBefore-left, NotBefore-right, NotBefore-both}
 use Rattle.nd_routers.specs.Due.{IsDue, FirstDue, NextDue}
 
 least_at_most : (number : Kept ℕ → Option ℕ) (es : List (Kept ℕ)) (key n : ℕ) (end : Option ℕ) → end_in same key es ≡ Some end → ((e : Kept ℕ) → e.key ≡ key → e.end ≡ end → AtMost (number e) n) → AtMost (least_date number es) n

@@ -3,10 +3,10 @@ use Rattle.std.proofs.Common.{◌≡◌, ℕ, ◌<◌, ◌≤◌, Bool, true, fa
 use Rattle.std.specs.Prelude.{not, is_some, ◌&&◌, ◌||◌}
 use Rattle.std.proofs.lemmas.Bool.Decides.{nat_tests, eqb_tells}
 use Rattle.std.proofs.lemmas.Bool.{cond_both, true≢false}
-use Rattle.nd_standing.specs.Rows.{end_of, stands}
-use Rattle.nd_standing.specs.declared.kept.Kept.{Kept}
-use Rattle.nd_standing.specs.Listing.{end_in, without, Stands}
-use Rattle.nd_standing.proofs.Finding.{end_in-without}
+use Rattle.nd_lifetime.specs.Rows.{end_of, stands}
+use Rattle.nd_lifetime.specs.declared.kept.Kept.{Kept}
+use Rattle.nd_lifetime.specs.Listing.{end_in, without, Stands}
+use Rattle.nd_lifetime.proofs.Finding.{end_in-without}
 use Rattle.nd_routers.proofs.Dues.{length-without}
 use Rattle.nd_routers.specs.Happenings.{Happening, Heard, Left, Failed, announcements, failure_of}
 use Rattle.nd_routers.specs.Failures.{has_failed, AllLater, InOrder, number_in, Failures, others}

@@ -3,11 +3,11 @@ use Rattle.std.proofs.Common.{◌≡◌, ℕ, List, [], ◌∷◌, Option, Some,
 use Rattle.std.specs.Prelude.{◌&&◌}
 use Rattle.std.proofs.lemmas.Bool.Decides.{nat_tests, eqb_tells}
 use Rattle.std.proofs.lemmas.Bool.{and_parts, and_from}
-use Rattle.nd_standing.specs.declared.kept.Kept.{Kept}
-use Rattle.nd_keyed.specs.Ends.{is_before}
-use Rattle.nd_standing.proofs.Steps.{AllOpen}
+use Rattle.nd_lifetime.specs.declared.kept.Kept.{Kept}
+use Rattle.nd_table.specs.Ends.{is_before}
+use Rattle.nd_lifetime.proofs.Steps.{AllOpen}
 use Rattle.nd_routers.specs.Routers.{same, IsSettled, next_end}
-use Rattle.nd_keyed.specs.Due.{lesser}
+use Rattle.nd_table.specs.Due.{lesser}
 
 lesser-open : (now : ℕ) (a b : Option ℕ) → is_before now (lesser a b) ≡ (is_before now a && is_before now b)
 lesser-open now None b = refl

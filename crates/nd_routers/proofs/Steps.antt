@@ -2,10 +2,10 @@
 use Rattle.std.proofs.Common.{◌≡◌, ℕ, Bool, true, false, cond, eqb, List, [], ◌∷◌, ◌++◌, Option, Some, None, refl, sym, ◌∙◌, ap, subst, arith}
 use Rattle.std.specs.Prelude.{is_some, not}
 use Rattle.std.proofs.lemmas.Bool.Decides.{nat_tests, eqb_tells}
-use Rattle.nd_standing.specs.declared.kept.Kept.{Kept}
-use Rattle.nd_standing.specs.Rows.{Announced, end_of, is_open, stands}
-use Rattle.nd_standing.specs.Listing.{end_in, without, announced, open_at, Stands}
-use Rattle.nd_standing.proofs.Steps.{gains, ends, open_in, AllOpen-announced, AllOpen-filter, lists_at}
+use Rattle.nd_lifetime.specs.declared.kept.Kept.{Kept}
+use Rattle.nd_lifetime.specs.Rows.{Announced, end_of, is_open, stands}
+use Rattle.nd_lifetime.specs.Listing.{end_in, without, announced, open_at, Stands}
+use Rattle.nd_lifetime.proofs.Steps.{gains, ends, open_in, AllOpen-announced, AllOpen-filter, lists_at}
 use Rattle.nd_routers.specs.Happenings.{Happening, Heard, Left, Failed, announcements}
 use Rattle.nd_routers.specs.Change.{change_of}
 use Rattle.nd_routers.specs.Failures.{Failures, others}

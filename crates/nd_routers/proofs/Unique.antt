@@ -3,8 +3,8 @@ use Rattle.std.proofs.Common.{◌≡◌, ℕ, ◌<◌, true, false, eqb, List, [
 use Rattle.std.specs.Prelude.{◌||◌}
 use Rattle.std.proofs.lemmas.Bool.Decides.{nat_tests, eqb_tells}
 use Rattle.std.proofs.lemmas.Bool.{true≢false}
-use Rattle.nd_standing.specs.declared.kept.Kept.{Kept}
-use Rattle.nd_standing.proofs.Unique.{one_list}
+use Rattle.nd_lifetime.specs.declared.kept.Kept.{Kept}
+use Rattle.nd_lifetime.proofs.Unique.{one_list}
 use Rattle.nd_routers.specs.Happenings.{Happening}
 use Rattle.nd_routers.specs.Failures.{has_failed, AllLater, InOrder, Failures}
 use Rattle.nd_routers.specs.Routers.{Table, same, IsOf}

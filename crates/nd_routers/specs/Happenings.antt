@@ -1,6 +1,6 @@
 -- What happens to the default routers, the newest first (RFC 4861, section 6.3.4). Nothing here has a state: each question looks back.
 use Rattle.std.specs.Prelude.{ℕ, ◌&&◌, not, ◌==◌, if◌then◌else◌, List, [], ◌∷◌, length, Option, Some, None}
-use Rattle.nd_standing.specs.Rows.{Row, Announced, Ended, stands}
+use Rattle.nd_lifetime.specs.Rows.{Row, Announced, Ended, stands}
 
 -- A router announces itself for a lifetime in seconds, or leaves the list, or can't be reached (RFC 4861, section 6.3.6). Routers
 -- are told by the numbers that their addresses are.

@@ -3,8 +3,8 @@ use Rattle.std.specs.Prelude.{ℕ, Bool, ◌||◌, List, [], ◌∷◌, replicat
 use Rattle.std.specs.List.{list_any}
 use Rattle.nd_addr.specs.Number.{holds}
 use Rattle.nd_addr.specs.Prefix.{PrefixValue}
-use Rattle.nd_standing.specs.declared.kept.Kept.{Kept}
-use Rattle.nd_keyed.specs.Due.{lesser}
+use Rattle.nd_lifetime.specs.declared.kept.Kept.{Kept}
+use Rattle.nd_table.specs.Due.{lesser}
 
 -- the earliest end
 abbrev pub least_end : List (Kept PrefixValue) → Option ℕ

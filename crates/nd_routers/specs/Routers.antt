@@ -1,9 +1,9 @@
 -- What a table of routers is to the happenings that it stands for.
 use Rattle.std.specs.Prelude.{ℕ, Bool, ◌==◌, if◌then◌else◌, IsTrue, List, [], ◌∷◌, Option, Some, None, map}
-use Rattle.nd_keyed.specs.Due.{is_at, least_date, NotBefore}
-use Rattle.nd_standing.specs.declared.kept.Kept.{Kept}
-use Rattle.nd_keyed.specs.Ends.{is_before}
-use Rattle.nd_standing.specs.Listing.{Stands}
+use Rattle.nd_table.specs.Due.{is_at, least_date, NotBefore}
+use Rattle.nd_lifetime.specs.declared.kept.Kept.{Kept}
+use Rattle.nd_table.specs.Ends.{is_before}
+use Rattle.nd_lifetime.specs.Listing.{Stands}
 use Rattle.nd_routers.specs.Happenings.{Happening, Left, announcements}
 use Rattle.nd_routers.specs.Failures.{Failures}
 

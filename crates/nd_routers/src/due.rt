@@ -2,12 +2,12 @@ ghost use Rattle.std.specs.Prelude.{◌≡◌, Some};
 ghost use Rattle.std.specs.Option.{option_map};
 ghost use Rattle.nd_addr.specs.Number.{number_of};
 ghost use Rattle.nd_routers.specs.Routers.{first_due};
-ghost use Rattle.nd_keyed.specs.Due.{lesser};
+ghost use Rattle.nd_table.specs.Due.{lesser};
 
 use crate::router::Router;
 use nd_addr::Addr;
-use nd_keyed::{compare, is_at};
-use nd_standing::Kept;
+use nd_table::{compare, is_at};
+use nd_lifetime::Kept;
 
 /// The lesser of two addresses, of which the first may be missing.
 fn lesser_addr(a: Option<Addr>, b: Addr) -> Addr

@@ -4,7 +4,7 @@ ghost use Rattle.nd_routers.specs.Failures.{others, place_among};
 
 use crate::router::Router;
 use nd_addr::Addr;
-use nd_keyed::compare;
+use nd_table::compare;
 use std::alloc::Allocator;
 
 /// The router has no failure from now on.

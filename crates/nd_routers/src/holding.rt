@@ -1,12 +1,12 @@
 ghost use Rattle.std.specs.Prelude.{◌≡◌};
 ghost use Rattle.std.specs.List.{list_any};
 ghost use Rattle.nd_addr.specs.Number.{holds};
-ghost use Rattle.nd_standing.specs.Listing.{open_at};
+ghost use Rattle.nd_lifetime.specs.Listing.{open_at};
 ghost use Rattle.nd_routers.specs.Prefixes.{least_end, link_local_subnet};
 
 use nd_addr::{Addr, Prefix};
-use nd_keyed::lesser;
-use nd_standing::{Kept, Standing};
+use nd_table::lesser;
+use nd_lifetime::{Kept, Standing};
 
 /// Whether a prefix holds an address.
 fn holds(prefix: &Prefix, address: Addr) -> bool

@@ -1,11 +1,11 @@
 //! Laws of the definitions, each the contract of a function that does nothing.
 
 ghost use Rattle.std.specs.Prelude.{◌≡◌, ℕ, List, Option};
-ghost use Rattle.nd_standing.specs.declared.kept.Kept.{Kept};
-ghost use Rattle.nd_standing.specs.Rows.{Row};
-ghost use Rattle.nd_standing.specs.Listing.{Lists};
+ghost use Rattle.nd_lifetime.specs.declared.kept.Kept.{Kept};
+ghost use Rattle.nd_lifetime.specs.Rows.{Row};
+ghost use Rattle.nd_lifetime.specs.Listing.{Lists};
 ghost use Rattle.nd_addr.specs.Prefix.{PrefixValue};
-ghost use Rattle.nd_standing.specs.Same.{same_prefix};
+ghost use Rattle.nd_lifetime.specs.Same.{same_prefix};
 ghost use Rattle.nd_routers.specs.Happenings.{Happening};
 ghost use Rattle.nd_routers.specs.Routers.{Table, same, IsOf};
 ghost use Rattle.nd_routers.specs.Failures.{Failures};

@@ -3,7 +3,7 @@ ghost use Rattle.nd_routers.specs.OnLink.{is_on_link};
 
 use nd_addr::Prefix;
 use nd_decode::{OptionRef, Options, PrefixInfo};
-use nd_standing::Announces;
+use nd_lifetime::Announces;
 
 /// The prefixes that the options of a Router Advertisement say are on the link, with their valid lifetimes.
 #[derive(Clone, Copy, Debug)]

@@ -1,17 +1,17 @@
 ghost use Rattle.std.specs.Prelude.{◌≡◌, ◌≤◌, ◌<◌, ◌^◌, ◌↔◌, ◌∷◌, ℕ, List, [], IfOk, IfErr, OnOk, OnErr, IsErr, false};
 ghost use Rattle.nd_addr.specs.Prefix.{PrefixValue};
 ghost use Rattle.nd_decode.specs.Pieces.{options_left};
-ghost use Rattle.nd_standing.specs.declared.kept.Kept.{Kept};
-ghost use Rattle.nd_standing.specs.Rows.{Row, Cleared, last_moment};
-ghost use Rattle.nd_standing.specs.Listing.{open_at, fits, announced_all, heard_rows, Lists, StandsSilently};
-ghost use Rattle.nd_standing.specs.Left.{left};
-ghost use Rattle.nd_standing.specs.Same.{same_prefix};
+ghost use Rattle.nd_lifetime.specs.declared.kept.Kept.{Kept};
+ghost use Rattle.nd_lifetime.specs.Rows.{Row, Cleared, last_moment};
+ghost use Rattle.nd_lifetime.specs.Listing.{open_at, fits, announced_all, heard_rows, Lists, StandsSilently};
+ghost use Rattle.nd_lifetime.specs.Left.{left};
+ghost use Rattle.nd_lifetime.specs.Same.{same_prefix};
 
 use crate::holding::{is_held, is_link_local, least_end};
 use crate::on_link::OnLink;
 use nd_addr::{Addr, Prefix};
 use nd_decode::Options;
-use nd_standing::{Kept, Limit, Standing, TableRefusal, announce_all, fits_all};
+use nd_lifetime::{Kept, Limit, Standing, TableRefusal, announce_all, fits_all};
 use std::alloc::{AllocError, Allocator};
 use std::marker::Model;
 
@@ -28,9 +28,9 @@ impl<A: Allocator> Model for Prefixes<A> {
     ghost use Rattle.std.specs.Prelude.{◌≤◌, List};
     ghost use Rattle.std.specs.Vec.{vec_len, vec_capacity};
     ghost use Rattle.nd_addr.specs.Prefix.{PrefixValue};
-    ghost use Rattle.nd_standing.specs.declared.kept.Kept.{Kept};
-    ghost use Rattle.nd_standing.specs.Listing.{Distinct};
-    ghost use Rattle.nd_standing.specs.Same.{same_prefix};
+    ghost use Rattle.nd_lifetime.specs.declared.kept.Kept.{Kept};
+    ghost use Rattle.nd_lifetime.specs.Listing.{Distinct};
+    ghost use Rattle.nd_lifetime.specs.Same.{same_prefix};
 
     ghost Value = { List (Kept PrefixValue) };
 

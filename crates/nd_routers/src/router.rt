@@ -2,8 +2,8 @@ ghost use Rattle.std.specs.Prelude.{◌≡◌};
 ghost use Rattle.nd_addr.specs.Number.{number_of};
 
 use nd_addr::Addr;
-use nd_keyed::compare;
-use nd_standing::Names;
+use nd_table::compare;
+use nd_lifetime::Names;
 use std::marker::Model;
 
 /// A default router, by its address.

@@ -1,9 +1,9 @@
 ghost use Rattle.std.specs.Prelude.{◌≡◌, ◌≢◌, ◌≤◌, ◌<◌, ◌^◌, ◌↔◌, ◌∷◌, ℕ, List, [], IfOk, IfErr, OnOk, OnErr, IsErr, IfSome, IfNone, Some, false, is_some, length, map, slice_get};
 ghost use Rattle.std.specs.Option.{option_map};
 ghost use Rattle.nd_addr.specs.Number.{number_of};
-ghost use Rattle.nd_standing.specs.Rows.{stands};
-ghost use Rattle.nd_standing.specs.Listing.{end_in, open_at, fits, Lists};
-ghost use Rattle.nd_standing.specs.Left.{left};
+ghost use Rattle.nd_lifetime.specs.Rows.{stands};
+ghost use Rattle.nd_lifetime.specs.Listing.{end_in, open_at, fits, Lists};
+ghost use Rattle.nd_lifetime.specs.Left.{left};
 
 use crate::change::{Change, change_by};
 use crate::due::first_due;
@@ -11,8 +11,8 @@ use crate::failures::{forget, place};
 use crate::listed::Listed;
 use crate::router::Router;
 use nd_addr::Addr;
-use nd_keyed::next_date;
-use nd_standing::{Kept, Limit, Standing, TableRefusal, announce, count, has, remove, stands};
+use nd_table::next_date;
+use nd_lifetime::{Kept, Limit, Standing, TableRefusal, announce, count, has, remove, stands};
 use std::alloc::{AllocError, Allocator};
 use std::marker::Model;
 

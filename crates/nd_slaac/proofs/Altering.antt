@@ -1,6 +1,6 @@
 -- What calls that change one address, or let one in, add to the rows.
 use Rattle.std.proofs.Common.{◌≡◌, ℕ, List, ◌∷◌, Some, None, refl, ◌∙◌}
-use Rattle.nd_keyed.proofs.Keyed.{key_is, put_in}
+use Rattle.nd_table.proofs.Keyed.{key_is, put_in}
 use Rattle.nd_slaac.specs.Rows as rows
 use Rattle.nd_slaac.specs.Rows.{Happening, Row, Story, is_end, Lifetimes}
 use Rattle.nd_slaac.specs.Address.{Address, address_of}

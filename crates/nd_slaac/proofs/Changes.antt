@@ -1,10 +1,10 @@
 -- What one more row makes of an address.
 use Rattle.std.proofs.Common.{◌≡◌, ℕ, ◌+◌, ◌*◌, Bool, true, false, ltb, ◌∷◌, Option, Some, None, refl, sym, ◌∙◌, ap, subst, arith, inl, inr}
-use Rattle.nd_keyed.proofs.Cases.{either}
+use Rattle.nd_table.proofs.Cases.{either}
 use Rattle.nd_slaac.specs.declared.stage.Stage.TheVariants.{Detecting}
 use Rattle.nd_slaac.specs.Rows as rows
 use Rattle.nd_slaac.specs.Rows.{Story, Lifetimes}
-use Rattle.nd_keyed.specs.Ends.{end_time}
+use Rattle.nd_table.specs.Ends.{end_time}
 use Rattle.nd_slaac.specs.Ends.{renewed, preferred_end, valid_end}
 use Rattle.nd_slaac.specs.State.{Forming, forming_of, has_conflict, was_assigned, sent_of}
 use Rattle.nd_slaac.specs.Address.{Address, step_at, stage_by, address_by, address_of}

@@ -4,8 +4,8 @@ use Rattle.std.specs.Prelude.{is_some, ◌&&◌, not}
 use Rattle.std.specs.List.{remove}
 use Rattle.std.proofs.lemmas.Bool.Decides.{nat_tests}
 use Rattle.std.proofs.lemmas.Bool.{true≢false}
-use Rattle.nd_keyed.specs.Due.{NotBefore}
-use Rattle.nd_keyed.proofs.Cases.{either}
+use Rattle.nd_table.specs.Due.{NotBefore}
+use Rattle.nd_table.proofs.Cases.{either}
 use Rattle.nd_slaac.specs.declared.stage.Stage.{Stage}
 use Rattle.nd_slaac.specs.declared.stage.Stage.TheVariants.{Detecting, Failed, Passed}
 use Rattle.nd_slaac.specs.Rows.{Row, Story, story, is_end}
@@ -15,7 +15,7 @@ use Rattle.nd_slaac.specs.Table.{key_of, address_in, Stands, GainsRow}
 use Rattle.nd_slaac.specs.Due.{transmits, Falls, Ends, Solicits, Assigns, IsStep, date_by, IsDue, key_in, pass_of, NotAfter, IsFirst, FirstDue, NextDue, happens, due_row}
 use Rattle.nd_slaac.specs.Dates.{earlier, end_date, stage_date, next_step, first_at, next_in, NoneBefore, falls_by, stage_after, stepped, Turns, Goes, Steps, Rests, turns_to, turns_left}
 use Rattle.nd_slaac.specs.History.{IsTurn, MayCome}
-use Rattle.nd_keyed.proofs.Due.{AtMost, AtMost-some, AtMost-none, due_now, due_has, due_least, none_due, least_at_most, least_found, lesser_is, NotBefore-both, NotBefore-set, NotBefore-remove}
+use Rattle.nd_table.proofs.Due.{AtMost, AtMost-some, AtMost-none, due_now, due_has, due_least, none_due, least_at_most, least_found, lesser_is, NotBefore-both, NotBefore-set, NotBefore-remove}
 use Rattle.nd_slaac.proofs.First.{at_most_end, at_most_step, NoneBefore-at}
 use Rattle.nd_slaac.proofs.Stories.{made, was_formed, known_forming, formed_is, steps}
 use Rattle.nd_slaac.proofs.Changes.{when_stepped}

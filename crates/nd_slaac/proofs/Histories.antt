@@ -3,9 +3,9 @@ use Rattle.std.proofs.Common.{◌≡◌, ℕ, ◌+◌, ◌-◌, ◌*◌, ◌<◌
 use Rattle.std.specs.Prelude.{◌&&◌, not}
 use Rattle.std.proofs.lemmas.Bool.Decides.{nat_tests}
 use Rattle.std.proofs.lemmas.Bool.{true≢false, eqb-true, eq-eqb}
-use Rattle.nd_keyed.proofs.Cases.{either}
+use Rattle.nd_table.proofs.Cases.{either}
 use Rattle.nd_slaac.specs.Rows.{Happening, Formed, Announced, Solicited, Conflict, Assigned, Ended, Lifetimes, Row, Story, story, is_end}
-use Rattle.nd_keyed.specs.Ends.{is_before}
+use Rattle.nd_table.specs.Ends.{is_before}
 use Rattle.nd_slaac.specs.Ends.{valid_end}
 use Rattle.nd_slaac.specs.State.{Forming, forming_of, is_known, has_conflict, was_assigned, sent_of, is_tentative, is_assigned}
 use Rattle.nd_slaac.specs.Address.{step_at}

@@ -1,8 +1,8 @@
 -- The numbers of the addresses of a list.
 use Rattle.std.proofs.Common.{◌≡◌, ℕ, ◌<◌, Bool, true, false, eqb, ltb, List, [], ◌∷◌, length, get_or, set, Option, Some, None, refl, sym, ◌∙◌, ap, arith, suc, zero, add-one, inl, inr}
 use Rattle.std.specs.Prelude.{is_some, slice_get, IfSome, IfNone, ◌||◌}
-use Rattle.nd_keyed.proofs.Cases.{either}
-use Rattle.nd_keyed.proofs.Keyed.{put_in}
+use Rattle.nd_table.proofs.Cases.{either}
+use Rattle.nd_table.proofs.Keyed.{put_in}
 use Rattle.nd_slaac.specs.Address.{Address}
 use Rattle.nd_slaac.specs.Table.{key_of, address_in}
 use Rattle.nd_slaac.specs.Announcing.{is_among}

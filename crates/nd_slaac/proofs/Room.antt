@@ -5,8 +5,8 @@ use Rattle.std.proofs.lemmas.Bool.Decides.{nat_tests}
 use Rattle.std.proofs.lemmas.Bool.{true≢false, eqb-true, eq-eqb}
 use Rattle.nd_addr.specs.declared.mac.Mac.{Mac}
 use Rattle.nd_decode.specs.declared.prefix_info.PrefixInfo.{PrefixInfo}
-use Rattle.nd_keyed.proofs.Cases.{either}
-use Rattle.nd_keyed.proofs.Keyed.{put_in}
+use Rattle.nd_table.proofs.Cases.{either}
+use Rattle.nd_table.proofs.Keyed.{put_in}
 use Rattle.nd_slaac.specs.declared.taken.Taken.{Taken}
 use Rattle.nd_slaac.specs.declared.taken.Taken.TheVariants.{Formed, Renewed, Ignored}
 use Rattle.nd_slaac.specs.declared.taken.Full.{Full}

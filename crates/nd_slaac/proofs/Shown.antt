@@ -2,7 +2,7 @@
 use Rattle.std.proofs.Common.{◌≡◌, ℕ, Bool, true, false, cond, List, Option, Some, None, refl, ◌∙◌, ap}
 use Rattle.std.specs.Prelude.{map, is_some}
 use Rattle.std.specs.Option.{option_map}
-use Rattle.nd_keyed.proofs.Mapped.{at_key-map, Rises-map}
+use Rattle.nd_table.proofs.Mapped.{at_key-map, Rises-map}
 use Rattle.nd_slaac.specs.Rows.{Row, story}
 use Rattle.nd_slaac.specs.Ends.{preferred_end, valid_end}
 use Rattle.nd_slaac.specs.State.{Forming, forming_of, has_conflict, was_assigned, sent_of, state_by}

@@ -2,8 +2,8 @@
 use Rattle.std.proofs.Common.{◌≡◌, ℕ, ◌<◌, false, cond, eqb, List, [], ◌∷◌, length, get_or, set, Option, Some, None, refl, sym, ◌∙◌, ap, subst, inl, inr}
 use Rattle.std.specs.List.{remove}
 use Rattle.std.proofs.lemmas.Bool.{eqb-true, eq-eqb, cond-true, cond-false}
-use Rattle.nd_keyed.proofs.Cases.{either}
-use Rattle.nd_keyed.proofs.Keyed.{at_key-set, Rises-set, at_key-remove, Rises-remove, put_in, at_key-put, Rises-put}
+use Rattle.nd_table.proofs.Cases.{either}
+use Rattle.nd_table.proofs.Keyed.{at_key-set, Rises-set, at_key-remove, Rises-remove, put_in, at_key-put, Rises-put}
 use Rattle.nd_slaac.specs.Rows.{Happening, Ended, is_end, Row, Story, story}
 use Rattle.nd_slaac.specs.Address.{Address, address_of}
 use Rattle.nd_slaac.specs.Table.{key_of, address_in, Stands, GainsRow}

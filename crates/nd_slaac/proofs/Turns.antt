@@ -9,7 +9,7 @@ use Rattle.nd_slaac.specs.Address.{Address}
 use Rattle.nd_slaac.specs.Due.{Falls, Ends}
 use Rattle.nd_slaac.specs.Dates.{end_date, next_step, stage_date, first_at, falls_by, stepped, Turns, Goes, Steps}
 use Rattle.nd_slaac.specs.Calls.{is_detecting}
-use Rattle.nd_keyed.proofs.Due.{due_now}
+use Rattle.nd_table.proofs.Due.{due_now}
 
 first_is : (date : Address → Option ℕ) (now : ℕ) (xs : List Address) (i : ℕ) (a : Address) → i < length xs → first_at date now xs ≡ slice_get xs i → a ≡ get_or xs i a → first_at date now xs ≡ Some a
 first_is date now xs i a lt first is = first ∙ (slice_get-get_or xs i a lt ∙ ap Some (sym is))

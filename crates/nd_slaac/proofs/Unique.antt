@@ -1,6 +1,6 @@
 -- One table stands for the rows, and one thing falls due first.
 use Rattle.std.proofs.Common.{◌≡◌, ℕ, List, Option, Some, None, refl, sym, ◌∙◌, ap, arith, inl, inr}
-use Rattle.nd_keyed.proofs.Unique.{one_list}
+use Rattle.nd_table.proofs.Unique.{one_list}
 use Rattle.nd_slaac.specs.Rows.{Row, story}
 use Rattle.nd_slaac.specs.State.{sent_of}
 use Rattle.nd_slaac.specs.Address.{Address}

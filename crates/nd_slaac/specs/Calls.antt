@@ -2,7 +2,7 @@
 use Rattle.std.specs.Prelude.{◌≡◌, ℕ, ◌+◌, ◌==◌, nat_lt, Bool, true, false, if◌then◌else◌, List, length, map, ◌<◌, slice_index_or, slice_set, Option, Some, None, Result, Ok, Err}
 use Rattle.std.specs.List.{insert}
 use Rattle.nd_addr.specs.declared.mac.Mac.{Mac}
-use Rattle.nd_keyed.specs.Keyed.{place_of}
+use Rattle.nd_table.specs.Keyed.{place_of}
 use Rattle.nd_decode.specs.declared.prefix_info.PrefixInfo.{PrefixInfo}
 use Rattle.nd_slaac.specs.declared.stage.Stage.{Stage}
 use Rattle.nd_slaac.specs.declared.stage.Stage.TheVariants.{Detecting, Failed, Passed}
@@ -11,7 +11,7 @@ use Rattle.nd_slaac.specs.declared.taken.Taken.TheVariants.{Formed, Renewed, Ign
 use Rattle.nd_slaac.specs.declared.taken.Full.{Full}
 use Rattle.nd_slaac.specs.Rows as rows
 use Rattle.nd_slaac.specs.Rows.{Row, Lifetimes, Happening}
-use Rattle.nd_keyed.specs.Ends.{end_time}
+use Rattle.nd_table.specs.Ends.{end_time}
 use Rattle.nd_slaac.specs.Ends.{renewed}
 use Rattle.nd_slaac.specs.Address.{Address}
 use Rattle.nd_slaac.specs.Table.{key_of, address_in, GainsRow}

@@ -1,8 +1,8 @@
 -- The same of what is kept: the dates of addresses, the first that falls due, and the next moment.
 use Rattle.std.specs.Prelude.{◌≡◌, ℕ, ◌+◌, ◌-◌, ◌<◌, nat_lt, if◌then◌else◌, List, [], ◌∷◌, length, slice_index_or, slice_set, Option, Some, None}
 use Rattle.std.specs.List.{remove}
-use Rattle.nd_keyed.specs.Due as due
-use Rattle.nd_keyed.specs.Due.{lesser, least_date, NotBefore}
+use Rattle.nd_table.specs.Due as due
+use Rattle.nd_table.specs.Due.{lesser, least_date, NotBefore}
 use Rattle.nd_slaac.specs.declared.stage.Stage.{Stage}
 use Rattle.nd_slaac.specs.declared.stage.Stage.TheVariants.{Detecting, Failed, Passed}
 use Rattle.nd_slaac.specs.Address.{Address}

@@ -1,6 +1,6 @@
 -- When the lifetimes of an address end (RFC 4862, sections 5.5.3 and 5.5.4).
 use Rattle.std.specs.Prelude.{ℕ, ◌+◌, ◌*◌, nat_lt, min, max, if◌then◌else◌, [], ◌∷◌, Option, Some, None}
-use Rattle.nd_keyed.specs.Ends.{end_time}
+use Rattle.nd_table.specs.Ends.{end_time}
 use Rattle.nd_slaac.specs.Rows.{Story, Formed, Announced}
 
 -- the end that is there, or two hours from now where that is earlier

@@ -2,7 +2,7 @@
 use Rattle.std.specs.Prelude.{◌≡◌, ℕ, ◌+◌, ◌*◌, ◌<◌, ◌≤◌, ◌⊎◌, true, false, List, [], ◌∷◌, Option, Some}
 use Rattle.nd_slaac.specs.Rows.{Lifetimes, Row, story, Formed, Announced, Solicited, Conflict, Assigned, Ended}
 use Rattle.nd_slaac.specs.State.{is_known, is_tentative, is_assigned}
-use Rattle.nd_keyed.specs.Ends.{is_before}
+use Rattle.nd_table.specs.Ends.{is_before}
 use Rattle.nd_slaac.specs.Ends.{valid_end}
 use Rattle.nd_slaac.specs.Due.{transmits, Falls, Ends, Solicits, Assigns, IsDue, FirstDue}
 

@@ -1,6 +1,6 @@
 -- What is shown of an address at a moment.
 use Rattle.std.specs.Prelude.{◌≡◌, ℕ, ◌-◌, if◌then◌else◌, List, Option, Some, None}
-use Rattle.nd_keyed.specs.Keyed.{at_key, Rises}
+use Rattle.nd_table.specs.Keyed.{at_key, Rises}
 use Rattle.nd_slaac.specs.declared.state.State.{State}
 use Rattle.nd_slaac.specs.Rows.{Row, Story, story}
 use Rattle.nd_slaac.specs.Ends.{preferred_end, valid_end}

@@ -3,7 +3,7 @@ use Rattle.std.specs.Prelude.{ℕ, ◌+◌, Bool, true, false, ◌&&◌, not, if
 use Rattle.nd_slaac.specs.declared.state.State.{State}
 use Rattle.nd_slaac.specs.declared.state.State.TheVariants.{Tentative, Preferred, Deprecated, Duplicate}
 use Rattle.nd_slaac.specs.Rows.{Story, Formed, Solicited, Conflict, Assigned}
-use Rattle.nd_keyed.specs.Ends.{is_before}
+use Rattle.nd_table.specs.Ends.{is_before}
 use Rattle.nd_slaac.specs.Ends.{preferred_end}
 
 -- how an address was formed: when, how long its first solicitation waits, and the RetransTimer in force then

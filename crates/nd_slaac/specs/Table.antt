@@ -1,7 +1,7 @@
 -- What a table of addresses is to what happened to them.
 use Rattle.std.specs.Prelude.{◌≡◌, ℕ, List, ◌∷◌, Option}
 use Rattle.nd_addr.specs.declared.mac.Mac.{Mac}
-use Rattle.nd_keyed.specs.Keyed.{at_key, Rises}
+use Rattle.nd_table.specs.Keyed.{at_key, Rises}
 use Rattle.nd_slaac.specs.Rows.{Row, story}
 use Rattle.nd_slaac.specs.Address.{Address, address_of}
 

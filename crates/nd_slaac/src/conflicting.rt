@@ -5,7 +5,7 @@ ghost use Rattle.nd_slaac.specs.Calls.{Alters, failed, detects_in};
 
 use crate::entry::Entry;
 use nd_addr::Addr;
-use nd_keyed::find;
+use nd_table::find;
 use std::alloc::Allocator;
 
 /// Another node has an address, or tries for it: where its detection goes on, it fails.

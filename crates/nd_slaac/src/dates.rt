@@ -3,7 +3,7 @@ ghost use Rattle.nd_slaac.specs.Dates.{next_in};
 
 use crate::entry::Entry;
 use crate::stage::Stage;
-use nd_keyed::{Dated, lesser, next_date};
+use nd_table::{Dated, lesser, next_date};
 
 /// The date at which the valid lifetime of an address ends.
 pub(crate) struct ValidEnd;

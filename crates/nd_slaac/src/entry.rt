@@ -9,7 +9,7 @@ use crate::stage::Stage;
 use crate::state::State;
 use nd_addr::Addr;
 use nd_decode::PrefixInfo;
-use nd_keyed::{Addressed, end_time, is_before};
+use nd_table::{Addressed, end_time, is_before};
 use std::marker::Model;
 
 /// How many solicitations a detection sends (RFC 4862, section 5.1, DupAddrDetectTransmits).

@@ -9,7 +9,7 @@ use crate::announcing::{is_taken, named_by};
 use crate::entry::Entry;
 use nd_addr::{Addr, Mac};
 use nd_decode::{OptionRef, Options, PrefixInfo};
-use nd_keyed::{compare, find};
+use nd_table::{compare, find};
 
 /// Whether an address is known.
 fn is_known(entries: &[Entry], addr: Addr) -> bool

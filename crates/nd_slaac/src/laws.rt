@@ -2,7 +2,7 @@
 
 ghost use Rattle.std.specs.Prelude.{◌≡◌, ◌<◌, ℕ, List, Option, true};
 ghost use Rattle.nd_slaac.specs.Rows.{Row, story};
-ghost use Rattle.nd_keyed.specs.Ends.{is_before};
+ghost use Rattle.nd_table.specs.Ends.{is_before};
 ghost use Rattle.nd_slaac.specs.Ends.{valid_end};
 ghost use Rattle.nd_slaac.specs.State.{is_known, is_assigned};
 ghost use Rattle.nd_slaac.specs.Address.{Address};

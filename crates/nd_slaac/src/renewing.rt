@@ -1,7 +1,7 @@
 ghost use Rattle.std.specs.Prelude.{◌≡◌, ◌<◌, ◌^◌};
 ghost use Rattle.nd_slaac.specs.Ends.{within_two_hours, renewed};
 
-use nd_keyed::end_time;
+use nd_table::end_time;
 
 /// Two hours, in seconds (RFC 4862, section 5.5.3 e).
 const TWO_HOURS: u32 = 7200;

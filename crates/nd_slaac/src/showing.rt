@@ -9,7 +9,7 @@ use crate::entry::Entry;
 use crate::own_address::OwnAddress;
 use crate::state::State;
 use nd_addr::Addr;
-use nd_keyed::find;
+use nd_table::find;
 use std::alloc::{AllocError, Allocator};
 
 /// The state of an entry that may be there.

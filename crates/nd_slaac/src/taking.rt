@@ -10,7 +10,7 @@ use crate::entry::Entry;
 use crate::taken::{Full, Taken};
 use nd_addr::Addr;
 use nd_decode::PrefixInfo;
-use nd_keyed::{find, put};
+use nd_table::{find, put};
 use std::alloc::Allocator;
 
 /// An option that is taken, for the address that it names (RFC 4862, section 5.5.3 d and e).

@@ -5,7 +5,7 @@ ghost use Rattle.nd_slaac.specs.View.{falls_of};
 use crate::dates::{NextStep, ValidEnd};
 use crate::due::Due;
 use crate::entry::Entry;
-use nd_keyed::{Addressed, first_at};
+use nd_table::{Addressed, first_at};
 use std::alloc::Allocator;
 
 /// The first entry whose valid lifetime ends now goes; where there is none, the first whose detection has a step now

@@ -1,7 +1,7 @@
 use Rattle.std.proofs.Common.{◌≡◌, ◌≤◌, true, length}
 use Rattle.std.specs.Prelude.{vec_len, vec_capacity}
 use Rattle.std.specs.Vec.Iter.{into_iter_items}
-use Rattle.nd_standing.specs.Listing.{announced_all, fits, entered}
+use Rattle.nd_lifetime.specs.Listing.{announced_all, fits, entered}
 use Rattle.nd_dns.specs.Names.{same_name, names_to_come}
 use Rattle.nd_dns.proofs.announcing.announce_names.Given as goal
 

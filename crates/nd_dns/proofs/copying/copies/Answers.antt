@@ -1,9 +1,9 @@
 use Rattle.std.proofs.Common.{◌≡◌, ◌∙◌, ap, sym, refl, arith, cond, eqb, ◌&&◌, not, ℕ, ◌+◌, List, [], ◌∷◌, ◌++◌, take}
 use Rattle.std.specs.Prelude.{is_some}
-use Rattle.nd_names.specs.NameRef.{name_of}
-use Rattle.nd_standing.specs.Listing.{entered, behind, end_in}
-use Rattle.nd_standing.specs.Same.{bytes_tell}
-use Rattle.nd_standing.proofs.Behind.{entered_open, entered_more, next_is}
+use Rattle.nd_search_list.specs.NameRef.{name_of}
+use Rattle.nd_lifetime.specs.Listing.{entered, behind, end_in}
+use Rattle.nd_lifetime.specs.Same.{bytes_tell}
+use Rattle.nd_lifetime.proofs.Behind.{entered_open, entered_more, next_is}
 use Rattle.nd_dns.specs.Names.{same_name, names_to_come}
 use Rattle.nd_dns.proofs.Adding.{one_more}
 use Rattle.nd_dns.proofs.copying.copies.Goals as goal

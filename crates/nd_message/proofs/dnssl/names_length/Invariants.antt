@@ -1,6 +1,6 @@
 use Rattle.std.proofs.Common.{◌≡◌, ◌+◌, ◌≤◌, ◌↔◌, length, map, drop}
 use Rattle.std.specs.List.{AllByRecursion}
-use Rattle.nd_names.specs.Name.{IsName}
+use Rattle.nd_search_list.specs.Name.{IsName}
 use Rattle.nd_message.specs.Owned.{labels_of}
 use Rattle.nd_message.specs.Dnssl.{names_data}
 use Rattle.nd_message.proofs.dnssl.names_length.Given as goal

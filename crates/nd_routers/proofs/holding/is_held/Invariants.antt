@@ -1,7 +1,7 @@
 use Rattle.std.proofs.Common.{◌≡◌}
 use Rattle.std.specs.List.{list_any}
 use Rattle.nd_addr.specs.Number.{holds}
-use Rattle.nd_standing.specs.Left.{left}
+use Rattle.nd_lifetime.specs.Left.{left}
 use Rattle.nd_routers.proofs.holding.is_held.Given as goal
 
 -- one of the rest holds it where one of all does

@@ -1,6 +1,6 @@
 use Rattle.std.proofs.Common.{◌≡◌}
-use Rattle.nd_standing.specs.Left.{left}
-use Rattle.nd_keyed.specs.Due.{lesser}
+use Rattle.nd_lifetime.specs.Left.{left}
+use Rattle.nd_table.specs.Due.{lesser}
 use Rattle.nd_routers.specs.Prefixes.{least_end}
 use Rattle.nd_routers.proofs.holding.least_end.Given as goal
 

@@ -1,6 +1,6 @@
 use Rattle.std.proofs.Common.{sym, ◌∙◌, ap}
-use Rattle.nd_keyed.specs.Due.{lesser, least_date}
-use Rattle.nd_keyed.proofs.Due.{least_both}
+use Rattle.nd_table.specs.Due.{lesser, least_date}
+use Rattle.nd_table.proofs.Due.{least_both}
 use Rattle.nd_slaac.specs.Dates.{end_date, next_step}
 use Rattle.nd_slaac.proofs.dates.next.Goals as goal
 

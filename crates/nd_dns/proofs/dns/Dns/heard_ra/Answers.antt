@@ -1,11 +1,11 @@
 use Rattle.std.proofs.Common.{◌≡◌, ◌∙◌, sym, ap, subst, arith, List, ℕ}
 use Rattle.nd_addr.specs.declared.addr.Addr.{Addr}
 use Rattle.nd_decode.specs.Pieces.{options_left}
-use Rattle.nd_standing.specs.declared.kept.Kept.{Kept}
-use Rattle.nd_standing.specs.Listing.{Distinct, StandsSilently, announced_all, heard_rows}
-use Rattle.nd_standing.specs.Same.{same_addr, addrs_tell, bytes_tell}
-use Rattle.nd_standing.proofs.Behind.{Distinct-all}
-use Rattle.nd_standing.proofs.Steps.{gains_all}
+use Rattle.nd_lifetime.specs.declared.kept.Kept.{Kept}
+use Rattle.nd_lifetime.specs.Listing.{Distinct, StandsSilently, announced_all, heard_rows}
+use Rattle.nd_lifetime.specs.Same.{same_addr, addrs_tell, bytes_tell}
+use Rattle.nd_lifetime.proofs.Behind.{Distinct-all}
+use Rattle.nd_lifetime.proofs.Steps.{gains_all}
 use Rattle.nd_dns.specs.Dns.{Heard}
 use Rattle.nd_dns.specs.Servers.{servers_told, servers_to_come}
 use Rattle.nd_dns.specs.Names.{same_name, names_told, names_to_come}

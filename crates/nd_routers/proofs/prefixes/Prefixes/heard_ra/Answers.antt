@@ -1,11 +1,11 @@
 use Rattle.std.proofs.Common.{◌∙◌, sym, ap, subst, arith, List}
 use Rattle.nd_addr.specs.Prefix.{PrefixValue}
 use Rattle.nd_decode.specs.Pieces.{options_left}
-use Rattle.nd_standing.specs.declared.kept.Kept.{Kept}
-use Rattle.nd_standing.specs.Listing.{Distinct, StandsSilently, announced_all, heard_rows}
-use Rattle.nd_standing.specs.Same.{same_prefix, prefixes_tell}
-use Rattle.nd_standing.proofs.Behind.{Distinct-all}
-use Rattle.nd_standing.proofs.Steps.{gains_all}
+use Rattle.nd_lifetime.specs.declared.kept.Kept.{Kept}
+use Rattle.nd_lifetime.specs.Listing.{Distinct, StandsSilently, announced_all, heard_rows}
+use Rattle.nd_lifetime.specs.Same.{same_prefix, prefixes_tell}
+use Rattle.nd_lifetime.proofs.Behind.{Distinct-all}
+use Rattle.nd_lifetime.proofs.Steps.{gains_all}
 use Rattle.nd_routers.specs.OnLink.{prefixes_in}
 use Rattle.nd_routers.proofs.prefixes.Prefixes.heard_ra.Goals as goal
 

@@ -3,10 +3,10 @@ use Rattle.std.specs.Prelude.{◌||◌}
 use Rattle.std.specs.List.{list_any}
 use Rattle.nd_addr.specs.Number.{holds}
 use Rattle.nd_addr.specs.Prefix.{PrefixValue}
-use Rattle.nd_standing.specs.declared.kept.Kept.{Kept}
-use Rattle.nd_standing.specs.Listing.{open_at}
-use Rattle.nd_standing.specs.Same.{same_prefix, prefixes_tell}
-use Rattle.nd_standing.proofs.Unique.{one_listing}
+use Rattle.nd_lifetime.specs.declared.kept.Kept.{Kept}
+use Rattle.nd_lifetime.specs.Listing.{open_at}
+use Rattle.nd_lifetime.specs.Same.{same_prefix, prefixes_tell}
+use Rattle.nd_lifetime.proofs.Unique.{one_listing}
 use Rattle.nd_routers.proofs.prefixes.Prefixes.on_link.Goals as goal
 
 pub returns-else-is_link_local-clause-by_rows : goal.returns-else-is_link_local-clause-by_rows

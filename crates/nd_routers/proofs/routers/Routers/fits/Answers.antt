@@ -2,8 +2,8 @@ use Rattle.std.proofs.Common.{◌∙◌, ap, arith, ◌≤◌, length}
 use Rattle.std.specs.Prelude.{is_some}
 use Rattle.std.proofs.lemmas.Bool.Decides.{eqb_tells, nat_tests}
 use Rattle.nd_addr.specs.Number.{number_of}
-use Rattle.nd_standing.specs.Listing.{end_in, open_at}
-use Rattle.nd_standing.proofs.Steps.{announced_length}
+use Rattle.nd_lifetime.specs.Listing.{end_in, open_at}
+use Rattle.nd_lifetime.proofs.Steps.{announced_length}
 use Rattle.nd_routers.specs.Routers.{same}
 use Rattle.nd_routers.proofs.routers.Routers.fits.Goals as goal
 

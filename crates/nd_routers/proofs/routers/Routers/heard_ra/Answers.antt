@@ -3,8 +3,8 @@ use Rattle.std.specs.Prelude.{is_some}
 use Rattle.std.proofs.lemmas.Bool.{ne_eqb}
 use Rattle.std.proofs.lemmas.Bool.Decides.{nat_tests}
 use Rattle.nd_addr.specs.Number.{number_of}
-use Rattle.nd_standing.specs.declared.kept.Kept.{Kept}
-use Rattle.nd_standing.specs.Listing.{end_in, announced}
+use Rattle.nd_lifetime.specs.declared.kept.Kept.{Kept}
+use Rattle.nd_lifetime.specs.Listing.{end_in, announced}
 use Rattle.nd_routers.specs.Happenings.{Heard}
 use Rattle.nd_routers.specs.Failures.{others}
 use Rattle.nd_routers.specs.Routers.{same, IsSettled, Gains}

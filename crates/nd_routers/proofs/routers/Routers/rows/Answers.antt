@@ -1,8 +1,8 @@
 use Rattle.std.proofs.Common.{◌∙◌, sym, ap, subst, List, ℕ}
 use Rattle.std.proofs.lemmas.Bool.Decides.{eqb_tells}
-use Rattle.nd_standing.specs.declared.kept.Kept.{Kept}
-use Rattle.nd_standing.specs.Listing.{open_at, Lists}
-use Rattle.nd_standing.proofs.Steps.{lists_at}
+use Rattle.nd_lifetime.specs.declared.kept.Kept.{Kept}
+use Rattle.nd_lifetime.specs.Listing.{open_at, Lists}
+use Rattle.nd_lifetime.proofs.Steps.{lists_at}
 use Rattle.nd_routers.specs.Happenings.{announcements}
 use Rattle.nd_routers.specs.Routers.{same}
 use Rattle.nd_routers.proofs.routers.Routers.rows.Goals as goal

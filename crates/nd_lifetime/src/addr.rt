@@ -1,0 +1,20 @@
+use crate::names::Names;
+use nd_addr::Addr;
+
+impl Names<Addr> for Addr {
+    ghost use Rattle.nd_lifetime.specs.Same.{same_addr, addrs_tell};
+
+    ghost named = { λ a. a };
+
+    ghost same = { same_addr };
+
+    fn names(&self, key: &Addr) -> bool {
+        key == self
+    }
+
+    fn names_same(&self, other: &Addr) -> bool {
+        other == self
+    }
+
+    ghost tells = { addrs_tell };
+}

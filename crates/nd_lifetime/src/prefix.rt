@@ -1,0 +1,20 @@
+use crate::names::Names;
+use nd_addr::Prefix;
+
+impl Names<Prefix> for Prefix {
+    ghost use Rattle.nd_lifetime.specs.Same.{same_prefix, prefixes_tell};
+
+    ghost named = { λ p. p };
+
+    ghost same = { same_prefix };
+
+    fn names(&self, key: &Prefix) -> bool {
+        key.length() == self.length() && key.address() == self.address()
+    }
+
+    fn names_same(&self, other: &Prefix) -> bool {
+        self.names(other)
+    }
+
+    ghost tells = { prefixes_tell };
+}

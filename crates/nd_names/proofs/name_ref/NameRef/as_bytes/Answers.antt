@@ -1,5 +1,0 @@
-use Rattle.nd_names.proofs.Labels.{spelled_says}
-use Rattle.nd_names.proofs.name_ref.NameRef.as_bytes.Goals as goal
-
-pub returns-clause-spelled : goal.returns-clause-spelled
-returns-clause-spelled c = spelled_says c.args.self.now.bytes.now c.args.self.now.spelled

@@ -1,0 +1,98 @@
+ghost use Rattle.std.specs.Prelude.{◌≡◌, ◌+◌, ◌<◌, ℕ, List, MatchOption, IfSome, length, take, drop, true, false};
+ghost use Rattle.std.specs.Option.{IsSomeAnd};
+ghost use Rattle.nd_search_list.specs.NameRef.{bytes_of, name_of};
+ghost use Rattle.nd_search_list.specs.Reading.{name_length};
+ghost use Rattle.nd_search_list.specs.Names.{SpellsNames, names_in, rest_in, spells_names, names_left};
+
+use crate::name_ref::NameRef;
+use crate::reading::{are_zeros, name_length};
+
+/// The names that some bytes spell, in their order (RFC 8106, section 5.2).
+#[derive(Clone, Copy, Debug)]
+pub struct Names<'a> {
+    rest: &'a [u8],
+}
+
+impl<'a> Names<'a> {
+    /// The names in the data of a DNS Search List behind its lifetime: at least one name, and then zeros to the end, or nothing. There
+    /// are none where a label has another byte than letters, digits, hyphens and underscores or is longer than 63 bytes, a name is longer
+    /// than 255 bytes with its zero byte or runs out, or the padding has another byte.
+    pub fn read(bytes: &'a [u8]) -> Option<Names<'a>>
+        // What is answered is spelled so, and where some names are spelled, these are answered.
+        ensures found { IfSome result (λ n. SpellsNames bytes.entry.now (names_left n)) }
+        ensures only { (ns : List (List ℕ)) → SpellsNames bytes.entry.now ns → IsSomeAnd result (λ n. names_left n ≡ ns) }
+        // The same by functions.
+        ensures exactly { MatchOption result (spells_names bytes.entry.now ≡ false) (λ n. (spells_names bytes.entry.now ≡ true) × (names_left n ≡ names_in bytes.entry.now)) }
+    {
+        Names::read_exactly(bytes)
+    }
+
+    /// How many names there are.
+    #[tactic(auto, using(crate::proofs::Walk::names_in_step, crate::proofs::Walk::names_in_stop))]
+    pub fn len(&self) -> usize
+        ensures { result ≡ length (names_left self.now) }
+    {
+        let mut count = 0;
+        let mut rest = self.rest;
+        while let Some((_, after)) = split_name(rest) {
+            count += 1;
+            rest = after;
+        }
+        count
+    }
+
+    /// The same, by the functions that decide it.
+    #[tactic(auto, using(crate::proofs::Deciding::fewer_left, crate::proofs::Deciding::all_left))]
+    fn read_exactly(bytes: &'a [u8]) -> Option<Names<'a>>
+        ensures { MatchOption result (spells_names bytes.entry.now ≡ false) (λ n. (spells_names bytes.entry.now ≡ true) × (names_left n ≡ names_in bytes.entry.now)) }
+    {
+        let padding = rest_in(bytes);
+        if padding.len() < bytes.len() && are_zeros(padding) {
+            Some(Names { rest: bytes })
+        } else {
+            None
+        }
+    }
+}
+
+impl<'a> Iterator for Names<'a> {
+    type Item = NameRef<'a>;
+
+    ghost use Rattle.std.specs.Iterator.{YieldsFirstBy, item_count};
+
+    ghost next_gives = { YieldsFirstBy name_of names_left };
+
+    ghost remaining = { item_count names_left };
+
+    #[tactic(auto, using(crate::proofs::Walk::names_in_step, crate::proofs::Walk::names_in_stop))]
+    fn next(&mut self) -> Option<NameRef<'a>> {
+        let (name, rest) = split_name(self.rest)?;
+        self.rest = rest;
+        Some(name)
+    }
+}
+
+/// The first name, and the bytes behind its zero byte, if they begin with one.
+fn split_name(bytes: &[u8]) -> Option<(NameRef<'_>, &[u8])>
+    ensures { MatchOption result (name_length bytes.now ≡ 0) (λ p. (0 < name_length bytes.now)
+        × (bytes_of p.0 ≡ take (name_length bytes.now) bytes.now) × (p.1.now ≡ drop (name_length bytes.now + 1) bytes.now) × (length p.1.now < length bytes.now)) }
+{
+    let length = name_length(bytes);
+    if length == 0 {
+        return None;
+    }
+    let (_, rest) = bytes.split_at(length + 1);
+    Some((NameRef::new(&bytes[..length]), rest))
+}
+
+/// The bytes where no more name begins.
+#[tactic(auto, using(crate::proofs::Walk::rest_in_step, crate::proofs::Walk::rest_in_stop))]
+fn rest_in(bytes: &[u8]) -> &[u8]
+    ensures { result.now ≡ rest_in bytes.now }
+{
+    let mut rest = bytes;
+    while let Some((_, after)) = split_name(rest) {
+        rest = after;
+    }
+    rest
+}

@@ -1,0 +1,27 @@
+ghost use Rattle.std.specs.Prelude.{◌≡◌, ◌<◌, ◌^◌};
+ghost use Rattle.nd_table.specs.Ends.{end_time, is_before};
+
+/// A lifetime without an end, in seconds (RFC 4861, section 4.6.2).
+const INFINITY: u32 = 0xffff_ffff;
+
+/// The end of a lifetime in seconds that begins now, both moments being in milliseconds. All ones have no end (RFC 4861, section 4.6.2).
+pub fn end_time(now: u64, lifetime: u32) -> Option<u64>
+    requires { now < 2 ^ 62 }
+    ensures { result ≡ end_time now lifetime }
+{
+    if lifetime == INFINITY {
+        None
+    } else {
+        Some(now + 1000 * u64::from(lifetime))
+    }
+}
+
+/// Whether a moment is before an end, if there is one, both in milliseconds.
+pub fn is_before(now: u64, end: Option<u64>) -> bool
+    ensures { result ≡ is_before now end }
+{
+    match end {
+        None => true,
+        Some(end) => now < end,
+    }
+}
