@@ -4,12 +4,12 @@ ghost use Rattle.nd_dns.specs.Names.{same_name, names_to_come};
 
 use crate::search_name::SearchName;
 use crate::told_names::ToldNames;
-use nd_lifetime::{Kept, announce, enters};
+use nd_lifetime::{Lasting, announce, enters};
 use std::alloc::Allocator;
 
 /// Takes the announcements of names of a message in order, with copies of those that enter. There is room for them.
 pub(crate) fn announce_names<A: Allocator>(
-    entries: &mut Vec<Kept<SearchName<A>>, A>,
+    entries: &mut Vec<Lasting<SearchName<A>>, A>,
     limit: usize,
     now: u64,
     announced: ToldNames<'_>,

@@ -4,13 +4,13 @@ ghost use Rattle.nd_dns.specs.Names.{same_name, names_to_come};
 
 use crate::search_name::SearchName;
 use crate::told_names::ToldNames;
-use nd_lifetime::{Kept, enters_behind};
+use nd_lifetime::{Lasting, enters_behind};
 use std::alloc::{AllocError, Allocator};
 
 /// Copies of the names that the announcements of a message enter, in their order. The error is want of memory.
 pub(crate) fn copies<A: Allocator + Clone>(
     alloc: &A,
-    entries: &[Kept<SearchName<A>>],
+    entries: &[Lasting<SearchName<A>>],
     now: u64,
     announced: ToldNames<'_>,
 ) -> Result<Vec<SearchName<A>, A>, AllocError>

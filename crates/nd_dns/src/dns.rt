@@ -2,10 +2,10 @@ ghost use Rattle.std.specs.Prelude.{◌≡◌, ◌≤◌, ◌<◌, ◌^◌, ◌�
 ghost use Rattle.std.specs.Result.{IsErrAnd};
 ghost use Rattle.nd_addr.specs.declared.addr.Addr.{Addr};
 ghost use Rattle.nd_decode.specs.Pieces.{options_left};
-ghost use Rattle.nd_lifetime.specs.declared.kept.Kept.{Kept};
-ghost use Rattle.nd_lifetime.specs.Rows.{Row, Cleared, last_moment};
-ghost use Rattle.nd_lifetime.specs.Listing.{open_at, fits, announced_all, heard_rows, Lists};
-ghost use Rattle.nd_lifetime.specs.Left.{left};
+ghost use Rattle.nd_lifetime.specs.declared.lasting.Lasting.{Lasting};
+ghost use Rattle.nd_lifetime.specs.History.{Row, Cleared, last_moment};
+ghost use Rattle.nd_lifetime.specs.Listing.{open_at, fits, announced_all, then_announced, Lists};
+ghost use Rattle.nd_lifetime.specs.Left.{standing_left};
 ghost use Rattle.nd_lifetime.specs.Same.{same_addr};
 
 use crate::announcing::announce_names;
@@ -16,7 +16,7 @@ use crate::told_names::ToldNames;
 use crate::told_servers::ToldServers;
 use nd_addr::Addr;
 use nd_decode::Options;
-use nd_lifetime::{Kept, Limit, Standing, TableRefusal, announce_all, fits_all};
+use nd_lifetime::{Lasting, Limit, Standing, TableRefusal, announce_all, fits_all};
 use std::alloc::{AllocError, Allocator};
 use std::marker::Model;
 
@@ -30,8 +30,8 @@ const MAX_NAMES: usize = 32;
 #[derive(Drop)]
 pub struct Dns<A: Allocator> {
     alloc: A,
-    servers: Vec<Kept<Addr>, A>,
-    names: Vec<Kept<SearchName<A>>, A>,
+    servers: Vec<Lasting<Addr>, A>,
+    names: Vec<Lasting<SearchName<A>>, A>,
 }
 
 impl<A: Allocator> Model for Dns<A> {
@@ -39,10 +39,10 @@ impl<A: Allocator> Model for Dns<A> {
     ghost use Rattle.std.specs.Vec.{vec_len, vec_capacity};
     ghost use Rattle.nd_lifetime.specs.Listing.{Distinct};
     ghost use Rattle.nd_lifetime.specs.Same.{same_addr};
-    ghost use Rattle.nd_dns.specs.Dns.{Heard};
+    ghost use Rattle.nd_dns.specs.Dns.{Table};
     ghost use Rattle.nd_dns.specs.Names.{same_name};
 
-    ghost Value = { Heard };
+    ghost Value = { Table };
 
     ghost view = { λ d. record { servers = d.servers.items; names = d.names.items } };
 
@@ -51,14 +51,14 @@ impl<A: Allocator> Model for Dns<A> {
 }
 
 impl<A: Allocator + Clone> Dns<A> {
-    ghost use Rattle.nd_dns.specs.Dns.{Heard, AreOf, after, new_names};
+    ghost use Rattle.nd_dns.specs.Dns.{Table, Stands, after, new_names};
     ghost use Rattle.nd_dns.specs.Servers.{servers_told};
     ghost use Rattle.nd_dns.specs.Names.{same_name, names_told};
 
     /// Nothing heard, with room for 32 servers and for 32 names. All of it is reserved here.
     pub fn new(alloc: A) -> Result<Self, AllocError>
         ensures empty { IfOk result (λ dns. dns ≡ record { servers = []; names = [] }) }
-        ensures stands { IfOk result (λ dns. AreOf dns [] []) }
+        ensures stands { IfOk result (λ dns. Stands dns [] []) }
     {
         let servers = Vec::with_capacity(alloc.clone()?, MAX_SERVERS)?;
         let names = Vec::with_capacity(alloc.clone()?, MAX_NAMES)?;
@@ -72,7 +72,7 @@ impl<A: Allocator + Clone> Dns<A> {
     /// Whether there is room for the servers that the options of a Router Advertisement tell, taken in order. It takes no memory.
     pub fn fits_servers(&self, now: u64, options: Options<'_>) -> bool
         ensures value { result ≡ fits same_addr 32 now (servers_told (options_left options.entry)) self.now.servers }
-        ensures by_rows { (rows : List (Row Addr)) (names : List (Row (List ℕ))) (es : List (Kept Addr)) → AreOf self.now rows names → last_moment rows ≤ now → Lists same_addr rows now es
+        ensures by_history { (history : List (Row Addr)) (names : List (Row (List ℕ))) (es : List (Lasting Addr)) → Stands self.now history names → last_moment history ≤ now → Lists same_addr history now es
             → result ≡ fits same_addr 32 now (servers_told (options_left options.entry)) es }
     {
         let told = ToldServers::new(options);
@@ -82,7 +82,7 @@ impl<A: Allocator + Clone> Dns<A> {
     /// Whether there is room for the search names that they tell, taken in order. It takes no memory.
     pub fn fits_names(&self, now: u64, options: Options<'_>) -> bool
         ensures value { result ≡ fits same_name 32 now (names_told (options_left options.entry)) self.now.names }
-        ensures by_rows { (servers : List (Row Addr)) (rows : List (Row (List ℕ))) (es : List (Kept (List ℕ))) → AreOf self.now servers rows → last_moment rows ≤ now → Lists same_name rows now es
+        ensures by_history { (servers : List (Row Addr)) (history : List (Row (List ℕ))) (es : List (Lasting (List ℕ))) → Stands self.now servers history → last_moment history ≤ now → Lists same_name history now es
             → result ≡ fits same_name 32 now (names_told (options_left options.entry)) es }
     {
         let told = ToldNames::new(options);
@@ -118,8 +118,8 @@ impl<A: Allocator + Clone> Dns<A> {
         requires moment { now < 2 ^ 62 }
         requires names { names ≡ new_names now (options_left options) self.old }
 
-        ensures stands { OnOk result ((servers : List (Row Addr)) (names : List (Row (List ℕ))) → last_moment servers ≤ now → last_moment names ≤ now → AreOf self.old servers names
-            → AreOf self.new (heard_rows now (servers_told (options_left options.entry)) servers) (heard_rows now (names_told (options_left options.entry)) names)) }
+        ensures stands { OnOk result ((servers : List (Row Addr)) (names : List (Row (List ℕ))) → last_moment servers ≤ now → last_moment names ≤ now → Stands self.old servers names
+            → Stands self.new (then_announced now (servers_told (options_left options.entry)) servers) (then_announced now (names_told (options_left options.entry)) names)) }
         ensures value { OnOk result (self.new ≡ after now (options_left options.entry) self.old) }
 
         // It is refused exactly where the servers or the names, taken in order, are too many at some point.
@@ -143,16 +143,16 @@ impl<A: Allocator + Clone> Dns<A> {
 
     /// The servers that stand at a moment, in the order in which they came.
     pub fn servers(&self, now: u64) -> Standing<'_, Addr>
-        ensures value { left result ≡ open_at now self.now.servers }
-        ensures lists { (rows : List (Row Addr)) (names : List (Row (List ℕ))) → AreOf self.now rows names → last_moment rows ≤ now → Lists same_addr rows now (left result) }
+        ensures value { standing_left result ≡ open_at now self.now.servers }
+        ensures lists { (history : List (Row Addr)) (names : List (Row (List ℕ))) → Stands self.now history names → last_moment history ≤ now → Lists same_addr history now (standing_left result) }
     {
         Standing::new(&self.servers, now)
     }
 
     /// The search names that stand at a moment, in the order in which they came.
     pub fn search_names(&self, now: u64) -> Standing<'_, SearchName<A>>
-        ensures value { left result ≡ open_at now self.now.names }
-        ensures lists { (servers : List (Row Addr)) (rows : List (Row (List ℕ))) → AreOf self.now servers rows → last_moment rows ≤ now → Lists same_name rows now (left result) }
+        ensures value { standing_left result ≡ open_at now self.now.names }
+        ensures lists { (servers : List (Row Addr)) (history : List (Row (List ℕ))) → Stands self.now servers history → last_moment history ≤ now → Lists same_name history now (standing_left result) }
     {
         Standing::new(&self.names, now)
     }
@@ -160,7 +160,7 @@ impl<A: Allocator + Clone> Dns<A> {
     /// Nothing has been heard from now on.
     pub fn clear(&mut self)
         ensures value { self.new ≡ record { servers = []; names = [] } }
-        ensures stands { (at : ℕ) (servers : List (Row Addr)) (names : List (Row (List ℕ))) → AreOf self.new (Cleared at ∷ servers) (Cleared at ∷ names) }
+        ensures stands { (at : ℕ) (servers : List (Row Addr)) (names : List (Row (List ℕ))) → Stands self.new (Cleared at ∷ servers) (Cleared at ∷ names) }
     {
         self.servers.clear();
         self.names.clear();

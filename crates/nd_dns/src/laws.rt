@@ -2,14 +2,14 @@
 
 ghost use Rattle.std.specs.Prelude.{◌≡◌, ℕ, List};
 ghost use Rattle.nd_addr.specs.declared.addr.Addr.{Addr};
-ghost use Rattle.nd_lifetime.specs.declared.kept.Kept.{Kept};
-ghost use Rattle.nd_lifetime.specs.Rows.{Row};
+ghost use Rattle.nd_lifetime.specs.declared.lasting.Lasting.{Lasting};
+ghost use Rattle.nd_lifetime.specs.History.{Row};
 ghost use Rattle.nd_lifetime.specs.Listing.{Lists};
 ghost use Rattle.nd_lifetime.specs.Same.{same_addr};
 ghost use Rattle.nd_dns.specs.Names.{same_name};
 
 /// What was announced gives one list of servers and one of search names at each moment.
 pub fn one_answer()
-    ensures servers { (rows : List (Row Addr)) (moment : ℕ) (a b : List (Kept Addr)) → Lists same_addr rows moment a → Lists same_addr rows moment b → a ≡ b }
-    ensures names { (rows : List (Row (List ℕ))) (moment : ℕ) (a b : List (Kept (List ℕ))) → Lists same_name rows moment a → Lists same_name rows moment b → a ≡ b }
+    ensures servers { (history : List (Row Addr)) (moment : ℕ) (a b : List (Lasting Addr)) → Lists same_addr history moment a → Lists same_addr history moment b → a ≡ b }
+    ensures names { (history : List (Row (List ℕ))) (moment : ℕ) (a b : List (Lasting (List ℕ))) → Lists same_name history moment a → Lists same_name history moment b → a ≡ b }
 {}

@@ -11,7 +11,7 @@ mod told_names;
 mod told_servers;
 
 pub use dns::Dns;
-pub use nd_lifetime::{Kept, Limit, Standing, TableRefusal};
+pub use nd_lifetime::{Lasting, Limit, Standing, TableRefusal};
 pub use new_names::NewNames;
 pub use search_name::SearchName;
 

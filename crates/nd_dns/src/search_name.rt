@@ -3,7 +3,7 @@ ghost use Rattle.nd_search_list.specs.Name.{IsName};
 ghost use Rattle.nd_search_list.specs.NameRef.{bytes_of, name_of};
 
 use nd_decode::NameRef;
-use nd_lifetime::Names;
+use nd_lifetime::NamesKey;
 use std::alloc::{AllocError, Allocator};
 use std::marker::Model;
 
@@ -44,7 +44,7 @@ impl<A: Allocator> SearchName<A> {
     }
 }
 
-impl<A: Allocator> Names<SearchName<A>> for NameRef<'_> {
+impl<A: Allocator> NamesKey<SearchName<A>> for NameRef<'_> {
     ghost use Rattle.nd_search_list.specs.NameRef.{name_of};
     ghost use Rattle.nd_lifetime.specs.Same.{bytes_tell};
     ghost use Rattle.nd_dns.specs.Names.{same_name};

@@ -1,7 +1,7 @@
-use crate::names::Names;
+use crate::names_key::NamesKey;
 use nd_addr::Addr;
 
-impl Names<Addr> for Addr {
+impl NamesKey<Addr> for Addr {
     ghost use Rattle.nd_lifetime.specs.Same.{same_addr, addrs_tell};
 
     ghost named = { λ a. a };

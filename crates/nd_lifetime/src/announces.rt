@@ -1,9 +1,9 @@
 ghost use Rattle.std.specs.Prelude.{◌≡◌, ℕ, List, [], ◌∷◌, MatchOption};
 
-use crate::names::Names;
+use crate::names_key::NamesKey;
 
 /// The announcements of a message: names of keys, each with a lifetime in seconds, in their order.
-pub trait Announces<K, Q: Names<K>> {
+pub trait Announces<K, Q: NamesKey<K>> {
     /// The keys that are still to come.
     ghost told: { Self → List (K × ℕ) };
 

@@ -1,13 +1,13 @@
 ghost use Rattle.std.specs.Prelude.{◌≡◌, ◌≤◌, ◌<◌, ◌^◌, ◌≢◌, Some, false, MatchOption, IsTrue, length, map, is_some, vec_len, vec_capacity};
 ghost use Rattle.nd_lifetime.specs.Listing.{end_in, renewed, without, open_at, announced, enters};
 
-use crate::kept::Kept;
-use crate::names::Names;
+use crate::lasting::Lasting;
+use crate::names_key::NamesKey;
 use nd_table::{end_time, is_before};
 use std::alloc::Allocator;
 
 /// Whether there is an entry of the key.
-pub fn has<K, Q: Names<K>>(entries: &[Kept<K>], name: &Q) -> bool
+pub fn has<K, Q: NamesKey<K>>(entries: &[Lasting<K>], name: &Q) -> bool
     ensures { result ≡ is_some (end_in Q.same (Q.named name.now) entries.now) }
 {
     for entry in entries {
@@ -18,7 +18,7 @@ pub fn has<K, Q: Names<K>>(entries: &[Kept<K>], name: &Q) -> bool
     false
 }
 
-fn renew_one<K, Q: Names<K>>(entry: &mut Kept<K>, name: &Q, end: Option<u64>)
+fn renew_one<K, Q: NamesKey<K>>(entry: &mut Lasting<K>, name: &Q, end: Option<u64>)
     ensures { entry.new ≡ renewed Q.same (Q.named name.now) end entry.old }
 {
     if name.names(&entry.key) {
@@ -26,7 +26,7 @@ fn renew_one<K, Q: Names<K>>(entry: &mut Kept<K>, name: &Q, end: Option<u64>)
     }
 }
 
-fn renew_each<K, Q: Names<K>>(entries: &mut [Kept<K>], name: &Q, end: Option<u64>)
+fn renew_each<K, Q: NamesKey<K>>(entries: &mut [Lasting<K>], name: &Q, end: Option<u64>)
     ensures { entries.new ≡ map (renewed Q.same (Q.named name.now) end) entries.old }
 {
     for entry in entries.iter_mut() {
@@ -35,8 +35,8 @@ fn renew_each<K, Q: Names<K>>(entries: &mut [Kept<K>], name: &Q, end: Option<u64
 }
 
 /// The key's entry has this end from now on.
-pub fn renew<K, Q: Names<K>, A: Allocator>(
-    entries: &mut Vec<Kept<K>, A>,
+pub fn renew<K, Q: NamesKey<K>, A: Allocator>(
+    entries: &mut Vec<Lasting<K>, A>,
     name: &Q,
     end: Option<u64>,
 )
@@ -48,7 +48,7 @@ pub fn renew<K, Q: Names<K>, A: Allocator>(
 }
 
 /// The key has no entry from now on.
-pub fn remove<K: Drop, Q: Names<K>, A: Allocator>(entries: &mut Vec<Kept<K>, A>, name: &Q)
+pub fn remove<K: Drop, Q: NamesKey<K>, A: Allocator>(entries: &mut Vec<Lasting<K>, A>, name: &Q)
     ensures items { entries.new.items ≡ without Q.same (Q.named name.now) entries.old.items }
     ensures shorter { vec_len entries.new ≤ vec_len entries.old }
     ensures capacity { vec_capacity entries.new ≡ vec_capacity entries.old }
@@ -57,7 +57,7 @@ pub fn remove<K: Drop, Q: Names<K>, A: Allocator>(entries: &mut Vec<Kept<K>, A>,
 }
 
 /// The keys that have ended by now have no entry from now on.
-pub fn drop_ended<K: Drop, A: Allocator>(entries: &mut Vec<Kept<K>, A>, now: u64)
+pub fn drop_ended<K: Drop, A: Allocator>(entries: &mut Vec<Lasting<K>, A>, now: u64)
     ensures items { entries.new.items ≡ open_at now entries.old.items }
     ensures shorter { vec_len entries.new ≤ vec_len entries.old }
     ensures capacity { vec_capacity entries.new ≡ vec_capacity entries.old }
@@ -66,8 +66,8 @@ pub fn drop_ended<K: Drop, A: Allocator>(entries: &mut Vec<Kept<K>, A>, now: u64
 }
 
 /// A key is announced for a lifetime in seconds, by a name. There is room for it, and the key itself is given where it enters.
-pub fn announce<K: Drop, Q: Names<K>, A: Allocator>(
-    entries: &mut Vec<Kept<K>, A>,
+pub fn announce<K: Drop, Q: NamesKey<K>, A: Allocator>(
+    entries: &mut Vec<Lasting<K>, A>,
     now: u64,
     name: &Q,
     key: Option<K>,
@@ -90,19 +90,19 @@ pub fn announce<K: Drop, Q: Names<K>, A: Allocator>(
         return;
     }
     if let Some(key) = key {
-        entries.push_reserved(Kept { key, end });
+        entries.push_reserved(Lasting { key, end });
     }
 }
 
 /// Whether an announcement enters the key that it names.
-pub fn enters<K, Q: Names<K>>(entries: &[Kept<K>], now: u64, name: &Q, lifetime: u32) -> bool
+pub fn enters<K, Q: NamesKey<K>>(entries: &[Lasting<K>], now: u64, name: &Q, lifetime: u32) -> bool
     ensures { result ≡ enters Q.same now (Q.named name.now) lifetime entries.now }
 {
     lifetime != 0 && !stands(entries, now, name)
 }
 
 /// Whether the key has an entry that hasn't ended by now.
-pub fn stands<K, Q: Names<K>>(entries: &[Kept<K>], now: u64, name: &Q) -> bool
+pub fn stands<K, Q: NamesKey<K>>(entries: &[Lasting<K>], now: u64, name: &Q) -> bool
     ensures { result ≡ is_some (end_in Q.same (Q.named name.now) (open_at now entries.now)) }
 {
     for entry in entries {
@@ -114,7 +114,7 @@ pub fn stands<K, Q: Names<K>>(entries: &[Kept<K>], now: u64, name: &Q) -> bool
 }
 
 /// How many entries haven't ended by now.
-pub fn count<K>(entries: &[Kept<K>], now: u64) -> usize
+pub fn count<K>(entries: &[Lasting<K>], now: u64) -> usize
     ensures value { result ≡ length (open_at now entries.now) }
     ensures within { result ≤ length entries.now }
 {

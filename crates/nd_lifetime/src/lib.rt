@@ -5,17 +5,17 @@
 mod addr;
 mod announces;
 mod changing;
-mod kept;
+mod lasting;
 mod message;
-mod names;
+mod names_key;
 mod prefix;
 mod refusal;
 mod standing;
 
 pub use announces::Announces;
 pub use changing::{announce, count, drop_ended, enters, has, remove, renew, stands};
-pub use kept::Kept;
+pub use lasting::Lasting;
 pub use message::{announce_all, enters_behind, fits_all};
-pub use names::Names;
+pub use names_key::NamesKey;
 pub use refusal::{Limit, TableRefusal};
 pub use standing::Standing;

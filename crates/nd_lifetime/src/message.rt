@@ -3,8 +3,8 @@ ghost use Rattle.nd_lifetime.specs.Listing.{end_in, fits, behind, announced_all,
 
 use crate::announces::Announces;
 use crate::changing::{announce, count, stands};
-use crate::kept::Kept;
-use crate::names::Names;
+use crate::lasting::Lasting;
+use crate::names_key::NamesKey;
 use std::alloc::Allocator;
 
 /// Whether a key stands behind an announcement, of it or of another key.
@@ -18,8 +18,8 @@ fn stands_after(before: bool, named: bool, lifetime: u32) -> bool
 }
 
 /// Whether a key stands behind the first few announcements of a message.
-fn stands_behind<K, Q: Names<K> + Drop, I: Announces<K, Q> + Copy>(
-    entries: &[Kept<K>],
+fn stands_behind<K, Q: NamesKey<K> + Drop, I: Announces<K, Q> + Copy>(
+    entries: &[Lasting<K>],
     now: u64,
     announced: I,
     taken: usize,
@@ -41,8 +41,8 @@ fn stands_behind<K, Q: Names<K> + Drop, I: Announces<K, Q> + Copy>(
 }
 
 /// Whether an announcement of a message enters its key, behind the first few.
-pub fn enters_behind<K, Q: Names<K> + Drop, I: Announces<K, Q> + Copy>(
-    entries: &[Kept<K>],
+pub fn enters_behind<K, Q: NamesKey<K> + Drop, I: Announces<K, Q> + Copy>(
+    entries: &[Lasting<K>],
     now: u64,
     announced: I,
     taken: usize,
@@ -55,8 +55,8 @@ pub fn enters_behind<K, Q: Names<K> + Drop, I: Announces<K, Q> + Copy>(
 }
 
 /// Whether the announcements of a message, taken in order, never lead to more entries than a limit. It takes no memory.
-pub fn fits_all<K, Q: Names<K> + Drop, I: Announces<K, Q> + Copy>(
-    entries: &[Kept<K>],
+pub fn fits_all<K, Q: NamesKey<K> + Drop, I: Announces<K, Q> + Copy>(
+    entries: &[Lasting<K>],
     limit: usize,
     now: u64,
     announced: I,
@@ -95,8 +95,8 @@ fn count_after(standing: usize, before: bool, after: bool) -> usize
 }
 
 /// Takes the announcements of a message in order. There is room for them.
-pub fn announce_all<K: Names<K> + Copy + Drop, I: Announces<K, K> + Drop, A: Allocator>(
-    entries: &mut Vec<Kept<K>, A>,
+pub fn announce_all<K: NamesKey<K> + Copy + Drop, I: Announces<K, K> + Drop, A: Allocator>(
+    entries: &mut Vec<Lasting<K>, A>,
     limit: usize,
     now: u64,
     announced: I,

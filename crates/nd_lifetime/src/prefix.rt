@@ -1,7 +1,7 @@
-use crate::names::Names;
+use crate::names_key::NamesKey;
 use nd_addr::Prefix;
 
-impl Names<Prefix> for Prefix {
+impl NamesKey<Prefix> for Prefix {
     ghost use Rattle.nd_lifetime.specs.Same.{same_prefix, prefixes_tell};
 
     ghost named = { λ p. p };

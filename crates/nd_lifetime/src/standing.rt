@@ -1,21 +1,21 @@
-use crate::kept::Kept;
+use crate::lasting::Lasting;
 use nd_table::is_before;
 
 /// The keys that stand at a moment, with their ends, in the order in which they came.
 #[derive(Clone, Copy, Debug)]
 pub struct Standing<'a, K> {
-    rest: &'a [Kept<K>],
+    rest: &'a [Lasting<K>],
     moment: u64,
 }
 
 impl<'a, K> Standing<'a, K> {
     ghost use Rattle.std.specs.Prelude.{◌≡◌};
     ghost use Rattle.nd_lifetime.specs.Listing.{open_at};
-    ghost use Rattle.nd_lifetime.specs.Left.{left};
+    ghost use Rattle.nd_lifetime.specs.Left.{standing_left};
 
     /// Those of these entries that haven't ended by a moment.
-    pub fn new(entries: &'a [Kept<K>], moment: u64) -> Self
-        ensures { left result ≡ open_at moment entries.entry.now }
+    pub fn new(entries: &'a [Lasting<K>], moment: u64) -> Self
+        ensures { standing_left result ≡ open_at moment entries.entry.now }
     {
         Standing {
             rest: entries,
@@ -25,16 +25,16 @@ impl<'a, K> Standing<'a, K> {
 }
 
 impl<'a, K> Iterator for Standing<'a, K> {
-    type Item = &'a Kept<K>;
+    type Item = &'a Lasting<K>;
 
     ghost use Rattle.std.specs.Iterator.{YieldsFirstBy, item_count};
-    ghost use Rattle.nd_lifetime.specs.Left.{left, entry_of};
+    ghost use Rattle.nd_lifetime.specs.Left.{standing_left, entry_of};
 
-    ghost next_gives = { YieldsFirstBy entry_of left };
+    ghost next_gives = { YieldsFirstBy entry_of standing_left };
 
-    ghost remaining = { item_count left };
+    ghost remaining = { item_count standing_left };
 
-    fn next(&mut self) -> Option<&'a Kept<K>> {
+    fn next(&mut self) -> Option<&'a Lasting<K>> {
         while let [first, rest @ ..] = self.rest {
             self.rest = rest;
             if is_before(self.moment, first.end) {

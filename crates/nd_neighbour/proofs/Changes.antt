@@ -4,7 +4,7 @@ use Rattle.std.specs.Prelude.{is_some}
 use Rattle.std.proofs.lemmas.Bool.Decides.{nat_tests}
 use Rattle.std.proofs.lemmas.Bool.{true≢false, eqb-true}
 use Rattle.nd_neighbour.specs.declared.news.Flags.{Flags}
-use Rattle.nd_neighbour.specs.Rows.{Given, Advertised, Marked, Asked, Solicited, Waits, Used, Probed, Confirmed, Story}
+use Rattle.nd_neighbour.specs.History.{Given, Advertised, Marked, Asked, Solicited, Waits, Used, Probed, Confirmed, Story}
 use Rattle.nd_neighbour.specs.Address.{is_present, taken, mac_of, conforms, is_router}
 use Rattle.nd_neighbour.specs.Confirming.{Word, Confirms, Disturbs, Use, says, or_else, word_of, use_of, advert_says, goes_on}
 use Rattle.nd_neighbour.specs.Resolving.{Resolution, one_more, resolution_of, packets_of, waiting_of}

@@ -1,9 +1,9 @@
--- What a turn, and the moment of the next one, say of the rows that the table stands for.
+-- What a turn, and the moment of the next one, say of the history that the table stands for.
 use Rattle.std.proofs.Common.{◌≡◌, ℕ, ◌+◌, ◌<◌, ◌≤◌, true, false, cond, ltb, List, [], ◌∷◌, length, get_or, set, Option, Some, None, refl, sym, ◌∙◌, ap, subst, arith, suc, zero, inl, inr}
 use Rattle.std.specs.List.{remove}
 use Rattle.std.proofs.lemmas.Bool.Decides.{nat_tests}
 use Rattle.std.proofs.lemmas.Bool.{cond-true, cond-false, true≢false}
-use Rattle.nd_neighbour.specs.Rows.{Row, Story, story, Solicited, Probed, Failed, Aged}
+use Rattle.nd_neighbour.specs.History.{Row, Story, story, Solicited, Probed, Failed, Aged}
 use Rattle.nd_neighbour.specs.Address.{is_present, mac_of}
 use Rattle.nd_neighbour.specs.Confirming.{Word, Use, word_of, use_of}
 use Rattle.nd_neighbour.specs.Resolving.{Resolution, resolution_of, waiting_of}
@@ -30,28 +30,28 @@ falls_by key (Some mac) w (Some u) r ws = refl
 same_moment : (m now : ℕ) → Some m ≡ Some now → m ≡ now
 same_moment m now e = cc
 
-module _ (ns : List Node) (rows : List Row) (s : Stands ns rows) where
-  due_node : (moment key : ℕ) → IsDue rows moment key → (n : Node) × (node_in key ns ≡ Some n) × (n.due ≡ moment)
+module _ (ns : List Node) (history : List Row) (s : Stands ns history) where
+  due_node : (moment key : ℕ) → IsDue history moment key → (n : Node) × (node_in key ns ≡ Some n) × (n.due ≡ moment)
   due_node moment key due =
-      (the_node key (story key rows), s.each key ∙ cond-true (is_present (story key rows)) _ None due.0, due.1)
+      (the_node key (story key history), s.each key ∙ cond-true (is_present (story key history)) _ None due.0, due.1)
 
-  node_due : (key : ℕ) (n : Node) → node_in key ns ≡ Some n → IsDue rows n.due key
+  node_due : (key : ℕ) (n : Node) → node_in key ns ≡ Some n → IsDue history n.due key
   node_due key n is =
-      let known = node_present key (story key rows) n (sym (s.each key) ∙ is) in (known.0, ap (λ (m : Node). m.due) (sym known.1))
+      let known = node_present key (story key history) n (sym (s.each key) ∙ is) in (known.0, ap (λ (m : Node). m.due) (sym known.1))
 
-  pub first_falls : (now : ℕ) (new : List Node) (what : Falls) → Turns now ns new what → IsFirst rows now what
+  pub first_falls : (now : ℕ) (new : List Node) (what : Falls) → Turns now ns new what → IsFirst history now what
   first_falls now new what t =
       let n = t.node in
       let has = due_has address date_of now ns n s.order t.first in
-      let known = node_present n.key (story n.key rows) n (sym (s.each n.key) ∙ has) in
+      let known = node_present n.key (story n.key history) n (sym (s.each n.key) ∙ has) in
       record {
         key = n.key;
-        due = subst (λ (m : ℕ). IsDue rows m n.key) (same_moment n.due now (due_now date_of now ns n t.first)) (node_due n.key n has);
+        due = subst (λ (m : ℕ). IsDue history m n.key) (same_moment n.due now (due_now date_of now ns n t.first)) (node_due n.key n has);
         least = λ k due. let d = due_node now k due in due_least address date_of now k ns n d.0 s.order t.first d.1 (ap Some d.2);
-        what = t.falls_is ∙ (ap falls known.1 ∙ falls_by n.key (mac_of (story n.key rows)) (word_of (story n.key rows)) (use_of (story n.key rows)) (resolution_of (story n.key rows)) (waiting_of (story n.key rows)));
+        what = t.falls_is ∙ (ap falls known.1 ∙ falls_by n.key (mac_of (story n.key history)) (word_of (story n.key history)) (use_of (story n.key history)) (resolution_of (story n.key history)) (waiting_of (story n.key history)));
       }
 
-  pub none_falls : (now : ℕ) → due_in now ns ≡ None → FirstDue rows now None
+  pub none_falls : (now : ℕ) → due_in now ns ≡ None → FirstDue history now None
   none_falls now none = λ key due. let d = due_node now key due in none_due address date_of now key ns d.0 none d.1 (ap Some d.2)
 
 -- what is found at the node of a turn
@@ -88,9 +88,9 @@ module _ (now : ℕ) (old new : List Node) (i : ℕ) (n : Node) (lt : i < length
     | inl more ↦
         let left : stays (falls n) ≡ true = rw (kept, more) refl in
         rw more (record {
-          stands = λ rows s.
+          stands = λ history s.
               (changing old new n.key now Solicited i n (solicited now n) refl lt at_i (due_has address date_of now old n s.order first) (solicited_key now n (Resolves r t ws) kept) refl (staying left)
-              (λ story present known. asks n.key now n story known present (same_moment n.due now (due_now date_of now old n first)) (ap known_mac kept))).stands rows s;
+              (λ story present known. asks n.key now n story known present (same_moment n.due now (due_now date_of now old n first)) (ap known_mac kept))).stands history s;
         })
     | inr last ↦
         let left : stays (falls n) ≡ false = rw (kept, last) refl in
@@ -102,9 +102,9 @@ module _ (now : ℕ) (old new : List Node) (i : ℕ) (n : Node) (lt : i < length
     | inl more ↦
         let left : stays (falls n) ≡ true = rw (kept, more) refl in
         rw more (record {
-          stands = λ rows s.
+          stands = λ history s.
               (changing old new n.key now Probed i n (solicited now n) refl lt at_i (due_has address date_of now old n s.order first) (solicited_key now n (Reaches mac c since (Some p)) kept) refl (staying left)
-              (λ story present known. probes n.key now mac n story known present (same_moment n.due now (due_now date_of now old n first)) (ap known_mac kept) left)).stands rows s;
+              (λ story present known. probes n.key now mac n story known present (same_moment n.due now (due_now date_of now old n first)) (ap known_mac kept) left)).stands history s;
         })
     | inr last ↦
         let left : stays (falls n) ≡ false = rw (kept, last) refl in
@@ -115,16 +115,16 @@ pub turned_gains : (now : ℕ) (old new : List Node) (what : Falls) → Turns no
 turned_gains now old new what t =
     subst (λ (f : Falls). GainsRow old new (due_row now f)) (sym t.falls_is) (turn_gains now old new t.at t.node t.within t.is t.first t.new_is t.node.kept refl)
 
-module _ (ns : List Node) (rows : List Row) (s : Stands ns rows) where
-  pub next_is_due : (next : Option ℕ) → next_in ns ≡ next → NextDue rows next
+module _ (ns : List Node) (history : List Row) (s : Stands ns history) where
+  pub next_is_due : (next : Option ℕ) → next_in ns ≡ next → NextDue history next
   next_is_due None is = λ moment key due.
-      let d = due_node ns rows s moment key due in
+      let d = due_node ns history s moment key due in
       AtMost-none (next_in ns) d.0.due is (least_at_most address date_of key ns d.0 d.0.due d.1 (omega arith))
   next_is_due (Some next) is =
       let f = least_found address date_of ns next s.order is in (
-        (f.0.key, subst (λ (m : ℕ). IsDue rows m f.0.key) (same_moment f.0.due next f.2) (node_due ns rows s f.0.key f.0 f.1)),
+        (f.0.key, subst (λ (m : ℕ). IsDue history m f.0.key) (same_moment f.0.due next f.2) (node_due ns history s f.0.key f.0 f.1)),
         λ moment key due.
-            let d = due_node ns rows s moment key due in
+            let d = due_node ns history s moment key due in
             subst (λ (m : ℕ). next ≤ m) d.2 (AtMost-some (next_in ns) d.0.due next is (least_at_most address date_of key ns d.0 d.0.due d.1 (omega arith))),
       )
 

@@ -1,10 +1,10 @@
--- What news and packets do to the table that stands for the rows.
+-- What news and packets do to the table that stands for a history.
 use Rattle.std.proofs.Common.{◌≡◌, ℕ, ◌+◌, ◌<◌, ◌≤◌, true, false, cond, eqb, ltb, List, [], ◌∷◌, get_or, Option, Some, None, refl, sym, ◌∙◌, ap, subst, arith, ◌⊎◌, inl, inr}
 use Rattle.std.specs.Prelude.{not, is_some}
 use Rattle.std.proofs.lemmas.Bool.Decides.{nat_tests}
 use Rattle.std.proofs.lemmas.Bool.{cond_both, cond-true, cond-false, true≢false, eq-eqb}
 use Rattle.nd_neighbour.specs.declared.reachability.Reachability.TheVariants.{Reachable, Stale, Delay, Probe}
-use Rattle.nd_neighbour.specs.Rows.{Happening, Row, Story, story, is_end, Forgot, PushedOut}
+use Rattle.nd_neighbour.specs.History.{RowKind, Row, Story, story, is_end, Forgot, PushedOut}
 use Rattle.nd_neighbour.specs.Address.{is_present, mac_of}
 use Rattle.nd_neighbour.specs.Confirming.{Word, Confirms, Disturbs, Use, word_of, use_of}
 use Rattle.nd_neighbour.specs.Resolving.{Resolution, resolution_of, waiting_of}
@@ -17,7 +17,7 @@ use Rattle.nd_table.proofs.Keyed.{key_is, above_in, at_place, at_key-remove}
 use Rattle.nd_neighbour.proofs.Steps.{changing, passing, leaving, node_present, node_absent}
 
 -- a neighbour changes by what happens, if it is there
-pub altered_gains : (key at : ℕ) (h : Happening) (change : Node → Node) (old new : List Node) → is_end h ≡ false → ((n : Node) → (change n).key ≡ n.key) → ((s : Story) → is_present s ≡ true → node_of key ((at, h) ∷ s) ≡ Some (change (the_node key s))) → ((s : Story) → is_present s ≡ false → is_present ((at, h) ∷ s) ≡ false) → Alters key change old new → GainsRow old new (at, key, h)
+pub altered_gains : (key at : ℕ) (h : RowKind) (change : Node → Node) (old new : List Node) → is_end h ≡ false → ((n : Node) → (change n).key ≡ n.key) → ((s : Story) → is_present s ≡ true → node_of key ((at, h) ∷ s) ≡ Some (change (the_node key s))) → ((s : Story) → is_present s ≡ false → is_present ((at, h) ∷ s) ≡ false) → Alters key change old new → GainsRow old new (at, key, h)
 altered_gains key at h change old new goes keeps makes absent (There i n lt is found new_is) =
     let n_key : n.key ≡ key = key_is address key old n found in
     changing old new key at h i n (change n) goes lt is found (keeps n ∙ n_key) n_key new_is
@@ -144,28 +144,28 @@ stalest_first now k (x ∷ ns) n m r h is stale = elim (either (is_stale x.kept 
       (λ _ e. stalest_first now k ns n m r.1 rest e stale) is
 ]
 
--- what is stale by the rows is stale in the table, and the other way
-module _ (ns : List Node) (rows : List Row) (s : Stands ns rows) (now : ℕ) where
-  stale_node_of : (k : ℕ) → IsStale rows now k → (m : Node) × (node_in k ns ≡ Some m) × (is_stale m.kept now ≡ true) × (since_kept m.kept ≡ stale_since rows k)
+-- what is stale by the history is stale in the table, and the other way
+module _ (ns : List Node) (history : List Row) (s : Stands ns history) (now : ℕ) where
+  stale_node_of : (k : ℕ) → IsStale history now k → (m : Node) × (node_in k ns ≡ Some m) × (is_stale m.kept now ≡ true) × (since_kept m.kept ≡ stale_since history k)
   stale_node_of k stale =
-      let st = story k rows in
+      let st = story k history in
       let is : is_stale (the_node k st).kept now ≡ true = stale_by now (mac_of st) (word_of st) (use_of st) (resolution_of st) (waiting_of st) stale.1 in
       (the_node k st, s.each k ∙ cond-true (is_present st) (Some (the_node k st)) None stale.0, is, since_by now (mac_of st) (word_of st) (use_of st) (resolution_of st) (waiting_of st) is)
 
-  stale_by_node : (k : ℕ) (m : Node) → node_in k ns ≡ Some m → is_stale m.kept now ≡ true → IsStale rows now k × (since_kept m.kept ≡ stale_since rows k)
+  stale_by_node : (k : ℕ) (m : Node) → node_in k ns ≡ Some m → is_stale m.kept now ≡ true → IsStale history now k × (since_kept m.kept ≡ stale_since history k)
   stale_by_node k m is stale =
-      let st = story k rows in
+      let st = story k history in
       let known = node_present k st m (sym (s.each k) ∙ is) in
       let stale' : is_stale (the_node k st).kept now ≡ true = ap (λ (x : Node). is_stale x.kept now) (sym known.1) ∙ stale in (
         (known.0, by_stale now (mac_of st) (word_of st) (use_of st) (resolution_of st) (waiting_of st) stale'),
         ap (λ (x : Node). since_kept x.kept) known.1 ∙ since_by now (mac_of st) (word_of st) (use_of st) (resolution_of st) (waiting_of st) stale',
       )
 
-  pub none_is_stale : stalest now ns ≡ None → (k : ℕ) → IsStale rows now k → ⊥
+  pub none_is_stale : stalest now ns ≡ None → (k : ℕ) → IsStale history now k → ⊥
   none_is_stale none k stale =
       let m = stale_node_of k stale in absurd (true≢false (sym (stalest_some now k ns m.0 m.1 m.2) ∙ ap is_some none))
 
-  pub stalest_is_longest : (n : Node) → stalest now ns ≡ Some n → node_in n.key ns ≡ Some n → IsLongestStale rows now n.key
+  pub stalest_is_longest : (n : Node) → stalest now ns ≡ Some n → node_in n.key ns ≡ Some n → IsLongestStale history now n.key
   stalest_is_longest n first at =
       let here = stale_by_node n.key n at (stalest_is_stale now ns n first) in
       record {
@@ -190,18 +190,18 @@ stalest_in now (x ∷ ns) n r h = elim (longer_is (if_stale now x) (stalest now 
       grind (arith, nat_tests, above, rest)
 ]
 
-pub some_stale : (ns : List Node) (rows : List Row) → Stands ns rows → (now : ℕ) (n : Node) → stalest now ns ≡ Some n → IsStale rows now n.key
-some_stale ns rows s now n h = (stale_by_node ns rows s now n.key n (stalest_in now ns n s.order h) (stalest_is_stale now ns n h)).0
+pub some_stale : (ns : List Node) (history : List Row) → Stands ns history → (now : ℕ) (n : Node) → stalest now ns ≡ Some n → IsStale history now n.key
+some_stale ns history s now n h = (stale_by_node ns history s now n.key n (stalest_in now ns n s.order h) (stalest_is_stale now ns n h)).0
 
 -- what makes place
-module _ (limit now key : ℕ) (old mid : List Node) (rows : List Row) (s : Stands old rows) (absent : node_in key old ≡ None) where
-  pub place_made : Places limit now old mid → (made : List Row) × MakesPlace limit now rows made × Stands mid made × (node_in key mid ≡ None)
-  place_made (Enough few is) = (rows, HadPlace old s few refl, subst (λ (l : List Node). Stands l rows) (sym is) s, ap (node_in key) is ∙ absent)
+module _ (limit now key : ℕ) (old mid : List Node) (history : List Row) (s : Stands old history) (absent : node_in key old ≡ None) where
+  pub place_made : Places limit now old mid → (made : List Row) × MakesPlace limit now history made × Stands mid made × (node_in key mid ≡ None)
+  place_made (Enough few is) = (history, HadPlace old s few refl, subst (λ (l : List Node). Stands l history) (sym is) s, ap (node_in key) is ∙ absent)
   place_made (Went i n many lt is first gone) =
       let at : node_in n.key old ≡ Some n = at_place address old i n s.order lt is in
       let leaves = leaving old mid n.key now PushedOut i n lt is refl gone in (
-        (now, n.key, Forgot PushedOut) ∷ rows,
-        Pushed old n.key s many (stalest_is_longest old rows s now n first at) refl,
-        leaves.stands rows s,
+        (now, n.key, Forgot PushedOut) ∷ history,
+        Pushed old n.key s many (stalest_is_longest old history s now n first at) refl,
+        leaves.stands history s,
         ap (node_in key) gone ∙ (at_key-remove address key old i n s.order lt ∙ cond_both (eqb (get_or old i n).key key) None (node_in key old) (λ o. o ≡ None) (λ _. refl) (λ _. absent)),
       )

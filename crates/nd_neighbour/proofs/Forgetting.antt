@@ -4,7 +4,7 @@ use Rattle.std.specs.Prelude.{map, slice_get}
 use Rattle.std.specs.Option.{option_map}
 use Rattle.std.proofs.lemmas.Bool.{cond-true, cond-false, eqb-true}
 use Rattle.nd_neighbour.specs.declared.reachability.Reachability.{Reachability}
-use Rattle.nd_neighbour.specs.Rows.{Row, Story, story, Forgot, Why, Cleared}
+use Rattle.nd_neighbour.specs.History.{Row, Story, story, Forgot, Cause, Cleared}
 use Rattle.nd_neighbour.specs.Address.{is_present, mac_of}
 use Rattle.nd_neighbour.specs.Confirming.{Word, Confirms, Disturbs, Use, word_of, use_of}
 use Rattle.nd_neighbour.specs.Resolving.{Resolution, resolution_of, waiting_of}
@@ -21,16 +21,16 @@ use Rattle.nd_neighbour.proofs.Steps.{leaving, each_other, ended_story, node_pre
 use Rattle.nd_neighbour.proofs.Dues.{known_by}
 use Rattle.nd_neighbour.proofs.NewsCalls.{node_waits, none_waits}
 
-pub removed_gains : (key at : ℕ) (why : Why) (old new : List Node) → Removes key old new → GainsRow old new (at, key, Forgot why)
+pub removed_gains : (key at : ℕ) (why : Cause) (old new : List Node) → Removes key old new → GainsRow old new (at, key, Forgot why)
 removed_gains key at why old new (Gone i n lt at_i found is) = leaving old new key at why i n lt at_i (key_is address key old n found) is
 removed_gains key at why old new (WasNot none is) = record {
-  stands = λ rows s. rw is (record {
-    each = λ k. each_other k key at (Forgot why) rows old old None
+  stands = λ history s. rw is (record {
+    each = λ k. each_other k key at (Forgot why) history old old None
         (λ j. elim (either (eqb key j)) [
           | inl e ↦ ap (λ (x : ℕ). node_in x old) (sym (eqb-true key j e)) ∙ (none ∙ sym (cond-true (eqb key j) None (node_in j old) e))
           | inr e ↦ sym (cond-false (eqb key j) None (node_in j old) e)
         ])
-        s.each (sym (ap (node_of key) (ended_story key at why rows)));
+        s.each (sym (ap (node_of key) (ended_story key at why history)));
     order = s.order;
   });
 }
@@ -39,8 +39,8 @@ waits_at : (key : ℕ) (s : Story) (o : Option Node) → o ≡ node_of key s →
 waits_at key s None is = sym (none_waits s (node_absent key s (sym is)))
 waits_at key s (Some n) is = let known = node_present key s n (sym is) in node_waits key s n known.0 known.1
 
-pub waits_by_rows : (key : ℕ) (old : List Node) (rows : List Row) → Stands old rows → waiting_at (node_in key old) ≡ waits_of (story key rows)
-waits_by_rows key old rows s = waits_at key (story key rows) (node_in key old) (s.each key)
+pub waits_by_rows : (key : ℕ) (old : List Node) (history : List Row) → Stands old history → waiting_at (node_in key old) ≡ waits_of (story key history)
+waits_by_rows key old history s = waits_at key (story key history) (node_in key old) (s.each key)
 
 -- what is shown
 state_is : (t : ℕ) (mac : Option ℕ) (w : Option Word) (u : Option Use) (r : Option Resolution) (ws : List (List ℕ)) → state_in (kept_by mac w u r ws) t ≡ state_by mac w u t
@@ -67,20 +67,20 @@ seen_told key t s (Some n) is =
     let known = node_present key s n (sym is) in
     ap (λ (m : Node). Some (seen t m)) known.1 ∙ the_seen key t s known.0
 
-pub seen_by_rows : (key t : ℕ) (nodes : List Node) (rows : List Row) → Stands nodes rows → option_map (seen t) (node_in key nodes) ≡ seen_of key (story key rows) t
-seen_by_rows key t nodes rows s = seen_told key t (story key rows) (node_in key nodes) (s.each key)
+pub seen_by_rows : (key t : ℕ) (nodes : List Node) (history : List Row) → Stands nodes history → option_map (seen t) (node_in key nodes) ≡ seen_of key (story key history) t
+seen_by_rows key t nodes history s = seen_told key t (story key history) (node_in key nodes) (s.each key)
 
-pub lists_all : (t : ℕ) (nodes : List Node) (rows : List Row) (shown : List Seen) → shown ≡ map (seen t) nodes → Stands nodes rows → Lists rows t shown
-lists_all t nodes rows shown is s = rw is (record {
-  each = λ key. at_key-map address seen_key (seen t) (λ n. refl) key nodes ∙ seen_by_rows key t nodes rows s;
+pub lists_all : (t : ℕ) (nodes : List Node) (history : List Row) (shown : List Seen) → shown ≡ map (seen t) nodes → Stands nodes history → Lists history t shown
+lists_all t nodes history shown is s = rw is (record {
+  each = λ key. at_key-map address seen_key (seen t) (λ n. refl) key nodes ∙ seen_by_rows key t nodes history s;
   order = Rises-map address seen_key (seen t) (λ n. refl) nodes s.order;
 })
 
 -- all are forgotten, one after the other
-pub cleared_stands : (at : ℕ) (nodes : List Node) (rows : List Row) → Stands nodes rows → Stands [] (cleared at nodes rows)
-cleared_stands at [] rows s = s
-cleared_stands at (n ∷ nodes) rows s =
-    cleared_stands at nodes ((at, n.key, Forgot Cleared) ∷ rows) ((leaving (n ∷ nodes) nodes n.key at Cleared 0 n (omega arith) refl refl refl).stands rows s)
+pub cleared_stands : (at : ℕ) (nodes : List Node) (history : List Row) → Stands nodes history → Stands [] (cleared at nodes history)
+cleared_stands at [] history s = s
+cleared_stands at (n ∷ nodes) history s =
+    cleared_stands at nodes ((at, n.key, Forgot Cleared) ∷ history) ((leaving (n ∷ nodes) nodes n.key at Cleared 0 n (omega arith) refl refl refl).stands history s)
 
 -- the first of some packets, and the rest
 pub first_packet : (packets : List (List ℕ)) (p : List ℕ) → Some p ≡ slice_get packets 0 → packets ≡ p ∷ drop 1 packets

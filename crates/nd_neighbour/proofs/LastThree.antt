@@ -4,7 +4,7 @@ use Rattle.std.specs.Prelude.{nat_lt, slice_get, if◌then◌else◌}
 use Rattle.std.specs.Option.{option_to_list}
 use Rattle.std.proofs.lemmas.Bool.{cases_lt}
 use Rattle.circular_buffer.specs.Buffer.{keep_last}
-use Rattle.nd_neighbour.specs.Rows.{Story}
+use Rattle.nd_neighbour.specs.History.{Story}
 use Rattle.nd_neighbour.specs.Resolving.{packets_of, waiting_of}
 
 module _ {X : Type 0} where

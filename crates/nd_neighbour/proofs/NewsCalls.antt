@@ -1,9 +1,9 @@
--- What news do to the table that stands for the rows, and what is told of them.
+-- What news do to the table that stands for the history, and what is told of them.
 use Rattle.std.proofs.Common.{◌≡◌, ℕ, Bool, true, false, cond, eqb, ltb, List, [], ◌∷◌, Option, Some, None, refl, sym, ◌∙◌, ap}
 use Rattle.std.specs.Prelude.{◌&&◌, not, is_some}
 use Rattle.std.proofs.lemmas.Bool.{cond-true, cond-false}
 use Rattle.nd_neighbour.specs.declared.news.Flags.{Flags}
-use Rattle.nd_neighbour.specs.Rows.{Happening, Given, Advertised, Marked, Confirmed, Row, Story, story}
+use Rattle.nd_neighbour.specs.History.{RowKind, Given, Advertised, Marked, Confirmed, Row, Story, story}
 use Rattle.nd_neighbour.specs.Address.{is_present, mac_of, is_router}
 use Rattle.nd_neighbour.specs.Confirming.{Word, Use, word_of, use_of}
 use Rattle.nd_neighbour.specs.Resolving.{Resolution, resolution_of, waiting_of}
@@ -65,27 +65,27 @@ altered_there key at mac mark old new n found (There i m lt is there new_is) =
 altered_there key at mac mark old new n found (NotThere none new_is) = let e : Some n ≡ None = sym found ∙ none in absurd (cc)
 
 -- nothing has to make place for a neighbour that is there
-pub no_place_needed : (limit now key : ℕ) (enters : Bool) (rows : List Row) → is_present (story key rows) ≡ true → Prepares limit now enters key rows rows
-no_place_needed limit now key true rows p = rw p refl
-no_place_needed limit now key false rows p = refl
+pub no_place_needed : (limit now key : ℕ) (enters : Bool) (history : List Row) → is_present (story key history) ≡ true → Prepares limit now enters key history history
+no_place_needed limit now key true history p = rw p refl
+no_place_needed limit now key false history p = refl
 
 -- one that isn't gets its place
-pub place_needed : (limit now key : ℕ) (rows made : List Row) → is_present (story key rows) ≡ false → MakesPlace limit now rows made → Prepares limit now true key rows made
-place_needed limit now key rows made p m = rw p m
+pub place_needed : (limit now key : ℕ) (history made : List Row) → is_present (story key history) ≡ false → MakesPlace limit now history made → Prepares limit now true key history made
+place_needed limit now key history made p m = rw p m
 
--- whatever rows old stands for, new stands for them with an address that is given
-pub given_hears : (limit now key mac : ℕ) (mark : Option Bool) (old new : List Node) → Gives limit now key (λ n. given now mac mark n) (stale_node key (mark_or mark false) now mac) old new → (rows : List Row) → Stands old rows → (made : List Row) × Prepares limit now true key rows made × Stands new ((now, key, Given mac mark) ∷ made)
-given_hears limit now key mac mark old new (Was n found a) rows s =
-    let known = node_present key (story key rows) n (sym (s.each key) ∙ found) in
+-- whatever history old stands for, new stands for them with an address that is given
+pub given_hears : (limit now key mac : ℕ) (mark : Option Bool) (old new : List Node) → Gives limit now key (λ n. given now mac mark n) (stale_node key (mark_or mark false) now mac) old new → (history : List Row) → Stands old history → (made : List Row) × Prepares limit now true key history made × Stands new ((now, key, Given mac mark) ∷ made)
+given_hears limit now key mac mark old new (Was n found a) history s =
+    let known = node_present key (story key history) n (sym (s.each key) ∙ found) in
     let gains : GainsRow old new (now, key, Given mac mark) =
     altered_there key now mac mark old new n found a in
-    (rows, no_place_needed limit now key true rows known.0, gains.stands rows s)
-given_hears limit now key mac mark old new (Came mid none places is) rows s =
-    let gone = node_absent key (story key rows) (sym (s.each key) ∙ none) in
-    let place = place_made limit now key old mid rows s none places in
+    (history, no_place_needed limit now key true history known.0, gains.stands history s)
+given_hears limit now key mac mark old new (Came mid none places is) history s =
+    let gone = node_absent key (story key history) (sym (s.each key) ∙ none) in
+    let place = place_made limit now key old mid history s none places in
     let gains : GainsRow mid new (now, key, Given mac mark) =
     entering mid new key now (Given mac mark) (stale_node key (mark_or mark false) now mac) refl place.3 refl is (λ story' absent. first_given key now story' absent mac mark) in
-    (place.0, place_needed limit now key rows place.0 gone place.1, gains.stands place.0 place.2)
+    (place.0, place_needed limit now key history place.0 gone place.1, gains.stands place.0 place.2)
 
 waiting_by : (mac : Option ℕ) (w : Option Word) (u : Option Use) (r : Option Resolution) (ws : List (List ℕ)) → waiting_in (kept_by mac w u r ws) ≡ waits_by mac ws
 waiting_by None w u r ws = refl
@@ -104,8 +104,8 @@ cond_same : {X : Type 0} (b : Bool) (x : X) → cond b x x ≡ x
 cond_same true x = refl
 cond_same false x = refl
 
--- what is told of a change is what the rows say
-module _ (key at : ℕ) (h : Happening) (change : Node → Node) (old : List Node) (makes : (s : Story) → is_present s ≡ true → node_of key ((at, h) ∷ s) ≡ Some (change (the_node key s))) where
+-- what is told of a change is what the history say
+module _ (key at : ℕ) (h : RowKind) (change : Node → Node) (old : List Node) (makes : (s : Story) → is_present s ≡ true → node_of key ((at, h) ∷ s) ≡ Some (change (the_node key s))) where
   changed_node : (s : Story) → is_present s ≡ true → change (the_node key s) ≡ the_node key ((at, h) ∷ s)
   changed_node s p = (node_present key ((at, h) ∷ s) (change (the_node key s)) (makes s p)).1
 
@@ -129,8 +129,8 @@ module _ (key at : ℕ) (h : Happening) (change : Node → Node) (old : List Nod
 
   pub tells_by : (packets : List (List ℕ)) (turned : Bool) → packets ≡ told_released change (node_in key old) → turned ≡ told_turned change (node_in key old) → Tells at key h old packets turned
   tells_by packets turned p t = record {
-    released = λ rows s. p ∙ releases_by (story key rows) (node_in key old) (s.each key);
-    turned_is = λ rows s. t ∙ turns_by (story key rows) (node_in key old) (s.each key);
+    released = λ history s. p ∙ releases_by (story key history) (node_in key old) (s.each key);
+    turned_is = λ history s. t ∙ turns_by (story key history) (node_in key old) (s.each key);
   }
 
 pub given_tells : (key at mac : ℕ) (mark : Option Bool) (old : List Node) (packets : List (List ℕ)) (turned : Bool) → packets ≡ told_released (λ n. given at mac mark n) (node_in key old) → turned ≡ told_turned (λ n. given at mac mark n) (node_in key old) → Tells at key (Given mac mark) old packets turned

@@ -1,8 +1,8 @@
--- What a packet does to the table that stands for the rows, and what becomes of it.
+-- What a packet does to the table that stands for the history, and what becomes of it.
 use Rattle.std.proofs.Common.{◌≡◌, ℕ, ◌+◌, ◌*◌, Bool, true, false, eqb, List, [], ◌∷◌, Option, Some, None, refl, sym, ◌∙◌, ap, subst, arith, inl, inr}
 use Rattle.std.specs.Prelude.{is_some, nat_le}
 use Rattle.std.proofs.lemmas.Bool.{cond-true, cond-false}
-use Rattle.nd_neighbour.specs.Rows.{Row, Story, story, Asked, Waits, Used}
+use Rattle.nd_neighbour.specs.History.{Row, Story, story, Asked, Waits, Used}
 use Rattle.nd_neighbour.specs.Address.{is_present, mac_of}
 use Rattle.nd_neighbour.specs.Confirming.{Word, Use, word_of, use_of}
 use Rattle.nd_neighbour.specs.Resolving.{Resolution, resolution_of, waiting_of}
@@ -10,7 +10,7 @@ use Rattle.nd_neighbour.specs.Node.{Node, Kept, Resolves, Reaches, kept_by, node
 use Rattle.nd_neighbour.specs.Change.{used, used_to, asked_node, known_mac, sending_to}
 use Rattle.nd_neighbour.specs.Table.{address, node_in, Stands}
 use Rattle.nd_neighbour.specs.Room.{Alters, NotThere, There, Gives, Was, Came}
-use Rattle.nd_neighbour.specs.Calls.{Takes, packet_rows, sending_by, sending_of_story, sending_in}
+use Rattle.nd_neighbour.specs.Calls.{GainsPacket, then_packet, sending_by, sending_of_story, sending_in}
 use Rattle.nd_table.proofs.Cases.{either}
 use Rattle.nd_neighbour.proofs.Stories.{absent_mac, absent_router}
 use Rattle.nd_neighbour.proofs.Changes.{when_used, when_waits, first_asked}
@@ -27,20 +27,20 @@ used_key at retrans packet n (Reaches mac c since (Some p)) = refl
 
 module _ (key now retrans : ℕ) (packet : List ℕ) where
   -- to a neighbour that is there
-  used_stands : (old new : List Node) (rows : List Row) (mac : Option ℕ) → Stands old rows → mac_of (story key rows) ≡ mac → Alters key (λ n. used now retrans packet n) old new → is_some (node_in key old) ≡ true → Stands new (packet_rows true mac now key retrans packet rows)
-  used_stands old new rows mac s mac_eq (NotThere none is) some = let e : false ≡ true = sym (ap is_some none) ∙ some in absurd (cc)
-  used_stands old new rows None s mac_eq (There i n lt at_i found is) some =
-      let known = node_present key (story key rows) n (sym (s.each key) ∙ found) in
-      let unknown : known_mac n.kept ≡ None = mac_is key now n (story key rows) known.1 ∙ mac_eq in
+  used_stands : (old new : List Node) (history : List Row) (mac : Option ℕ) → Stands old history → mac_of (story key history) ≡ mac → Alters key (λ n. used now retrans packet n) old new → is_some (node_in key old) ≡ true → Stands new (then_packet true mac now key retrans packet history)
+  used_stands old new history mac s mac_eq (NotThere none is) some = let e : false ≡ true = sym (ap is_some none) ∙ some in absurd (cc)
+  used_stands old new history None s mac_eq (There i n lt at_i found is) some =
+      let known = node_present key (story key history) n (sym (s.each key) ∙ found) in
+      let unknown : known_mac n.kept ≡ None = mac_is key now n (story key history) known.1 ∙ mac_eq in
       let n_key : n.key ≡ key = key_is address key old n found in
       (changing old new key now (Waits packet) i n (used now retrans packet n) refl lt at_i found (used_key now retrans packet n n.kept ∙ n_key) n_key is
-      (λ s' p e. when_waits key now s' p retrans packet (sym (mac_is key now n s' e) ∙ unknown) ∙ ap (λ (m : Node). Some (used now retrans packet m)) (sym e))).stands rows s
-  used_stands old new rows (Some mac) s mac_eq (There i n lt at_i found is) some =
-      let known = node_present key (story key rows) n (sym (s.each key) ∙ found) in
-      let known_is : known_mac n.kept ≡ Some mac = mac_is key now n (story key rows) known.1 ∙ mac_eq in
+      (λ s' p e. when_waits key now s' p retrans packet (sym (mac_is key now n s' e) ∙ unknown) ∙ ap (λ (m : Node). Some (used now retrans packet m)) (sym e))).stands history s
+  used_stands old new history (Some mac) s mac_eq (There i n lt at_i found is) some =
+      let known = node_present key (story key history) n (sym (s.each key) ∙ found) in
+      let known_is : known_mac n.kept ≡ Some mac = mac_is key now n (story key history) known.1 ∙ mac_eq in
       let n_key : n.key ≡ key = key_is address key old n found in
       (changing old new key now (Used retrans) i n (used now retrans packet n) refl lt at_i found (used_key now retrans packet n n.kept ∙ n_key) n_key is
-      (λ s' p e. when_used key now s' p retrans mac packet (sym (mac_is key now n s' e) ∙ known_is) ∙ ap (λ (m : Node). Some (used now retrans packet m)) (sym e))).stands rows s
+      (λ s' p e. when_used key now s' p retrans mac packet (sym (mac_is key now n s' e) ∙ known_is) ∙ ap (λ (m : Node). Some (used now retrans packet m)) (sym e))).stands history s
 
   -- the node of a resolution before any packet waits
   only_asked : Node
@@ -77,24 +77,24 @@ module _ (key now retrans : ℕ) (packet : List ℕ) where
         order = Rises-put address m mid s.order none;
       })
 
-  pub takes_packet : (limit : ℕ) (old new : List Node) → Gives limit now key (λ n. used now retrans packet n) (asked_node key now retrans packet) old new → Takes limit now key retrans packet old new
+  pub takes_packet : (limit : ℕ) (old new : List Node) → Gives limit now key (λ n. used now retrans packet n) (asked_node key now retrans packet) old new → GainsPacket limit now key retrans packet old new
   takes_packet limit old new (Was n found a) = record {
-    stands = λ rows s.
-        let known = node_present key (story key rows) n (sym (s.each key) ∙ found) in
-        let st = used_stands old new rows (mac_of (story key rows)) s refl a (ap is_some found) in (
-          rows,
-          no_place_needed limit now key true rows known.0,
-          subst (λ (b : Bool). Stands new (packet_rows b (mac_of (story key rows)) now key retrans packet rows)) (sym known.0) st,
+    stands = λ history s.
+        let known = node_present key (story key history) n (sym (s.each key) ∙ found) in
+        let st = used_stands old new history (mac_of (story key history)) s refl a (ap is_some found) in (
+          history,
+          no_place_needed limit now key true history known.0,
+          subst (λ (b : Bool). Stands new (then_packet b (mac_of (story key history)) now key retrans packet history)) (sym known.0) st,
         );
   }
   takes_packet limit old new (Came mid none places is) = record {
-    stands = λ rows s.
-        let gone = node_absent key (story key rows) (sym (s.each key) ∙ none) in
-        let place = place_made limit now key old mid rows s none places in
+    stands = λ history s.
+        let gone = node_absent key (story key history) (sym (s.each key) ∙ none) in
+        let place = place_made limit now key old mid history s none places in
         let st = asked_stands mid new place.0 place.2 place.3 is in (
           place.0,
-          place_needed limit now key rows place.0 gone place.1,
-          subst (λ (b : Bool). Stands new (packet_rows b (mac_of (story key rows)) now key retrans packet place.0)) (sym gone) st,
+          place_needed limit now key history place.0 gone place.1,
+          subst (λ (b : Bool). Stands new (then_packet b (mac_of (story key history)) now key retrans packet place.0)) (sym gone) st,
         );
   }
 
@@ -102,7 +102,7 @@ sending_by_kept : (packet : List ℕ) (mac : Option ℕ) (w : Option Word) (u : 
 sending_by_kept packet None w u r ws = refl
 sending_by_kept packet (Some mac) w u r ws = refl
 
--- what becomes of a packet is what the rows say
+-- what becomes of a packet is what the history say
 sending_told : (key : ℕ) (packet : List ℕ) (s : Story) (o : Option Node) → o ≡ node_of key s → sending_in o packet ≡ sending_of_story s packet
 sending_told key packet s None is = ap (λ b. sending_by b (mac_of s) (waiting_of s) packet) (sym (node_absent key s (sym is)))
 sending_told key packet s (Some n) is =
@@ -110,5 +110,5 @@ sending_told key packet s (Some n) is =
     ap (λ (m : Node). sending_to m.kept packet) known.1
     ∙ (sending_by_kept packet (mac_of s) (word_of s) (use_of s) (resolution_of s) (waiting_of s) ∙ ap (λ b. sending_by b (mac_of s) (waiting_of s) packet) (sym known.0))
 
-pub sending_by_rows : (key : ℕ) (packet : List ℕ) (old : List Node) (rows : List Row) → Stands old rows → sending_in (node_in key old) packet ≡ sending_of_story (story key rows) packet
-sending_by_rows key packet old rows s = sending_told key packet (story key rows) (node_in key old) (s.each key)
+pub sending_by_rows : (key : ℕ) (packet : List ℕ) (old : List Node) (history : List Row) → Stands old history → sending_in (node_in key old) packet ≡ sending_of_story (story key history) packet
+sending_by_rows key packet old history s = sending_told key packet (story key history) (node_in key old) (s.each key)

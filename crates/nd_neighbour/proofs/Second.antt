@@ -1,4 +1,4 @@
--- Room for a neighbour, and for a second one after it: what is kept says what the rows say.
+-- Room for a neighbour, and for a second one after it: what is kept says what the history say.
 use Rattle.std.proofs.Common.{◌≡◌, ℕ, ◌+◌, ◌<◌, ◌≤◌, Bool, true, false, cond, eqb, ltb, List, [], ◌∷◌, length, get_or, set, Option, Some, None, refl, sym, ◌∙◌, ap, subst, arith, ◌⊎◌, inl, inr}
 use Rattle.std.specs.Prelude.{◌||◌, ◌&&◌, not, is_some, nat_le, MatchBool, ◌↔◌}
 use Rattle.std.specs.List.{remove, list_any}
@@ -10,18 +10,18 @@ use Rattle.nd_table.specs.Keyed.{place_of}
 use Rattle.nd_table.proofs.Cases.{either}
 use Rattle.nd_table.proofs.Any.{or_left, or_right, or_either, any_set, any_remove, any_insert, any_inserted, any_was_set, any_was_removed, still_set, still_removed, held_at}
 use Rattle.nd_table.proofs.Keyed.{key_is, place_found, place_of-le, put_in, at_key-put, at_key-set, at_key-remove}
-use Rattle.nd_neighbour.specs.Rows.{Row, story, Forgot, PushedOut}
+use Rattle.nd_neighbour.specs.History.{Row, story, Forgot, PushedOut}
 use Rattle.nd_neighbour.specs.Address.{is_present, mac_of}
 use Rattle.nd_neighbour.specs.Node.{Node, Kept, Resolves, Reaches}
 use Rattle.nd_neighbour.specs.Change.{used, used_to, asked_node}
 use Rattle.nd_neighbour.specs.Table.{address, node_in, Rises, Stands}
 use Rattle.nd_neighbour.specs.Room.{Prepares, MakesPlace, HadPlace, Pushed, WouldBeFull, NoPlace, is_stale, since_kept, longer, if_stale, stalest, has_place, Enough, Went, NotThere, There, Gives, Was, Came}
-use Rattle.nd_neighbour.specs.Calls.{packet_rows}
+use Rattle.nd_neighbour.specs.Calls.{then_packet}
 use Rattle.nd_neighbour.specs.Second.{HasRoom, stays_stale, stale_beside, place_beside, place_without, place_behind, has_second, has_first, has_room, LeavesRoom}
 use Rattle.nd_neighbour.proofs.Entering.{stalest_in}
 use Rattle.nd_neighbour.proofs.Finds.{none_is, some_is}
 use Rattle.nd_neighbour.proofs.PacketCalls.{takes_packet, used_key}
-use Rattle.nd_neighbour.proofs.Unique.{one_table, one_longest, full_by_rows}
+use Rattle.nd_neighbour.proofs.Unique.{one_table, one_longest, full_by_history}
 
 stale_now : ℕ → Node → Bool
 stale_now now n = is_stale n.kept now
@@ -343,50 +343,50 @@ module _ (limit now key : ℕ) (ns : List Node) where
   ]
 
 -- what makes place is one thing
-one_place : (limit now : ℕ) (rows a b : List Row) → MakesPlace limit now rows a → MakesPlace limit now rows b → a ≡ b
-one_place limit now rows a b (HadPlace ns s few is) (HadPlace ms t few' is') = is ∙ sym is'
-one_place limit now rows a b (HadPlace ns s few is) (Pushed ms k t many longest is') =
-    let e = one_table rows ns ms s t in let lt : length ms < limit = subst (λ (l : List Node). length l < limit) e few in absurd (omega arith)
-one_place limit now rows a b (Pushed ns k s many longest is) (HadPlace ms t few is') =
-    let e = one_table rows ms ns t s in let lt : length ns < limit = subst (λ (l : List Node). length l < limit) e few in absurd (omega arith)
-one_place limit now rows a b (Pushed ns k s many longest is) (Pushed ms j t many' longest' is') =
-    is ∙ (ap (λ x. (now, x, Forgot PushedOut) ∷ rows) (one_longest rows now k j longest longest') ∙ sym is')
+one_place : (limit now : ℕ) (history a b : List Row) → MakesPlace limit now history a → MakesPlace limit now history b → a ≡ b
+one_place limit now history a b (HadPlace ns s few is) (HadPlace ms t few' is') = is ∙ sym is'
+one_place limit now history a b (HadPlace ns s few is) (Pushed ms k t many longest is') =
+    let e = one_table history ns ms s t in let lt : length ms < limit = subst (λ (l : List Node). length l < limit) e few in absurd (omega arith)
+one_place limit now history a b (Pushed ns k s many longest is) (HadPlace ms t few is') =
+    let e = one_table history ms ns t s in let lt : length ns < limit = subst (λ (l : List Node). length l < limit) e few in absurd (omega arith)
+one_place limit now history a b (Pushed ns k s many longest is) (Pushed ms j t many' longest' is') =
+    is ∙ (ap (λ x. (now, x, Forgot PushedOut) ∷ history) (one_longest history now k j longest longest') ∙ sym is')
 
-one_made : (limit now : ℕ) (rows a b : List Row) (enters : Bool) → MatchBool enters (MakesPlace limit now rows a) (a ≡ rows) → MatchBool enters (MakesPlace limit now rows b) (b ≡ rows) → a ≡ b
-one_made limit now rows a b true p q = one_place limit now rows a b p q
-one_made limit now rows a b false p q = p ∙ sym q
+one_made : (limit now : ℕ) (history a b : List Row) (enters : Bool) → MatchBool enters (MakesPlace limit now history a) (a ≡ history) → MatchBool enters (MakesPlace limit now history b) (b ≡ history) → a ≡ b
+one_made limit now history a b true p q = one_place limit now history a b p q
+one_made limit now history a b false p q = p ∙ sym q
 
-module _ (limit now key : ℕ) (ns : List Node) (rows : List Row) (s : Stands ns rows) where
-  first_by_rows : has_first limit now key ns ≡ true → WouldBeFull limit now key rows → ⊥
-  first_by_rows h full = first_has limit now key ns h ((full_by_rows limit now key ns rows s).1 full)
+module _ (limit now key : ℕ) (ns : List Node) (history : List Row) (s : Stands ns history) where
+  first_by_rows : has_first limit now key ns ≡ true → WouldBeFull limit now key history → ⊥
+  first_by_rows h full = first_has limit now key ns h ((full_by_history limit now key ns history s).1 full)
 
-  -- the rows of a packet for the first, and the list that stands for them
+  -- the history of a packet for the first, and the list that stands for them
   module _ (retrans : ℕ) (packet : List ℕ) (h : has_first limit now key ns ≡ true) where
     to : (new : List Node) × Gives limit now key (λ n. used now retrans packet n) (asked_node key now retrans packet) ns new
     to = leads limit now key ns retrans packet s.order h
 
-    took : (made : List Row) × Prepares limit now true key rows made × Stands to.0 (packet_rows (is_present (story key rows)) (mac_of (story key rows)) now key retrans packet made)
-    took = (takes_packet key now retrans packet limit ns to.0 to.1).stands rows s
+    took : (made : List Row) × Prepares limit now true key history made × Stands to.0 (then_packet (is_present (story key history)) (mac_of (story key history)) now key retrans packet made)
+    took = (takes_packet key now retrans packet limit ns to.0 to.1).stands history s
 
-    second_on : (next : ℕ) (made : List Row) → has_second limit now key next ns ≡ true → Prepares limit now true key rows made → WouldBeFull limit now next (packet_rows (is_present (story key rows)) (mac_of (story key rows)) now key retrans packet made) → ⊥
+    second_on : (next : ℕ) (made : List Row) → has_second limit now key next ns ≡ true → Prepares limit now true key history made → WouldBeFull limit now next (then_packet (is_present (story key history)) (mac_of (story key history)) now key retrans packet made) → ⊥
     second_on next made second prepares full =
-        let same : took.0 ≡ made = one_made limit now rows took.0 made _ took.1 prepares in
-        let full' = subst (λ (m : List Row). WouldBeFull limit now next (packet_rows (is_present (story key rows)) (mac_of (story key rows)) now key retrans packet m)) (sym same) full in
-        placed limit now next to.0 (gives_on limit now key next retrans packet ns to.0 to.1 second) ((full_by_rows limit now next to.0 _ took.2).1 full')
+        let same : took.0 ≡ made = one_made limit now history took.0 made _ took.1 prepares in
+        let full' = subst (λ (m : List Row). WouldBeFull limit now next (then_packet (is_present (story key history)) (mac_of (story key history)) now key retrans packet m)) (sym same) full in
+        placed limit now next to.0 (gives_on limit now key next retrans packet ns to.0 to.1 second) ((full_by_history limit now next to.0 _ took.2).1 full')
 
-    second_back : (next : ℕ) → HasRoom limit now key (Some next) rows → has_second limit now key next ns ≡ true
+    second_back : (next : ℕ) → HasRoom limit now key (Some next) history → has_second limit now key next ns ≡ true
     second_back next room = elim (either (place_after limit now next to.0)) [
       | inl e ↦ gives_back limit now key next retrans packet ns to.0 s.order to.1 e
-      | inr e ↦ absurd (room.both retrans packet took.0 took.1 ((full_by_rows limit now next to.0 _ took.2).0 (displaced limit now next to.0 e)))
+      | inr e ↦ absurd (room.both retrans packet took.0 took.1 ((full_by_history limit now next to.0 _ took.2).0 (displaced limit now next to.0 e)))
     ]
 
-  first_back : (second : Option ℕ) → HasRoom limit now key second rows → has_first limit now key ns ≡ true
+  first_back : (second : Option ℕ) → HasRoom limit now key second history → has_first limit now key ns ≡ true
   first_back second room = elim (either (has_first limit now key ns)) [
     | inl e ↦ e
-    | inr e ↦ absurd (room.first ((full_by_rows limit now key ns rows s).0 (first_full limit now key ns e)))
+    | inr e ↦ absurd (room.first ((full_by_history limit now key ns history s).0 (first_full limit now key ns e)))
   ]
 
-  pub room_by_rows : (second : Option ℕ) → (has_room limit now key second ns ≡ true) ↔ HasRoom limit now key second rows
+  pub room_by_rows : (second : Option ℕ) → (has_room limit now key second ns ≡ true) ↔ HasRoom limit now key second history
   room_by_rows None = (
     (λ h. record { first = first_by_rows h; both = tt }),
     (λ room. first_back None room),

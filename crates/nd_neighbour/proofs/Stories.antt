@@ -3,7 +3,7 @@ use Rattle.std.proofs.Common.{◌≡◌, ℕ, Bool, true, false, cond, [], ◌�
 use Rattle.std.specs.Prelude.{is_some}
 use Rattle.std.proofs.lemmas.Bool.{cond_both, true≢false}
 use Rattle.nd_neighbour.specs.declared.news.Flags.{Flags}
-use Rattle.nd_neighbour.specs.Rows.{Given, Advertised, Marked, Asked, Solicited, Waits, Used, Probed, Confirmed, Forgot, Story}
+use Rattle.nd_neighbour.specs.History.{Given, Advertised, Marked, Asked, Solicited, Waits, Used, Probed, Confirmed, Forgot, Story}
 use Rattle.nd_neighbour.specs.Address.{is_present, taken, mac_of, is_router}
 use Rattle.nd_neighbour.specs.Confirming.{Word, says, or_else, word_of, advert_says}
 use Rattle.nd_neighbour.specs.Resolving.{Resolution, one_more, resolution_of}

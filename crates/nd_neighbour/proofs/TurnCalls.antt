@@ -2,7 +2,7 @@
 use Rattle.std.proofs.Common.{◌≡◌, ℕ, ◌<◌, List, Option, Some, None, sym, ◌∙◌, subst}
 use Rattle.std.specs.Prelude.{IfSome, IfNone, ◌≢◌}
 use Rattle.std.specs.Option.{option_map}
-use Rattle.nd_neighbour.specs.Rows.{Row}
+use Rattle.nd_neighbour.specs.History.{Row}
 use Rattle.nd_neighbour.specs.Node.{Node}
 use Rattle.nd_neighbour.specs.Change.{Falls}
 use Rattle.nd_neighbour.specs.Table.{Stands, GainsRow}
@@ -12,9 +12,9 @@ use Rattle.nd_table.proofs.Due.{next_not_now}
 use Rattle.nd_neighbour.specs.Due.{date_of}
 
 module _ {X : Type 0} (f : X → Falls) (now : ℕ) (new : List Node) where
-  pub due_call : (o : Option X) (inside old : List Node) → inside ≡ old → IfSome o (λ d. Turns now inside new (f d)) → IfNone o (due_in now inside ≡ None) → (rows : List Row) → Stands old rows → FirstDue rows now (option_map f o)
-  due_call None inside old e t none rows s = none_falls old rows s now (subst (λ (l : List Node). due_in now l ≡ None) e none)
-  due_call (Some d) inside old e t none rows s = first_falls old rows s now new (f d) (subst (λ (l : List Node). Turns now l new (f d)) e t)
+  pub due_call : (o : Option X) (inside old : List Node) → inside ≡ old → IfSome o (λ d. Turns now inside new (f d)) → IfNone o (due_in now inside ≡ None) → (history : List Row) → Stands old history → FirstDue history now (option_map f o)
+  due_call None inside old e t none history s = none_falls old history s now (subst (λ (l : List Node). due_in now l ≡ None) e none)
+  due_call (Some d) inside old e t none history s = first_falls old history s now new (f d) (subst (λ (l : List Node). Turns now l new (f d)) e t)
 
   pub gains_call : (o : Option X) (inside old : List Node) → inside ≡ old → IfSome o (λ d. Turns now inside new (f d)) → IfSome o (λ d. GainsRow old new (due_row now (f d)))
   gains_call None inside old e t = tt

@@ -1,4 +1,4 @@
--- What a turn does to the table, and what that says of the rows.
+-- What a turn does to the table, and what that says of the history.
 use Rattle.std.proofs.Common.{◌≡◌, ℕ, ◌<◌, false, cond, List, length, get_or, set, Some, sym, ◌∙◌, ap}
 use Rattle.std.specs.Prelude.{slice_get}
 use Rattle.std.specs.List.{remove}

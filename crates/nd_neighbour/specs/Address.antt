@@ -1,6 +1,6 @@
 -- Whether a neighbour is present, its link-layer address and its mark (RFC 4861, sections 5.1 and 7.2.5).
 use Rattle.std.specs.Prelude.{ℕ, Bool, true, false, ◌==◌, ◌&&◌, ◌||◌, if◌then◌else◌, [], ◌∷◌, Option, Some, None, is_some}
-use Rattle.nd_neighbour.specs.Rows.{Given, Advertised, Marked, Asked, Story}
+use Rattle.nd_neighbour.specs.History.{Given, Advertised, Marked, Asked, Story}
 
 -- there is an entry from the first row on that gives an address or begins a resolution
 abbrev pub is_present : Story → Bool

@@ -2,11 +2,12 @@
 use Rattle.std.specs.Prelude.{◌≡◌, ℕ, nat_lt, Bool, true, false, ◌&&◌, not, if◌then◌else◌, List, [], ◌∷◌, ◌++◌, length, slice_get, Option, Some, None, is_some, Result, Ok, Err}
 use Rattle.std.specs.Option.{option_map}
 use Rattle.nd_addr.specs.Number.{number_of}
+use Rattle.nd_table.specs.History.{GainsRowsMakingPlace}
 use Rattle.nd_neighbour.specs.declared.news.News.{News}
 use Rattle.nd_neighbour.specs.declared.news.News.TheVariants as news
 use Rattle.nd_neighbour.specs.declared.refusal.CacheRefusal.{CacheRefusal}
 use Rattle.nd_neighbour.specs.declared.times.Times.{Times}
-use Rattle.nd_neighbour.specs.Rows.{Row, Story, story, Happening, Given, Advertised, Marked, Asked, Waits, Used, Forgot, Cleared}
+use Rattle.nd_neighbour.specs.History.{Row, Story, story, RowKind, Given, Advertised, Marked, Asked, Waits, Used, Forgot, Cleared}
 use Rattle.nd_neighbour.specs.Address.{is_present, mac_of, is_router}
 use Rattle.nd_neighbour.specs.Resolving.{waiting_of}
 use Rattle.nd_neighbour.specs.Node.{Node}
@@ -22,7 +23,7 @@ news_key (news.Advert addr flags mac) = number_of addr.0
 news_key (news.Marked addr router) = number_of addr.0
 
 -- what they add
-abbrev pub news_row : News → Times → Happening
+abbrev pub news_row : News → Times → RowKind
 news_row (news.Given addr mac mark) times = Given (number_of mac.0) mark
 news_row (news.Advert addr flags mac) times = Advertised flags (option_map (λ m. number_of m.0) mac) times.reachable
 news_row (news.Marked addr router) times = Marked router
@@ -33,32 +34,35 @@ lets_enter (news.Given addr mac mark) = true
 lets_enter (news.Advert addr flags mac) = false
 lets_enter (news.Marked addr router) = false
 
--- whatever rows old stands for, new stands for them with the news, and with what makes place before
-pub record Hears (limit now : ℕ) (n : News) (times : Times) (old new : List Node) : Type 0 where
-  pub stands : (rows : List Row) → Stands old rows → (made : List Row) × Prepares limit now (lets_enter n) (news_key n) rows made × Stands new ((now, news_key n, news_row n times) ∷ made)
+-- whatever history old stands for, new stands for them with the news, and with what makes place before
+abbrev pub GainsNews : ℕ → ℕ → News → Times → List Node → List Node → Type 0
+GainsNews limit now n times old new =
+    GainsRowsMakingPlace Stands old new (Prepares limit now (lets_enter n) (news_key n)) (λ history made. (now, news_key n, news_row n times) ∷ made)
 
 -- what a row releases: where an address is known after it, all that waited
-abbrev pub released_by : ℕ → Happening → Story → List (List ℕ)
-released_by at happening s = if is_some (mac_of ((at, happening) ∷ s)) then waits_of s else []
+abbrev pub released_by : ℕ → RowKind → Story → List (List ℕ)
+released_by at kind s = if is_some (mac_of ((at, kind) ∷ s)) then waits_of s else []
 
 -- the row takes the mark of a router away
-abbrev pub ends_router : ℕ → Happening → Story → Bool
-ends_router at happening s = is_router s && not (is_router ((at, happening) ∷ s))
+abbrev pub ends_router : ℕ → RowKind → Story → Bool
+ends_router at kind s = is_router s && not (is_router ((at, kind) ∷ s))
 
--- what is told of news is what the rows say
-pub record Tells (now key : ℕ) (happening : Happening) (old : List Node) (packets : List (List ℕ)) (turned : Bool) : Type 0 where
-  pub released : (rows : List Row) → Stands old rows → packets ≡ released_by now happening (story key rows)
-  pub turned_is : (rows : List Row) → Stands old rows → turned ≡ ends_router now happening (story key rows)
+-- what is told of news is what the history say
+pub record Tells (now key : ℕ) (kind : RowKind) (old : List Node) (packets : List (List ℕ)) (turned : Bool) : Type 0 where
+  pub released : (history : List Row) → Stands old history → packets ≡ released_by now kind (story key history)
+  pub turned_is : (history : List Row) → Stands old history → turned ≡ ends_router now kind (story key history)
 
 -- what a packet adds: a use where an address is known, else it waits; the first one begins a resolution
-abbrev pub packet_rows : Bool → Option ℕ → ℕ → ℕ → ℕ → List ℕ → List Row → List Row
-packet_rows false known now key retrans packet rows = (now, key, Waits packet) ∷ (now, key, Asked retrans) ∷ rows
-packet_rows true None now key retrans packet rows = (now, key, Waits packet) ∷ rows
-packet_rows true (Some mac) now key retrans packet rows = (now, key, Used retrans) ∷ rows
+abbrev pub then_packet : Bool → Option ℕ → ℕ → ℕ → ℕ → List ℕ → List Row → List Row
+then_packet false known now key retrans packet history = (now, key, Waits packet) ∷ (now, key, Asked retrans) ∷ history
+then_packet true None now key retrans packet history = (now, key, Waits packet) ∷ history
+then_packet true (Some mac) now key retrans packet history = (now, key, Used retrans) ∷ history
 
--- whatever rows old stands for, new stands for them with those of the packet, and with what makes place before
-pub record Takes (limit now key retrans : ℕ) (packet : List ℕ) (old new : List Node) : Type 0 where
-  pub stands : (rows : List Row) → Stands old rows → (made : List Row) × Prepares limit now true key rows made × Stands new (packet_rows (is_present (story key rows)) (mac_of (story key rows)) now key retrans packet made)
+-- whatever history old stands for, new stands for them with those of the packet, and with what makes place before
+abbrev pub GainsPacket : ℕ → ℕ → ℕ → ℕ → List ℕ → List Node → List Node → Type 0
+GainsPacket limit now key retrans packet old new =
+    GainsRowsMakingPlace Stands old new (Prepares limit now true key)
+    (λ history made. then_packet (is_present (story key history)) (mac_of (story key history)) now key retrans packet made)
 
 -- what becomes of the packet
 abbrev pub sending_by : Bool → Option ℕ → List (List ℕ) → List ℕ → Sending
@@ -71,8 +75,8 @@ sending_of_story s packet = sending_by (is_present s) (mac_of s) (waiting_of s) 
 
 -- the neighbours are forgotten, in the order of their addresses
 abbrev pub cleared : ℕ → List Node → List Row → List Row
-cleared at [] rows = rows
-cleared at (n ∷ nodes) rows = cleared at nodes ((at, n.key, Forgot Cleared) ∷ rows)
+cleared at [] history = history
+cleared at (n ∷ nodes) history = cleared at nodes ((at, n.key, Forgot Cleared) ∷ history)
 
 -- what is told by value
 abbrev pub told_released : (Node → Node) → Option Node → List (List ℕ)

@@ -2,7 +2,7 @@
 -- its first use afterwards (section 7.3.3).
 use Rattle.std.specs.Prelude.{ℕ, ◌+◌, nat_lt, nat_le, Bool, true, false, ◌==◌, not, if◌then◌else◌, [], ◌∷◌, Option, Some, None, is_some}
 use Rattle.nd_neighbour.specs.declared.news.Flags.{Flags}
-use Rattle.nd_neighbour.specs.Rows.{Happening, Given, Advertised, Used, Probed, Confirmed, Story}
+use Rattle.nd_neighbour.specs.History.{RowKind, Given, Advertised, Used, Probed, Confirmed, Story}
 use Rattle.nd_neighbour.specs.Address.{is_present, mac_of, conforms}
 
 -- a confirmation at a moment, which holds for a ReachableTime, or a disturbance at a moment
@@ -39,7 +39,7 @@ advert_says flags mac reachable known word at =
 
 -- whether something that happens is a confirmation or a disturbance, of a neighbour that is present or not, with
 -- this address and this last word
-abbrev pub says : Bool → Option ℕ → Option Word → ℕ → Happening → Option Word
+abbrev pub says : Bool → Option ℕ → Option Word → ℕ → RowKind → Option Word
 says present known word at (Given mac mark) = if changes mac known then Some (Disturbs at) else None
 says present known word at (Advertised flags mac reachable) = if present then advert_says flags mac reachable known word at else None
 says present known word at (Confirmed reachable) = if is_some known then Some (Confirms at reachable) else None
@@ -52,7 +52,7 @@ or_else (Some x) other = Some x
 -- the last confirmation or disturbance
 abbrev pub word_of : Story → Option Word
 word_of [] = None
-word_of ((at, happening) ∷ s) = or_else (says (is_present s) (mac_of s) (word_of s) at happening) (word_of s)
+word_of ((at, kind) ∷ s) = or_else (says (is_present s) (mac_of s) (word_of s) at kind) (word_of s)
 
 -- a use: its moment, the RetransTimer in force then, and how many probes were sent since
 pub record Use : Type 0 where
@@ -65,7 +65,7 @@ abbrev pub begins_use : Option Word → ℕ → ℕ → Option Use
 begins_use None at retrans = None
 begins_use (Some word) at retrans = if nat_le (since word) at then Some (record { at = at; retrans = retrans; probes = 0 }) else None
 
-abbrev pub goes_on : Option Word → Option Use → ℕ → Happening → Option Use
+abbrev pub goes_on : Option Word → Option Use → ℕ → RowKind → Option Use
 goes_on word None at (Used retrans) = begins_use word at retrans
 goes_on word None at _ = None
 goes_on word (Some use') at Probed = Some (record { at = use'.at; retrans = use'.retrans; probes = use'.probes + 1 })
@@ -74,5 +74,5 @@ goes_on word (Some use') at _ = Some use'
 -- the first use since the last word from which on it isn't reachable, with the probes since then
 abbrev pub use_of : Story → Option Use
 use_of [] = None
-use_of ((at, happening) ∷ s) =
-    if is_some (says (is_present s) (mac_of s) (word_of s) at happening) then None else goes_on (word_of s) (use_of s) at happening
+use_of ((at, kind) ∷ s) =
+    if is_some (says (is_present s) (mac_of s) (word_of s) at kind) then None else goes_on (word_of s) (use_of s) at kind

@@ -2,7 +2,7 @@
 use Rattle.std.specs.Prelude.{◌≡◌, ℕ, ◌+◌, ◌-◌, ◌≤◌, nat_lt, true, if◌then◌else◌, List, [], ◌∷◌, length, slice_index_or, slice_set, ◌<◌, Option, Some, None}
 use Rattle.std.specs.List.{remove}
 use Rattle.nd_table.specs.Due.{least_date, first_at, NotBefore}
-use Rattle.nd_neighbour.specs.Rows.{Row, Story, story, Solicited, Probed, Forgot, Failed, Aged}
+use Rattle.nd_neighbour.specs.History.{Row, Story, story, Solicited, Probed, Forgot, Failed, Aged}
 use Rattle.nd_neighbour.specs.Address.{is_present, mac_of}
 use Rattle.nd_neighbour.specs.Confirming.{Use, use_of}
 use Rattle.nd_neighbour.specs.Resolving.{Resolution, resolution_of, waiting_of}
@@ -11,7 +11,7 @@ use Rattle.nd_neighbour.specs.Change.{Falls, Multicasts, Unicasts, Fails, Ages, 
 
 -- something falls due for the neighbour at the moment, and no row has come for it yet
 abbrev pub IsDue : List Row → ℕ → ℕ → Type 0
-IsDue rows moment key = (is_present (story key rows) ≡ true) × (due_of (story key rows) ≡ moment)
+IsDue history moment key = (is_present (story key history) ≡ true) × (due_of (story key history) ≡ moment)
 
 -- without an address: a second and a third solicitation, and then the failure, with all that waits. With one: three
 -- probes after a use, and then the failure; without a use the entry goes.
@@ -25,20 +25,20 @@ abbrev pub falling : ℕ → Story → Falls
 falling key s = falling_by key (mac_of s) (use_of s) (resolution_of s) (waiting_of s)
 
 -- the least address for which something falls due at the moment, and what
-pub record IsFirst (rows : List Row) (moment : ℕ) (falls : Falls) : Type 0 where
+pub record IsFirst (history : List Row) (moment : ℕ) (falls : Falls) : Type 0 where
   pub key : ℕ
-  pub due : IsDue rows moment key
-  pub least : (k : ℕ) → IsDue rows moment k → key ≤ k
-  pub what : falls ≡ falling key (story key rows)
+  pub due : IsDue history moment key
+  pub least : (k : ℕ) → IsDue history moment k → key ≤ k
+  pub what : falls ≡ falling key (story key history)
 
 abbrev pub FirstDue : List Row → ℕ → Option Falls → Type 0
-FirstDue rows moment None = (key : ℕ) → IsDue rows moment key → ⊥
-FirstDue rows moment (Some falls) = IsFirst rows moment falls
+FirstDue history moment None = (key : ℕ) → IsDue history moment key → ⊥
+FirstDue history moment (Some falls) = IsFirst history moment falls
 
 -- the moment is the first at which something falls due, if there is one
 abbrev pub NextDue : List Row → Option ℕ → Type 0
-NextDue rows None = (moment key : ℕ) → IsDue rows moment key → ⊥
-NextDue rows (Some next) = ((key : ℕ) × IsDue rows next key) × ((moment key : ℕ) → IsDue rows moment key → next ≤ moment)
+NextDue history None = (moment key : ℕ) → IsDue history moment key → ⊥
+NextDue history (Some next) = ((key : ℕ) × IsDue history next key) × ((moment key : ℕ) → IsDue history moment key → next ≤ moment)
 
 -- the row that comes with it
 abbrev pub due_row : ℕ → Falls → Row

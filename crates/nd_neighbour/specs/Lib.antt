@@ -1,4 +1,4 @@
-pub mod Rows
+pub mod History
 pub mod Address
 pub mod Confirming
 pub mod Resolving

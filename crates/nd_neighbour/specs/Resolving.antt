@@ -1,7 +1,7 @@
 -- The resolution of a neighbour whose link-layer address isn't known (RFC 4861, section 7.2.2).
 use Rattle.std.specs.Prelude.{ℕ, ◌+◌, List, [], ◌∷◌, ◌++◌, Option, Some, None}
 use Rattle.circular_buffer.specs.Buffer.{keep_last}
-use Rattle.nd_neighbour.specs.Rows.{Asked, Solicited, Waits, Story}
+use Rattle.nd_neighbour.specs.History.{Asked, Solicited, Waits, Story}
 
 -- a resolution: its moment, the RetransTimer in force then, and how many solicitations were sent after the first
 pub record Resolution : Type 0 where

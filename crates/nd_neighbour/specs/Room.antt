@@ -2,7 +2,7 @@
 use Rattle.std.specs.Prelude.{◌≡◌, ℕ, ◌<◌, ◌≤◌, ◌⊎◌, nat_lt, Bool, true, false, ◌&&◌, ◌||◌, not, if◌then◌else◌, List, [], ◌∷◌, length, slice_get, slice_index_or, slice_set, Option, Some, None, is_some, MatchBool}
 use Rattle.std.specs.List.{insert, remove}
 use Rattle.nd_neighbour.specs.declared.reachability.Reachability.TheVariants.{Stale}
-use Rattle.nd_neighbour.specs.Rows.{Row, story, Forgot, PushedOut}
+use Rattle.nd_neighbour.specs.History.{Row, story, Forgot, PushedOut}
 use Rattle.nd_neighbour.specs.Address.{is_present}
 use Rattle.nd_neighbour.specs.Confirming.{word_of}
 use Rattle.nd_neighbour.specs.Reachability.{state_of}
@@ -11,35 +11,35 @@ use Rattle.nd_neighbour.specs.Table.{node_in, place_in, Stands}
 
 -- the neighbour is present and STALE at the moment
 abbrev pub IsStale : List Row → ℕ → ℕ → Type 0
-IsStale rows now key = (is_present (story key rows) ≡ true) × (state_of (story key rows) now ≡ Stale)
+IsStale history now key = (is_present (story key history) ≡ true) × (state_of (story key history) now ≡ Stale)
 
 -- since when it isn't known to be reachable
 abbrev pub stale_since : List Row → ℕ → ℕ
-stale_since rows key = since_in (word_of (story key rows))
+stale_since history key = since_in (word_of (story key history))
 
 -- no other one is stale for longer, and none of a lower address for as long
-pub record IsLongestStale (rows : List Row) (now key : ℕ) : Type 0 where
-  pub stale : IsStale rows now key
-  pub longest : (k : ℕ) → IsStale rows now k → (stale_since rows key < stale_since rows k) ⊎ ((stale_since rows key ≡ stale_since rows k) × (key ≤ k))
+pub record IsLongestStale (history : List Row) (now key : ℕ) : Type 0 where
+  pub stale : IsStale history now key
+  pub longest : (k : ℕ) → IsStale history now k → (stale_since history key < stale_since history k) ⊎ ((stale_since history key ≡ stale_since history k) × (key ≤ k))
 
 -- what a new neighbour adds before it: nothing where there are fewer than the limit, else the end of the one that
 -- is stale for longest
-pub data MakesPlace (limit now : ℕ) (rows made : List Row) : Type 0 where
-  HadPlace : (nodes : List Node) → Stands nodes rows → length nodes < limit → made ≡ rows → MakesPlace limit now rows made
-  Pushed : (nodes : List Node) (key : ℕ) → Stands nodes rows → limit ≤ length nodes → IsLongestStale rows now key → made ≡ (now, key, Forgot PushedOut) ∷ rows → MakesPlace limit now rows made
+pub data MakesPlace (limit now : ℕ) (history made : List Row) : Type 0 where
+  HadPlace : (nodes : List Node) → Stands nodes history → length nodes < limit → made ≡ history → MakesPlace limit now history made
+  Pushed : (nodes : List Node) (key : ℕ) → Stands nodes history → limit ≤ length nodes → IsLongestStale history now key → made ≡ (now, key, Forgot PushedOut) ∷ history → MakesPlace limit now history made
 
 -- what comes before a row of the neighbour, which may be one that lets it enter
 abbrev pub Prepares : ℕ → ℕ → Bool → ℕ → List Row → List Row → Type 0
-Prepares limit now enters key rows made =
-    MatchBool (enters && not (is_present (story key rows))) (MakesPlace limit now rows made) (made ≡ rows)
+Prepares limit now enters key history made =
+    MatchBool (enters && not (is_present (story key history))) (MakesPlace limit now history made) (made ≡ history)
 
 -- a new neighbour has no place: it isn't present, there are as many as there may be, and none is stale
-pub record WouldBeFull (limit now key : ℕ) (rows : List Row) : Type 0 where
-  pub absent : is_present (story key rows) ≡ false
+pub record WouldBeFull (limit now key : ℕ) (history : List Row) : Type 0 where
+  pub absent : is_present (story key history) ≡ false
   pub nodes : List Node
-  pub those : Stands nodes rows
+  pub those : Stands nodes history
   pub many : limit ≤ length nodes
-  pub none_stale : (k : ℕ) → IsStale rows now k → ⊥
+  pub none_stale : (k : ℕ) → IsStale history now k → ⊥
 
 -- the same of what is kept
 abbrev pub is_stale : Kept → ℕ → Bool

@@ -1,17 +1,17 @@
 -- Whether a neighbour that may enter has place, and after a use of it a second one.
 use Rattle.std.specs.Prelude.{◌≡◌, ℕ, ◌+◌, nat_lt, Bool, true, ◌&&◌, ◌||◌, not, ◌==◌, if◌then◌else◌, List, length, Option, Some, None, is_some, MatchOption}
 use Rattle.std.specs.List.{list_any}
-use Rattle.nd_neighbour.specs.Rows.{Row, story}
+use Rattle.nd_neighbour.specs.History.{Row, story}
 use Rattle.nd_neighbour.specs.Address.{is_present, mac_of}
 use Rattle.nd_neighbour.specs.Node.{Node}
 use Rattle.nd_neighbour.specs.Table.{node_in}
 use Rattle.nd_neighbour.specs.Room.{Prepares, WouldBeFull, NoPlace, is_stale, since_kept, stalest, has_place}
-use Rattle.nd_neighbour.specs.Calls.{packet_rows}
+use Rattle.nd_neighbour.specs.Calls.{then_packet}
 
--- the first one wouldn't be full, and the second one neither after the rows of a packet for the first
-pub record HasRoom (limit now key : ℕ) (second : Option ℕ) (rows : List Row) : Type 0 where
-  pub first : WouldBeFull limit now key rows → ⊥
-  pub both : MatchOption second (Unit {0}) (λ next. (retrans : ℕ) (packet : List ℕ) (made : List Row) → Prepares limit now true key rows made → WouldBeFull limit now next (packet_rows (is_present (story key rows)) (mac_of (story key rows)) now key retrans packet made) → ⊥)
+-- the first one wouldn't be full, and the second one neither after the history of a packet for the first
+pub record HasRoom (limit now key : ℕ) (second : Option ℕ) (history : List Row) : Type 0 where
+  pub first : WouldBeFull limit now key history → ⊥
+  pub both : MatchOption second (Unit {0}) (λ next. (retrans : ℕ) (packet : List ℕ) (made : List Row) → Prepares limit now true key history made → WouldBeFull limit now next (then_packet (is_present (story key history)) (mac_of (story key history)) now key retrans packet made) → ⊥)
 
 -- The same of what is kept. This neighbour is stale after a use of the first:
 abbrev pub stays_stale : ℕ → ℕ → Node → Bool

@@ -4,7 +4,7 @@ use Rattle.nd_table.specs.Keyed.{at_key, Rises}
 use Rattle.nd_neighbour.specs.declared.reachability.Reachability.{Reachability}
 use Rattle.nd_neighbour.specs.declared.reachability.Reachability.TheVariants.{Incomplete, Reachable, Stale, Delay, Probe}
 use Rattle.nd_neighbour.specs.declared.probing.Probing.{Probing}
-use Rattle.nd_neighbour.specs.Rows.{Row, Story, story}
+use Rattle.nd_neighbour.specs.History.{Row, Story, story}
 use Rattle.nd_neighbour.specs.Address.{is_present, mac_of, is_router}
 use Rattle.nd_neighbour.specs.Resolving.{waiting_of}
 use Rattle.nd_neighbour.specs.Reachability.{state_of}
@@ -46,7 +46,7 @@ seen t n = record { key = n.key; mac = known_mac n.kept; router = n.router; stat
 abbrev pub seen_key : Seen → ℕ
 seen_key x = x.key
 
--- the list shows the neighbours that the rows tell of, as they are at the moment, in the order of their addresses
-pub record Lists (rows : List Row) (now : ℕ) (shown : List Seen) : Type 0 where
-  pub each : (key : ℕ) → at_key seen_key key shown ≡ seen_of key (story key rows) now
+-- the list shows the neighbours that the history tell of, as they are at the moment, in the order of their addresses
+pub record Lists (history : List Row) (now : ℕ) (shown : List Seen) : Type 0 where
+  pub each : (key : ℕ) → at_key seen_key key shown ≡ seen_of key (story key history) now
   pub order : Rises seen_key shown

@@ -1,8 +1,9 @@
 -- What a table of neighbours is to what happened to them.
 use Rattle.std.specs.Prelude.{◌≡◌, ℕ, List, ◌∷◌, Option}
+use Rattle.nd_table.specs.History as growing
 use Rattle.nd_table.specs.Keyed as keyed
 use Rattle.nd_table.specs.Keyed.{at_key, place_of}
-use Rattle.nd_neighbour.specs.Rows.{Row, story}
+use Rattle.nd_neighbour.specs.History.{Row, story}
 use Rattle.nd_neighbour.specs.Node.{Node, node_of}
 
 -- a cache: how many neighbours it has room for, those that it has, and how many rings are in hand for new ones
@@ -22,14 +23,14 @@ node_in key nodes = at_key address key nodes
 abbrev pub Rises : List Node → Type 0
 Rises nodes = keyed.Rises address nodes
 
--- The neighbours are those that the rows tell of, each as its story says, in the order of their addresses.
-pub record Stands (nodes : List Node) (rows : List Row) : Type 0 where
-  pub each : (key : ℕ) → node_in key nodes ≡ node_of key (story key rows)
+-- The neighbours are those that the history tell of, each as its story says, in the order of their addresses.
+pub record Stands (nodes : List Node) (history : List Row) : Type 0 where
+  pub each : (key : ℕ) → node_in key nodes ≡ node_of key (story key history)
   pub order : Rises nodes
 
--- whatever rows old stands for, new stands for them with one more
-pub record GainsRow (old new : List Node) (row : Row) : Type 0 where
-  pub stands : (rows : List Row) → Stands old rows → Stands new (row ∷ rows)
+-- the neighbours gain a row
+abbrev pub GainsRow : List Node → List Node → Row → Type 0
+GainsRow = growing.GainsRow Stands
 
 -- how many neighbours at the front have lower addresses
 abbrev pub place_in : ℕ → List Node → ℕ

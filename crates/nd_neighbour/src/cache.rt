@@ -36,7 +36,7 @@ impl<A: Allocator> Model for Cache<A> {
 }
 
 impl<A: Allocator + Clone> Cache<A> {
-    ghost use Rattle.nd_neighbour.specs.Rows.{Row, story, Confirmed, Forgot, Removed};
+    ghost use Rattle.nd_neighbour.specs.History.{Row, story, Confirmed, Forgot, Removed};
     ghost use Rattle.nd_neighbour.specs.Table.{Table, Stands, GainsRow};
     ghost use Rattle.nd_neighbour.specs.Due.{FirstDue, NextDue, due_row, next_in, NoneBefore, turns_left};
     ghost use Rattle.nd_neighbour.specs.Seen.{seen_of, waits_of};
@@ -59,7 +59,7 @@ impl<A: Allocator + Clone> Cache<A> {
     /// The earliest moment at which something falls due.
     pub fn next_due(&self) -> Option<u64>
         ensures value { result ≡ next_in self.now.nodes }
-        ensures due { (rows : List Row) → Stands self.now.nodes rows → NextDue rows result }
+        ensures due { (history : List Row) → Stands self.now.nodes history → NextDue history result }
     {
         next_date(&self.entries)
     }
@@ -69,7 +69,7 @@ impl<A: Allocator + Clone> Cache<A> {
         requires moment { now < 2 ^ 62 }
         requires none_before { NoneBefore self.old.nodes now }
 
-        ensures due { (rows : List Row) → Stands self.old.nodes rows → FirstDue rows now (option_map (λ due. falls_of due) result) }
+        ensures due { (history : List Row) → Stands self.old.nodes history → FirstDue history now (option_map (λ due. falls_of due) result) }
         ensures gains { IfSome result (λ due. GainsRow self.old.nodes self.new.nodes (due_row now (falls_of due))) }
         ensures same { IfNone result (self.new ≡ self.old) }
         ensures rings { self.new.rings ≡ self.old.rings }

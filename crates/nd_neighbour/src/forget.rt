@@ -8,7 +8,7 @@ use nd_waiting::{Packet, Packets};
 use std::alloc::{AllocError, Allocator};
 
 impl<A: Allocator + Clone> Cache<A> {
-    ghost use Rattle.nd_neighbour.specs.Rows.{Row, story, Forgot, Removed};
+    ghost use Rattle.nd_neighbour.specs.History.{Row, story, Forgot, Removed};
     ghost use Rattle.nd_neighbour.specs.Node.{Node};
     ghost use Rattle.nd_neighbour.specs.Change.{waiting_in};
     ghost use Rattle.nd_neighbour.specs.Table.{Stands, GainsRow};
@@ -18,7 +18,7 @@ impl<A: Allocator + Clone> Cache<A> {
     /// A neighbour is forgotten. What waited for it is handed out.
     pub fn forget(&mut self, addr: Addr) -> Packets<A>
         ensures stands { (at : ℕ) → GainsRow self.old.nodes self.new.nodes (at, number_of addr.0, Forgot Removed) }
-        ensures packets { (rows : List Row) → Stands self.old.nodes rows → result ≡ waits_of (story (number_of addr.0) rows) }
+        ensures packets { (history : List Row) → Stands self.old.nodes history → result ≡ waits_of (story (number_of addr.0) history) }
         ensures limit { self.new.limit ≡ self.old.limit }
         ensures rings { self.new.rings ≡ self.old.rings }
     {
@@ -27,7 +27,7 @@ impl<A: Allocator + Clone> Cache<A> {
 
     /// All neighbours are forgotten. What waited is handed out, in the order of the addresses, the oldest first.
     pub fn clear(&mut self) -> Result<Vec<Packet<A>, A>, AllocError>
-        ensures stands { OnOk result ((at : ℕ) (rows : List Row) → Stands self.old.nodes rows → Stands self.new.nodes (cleared at self.old.nodes rows)) }
+        ensures stands { OnOk result ((at : ℕ) (history : List Row) → Stands self.old.nodes history → Stands self.new.nodes (cleared at self.old.nodes history)) }
         ensures none { OnOk result (self.new.nodes ≡ []) }
         ensures packets { IfOk result (λ packets. packets.items ≡ all_waiting self.old.nodes) }
         ensures same { OnErr result (self.new ≡ self.old) }

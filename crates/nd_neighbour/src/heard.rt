@@ -11,10 +11,10 @@ use nd_addr::Addr;
 use std::alloc::Allocator;
 
 impl<A: Allocator + Clone> Cache<A> {
-    ghost use Rattle.nd_neighbour.specs.Rows.{Row, Confirmed};
+    ghost use Rattle.nd_neighbour.specs.History.{Row, Confirmed};
     ghost use Rattle.nd_neighbour.specs.Table.{Stands, GainsRow, node_in};
     ghost use Rattle.nd_neighbour.specs.Room.{NoPlace, WouldBeFull};
-    ghost use Rattle.nd_neighbour.specs.Calls.{Hears, Tells, news_key, news_row, lets_enter};
+    ghost use Rattle.nd_neighbour.specs.Calls.{GainsNews, Tells, news_key, news_row, lets_enter};
 
     /// A message says something of a neighbour (RFC 4861, sections 6.2.6, 6.3.4, 7.2.3, 7.2.5 and 8.3). An address
     /// that is given makes an entry. It takes no memory.
@@ -22,7 +22,7 @@ impl<A: Allocator + Clone> Cache<A> {
         requires moment { now < 2 ^ 62 }
         requires span { times.reachable < 2 ^ 62 }
 
-        ensures stands { OnOk result (Hears self.old.limit now news times self.old.nodes self.new.nodes) }
+        ensures stands { OnOk result (GainsNews self.old.limit now news times self.old.nodes self.new.nodes) }
         ensures told { IfOk result (λ touched. Tells now (news_key news) (news_row news times) self.old.nodes touched.released touched.ends_router) }
 
         // It is refused exactly where a new neighbour has no place, and only for that.

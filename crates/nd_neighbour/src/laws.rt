@@ -3,7 +3,7 @@
 ghost use Rattle.std.specs.Prelude.{◌≡◌, ◌≤◌, ◌↔◌, ◌++◌, ◌∷◌, [], ℕ, List, Option, None, length, nat_lt, slice_get, if◌then◌else◌};
 ghost use Rattle.std.specs.Option.{option_to_list};
 ghost use Rattle.circular_buffer.specs.Buffer.{keep_last};
-ghost use Rattle.nd_neighbour.specs.Rows.{Row, Story};
+ghost use Rattle.nd_neighbour.specs.History.{Row, Story};
 ghost use Rattle.nd_neighbour.specs.Resolving.{waiting_of};
 ghost use Rattle.nd_neighbour.specs.Node.{Node};
 ghost use Rattle.nd_neighbour.specs.Change.{Falls};
@@ -13,14 +13,14 @@ ghost use Rattle.nd_neighbour.specs.Room.{IsLongestStale, NoPlace, WouldBeFull};
 
 /// The definitions give one table, one thing that falls due first, and one neighbour that makes place.
 pub fn one_answer()
-    ensures table { (rows : List Row) (a b : List Node) → Stands a rows → Stands b rows → a ≡ b }
-    ensures due { (rows : List Row) (moment : ℕ) (a b : Option Falls) → FirstDue rows moment a → FirstDue rows moment b → a ≡ b }
-    ensures longest { (rows : List Row) (now a b : ℕ) → IsLongestStale rows now a → IsLongestStale rows now b → a ≡ b }
+    ensures table { (history : List Row) (a b : List Node) → Stands a history → Stands b history → a ≡ b }
+    ensures due { (history : List Row) (moment : ℕ) (a b : Option Falls) → FirstDue history moment a → FirstDue history moment b → a ≡ b }
+    ensures longest { (history : List Row) (now a b : ℕ) → IsLongestStale history now a → IsLongestStale history now b → a ≡ b }
 {}
 
 /// A cache has no place for a new neighbour exactly where what happened leaves none.
-pub fn full_by_rows()
-    ensures { (limit now key : ℕ) (nodes : List Node) (rows : List Row) → Stands nodes rows → NoPlace limit now key nodes ↔ WouldBeFull limit now key rows }
+pub fn full_by_history()
+    ensures { (limit now key : ℕ) (nodes : List Node) (history : List Row) → Stands nodes history → NoPlace limit now key nodes ↔ WouldBeFull limit now key history }
 {}
 
 /// At most three packets wait, and no packet is lost, doubled or moved where one more comes: those that waited and the

@@ -1,4 +1,4 @@
-/// Why a call is refused.
+/// Cause a call is refused.
 #[derive(Clone, Copy, Debug, PartialEq, Eq)]
 pub enum CacheRefusal {
     /// There is no place for one more neighbour, and none that is stale.

@@ -14,7 +14,7 @@ use nd_table::{Addressed, compare, holds};
 use std::alloc::Allocator;
 
 impl<A: Allocator + Clone> Cache<A> {
-    ghost use Rattle.nd_neighbour.specs.Rows.{Row};
+    ghost use Rattle.nd_neighbour.specs.History.{Row};
     ghost use Rattle.nd_neighbour.specs.Table.{Stands};
     ghost use Rattle.nd_neighbour.specs.Second.{HasRoom};
 
@@ -22,7 +22,7 @@ impl<A: Allocator + Clone> Cache<A> {
     /// refused as `Full`. A second one that had room here has place after `used` of the first.
     pub fn room(&self, now: u64, addr: Addr, then: Option<Addr>) -> bool
         ensures value { result ≡ has_room self.now.limit now (number_of addr.0) (option_map (λ next. number_of next.0) then) self.now.nodes }
-        ensures rows { (rows : List Row) → Stands self.now.nodes rows → result ≡ true ↔ HasRoom self.now.limit now (number_of addr.0) (option_map (λ next. number_of next.0) then) rows }
+        ensures history { (history : List Row) → Stands self.now.nodes history → result ≡ true ↔ HasRoom self.now.limit now (number_of addr.0) (option_map (λ next. number_of next.0) then) history }
     {
         has_room(&self.entries, self.limit, now, addr, then)
     }

@@ -13,11 +13,11 @@ use nd_waiting::Packet;
 use std::alloc::Allocator;
 
 impl<A: Allocator + Clone> Cache<A> {
-    ghost use Rattle.nd_neighbour.specs.Rows.{Row, story};
+    ghost use Rattle.nd_neighbour.specs.History.{Row, story};
     ghost use Rattle.nd_neighbour.specs.Table.{Stands, node_in};
     ghost use Rattle.nd_neighbour.specs.Room.{NoPlace};
     ghost use Rattle.nd_neighbour.specs.Second.{LeavesRoom};
-    ghost use Rattle.nd_neighbour.specs.Calls.{Takes, sending_of_story, refusal_of};
+    ghost use Rattle.nd_neighbour.specs.Calls.{GainsPacket, sending_of_story, refusal_of};
     ghost use Rattle.nd_neighbour.specs.View.{sending_of};
 
     /// A packet for a neighbour: it can be sent, or it waits for the address, and the first one begins a resolution
@@ -31,8 +31,8 @@ impl<A: Allocator + Clone> Cache<A> {
     ) -> Result<Use<A>, (CacheRefusal, Packet<A>)>
         requires { now < 2 ^ 62 }
 
-        ensures stands { OnOk result (Takes self.old.limit now (number_of addr.0) times.retrans packet self.old.nodes self.new.nodes) }
-        ensures sending { IfOk result (λ sent. (rows : List Row) → Stands self.old.nodes rows → sending_of sent ≡ sending_of_story (story (number_of addr.0) rows) packet) }
+        ensures stands { OnOk result (GainsPacket self.old.limit now (number_of addr.0) times.retrans packet self.old.nodes self.new.nodes) }
+        ensures sending { IfOk result (λ sent. (history : List Row) → Stands self.old.nodes history → sending_of sent ≡ sending_of_story (story (number_of addr.0) history) packet) }
 
         // Full comes exactly where a new neighbour has no place, and Memory only where one needs a ring and none is in hand.
         ensures full { (refusal_of result ≡ Some CacheRefusal.Full) ↔ NoPlace self.old.limit now (number_of addr.0) self.old.nodes }

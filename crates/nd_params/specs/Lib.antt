@@ -1,2 +1,2 @@
-pub mod Rows
+pub mod History
 pub mod Params

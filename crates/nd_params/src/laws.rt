@@ -1,10 +1,10 @@
 //! Laws of the definitions, each the contract of a function that does nothing.
 
 ghost use Rattle.std.specs.Prelude.{◌≡◌, List};
-ghost use Rattle.nd_params.specs.Rows.{Row};
+ghost use Rattle.nd_params.specs.History.{Row};
 ghost use Rattle.nd_params.specs.Params.{Values, Stands};
 
 /// What was heard gives one value of each parameter.
 pub fn one_answer()
-    ensures { (rows : List Row) (a b : Values) → Stands a rows → Stands b rows → a ≡ b }
+    ensures { (history : List Row) (a b : Values) → Stands a history → Stands b history → a ≡ b }
 {}

@@ -1,8 +1,8 @@
 ghost use Rattle.std.specs.Prelude.{◌≡◌, ◌^◌, ◌<◌, ◌+◌, ◌∷◌, [], List, is_some, not, false, ◌==◌};
 ghost use Rattle.nd_decode.specs.Option.{Said};
 ghost use Rattle.nd_decode.specs.Pieces.{options_left};
-ghost use Rattle.nd_params.specs.Rows.{Row, Heard, Drew, first_mtu, valid_mtu_or, base_of, next_draw, heard_then};
-ghost use Rattle.nd_params.specs.Params.{Values, Stands, Leads, redraws};
+ghost use Rattle.nd_params.specs.History.{Row, Heard, Drew, first_mtu, valid_mtu_or, base_of, next_draw, then_heard};
+ghost use Rattle.nd_params.specs.Params.{Values, Stands, GainsRows, redraws};
 
 use nd_decode::{OptionRef, Options, RouterAdvertisement};
 use std::marker::Model;
@@ -73,7 +73,7 @@ impl Params {
     /// Whether a Router Advertisement changes the base, so that ReachableTime has to be drawn (RFC 4861, section 6.3.4).
     pub fn redraws(&self, ra: &RouterAdvertisement) -> bool
         ensures value { result ≡ redraws self.now.base_reachable_time ra.now.reachable_time }
-        ensures changes { (rows : List Row) (options : List Said) → Stands self.now rows → result ≡ not (base_of (Heard ra.now options ∷ rows) == base_of rows) }
+        ensures changes { (history : List Row) (options : List Said) → Stands self.now history → result ≡ not (base_of (Heard ra.now options ∷ history) == base_of history) }
     {
         ra.reachable_time != 0 && ra.reachable_time != self.base_reachable_time
     }
@@ -89,7 +89,7 @@ impl Params {
     )
         requires moment { now < 2 ^ 62 }
         requires drawn { is_some drawn ≡ redraws self.old.base_reachable_time ra.now.reachable_time }
-        ensures stands { Leads self.old self.new (heard_then now ra.now (options_left options.entry) drawn) }
+        ensures stands { GainsRows self.old self.new (then_heard now ra.now (options_left options.entry) drawn) }
     {
         if ra.hop_limit != 0 {
             self.hop_limit = ra.hop_limit;
@@ -111,7 +111,7 @@ impl Params {
     /// The moment at which ReachableTime is to be drawn again.
     pub fn next_due(&self) -> u64
         ensures value { result ≡ self.now.drawn_at + 7200000 }
-        ensures due { (rows : List Row) → Stands self.now rows → result ≡ next_draw rows }
+        ensures due { (history : List Row) → Stands self.now history → result ≡ next_draw history }
     {
         self.drawn_at + REDRAW_AFTER
     }
@@ -120,7 +120,7 @@ impl Params {
     pub fn redrawn(&mut self, now: u64, drawn: u64)
         requires { now < 2 ^ 62 }
         ensures value { self.new ≡ record self.old { reachable_time = drawn; drawn_at = now } }
-        ensures stands { Leads self.old self.new (λ rows. Drew now drawn ∷ rows) }
+        ensures stands { GainsRows self.old self.new (λ history. Drew now drawn ∷ history) }
     {
         self.reachable_time = drawn;
         self.drawn_at = now;

@@ -1,5 +1,5 @@
 ghost use Rattle.std.specs.Prelude.{◌≡◌, List};
-ghost use Rattle.nd_params.specs.Rows.{Row, hop_limit_of, mtu_of, base_of, retrans_of, managed_of, other_of, reachable_of};
+ghost use Rattle.nd_params.specs.History.{Row, hop_limit_of, mtu_of, base_of, retrans_of, managed_of, other_of, reachable_of};
 ghost use Rattle.nd_params.specs.Params.{Stands};
 
 use crate::params::Params;
@@ -8,7 +8,7 @@ impl Params {
     /// CurHopLimit.
     pub fn hop_limit(&self) -> u8
         ensures value { result ≡ self.now.hop_limit }
-        ensures by_rows { (rows : List Row) → Stands self.now rows → result ≡ hop_limit_of rows }
+        ensures by_history { (history : List Row) → Stands self.now history → result ≡ hop_limit_of history }
     {
         self.hop_limit
     }
@@ -16,7 +16,7 @@ impl Params {
     /// LinkMTU, in bytes.
     pub fn mtu(&self) -> u32
         ensures value { result ≡ self.now.mtu }
-        ensures by_rows { (rows : List Row) → Stands self.now rows → result ≡ mtu_of rows }
+        ensures by_history { (history : List Row) → Stands self.now history → result ≡ mtu_of history }
     {
         self.mtu
     }
@@ -24,7 +24,7 @@ impl Params {
     /// BaseReachableTime, in milliseconds.
     pub fn base_reachable_time(&self) -> u32
         ensures value { result ≡ self.now.base_reachable_time }
-        ensures by_rows { (rows : List Row) → Stands self.now rows → result ≡ base_of rows }
+        ensures by_history { (history : List Row) → Stands self.now history → result ≡ base_of history }
     {
         self.base_reachable_time
     }
@@ -32,7 +32,7 @@ impl Params {
     /// ReachableTime, in milliseconds.
     pub fn reachable_time(&self) -> u64
         ensures value { result ≡ self.now.reachable_time }
-        ensures by_rows { (rows : List Row) → Stands self.now rows → result ≡ reachable_of rows }
+        ensures by_history { (history : List Row) → Stands self.now history → result ≡ reachable_of history }
     {
         self.reachable_time
     }
@@ -40,7 +40,7 @@ impl Params {
     /// RetransTimer, in milliseconds.
     pub fn retrans_timer(&self) -> u32
         ensures value { result ≡ self.now.retrans_timer }
-        ensures by_rows { (rows : List Row) → Stands self.now rows → result ≡ retrans_of rows }
+        ensures by_history { (history : List Row) → Stands self.now history → result ≡ retrans_of history }
     {
         self.retrans_timer
     }
@@ -48,7 +48,7 @@ impl Params {
     /// Whether addresses are to be had by DHCPv6: the flag M of the last Router Advertisement.
     pub fn managed(&self) -> bool
         ensures value { result ≡ self.now.managed }
-        ensures by_rows { (rows : List Row) → Stands self.now rows → result ≡ managed_of rows }
+        ensures by_history { (history : List Row) → Stands self.now history → result ≡ managed_of history }
     {
         self.managed
     }
@@ -56,7 +56,7 @@ impl Params {
     /// Whether other configuration is to be had by DHCPv6: the flag O of the last Router Advertisement.
     pub fn other(&self) -> bool
         ensures value { result ≡ self.now.other }
-        ensures by_rows { (rows : List Row) → Stands self.now rows → result ≡ other_of rows }
+        ensures by_history { (history : List Row) → Stands self.now history → result ≡ other_of history }
     {
         self.other
     }

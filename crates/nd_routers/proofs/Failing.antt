@@ -3,12 +3,12 @@ use Rattle.std.proofs.Common.{◌≡◌, ℕ, ◌<◌, ◌≤◌, Bool, true, fa
 use Rattle.std.specs.Prelude.{not, is_some, ◌&&◌, ◌||◌}
 use Rattle.std.proofs.lemmas.Bool.Decides.{nat_tests, eqb_tells}
 use Rattle.std.proofs.lemmas.Bool.{cond_both, true≢false}
-use Rattle.nd_lifetime.specs.Rows.{end_of, stands}
-use Rattle.nd_lifetime.specs.declared.kept.Kept.{Kept}
-use Rattle.nd_lifetime.specs.Listing.{end_in, without, Stands}
+use Rattle.nd_lifetime.specs.History.{end_of, stands}
+use Rattle.nd_lifetime.specs.declared.lasting.Lasting.{Lasting}
+use Rattle.nd_lifetime.specs.Listing.{end_in, without, StandsUntilTold}
 use Rattle.nd_lifetime.proofs.Finding.{end_in-without}
 use Rattle.nd_routers.proofs.Dues.{length-without}
-use Rattle.nd_routers.specs.Happenings.{Happening, Heard, Left, Failed, announcements, failure_of}
+use Rattle.nd_routers.specs.History.{RouterRow, Heard, LeftList, Failed, announcements, failure_of}
 use Rattle.nd_routers.specs.Failures.{has_failed, AllLater, InOrder, number_in, Failures, others}
 use Rattle.nd_routers.specs.Routers.{same}
 
@@ -56,56 +56,56 @@ pub InOrder-push : (f : ℕ → ℕ) (key : ℕ) (ks : List ℕ) → InOrder f k
 InOrder-push f key [] h l = (tt, tt)
 InOrder-push f key (k ∷ ks) h l = (AllLater-push f (f k) key ks h.0 (l k (head_has k ks)), InOrder-push f key ks h.1 (λ j p. l j (tail_has k j ks p)))
 
--- a failure is among the rows
-failure_below : (key : ℕ) (rows : List Happening) → is_some (failure_of key rows) ≡ true → number_in (failure_of key rows) < length rows
+-- a failure is among the history
+failure_below : (key : ℕ) (history : List RouterRow) → is_some (failure_of key history) ≡ true → number_in (failure_of key history) < length history
 failure_below key [] h = absurd (true≢false (sym h))
-failure_below key (Heard at k w ∷ rows) h = grind (arith, nat_tests, h, failure_below key rows)
-failure_below key (Left at k ∷ rows) h = grind (arith, nat_tests, h, failure_below key rows)
-failure_below key (Failed at k ∷ rows) h = grind (arith, nat_tests, h, failure_below key rows)
+failure_below key (Heard at k w ∷ history) h = grind (arith, nat_tests, h, failure_below key history)
+failure_below key (LeftList at k ∷ history) h = grind (arith, nat_tests, h, failure_below key history)
+failure_below key (Failed at k ∷ history) h = grind (arith, nat_tests, h, failure_below key history)
 
 both : (a b c : Bool) → a ≡ (b && c) → a ≡ true → (b ≡ true) × (c ≡ true)
 both a true c is h = (refl, sym is ∙ h)
 both a false c is h = absurd (true≢false (sym h ∙ is))
 
-module _ (rows : List Happening) (ks : List ℕ) (f : Failures rows ks) where
-  some_of : (k : ℕ) → has_failed k ks ≡ true → (is_some (end_of same k (announcements rows)) ≡ true) × (is_some (failure_of k rows) ≡ true)
+module _ (history : List RouterRow) (ks : List ℕ) (f : Failures history ks) where
+  some_of : (k : ℕ) → has_failed k ks ≡ true → (is_some (end_of same k (announcements history)) ≡ true) × (is_some (failure_of k history) ≡ true)
   some_of k h = both _ _ _ (f.each k) h
 
   -- a router that leaves
-  pub leaves : (at key : ℕ) → Failures (Left at key ∷ rows) (others key ks)
+  pub leaves : (at key : ℕ) → Failures (LeftList at key ∷ history) (others key ks)
   leaves at key = record {
     each = λ k. has_failed-others k key ks ∙ grind (arith, nat_tests, f.each k);
-    order = InOrder-agree (λ k. number_in (failure_of k rows)) _ (others key ks) (λ k h. grind (arith, nat_tests, h, has_failed-others k key ks)) (InOrder-others _ key ks f.order);
+    order = InOrder-agree (λ k. number_in (failure_of k history)) _ (others key ks) (λ k h. grind (arith, nat_tests, h, has_failed-others k key ks)) (InOrder-others _ key ks f.order);
   }
 
   -- a router that is listed and fails
-  pub fails_again : (at key : ℕ) → is_some (end_of same key (announcements rows)) ≡ true → Failures (Failed at key ∷ rows) (others key ks ++ key ∷ [])
+  pub fails_again : (at key : ℕ) → is_some (end_of same key (announcements history)) ≡ true → Failures (Failed at key ∷ history) (others key ks ++ key ∷ [])
   fails_again at key listed = record {
     each = λ k. has_failed-push k key (others key ks) ∙ grind (arith, nat_tests, f.each k, has_failed-others k key ks, listed);
-    order = InOrder-push (λ k. number_in (failure_of k (Failed at key ∷ rows))) key (others key ks)
-        (InOrder-agree (λ k. number_in (failure_of k rows)) _ (others key ks) (λ k h. grind (arith, nat_tests, h, has_failed-others k key ks)) (InOrder-others _ key ks f.order))
-        (λ k h. grind (arith, nat_tests, h, has_failed-others k key ks, failure_below k rows, some_of k));
+    order = InOrder-push (λ k. number_in (failure_of k (Failed at key ∷ history))) key (others key ks)
+        (InOrder-agree (λ k. number_in (failure_of k history)) _ (others key ks) (λ k h. grind (arith, nat_tests, h, has_failed-others k key ks)) (InOrder-others _ key ks f.order))
+        (λ k h. grind (arith, nat_tests, h, has_failed-others k key ks, failure_below k history, some_of k));
   }
 
   -- a router that isn't listed and fails
-  pub fails_unlisted : (at key : ℕ) → is_some (end_of same key (announcements rows)) ≡ false → Failures (Failed at key ∷ rows) ks
+  pub fails_unlisted : (at key : ℕ) → is_some (end_of same key (announcements history)) ≡ false → Failures (Failed at key ∷ history) ks
   fails_unlisted at key unlisted = record {
     each = λ k. grind (arith, nat_tests, f.each k, unlisted);
-    order = InOrder-agree (λ k. number_in (failure_of k rows)) _ ks (λ k h. grind (arith, nat_tests, h, unlisted, f.each k, some_of k)) f.order;
+    order = InOrder-agree (λ k. number_in (failure_of k history)) _ ks (λ k h. grind (arith, nat_tests, h, unlisted, f.each k, some_of k)) f.order;
   }
 
   -- a router that announces that it is none
-  pub is_removed : (at key : ℕ) → Failures (Heard at key 0 ∷ rows) (others key ks)
+  pub is_removed : (at key : ℕ) → Failures (Heard at key 0 ∷ history) (others key ks)
   is_removed at key = record {
     each = λ k. has_failed-others k key ks ∙ grind (arith, nat_tests, f.each k);
-    order = InOrder-agree (λ k. number_in (failure_of k rows)) _ (others key ks) (λ k h. grind (arith, nat_tests, h, has_failed-others k key ks)) (InOrder-others _ key ks f.order);
+    order = InOrder-agree (λ k. number_in (failure_of k history)) _ (others key ks) (λ k h. grind (arith, nat_tests, h, has_failed-others k key ks)) (InOrder-others _ key ks f.order);
   }
 
   -- a router that announces itself, where it stands if it is listed
-  pub is_heard : (at key w : ℕ) → eqb w 0 ≡ false → stands same key (announcements rows) at ≡ is_some (end_of same key (announcements rows)) → Failures (Heard at key w ∷ rows) ks
+  pub is_heard : (at key w : ℕ) → eqb w 0 ≡ false → stands same key (announcements history) at ≡ is_some (end_of same key (announcements history)) → Failures (Heard at key w ∷ history) ks
   is_heard at key w n settled = record {
     each = λ k. grind (arith, nat_tests, f.each k, n, settled);
-    order = InOrder-agree (λ k. number_in (failure_of k rows)) _ ks (λ k h. grind (arith, nat_tests, h, n, settled, some_of k)) f.order;
+    order = InOrder-agree (λ k. number_in (failure_of k history)) _ ks (λ k h. grind (arith, nat_tests, h, n, settled, some_of k)) f.order;
   }
 
 pub not_first : (f : ℕ → ℕ) (n key : ℕ) (ks : List ℕ) → AllLater f n ks → f key ≤ n → has_failed key ks ≡ false
@@ -118,7 +118,7 @@ not_first f n key (k ∷ ks) h le =
 differ : (a b c : ℕ) (ks : List ℕ) → has_failed a ks ≡ false → has_failed b ks ≡ true → eqb a b ≡ false
 differ a b c ks no_a b_in = ⊎_elim (λ s. absurd (true≢false (sym b_in ∙ (ap (λ k. has_failed k ks) (sym s.1) ∙ no_a)))) (λ d. d.0) (eqb_tells a b)
 
-some_end : (key : ℕ) (es : List (Kept ℕ)) → is_some (end_in same key es) ≡ true → (end : Option ℕ) × (end_in same key es ≡ Some end)
+some_end : (key : ℕ) (es : List (Lasting ℕ)) → is_some (end_in same key es) ≡ true → (end : Option ℕ) × (end_in same key es ≡ Some end)
 some_end key es h = by (end_in same key es) refl h
   where
     by : (o : Option (Option ℕ)) → end_in same key es ≡ o → is_some o ≡ true → (end : Option ℕ) × (end_in same key es ≡ Some end)
@@ -126,7 +126,7 @@ some_end key es h = by (end_in same key es) refl h
     by (Some end) e h' = (end, e)
 
 -- keys that are in order and all have entries are no more than the entries
-few : (f : ℕ → ℕ) (ks : List ℕ) (es : List (Kept ℕ)) → InOrder f ks → ((k : ℕ) → has_failed k ks ≡ true → is_some (end_in same k es) ≡ true) → length ks ≤ length es
+few : (f : ℕ → ℕ) (ks : List ℕ) (es : List (Lasting ℕ)) → InOrder f ks → ((k : ℕ) → has_failed k ks ≡ true → is_some (end_in same k es) ≡ true) → length ks ≤ length es
 few f [] es o h = omega arith
 few f (k ∷ ks) es o h =
     let found = some_end k es (h k (head_has k ks)) in
@@ -136,10 +136,10 @@ few f (k ∷ ks) es o h =
     omega (arith, shorter, rest)
 
 -- there is room for a failure of a router that is listed
-pub has_room : (rows : List Happening) (ks : List ℕ) (es : List (Kept ℕ)) (key : ℕ) → Failures rows ks → Stands same es (announcements rows) → is_some (end_in same key es) ≡ true → length (others key ks) < length es
-has_room rows ks es key f s listed =
+pub has_room : (history : List RouterRow) (ks : List ℕ) (es : List (Lasting ℕ)) (key : ℕ) → Failures history ks → StandsUntilTold same es (announcements history) → is_some (end_in same key es) ≡ true → length (others key ks) < length es
+has_room history ks es key f s listed =
     let found = some_end key es listed in
     let shorter = length-without key found.0 es found.1 in
-    let rest = few (λ k. number_in (failure_of k rows)) (others key ks) (without same key es) (InOrder-others _ key ks f.order)
-    (λ j p. grind (arith, nat_tests, p, has_failed-others j key ks, end_in-without same eqb_tells j key es, ap is_some (s.ends j), some_of rows ks f j)) in
+    let rest = few (λ k. number_in (failure_of k history)) (others key ks) (without same key es) (InOrder-others _ key ks f.order)
+    (λ j p. grind (arith, nat_tests, p, has_failed-others j key ks, end_in-without same eqb_tells j key es, ap is_some (s.ends j), some_of history ks f j)) in
     omega (arith, shorter, rest)

@@ -2,14 +2,14 @@
 use Rattle.std.proofs.Common.{◌≡◌, ℕ, Bool, true, false, cond, eqb, List, [], ◌∷◌, ◌++◌, Option, Some, None, refl, sym, ◌∙◌, ap, subst, arith}
 use Rattle.std.specs.Prelude.{is_some, not}
 use Rattle.std.proofs.lemmas.Bool.Decides.{nat_tests, eqb_tells}
-use Rattle.nd_lifetime.specs.declared.kept.Kept.{Kept}
-use Rattle.nd_lifetime.specs.Rows.{Announced, end_of, is_open, stands}
-use Rattle.nd_lifetime.specs.Listing.{end_in, without, announced, open_at, Stands}
+use Rattle.nd_lifetime.specs.declared.lasting.Lasting.{Lasting}
+use Rattle.nd_lifetime.specs.History.{Announced, end_of, is_open, stands}
+use Rattle.nd_lifetime.specs.Listing.{end_in, without, announced, open_at, StandsUntilTold}
 use Rattle.nd_lifetime.proofs.Steps.{gains, ends, open_in, AllOpen-announced, AllOpen-filter, lists_at}
-use Rattle.nd_routers.specs.Happenings.{Happening, Heard, Left, Failed, announcements}
+use Rattle.nd_routers.specs.History.{RouterRow, Heard, LeftList, Failed, announcements}
 use Rattle.nd_routers.specs.Change.{change_of}
 use Rattle.nd_routers.specs.Failures.{Failures, others}
-use Rattle.nd_routers.specs.Routers.{Table, same, IsOf, Gains, IsSettled}
+use Rattle.nd_routers.specs.Routers.{Table, same, Stands, GainsRow, IsSettled}
 use Rattle.nd_routers.proofs.Failing.{leaves, fails_again, fails_unlisted, is_removed, is_heard}
 use Rattle.nd_routers.proofs.Settled.{open_each, settled_from}
 
@@ -18,71 +18,71 @@ open_is_some a None now is h = refl
 open_is_some a (Some e) now is h = ap (λ x. is_open x now) (sym is) ∙ h (ap is_some is)
 
 -- of settled routers each that is listed stands
-pub stands_listed : (es : List (Kept ℕ)) (rows : List Happening) (now key : ℕ) → IsSettled es now → Stands same es (announcements rows) → stands same key (announcements rows) now ≡ is_some (end_in same key es)
-stands_listed es rows now key settled s =
-    open_is_some (end_in same key es) (end_of same key (announcements rows)) now (s.ends key) (open_in same eqb_tells now key es (open_each es now settled))
+pub stands_listed : (es : List (Lasting ℕ)) (history : List RouterRow) (now key : ℕ) → IsSettled es now → StandsUntilTold same es (announcements history) → stands same key (announcements history) now ≡ is_some (end_in same key es)
+stands_listed es history now key settled s =
+    open_is_some (end_in same key es) (end_of same key (announcements history)) now (s.ends key) (open_in same eqb_tells now key es (open_each es now settled))
     ∙ ap is_some (sym (s.ends key))
 
 module _ (old new : Table) where
-  pub gains_left : (at key : ℕ) → new.entries ≡ without same key old.entries → new.failed ≡ others key old.failed → Gains old new (Left at key)
+  pub gains_left : (at key : ℕ) → new.entries ≡ without same key old.entries → new.failed ≡ others key old.failed → GainsRow old new (LeftList at key)
   gains_left at key e f = record {
-    stands = λ rows s. record {
-      routers = subst (λ (es : List (Kept ℕ)). Stands same es (announcements (Left at key ∷ rows))) (sym e) (ends same eqb_tells old.entries (announcements rows) at key s.routers);
-      failures = subst (λ (ks : List ℕ). Failures (Left at key ∷ rows) ks) (sym f) (leaves rows old.failed s.failures at key);
+    stands = λ history s. record {
+      routers = subst (λ (es : List (Lasting ℕ)). StandsUntilTold same es (announcements (LeftList at key ∷ history))) (sym e) (ends same eqb_tells old.entries (announcements history) at key s.routers);
+      failures = subst (λ (ks : List ℕ). Failures (LeftList at key ∷ history) ks) (sym f) (leaves history old.failed s.failures at key);
     };
   }
 
-  pub gains_removed : (now key : ℕ) → IsSettled old.entries now → new.entries ≡ announced same now key 0 old.entries → new.failed ≡ others key old.failed → Gains old new (Heard now key 0)
+  pub gains_removed : (now key : ℕ) → IsSettled old.entries now → new.entries ≡ announced same now key 0 old.entries → new.failed ≡ others key old.failed → GainsRow old new (Heard now key 0)
   gains_removed now key settled e f = record {
-    stands = λ rows s. record {
-      routers = subst (λ (es : List (Kept ℕ)). Stands same es (announcements (Heard now key 0 ∷ rows))) (sym e) (gains same eqb_tells old.entries (announcements rows) now key 0 (open_each old.entries now settled) s.routers);
-      failures = subst (λ (ks : List ℕ). Failures (Heard now key 0 ∷ rows) ks) (sym f) (is_removed rows old.failed s.failures now key);
+    stands = λ history s. record {
+      routers = subst (λ (es : List (Lasting ℕ)). StandsUntilTold same es (announcements (Heard now key 0 ∷ history))) (sym e) (gains same eqb_tells old.entries (announcements history) now key 0 (open_each old.entries now settled) s.routers);
+      failures = subst (λ (ks : List ℕ). Failures (Heard now key 0 ∷ history) ks) (sym f) (is_removed history old.failed s.failures now key);
     };
   }
 
-  pub gains_heard : (now key w : ℕ) → eqb w 0 ≡ false → IsSettled old.entries now → new.entries ≡ announced same now key w old.entries → new.failed ≡ old.failed → Gains old new (Heard now key w)
+  pub gains_heard : (now key w : ℕ) → eqb w 0 ≡ false → IsSettled old.entries now → new.entries ≡ announced same now key w old.entries → new.failed ≡ old.failed → GainsRow old new (Heard now key w)
   gains_heard now key w n settled e f = record {
-    stands = λ rows s. record {
-      routers = subst (λ (es : List (Kept ℕ)). Stands same es (announcements (Heard now key w ∷ rows))) (sym e) (gains same eqb_tells old.entries (announcements rows) now key w (open_each old.entries now settled) s.routers);
-      failures = subst (λ (ks : List ℕ). Failures (Heard now key w ∷ rows) ks) (sym f)
-          (is_heard rows old.failed s.failures now key w n (stands_listed old.entries rows now key settled s.routers ∙ ap is_some (s.routers.ends key)));
+    stands = λ history s. record {
+      routers = subst (λ (es : List (Lasting ℕ)). StandsUntilTold same es (announcements (Heard now key w ∷ history))) (sym e) (gains same eqb_tells old.entries (announcements history) now key w (open_each old.entries now settled) s.routers);
+      failures = subst (λ (ks : List ℕ). Failures (Heard now key w ∷ history) ks) (sym f)
+          (is_heard history old.failed s.failures now key w n (stands_listed old.entries history now key settled s.routers ∙ ap is_some (s.routers.ends key)));
     };
   }
 
-  pub gains_failure : (at key : ℕ) (rows : List Happening) → IsOf old rows → is_some (end_in same key old.entries) ≡ true → new.entries ≡ old.entries → new.failed ≡ others key old.failed ++ key ∷ [] → IsOf new (Failed at key ∷ rows)
-  gains_failure at key rows s listed e f = record {
-    routers = subst (λ (es : List (Kept ℕ)). Stands same es (announcements rows)) (sym e) s.routers;
-    failures = subst (λ (ks : List ℕ). Failures (Failed at key ∷ rows) ks) (sym f) (fails_again rows old.failed s.failures at key (ap is_some (sym (s.routers.ends key)) ∙ listed));
+  pub gains_failure : (at key : ℕ) (history : List RouterRow) → Stands old history → is_some (end_in same key old.entries) ≡ true → new.entries ≡ old.entries → new.failed ≡ others key old.failed ++ key ∷ [] → Stands new (Failed at key ∷ history)
+  gains_failure at key history s listed e f = record {
+    routers = subst (λ (es : List (Lasting ℕ)). StandsUntilTold same es (announcements history)) (sym e) s.routers;
+    failures = subst (λ (ks : List ℕ). Failures (Failed at key ∷ history) ks) (sym f) (fails_again history old.failed s.failures at key (ap is_some (sym (s.routers.ends key)) ∙ listed));
   }
 
-  pub gains_no_failure : (at key : ℕ) → is_some (end_in same key old.entries) ≡ false → new ≡ old → Gains old new (Failed at key)
+  pub gains_no_failure : (at key : ℕ) → is_some (end_in same key old.entries) ≡ false → new ≡ old → GainsRow old new (Failed at key)
   gains_no_failure at key unlisted is = record {
-    stands = λ rows s. subst (λ (t : Table). IsOf t (Failed at key ∷ rows)) (sym is) (record {
+    stands = λ history s. subst (λ (t : Table). Stands t (Failed at key ∷ history)) (sym is) (record {
       routers = s.routers;
-      failures = fails_unlisted rows old.failed s.failures at key (ap is_some (sym (s.routers.ends key)) ∙ unlisted);
+      failures = fails_unlisted history old.failed s.failures at key (ap is_some (sym (s.routers.ends key)) ∙ unlisted);
     });
   }
 
-pub settled_announced : (es : List (Kept ℕ)) (now key w : ℕ) → IsSettled (announced same now key w es) now
+pub settled_announced : (es : List (Lasting ℕ)) (now key w : ℕ) → IsSettled (announced same now key w es) now
 settled_announced es now key w = settled_from _ now (AllOpen-announced same eqb_tells now key w es)
 
-pub settled_without : (es : List (Kept ℕ)) (now key : ℕ) → IsSettled es now → IsSettled (without same key es) now
+pub settled_without : (es : List (Lasting ℕ)) (now key : ℕ) → IsSettled es now → IsSettled (without same key es) now
 settled_without es now key h = settled_from _ now (AllOpen-filter same eqb_tells now _ es (open_each es now h))
 
 -- a key stands behind its announcement, but for a lifetime of 0
-pub stands_after : (rows : List Happening) (now key w : ℕ) → stands same key (Announced now key w ∷ announcements rows) now ≡ not (eqb w 0)
-stands_after rows now key w = grind (arith, nat_tests)
+pub stands_after : (history : List RouterRow) (now key w : ℕ) → stands same key (Announced now key w ∷ announcements history) now ≡ not (eqb w 0)
+stands_after history now key w = grind (arith, nat_tests)
 
-pub holds_at : (es : List (Kept ℕ)) (rows : List Happening) (now key : ℕ) → Stands same es (announcements rows) → is_some (end_in same key (open_at now es)) ≡ stands same key (announcements rows) now
-holds_at es rows now key s = by (end_in same key (open_at now es)) (end_of same key (announcements rows)) ((lists_at same eqb_tells es (announcements rows) now s).ends key)
+pub holds_at : (es : List (Lasting ℕ)) (history : List RouterRow) (now key : ℕ) → StandsUntilTold same es (announcements history) → is_some (end_in same key (open_at now es)) ≡ stands same key (announcements history) now
+holds_at es history now key s = by (end_in same key (open_at now es)) (end_of same key (announcements history)) ((lists_at same eqb_tells es (announcements history) now s).ends key)
   where
     by : (a o : Option (Option ℕ)) → a ≡ cond (is_open o now) o None → is_some a ≡ is_open o now
     by a None is = ap is_some is
     by a (Some e) is = grind (arith, is)
 
 -- what changes, by what was listed and what lasts
-pub changes : (t : Table) (rows : List Happening) (now key w : ℕ) (before after : Bool) → IsOf t rows → IsSettled t.entries now → before ≡ is_some (end_in same key t.entries) → after ≡ not (eqb w 0)
-    → change_of before after ≡ change_of (stands same key (announcements rows) now) (stands same key (announcements (Heard now key w ∷ rows)) now)
-changes t rows now key w before after s settled b a =
-    ap (λ x. change_of x after) (b ∙ sym (stands_listed t.entries rows now key settled s.routers))
-    ∙ ap (λ x. change_of (stands same key (announcements rows) now) x) (a ∙ sym (stands_after rows now key w))
+pub changes : (t : Table) (history : List RouterRow) (now key w : ℕ) (before after : Bool) → Stands t history → IsSettled t.entries now → before ≡ is_some (end_in same key t.entries) → after ≡ not (eqb w 0)
+    → change_of before after ≡ change_of (stands same key (announcements history) now) (stands same key (announcements (Heard now key w ∷ history)) now)
+changes t history now key w before after s settled b a =
+    ap (λ x. change_of x after) (b ∙ sym (stands_listed t.entries history now key settled s.routers))
+    ∙ ap (λ x. change_of (stands same key (announcements history) now) x) (a ∙ sym (stands_after history now key w))

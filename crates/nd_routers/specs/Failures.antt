@@ -1,8 +1,8 @@
 -- The routers that failed, in the order of their last failures.
 use Rattle.std.specs.Prelude.{◌≡◌, ℕ, ◌+◌, ◌<◌, Bool, false, ◌||◌, ◌&&◌, not, ◌==◌, if◌then◌else◌, List, [], ◌∷◌, filter, Option, Some, None, is_some}
 use Rattle.std.specs.Option.{option_map}
-use Rattle.nd_lifetime.specs.Rows.{end_of}
-use Rattle.nd_routers.specs.Happenings.{Happening, announcements, failure_of}
+use Rattle.nd_lifetime.specs.History.{end_of}
+use Rattle.nd_routers.specs.History.{RouterRow, announcements, failure_of}
 
 -- the key is among them
 abbrev pub has_failed : ℕ → List ℕ → Bool
@@ -25,9 +25,9 @@ number_in None = 0
 number_in (Some n) = n
 
 -- the keys are the routers that are listed and failed since they came, in the order of their last failures
-pub record Failures (rows : List Happening) (keys : List ℕ) : Type 0 where
-  pub each : (key : ℕ) → has_failed key keys ≡ (is_some (end_of (λ a b. a == b) key (announcements rows)) && is_some (failure_of key rows))
-  pub order : InOrder (λ key. number_in (failure_of key rows)) keys
+pub record Failures (history : List RouterRow) (keys : List ℕ) : Type 0 where
+  pub each : (key : ℕ) → has_failed key keys ≡ (is_some (end_of (λ a b. a == b) key (announcements history)) && is_some (failure_of key history))
+  pub order : InOrder (λ key. number_in (failure_of key history)) keys
 
 -- the keys without this one
 abbrev pub others : ℕ → List ℕ → List ℕ
@@ -39,7 +39,7 @@ place_among key [] = None
 place_among key (k ∷ keys) = if k == key then Some 0 else option_map (λ i. i + 1) (place_among key keys)
 
 -- where the router is among those that failed, if it did
-pub record FailsAt (rows : List Happening) (key : ℕ) (place : Option ℕ) : Type 0 where
+pub record FailsAt (history : List RouterRow) (key : ℕ) (place : Option ℕ) : Type 0 where
   pub keys : List ℕ
-  pub failures : Failures rows keys
+  pub failures : Failures history keys
   pub place_is : place ≡ place_among key keys

@@ -1,7 +1,7 @@
 pub mod Change
 pub mod Due
 pub mod Failures
-pub mod Happenings
+pub mod History
 pub mod OnLink
 pub mod Prefixes
 pub mod Routers

@@ -7,7 +7,7 @@ ghost use Rattle.nd_table.specs.Due.{lesser};
 use crate::router::Router;
 use nd_addr::Addr;
 use nd_table::{compare, is_at};
-use nd_lifetime::Kept;
+use nd_lifetime::Lasting;
 
 /// The lesser of two addresses, of which the first may be missing.
 fn lesser_addr(a: Option<Addr>, b: Addr) -> Addr
@@ -20,7 +20,7 @@ fn lesser_addr(a: Option<Addr>, b: Addr) -> Addr
 }
 
 /// The least address of those whose end is now.
-pub(crate) fn first_due(entries: &[Kept<Router>], now: u64) -> Option<Addr>
+pub(crate) fn first_due(entries: &[Lasting<Router>], now: u64) -> Option<Addr>
     ensures { option_map (λ a. number_of a.0) result ≡ first_due now entries.now }
 {
     let mut least = None;

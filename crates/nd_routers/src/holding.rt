@@ -6,7 +6,7 @@ ghost use Rattle.nd_routers.specs.Prefixes.{least_end, link_local_subnet};
 
 use nd_addr::{Addr, Prefix};
 use nd_table::lesser;
-use nd_lifetime::{Kept, Standing};
+use nd_lifetime::{Lasting, Standing};
 
 /// Whether a prefix holds an address.
 fn holds(prefix: &Prefix, address: Addr) -> bool
@@ -29,7 +29,7 @@ pub(crate) fn is_link_local(address: Addr) -> bool
 }
 
 /// Whether a prefix that stands holds an address.
-pub(crate) fn is_held(entries: &[Kept<Prefix>], now: u64, address: Addr) -> bool
+pub(crate) fn is_held(entries: &[Lasting<Prefix>], now: u64, address: Addr) -> bool
     ensures { result ≡ list_any (λ e. holds e.key address.0) (open_at now entries.now) }
 {
     for entry in Standing::new(entries, now) {
@@ -41,7 +41,7 @@ pub(crate) fn is_held(entries: &[Kept<Prefix>], now: u64, address: Addr) -> bool
 }
 
 /// The earliest end of the prefixes that stand.
-pub(crate) fn least_end(entries: &[Kept<Prefix>], now: u64) -> Option<u64>
+pub(crate) fn least_end(entries: &[Lasting<Prefix>], now: u64) -> Option<u64>
     ensures { result ≡ least_end (open_at now entries.now) }
 {
     let mut least = None;

@@ -17,7 +17,7 @@ pub use change::Change;
 pub use listed::Listed;
 pub use nd_dns::{Dns, NewNames, SearchName};
 pub use nd_params::{Params, reachable_range};
-pub use nd_lifetime::{Kept, Limit, Standing, TableRefusal};
+pub use nd_lifetime::{Lasting, Limit, Standing, TableRefusal};
 pub use prefixes::Prefixes;
 pub use router::Router;
 pub use routers::Routers;

@@ -3,7 +3,7 @@ ghost use Rattle.nd_addr.specs.Number.{number_of};
 
 use nd_addr::Addr;
 use nd_table::compare;
-use nd_lifetime::Names;
+use nd_lifetime::NamesKey;
 use std::marker::Model;
 
 /// A default router, by its address.

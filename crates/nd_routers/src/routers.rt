@@ -1,9 +1,9 @@
 ghost use Rattle.std.specs.Prelude.{◌≡◌, ◌≢◌, ◌≤◌, ◌<◌, ◌^◌, ◌↔◌, ◌∷◌, ℕ, List, [], IfOk, IfErr, OnOk, OnErr, IsErr, IfSome, IfNone, Some, false, is_some, length, map, slice_get};
 ghost use Rattle.std.specs.Option.{option_map};
 ghost use Rattle.nd_addr.specs.Number.{number_of};
-ghost use Rattle.nd_lifetime.specs.Rows.{stands};
+ghost use Rattle.nd_lifetime.specs.History.{stands};
 ghost use Rattle.nd_lifetime.specs.Listing.{end_in, open_at, fits, Lists};
-ghost use Rattle.nd_lifetime.specs.Left.{left};
+ghost use Rattle.nd_lifetime.specs.Left.{standing_left};
 
 use crate::change::{Change, change_by};
 use crate::due::first_due;
@@ -12,7 +12,7 @@ use crate::listed::Listed;
 use crate::router::Router;
 use nd_addr::Addr;
 use nd_table::next_date;
-use nd_lifetime::{Kept, Limit, Standing, TableRefusal, announce, count, has, remove, stands};
+use nd_lifetime::{Lasting, Limit, Standing, TableRefusal, announce, count, has, remove, stands};
 use std::alloc::{AllocError, Allocator};
 use std::marker::Model;
 
@@ -22,7 +22,7 @@ const MAX_ROUTERS: usize = 16;
 /// The default routers, in the order in which they came (RFC 4861, section 5.1).
 #[derive(Drop)]
 pub struct Routers<A: Allocator> {
-    entries: Vec<Kept<Router>, A>,
+    entries: Vec<Lasting<Router>, A>,
     /// Those that failed, by their last failures, the oldest first.
     failed: Vec<Router, A>,
 }
@@ -40,8 +40,8 @@ impl<A: Allocator> Model for Routers<A> {
 }
 
 impl<A: Allocator + Clone> Routers<A> {
-    ghost use Rattle.nd_routers.specs.Happenings.{Happening, Heard, Left, Failed, announcements};
-    ghost use Rattle.nd_routers.specs.Routers.{Table, same, IsOf, Gains, next_end, IsSettled, NoneBefore, left_rows, keys};
+    ghost use Rattle.nd_routers.specs.History.{RouterRow, Heard, LeftList, Failed, announcements};
+    ghost use Rattle.nd_routers.specs.Routers.{Table, same, Stands, GainsRow, next_end, IsSettled, NoneBefore, then_left, keys};
     ghost use Rattle.nd_routers.specs.Due.{FirstDue, NextDue};
     ghost use Rattle.nd_routers.specs.Change.{change_of};
     ghost use Rattle.nd_routers.specs.Failures.{place_among, FailsAt};
@@ -49,7 +49,7 @@ impl<A: Allocator + Clone> Routers<A> {
     /// No routers, with room for 16. All of it is reserved here.
     pub fn new(alloc: A) -> Result<Self, AllocError>
         ensures empty { IfOk result (λ routers. routers ≡ record { entries = []; failed = [] }) }
-        ensures stands { IfOk result (λ routers. IsOf routers []) }
+        ensures stands { IfOk result (λ routers. Stands routers []) }
     {
         let entries = Vec::with_capacity(alloc.clone()?, MAX_ROUTERS)?;
         let failed = Vec::with_capacity(alloc, MAX_ROUTERS)?;
@@ -77,10 +77,10 @@ impl<A: Allocator + Clone> Routers<A> {
         requires moment { now < 2 ^ 62 }
         requires settled { IsSettled self.old.entries now }
 
-        ensures stands { OnOk result (Gains self.old self.new (Heard now (number_of source.0) lifetime)) }
+        ensures stands { OnOk result (GainsRow self.old self.new (Heard now (number_of source.0) lifetime)) }
         ensures settled { IsSettled self.new.entries now }
-        ensures change { IfOk result (λ change. (rows : List Happening) → IsOf self.old rows
-            → change ≡ change_of (stands same (number_of source.0) (announcements rows) now) (stands same (number_of source.0) (announcements (Heard now (number_of source.0) lifetime ∷ rows)) now)) }
+        ensures change { IfOk result (λ change. (history : List RouterRow) → Stands self.old history
+            → change ≡ change_of (stands same (number_of source.0) (announcements history) now) (stands same (number_of source.0) (announcements (Heard now (number_of source.0) lifetime ∷ history)) now)) }
 
         // It is refused exactly where the router is one too many.
         ensures full { IsErr result ↔ (fits same 16 now ((number_of source.0, lifetime) ∷ []) self.old.entries ≡ false) }
@@ -108,7 +108,7 @@ impl<A: Allocator + Clone> Routers<A> {
     /// The earliest end.
     pub fn next_due(&self) -> Option<u64>
         ensures value { result ≡ next_end self.now.entries }
-        ensures due { (rows : List Happening) → IsOf self.now rows → NextDue rows result }
+        ensures due { (history : List RouterRow) → Stands self.now history → NextDue history result }
     {
         next_date(&self.entries)
     }
@@ -116,8 +116,8 @@ impl<A: Allocator + Clone> Routers<A> {
     /// The least address of the routers whose lifetime ends now, which leaves the list (RFC 4861, section 6.3.5).
     pub fn turn(&mut self, now: u64) -> Option<Addr>
         requires { NoneBefore self.old.entries now }
-        ensures due { (rows : List Happening) → IsOf self.old rows → FirstDue rows now (option_map (λ a. number_of a.0) result) }
-        ensures gains { IfSome result (λ a. Gains self.old self.new (Left now (number_of a.0))) }
+        ensures due { (history : List RouterRow) → Stands self.old history → FirstDue history now (option_map (λ a. number_of a.0) result) }
+        ensures gains { IfSome result (λ a. GainsRow self.old self.new (LeftList now (number_of a.0))) }
         ensures fewer { IfSome result (λ _. length self.new.entries < length self.old.entries) }
         ensures same { IfNone result (self.new ≡ self.old) }
         ensures none { IfNone result (next_end self.old.entries ≢ Some now) }
@@ -131,7 +131,7 @@ impl<A: Allocator + Clone> Routers<A> {
 
     /// A router leaves the list, if it is in it. It answers whether it was.
     pub fn ended(&mut self, source: Addr) -> bool
-        ensures stands { (at : ℕ) → Gains self.old self.new (Left at (number_of source.0)) }
+        ensures stands { (at : ℕ) → GainsRow self.old self.new (LeftList at (number_of source.0)) }
         ensures listed { result ≡ is_some (end_in same (number_of source.0) self.old.entries) }
         ensures settled { (now : ℕ) → IsSettled self.old.entries now → IsSettled self.new.entries now }
     {
@@ -143,7 +143,7 @@ impl<A: Allocator + Clone> Routers<A> {
 
     /// A router can't be reached: its failure is noted, if it is in the list. It takes no memory.
     pub fn failed(&mut self, source: Addr)
-        ensures stands { (at : ℕ) → Gains self.old self.new (Failed at (number_of source.0)) }
+        ensures stands { (at : ℕ) → GainsRow self.old self.new (Failed at (number_of source.0)) }
         ensures entries { self.new.entries ≡ self.old.entries }
     {
         if !has(&self.entries, &source) {
@@ -159,15 +159,15 @@ impl<A: Allocator + Clone> Routers<A> {
     /// Whether a router is in the list at a moment.
     pub fn holds(&self, now: u64, source: Addr) -> bool
         ensures value { result ≡ is_some (end_in same (number_of source.0) (open_at now self.now.entries)) }
-        ensures stands { (rows : List Happening) → IsOf self.now rows → result ≡ stands same (number_of source.0) (announcements rows) now }
+        ensures stands { (history : List RouterRow) → Stands self.now history → result ≡ stands same (number_of source.0) (announcements history) now }
     {
         stands(&self.entries, now, &source)
     }
 
     /// The routers in the list at a moment, in the order in which they came.
     pub fn rows(&self, now: u64) -> Standing<'_, Router>
-        ensures value { left result ≡ open_at now self.now.entries }
-        ensures lists { (rows : List Happening) → IsOf self.now rows → Lists same (announcements rows) now (left result) }
+        ensures value { standing_left result ≡ open_at now self.now.entries }
+        ensures lists { (history : List RouterRow) → Stands self.now history → Lists same (announcements history) now (standing_left result) }
     {
         Standing::new(&self.entries, now)
     }
@@ -176,7 +176,7 @@ impl<A: Allocator + Clone> Routers<A> {
     pub fn at(&self, i: usize) -> Option<Listed>
         ensures value { option_map (λ l. number_of l.addr.0) result ≡ slice_get (keys self.now.entries) i }
         ensures failed { IfSome result (λ l. l.failed ≡ place_among (number_of l.addr.0) self.now.failed) }
-        ensures by_rows { IfSome result (λ l. (rows : List Happening) → IsOf self.now rows → FailsAt rows (number_of l.addr.0) l.failed) }
+        ensures by_history { IfSome result (λ l. (history : List RouterRow) → Stands self.now history → FailsAt history (number_of l.addr.0) l.failed) }
     {
         let entry = self.entries.get(i)?;
         let addr = entry.key.addr();
@@ -189,7 +189,7 @@ impl<A: Allocator + Clone> Routers<A> {
     /// All routers leave the list. They are handed out in the order in which they came.
     pub fn clear(&mut self) -> Result<Vec<Addr, A>, AllocError>
         ensures routers { IfOk result (λ routers. map (λ a. number_of a.0) routers.items ≡ keys self.old.entries) }
-        ensures stands { OnOk result ((at : ℕ) (rows : List Happening) → IsOf self.old rows → IsOf self.new (left_rows at (keys self.old.entries) rows)) }
+        ensures stands { OnOk result ((at : ℕ) (history : List RouterRow) → Stands self.old history → Stands self.new (then_left at (keys self.old.entries) history)) }
         ensures none { OnOk result (self.new ≡ record { entries = []; failed = [] }) }
         ensures same { OnErr result (self.new ≡ self.old) }
     {
@@ -210,7 +210,7 @@ impl<A: Allocator + Clone> Routers<A> {
 
 /// The addresses of the routers.
 fn addresses<A: Allocator + Clone>(
-    entries: &Vec<Kept<Router>, A>,
+    entries: &Vec<Lasting<Router>, A>,
 ) -> Result<Vec<Addr, A>, AllocError>
     ensures { IfOk result (λ addrs. map (λ a. number_of a.0) addrs.items ≡ map (λ e. e.key) entries.now.items) }
 {

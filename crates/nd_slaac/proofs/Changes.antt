@@ -2,10 +2,11 @@
 use Rattle.std.proofs.Common.{◌≡◌, ℕ, ◌+◌, ◌*◌, Bool, true, false, ltb, ◌∷◌, Option, Some, None, refl, sym, ◌∙◌, ap, subst, arith, inl, inr}
 use Rattle.nd_table.proofs.Cases.{either}
 use Rattle.nd_slaac.specs.declared.stage.Stage.TheVariants.{Detecting}
-use Rattle.nd_slaac.specs.Rows as rows
-use Rattle.nd_slaac.specs.Rows.{Story, Lifetimes}
+use Rattle.nd_slaac.specs.History as kinds
+use Rattle.nd_slaac.specs.History.{Story, Lifetimes}
 use Rattle.nd_table.specs.Ends.{end_time}
-use Rattle.nd_slaac.specs.Ends.{renewed, preferred_end, valid_end}
+use Rattle.nd_slaac.specs.Ends.{preferred_end, valid_end}
+use Rattle.nd_slaac.specs.TwoHours.{renewed}
 use Rattle.nd_slaac.specs.State.{Forming, forming_of, has_conflict, was_assigned, sent_of}
 use Rattle.nd_slaac.specs.Address.{Address, step_at, stage_by, address_by, address_of}
 use Rattle.nd_slaac.specs.Due.{transmits, happens}
@@ -14,7 +15,7 @@ use Rattle.nd_slaac.specs.Calls.{formed, announced, failed}
 use Rattle.nd_slaac.proofs.Stories.{made, was_formed, steps}
 
 -- an address is formed
-pub when_formed : (key at delay retrans : ℕ) (lifetimes : Option Lifetimes) (s : Story) → address_of key ((at, rows.Formed delay retrans lifetimes) ∷ s) ≡ Some (formed key at delay retrans lifetimes)
+pub when_formed : (key at delay retrans : ℕ) (lifetimes : Option Lifetimes) (s : Story) → address_of key ((at, kinds.Formed delay retrans lifetimes) ∷ s) ≡ Some (formed key at delay retrans lifetimes)
 when_formed key at delay retrans None s = let e : at + delay + 0 * retrans ≡ at + delay = omega arith in rw e refl
 when_formed key at delay retrans (Some lifetimes) s = let e : at + delay + 0 * retrans ≡ at + delay = omega arith in rw e refl
 
@@ -34,13 +35,13 @@ stepping key at s f is c w d = elim (either (ltb (sent_of s) transmits)) [
 ]
 
 module _ (key at : ℕ) (s : Story) (a : Address) (there : address_of key s ≡ Some a) where
-  pub when_announced : (lifetimes : Lifetimes) → address_of key ((at, rows.Announced lifetimes) ∷ s) ≡ Some (announced at lifetimes a)
+  pub when_announced : (lifetimes : Lifetimes) → address_of key ((at, kinds.Announced lifetimes) ∷ s) ≡ Some (announced at lifetimes a)
   when_announced lifetimes =
       let was = was_formed key s a there in
       ap (λ o. address_by key o (has_conflict s) (was_assigned s) (sent_of s) (end_time at lifetimes.preferred) (renewed at (valid_end s) lifetimes.valid)) was.1
       ∙ ap (λ (m : Address). Some (announced at lifetimes m)) (sym was.2)
 
-  pub when_conflict : address_of key ((at, rows.Conflict) ∷ s) ≡ Some (failed a)
+  pub when_conflict : address_of key ((at, kinds.Conflict) ∷ s) ≡ Some (failed a)
   when_conflict =
       let was = was_formed key s a there in
       ap (λ o. address_by key o true (was_assigned s) (sent_of s) (preferred_end s) (valid_end s)) was.1 ∙ ap (λ (m : Address). Some (failed m)) (sym was.2)

@@ -3,18 +3,19 @@ use Rattle.std.proofs.Common.{◌≡◌, ◌∙◌, ap, subst, ℕ, ◌<◌, Lis
 use Rattle.std.specs.Prelude.{is_some, Result, IsOk, IfSome}
 use Rattle.nd_addr.specs.declared.mac.Mac.{Mac}
 use Rattle.nd_decode.specs.declared.prefix_info.PrefixInfo.{PrefixInfo}
-use Rattle.nd_slaac.specs.declared.taken.Taken.{Taken}
-use Rattle.nd_slaac.specs.declared.taken.Full.{Full}
+use Rattle.nd_slaac.specs.declared.prefix_option.Taken.{Taken}
+use Rattle.nd_slaac.specs.declared.prefix_option.Full.{Full}
 use Rattle.nd_slaac.specs.Address.{Address}
 use Rattle.nd_slaac.specs.Table.{Table, address_in}
-use Rattle.nd_slaac.specs.Announcing.{is_taken, named_by, lifetimes_of, fits_in}
-use Rattle.nd_slaac.specs.Calls.{keys_in, taken_by, Changes, row_taken, Gains}
-use Rattle.nd_slaac.specs.Rows.{Row, story}
+use Rattle.nd_slaac.specs.PrefixOption.{is_taken, named_by, lifetimes_of}
+use Rattle.nd_slaac.specs.Room.{fits_in}
+use Rattle.nd_slaac.specs.Calls.{keys_in, taken_by, Changes, row_taken, GainsRowIfAny}
+use Rattle.nd_slaac.specs.History.{Row, story}
 use Rattle.nd_slaac.specs.State.{is_known}
 use Rattle.nd_slaac.specs.Table.{Stands}
-use Rattle.nd_slaac.specs.History.{MayCome}
+use Rattle.nd_slaac.specs.MayCome.{MayCome}
 use Rattle.nd_slaac.proofs.Stories.{known_story}
-use Rattle.nd_slaac.proofs.Room.{gains_taken, comes_taken, fits_on}
+use Rattle.nd_slaac.proofs.Counting.{gains_taken, comes_taken, fits_on}
 
 module _ (now : ℕ) (info : PrefixInfo) (delay retrans key : ℕ) (r : Result Taken Full) (t : Table) (mac : Mac) (inside new : List Address) (mac_is : mac ≡ t.mac) (same : inside ≡ t.addresses) (named : key ≡ named_by mac info) (changes : Changes now key (lifetimes_of info) delay retrans r inside new) where
   changed : Changes now (named_by t.mac info) (lifetimes_of info) delay retrans r t.addresses new
@@ -23,7 +24,7 @@ module _ (now : ℕ) (info : PrefixInfo) (delay retrans key : ℕ) (r : Result T
       subst (λ (k : ℕ). Changes now k (lifetimes_of info) delay retrans r t.addresses new) named'
       (subst (λ (l : List Address). Changes now key (lifetimes_of info) delay retrans r l new) same changes)
 
-  pub gains_heard : Gains (row_taken now t.mac info delay retrans r) t.addresses new
+  pub gains_heard : GainsRowIfAny (row_taken now t.mac info delay retrans r) t.addresses new
   gains_heard = gains_taken now t.mac info delay retrans r t.addresses new changed
 
   valued : r ≡ taken_by (is_some (address_in key inside)) info.valid_lifetime (length inside) → r ≡ taken_by (is_some (address_in (named_by t.mac info) t.addresses)) info.valid_lifetime (length t.addresses)
@@ -31,10 +32,10 @@ module _ (now : ℕ) (info : PrefixInfo) (delay retrans key : ℕ) (r : Result T
       value ∙ (ap (λ k. taken_by (is_some (address_in k inside)) info.valid_lifetime (length inside)) (named ∙ ap (λ m. named_by m info) mac_is)
       ∙ ap (λ (l : List Address). taken_by (is_some (address_in (named_by t.mac info) l)) info.valid_lifetime (length l)) same)
 
-  pub comes_heard : r ≡ taken_by (is_some (address_in key inside)) info.valid_lifetime (length inside) → (rows : List Row) → Stands t.addresses rows → 0 < retrans → IfSome (row_taken now t.mac info delay retrans r) (λ row. MayCome row rows)
-  comes_heard value rows s positive =
-      let known : is_some (address_in (named_by t.mac info) t.addresses) ≡ is_known (story (named_by t.mac info) rows) = ap is_some (s.each (named_by t.mac info)) ∙ known_story (named_by t.mac info) (story (named_by t.mac info) rows) in
-      comes_taken now t.mac info delay retrans (length t.addresses) r rows (valued value ∙ ap (λ b. taken_by b info.valid_lifetime (length t.addresses)) known) positive
+  pub comes_heard : r ≡ taken_by (is_some (address_in key inside)) info.valid_lifetime (length inside) → (history : List Row) → Stands t.addresses history → 0 < retrans → IfSome (row_taken now t.mac info delay retrans r) (λ row. MayCome row history)
+  comes_heard value history s positive =
+      let known : is_some (address_in (named_by t.mac info) t.addresses) ≡ is_known (story (named_by t.mac info) history) = ap is_some (s.each (named_by t.mac info)) ∙ known_story (named_by t.mac info) (story (named_by t.mac info) history) in
+      comes_taken now t.mac info delay retrans (length t.addresses) r history (valued value ∙ ap (λ b. taken_by b info.valid_lifetime (length t.addresses)) known) positive
 
   pub fits_heard : is_taken info ≡ true → r ≡ taken_by (is_some (address_in key inside)) info.valid_lifetime (length inside) → (infos : List PrefixInfo) → fits_in t.mac (keys_in t.addresses) (info ∷ infos) ≡ true → IsOk r × (fits_in mac (keys_in new) infos ≡ true)
   fits_heard taken value infos fit =

@@ -5,7 +5,7 @@ use Rattle.nd_table.proofs.Cases.{either}
 use Rattle.nd_table.proofs.Keyed.{put_in}
 use Rattle.nd_slaac.specs.Address.{Address}
 use Rattle.nd_slaac.specs.Table.{key_of, address_in}
-use Rattle.nd_slaac.specs.Announcing.{is_among}
+use Rattle.nd_slaac.specs.Room.{is_among}
 use Rattle.nd_slaac.specs.Calls.{keys_in}
 
 -- an address is known where its number is among those

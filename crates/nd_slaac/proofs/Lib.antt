@@ -7,9 +7,9 @@ pub mod Turns
 pub mod TurnCalls
 pub mod Results
 pub mod Altering
-pub mod Shown
+pub mod Showing
 pub mod Keys
-pub mod Room
+pub mod Counting
 pub mod HeardPrefix
 pub mod Histories
 pub mod Unique

@@ -1,14 +1,14 @@
--- One table stands for the rows, and one thing falls due first.
+-- One table stands for the history, and one thing falls due first.
 use Rattle.std.proofs.Common.{◌≡◌, ℕ, List, Option, Some, None, refl, sym, ◌∙◌, ap, arith, inl, inr}
 use Rattle.nd_table.proofs.Unique.{one_list}
-use Rattle.nd_slaac.specs.Rows.{Row, story}
+use Rattle.nd_slaac.specs.History.{Row, story}
 use Rattle.nd_slaac.specs.State.{sent_of}
 use Rattle.nd_slaac.specs.Address.{Address}
 use Rattle.nd_slaac.specs.Table.{key_of, Stands}
 use Rattle.nd_slaac.specs.Due.{Falls, Ends, Solicits, Assigns, IsDue, NotAfter, FirstDue, key_in}
 
-pub one_table : (rows : List Row) (a b : List Address) → Stands a rows → Stands b rows → a ≡ b
-one_table rows a b s t = one_list key_of a b s.order t.order (λ key. s.each key ∙ sym (t.each key))
+pub one_table : (history : List Row) (a b : List Address) → Stands a history → Stands b history → a ≡ b
+one_table history a b s t = one_list key_of a b s.order t.order (λ key. s.each key ∙ sym (t.each key))
 
 same_key : (x y : Falls) → NotAfter x y → NotAfter y x → key_in x ≡ key_in y
 same_key x y (inl lt) (inl lt') = absurd (omega arith)
@@ -17,30 +17,30 @@ same_key x y (inr e) (inl lt) = let f = e.0 in absurd (omega arith)
 same_key x y (inr e) (inr f) = omega (arith, e.1, f.1)
 
 -- of one address and pass one thing is due
-same_falls : (rows : List Row) (moment : ℕ) (x y : Falls) → IsDue rows moment x → IsDue rows moment y → NotAfter x y → NotAfter y x → key_in x ≡ key_in y → x ≡ y
-same_falls rows moment (Ends j) (Ends k) h i n m e = ap Ends e
-same_falls rows moment (Ends j) (Solicits k) h i n (inl lt) e = absurd (omega arith)
-same_falls rows moment (Ends j) (Solicits k) h i n (inr f) e = let g = f.0 in absurd (omega arith)
-same_falls rows moment (Ends j) (Assigns k) h i n (inl lt) e = absurd (omega arith)
-same_falls rows moment (Ends j) (Assigns k) h i n (inr f) e = let g = f.0 in absurd (omega arith)
-same_falls rows moment (Solicits j) (Ends k) h i (inl lt) m e = absurd (omega arith)
-same_falls rows moment (Solicits j) (Ends k) h i (inr f) m e = let g = f.0 in absurd (omega arith)
-same_falls rows moment (Assigns j) (Ends k) h i (inl lt) m e = absurd (omega arith)
-same_falls rows moment (Assigns j) (Ends k) h i (inr f) m e = let g = f.0 in absurd (omega arith)
-same_falls rows moment (Solicits j) (Solicits k) h i n m e = ap Solicits e
-same_falls rows moment (Assigns j) (Assigns k) h i n m e = ap Assigns e
-same_falls rows moment (Solicits j) (Assigns k) h i n m e =
-    let f : sent_of (story j rows) ≡ sent_of (story k rows) = ap (λ key. sent_of (story key rows)) e in
+same_falls : (history : List Row) (moment : ℕ) (x y : Falls) → IsDue history moment x → IsDue history moment y → NotAfter x y → NotAfter y x → key_in x ≡ key_in y → x ≡ y
+same_falls history moment (Ends j) (Ends k) h i n m e = ap Ends e
+same_falls history moment (Ends j) (Solicits k) h i n (inl lt) e = absurd (omega arith)
+same_falls history moment (Ends j) (Solicits k) h i n (inr f) e = let g = f.0 in absurd (omega arith)
+same_falls history moment (Ends j) (Assigns k) h i n (inl lt) e = absurd (omega arith)
+same_falls history moment (Ends j) (Assigns k) h i n (inr f) e = let g = f.0 in absurd (omega arith)
+same_falls history moment (Solicits j) (Ends k) h i (inl lt) m e = absurd (omega arith)
+same_falls history moment (Solicits j) (Ends k) h i (inr f) m e = let g = f.0 in absurd (omega arith)
+same_falls history moment (Assigns j) (Ends k) h i (inl lt) m e = absurd (omega arith)
+same_falls history moment (Assigns j) (Ends k) h i (inr f) m e = let g = f.0 in absurd (omega arith)
+same_falls history moment (Solicits j) (Solicits k) h i n m e = ap Solicits e
+same_falls history moment (Assigns j) (Assigns k) h i n m e = ap Assigns e
+same_falls history moment (Solicits j) (Assigns k) h i n m e =
+    let f : sent_of (story j history) ≡ sent_of (story k history) = ap (λ key. sent_of (story key history)) e in
     absurd (omega (arith, h.1, i.1, f))
-same_falls rows moment (Assigns j) (Solicits k) h i n m e =
-    let f : sent_of (story j rows) ≡ sent_of (story k rows) = ap (λ key. sent_of (story key rows)) e in
+same_falls history moment (Assigns j) (Solicits k) h i n m e =
+    let f : sent_of (story j history) ≡ sent_of (story k history) = ap (λ key. sent_of (story key history)) e in
     absurd (omega (arith, h.1, i.1, f))
 
-pub one_due : (rows : List Row) (moment : ℕ) (a b : Option Falls) → FirstDue rows moment a → FirstDue rows moment b → a ≡ b
-one_due rows moment None None h k = refl
-one_due rows moment None (Some y) h k = absurd (h y k.due)
-one_due rows moment (Some x) None h k = absurd (k x h.due)
-one_due rows moment (Some x) (Some y) h k =
+pub one_due : (history : List Row) (moment : ℕ) (a b : Option Falls) → FirstDue history moment a → FirstDue history moment b → a ≡ b
+one_due history moment None None h k = refl
+one_due history moment None (Some y) h k = absurd (h y k.due)
+one_due history moment (Some x) None h k = absurd (k x h.due)
+one_due history moment (Some x) (Some y) h k =
     let n = h.first y k.due in
     let m = k.first x h.due in
-    ap Some (same_falls rows moment x y h.due k.due n m (same_key x y n m))
+    ap Some (same_falls history moment x y h.due k.due n m (same_key x y n m))

@@ -3,7 +3,7 @@ use Rattle.std.specs.Prelude.{ℕ, ◌+◌, ◌*◌, Bool, true, false, Option, 
 use Rattle.nd_slaac.specs.declared.stage.Stage.{Stage}
 use Rattle.nd_slaac.specs.declared.stage.Stage.TheVariants.{Detecting, Failed, Passed}
 use Rattle.nd_slaac.specs.declared.state.State.{State}
-use Rattle.nd_slaac.specs.Rows.{Story}
+use Rattle.nd_slaac.specs.History.{Story}
 use Rattle.nd_slaac.specs.Ends.{preferred_end, valid_end}
 use Rattle.nd_slaac.specs.State.{Forming, forming_of, has_conflict, was_assigned, sent_of, state_by}
 

@@ -6,16 +6,16 @@ use Rattle.nd_table.specs.Keyed.{place_of}
 use Rattle.nd_decode.specs.declared.prefix_info.PrefixInfo.{PrefixInfo}
 use Rattle.nd_slaac.specs.declared.stage.Stage.{Stage}
 use Rattle.nd_slaac.specs.declared.stage.Stage.TheVariants.{Detecting, Failed, Passed}
-use Rattle.nd_slaac.specs.declared.taken.Taken.{Taken}
-use Rattle.nd_slaac.specs.declared.taken.Taken.TheVariants.{Formed, Renewed, Ignored}
-use Rattle.nd_slaac.specs.declared.taken.Full.{Full}
-use Rattle.nd_slaac.specs.Rows as rows
-use Rattle.nd_slaac.specs.Rows.{Row, Lifetimes, Happening}
+use Rattle.nd_slaac.specs.declared.prefix_option.Taken.{Taken}
+use Rattle.nd_slaac.specs.declared.prefix_option.Taken.TheVariants.{Formed, Renewed, Ignored}
+use Rattle.nd_slaac.specs.declared.prefix_option.Full.{Full}
+use Rattle.nd_slaac.specs.History as kinds
+use Rattle.nd_slaac.specs.History.{Row, Lifetimes, RowKind}
 use Rattle.nd_table.specs.Ends.{end_time}
-use Rattle.nd_slaac.specs.Ends.{renewed}
+use Rattle.nd_slaac.specs.TwoHours.{renewed}
 use Rattle.nd_slaac.specs.Address.{Address}
 use Rattle.nd_slaac.specs.Table.{key_of, address_in, GainsRow}
-use Rattle.nd_slaac.specs.Announcing.{is_taken, named_by, lifetimes_of}
+use Rattle.nd_slaac.specs.PrefixOption.{is_taken, named_by, lifetimes_of}
 
 -- the numbers of the addresses
 abbrev pub keys_in : List Address → List ℕ
@@ -66,15 +66,15 @@ taken_of info known count = if is_taken info then taken_by known info.valid_life
 
 -- the row that comes of an option, and none where it is ignored or refused
 abbrev pub row_taken : ℕ → Mac → PrefixInfo → ℕ → ℕ → Result Taken Full → Option Row
-row_taken now mac info delay retrans (Ok Formed) = Some (now, named_by mac info, rows.Formed delay retrans (Some (lifetimes_of info)))
-row_taken now mac info delay retrans (Ok Renewed) = Some (now, named_by mac info, rows.Announced (lifetimes_of info))
+row_taken now mac info delay retrans (Ok Formed) = Some (now, named_by mac info, kinds.Formed delay retrans (Some (lifetimes_of info)))
+row_taken now mac info delay retrans (Ok Renewed) = Some (now, named_by mac info, kinds.Announced (lifetimes_of info))
 row_taken now mac info delay retrans (Ok Ignored) = None
 row_taken now mac info delay retrans (Err full) = None
 
 -- the list gains the row, if there is one
-abbrev pub Gains : Option Row → List Address → List Address → Type 0
-Gains None old new = new ≡ old
-Gains (Some row) old new = GainsRow old new row
+abbrev pub GainsRowIfAny : Option Row → List Address → List Address → Type 0
+GainsRowIfAny None old new = new ≡ old
+GainsRowIfAny (Some row) old new = GainsRow old new row
 
 -- the same of a list: the address changes, or comes into its place, or nothing does
 abbrev pub Changes : ℕ → ℕ → Lifetimes → ℕ → ℕ → Result Taken Full → List Address → List Address → Type 0

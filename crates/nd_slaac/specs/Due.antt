@@ -1,6 +1,6 @@
 -- What falls due, asked of what happened (RFC 4862, sections 5.4.2 and 5.5.4).
 use Rattle.std.specs.Prelude.{◌≡◌, ℕ, ◌≤◌, ◌<◌, ◌⊎◌, true, List, Option, Some, None}
-use Rattle.nd_slaac.specs.Rows.{Row, Story, story, Happening, Solicited, Assigned, Ended}
+use Rattle.nd_slaac.specs.History.{Row, Story, story, RowKind, Solicited, Assigned, Ended}
 use Rattle.nd_slaac.specs.Ends.{valid_end}
 use Rattle.nd_slaac.specs.State.{Forming, forming_of, is_known, is_tentative, sent_of}
 use Rattle.nd_slaac.specs.Address.{step_at}
@@ -31,9 +31,9 @@ pub record IsStep (s : Story) (moment : ℕ) : Type 0 where
 
 -- it falls due at the moment, and no row has come for it yet
 abbrev pub IsDue : List Row → ℕ → Falls → Type 0
-IsDue rows moment (Ends key) = (is_known (story key rows) ≡ true) × (valid_end (story key rows) ≡ Some moment)
-IsDue rows moment (Solicits key) = IsStep (story key rows) moment × (sent_of (story key rows) < transmits)
-IsDue rows moment (Assigns key) = IsStep (story key rows) moment × (transmits ≤ sent_of (story key rows))
+IsDue history moment (Ends key) = (is_known (story key history) ≡ true) × (valid_end (story key history) ≡ Some moment)
+IsDue history moment (Solicits key) = IsStep (story key history) moment × (sent_of (story key history) < transmits)
+IsDue history moment (Assigns key) = IsStep (story key history) moment × (transmits ≤ sent_of (story key history))
 
 abbrev pub key_in : Falls → ℕ
 key_in (Ends key) = key
@@ -51,21 +51,21 @@ abbrev pub NotAfter : Falls → Falls → Type 0
 NotAfter a b = (pass_of a < pass_of b) ⊎ ((pass_of a ≡ pass_of b) × (key_in a ≤ key_in b))
 
 -- it falls due at the moment, and nothing that does comes before it
-pub record IsFirst (rows : List Row) (moment : ℕ) (falls : Falls) : Type 0 where
-  pub due : IsDue rows moment falls
-  pub first : (others : Falls) → IsDue rows moment others → NotAfter falls others
+pub record IsFirst (history : List Row) (moment : ℕ) (falls : Falls) : Type 0 where
+  pub due : IsDue history moment falls
+  pub first : (others : Falls) → IsDue history moment others → NotAfter falls others
 
 abbrev pub FirstDue : List Row → ℕ → Option Falls → Type 0
-FirstDue rows moment None = (falls : Falls) → IsDue rows moment falls → ⊥
-FirstDue rows moment (Some falls) = IsFirst rows moment falls
+FirstDue history moment None = (falls : Falls) → IsDue history moment falls → ⊥
+FirstDue history moment (Some falls) = IsFirst history moment falls
 
 -- the moment is the first at which something falls due, if there is one
 abbrev pub NextDue : List Row → Option ℕ → Type 0
-NextDue rows None = (moment : ℕ) (falls : Falls) → IsDue rows moment falls → ⊥
-NextDue rows (Some next) = ((falls : Falls) × IsDue rows next falls) × ((moment : ℕ) (falls : Falls) → IsDue rows moment falls → next ≤ moment)
+NextDue history None = (moment : ℕ) (falls : Falls) → IsDue history moment falls → ⊥
+NextDue history (Some next) = ((falls : Falls) × IsDue history next falls) × ((moment : ℕ) (falls : Falls) → IsDue history moment falls → next ≤ moment)
 
 -- what has come then
-abbrev pub happens : Falls → Happening
+abbrev pub happens : Falls → RowKind
 happens (Ends key) = Ended
 happens (Solicits key) = Solicited
 happens (Assigns key) = Assigned

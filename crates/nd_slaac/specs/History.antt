@@ -1,63 +1,41 @@
--- Histories: lists of rows of which each came where it may come, and what they say of an address that is assigned.
-use Rattle.std.specs.Prelude.{◌≡◌, ℕ, ◌+◌, ◌*◌, ◌<◌, ◌≤◌, ◌⊎◌, true, false, List, [], ◌∷◌, Option, Some}
-use Rattle.nd_slaac.specs.Rows.{Lifetimes, Row, story, Formed, Announced, Solicited, Conflict, Assigned, Ended}
-use Rattle.nd_slaac.specs.State.{is_known, is_tentative, is_assigned}
-use Rattle.nd_table.specs.Ends.{is_before}
-use Rattle.nd_slaac.specs.Ends.{valid_end}
-use Rattle.nd_slaac.specs.Due.{transmits, Falls, Ends, Solicits, Assigns, IsDue, FirstDue}
+-- What happened to the addresses of an interface, the newest first, and the part of it that one address's story is.
+use Rattle.std.specs.Prelude.{ℕ, Bool, true, false, ◌==◌, if◌then◌else◌, List, [], ◌∷◌, Option}
 
--- it is the first that falls due at the moment, and nothing was due before
-pub record IsTurn (rows : List Row) (now : ℕ) (falls : Falls) : Type 0 where
-  pub first : FirstDue rows now (Some falls)
-  pub none_before : (moment : ℕ) (others : Falls) → IsDue rows moment others → now ≤ moment
+-- the lifetimes that a router announces for a prefix, in seconds (RFC 4861, section 4.6.2)
+pub record Lifetimes : Type 0 where
+  pub valid : ℕ
+  pub preferred : ℕ
 
--- a row may come on top of others: an address is formed where it isn't known, with a RetransTimer above 0; it is
--- announced where it is known, and has a conflict where it is tentative; all else comes at its date
-abbrev pub MayCome : Row → List Row → Type 0
-MayCome (at, key, Formed delay retrans lifetimes) rows = (is_known (story key rows) ≡ false) × (0 < retrans)
-MayCome (at, key, Announced lifetimes) rows = is_known (story key rows) ≡ true
-MayCome (at, key, Solicited) rows = IsTurn rows at (Solicits key)
-MayCome (at, key, Conflict) rows = is_tentative (story key rows) ≡ true
-MayCome (at, key, Assigned) rows = IsTurn rows at (Assigns key)
-MayCome (at, key, Ended) rows = IsTurn rows at (Ends key)
+-- what happened to one address: each is something that came or was done, and no state
+pub data RowKind : Type 0 where
+  -- it was formed: how long its first solicitation waits, the RetransTimer in force then, and the lifetimes of the
+  -- announcement that it was formed from; the link-local address is formed from none (RFC 4862, sections 5.3 and 5.5.3)
+  Formed : (delay retrans : ℕ) (lifetimes : Option Lifetimes) → RowKind
+  -- its prefix was announced again (RFC 4862, section 5.5.3 e)
+  Announced : (lifetimes : Lifetimes) → RowKind
+  -- a solicitation for it was sent (RFC 4862, section 5.4.2)
+  Solicited : RowKind
+  -- another node turned out to have it, or to try for it (RFC 4862, sections 5.4.3 and 5.4.4)
+  Conflict : RowKind
+  -- it was assigned to the interface (RFC 4862, section 5.4)
+  Assigned : RowKind
+  -- its valid lifetime ended (RFC 4862, section 5.5.4)
+  Ended : RowKind
 
-abbrev pub IsHistory : List Row → Type 0
-IsHistory [] = Unit {0}
-IsHistory (row ∷ rows) = MayCome row rows × IsHistory rows
+-- a moment, which address it happened to, and what it was
+abbrev pub Row : Type 0
+Row = ℕ × ℕ × RowKind
 
--- the rows were these at some time, or are these now
-abbrev pub Past : List Row → List Row → Type 0
-Past h [] = h ≡ []
-Past h (row ∷ rows) = (h ≡ row ∷ rows) ⊎ Past h rows
+-- the story of one address: moments and what happened, the newest first
+abbrev pub Story : Type 0
+Story = List (ℕ × RowKind)
 
--- The address was tried: it was formed at some moment, and at each place since then it was tentative. Each
--- solicitation was sent at its date: the first after the delay, and each further one a RetransTimer later, both being
--- those of the forming.
-pub record Tried (key : ℕ) (rows : List Row) (formed delay retrans sent : ℕ) (lifetimes : Option Lifetimes) (below : List Row) : Type 0 where
-  pub formed_at : Past ((formed, key, Formed delay retrans lifetimes) ∷ below) rows
-  pub positive : 0 < retrans
-  pub tentative : (h : List Row) → Past h rows → Past ((formed, key, Formed delay retrans lifetimes) ∷ below) h → is_tentative (story key h) ≡ true
-  -- each of them stands since then
-  pub solicited : (number : ℕ) → number < sent → (earlier : List Row) × Past ((formed + delay + number * retrans, key, Solicited) ∷ earlier) rows × Past ((formed, key, Formed delay retrans lifetimes) ∷ below) earlier
-  -- and any that stands since then comes at least a RetransTimer before the next step
-  pub only : (moment : ℕ) (earlier : List Row) → Past ((moment, key, Solicited) ∷ earlier) rows → Past ((formed, key, Formed delay retrans lifetimes) ∷ below) earlier → moment + retrans ≤ formed + delay + sent * retrans
+abbrev pub is_end : RowKind → Bool
+is_end Ended = true
+is_end _ = false
 
--- The address holds: it was tried, was assigned one RetransTimer after its last solicitation and before its valid
--- lifetime ended, and has been assigned at each place since then.
-pub record Held (key : ℕ) (rows : List Row) : Type 0 where
-  pub formed : ℕ
-  pub delay : ℕ
-  pub retrans : ℕ
-  pub lifetimes : Option Lifetimes
-  pub below : List Row
-  pub assigned : ℕ
-  pub over : List Row
-  pub assigned_at : Past ((assigned, key, Assigned) ∷ over) rows
-  pub tried : Tried key over formed delay retrans transmits lifetimes below
-  pub sent : ℕ
-  pub earlier : List Row
-  pub solicited_at : Past ((sent, key, Solicited) ∷ earlier) over
-  pub solicited_since : Past ((formed, key, Formed delay retrans lifetimes) ∷ below) earlier
-  pub wait : assigned ≡ sent + retrans
-  pub valid : is_before assigned (valid_end (story key over)) ≡ true
-  pub since : (h : List Row) → Past h rows → Past ((assigned, key, Assigned) ∷ over) h → is_assigned (story key h) ≡ true
+-- what happened to the address since it last ended
+abbrev pub story : ℕ → List Row → Story
+story key [] = []
+story key ((at, k, kind) ∷ history) =
+    if k == key then (if is_end kind then [] else (at, kind) ∷ story key history) else story key history

@@ -2,7 +2,7 @@
 use Rattle.std.specs.Prelude.{ℕ, ◌+◌, Bool, true, false, ◌&&◌, not, if◌then◌else◌, [], ◌∷◌, Option, Some, None, is_some}
 use Rattle.nd_slaac.specs.declared.state.State.{State}
 use Rattle.nd_slaac.specs.declared.state.State.TheVariants.{Tentative, Preferred, Deprecated, Duplicate}
-use Rattle.nd_slaac.specs.Rows.{Story, Formed, Solicited, Conflict, Assigned}
+use Rattle.nd_slaac.specs.History.{Story, Formed, Solicited, Conflict, Assigned}
 use Rattle.nd_table.specs.Ends.{is_before}
 use Rattle.nd_slaac.specs.Ends.{preferred_end}
 

@@ -1,8 +1,9 @@
 -- What a table of addresses is to what happened to them.
 use Rattle.std.specs.Prelude.{◌≡◌, ℕ, List, ◌∷◌, Option}
 use Rattle.nd_addr.specs.declared.mac.Mac.{Mac}
+use Rattle.nd_table.specs.History as growing
 use Rattle.nd_table.specs.Keyed.{at_key, Rises}
-use Rattle.nd_slaac.specs.Rows.{Row, story}
+use Rattle.nd_slaac.specs.History.{Row, story}
 use Rattle.nd_slaac.specs.Address.{Address, address_of}
 
 -- the link-layer address that addresses are formed of, and the addresses that are known
@@ -17,11 +18,11 @@ key_of a = a.key
 abbrev pub address_in : ℕ → List Address → Option Address
 address_in key addresses = at_key key_of key addresses
 
--- The addresses are those that the rows tell of, each as its story says, in the order of their numbers.
-pub record Stands (addresses : List Address) (rows : List Row) : Type 0 where
-  pub each : (key : ℕ) → address_in key addresses ≡ address_of key (story key rows)
+-- The addresses are those that the history tell of, each as its story says, in the order of their numbers.
+pub record Stands (addresses : List Address) (history : List Row) : Type 0 where
+  pub each : (key : ℕ) → address_in key addresses ≡ address_of key (story key history)
   pub order : Rises key_of addresses
 
--- whatever rows old stands for, new stands for them with one more
-pub record GainsRow (old new : List Address) (row : Row) : Type 0 where
-  pub stands : (rows : List Row) → Stands old rows → Stands new (row ∷ rows)
+-- the addresses gain a row
+abbrev pub GainsRow : List Address → List Address → Row → Type 0
+GainsRow = growing.GainsRow Stands

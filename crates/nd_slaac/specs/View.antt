@@ -2,9 +2,9 @@
 use Rattle.nd_addr.specs.Number.{number_of}
 use Rattle.nd_slaac.specs.declared.due.Due.{Due}
 use Rattle.nd_slaac.specs.declared.due.Due.TheVariants.{End, Solicit, Assign}
-use Rattle.nd_slaac.specs.declared.own_address.OwnAddress.{OwnAddress}
+use Rattle.nd_slaac.specs.declared.shown.OwnAddress.{OwnAddress}
 use Rattle.nd_slaac.specs.Due.{Falls, Ends, Solicits, Assigns}
-use Rattle.nd_slaac.specs.Seen.{Seen}
+use Rattle.nd_slaac.specs.Shown.{Seen}
 
 abbrev pub falls_of : Due → Falls
 falls_of (End addr) = Ends (number_of addr.0)

@@ -2,12 +2,8 @@ ghost use Rattle.std.specs.Prelude.{◌≡◌, ◌≢◌, ◌<◌, ◌^◌, ℕ,
 ghost use Rattle.std.specs.Option.{option_map};
 ghost use Rattle.nd_addr.specs.Number.{number_of};
 
-use crate::announcing::link_local;
-use crate::conflicting::fail;
-use crate::dates::next;
-use crate::due::Due;
+use crate::link_local::link_local;
 use crate::entry::Entry;
-use crate::turning::turn_first;
 use nd_addr::{Addr, Mac};
 use std::alloc::{AllocError, Allocator};
 use std::marker::Model;
@@ -36,14 +32,14 @@ impl<A: Allocator> Model for Addresses<A> {
 }
 
 impl<A: Allocator + Clone> Addresses<A> {
-    ghost use Rattle.nd_slaac.specs.Rows.{Row, story, Formed, Conflict};
+    ghost use Rattle.nd_slaac.specs.History.{Row, story, Formed, Conflict};
     ghost use Rattle.nd_slaac.specs.State.{is_tentative};
     ghost use Rattle.nd_slaac.specs.Table.{Table, address_in, Stands, GainsRow};
     ghost use Rattle.nd_slaac.specs.Due.{FirstDue, NextDue, due_row};
     ghost use Rattle.nd_slaac.specs.Dates.{next_in, NoneBefore, turns_left};
-    ghost use Rattle.nd_slaac.specs.Announcing.{link_local_of};
+    ghost use Rattle.nd_slaac.specs.PrefixOption.{link_local_of};
     ghost use Rattle.nd_slaac.specs.Calls.{formed, detects_in};
-    ghost use Rattle.nd_slaac.specs.History.{MayCome};
+    ghost use Rattle.nd_slaac.specs.MayCome.{MayCome};
     ghost use Rattle.nd_slaac.specs.View.{falls_of};
 
     /// The addresses of an interface that starts: its link-local address, whose first solicitation waits for a delay
@@ -56,46 +52,5 @@ impl<A: Allocator + Clone> Addresses<A> {
         let mut entries = Vec::with_capacity(alloc, LIMIT)?;
         entries.push_reserved(Entry::link_local(link_local(mac), now, delay, retrans));
         Ok(Addresses { mac, entries })
-    }
-
-    /// Another node has an address, or tries for it. It answers whether the address was tentative, and is a duplicate
-    /// now; one that is assigned isn't touched (RFC 4862, sections 5.4.3 and 5.4.4).
-    pub fn conflict(&mut self, addr: Addr) -> bool
-        ensures value { result ≡ detects_in (address_in (number_of addr.0) self.old.addresses) }
-        ensures tentative { (rows : List Row) → Stands self.old.addresses rows → result ≡ is_tentative (story (number_of addr.0) rows) }
-        ensures gains { result ≡ true → (at : ℕ) → GainsRow self.old.addresses self.new.addresses (at, number_of addr.0, Conflict) }
-        ensures comes { result ≡ true → (rows : List Row) (at : ℕ) → Stands self.old.addresses rows → MayCome (at, number_of addr.0, Conflict) rows }
-        ensures same { result ≡ false → self.new ≡ self.old }
-        ensures mac { self.new.mac ≡ self.old.mac }
-    {
-        fail(&mut self.entries, addr)
-    }
-
-    /// The earliest moment at which something falls due.
-    pub fn next_due(&self) -> Option<u64>
-        ensures value { result ≡ next_in self.now.addresses }
-        ensures due { (rows : List Row) → Stands self.now.addresses rows → NextDue rows result }
-    {
-        next(&self.entries)
-    }
-
-    /// What falls due now: the end of the least address whose valid lifetime ends, and where there is none, the step
-    /// of the least address whose detection has one (RFC 4862, sections 5.4.2 and 5.5.4).
-    pub fn turn(&mut self, now: u64) -> Option<Due>
-        requires moment { now < 2 ^ 62 }
-        requires none_before { NoneBefore self.old.addresses now }
-
-        ensures due { (rows : List Row) → Stands self.old.addresses rows → FirstDue rows now (option_map (λ due. falls_of due) result) }
-        ensures gains { IfSome result (λ due. GainsRow self.old.addresses self.new.addresses (due_row now (falls_of due))) }
-        ensures comes { IfSome result (λ due. (rows : List Row) → Stands self.old.addresses rows → MayCome (due_row now (falls_of due)) rows) }
-        ensures same { IfNone result (self.new ≡ self.old) }
-        ensures mac { self.new.mac ≡ self.old.mac }
-
-        // Turns at one moment end.
-        ensures fewer { IfSome result (λ _. turns_left self.new.addresses < turns_left self.old.addresses) }
-        ensures none { IfNone result (next_in self.old.addresses ≢ Some now) }
-        ensures later { NoneBefore self.new.addresses now }
-    {
-        turn_first(&mut self.entries, now)
     }
 }

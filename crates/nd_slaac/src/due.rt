@@ -1,4 +1,16 @@
-use nd_addr::Addr;
+ghost use Rattle.std.specs.Prelude.{◌≡◌, ◌≢◌, ◌<◌, ◌^◌, ℕ, List, [], ◌∷◌, IfOk, IfSome, IfNone, Some, None, true, false, ◌≤◌, vec_len, vec_capacity};
+ghost use Rattle.std.specs.Option.{option_map};
+ghost use Rattle.nd_addr.specs.Number.{number_of};
+ghost use Rattle.nd_slaac.specs.Dates.{next_in, Turns, Rests};
+ghost use Rattle.nd_slaac.specs.View.{falls_of};
+
+use crate::addresses::Addresses;
+use crate::entry::Entry;
+use crate::stage::Stage;
+use nd_addr::{Addr, Mac};
+use nd_table::{Addressed, Dated, first_at, lesser, next_date};
+use std::alloc::{AllocError, Allocator};
+use std::marker::Model;
 
 /// What falls due for an address.
 #[derive(Clone, Copy, Debug, PartialEq, Eq)]
@@ -9,4 +21,101 @@ pub enum Due {
     Solicit(Addr),
     /// It is assigned to the interface (RFC 4862, section 5.4).
     Assign(Addr),
+}
+
+impl<A: Allocator + Clone> Addresses<A> {
+    ghost use Rattle.nd_slaac.specs.History.{Row, story, Formed, Conflict};
+    ghost use Rattle.nd_slaac.specs.State.{is_tentative};
+    ghost use Rattle.nd_slaac.specs.Table.{Table, address_in, Stands, GainsRow};
+    ghost use Rattle.nd_slaac.specs.Due.{FirstDue, NextDue, due_row};
+    ghost use Rattle.nd_slaac.specs.Dates.{next_in, NoneBefore, turns_left};
+    ghost use Rattle.nd_slaac.specs.PrefixOption.{link_local_of};
+    ghost use Rattle.nd_slaac.specs.Calls.{formed, detects_in};
+    ghost use Rattle.nd_slaac.specs.MayCome.{MayCome};
+    ghost use Rattle.nd_slaac.specs.View.{falls_of};
+
+    /// The earliest moment at which something falls due.
+    pub fn next_due(&self) -> Option<u64>
+        ensures value { result ≡ next_in self.now.addresses }
+        ensures due { (history : List Row) → Stands self.now.addresses history → NextDue history result }
+    {
+        next(&self.entries)
+    }
+
+    /// What falls due now: the end of the least address whose valid lifetime ends, and where there is none, the step
+    /// of the least address whose detection has one (RFC 4862, sections 5.4.2 and 5.5.4).
+    pub fn turn(&mut self, now: u64) -> Option<Due>
+        requires moment { now < 2 ^ 62 }
+        requires none_before { NoneBefore self.old.addresses now }
+
+        ensures due { (history : List Row) → Stands self.old.addresses history → FirstDue history now (option_map (λ due. falls_of due) result) }
+        ensures gains { IfSome result (λ due. GainsRow self.old.addresses self.new.addresses (due_row now (falls_of due))) }
+        ensures comes { IfSome result (λ due. (history : List Row) → Stands self.old.addresses history → MayCome (due_row now (falls_of due)) history) }
+        ensures same { IfNone result (self.new ≡ self.old) }
+        ensures mac { self.new.mac ≡ self.old.mac }
+
+        // Turns at one moment end.
+        ensures fewer { IfSome result (λ _. turns_left self.new.addresses < turns_left self.old.addresses) }
+        ensures none { IfNone result (next_in self.old.addresses ≢ Some now) }
+        ensures later { NoneBefore self.new.addresses now }
+    {
+        turn_first(&mut self.entries, now)
+    }
+}
+
+/// The date at which the valid lifetime of an address ends.
+pub(crate) struct ValidEnd;
+
+/// The date of the next step of a detection.
+pub(crate) struct NextStep;
+
+impl Dated<ValidEnd> for Entry {
+    ghost use Rattle.nd_slaac.specs.Dates.{end_date};
+
+    ghost date = { end_date };
+
+    fn date(&self) -> Option<u64> {
+        self.valid_end
+    }
+}
+
+impl Dated<NextStep> for Entry {
+    ghost use Rattle.nd_slaac.specs.Dates.{next_step};
+
+    ghost date = { next_step };
+
+    fn date(&self) -> Option<u64> {
+        match self.stage {
+            Stage::Detecting { due, .. } => Some(due),
+            Stage::Failed | Stage::Passed => None,
+        }
+    }
+}
+
+/// The earliest moment at which something falls due.
+pub(crate) fn next(entries: &[Entry]) -> Option<u64>
+    ensures { result ≡ next_in entries.now }
+{
+    let end = next_date::<ValidEnd, _>(entries);
+    let step = next_date::<NextStep, _>(entries);
+    lesser(end, step)
+}
+
+/// The first entry whose valid lifetime ends now goes; where there is none, the first whose detection has a step now
+/// takes it.
+pub(crate) fn turn_first<A: Allocator>(entries: &mut Vec<Entry, A>, now: u64) -> Option<Due>
+    requires { now < 2 ^ 62 }
+    ensures turns { IfSome result (λ due. Turns now entries.old.items entries.new.items (falls_of due)) }
+    ensures rests { IfNone result (Rests now entries.old.items) }
+    ensures same { IfNone result (entries.new.items ≡ entries.old.items) }
+    ensures len { vec_len entries.new ≤ vec_len entries.old }
+    ensures capacity { vec_capacity entries.new ≡ vec_capacity entries.old }
+{
+    if let Some(i) = first_at::<ValidEnd, _>(entries, now) {
+        let entry = entries.remove(i);
+        return Some(Due::End(entry.addr()));
+    }
+    let i = first_at::<NextStep, _>(entries, now)?;
+    let entry = &mut entries[i];
+    Some(entry.step(now))
 }

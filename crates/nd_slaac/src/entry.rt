@@ -1,10 +1,10 @@
 ghost use Rattle.std.specs.Prelude.{◌≡◌, ◌<◌, ◌^◌, true, None, Some};
 ghost use Rattle.nd_addr.specs.Number.{number_of};
-ghost use Rattle.nd_slaac.specs.Seen.{left};
+ghost use Rattle.nd_slaac.specs.Shown.{rest_until};
 
 use crate::due::Due;
-use crate::own_address::OwnAddress;
-use crate::renewing::renewed;
+use crate::shown::OwnAddress;
+use crate::two_hours::renewed;
 use crate::stage::Stage;
 use crate::state::State;
 use nd_addr::Addr;
@@ -35,9 +35,9 @@ impl Model for Entry {
     ghost view = { λ e. record { key = number_of e.addr.0; preferred_end = e.preferred_end; valid_end = e.valid_end; stage = e.stage } };
 }
 
-/// What is left until an end, if there is one.
-fn left(now: u64, end: Option<u64>) -> Option<u64>
-    ensures { result ≡ left now end }
+/// What is left until an end, if there is one, in milliseconds: 0 where it has come.
+fn rest_until(now: u64, end: Option<u64>) -> Option<u64>
+    ensures { result ≡ rest_until now end }
 {
     match end {
         None => None,
@@ -57,10 +57,10 @@ impl Addressed for Entry {
 
 impl Entry {
     ghost use Rattle.nd_slaac.specs.Address.{Address, state_in};
-    ghost use Rattle.nd_slaac.specs.Announcing.{lifetimes_of};
+    ghost use Rattle.nd_slaac.specs.PrefixOption.{lifetimes_of};
     ghost use Rattle.nd_slaac.specs.Calls.{formed, announced, failed, is_detecting};
     ghost use Rattle.nd_slaac.specs.Dates.{falls_by, stepped};
-    ghost use Rattle.nd_slaac.specs.Seen.{seen, state_at};
+    ghost use Rattle.nd_slaac.specs.Shown.{seen, state_at};
     ghost use Rattle.nd_slaac.specs.View.{falls_of, seen_in};
 
     /// The link-local address, which has no ends (RFC 4862, section 5.3).
@@ -115,8 +115,8 @@ impl Entry {
         OwnAddress {
             addr: self.addr,
             state: self.state(now),
-            preferred_left: left(now, self.preferred_end),
-            valid_left: left(now, self.valid_end),
+            preferred_left: rest_until(now, self.preferred_end),
+            valid_left: rest_until(now, self.valid_end),
         }
     }
 

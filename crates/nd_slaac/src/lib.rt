@@ -2,30 +2,24 @@
 #![tactic(auto)]
 
 mod addresses;
-mod announcing;
-mod conflicting;
-mod dates;
 mod due;
+mod duplicate;
 mod entry;
-mod fitting;
-mod hearing;
 pub mod laws;
-mod look;
-mod own_address;
-mod renewing;
-mod showing;
+mod link_local;
+mod prefix_option;
+mod room;
+mod shown;
 mod stage;
 mod state;
-mod taken;
-mod taking;
-mod turning;
+mod two_hours;
 
 pub use addresses::{Addresses, LIMIT};
 pub use due::Due;
-pub use own_address::OwnAddress;
-pub use renewing::renewed;
+pub use prefix_option::{Full, Taken};
+pub use shown::OwnAddress;
 pub use state::State;
-pub use taken::{Full, Taken};
+pub use two_hours::renewed;
 
 #[cfg(test)]
 mod tests;

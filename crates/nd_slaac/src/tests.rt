@@ -106,12 +106,12 @@ fn started(rt: &impl Abort, alloc: Global) -> Result<Addresses<Global>, Fail> {
 fn an_address_is_tried_assigned_deprecated_and_ended(rt: HostRuntime) -> Result<(), Fail> {
     let mut addresses = started(&rt, rt.alloc())?;
     let info = default_option(0).ok_or("option")?;
-    assert!(rt; addresses.would_form(1200, &info));
+    assert!(rt; addresses.would_form(&info));
     assert_eq!(rt;
         addresses.heard_prefix(1200, &info, 0, 1000),
         Ok(Taken::Formed)
     );
-    assert!(rt; !addresses.would_form(1200, &info));
+    assert!(rt; !addresses.would_form(&info));
     assert_eq!(rt;
         turn_at(&rt, &mut addresses, 1200),
         Some(Due::Solicit(GLOBAL))
@@ -344,7 +344,7 @@ fn some_options_say_nothing_of_an_address(rt: HostRuntime) -> Result<(), Fail> {
     };
     let preferred_for_longer = option(0, 1799, 1800).ok_or("option")?;
     let over = option(0, 0, 0).ok_or("option")?;
-    assert!(rt; !addresses.would_form(1200, &over));
+    assert!(rt; !addresses.would_form(&over));
     for said in [
         link_local,
         multicast,
@@ -374,15 +374,15 @@ fn the_65th_address_has_no_room(rt: HostRuntime) -> Result<(), Fail> {
             Ok(Taken::Formed)
         );
     }
-    assert!(rt; addresses.fits(1200, two.options));
+    assert!(rt; addresses.fits(two.options));
     let info = default_option(61).ok_or("option")?;
     assert_eq!(rt;
         addresses.heard_prefix(1200, &info, 0, 1000),
         Ok(Taken::Formed)
     );
     // One place is left. Two options that form one address need one place.
-    assert!(rt; addresses.fits(1200, twice.options));
-    assert!(rt; !addresses.fits(1200, two.options));
+    assert!(rt; addresses.fits(twice.options));
+    assert!(rt; !addresses.fits(two.options));
     let last = default_option(62).ok_or("option")?;
     assert_eq!(rt;
         addresses.heard_prefix(1200, &last, 0, 1000),
@@ -390,13 +390,13 @@ fn the_65th_address_has_no_room(rt: HostRuntime) -> Result<(), Fail> {
     );
     assert_eq!(rt; addresses.rows(1200)?.len(), 64);
     // There are 64. An option for one that is known is taken still.
-    assert!(rt; !addresses.fits(1200, twice.options));
+    assert!(rt; !addresses.fits(twice.options));
     assert_eq!(rt;
         addresses.heard_prefix(1200, &last, 0, 1000),
         Ok(Taken::Renewed)
     );
     let next = default_option(63).ok_or("option")?;
-    assert!(rt; addresses.would_form(1200, &next));
+    assert!(rt; addresses.would_form(&next));
     assert_eq!(rt; addresses.heard_prefix(1200, &next, 0, 1000), Err(Full));
     assert_eq!(rt; addresses.rows(1200)?.len(), 64);
     Ok(())

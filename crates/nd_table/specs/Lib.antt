@@ -1,3 +1,4 @@
+pub mod History
 pub mod Keyed
 pub mod Due
 pub mod Ends

@@ -6,4 +6,4 @@ use Rattle.nd_lifetime.proofs.changing.has.Given as goal
 -- the rest has the key where all have it
 abbrev pub invariant-loop-entry : goal.invariant-loop-entry
 invariant-loop-entry g l =
-    is_some (end_in g.Q.Names.same (g.Q.Names.named l.name) (drop l.entry-index l.entries)) ≡ is_some (end_in g.Q.Names.same (g.Q.Names.named l.name) l.entries)
+    is_some (end_in g.Q.NamesKey.same (g.Q.NamesKey.named l.name) (drop l.entry-index l.entries)) ≡ is_some (end_in g.Q.NamesKey.same (g.Q.NamesKey.named l.name) l.entries)

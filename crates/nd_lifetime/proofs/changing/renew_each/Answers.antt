@@ -5,6 +5,6 @@ use Rattle.nd_lifetime.proofs.changing.renew_each.Goals as goal
 
 pub loop-entry-preserved : goal.loop-entry-preserved
 loop-entry-preserved g c =
-    let f = renewed g.Q.Names.same (g.Q.Names.named c.args.name.now) c.args.end in
+    let f = renewed g.Q.NamesKey.same (g.Q.NamesKey.named c.args.name.now) c.args.end in
     ap (λ e. set c.loop-entry.entries c.loop-entry.entry-index e) (c.renew_one.ensures ∙ ap f (sym c.entry-item.is))
     ∙ map_over_more f c.args.entries.now c.loop-entry.entries c.loop-entry.entry-index c.entry-item.result c.loop-entry-test.true c.loop-entry.invariant c.entry-item.is

@@ -5,4 +5,4 @@ use Rattle.nd_lifetime.proofs.changing.renew_each.Given as goal
 
 abbrev pub invariant-loop-entry : goal.invariant-loop-entry
 invariant-loop-entry g l =
-    l.entries ≡ map (renewed g.Q.Names.same (g.Q.Names.named l.name) l.end) (take l.entry-index l.initial.entries) ++ drop l.entry-index l.initial.entries
+    l.entries ≡ map (renewed g.Q.NamesKey.same (g.Q.NamesKey.named l.name) l.end) (take l.entry-index l.initial.entries) ++ drop l.entry-index l.initial.entries

@@ -6,8 +6,8 @@ use Rattle.nd_lifetime.proofs.message.announce_all.Given as goal
 -- what is left leads from what there is to the same end, and fits
 abbrev pub invariant-loop-key : goal.invariant-loop-key
 invariant-loop-key g l =
-    (announced_all g.K.Names.same l.now (g.I.Announces.told l.rest) l.entries.items ≡ announced_all g.K.Names.same l.now (g.I.Announces.told l.initial.rest) l.initial.entries.items)
-    × (fits g.K.Names.same l.limit l.now (g.I.Announces.told l.rest) l.entries.items ≡ true)
+    (announced_all g.K.NamesKey.same l.now (g.I.Announces.told l.rest) l.entries.items ≡ announced_all g.K.NamesKey.same l.now (g.I.Announces.told l.initial.rest) l.initial.entries.items)
+    × (fits g.K.NamesKey.same l.limit l.now (g.I.Announces.told l.rest) l.entries.items ≡ true)
     × (vec_len l.entries ≤ l.limit) × (vec_capacity l.entries ≡ vec_capacity l.initial.entries)
 
 abbrev pub decreases-loop-key : goal.decreases-loop-key

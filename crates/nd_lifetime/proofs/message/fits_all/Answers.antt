@@ -10,13 +10,13 @@ loop-name-init g c = (
   c.count-standing.ensures.value,
   omega (arith, c.count-standing.ensures.within, c.requires.few),
   refl,
-  fits_open g.Q.Names.same g.met.Q.Names.tells c.args.limit c.args.now (g.I.Announces.told c.args.announced) c.args.entries.now,
+  fits_open g.Q.NamesKey.same g.met.Q.NamesKey.tells c.args.limit c.args.now (g.I.Announces.told c.args.announced) c.args.entries.now,
 )
 
 pub returns-then-standing-limit : goal.returns-then-standing-limit
 returns-then-standing-limit g c =
-    let same = g.Q.Names.same in
-    let tells = g.met.Q.Names.tells in
+    let same = g.Q.NamesKey.same in
+    let tells = g.met.Q.NamesKey.tells in
     let es = c.args.entries.now in
     let now = c.args.now in
     let i = c.loop-name.taken in
@@ -27,17 +27,17 @@ returns-then-standing-limit g c =
     let count : c.count_after-standing.result ≡ length (behind same now (take (i + 1) all) es) =
     c.count_after-standing.ensures ∙ (ap (λ n. count_after n c.stands_behind-before.result after) c.loop-name.invariant.0
     ∙ (ap (λ b. count_after (length cur) b after) c.stands_behind-before.ensures
-    ∙ counted same tells now (g.Q.Names.named c.in-Some.name) c.in-Some.lifetime i all (g.I.Announces.told c.next_told.new.self) es c.requires.distinct at)) in
+    ∙ counted same tells now (g.Q.NamesKey.named c.in-Some.name) c.in-Some.lifetime i all (g.I.Announces.told c.next_told.new.self) es c.requires.distinct at)) in
     let over : nat_le (length (behind same now (take (i + 1) all) es)) c.args.limit ≡ false = grind (arith, nat_tests, count, c.if-standing-limit.true) in
     sym (sym c.loop-name.invariant.3
     ∙ (ap (λ (l : List (g.row.K.Denot × ℕ)). fits same c.args.limit now l cur) c.in-Some.ensures
-    ∙ (fits_more same tells now (g.Q.Names.named c.in-Some.name) c.in-Some.lifetime i all (g.I.Announces.told c.next_told.new.self) es c.requires.distinct at c.args.limit
+    ∙ (fits_more same tells now (g.Q.NamesKey.named c.in-Some.name) c.in-Some.lifetime i all (g.I.Announces.told c.next_told.new.self) es c.requires.distinct at c.args.limit
     ∙ ap (λ b. b && fits same c.args.limit now (g.I.Announces.told c.next_told.new.self) (behind same now (take (i + 1) all) es)) over)))
 
 pub loop-name-preserved : goal.loop-name-preserved
 loop-name-preserved g c =
-    let same = g.Q.Names.same in
-    let tells = g.met.Q.Names.tells in
+    let same = g.Q.NamesKey.same in
+    let tells = g.met.Q.NamesKey.tells in
     let es = c.args.entries.now in
     let now = c.args.now in
     let i = c.loop-name.taken in
@@ -48,13 +48,13 @@ loop-name-preserved g c =
     let count : c.count_after-standing.result ≡ length (behind same now (take (i + 1) all) es) =
     c.count_after-standing.ensures ∙ (ap (λ n. count_after n c.stands_behind-before.result after) c.loop-name.invariant.0
     ∙ (ap (λ b. count_after (length cur) b after) c.stands_behind-before.ensures
-    ∙ counted same tells now (g.Q.Names.named c.in-Some.name) c.in-Some.lifetime i all (g.I.Announces.told c.next_told.new.self) es c.requires.distinct at)) in
+    ∙ counted same tells now (g.Q.NamesKey.named c.in-Some.name) c.in-Some.lifetime i all (g.I.Announces.told c.next_told.new.self) es c.requires.distinct at)) in
     let within : nat_le (length (behind same now (take (i + 1) all) es)) c.args.limit ≡ true = grind (arith, nat_tests, count, c.if-standing-limit.false) in
     let rest = fits same c.args.limit now (g.I.Announces.told c.next_told.new.self) (behind same now (take (i + 1) all) es) in (
       count,
       omega (arith, c.if-standing-limit.false),
-      next_is i (g.Q.Names.named c.in-Some.name) c.in-Some.lifetime all (g.I.Announces.told c.next_told.new.self) at,
+      next_is i (g.Q.NamesKey.named c.in-Some.name) c.in-Some.lifetime all (g.I.Announces.told c.next_told.new.self) at,
       ap (λ b. b && rest) (sym within)
-          ∙ (sym (fits_more same tells now (g.Q.Names.named c.in-Some.name) c.in-Some.lifetime i all (g.I.Announces.told c.next_told.new.self) es c.requires.distinct at c.args.limit)
+          ∙ (sym (fits_more same tells now (g.Q.NamesKey.named c.in-Some.name) c.in-Some.lifetime i all (g.I.Announces.told c.next_told.new.self) es c.requires.distinct at c.args.limit)
           ∙ (ap (λ (l : List (g.row.K.Denot × ℕ)). fits same c.args.limit now l cur) (sym c.in-Some.ensures) ∙ c.loop-name.invariant.3)),
     )

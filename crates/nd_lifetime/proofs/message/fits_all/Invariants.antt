@@ -5,10 +5,10 @@ use Rattle.nd_lifetime.proofs.message.fits_all.Given as goal
 -- how many stand behind those so far, and that what is left decides
 abbrev pub invariant-loop-name : goal.invariant-loop-name
 invariant-loop-name g l =
-    (l.standing ≡ length (behind g.Q.Names.same l.now (take l.taken (g.I.Announces.told l.announced)) l.entries))
+    (l.standing ≡ length (behind g.Q.NamesKey.same l.now (take l.taken (g.I.Announces.told l.announced)) l.entries))
     × (l.standing ≤ l.limit)
     × (g.I.Announces.told l.rest ≡ drop l.taken (g.I.Announces.told l.announced))
-    × (fits g.Q.Names.same l.limit l.now (g.I.Announces.told l.rest) (behind g.Q.Names.same l.now (take l.taken (g.I.Announces.told l.announced)) l.entries) ≡ fits g.Q.Names.same l.limit l.now (g.I.Announces.told l.announced) l.entries)
+    × (fits g.Q.NamesKey.same l.limit l.now (g.I.Announces.told l.rest) (behind g.Q.NamesKey.same l.now (take l.taken (g.I.Announces.told l.announced)) l.entries) ≡ fits g.Q.NamesKey.same l.limit l.now (g.I.Announces.told l.announced) l.entries)
 
 abbrev pub decreases-loop-name : goal.decreases-loop-name
 decreases-loop-name g l = length (g.I.Announces.told l.rest)

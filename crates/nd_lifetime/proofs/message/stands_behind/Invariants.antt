@@ -6,5 +6,5 @@ use Rattle.nd_lifetime.proofs.message.stands_behind.Given as goal
 -- what is listed behind those so far, and what is left
 abbrev pub invariant-loop : goal.invariant-loop
 invariant-loop g l =
-    (l.listed ≡ is_some (end_in g.Q.Names.same (g.Q.Names.named l.name) (behind g.Q.Names.same l.now (take l.counter (g.I.Announces.told l.fn.announced)) l.entries)))
+    (l.listed ≡ is_some (end_in g.Q.NamesKey.same (g.Q.NamesKey.named l.name) (behind g.Q.NamesKey.same l.now (take l.counter (g.I.Announces.told l.fn.announced)) l.entries)))
     × (g.I.Announces.told l.rest ≡ drop l.counter (g.I.Announces.told l.fn.announced))

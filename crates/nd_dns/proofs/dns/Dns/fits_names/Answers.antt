@@ -4,7 +4,7 @@ use Rattle.nd_lifetime.specs.Listing.{fits}
 use Rattle.nd_lifetime.specs.Same.{bytes_tell}
 use Rattle.nd_lifetime.proofs.Behind.{fits_open}
 use Rattle.nd_lifetime.proofs.Unique.{one_listing}
-use Rattle.nd_dns.specs.Dns.{Heard}
+use Rattle.nd_dns.specs.Dns.{Table}
 use Rattle.nd_dns.specs.Names.{same_name, names_told}
 use Rattle.nd_dns.proofs.Few.{few_names}
 use Rattle.nd_dns.proofs.dns.Dns.fits_names.Goals as goal
@@ -13,12 +13,12 @@ pub fits_all-requires-clause-bounded : goal.fits_all-requires-clause-bounded
 fits_all-requires-clause-bounded g c =
     let few = few_names c.args.options.rest.now in omega (arith, few, ap length c.new-told.ensures, c.ranges.options.0)
 
-pub returns-clause-by_rows : goal.returns-clause-by_rows
-returns-clause-by_rows g c = λ servers rows es s le l.
+pub returns-clause-by_history : goal.returns-clause-by_history
+returns-clause-by_history g c = λ servers history es s le l.
     let now = c.args.now in
     let told = names_told (options_left c.args.options) in
     c.fits_all.ensures
     ∙ (ap (λ (t : List (List ℕ × ℕ)). fits same_name 32 now t c.deref.result.now) c.new-told.ensures
-    ∙ (ap (λ xs. fits same_name 32 now told xs) (c.deref.ensures.value ∙ ap (λ (h : Heard). h.names) c.self.view_is)
+    ∙ (ap (λ xs. fits same_name 32 now told xs) (c.deref.ensures.value ∙ ap (λ (h : Table). h.names) c.self.view_is)
     ∙ (sym (fits_open same_name bytes_tell 32 now told c.args.self.now.names)
-    ∙ ap (λ xs. fits same_name 32 now told xs) (one_listing same_name bytes_tell rows now _ _ (s.names_stand.lists now le) l))))
+    ∙ ap (λ xs. fits same_name 32 now told xs) (one_listing same_name bytes_tell history now _ _ (s.names_stand.lists now le) l))))

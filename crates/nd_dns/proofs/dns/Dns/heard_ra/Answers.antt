@@ -1,12 +1,12 @@
 use Rattle.std.proofs.Common.{◌≡◌, ◌∙◌, sym, ap, subst, arith, List, ℕ}
 use Rattle.nd_addr.specs.declared.addr.Addr.{Addr}
 use Rattle.nd_decode.specs.Pieces.{options_left}
-use Rattle.nd_lifetime.specs.declared.kept.Kept.{Kept}
-use Rattle.nd_lifetime.specs.Listing.{Distinct, StandsSilently, announced_all, heard_rows}
+use Rattle.nd_lifetime.specs.declared.lasting.Lasting.{Lasting}
+use Rattle.nd_lifetime.specs.Listing.{Distinct, Stands, announced_all, then_announced}
 use Rattle.nd_lifetime.specs.Same.{same_addr, addrs_tell, bytes_tell}
 use Rattle.nd_lifetime.proofs.Behind.{Distinct-all}
 use Rattle.nd_lifetime.proofs.Steps.{gains_all}
-use Rattle.nd_dns.specs.Dns.{Heard}
+use Rattle.nd_dns.specs.Dns.{Table}
 use Rattle.nd_dns.specs.Servers.{servers_told, servers_to_come}
 use Rattle.nd_dns.specs.Names.{same_name, names_told, names_to_come}
 use Rattle.nd_dns.proofs.dns.Dns.heard_ra.Goals as goal
@@ -15,10 +15,10 @@ pub invariant_of-self : goal.invariant_of-self
 invariant_of-self g c = (
   c.announce_all.ensures.few,
   omega (arith, c.announce_all.ensures.capacity, c.self.invariant.1),
-  subst (λ (es : List (Kept Addr)). Distinct same_addr es) (sym c.announce_all.ensures.items) (Distinct-all same_addr addrs_tell c.args.now (servers_to_come c.new-told_servers.result) c.self.inside.servers.items c.self.invariant.2),
+  subst (λ (es : List (Lasting Addr)). Distinct same_addr es) (sym c.announce_all.ensures.items) (Distinct-all same_addr addrs_tell c.args.now (servers_to_come c.new-told_servers.result) c.self.inside.servers.items c.self.invariant.2),
   c.announce_names.ensures.few,
   omega (arith, c.announce_names.ensures.capacity, c.self.invariant.4),
-  subst (λ (es : List (Kept (List ℕ))). Distinct same_name es) (sym c.announce_names.ensures.items) (Distinct-all same_name bytes_tell c.args.now (names_to_come c.new-told_names.result) c.self.inside.names.items c.self.invariant.5),
+  subst (λ (es : List (Lasting (List ℕ))). Distinct same_name es) (sym c.announce_names.ensures.items) (Distinct-all same_name bytes_tell c.args.now (names_to_come c.new-told_names.result) c.self.inside.names.items c.self.invariant.5),
 )
 
 pub returns-clause-stands : goal.returns-clause-stands
@@ -29,12 +29,12 @@ returns-clause-stands g c = λ servers names le le' s.
     let servers_are : c.announce_all.new.entries.items ≡ announced_all same_addr now told c.args.self.now.servers =
     c.announce_all.ensures.items
     ∙ (ap (λ (t : List (Addr × ℕ)). announced_all same_addr now t c.self.inside.servers.items) c.new-told_servers.ensures
-    ∙ ap (λ (h : Heard). announced_all same_addr now told h.servers) c.self.view_is) in
+    ∙ ap (λ (h : Table). announced_all same_addr now told h.servers) c.self.view_is) in
     let names_are : c.announce_names.new.entries.items ≡ announced_all same_name now told' c.args.self.now.names =
     c.announce_names.ensures.items
     ∙ (ap (λ (t : List (List ℕ × ℕ)). announced_all same_name now t c.self.inside.names.items) c.new-told_names.ensures
-    ∙ ap (λ (h : Heard). announced_all same_name now told' h.names) c.self.view_is) in
+    ∙ ap (λ (h : Table). announced_all same_name now told' h.names) c.self.view_is) in
     record {
-      servers_stand = subst (λ (es : List (Kept Addr)). StandsSilently same_addr es (heard_rows now told servers)) (sym servers_are) (gains_all same_addr addrs_tell now told c.args.self.now.servers servers le s.servers_stand);
-      names_stand = subst (λ (es : List (Kept (List ℕ))). StandsSilently same_name es (heard_rows now told' names)) (sym names_are) (gains_all same_name bytes_tell now told' c.args.self.now.names names le' s.names_stand);
+      servers_stand = subst (λ (es : List (Lasting Addr)). Stands same_addr es (then_announced now told servers)) (sym servers_are) (gains_all same_addr addrs_tell now told c.args.self.now.servers servers le s.servers_stand);
+      names_stand = subst (λ (es : List (Lasting (List ℕ))). Stands same_name es (then_announced now told' names)) (sym names_are) (gains_all same_name bytes_tell now told' c.args.self.now.names names le' s.names_stand);
     }

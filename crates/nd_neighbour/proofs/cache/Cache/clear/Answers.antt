@@ -8,4 +8,4 @@ use Rattle.nd_neighbour.proofs.cache.Cache.clear.Goals as goal
 
 pub returns-clause-stands : goal.returns-clause-stands
 returns-clause-stands g c =
-    on_ok c.take_all.result _ _ (λ none at rows s. subst (λ (l : List Node). Stands l (cleared at c.args.self.now.nodes rows)) (sym none) (cleared_stands at c.args.self.now.nodes rows s)) c.take_all.ensures.none
+    on_ok c.take_all.result _ _ (λ none at history s. subst (λ (l : List Node). Stands l (cleared at c.args.self.now.nodes history)) (sym none) (cleared_stands at c.args.self.now.nodes history s)) c.take_all.ensures.none

@@ -12,7 +12,7 @@ returns-clause-value g c =
     c.show.ensures ∙ (ap (λ l. option_map (seen c.args.now) (node_in key l)) c.deref.ensures.value ∙ ap (λ (t : Table). option_map (seen c.args.now) (node_in key t.nodes)) c.self.view_is)
 
 pub returns-clause-seen : goal.returns-clause-seen
-returns-clause-seen g c = λ rows s.
+returns-clause-seen g c = λ history s.
     let key = number_of c.args.addr.0 in
     c.show.ensures ∙ (ap (λ l. option_map (seen c.args.now) (node_in key l)) c.deref.ensures.value ∙ (ap (λ (t : Table). option_map (seen c.args.now) (node_in key t.nodes)) c.self.view_is
-    ∙ seen_by_rows key c.args.now c.args.self.now.nodes rows s))
+    ∙ seen_by_rows key c.args.now c.args.self.now.nodes history s))

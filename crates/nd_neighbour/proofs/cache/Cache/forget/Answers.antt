@@ -1,6 +1,6 @@
 use Rattle.std.proofs.Common.{◌≡◌, ◌∙◌, subst}
 use Rattle.nd_addr.specs.Number.{number_of}
-use Rattle.nd_neighbour.specs.Rows.{Removed}
+use Rattle.nd_neighbour.specs.History.{Removed}
 use Rattle.nd_neighbour.specs.Table.{Table, node_in}
 use Rattle.nd_neighbour.specs.Room.{Removes}
 use Rattle.nd_neighbour.specs.Calls.{waiting_at}
@@ -14,7 +14,7 @@ returns-clause-stands g c = λ at.
     removed_gains key at Removed c.args.self.now.nodes new (subst (λ (t : Table). Removes key t.nodes new) c.self.view_is c.remove.ensures.removes)
 
 pub returns-clause-packets : goal.returns-clause-packets
-returns-clause-packets g c = λ rows s.
+returns-clause-packets g c = λ history s.
     let key = number_of c.args.addr.0 in
     subst (λ (t : Table). c.remove.result ≡ waiting_at (node_in key t.nodes)) c.self.view_is c.remove.ensures.packets
-    ∙ waits_by_rows key c.args.self.now.nodes rows s
+    ∙ waits_by_rows key c.args.self.now.nodes history s

@@ -37,7 +37,7 @@ returns-in-Advert-clause-stands g c =
     let new = c.advertise.new.entries.items in
     let gains = advertised_gains key c.args.now c.in-Advert.flags mac c.args.times.reachable c.args.self.now.nodes new
     (subst (λ (t : Table). Alters key (λ n. advertised c.args.now c.in-Advert.flags mac c.args.times.reachable n) t.nodes new) c.self.view_is c.advertise.ensures.alters) in
-    rw c.in-Advert.is (record { stands = λ rows s. (rows, refl, gains.stands rows s) })
+    rw c.in-Advert.is (record { stands = λ history s. (history, refl, gains.stands history s) })
 
 pub returns-in-Advert-clause-told : goal.returns-in-Advert-clause-told
 returns-in-Advert-clause-told g c =
@@ -53,7 +53,7 @@ returns-in-Marked-clause-stands g c =
     let new = c.mark.new.entries.items in
     let gains = marked_gains key c.args.now c.in-Marked.router c.args.self.now.nodes new
     (subst (λ (t : Table). Alters key (λ n. with_mark c.in-Marked.router n) t.nodes new) c.self.view_is c.mark.ensures.alters) in
-    rw c.in-Marked.is (record { stands = λ rows s. (rows, refl, gains.stands rows s) })
+    rw c.in-Marked.is (record { stands = λ history s. (history, refl, gains.stands history s) })
 
 pub returns-in-Marked-clause-told : goal.returns-in-Marked-clause-told
 returns-in-Marked-clause-told g c =

@@ -8,12 +8,12 @@ use Rattle.nd_neighbour.specs.Second.{HasRoom, has_room}
 use Rattle.nd_neighbour.proofs.Second.{room_by_rows}
 use Rattle.nd_neighbour.proofs.cache.Cache.room.Goals as goal
 
-pub returns-clause-rows : goal.returns-clause-rows
-returns-clause-rows g c = λ rows s.
+pub returns-clause-history : goal.returns-clause-history
+returns-clause-history g c = λ history s.
     let key = number_of c.args.addr.0 in
     let then' = option_map (λ next. number_of next.0) c.args.then in
     let table = c.args.self.now in
     let is : c.has_room.result ≡ has_room table.limit c.args.now key then' table.nodes = c.has_room.ensures
     ∙ (ap (λ (l : List Node). has_room c.self.inside.limit c.args.now key then' l) c.deref.ensures.value
     ∙ ap (λ (t : Table). has_room t.limit c.args.now key then' t.nodes) c.self.view_is) in
-    subst (λ (b : Bool). (b ≡ true) ↔ HasRoom table.limit c.args.now key then' rows) (sym is) (room_by_rows table.limit c.args.now key table.nodes rows s then')
+    subst (λ (b : Bool). (b ≡ true) ↔ HasRoom table.limit c.args.now key then' history) (sym is) (room_by_rows table.limit c.args.now key table.nodes history s then')

@@ -13,5 +13,5 @@ returns-clause-value g c =
 
 pub returns-clause-lists : goal.returns-clause-lists
 returns-clause-lists g c =
-    if_ok c.show_all.result _ _ (λ shown is rows s. lists_all c.args.now c.args.self.now.nodes rows (map (λ n. seen_in n) shown.items) is s)
+    if_ok c.show_all.result _ _ (λ shown is history s. lists_all c.args.now c.args.self.now.nodes history (map (λ n. seen_in n) shown.items) is s)
     (subst (λ (t : Table). IfOk c.show_all.result (λ shown. map (λ n. seen_in n) shown.items ≡ map (seen c.args.now) t.nodes)) c.self.view_is c.show_all.ensures)

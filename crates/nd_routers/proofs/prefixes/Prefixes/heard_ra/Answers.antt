@@ -1,8 +1,8 @@
 use Rattle.std.proofs.Common.{◌∙◌, sym, ap, subst, arith, List}
 use Rattle.nd_addr.specs.Prefix.{PrefixValue}
 use Rattle.nd_decode.specs.Pieces.{options_left}
-use Rattle.nd_lifetime.specs.declared.kept.Kept.{Kept}
-use Rattle.nd_lifetime.specs.Listing.{Distinct, StandsSilently, announced_all, heard_rows}
+use Rattle.nd_lifetime.specs.declared.lasting.Lasting.{Lasting}
+use Rattle.nd_lifetime.specs.Listing.{Distinct, Stands, announced_all, then_announced}
 use Rattle.nd_lifetime.specs.Same.{same_prefix, prefixes_tell}
 use Rattle.nd_lifetime.proofs.Behind.{Distinct-all}
 use Rattle.nd_lifetime.proofs.Steps.{gains_all}
@@ -13,13 +13,13 @@ pub invariant_of-self : goal.invariant_of-self
 invariant_of-self g c = (
   c.announce_all.ensures.few,
   omega (arith, c.announce_all.ensures.capacity, c.self.invariant.1),
-  subst (λ (es : List (Kept PrefixValue)). Distinct same_prefix es) (sym c.announce_all.ensures.items)
+  subst (λ (es : List (Lasting PrefixValue)). Distinct same_prefix es) (sym c.announce_all.ensures.items)
       (Distinct-all same_prefix prefixes_tell c.args.now (prefixes_in (options_left c.args.options)) c.self.inside.entries.items c.self.invariant.2),
 )
 
 pub returns-clause-stands : goal.returns-clause-stands
-returns-clause-stands g c = λ rows le s.
+returns-clause-stands g c = λ history le s.
     let told = prefixes_in (options_left c.args.options) in
-    subst (λ (es : List (Kept PrefixValue)). StandsSilently same_prefix es (heard_rows c.args.now told rows))
+    subst (λ (es : List (Lasting PrefixValue)). Stands same_prefix es (then_announced c.args.now told history))
     (sym (c.announce_all.ensures.items ∙ ap (λ es. announced_all same_prefix c.args.now told es) c.self.view_is))
-    (gains_all same_prefix prefixes_tell c.args.now told c.args.self.now rows le s)
+    (gains_all same_prefix prefixes_tell c.args.now told c.args.self.now history le s)

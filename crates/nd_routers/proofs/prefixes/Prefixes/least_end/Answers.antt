@@ -5,8 +5,8 @@ use Rattle.nd_lifetime.proofs.Unique.{one_listing}
 use Rattle.nd_routers.specs.Prefixes.{least_end}
 use Rattle.nd_routers.proofs.prefixes.Prefixes.least_end.Goals as goal
 
-pub returns-clause-by_rows : goal.returns-clause-by_rows
-returns-clause-by_rows g c = λ rows es s le l.
+pub returns-clause-by_history : goal.returns-clause-by_history
+returns-clause-by_history g c = λ history es s le l.
     c.least_end.ensures
     ∙ (ap (λ xs. least_end (open_at c.args.now xs)) (c.deref.ensures.value ∙ c.self.view_is)
-    ∙ ap least_end (one_listing same_prefix prefixes_tell rows c.args.now _ _ (s.lists c.args.now le) l))
+    ∙ ap least_end (one_listing same_prefix prefixes_tell history c.args.now _ _ (s.lists c.args.now le) l))

@@ -17,10 +17,10 @@ returns-then-not-has-clause-stands g c = λ at.
 pub returns-then-len-lt-MAX_ROUTERS-clause-stands :
     goal.returns-then-len-lt-MAX_ROUTERS-clause-stands
 returns-then-len-lt-MAX_ROUTERS-clause-stands g c = λ at. record {
-  stands = λ rows s.
+  stands = λ history s.
       let key = number_of c.args.source.0 in
       let listed : c.has.result ≡ is_some (end_in same key c.args.self.now.entries) = c.has.ensures ∙ (ap (λ es. is_some (end_in same key es)) c.deref.ensures.value ∙ ap (λ t. is_some (end_in same key t.entries)) c.self.view_is) in
-      gains_failure c.args.self.now _ at key rows s (sym listed ∙ grind (arith, c.if-not-has.false, c.if-not-has.ensures))
+      gains_failure c.args.self.now _ at key history s (sym listed ∙ grind (arith, c.if-not-has.false, c.if-not-has.ensures))
       (ap (λ t. t.entries) c.self.view_is)
       (c.push_reserved.ensures.items ∙ (ap (λ k. c.forget.new.failed.items ++ k ∷ []) c.of.ensures ∙ (ap (λ ks. ks ++ key ∷ []) c.forget.ensures.items ∙ ap (λ t. others key t.failed ++ key ∷ []) c.self.view_is)));
 }
@@ -28,10 +28,10 @@ returns-then-len-lt-MAX_ROUTERS-clause-stands g c = λ at. record {
 pub returns-else-len-lt-MAX_ROUTERS-clause-stands :
     goal.returns-else-len-lt-MAX_ROUTERS-clause-stands
 returns-else-len-lt-MAX_ROUTERS-clause-stands g c = λ at. record {
-  stands = λ rows s.
+  stands = λ history s.
       let key = number_of c.args.source.0 in
       let listed : c.has.result ≡ is_some (end_in same key c.args.self.now.entries) = c.has.ensures ∙ (ap (λ es. is_some (end_in same key es)) c.deref.ensures.value ∙ ap (λ t. is_some (end_in same key t.entries)) c.self.view_is) in
-      let room = has_room rows c.args.self.now.failed c.args.self.now.entries key s.failures s.routers (sym listed ∙ grind (arith, c.if-not-has.false, c.if-not-has.ensures)) in
+      let room = has_room history c.args.self.now.failed c.args.self.now.entries key s.failures s.routers (sym listed ∙ grind (arith, c.if-not-has.false, c.if-not-has.ensures)) in
       let same_length = ap (λ t. length t.entries) c.self.view_is in
       let items = ap length c.deref.ensures.value in
       let left : c.forget.new.failed.items ≡ others key c.args.self.now.failed = c.forget.ensures.items ∙ ap (λ t. others key t.failed) c.self.view_is in

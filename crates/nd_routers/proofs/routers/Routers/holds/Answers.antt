@@ -7,9 +7,9 @@ use Rattle.nd_routers.proofs.Steps.{holds_at}
 use Rattle.nd_routers.proofs.routers.Routers.holds.Goals as goal
 
 pub returns-clause-stands : goal.returns-clause-stands
-returns-clause-stands g c = λ rows s.
+returns-clause-stands g c = λ history s.
     let key = number_of c.args.source.0 in
     c.stands.ensures
     ∙ (ap (λ es. is_some (end_in same key (open_at c.args.now es))) c.deref.ensures.value
     ∙ (ap (λ t. is_some (end_in same key (open_at c.args.now t.entries))) c.self.view_is
-    ∙ holds_at c.args.self.now.entries rows c.args.now key s.routers))
+    ∙ holds_at c.args.self.now.entries history c.args.now key s.routers))

@@ -12,7 +12,7 @@ pub returns-in_err-source-clause-due : goal.returns-in_err-source-clause-due
 returns-in_err-source-clause-due g c =
     let number = option_map (λ a. number_of a.0) in
     let none : first_due c.args.now c.args.self.now.entries ≡ number c.from_residual.result = ap (λ t. first_due c.args.now t.entries) (sym c.self.view_is) ∙ (ap (first_due c.args.now) (sym c.deref.ensures.value) ∙ (sym c.first_due.ensures ∙ ap number (c.in_err-source.was ∙ sym c.from_residual.ensures))) in
-    λ rows s. first_is_due c.args.self.now.entries rows s.routers c.args.now _ none
+    λ history s. first_is_due c.args.self.now.entries history s.routers c.args.now _ none
 
 pub returns-in_err-source-clause-none : goal.returns-in_err-source-clause-none
 returns-in_err-source-clause-none g c =
@@ -24,7 +24,7 @@ pub returns-clause-due : goal.returns-clause-due
 returns-clause-due g c =
     let number = option_map (λ a. number_of a.0) in
     let some : first_due c.args.now c.args.self.now.entries ≡ Some (number_of c.in_ok-source.source.0) = ap (λ t. first_due c.args.now t.entries) (sym c.self.view_is) ∙ (ap (first_due c.args.now) (sym c.deref.ensures.value) ∙ (sym c.first_due.ensures ∙ ap number c.in_ok-source.was)) in
-    λ rows s. first_is_due c.args.self.now.entries rows s.routers c.args.now _ some
+    λ history s. first_is_due c.args.self.now.entries history s.routers c.args.now _ some
 
 pub returns-clause-gains : goal.returns-clause-gains
 returns-clause-gains g c =

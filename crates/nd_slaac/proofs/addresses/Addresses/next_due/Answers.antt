@@ -5,5 +5,5 @@ use Rattle.nd_slaac.proofs.Dues.{next_is_due}
 use Rattle.nd_slaac.proofs.addresses.Addresses.next_due.Goals as goal
 
 pub returns-clause-due : goal.returns-clause-due
-returns-clause-due g c = λ rows s.
-    next_is_due c.args.self.now.addresses rows s c.next.result (sym (c.next.ensures ∙ ap next_in (c.deref.ensures.value ∙ ap (λ (t : Table). t.addresses) c.self.view_is)))
+returns-clause-due g c = λ history s.
+    next_is_due c.args.self.now.addresses history s c.next.result (sym (c.next.ensures ∙ ap next_in (c.deref.ensures.value ∙ ap (λ (t : Table). t.addresses) c.self.view_is)))

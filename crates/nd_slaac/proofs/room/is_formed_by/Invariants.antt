@@ -1,0 +1,11 @@
+use Rattle.std.proofs.Common.{◌≡◌}
+use Rattle.nd_addr.specs.Number.{number_of}
+use Rattle.nd_decode.specs.Pieces.{options_left}
+use Rattle.nd_slaac.specs.PrefixOption.{prefixes_in}
+use Rattle.nd_slaac.specs.Room.{is_formed_by}
+use Rattle.nd_slaac.proofs.room.is_formed_by.Given as goal
+
+-- the address is formed by the rest where it is by any
+abbrev pub invariant-loop-option : goal.invariant-loop-option
+invariant-loop-option l =
+    is_formed_by l.mac (number_of l.addr.0) (prefixes_in (options_left l.option-iterator)) ≡ is_formed_by l.mac (number_of l.addr.0) (prefixes_in (options_left l.initial.option-iterator))

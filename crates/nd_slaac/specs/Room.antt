@@ -1,0 +1,30 @@
+-- Whether there is room for the addresses that the prefix options of a Router Advertisement would form.
+use Rattle.std.specs.Prelude.{ℕ, ◌+◌, nat_lt, Bool, true, false, ◌&&◌, ◌||◌, not, ◌==◌, if◌then◌else◌, List, [], ◌∷◌, length}
+use Rattle.nd_addr.specs.declared.mac.Mac.{Mac}
+use Rattle.nd_decode.specs.declared.prefix_info.PrefixInfo.{PrefixInfo}
+use Rattle.nd_slaac.specs.PrefixOption.{is_forming, named_by}
+
+abbrev pub is_among : ℕ → List ℕ → Bool
+is_among key [] = false
+is_among key (k ∷ keys) = (k == key) || is_among key keys
+
+-- the option would form an address, where these are known
+abbrev pub would_form : Mac → List ℕ → PrefixInfo → Bool
+would_form mac keys info = is_forming info && not (is_among (named_by mac info) keys)
+
+-- there is room for each address that the options, taken in their order, would form
+abbrev pub fits_in : Mac → List ℕ → List PrefixInfo → Bool
+fits_in mac keys [] = true
+fits_in mac keys (info ∷ infos) =
+    if would_form mac keys info then (nat_lt (length keys) 64 && fits_in mac (named_by mac info ∷ keys) infos) else fits_in mac keys infos
+
+-- the same without a list of the new ones: some option forms the address
+abbrev pub is_formed_by : Mac → ℕ → List PrefixInfo → Bool
+is_formed_by mac key [] = false
+is_formed_by mac key (info ∷ infos) = (is_forming info && (named_by mac info == key)) || is_formed_by mac key infos
+
+-- and how many addresses would be new, each counted where the last option would form it
+abbrev pub new_in : Mac → List ℕ → List PrefixInfo → ℕ
+new_in mac keys [] = 0
+new_in mac keys (info ∷ infos) =
+    if would_form mac keys info && not (is_formed_by mac (named_by mac info) infos) then new_in mac keys infos + 1 else new_in mac keys infos

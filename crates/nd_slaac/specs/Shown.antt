@@ -1,0 +1,45 @@
+-- What is shown of an address at a moment.
+use Rattle.std.specs.Prelude.{◌≡◌, ℕ, ◌-◌, if◌then◌else◌, List, Option, Some, None}
+use Rattle.nd_table.specs.Keyed.{at_key, Rises}
+use Rattle.nd_slaac.specs.declared.state.State.{State}
+use Rattle.nd_slaac.specs.History.{Row, Story, story}
+use Rattle.nd_slaac.specs.Ends.{preferred_end, valid_end}
+use Rattle.nd_slaac.specs.State.{is_known, has_conflict, was_assigned, state_by}
+use Rattle.nd_slaac.specs.Address.{Address, state_in}
+
+-- an address, its state, and what is left of its lifetimes, in milliseconds: 0 where they have ended, and nothing for
+-- one without an end
+pub record Seen : Type 0 where
+  pub key : ℕ
+  pub state : State
+  pub preferred_left : Option ℕ
+  pub valid_left : Option ℕ
+
+abbrev pub rest_until : ℕ → Option ℕ → Option ℕ
+rest_until now None = None
+rest_until now (Some end) = Some (end - now)
+
+-- what the story says at the moment
+abbrev pub seen_of : ℕ → Story → ℕ → Option Seen
+seen_of key s t =
+    if is_known s then Some (record {
+      key = key;
+      state = state_by (has_conflict s) (was_assigned s) (preferred_end s) t;
+      preferred_left = rest_until t (preferred_end s);
+      valid_left = rest_until t (valid_end s);
+    }) else None
+
+-- the same of what is kept
+abbrev pub state_at : ℕ → Address → State
+state_at t a = state_in a.stage a.preferred_end t
+
+abbrev pub seen : ℕ → Address → Seen
+seen t a = record { key = a.key; state = state_at t a; preferred_left = rest_until t a.preferred_end; valid_left = rest_until t a.valid_end }
+
+abbrev pub seen_key : Seen → ℕ
+seen_key s = s.key
+
+-- the list shows the addresses that the history tell of, as they are at the moment, in the order of their numbers
+pub record Lists (history : List Row) (now : ℕ) (shown : List Seen) : Type 0 where
+  pub each : (key : ℕ) → at_key seen_key key shown ≡ seen_of key (story key history) now
+  pub order : Rises seen_key shown

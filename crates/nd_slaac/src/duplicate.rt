@@ -1,0 +1,56 @@
+ghost use Rattle.std.specs.Prelude.{◌≡◌, ◌≢◌, ◌<◌, ◌^◌, ℕ, List, [], ◌∷◌, IfOk, IfSome, IfNone, Some, None, true, false, vec_len, vec_capacity};
+ghost use Rattle.std.specs.Option.{option_map};
+ghost use Rattle.nd_addr.specs.Number.{number_of};
+ghost use Rattle.nd_slaac.specs.Table.{address_in};
+ghost use Rattle.nd_slaac.specs.Calls.{Alters, failed, detects_in};
+
+use crate::addresses::Addresses;
+use crate::entry::Entry;
+use nd_addr::{Addr, Mac};
+use nd_table::find;
+use std::alloc::{AllocError, Allocator};
+use std::marker::Model;
+
+impl<A: Allocator + Clone> Addresses<A> {
+    ghost use Rattle.nd_slaac.specs.History.{Row, story, Formed, Conflict};
+    ghost use Rattle.nd_slaac.specs.State.{is_tentative};
+    ghost use Rattle.nd_slaac.specs.Table.{Table, address_in, Stands, GainsRow};
+    ghost use Rattle.nd_slaac.specs.Due.{FirstDue, NextDue, due_row};
+    ghost use Rattle.nd_slaac.specs.Dates.{next_in, NoneBefore, turns_left};
+    ghost use Rattle.nd_slaac.specs.PrefixOption.{link_local_of};
+    ghost use Rattle.nd_slaac.specs.Calls.{formed, detects_in};
+    ghost use Rattle.nd_slaac.specs.MayCome.{MayCome};
+    ghost use Rattle.nd_slaac.specs.View.{falls_of};
+
+    /// Another node has an address, or tries for it. It answers whether the address was tentative, and is a duplicate
+    /// now; one that is assigned isn't touched (RFC 4862, sections 5.4.3 and 5.4.4).
+    pub fn conflict(&mut self, addr: Addr) -> bool
+        ensures value { result ≡ detects_in (address_in (number_of addr.0) self.old.addresses) }
+        ensures tentative { (history : List Row) → Stands self.old.addresses history → result ≡ is_tentative (story (number_of addr.0) history) }
+        ensures gains { result ≡ true → (at : ℕ) → GainsRow self.old.addresses self.new.addresses (at, number_of addr.0, Conflict) }
+        ensures comes { result ≡ true → (history : List Row) (at : ℕ) → Stands self.old.addresses history → MayCome (at, number_of addr.0, Conflict) history }
+        ensures same { result ≡ false → self.new ≡ self.old }
+        ensures mac { self.new.mac ≡ self.old.mac }
+    {
+        fail(&mut self.entries, addr)
+    }
+}
+
+/// Another node has an address, or tries for it: where its detection goes on, it fails.
+pub(crate) fn fail<A: Allocator>(entries: &mut Vec<Entry, A>, addr: Addr) -> bool
+    ensures value { result ≡ detects_in (address_in (number_of addr.0) entries.old.items) }
+    ensures alters { result ≡ true → Alters (number_of addr.0) failed entries.old.items entries.new.items }
+    ensures same { result ≡ false → entries.new.items ≡ entries.old.items }
+    ensures len { vec_len entries.new ≡ vec_len entries.old }
+    ensures capacity { vec_capacity entries.new ≡ vec_capacity entries.old }
+{
+    let Some(i) = find(entries, addr) else {
+        return false;
+    };
+    let entry = &mut entries[i];
+    if !entry.is_detecting() {
+        return false;
+    }
+    entry.fail();
+    true
+}

@@ -1,0 +1,125 @@
+ghost use Rattle.std.specs.Prelude.{◌≡◌, true, ◌<◌, ◌^◌, ◌∷◌, List, IsOk, IfSome, is_some, length, ◌≤◌, vec_len, vec_capacity, Ok};
+ghost use Rattle.nd_addr.specs.Number.{number_of};
+ghost use Rattle.nd_slaac.specs.PrefixOption.{is_taken, named_by, link_local_of, lifetimes_of};
+ghost use Rattle.nd_decode.specs.declared.prefix_info.PrefixInfo.{PrefixInfo};
+ghost use Rattle.nd_decode.specs.Pieces.{options_left};
+ghost use Rattle.std.specs.List.{insert};
+ghost use Rattle.nd_slaac.specs.Table.{address_in};
+ghost use Rattle.nd_slaac.specs.Calls.{taken_by, Changes};
+
+use crate::addresses::{Addresses, LIMIT};
+use crate::entry::Entry;
+use nd_addr::{Addr, Mac, Prefix};
+use nd_decode::{Options, PrefixInfo};
+use nd_table::{find, put};
+use std::alloc::Allocator;
+
+/// What becomes of a prefix option (RFC 4862, section 5.5.3).
+#[derive(Clone, Copy, Debug, PartialEq, Eq)]
+pub enum Taken {
+    /// It formed an address.
+    Formed,
+    /// Its address is known, and has other lifetimes now.
+    Renewed,
+    /// It says nothing of an address, or tells an address that isn't known of a lifetime that is over.
+    Ignored,
+}
+
+/// There is no room for one more address.
+#[derive(Clone, Copy, Debug, PartialEq, Eq)]
+pub struct Full;
+
+impl<A: Allocator + Clone> Addresses<A> {
+    ghost use Rattle.nd_slaac.specs.History.{Row, story};
+    ghost use Rattle.nd_slaac.specs.State.{is_known};
+    ghost use Rattle.nd_slaac.specs.Table.{address_in, Stands};
+    ghost use Rattle.nd_slaac.specs.PrefixOption.{named_by, prefixes_in};
+    ghost use Rattle.nd_slaac.specs.Room.{would_form, fits_in};
+    ghost use Rattle.nd_slaac.specs.Calls.{keys_in, taken_of, row_taken, GainsRowIfAny};
+    ghost use Rattle.nd_slaac.specs.MayCome.{MayCome};
+
+    /// A prefix option of a Router Advertisement (RFC 4862, section 5.5.3): it forms an address, whose first
+    /// solicitation waits for the delay, renews the lifetimes of one that is known, or says nothing. Delay and
+    /// RetransTimer are in milliseconds, and count where an address is formed. It takes no memory.
+    pub fn heard_prefix(
+        &mut self,
+        now: u64,
+        info: &PrefixInfo,
+        delay: u32,
+        retrans: u32,
+    ) -> Result<Taken, Full>
+        requires moment { now < 2 ^ 62 }
+
+        ensures value { result ≡ taken_of info.now (is_some (address_in (named_by self.old.mac info.now) self.old.addresses)) (length self.old.addresses) }
+        ensures by_history { (history : List Row) → Stands self.old.addresses history → result ≡ taken_of info.now (is_known (story (named_by self.old.mac info.now) history)) (length self.old.addresses) }
+        ensures gains { GainsRowIfAny (row_taken now self.old.mac info.now delay retrans result) self.old.addresses self.new.addresses }
+        ensures comes { (history : List Row) → Stands self.old.addresses history → 0 < retrans → IfSome (row_taken now self.old.mac info.now delay retrans result) (λ row. MayCome row history) }
+        ensures mac { self.new.mac ≡ self.old.mac }
+
+        // Where the options fit, the first isn't refused, and the others still fit.
+        ensures fits { (infos : List PrefixInfo) → fits_in self.old.mac (keys_in self.old.addresses) (info.now ∷ infos) ≡ true → IsOk result × (fits_in self.new.mac (keys_in self.new.addresses) infos ≡ true) }
+    {
+        if !is_taken(info) {
+            return Ok(Taken::Ignored);
+        }
+        let addr = named_by(info, self.mac);
+        take(&mut self.entries, now, addr, info, delay, retrans)
+    }
+}
+
+/// How many bits of an address its prefix has, the identifier that is formed having the others (RFC 4291, section 2.5.1).
+pub(crate) const PREFIX_LENGTH: u8 = 64;
+
+/// Whether an option may form or renew an address (RFC 4862, section 5.5.3 a to c).
+#[tactic(auto, unfolding(crate::specs::PrefixOption::is_taken))]
+pub(crate) fn is_taken(info: &PrefixInfo) -> bool
+    ensures { result ≡ is_taken info.now }
+{
+    let prefix = info.prefix.address();
+    info.autonomous
+        && !prefix.is_multicast()
+        && !prefix.is_link_local()
+        && info.preferred_lifetime <= info.valid_lifetime
+        && info.prefix.length() == PREFIX_LENGTH
+}
+
+/// The address that an option names.
+#[tactic(auto, unfolding(crate::specs::PrefixOption::is_taken, crate::specs::PrefixOption::named_by))]
+pub(crate) fn named_by(info: &PrefixInfo, mac: Mac) -> Addr
+    requires { is_taken info.now ≡ true }
+    ensures { number_of result.0 ≡ named_by mac info.now }
+{
+    Addr::from_mac(&info.prefix, mac)
+}
+
+/// An option that is taken, for the address that it names (RFC 4862, section 5.5.3 d and e).
+pub(crate) fn take<A: Allocator>(
+    entries: &mut Vec<Entry, A>,
+    now: u64,
+    addr: Addr,
+    info: &PrefixInfo,
+    delay: u32,
+    retrans: u32,
+) -> Result<Taken, Full>
+    requires moment { now < 2 ^ 62 }
+    requires few { vec_len entries.old ≤ 64 }
+    requires capacity { 64 ≤ vec_capacity entries.old }
+    ensures value { result ≡ taken_by (is_some (address_in (number_of addr.0) entries.old.items)) info.now.valid_lifetime (length entries.old.items) }
+    ensures changes { Changes now (number_of addr.0) (lifetimes_of info.now) delay retrans result entries.old.items entries.new.items }
+    ensures few { vec_len entries.new ≤ 64 }
+    ensures capacity { vec_capacity entries.new ≡ vec_capacity entries.old }
+{
+    if let Some(i) = find(entries, addr) {
+        let entry = &mut entries[i];
+        entry.announce(now, info);
+        return Ok(Taken::Renewed);
+    }
+    if info.valid_lifetime == 0 {
+        return Ok(Taken::Ignored);
+    }
+    if entries.len() >= LIMIT {
+        return Err(Full);
+    }
+    put(entries, Entry::formed(addr, now, info, delay, retrans));
+    Ok(Taken::Formed)
+}

@@ -1,0 +1,112 @@
+ghost use Rattle.std.specs.Prelude.{◌≡◌, ◌≤◌, ◌&&◌, ◌==◌, not, length, ◌<◌, ◌^◌, ◌∷◌, List, IsOk, IfSome, true, is_some};
+ghost use Rattle.nd_addr.specs.Number.{number_of};
+ghost use Rattle.nd_decode.specs.Pieces.{options_left};
+ghost use Rattle.nd_slaac.specs.PrefixOption.{is_forming, named_by, prefixes_in};
+ghost use Rattle.nd_slaac.specs.Room.{is_among, would_form, is_formed_by, fits_in};
+ghost use Rattle.nd_slaac.specs.Calls.{keys_in};
+ghost use Rattle.nd_decode.specs.declared.prefix_info.PrefixInfo.{PrefixInfo};
+
+use crate::addresses::{Addresses, LIMIT};
+use crate::entry::Entry;
+use crate::prefix_option::{is_taken, named_by};
+use nd_addr::{Addr, Mac};
+use nd_decode::{OptionRef, Options, PrefixInfo};
+use nd_table::{compare, find};
+use std::alloc::Allocator;
+
+impl<A: Allocator + Clone> Addresses<A> {
+    ghost use Rattle.nd_slaac.specs.History.{Row, story};
+    ghost use Rattle.nd_slaac.specs.State.{is_known};
+    ghost use Rattle.nd_slaac.specs.Table.{address_in, Stands};
+    ghost use Rattle.nd_slaac.specs.PrefixOption.{named_by, prefixes_in};
+    ghost use Rattle.nd_slaac.specs.Room.{would_form, fits_in};
+    ghost use Rattle.nd_slaac.specs.Calls.{keys_in, taken_of, row_taken, GainsRowIfAny};
+    ghost use Rattle.nd_slaac.specs.MayCome.{MayCome};
+
+    /// Whether a prefix option would form an address, where there is room for it (RFC 4862, section 5.5.3 a to d). An address is known
+    /// until `turn` has told its end.
+    pub fn would_form(&self, info: &PrefixInfo) -> bool
+        ensures { result ≡ would_form self.now.mac (keys_in self.now.addresses) info.now }
+    {
+        would_form(&self.entries, self.mac, info)
+    }
+
+    /// Whether there is room for each address that the options of a Router Advertisement, taken in their order, would
+    /// form. Where it is so, `heard_prefix` refuses none of them. An address is known until `turn` has told its end.
+    pub fn fits(&self, options: Options<'_>) -> bool
+        ensures { result ≡ fits_in self.now.mac (keys_in self.now.addresses) (prefixes_in (options_left options.entry)) }
+    {
+        fits(&self.entries, self.mac, options)
+    }
+}
+
+/// Whether an address is known.
+fn is_known(entries: &[Entry], addr: Addr) -> bool
+    ensures { result ≡ is_among (number_of addr.0) (keys_in entries.now) }
+{
+    find(entries, addr).is_some()
+}
+
+/// Whether an option forms an address where that isn't known (RFC 4862, section 5.5.3 d).
+fn is_forming(info: &PrefixInfo) -> bool
+    ensures { result ≡ is_forming info.now }
+{
+    is_taken(info) && info.valid_lifetime != 0
+}
+
+/// Whether an option would form an address, where there is room.
+pub(crate) fn would_form(entries: &[Entry], mac: Mac, info: &PrefixInfo) -> bool
+    ensures { result ≡ would_form mac (keys_in entries.now) info.now }
+{
+    is_forming(info) && !is_known(entries, named_by(info, mac))
+}
+
+/// Whether an option forms this address where that isn't known.
+fn forms(info: &PrefixInfo, mac: Mac, addr: Addr) -> bool
+    ensures { result ≡ (is_forming info.now && (named_by mac info.now == number_of addr.0)) }
+{
+    is_forming(info) && compare(named_by(info, mac), addr).is_eq()
+}
+
+/// Whether some option forms this address where that isn't known.
+fn is_formed_by(options: Options<'_>, mac: Mac, addr: Addr) -> bool
+    ensures { result ≡ is_formed_by mac (number_of addr.0) (prefixes_in (options_left options.entry)) }
+{
+    for option in options {
+        if let OptionRef::Prefix(info) = option
+            && forms(&info, mac, addr)
+        {
+            return true;
+        }
+    }
+    false
+}
+
+/// Whether there is room for each address that the options would form.
+pub(crate) fn fits(entries: &[Entry], mac: Mac, options: Options<'_>) -> bool
+    requires { length entries.now ≤ 64 }
+    ensures { result ≡ fits_in mac (keys_in entries.now) (prefixes_in (options_left options.entry)) }
+{
+    let mut count = entries.len();
+    let mut rest = options;
+    while let Some(option) = rest.next() {
+        let OptionRef::Prefix(info) = option else {
+            continue;
+        };
+        // An address that several options would form is counted at the last of them.
+        if is_new(entries, mac, &info, rest) {
+            if count >= LIMIT {
+                return false;
+            }
+            count += 1;
+        }
+    }
+    true
+}
+
+/// Whether an option would form an address, and none of those behind it would form the same.
+fn is_new(entries: &[Entry], mac: Mac, info: &PrefixInfo, behind: Options<'_>) -> bool
+    ensures { result ≡ (would_form mac (keys_in entries.now) info.now && not (is_formed_by mac (named_by mac info.now) (prefixes_in (options_left behind.entry)))) }
+{
+    would_form(entries, mac, info) && !is_formed_by(behind, mac, named_by(info, mac))
+}
