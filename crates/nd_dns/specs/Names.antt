@@ -4,7 +4,7 @@ use Rattle.nd_search_list.specs.declared.names.Names.{Names}
 use Rattle.nd_search_list.specs.Names.{names_left}
 use Rattle.nd_decode.specs.Option.{Said, slla, tlla, prefix, redirected, mtu, rdnss, dnssl, other}
 use Rattle.nd_decode.specs.Pieces.{options_left}
-use Rattle.nd_dns.specs.declared.told_names.ToldNames.{ToldNames}
+use Rattle.nd_dns.specs.declared.announced_names.AnnouncedNames.{AnnouncedNames}
 
 -- two names in small letters are the same
 abbrev pub same_name : List ℕ → List ℕ → Bool
@@ -36,5 +36,5 @@ at_hand None = []
 at_hand (Some names) = names_left names
 
 -- what an iterator over them has left
-abbrev pub names_to_come : ToldNames → List (List ℕ × ℕ)
+abbrev pub names_to_come : AnnouncedNames → List (List ℕ × ℕ)
 names_to_come t = for_lifetime t.lifetime (at_hand t.names) ++ names_told (options_left t.options)

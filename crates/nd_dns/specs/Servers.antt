@@ -5,7 +5,7 @@ use Rattle.nd_decode.specs.declared.servers.Servers.{Servers}
 use Rattle.nd_decode.specs.Option.{Said, slla, tlla, prefix, redirected, mtu, rdnss, dnssl, other}
 use Rattle.nd_decode.specs.Pieces.{options_left}
 use Rattle.nd_decode.specs.Servers.{servers_left}
-use Rattle.nd_dns.specs.declared.told_servers.ToldServers.{ToldServers}
+use Rattle.nd_dns.specs.declared.announced_servers.AnnouncedServers.{AnnouncedServers}
 
 -- servers, each for the same lifetime
 abbrev pub for_lifetime : ℕ → List Addr → List (Addr × ℕ)
@@ -33,5 +33,5 @@ at_hand None = []
 at_hand (Some servers) = servers_left servers
 
 -- what an iterator over them has left
-abbrev pub servers_to_come : ToldServers → List (Addr × ℕ)
+abbrev pub servers_to_come : AnnouncedServers → List (Addr × ℕ)
 servers_to_come t = for_lifetime t.lifetime (at_hand t.servers) ++ servers_told (options_left t.options)

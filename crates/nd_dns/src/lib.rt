@@ -1,14 +1,13 @@
 //! The DNS servers and search names that a host has heard of (RFC 8106, section 5).
 #![tactic(auto)]
 
-mod announcing;
-mod copying;
+mod announced_names;
+mod announced_servers;
 mod dns;
 pub mod laws;
 mod new_names;
+mod router_advertisement;
 mod search_name;
-mod told_names;
-mod told_servers;
 
 pub use dns::Dns;
 pub use nd_lifetime::{Lasting, Limit, Standing, TableRefusal};

@@ -3,11 +3,12 @@
 
 pub mod laws;
 mod params;
-mod range;
+mod reachable_time;
+mod router_advertisement;
 mod values;
 
 pub use params::Params;
-pub use range::reachable_range;
+pub use reachable_time::reachable_range;
 
 #[cfg(test)]
 mod tests;

@@ -8,7 +8,7 @@ use Rattle.nd_lifetime.specs.Listing.{without}
 use Rattle.nd_lifetime.proofs.Finding.{without_absent}
 use Rattle.nd_lifetime.proofs.Order.{distinct_of}
 use Rattle.nd_routers.specs.History.{RouterRow, LeftList, failure_of}
-use Rattle.nd_routers.specs.Failures.{has_failed, others}
+use Rattle.nd_routers.specs.DefaultRouterSelection.{has_failed, others}
 use Rattle.nd_routers.specs.Routers.{Table, same, Stands, then_left, keys}
 use Rattle.nd_routers.proofs.Failing.{head_has}
 use Rattle.nd_routers.proofs.Steps.{gains_left}

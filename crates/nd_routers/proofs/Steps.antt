@@ -7,8 +7,8 @@ use Rattle.nd_lifetime.specs.History.{Announced, end_of, is_open, stands}
 use Rattle.nd_lifetime.specs.Listing.{end_in, without, announced, open_at, StandsUntilTold}
 use Rattle.nd_lifetime.proofs.Steps.{gains, ends, open_in, AllOpen-announced, AllOpen-filter, lists_at}
 use Rattle.nd_routers.specs.History.{RouterRow, Heard, LeftList, Failed, announcements}
-use Rattle.nd_routers.specs.Change.{change_of}
-use Rattle.nd_routers.specs.Failures.{Failures, others}
+use Rattle.nd_routers.specs.RouterAdvertisement.{change_of}
+use Rattle.nd_routers.specs.DefaultRouterSelection.{Failures, others}
 use Rattle.nd_routers.specs.Routers.{Table, same, Stands, GainsRow, IsSettled}
 use Rattle.nd_routers.proofs.Failing.{leaves, fails_again, fails_unlisted, is_removed, is_heard}
 use Rattle.nd_routers.proofs.Settled.{open_each, settled_from}

@@ -6,7 +6,7 @@ use Rattle.std.proofs.lemmas.Bool.{true≢false}
 use Rattle.nd_lifetime.specs.declared.lasting.Lasting.{Lasting}
 use Rattle.nd_lifetime.proofs.Unique.{one_list}
 use Rattle.nd_routers.specs.History.{RouterRow}
-use Rattle.nd_routers.specs.Failures.{has_failed, AllLater, InOrder, Failures}
+use Rattle.nd_routers.specs.DefaultRouterSelection.{has_failed, AllLater, InOrder, Failures}
 use Rattle.nd_routers.specs.Routers.{Table, same, Stands}
 use Rattle.nd_routers.proofs.Failing.{head_has, not_first}
 

@@ -1,7 +1,7 @@
-pub mod Change
+pub mod DefaultRouterSelection
 pub mod Due
-pub mod Failures
 pub mod History
 pub mod OnLink
-pub mod Prefixes
+pub mod PrefixOptions
+pub mod RouterAdvertisement
 pub mod Routers

@@ -1,34 +1,20 @@
--- Which prefixes a Router Advertisement says are on the link (RFC 4861, section 6.3.4).
-use Rattle.std.specs.Prelude.{ℕ, Bool, ◌&&◌, not, if◌then◌else◌, List, [], ◌∷◌, ◌++◌, Option, Some, None}
-use Rattle.std.specs.Option.{option_to_list}
-use Rattle.nd_addr.specs.Kind.{multicast_prefix, link_local_prefix}
+-- What is asked of the prefixes that stand.
+use Rattle.std.specs.Prelude.{ℕ, Bool, ◌||◌, List, [], ◌∷◌, replicate, Option, None}
+use Rattle.std.specs.List.{list_any}
 use Rattle.nd_addr.specs.Number.{holds}
 use Rattle.nd_addr.specs.Prefix.{PrefixValue}
-use Rattle.nd_decode.specs.declared.prefix_info.PrefixInfo.{PrefixInfo}
-use Rattle.nd_decode.specs.Option.{Said, slla, tlla, prefix, redirected, mtu, rdnss, dnssl, other}
-use Rattle.nd_decode.specs.Pieces.{options_left}
-use Rattle.nd_routers.specs.declared.on_link.OnLink.{OnLink}
+use Rattle.nd_lifetime.specs.declared.lasting.Lasting.{Lasting}
+use Rattle.nd_table.specs.Due.{lesser}
 
--- an option says that its prefix is on the link: its flag L is set, and its address is neither link-local nor multicast
-abbrev pub is_on_link : PrefixInfo → Bool
-is_on_link p = p.on_link && not (holds link_local_prefix p.prefix.address.0) && not (holds multicast_prefix p.prefix.address.0)
+-- the earliest end
+abbrev pub least_end : List (Lasting PrefixValue) → Option ℕ
+least_end [] = None
+least_end (e ∷ es) = lesser e.end (least_end es)
 
--- the prefix, with its valid lifetime
-abbrev pub on_link_of : Said → Option (PrefixValue × ℕ)
-on_link_of (prefix p) = if is_on_link p then Some (p.prefix, p.valid_lifetime) else None
-on_link_of (slla _) = None
-on_link_of (tlla _) = None
-on_link_of (redirected _) = None
-on_link_of (mtu _) = None
-on_link_of (rdnss _ _) = None
-on_link_of (dnssl _ _) = None
-on_link_of (other _ _) = None
+-- fe80::/64, which is always on the link
+abbrev pub link_local_subnet : PrefixValue
+link_local_subnet = record { address = record { 0 = 0xfe ∷ 0x80 ∷ replicate 14 0 }; length = 64 }
 
--- those of all options, in their order
-abbrev pub prefixes_in : List Said → List (PrefixValue × ℕ)
-prefixes_in [] = []
-prefixes_in (option ∷ options) = option_to_list (on_link_of option) ++ prefixes_in options
-
--- what an iterator over them has left
-abbrev pub prefixes_left : OnLink → List (PrefixValue × ℕ)
-prefixes_left o = prefixes_in (options_left o.options)
+-- an address is on the link, where these prefixes are
+abbrev pub is_held : List ℕ → List (Lasting PrefixValue) → Bool
+is_held address es = holds link_local_subnet address || list_any (λ e. holds e.key address) es

@@ -6,7 +6,7 @@ use Rattle.nd_lifetime.specs.declared.lasting.Lasting.{Lasting}
 use Rattle.nd_table.specs.Ends.{is_before}
 use Rattle.nd_lifetime.specs.Listing.{StandsUntilTold}
 use Rattle.nd_routers.specs.History.{RouterRow, LeftList, announcements}
-use Rattle.nd_routers.specs.Failures.{Failures}
+use Rattle.nd_routers.specs.DefaultRouterSelection.{Failures}
 
 -- the routers with their ends, in the order in which they came, and those of them that failed, in the order of their last failures
 pub record Table : Type 0 where

@@ -1,13 +1,60 @@
-ghost use Rattle.std.specs.Prelude.{◌≡◌, Some};
+ghost use Rattle.std.specs.Prelude.{◌≡◌, Some, ◌≢◌, ◌<◌, ℕ, List, IfSome, IfNone, is_some, length};
 ghost use Rattle.std.specs.Option.{option_map};
 ghost use Rattle.nd_addr.specs.Number.{number_of};
 ghost use Rattle.nd_routers.specs.Routers.{first_due};
 ghost use Rattle.nd_table.specs.Due.{lesser};
+ghost use Rattle.nd_lifetime.specs.History.{stands};
+ghost use Rattle.nd_lifetime.specs.Listing.{end_in};
 
+use crate::default_router_selection::forget;
 use crate::router::Router;
+use crate::routers::Routers;
 use nd_addr::Addr;
-use nd_table::{compare, is_at};
-use nd_lifetime::Lasting;
+use nd_lifetime::{Lasting, has, remove, stands};
+use nd_table::{compare, is_at, next_date};
+use std::alloc::Allocator;
+
+impl<A: Allocator + Clone> Routers<A> {
+    ghost use Rattle.nd_routers.specs.History.{RouterRow, LeftList};
+    ghost use Rattle.nd_routers.specs.Routers.{same, Stands, GainsRow, next_end, IsSettled, NoneBefore};
+    ghost use Rattle.nd_routers.specs.Due.{FirstDue, NextDue};
+
+    /// The earliest end.
+    pub fn next_due(&self) -> Option<u64>
+        ensures value { result ≡ next_end self.now.entries }
+        ensures due { (history : List RouterRow) → Stands self.now history → NextDue history result }
+    {
+        next_date(&self.entries)
+    }
+
+    /// The least address of the routers whose lifetime ends now, which leaves the list (RFC 4861, section 6.3.5).
+    pub fn turn(&mut self, now: u64) -> Option<Addr>
+        requires { NoneBefore self.old.entries now }
+        ensures due { (history : List RouterRow) → Stands self.old history → FirstDue history now (option_map (λ a. number_of a.0) result) }
+        ensures gains { IfSome result (λ a. GainsRow self.old self.new (LeftList now (number_of a.0))) }
+        ensures fewer { IfSome result (λ _. length self.new.entries < length self.old.entries) }
+        ensures same { IfNone result (self.new ≡ self.old) }
+        ensures none { IfNone result (next_end self.old.entries ≢ Some now) }
+        ensures later { NoneBefore self.new.entries now }
+    {
+        let source = first_due(&self.entries, now)?;
+        remove(&mut self.entries, &source);
+        forget(&mut self.failed, source);
+        Some(source)
+    }
+
+    /// A router leaves the list, if it is in it. It answers whether it was.
+    pub fn ended(&mut self, source: Addr) -> bool
+        ensures stands { (at : ℕ) → GainsRow self.old self.new (LeftList at (number_of source.0)) }
+        ensures listed { result ≡ is_some (end_in same (number_of source.0) self.old.entries) }
+        ensures settled { (now : ℕ) → IsSettled self.old.entries now → IsSettled self.new.entries now }
+    {
+        let listed = has(&self.entries, &source);
+        remove(&mut self.entries, &source);
+        forget(&mut self.failed, source);
+        listed
+    }
+}
 
 /// The lesser of two addresses, of which the first may be missing.
 fn lesser_addr(a: Option<Addr>, b: Addr) -> Addr

@@ -2,24 +2,23 @@
 //! and search names (RFC 8106) are given on.
 #![tactic(auto)]
 
-mod change;
+mod default_router_selection;
 mod due;
-mod failures;
-mod holding;
 pub mod laws;
-mod listed;
 mod on_link;
+mod prefix_options;
 mod prefixes;
 mod router;
+mod router_advertisement;
 mod routers;
 
-pub use change::Change;
-pub use listed::Listed;
+pub use default_router_selection::Listed;
 pub use nd_dns::{Dns, NewNames, SearchName};
-pub use nd_params::{Params, reachable_range};
 pub use nd_lifetime::{Lasting, Limit, Standing, TableRefusal};
+pub use nd_params::{Params, reachable_range};
 pub use prefixes::Prefixes;
 pub use router::Router;
+pub use router_advertisement::Change;
 pub use routers::Routers;
 
 #[cfg(test)]

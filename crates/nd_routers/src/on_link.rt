@@ -1,37 +1,78 @@
-ghost use Rattle.std.specs.Prelude.{◌≡◌};
-ghost use Rattle.nd_routers.specs.OnLink.{is_on_link};
+ghost use Rattle.std.specs.Prelude.{◌≡◌, ◌≤◌, ◌<◌, List, false};
+ghost use Rattle.std.specs.List.{list_any};
+ghost use Rattle.nd_addr.specs.Number.{holds};
+ghost use Rattle.nd_lifetime.specs.Listing.{open_at, Lists, Stands};
+ghost use Rattle.nd_routers.specs.OnLink.{least_end, link_local_subnet};
+ghost use Rattle.nd_addr.specs.Prefix.{PrefixValue};
+ghost use Rattle.nd_lifetime.specs.declared.lasting.Lasting.{Lasting};
+ghost use Rattle.nd_lifetime.specs.History.{Row, last_moment};
+ghost use Rattle.nd_lifetime.specs.Same.{same_prefix};
 
-use nd_addr::Prefix;
-use nd_decode::{OptionRef, Options, PrefixInfo};
-use nd_lifetime::Announces;
+use crate::prefixes::Prefixes;
+use nd_addr::{Addr, Prefix};
+use nd_lifetime::{Lasting, Standing};
+use nd_table::lesser;
+use std::alloc::Allocator;
 
-/// The prefixes that the options of a Router Advertisement say are on the link, with their valid lifetimes.
-#[derive(Clone, Copy, Debug)]
-pub(crate) struct OnLink<'a> {
-    pub(crate) options: Options<'a>,
-}
+impl<A: Allocator + Clone> Prefixes<A> {
+    ghost use Rattle.nd_routers.specs.OnLink.{least_end, is_held};
 
-impl Announces<Prefix, Prefix> for OnLink<'_> {
-    ghost use Rattle.nd_routers.specs.OnLink.{prefixes_left};
+    /// Whether an address is on the link at a moment: in a prefix that stands, or in fe80::/64 (RFC 4861, section 5.2).
+    pub fn on_link(&self, now: u64, address: Addr) -> bool
+        ensures value { result ≡ is_held address.0 (open_at now self.now) }
+        ensures by_history { (history : List (Row PrefixValue)) (es : List (Lasting PrefixValue)) → Stands same_prefix self.now history → last_moment history ≤ now → Lists same_prefix history now es → result ≡ is_held address.0 es }
+    {
+        is_link_local(address) || is_held(&self.entries, now, address)
+    }
 
-    ghost told = { prefixes_left };
-
-    fn next_told(&mut self) -> Option<(Prefix, u32)> {
-        while let Some(option) = self.options.next() {
-            if let OptionRef::Prefix(info) = option {
-                if is_on_link(&info) {
-                    return Some((info.prefix, info.valid_lifetime));
-                }
-            }
-        }
-        None
+    /// The earliest end of the prefixes that are on the link at a moment.
+    pub fn least_end(&self, now: u64) -> Option<u64>
+        ensures value { result ≡ least_end (open_at now self.now) }
+        ensures by_history { (history : List (Row PrefixValue)) (es : List (Lasting PrefixValue)) → Stands same_prefix self.now history → last_moment history ≤ now → Lists same_prefix history now es → result ≡ least_end es }
+    {
+        least_end(&self.entries, now)
     }
 }
 
-/// Whether an option says that its prefix is on the link. What is said of link-local and multicast ones isn't taken.
-fn is_on_link(info: &PrefixInfo) -> bool
-    ensures { result ≡ is_on_link info.now }
+/// Whether a prefix holds an address.
+fn holds(prefix: &Prefix, address: Addr) -> bool
+    ensures { result ≡ holds prefix.now address.0 }
 {
-    let address = info.prefix.address();
-    info.on_link && !address.is_link_local() && !address.is_multicast()
+    prefix.holds(address)
+}
+
+/// Whether an address is in fe80::/64.
+pub(crate) fn is_link_local(address: Addr) -> bool
+    ensures { result ≡ holds link_local_subnet address.0 }
+{
+    match Prefix::new(
+        Addr([0xfe, 0x80, 0, 0, 0, 0, 0, 0, 0, 0, 0, 0, 0, 0, 0, 0]),
+        64,
+    ) {
+        Some(prefix) => holds(&prefix, address),
+        None => false,
+    }
+}
+
+/// Whether a prefix that stands holds an address.
+pub(crate) fn is_held(entries: &[Lasting<Prefix>], now: u64, address: Addr) -> bool
+    ensures { result ≡ list_any (λ e. holds e.key address.0) (open_at now entries.now) }
+{
+    for entry in Standing::new(entries, now) {
+        if holds(&entry.key, address) {
+            return true;
+        }
+    }
+    false
+}
+
+/// The earliest end of the prefixes that stand.
+pub(crate) fn least_end(entries: &[Lasting<Prefix>], now: u64) -> Option<u64>
+    ensures { result ≡ least_end (open_at now entries.now) }
+{
+    let mut least = None;
+    for entry in Standing::new(entries, now) {
+        least = lesser(least, entry.end);
+    }
+    least
 }

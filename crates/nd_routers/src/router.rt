@@ -2,8 +2,8 @@ ghost use Rattle.std.specs.Prelude.{◌≡◌};
 ghost use Rattle.nd_addr.specs.Number.{number_of};
 
 use nd_addr::Addr;
-use nd_table::compare;
 use nd_lifetime::NamesKey;
+use nd_table::compare;
 use std::marker::Model;
 
 /// A default router, by its address.
@@ -37,7 +37,7 @@ impl Router {
     }
 }
 
-impl Names<Router> for Addr {
+impl NamesKey<Router> for Addr {
     ghost use Rattle.nd_routers.specs.Routers.{same};
     ghost use Rattle.std.proofs.lemmas.Bool.Decides.{eqb_tells};
 

@@ -1,5 +1,5 @@
 -- When the lifetimes of an address end (RFC 4862, sections 5.5.3 and 5.5.4).
-use Rattle.std.specs.Prelude.{ℕ, ◌+◌, ◌*◌, nat_lt, min, max, if◌then◌else◌, [], ◌∷◌, Option, Some, None}
+use Rattle.std.specs.Prelude.{ℕ, [], ◌∷◌, Option, Some, None}
 use Rattle.nd_table.specs.Ends.{end_time}
 use Rattle.nd_slaac.specs.TwoHours.{renewed}
 use Rattle.nd_slaac.specs.History.{Story, Formed, Announced}

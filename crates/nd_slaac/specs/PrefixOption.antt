@@ -1,5 +1,5 @@
 -- Which prefix options name an address, and which (RFC 4862, section 5.5.3; RFC 4291, section 2.5.1 and appendix A).
-use Rattle.std.specs.Prelude.{ℕ, ◌+◌, ◌==◌, nat_le, nat_lt, Bool, true, false, ◌&&◌, ◌||◌, not, if◌then◌else◌, List, [], ◌∷◌, replicate, length}
+use Rattle.std.specs.Prelude.{ℕ, ◌==◌, nat_le, Bool, ◌&&◌, not, List, [], ◌∷◌, replicate}
 use Rattle.nd_addr.specs.declared.mac.Mac.{Mac}
 use Rattle.nd_addr.specs.Number.{number_of, holds}
 use Rattle.nd_addr.specs.Kind.{multicast_prefix, link_local_prefix, address_from_mac}

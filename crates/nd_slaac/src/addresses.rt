@@ -1,10 +1,8 @@
-ghost use Rattle.std.specs.Prelude.{◌≡◌, ◌≢◌, ◌<◌, ◌^◌, ℕ, List, [], ◌∷◌, IfOk, IfSome, IfNone, Some, None, true, false};
-ghost use Rattle.std.specs.Option.{option_map};
-ghost use Rattle.nd_addr.specs.Number.{number_of};
+ghost use Rattle.std.specs.Prelude.{◌≡◌, ◌<◌, ◌^◌, [], ◌∷◌, IfOk, None};
 
-use crate::link_local::link_local;
 use crate::entry::Entry;
-use nd_addr::{Addr, Mac};
+use crate::link_local::link_local;
+use nd_addr::Mac;
 use std::alloc::{AllocError, Allocator};
 use std::marker::Model;
 
@@ -32,15 +30,10 @@ impl<A: Allocator> Model for Addresses<A> {
 }
 
 impl<A: Allocator + Clone> Addresses<A> {
-    ghost use Rattle.nd_slaac.specs.History.{Row, story, Formed, Conflict};
-    ghost use Rattle.nd_slaac.specs.State.{is_tentative};
-    ghost use Rattle.nd_slaac.specs.Table.{Table, address_in, Stands, GainsRow};
-    ghost use Rattle.nd_slaac.specs.Due.{FirstDue, NextDue, due_row};
-    ghost use Rattle.nd_slaac.specs.Dates.{next_in, NoneBefore, turns_left};
+    ghost use Rattle.nd_slaac.specs.History.{Formed};
+    ghost use Rattle.nd_slaac.specs.Table.{Stands};
     ghost use Rattle.nd_slaac.specs.PrefixOption.{link_local_of};
-    ghost use Rattle.nd_slaac.specs.Calls.{formed, detects_in};
-    ghost use Rattle.nd_slaac.specs.MayCome.{MayCome};
-    ghost use Rattle.nd_slaac.specs.View.{falls_of};
+    ghost use Rattle.nd_slaac.specs.Calls.{formed};
 
     /// The addresses of an interface that starts: its link-local address, whose first solicitation waits for a delay
     /// (RFC 4862, sections 5.3 and 5.4.2). Delay and RetransTimer are in milliseconds. All room is reserved here.

@@ -1,16 +1,14 @@
-ghost use Rattle.std.specs.Prelude.{◌≡◌, ◌≢◌, ◌<◌, ◌^◌, ℕ, List, [], ◌∷◌, IfOk, IfSome, IfNone, Some, None, true, false, ◌≤◌, vec_len, vec_capacity};
+ghost use Rattle.std.specs.Prelude.{◌≡◌, ◌≢◌, ◌<◌, ◌^◌, List, IfSome, IfNone, Some, None, ◌≤◌, vec_len, vec_capacity};
 ghost use Rattle.std.specs.Option.{option_map};
-ghost use Rattle.nd_addr.specs.Number.{number_of};
 ghost use Rattle.nd_slaac.specs.Dates.{next_in, Turns, Rests};
 ghost use Rattle.nd_slaac.specs.View.{falls_of};
 
 use crate::addresses::Addresses;
 use crate::entry::Entry;
 use crate::stage::Stage;
-use nd_addr::{Addr, Mac};
+use nd_addr::Addr;
 use nd_table::{Addressed, Dated, first_at, lesser, next_date};
-use std::alloc::{AllocError, Allocator};
-use std::marker::Model;
+use std::alloc::Allocator;
 
 /// What falls due for an address.
 #[derive(Clone, Copy, Debug, PartialEq, Eq)]
@@ -24,13 +22,10 @@ pub enum Due {
 }
 
 impl<A: Allocator + Clone> Addresses<A> {
-    ghost use Rattle.nd_slaac.specs.History.{Row, story, Formed, Conflict};
-    ghost use Rattle.nd_slaac.specs.State.{is_tentative};
-    ghost use Rattle.nd_slaac.specs.Table.{Table, address_in, Stands, GainsRow};
+    ghost use Rattle.nd_slaac.specs.History.{Row};
+    ghost use Rattle.nd_slaac.specs.Table.{Stands, GainsRow};
     ghost use Rattle.nd_slaac.specs.Due.{FirstDue, NextDue, due_row};
     ghost use Rattle.nd_slaac.specs.Dates.{next_in, NoneBefore, turns_left};
-    ghost use Rattle.nd_slaac.specs.PrefixOption.{link_local_of};
-    ghost use Rattle.nd_slaac.specs.Calls.{formed, detects_in};
     ghost use Rattle.nd_slaac.specs.MayCome.{MayCome};
     ghost use Rattle.nd_slaac.specs.View.{falls_of};
 

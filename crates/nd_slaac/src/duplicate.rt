@@ -1,26 +1,20 @@
-ghost use Rattle.std.specs.Prelude.{◌≡◌, ◌≢◌, ◌<◌, ◌^◌, ℕ, List, [], ◌∷◌, IfOk, IfSome, IfNone, Some, None, true, false, vec_len, vec_capacity};
-ghost use Rattle.std.specs.Option.{option_map};
+ghost use Rattle.std.specs.Prelude.{◌≡◌, ◌<◌, ℕ, List, Some, true, false, vec_len, vec_capacity};
 ghost use Rattle.nd_addr.specs.Number.{number_of};
 ghost use Rattle.nd_slaac.specs.Table.{address_in};
 ghost use Rattle.nd_slaac.specs.Calls.{Alters, failed, detects_in};
 
 use crate::addresses::Addresses;
 use crate::entry::Entry;
-use nd_addr::{Addr, Mac};
+use nd_addr::Addr;
 use nd_table::find;
-use std::alloc::{AllocError, Allocator};
-use std::marker::Model;
+use std::alloc::Allocator;
 
 impl<A: Allocator + Clone> Addresses<A> {
-    ghost use Rattle.nd_slaac.specs.History.{Row, story, Formed, Conflict};
+    ghost use Rattle.nd_slaac.specs.History.{Row, story, Conflict};
     ghost use Rattle.nd_slaac.specs.State.{is_tentative};
-    ghost use Rattle.nd_slaac.specs.Table.{Table, address_in, Stands, GainsRow};
-    ghost use Rattle.nd_slaac.specs.Due.{FirstDue, NextDue, due_row};
-    ghost use Rattle.nd_slaac.specs.Dates.{next_in, NoneBefore, turns_left};
-    ghost use Rattle.nd_slaac.specs.PrefixOption.{link_local_of};
-    ghost use Rattle.nd_slaac.specs.Calls.{formed, detects_in};
+    ghost use Rattle.nd_slaac.specs.Table.{address_in, Stands, GainsRow};
+    ghost use Rattle.nd_slaac.specs.Calls.{detects_in};
     ghost use Rattle.nd_slaac.specs.MayCome.{MayCome};
-    ghost use Rattle.nd_slaac.specs.View.{falls_of};
 
     /// Another node has an address, or tries for it. It answers whether the address was tentative, and is a duplicate
     /// now; one that is assigned isn't touched (RFC 4862, sections 5.4.3 and 5.4.4).

@@ -4,9 +4,9 @@ ghost use Rattle.nd_slaac.specs.Shown.{rest_until};
 
 use crate::due::Due;
 use crate::shown::OwnAddress;
-use crate::two_hours::renewed;
 use crate::stage::Stage;
 use crate::state::State;
+use crate::two_hours::renewed;
 use nd_addr::Addr;
 use nd_decode::PrefixInfo;
 use nd_table::{Addressed, end_time, is_before};

@@ -1,16 +1,14 @@
 ghost use Rattle.std.specs.Prelude.{◌≡◌, true, ◌<◌, ◌^◌, ◌∷◌, List, IsOk, IfSome, is_some, length, ◌≤◌, vec_len, vec_capacity, Ok};
 ghost use Rattle.nd_addr.specs.Number.{number_of};
-ghost use Rattle.nd_slaac.specs.PrefixOption.{is_taken, named_by, link_local_of, lifetimes_of};
+ghost use Rattle.nd_slaac.specs.PrefixOption.{is_taken, named_by, lifetimes_of};
 ghost use Rattle.nd_decode.specs.declared.prefix_info.PrefixInfo.{PrefixInfo};
-ghost use Rattle.nd_decode.specs.Pieces.{options_left};
-ghost use Rattle.std.specs.List.{insert};
 ghost use Rattle.nd_slaac.specs.Table.{address_in};
 ghost use Rattle.nd_slaac.specs.Calls.{taken_by, Changes};
 
 use crate::addresses::{Addresses, LIMIT};
 use crate::entry::Entry;
-use nd_addr::{Addr, Mac, Prefix};
-use nd_decode::{Options, PrefixInfo};
+use nd_addr::{Addr, Mac};
+use nd_decode::PrefixInfo;
 use nd_table::{find, put};
 use std::alloc::Allocator;
 
@@ -33,8 +31,8 @@ impl<A: Allocator + Clone> Addresses<A> {
     ghost use Rattle.nd_slaac.specs.History.{Row, story};
     ghost use Rattle.nd_slaac.specs.State.{is_known};
     ghost use Rattle.nd_slaac.specs.Table.{address_in, Stands};
-    ghost use Rattle.nd_slaac.specs.PrefixOption.{named_by, prefixes_in};
-    ghost use Rattle.nd_slaac.specs.Room.{would_form, fits_in};
+    ghost use Rattle.nd_slaac.specs.PrefixOption.{named_by};
+    ghost use Rattle.nd_slaac.specs.Room.{fits_in};
     ghost use Rattle.nd_slaac.specs.Calls.{keys_in, taken_of, row_taken, GainsRowIfAny};
     ghost use Rattle.nd_slaac.specs.MayCome.{MayCome};
 

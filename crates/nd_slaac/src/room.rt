@@ -1,4 +1,4 @@
-ghost use Rattle.std.specs.Prelude.{◌≡◌, ◌≤◌, ◌&&◌, ◌==◌, not, length, ◌<◌, ◌^◌, ◌∷◌, List, IsOk, IfSome, true, is_some};
+ghost use Rattle.std.specs.Prelude.{◌≡◌, ◌≤◌, ◌&&◌, ◌==◌, not, length, ◌<◌, true, is_some};
 ghost use Rattle.nd_addr.specs.Number.{number_of};
 ghost use Rattle.nd_decode.specs.Pieces.{options_left};
 ghost use Rattle.nd_slaac.specs.PrefixOption.{is_forming, named_by, prefixes_in};
@@ -15,13 +15,9 @@ use nd_table::{compare, find};
 use std::alloc::Allocator;
 
 impl<A: Allocator + Clone> Addresses<A> {
-    ghost use Rattle.nd_slaac.specs.History.{Row, story};
-    ghost use Rattle.nd_slaac.specs.State.{is_known};
-    ghost use Rattle.nd_slaac.specs.Table.{address_in, Stands};
-    ghost use Rattle.nd_slaac.specs.PrefixOption.{named_by, prefixes_in};
+    ghost use Rattle.nd_slaac.specs.PrefixOption.{prefixes_in};
     ghost use Rattle.nd_slaac.specs.Room.{would_form, fits_in};
-    ghost use Rattle.nd_slaac.specs.Calls.{keys_in, taken_of, row_taken, GainsRowIfAny};
-    ghost use Rattle.nd_slaac.specs.MayCome.{MayCome};
+    ghost use Rattle.nd_slaac.specs.Calls.{keys_in};
 
     /// Whether a prefix option would form an address, where there is room for it (RFC 4862, section 5.5.3 a to d). An address is known
     /// until `turn` has told its end.

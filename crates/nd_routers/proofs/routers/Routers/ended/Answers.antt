@@ -1,7 +1,7 @@
 use Rattle.std.proofs.Common.{◌∙◌, ap}
 use Rattle.nd_addr.specs.Number.{number_of}
 use Rattle.nd_lifetime.specs.Listing.{without}
-use Rattle.nd_routers.specs.Failures.{others}
+use Rattle.nd_routers.specs.DefaultRouterSelection.{others}
 use Rattle.nd_routers.specs.Routers.{same}
 use Rattle.nd_routers.proofs.Steps.{gains_left, settled_without}
 use Rattle.nd_routers.proofs.routers.Routers.ended.Goals as goal

@@ -6,7 +6,7 @@ use Rattle.nd_addr.specs.Number.{number_of}
 use Rattle.nd_lifetime.specs.declared.lasting.Lasting.{Lasting}
 use Rattle.nd_lifetime.specs.Listing.{end_in, announced}
 use Rattle.nd_routers.specs.History.{Heard}
-use Rattle.nd_routers.specs.Failures.{others}
+use Rattle.nd_routers.specs.DefaultRouterSelection.{others}
 use Rattle.nd_routers.specs.Routers.{same, IsSettled, GainsRow}
 use Rattle.nd_routers.proofs.Steps.{gains_removed, gains_heard, settled_announced, changes}
 use Rattle.nd_routers.proofs.routers.Routers.heard_ra.Goals as goal

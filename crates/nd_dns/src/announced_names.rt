@@ -1,0 +1,74 @@
+ghost use Rattle.std.specs.Prelude.{◌≡◌, [], ◌∷◌, MatchOption};
+ghost use Rattle.nd_search_list.specs.NameRef.{name_of};
+ghost use Rattle.nd_dns.specs.Names.{at_hand};
+
+use crate::search_name::SearchName;
+use nd_decode::{NameRef, Names, OptionRef, Options};
+use nd_lifetime::Announces;
+use std::alloc::Allocator;
+
+/// The search names that the options of a Router Advertisement tell, with the lifetimes of their options (RFC 8106, section 5.2).
+#[derive(Clone, Copy, Debug)]
+pub(crate) struct AnnouncedNames<'a> {
+    /// What is left of the option at hand.
+    names: Option<Names<'a>>,
+    /// Its lifetime, in seconds.
+    lifetime: u32,
+    /// The options behind it.
+    options: Options<'a>,
+}
+
+impl<'a> AnnouncedNames<'a> {
+    ghost use Rattle.nd_decode.specs.Pieces.{options_left};
+    ghost use Rattle.nd_dns.specs.Names.{names_told, names_to_come};
+
+    /// Those of these options.
+    pub(crate) fn new(options: Options<'a>) -> Self
+        ensures { names_to_come result ≡ names_told (options_left options.entry) }
+    {
+        AnnouncedNames {
+            names: None,
+            lifetime: 0,
+            options,
+        }
+    }
+
+    /// The next one.
+    pub(crate) fn next_name(&mut self) -> Option<(NameRef<'a>, u32)>
+        ensures { MatchOption result (names_to_come self.old ≡ []) (λ p. names_to_come self.old ≡ (name_of p.0, p.1) ∷ names_to_come self.new) }
+    {
+        if let Some(name) = next_of(&mut self.names) {
+            return Some((name, self.lifetime));
+        }
+        while let Some(option) = self.options.next() {
+            if let OptionRef::Dnssl(lifetime, names) = option {
+                self.lifetime = lifetime;
+                self.names = Some(names);
+                if let Some(name) = next_of(&mut self.names) {
+                    return Some((name, lifetime));
+                }
+            }
+        }
+        None
+    }
+}
+
+impl<'a, A: Allocator> Announces<SearchName<A>, NameRef<'a>> for AnnouncedNames<'a> {
+    ghost use Rattle.nd_dns.specs.Names.{names_to_come};
+
+    ghost told = { names_to_come };
+
+    fn next_told(&mut self) -> Option<(NameRef<'a>, u32)> {
+        self.next_name()
+    }
+}
+
+/// The next name of the option at hand.
+fn next_of<'a>(names: &mut Option<Names<'a>>) -> Option<NameRef<'a>>
+    ensures { MatchOption result ((at_hand names.old ≡ []) × (at_hand names.new ≡ [])) (λ name. at_hand names.old ≡ name_of name ∷ at_hand names.new) }
+{
+    match names {
+        Some(names) => names.next(),
+        None => None,
+    }
+}

@@ -1,0 +1,95 @@
+ghost use Rattle.std.specs.Prelude.{◌≡◌, ◌≤◌, ◌<◌, ◌^◌, ◌↔◌, ℕ, List, IfOk, IfErr, OnOk, OnErr, IsErr, false, ◌&&◌, ◌⊎◌, if◌then◌else◌};
+ghost use Rattle.std.specs.Result.{IsErrAnd};
+ghost use Rattle.nd_addr.specs.declared.addr.Addr.{Addr};
+ghost use Rattle.nd_decode.specs.Pieces.{options_left};
+ghost use Rattle.nd_lifetime.specs.declared.lasting.Lasting.{Lasting};
+ghost use Rattle.nd_lifetime.specs.History.{Row, last_moment};
+ghost use Rattle.nd_lifetime.specs.Listing.{fits, then_announced, Lists};
+ghost use Rattle.nd_lifetime.specs.Same.{same_addr};
+
+use crate::announced_names::AnnouncedNames;
+use crate::announced_servers::AnnouncedServers;
+use crate::dns::{Dns, MAX_NAMES, MAX_SERVERS};
+use crate::new_names::{NewNames, announce_names, copies};
+use nd_addr::Addr;
+use nd_decode::Options;
+use nd_lifetime::{Lasting, Limit, TableRefusal, announce_all, fits_all};
+use std::alloc::Allocator;
+
+impl<A: Allocator + Clone> Dns<A> {
+    ghost use Rattle.nd_dns.specs.Dns.{Stands, after, new_names};
+    ghost use Rattle.nd_dns.specs.Servers.{servers_told};
+    ghost use Rattle.nd_dns.specs.Names.{same_name, names_told};
+
+    /// Whether there is room for the servers that the options of a Router Advertisement tell, taken in order. It takes no memory.
+    pub fn fits_servers(&self, now: u64, options: Options<'_>) -> bool
+        ensures value { result ≡ fits same_addr 32 now (servers_told (options_left options.entry)) self.now.servers }
+        ensures by_history { (history : List (Row Addr)) (names : List (Row (List ℕ))) (es : List (Lasting Addr)) → Stands self.now history names → last_moment history ≤ now → Lists same_addr history now es
+            → result ≡ fits same_addr 32 now (servers_told (options_left options.entry)) es }
+    {
+        let told = AnnouncedServers::new(options);
+        fits_all(&self.servers, MAX_SERVERS, now, told)
+    }
+
+    /// Whether there is room for the search names that they tell, taken in order. It takes no memory.
+    pub fn fits_names(&self, now: u64, options: Options<'_>) -> bool
+        ensures value { result ≡ fits same_name 32 now (names_told (options_left options.entry)) self.now.names }
+        ensures by_history { (servers : List (Row Addr)) (history : List (Row (List ℕ))) (es : List (Lasting (List ℕ))) → Stands self.now servers history → last_moment history ≤ now → Lists same_name history now es
+            → result ≡ fits same_name 32 now (names_told (options_left options.entry)) es }
+    {
+        let told = AnnouncedNames::new(options);
+        fits_all(&self.names, MAX_NAMES, now, told)
+    }
+
+    /// Copies the search names that they add, each as often as it enters: the one thing for which hearing them takes memory. The errors
+    /// are that there is no room for the names that they tell, before anything is copied, and want of memory.
+    pub fn names(&self, now: u64, options: Options<'_>) -> Result<NewNames<A>, TableRefusal>
+        ensures value { IfOk result (λ names. names ≡ new_names now (options_left options.entry) self.now) }
+
+        // There is no room exactly where the names, taken in order, are too many at some point.
+        ensures full { IsErrAnd result (λ refusal. refusal ≡ TableRefusal.Full Limit.Names) ↔ (fits same_name 32 now (names_told (options_left options.entry)) self.now.names ≡ false) }
+        ensures refusal { IfErr result (λ refusal. (refusal ≡ TableRefusal.Full Limit.Names) ⊎ (refusal ≡ TableRefusal.Memory)) }
+    {
+        if !self.fits_names(now, options) {
+            return Err(TableRefusal::Full(Limit::Names));
+        }
+        match copies(&self.alloc, &self.names, now, AnnouncedNames::new(options)) {
+            Ok(names) => Ok(NewNames::of(names)),
+            Err(_) => Err(TableRefusal::Memory),
+        }
+    }
+
+    /// The options of a Router Advertisement are heard, in order, with the names that they add (RFC 8106, section 6.1). It takes no
+    /// memory.
+    pub fn heard_ra(
+        &mut self,
+        now: u64,
+        options: Options<'_>,
+        names: NewNames<A>,
+    ) -> Result<(), TableRefusal>
+        requires moment { now < 2 ^ 62 }
+        requires names { names ≡ new_names now (options_left options) self.old }
+
+        ensures stands { OnOk result ((servers : List (Row Addr)) (names : List (Row (List ℕ))) → last_moment servers ≤ now → last_moment names ≤ now → Stands self.old servers names
+            → Stands self.new (then_announced now (servers_told (options_left options.entry)) servers) (then_announced now (names_told (options_left options.entry)) names)) }
+        ensures value { OnOk result (self.new ≡ after now (options_left options.entry) self.old) }
+
+        // It is refused exactly where the servers or the names, taken in order, are too many at some point.
+        ensures full { IsErr result ↔ ((fits same_addr 32 now (servers_told (options_left options.entry)) self.old.servers && fits same_name 32 now (names_told (options_left options.entry)) self.old.names) ≡ false) }
+        ensures refusal { IfErr result (λ refusal. refusal ≡ TableRefusal.Full (if fits same_addr 32 now (servers_told (options_left options.entry)) self.old.servers then Limit.Names else Limit.Servers)) }
+        ensures same { OnErr result (self.new ≡ self.old) }
+    {
+        if !self.fits_servers(now, options) {
+            return Err(TableRefusal::Full(Limit::Servers));
+        }
+        if !self.fits_names(now, options) {
+            return Err(TableRefusal::Full(Limit::Names));
+        }
+        let told_servers = AnnouncedServers::new(options);
+        announce_all(&mut self.servers, MAX_SERVERS, now, told_servers);
+        let told_names = AnnouncedNames::new(options);
+        let names = names.into_names();
+        announce_names(&mut self.names, MAX_NAMES, now, told_names, names);
+        Ok(())
+    }
+}

@@ -1,8 +1,0 @@
-use Rattle.std.proofs.Common.{◌≡◌}
-use Rattle.nd_decode.specs.Pieces.{options_left}
-use Rattle.nd_params.specs.History.{first_mtu}
-use Rattle.nd_params.proofs.params.first_mtu.Given as goal
-
--- the first of the rest is the first of all
-abbrev pub invariant-loop-option : goal.invariant-loop-option
-invariant-loop-option l = first_mtu (options_left l.option-iterator) ≡ first_mtu (options_left l.initial.option-iterator)

@@ -1,0 +1,37 @@
+ghost use Rattle.std.specs.Prelude.{◌≡◌, ◌*◌, ◌/◌, ◌^◌, ◌<◌, ◌+◌, ◌∷◌, List};
+ghost use Rattle.nd_params.specs.History.{Row, Drew, next_draw};
+ghost use Rattle.nd_params.specs.Params.{Stands, GainsRows};
+
+use crate::params::Params;
+
+/// How long after a draw of ReachableTime the next one comes, in milliseconds: two hours.
+const REDRAW_AFTER: u64 = 7_200_000;
+
+impl Params {
+    /// The moment at which ReachableTime is to be drawn again.
+    pub fn next_due(&self) -> u64
+        ensures value { result ≡ self.now.drawn_at + 7200000 }
+        ensures due { (history : List Row) → Stands self.now history → result ≡ next_draw history }
+    {
+        self.drawn_at + REDRAW_AFTER
+    }
+
+    /// ReachableTime was drawn again, in milliseconds.
+    pub fn redrawn(&mut self, now: u64, drawn: u64)
+        requires { now < 2 ^ 62 }
+        ensures value { self.new ≡ record self.old { reachable_time = drawn; drawn_at = now } }
+        ensures stands { GainsRows self.old self.new (λ history. Drew now drawn ∷ history) }
+    {
+        self.reachable_time = drawn;
+        self.drawn_at = now;
+    }
+}
+
+/// The least and the greatest ReachableTime that may be drawn for a base, all in milliseconds: half of it and one and a half of it
+/// (RFC 4861, section 6.3.2), both rounded down.
+pub fn reachable_range(base: u32) -> (u64, u64)
+    ensures { result ≡ (base / 2, 3 * base / 2) }
+{
+    let base = u64::from(base);
+    (base / 2, 3 * base / 2)
+}

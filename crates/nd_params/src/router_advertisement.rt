@@ -1,0 +1,70 @@
+ghost use Rattle.std.specs.Prelude.{◌≡◌, ◌^◌, ◌<◌, ◌∷◌, List, is_some, not, ◌==◌};
+ghost use Rattle.nd_decode.specs.Option.{Said};
+ghost use Rattle.nd_decode.specs.Pieces.{options_left};
+ghost use Rattle.nd_params.specs.History.{Row, Heard, first_mtu, valid_mtu_or, base_of, then_heard};
+ghost use Rattle.nd_params.specs.Params.{Stands, GainsRows, redraws};
+
+use crate::params::{ETHERNET_MTU, LEAST_MTU, Params};
+use nd_decode::{OptionRef, Options, RouterAdvertisement};
+
+impl Params {
+    /// Whether a Router Advertisement changes the base, so that ReachableTime has to be drawn (RFC 4861, section 6.3.4).
+    pub fn redraws(&self, ra: &RouterAdvertisement) -> bool
+        ensures value { result ≡ redraws self.now.base_reachable_time ra.now.reachable_time }
+        ensures changes { (history : List Row) (options : List Said) → Stands self.now history → result ≡ not (base_of (Heard ra.now options ∷ history) == base_of history) }
+    {
+        ra.reachable_time != 0 && ra.reachable_time != self.base_reachable_time
+    }
+
+    /// A Router Advertisement is heard (RFC 4861, section 6.3.4). Where it changes the base a new ReachableTime was drawn, in
+    /// milliseconds.
+    pub fn heard_ra(
+        &mut self,
+        now: u64,
+        ra: &RouterAdvertisement,
+        options: Options<'_>,
+        drawn: Option<u64>,
+    )
+        requires moment { now < 2 ^ 62 }
+        requires drawn { is_some drawn ≡ redraws self.old.base_reachable_time ra.now.reachable_time }
+        ensures stands { GainsRows self.old self.new (then_heard now ra.now (options_left options.entry) drawn) }
+    {
+        if ra.hop_limit != 0 {
+            self.hop_limit = ra.hop_limit;
+        }
+        if ra.reachable_time != 0 {
+            self.base_reachable_time = ra.reachable_time;
+        }
+        if ra.retrans_timer != 0 {
+            self.retrans_timer = ra.retrans_timer;
+        }
+        self.mtu = mtu_after(options, self.mtu);
+        self.managed = ra.managed;
+        self.other = ra.other;
+        if let Some(value) = drawn {
+            self.redrawn(now, value);
+        }
+    }
+}
+
+/// The first MTU option.
+fn first_mtu(options: Options<'_>) -> Option<u32>
+    ensures { result ≡ first_mtu (options_left options.entry) }
+{
+    for option in options {
+        if let OptionRef::Mtu(mtu) = option {
+            return Some(mtu);
+        }
+    }
+    None
+}
+
+/// The MTU behind these options, of which the first one counts, if the link can have it.
+fn mtu_after(options: Options<'_>, before: u32) -> u32
+    ensures { result ≡ valid_mtu_or (first_mtu (options_left options.entry)) before }
+{
+    match first_mtu(options) {
+        Some(mtu) if mtu >= LEAST_MTU && mtu <= ETHERNET_MTU => mtu,
+        _ => before,
+    }
+}

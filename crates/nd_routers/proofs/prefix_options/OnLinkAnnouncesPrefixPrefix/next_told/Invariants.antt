@@ -1,0 +1,11 @@
+use Rattle.std.proofs.Common.{◌≡◌, length}
+use Rattle.nd_decode.specs.Pieces.{options_left}
+use Rattle.nd_routers.specs.PrefixOptions.{prefixes_left}
+use Rattle.nd_routers.proofs.prefix_options.OnLinkAnnouncesPrefixPrefix.next_told.Given as goal
+
+-- what is left is the same at each step
+abbrev pub invariant-loop-option : goal.invariant-loop-option
+invariant-loop-option l = prefixes_left l.self ≡ prefixes_left l.initial.self
+
+abbrev pub decreases-loop-option : goal.decreases-loop-option
+decreases-loop-option l = length (options_left l.self.options)

@@ -1,0 +1,78 @@
+ghost use Rattle.std.specs.Prelude.{◌≡◌, ◌≤◌, ◌<◌, vec_len, vec_capacity, ℕ, List, IfSome, Some, slice_get};
+ghost use Rattle.nd_addr.specs.Number.{number_of};
+ghost use Rattle.nd_routers.specs.DefaultRouterSelection.{others, place_among};
+ghost use Rattle.std.specs.Option.{option_map};
+ghost use Rattle.nd_lifetime.specs.History.{stands};
+
+use crate::router::Router;
+use crate::routers::{MAX_ROUTERS, Routers};
+use nd_addr::Addr;
+use nd_lifetime::{has, stands};
+use nd_table::compare;
+use std::alloc::Allocator;
+
+/// A router of the list.
+#[derive(Clone, Copy, Debug, PartialEq, Eq)]
+pub struct Listed {
+    pub addr: Addr,
+    /// If it failed since it came, its place among those that did, by their last failures, the oldest first.
+    pub failed: Option<u64>,
+}
+
+impl<A: Allocator + Clone> Routers<A> {
+    ghost use Rattle.nd_routers.specs.History.{RouterRow, Failed};
+    ghost use Rattle.nd_routers.specs.Routers.{Stands, GainsRow, keys};
+    ghost use Rattle.nd_routers.specs.DefaultRouterSelection.{place_among, FailsAt};
+
+    /// A router can't be reached: its failure is noted, if it is in the list. It takes no memory.
+    pub fn failed(&mut self, source: Addr)
+        ensures stands { (at : ℕ) → GainsRow self.old self.new (Failed at (number_of source.0)) }
+        ensures entries { self.new.entries ≡ self.old.entries }
+    {
+        if !has(&self.entries, &source) {
+            return;
+        }
+        forget(&mut self.failed, source);
+        // The others that failed are in the list too, so there is room.
+        if self.failed.len() < MAX_ROUTERS {
+            self.failed.push_reserved(Router::of(source));
+        }
+    }
+
+    /// A router by its number in the list, from 0 on. It takes no memory.
+    pub fn at(&self, i: usize) -> Option<Listed>
+        ensures value { option_map (λ l. number_of l.addr.0) result ≡ slice_get (keys self.now.entries) i }
+        ensures failed { IfSome result (λ l. l.failed ≡ place_among (number_of l.addr.0) self.now.failed) }
+        ensures by_history { IfSome result (λ l. (history : List RouterRow) → Stands self.now history → FailsAt history (number_of l.addr.0) l.failed) }
+    {
+        let entry = self.entries.get(i)?;
+        let addr = entry.key.addr();
+        Some(Listed {
+            addr,
+            failed: place(&self.failed, addr),
+        })
+    }
+}
+
+/// The router has no failure from now on.
+pub(crate) fn forget<A: Allocator>(failed: &mut Vec<Router, A>, addr: Addr)
+    ensures items { failed.new.items ≡ others (number_of addr.0) failed.old.items }
+    ensures shorter { vec_len failed.new ≤ vec_len failed.old }
+    ensures capacity { vec_capacity failed.new ≡ vec_capacity failed.old }
+{
+    failed.retain(|router| !compare(router.addr(), addr).is_eq());
+}
+
+/// The place of the router, counted from 0.
+pub(crate) fn place(failed: &[Router], addr: Addr) -> Option<u64>
+    ensures { result ≡ place_among (number_of addr.0) failed.now }
+{
+    let mut place = 0;
+    for router in failed {
+        if compare(router.addr(), addr).is_eq() {
+            return Some(place);
+        }
+        place += 1;
+    }
+    None
+}

@@ -1,0 +1,75 @@
+ghost use Rattle.std.specs.Prelude.{◌≡◌, ◌≤◌, ◌<◌, ◌^◌, ◌↔◌, List, IfErr, OnOk, OnErr, IsErr, false};
+ghost use Rattle.nd_routers.specs.PrefixOptions.{is_on_link};
+ghost use Rattle.nd_addr.specs.Prefix.{PrefixValue};
+ghost use Rattle.nd_decode.specs.Pieces.{options_left};
+ghost use Rattle.nd_lifetime.specs.History.{Row, last_moment};
+ghost use Rattle.nd_lifetime.specs.Listing.{fits, announced_all, then_announced, Stands};
+ghost use Rattle.nd_lifetime.specs.Same.{same_prefix};
+
+use crate::prefixes::{MAX_PREFIXES, Prefixes};
+use nd_addr::Prefix;
+use nd_decode::{OptionRef, Options, PrefixInfo};
+use nd_lifetime::{Announces, Limit, TableRefusal, announce_all, fits_all};
+use std::alloc::Allocator;
+
+impl<A: Allocator + Clone> Prefixes<A> {
+    ghost use Rattle.nd_routers.specs.PrefixOptions.{prefixes_in};
+
+    /// Whether there is room for what the options of a Router Advertisement announce, taken in order. It takes no memory.
+    pub fn fits(&self, now: u64, options: Options<'_>) -> bool
+        ensures { result ≡ fits same_prefix 64 now (prefixes_in (options_left options.entry)) self.now }
+    {
+        fits_all(&self.entries, MAX_PREFIXES, now, OnLink { options })
+    }
+
+    /// The options of a Router Advertisement are heard, in order (RFC 4861, section 6.3.4). It takes no memory.
+    pub fn heard_ra(&mut self, now: u64, options: Options<'_>) -> Result<(), TableRefusal>
+        requires moment { now < 2 ^ 62 }
+
+        ensures stands { OnOk result ((history : List (Row PrefixValue)) → last_moment history ≤ now → Stands same_prefix self.old history
+            → Stands same_prefix self.new (then_announced now (prefixes_in (options_left options.entry)) history)) }
+        ensures value { OnOk result (self.new ≡ announced_all same_prefix now (prefixes_in (options_left options.entry)) self.old) }
+
+        // It is refused exactly where the prefixes, taken in order, are too many at some point.
+        ensures full { IsErr result ↔ (fits same_prefix 64 now (prefixes_in (options_left options.entry)) self.old ≡ false) }
+        ensures refusal { IfErr result (λ refusal. refusal ≡ TableRefusal.Full Limit.Prefixes) }
+        ensures same { OnErr result (self.new ≡ self.old) }
+    {
+        if !self.fits(now, options) {
+            return Err(TableRefusal::Full(Limit::Prefixes));
+        }
+        announce_all(&mut self.entries, MAX_PREFIXES, now, OnLink { options });
+        Ok(())
+    }
+}
+
+/// The prefixes that the options of a Router Advertisement say are on the link, with their valid lifetimes.
+#[derive(Clone, Copy, Debug)]
+pub(crate) struct OnLink<'a> {
+    pub(crate) options: Options<'a>,
+}
+
+impl Announces<Prefix, Prefix> for OnLink<'_> {
+    ghost use Rattle.nd_routers.specs.PrefixOptions.{prefixes_left};
+
+    ghost told = { prefixes_left };
+
+    fn next_told(&mut self) -> Option<(Prefix, u32)> {
+        while let Some(option) = self.options.next() {
+            if let OptionRef::Prefix(info) = option {
+                if is_on_link(&info) {
+                    return Some((info.prefix, info.valid_lifetime));
+                }
+            }
+        }
+        None
+    }
+}
+
+/// Whether an option says that its prefix is on the link. What is said of link-local and multicast ones isn't taken.
+fn is_on_link(info: &PrefixInfo) -> bool
+    ensures { result ≡ is_on_link info.now }
+{
+    let address = info.prefix.address();
+    info.on_link && !address.is_link_local() && !address.is_multicast()
+}

@@ -1,0 +1,92 @@
+ghost use Rattle.std.specs.Prelude.{◌≡◌, ◌<◌, ◌^◌, ◌↔◌, ◌∷◌, List, [], IfOk, IfErr, OnOk, OnErr, IsErr, Some, false};
+ghost use Rattle.nd_routers.specs.RouterAdvertisement.{change_of};
+ghost use Rattle.nd_addr.specs.Number.{number_of};
+ghost use Rattle.nd_lifetime.specs.History.{stands};
+ghost use Rattle.nd_lifetime.specs.Listing.{fits};
+
+use crate::default_router_selection::forget;
+use crate::router::Router;
+use crate::routers::{MAX_ROUTERS, Routers};
+use nd_addr::Addr;
+use nd_lifetime::{Limit, TableRefusal, announce, count, has, stands};
+use std::alloc::Allocator;
+
+/// What a Router Advertisement does to the list of default routers.
+#[derive(Clone, Copy, Debug, PartialEq, Eq)]
+pub enum Change {
+    /// The router comes into the list.
+    Entered,
+    /// It stays, with another end.
+    Refreshed,
+    /// It leaves the list.
+    Removed,
+    /// It wasn't in the list and isn't.
+    Nothing,
+}
+
+impl<A: Allocator + Clone> Routers<A> {
+    ghost use Rattle.nd_routers.specs.History.{RouterRow, Heard, announcements};
+    ghost use Rattle.nd_routers.specs.Routers.{same, Stands, GainsRow, IsSettled};
+    ghost use Rattle.nd_routers.specs.RouterAdvertisement.{change_of};
+
+    /// Whether there is room for what a Router Advertisement announces. It takes no memory.
+    pub fn fits(&self, now: u64, source: Addr, lifetime: u16) -> bool
+        ensures { result ≡ fits same 16 now ((number_of source.0, lifetime) ∷ []) self.now.entries }
+    {
+        if stands(&self.entries, now, &source) {
+            return true;
+        }
+        lifetime == 0 || count(&self.entries, now) < MAX_ROUTERS
+    }
+
+    /// A router is heard that announces itself for a lifetime in seconds (RFC 4861, section 6.3.4). No router's end has come that is
+    /// still to be told. It takes no memory.
+    pub fn heard_ra(
+        &mut self,
+        now: u64,
+        source: Addr,
+        lifetime: u16,
+    ) -> Result<Change, TableRefusal>
+        requires moment { now < 2 ^ 62 }
+        requires settled { IsSettled self.old.entries now }
+
+        ensures stands { OnOk result (GainsRow self.old self.new (Heard now (number_of source.0) lifetime)) }
+        ensures settled { IsSettled self.new.entries now }
+        ensures change { IfOk result (λ change. (history : List RouterRow) → Stands self.old history
+            → change ≡ change_of (stands same (number_of source.0) (announcements history) now) (stands same (number_of source.0) (announcements (Heard now (number_of source.0) lifetime ∷ history)) now)) }
+
+        // It is refused exactly where the router is one too many.
+        ensures full { IsErr result ↔ (fits same 16 now ((number_of source.0, lifetime) ∷ []) self.old.entries ≡ false) }
+        ensures refusal { IfErr result (λ refusal. refusal ≡ TableRefusal.Full Limit.Routers) }
+        ensures same { OnErr result (self.new ≡ self.old) }
+    {
+        if !self.fits(now, source, lifetime) {
+            return Err(TableRefusal::Full(Limit::Routers));
+        }
+        let before = has(&self.entries, &source);
+        announce(
+            &mut self.entries,
+            now,
+            &source,
+            Some(Router::of(source)),
+            u32::from(lifetime),
+        );
+        if lifetime == 0 {
+            forget(&mut self.failed, source);
+            return Ok(change_by(before, false));
+        }
+        Ok(change_by(before, true))
+    }
+}
+
+/// What changes where a router was listed before or not, and is then or not.
+pub(crate) fn change_by(before: bool, after: bool) -> Change
+    ensures { result ≡ change_of before after }
+{
+    match (before, after) {
+        (false, true) => Change::Entered,
+        (true, true) => Change::Refreshed,
+        (true, false) => Change::Removed,
+        (false, false) => Change::Nothing,
+    }
+}
