@@ -9,7 +9,7 @@ use Rattle.nd_addr.specs.declared.why.Why.TheVariants.{FrameShort, NotIpv6, Head
 use Rattle.nd_addr.specs.Ip6.{packet_of, payload_length_of}
 use Rattle.nd_validity.specs.Places.{packet_in, parts_in, IsMessage}
 use Rattle.nd_validity.specs.Reasons.{IsReason, IsFirstOf, NoneOf}
-use Rattle.nd_validity.specs.Hearing.{Outcome, dropped, outcome_of_packet, outcome_in_frame, hearing_of, is_message}
+use Rattle.nd_validity.specs.Hearing.{Outcome, dropped, outcome_of_packet, outcome_in_frame, hearing_in_some_role, is_message}
 
 -- the reasons of frames and packets
 abbrev pub frame_reasons : List Why
@@ -18,10 +18,10 @@ frame_reasons = FrameShort ∷ NotIpv6 ∷ HeaderShort ∷ Version ∷ PayloadSh
 -- what the function gives where one of them holds, and where none does
 pub data IsFramed (frame : List ℕ) (role : Role) : Outcome → Type 0 where
   no_packet : {why : Why} → IsFirstOf (IsReason frame role) frame_reasons why → IsFramed frame role (dropped why)
-  packet : NoneOf (IsReason frame role) frame_reasons → IsFramed frame role (outcome_of_packet role (parts_in frame))
+  packet : NoneOf (IsReason frame role) frame_reasons → IsFramed frame role (outcome_of_packet (parts_in frame))
 
-pub framed : (frame : List ℕ) (role : Role) → IsFramed frame role (hearing_of frame role)
-unfolding hearing_of
+pub framed : (frame : List ℕ) (role : Role) → IsFramed frame role (hearing_in_some_role frame)
+unfolding hearing_in_some_role
 framed frame role =
     elim (cases_lt (length frame) 14) [
       | inl short ↦ rw (lt-ltb _ _ short) (no_packet (inl (refl, short)))
@@ -33,7 +33,7 @@ framed frame role =
           ])
     ]
   where
-    packets : (f : List ℕ) (r : Role) → (length f < 14 → ⊥) → (big_number 2 (drop 12 f) ≢ 0x86dd → ⊥) → IsFramed f r (outcome_in_frame r (packet_of (packet_in f)))
+    packets : (f : List ℕ) (r : Role) → (length f < 14 → ⊥) → (big_number 2 (drop 12 f) ≢ 0x86dd → ⊥) → IsFramed f r (outcome_in_frame (packet_of (packet_in f)))
     packets f r no_short no_other = elim (cases_lt (length (packet_in f)) 40) [
       | inl short ↦ rw (lt-ltb _ _ short) (no_packet (inr (no_short, inr (no_other, inl (refl, short)))))
       | inr long ↦
