@@ -1,9 +1,10 @@
-ghost use Rattle.std.specs.Prelude.{◌≡◌};
+ghost use Rattle.std.specs.Prelude.{◌≡◌, MatchOption, true, false};
+ghost use Rattle.nd_decode.specs.MessageType.{IsOfType};
 ghost use Rattle.nd_validity.specs.Hearing.{Outcome, outcome, Hears, HearsInSomeRole, is_message, outcome_of_packet, hearing_in_some_role, taken_by, hearing_of};
 
 use crate::validity::{fault, is_not_for};
 use nd_addr::{Addr, Frame, Ip6, Ip6Ref, Role, Why, sum_is_good};
-use nd_decode::{ICMPV6_REDIRECT, ICMPV6_ROUTER_SOLICITATION, MessageRef, decode};
+use nd_decode::{MessageRef, MessageType, decode_as};
 
 /// The next header of ICMPv6 (RFC 4443, section 1).
 const ICMPV6: u8 = 58;
@@ -91,16 +92,16 @@ fn hear_packet(packet: Ip6Ref<'_>) -> Hearing<'_>
     ensures { outcome result ≡ outcome_of_packet (record { header = packet.entry.header; payload = packet.entry.payload.now }) }
 {
     let header = packet.header;
-    if !is_message(&packet) {
+    let Some(kind) = message_type(&packet) else {
         return Hearing::Other(packet);
-    }
+    };
     if header.hop_limit != HOP_LIMIT {
         return Hearing::Drop(Why::HopLimit);
     }
     if !sum_is_good(header.source, header.destination, packet.payload) {
         return Hearing::Drop(Why::Sum);
     }
-    let message = match decode(packet.payload) {
+    let message = match decode_as(kind, packet.payload) {
         Ok(message) => message,
         Err(why) => return Hearing::Drop(why),
     };
@@ -115,12 +116,13 @@ fn hear_packet(packet: Ip6Ref<'_>) -> Hearing<'_>
     }
 }
 
-/// Whether a packet is a message of Neighbor Discovery, by its next header and its type.
-fn is_message(packet: &Ip6Ref<'_>) -> bool
-    ensures { result ≡ is_message packet.now.header packet.now.payload.now }
+/// The type of the message of Neighbor Discovery that a packet is, by its next header and its first byte, if it is one.
+fn message_type(packet: &Ip6Ref<'_>) -> Option<MessageType>
+    ensures { MatchOption result (is_message packet.now.header packet.now.payload.now ≡ false)
+        (λ kind. (is_message packet.now.header packet.now.payload.now ≡ true) × IsOfType kind packet.now.payload.now) }
 {
-    packet.header.next_header == ICMPV6
-        && !packet.payload.is_empty()
-        && packet.payload[0] >= ICMPV6_ROUTER_SOLICITATION
-        && packet.payload[0] <= ICMPV6_REDIRECT
+    if packet.header.next_header != ICMPV6 || packet.payload.is_empty() {
+        return None;
+    }
+    MessageType::of(packet.payload[0])
 }
