@@ -1,3 +1,4 @@
+pub mod Types
 pub mod Walk
 pub mod Addresses
 pub mod Says

@@ -4,8 +4,18 @@ use Rattle.nd_addr.specs.declared.why.Why.{Why}
 use Rattle.nd_addr.specs.declared.why.Why.TheVariants.{Code, Length}
 use Rattle.nd_decode.specs.declared.body.Body.{Body}
 use Rattle.nd_decode.specs.declared.body.Body.TheVariants as bodies
+use Rattle.nd_decode.specs.declared.message_type.MessageType.{MessageType}
+use Rattle.nd_decode.specs.declared.message_type.MessageType.TheVariants.{RouterSolicitation, RouterAdvertisement, NeighborSolicitation, NeighborAdvertisement, Redirect}
 use Rattle.nd_decode.specs.Pieces.{options_in, rest_in, fault_of}
 use Rattle.nd_decode.specs.Message.{Parts, router_advertisement_of, neighbor_solicitation_of, neighbor_advertisement_of, redirect_of, least_length, behind_fields}
+
+-- the fields of a message of a type (RFC 4861, sections 4.1 to 4.5)
+abbrev pub body_as : MessageType → List ℕ → Body
+body_as RouterSolicitation bytes = bodies.Rs
+body_as RouterAdvertisement bytes = bodies.Ra (router_advertisement_of bytes)
+body_as NeighborSolicitation bytes = bodies.Ns (neighbor_solicitation_of bytes)
+body_as NeighborAdvertisement bytes = bodies.Na (neighbor_advertisement_of bytes)
+body_as Redirect bytes = bodies.Redirect (redirect_of bytes)
 
 -- the fields of the type that the first byte tells (RFC 4861, sections 4.1 to 4.5)
 abbrev pub body_of : List ℕ → Body

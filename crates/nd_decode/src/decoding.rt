@@ -1,23 +1,26 @@
 ghost use Rattle.std.specs.Prelude.{◌≡◌, IfOk, IfErr, Ok, Err};
 ghost use Rattle.nd_addr.specs.Given.{Gives};
 ghost use Rattle.nd_decode.specs.Message.{HasKnownKind, Parts, parts, Spells, IsRefused};
+ghost use Rattle.nd_decode.specs.MessageType.{IsOfType};
 ghost use Rattle.nd_decode.specs.Decoding.{decode_of};
 
 use crate::body::Body;
 use crate::message_ref::MessageRef;
+use crate::message_type::MessageType;
 use crate::options::{Options, fault_in};
 use nd_addr::Why;
 
-/// The message that some bytes spell, by the function that decides it.
+/// The message that some bytes spell whose type is known already, as it is to whoever has asked whether they are a message
+/// at all. The same as `decode`.
 #[tactic(auto, unfolding(crate::specs::Decoding::decode_of))]
-fn decode_exactly(bytes: &[u8]) -> Result<MessageRef<'_>, Why>
-    requires { HasKnownKind bytes.now }
+pub fn decode_as(kind: MessageType, bytes: &[u8]) -> Result<MessageRef<'_>, Why>
+    requires { IsOfType kind bytes.now }
     ensures { Gives parts result (decode_of bytes.now) }
 {
     if bytes.len() > 1 && bytes[1] != 0 {
         return Err(Why::Code);
     }
-    let least = Body::least_length(bytes[0]);
+    let least = kind.least_length();
     if bytes.len() < least {
         return Err(Why::Length);
     }
@@ -26,7 +29,7 @@ fn decode_exactly(bytes: &[u8]) -> Result<MessageRef<'_>, Why>
         return Err(why);
     }
     Ok(MessageRef {
-        body: Body::read(bytes),
+        body: Body::read(kind, bytes),
         options: Options::new(rest),
     })
 }
@@ -46,5 +49,8 @@ pub fn decode(bytes: &[u8]) -> Result<MessageRef<'_>, Why>
     // The same by a function.
     ensures exactly { Gives parts result (decode_of bytes.now) }
 {
-    decode_exactly(bytes)
+    match MessageType::of(bytes[0]) {
+        Some(kind) => decode_as(kind, bytes),
+        None => unreachable!(),
+    }
 }

@@ -5,6 +5,7 @@
 mod body;
 mod decoding;
 mod message_ref;
+mod message_type;
 mod neighbor_advertisement;
 mod neighbor_solicitation;
 mod option_ref;
@@ -14,12 +15,13 @@ mod redirect;
 mod router_advertisement;
 mod servers;
 
-pub use body::{
-    Body, ICMPV6_NEIGHBOR_ADVERTISEMENT, ICMPV6_NEIGHBOR_SOLICITATION, ICMPV6_REDIRECT,
-    ICMPV6_ROUTER_ADVERTISEMENT, ICMPV6_ROUTER_SOLICITATION,
-};
-pub use decoding::decode;
+pub use body::Body;
+pub use decoding::{decode, decode_as};
 pub use message_ref::MessageRef;
+pub use message_type::{
+    ICMPV6_NEIGHBOR_ADVERTISEMENT, ICMPV6_NEIGHBOR_SOLICITATION, ICMPV6_REDIRECT,
+    ICMPV6_ROUTER_ADVERTISEMENT, ICMPV6_ROUTER_SOLICITATION, MessageType,
+};
 pub use nd_search_list::{NameRef, Names};
 pub use neighbor_advertisement::NeighborAdvertisement;
 pub use neighbor_solicitation::NeighborSolicitation;

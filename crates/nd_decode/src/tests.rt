@@ -65,6 +65,27 @@ const DNS_ADVERTISEMENT: [u8; 72] = [
     0x6c, 0x65, 0x00, 0x00, 0x00, 0x00, 0x00, 0x00,
 ];
 
+/// The types of RFC 4861, sections 4.1 to 4.5.
+#[test]
+fn tells_the_five_types(rt: HostRuntime) {
+    assert_eq!(rt; MessageType::of(133), Some(MessageType::RouterSolicitation));
+    assert_eq!(rt;
+        MessageType::of(134),
+        Some(MessageType::RouterAdvertisement)
+    );
+    assert_eq!(rt;
+        MessageType::of(135),
+        Some(MessageType::NeighborSolicitation)
+    );
+    assert_eq!(rt;
+        MessageType::of(136),
+        Some(MessageType::NeighborAdvertisement)
+    );
+    assert_eq!(rt; MessageType::of(137), Some(MessageType::Redirect));
+    assert!(rt; MessageType::of(132).is_none());
+    assert!(rt; MessageType::of(138).is_none());
+}
+
 #[test]
 fn reads_solicitation(rt: HostRuntime) -> Result<(), Fail> {
     let message = decode(&SOLICITATION).ok().ok_or("message")?;

@@ -26,11 +26,11 @@ pub use message::Message;
 pub use name::Name;
 pub use nd_decode::{
     Body, ICMPV6_NEIGHBOR_ADVERTISEMENT, ICMPV6_NEIGHBOR_SOLICITATION, ICMPV6_REDIRECT,
-    ICMPV6_ROUTER_ADVERTISEMENT, ICMPV6_ROUTER_SOLICITATION, MessageRef, NameRef, Names,
-    NeighborAdvertisement, NeighborSolicitation, OPTION_DNS_SEARCH_LIST, OPTION_MTU,
+    ICMPV6_ROUTER_ADVERTISEMENT, ICMPV6_ROUTER_SOLICITATION, MessageRef, MessageType, NameRef,
+    Names, NeighborAdvertisement, NeighborSolicitation, OPTION_DNS_SEARCH_LIST, OPTION_MTU,
     OPTION_PREFIX_INFORMATION, OPTION_RECURSIVE_DNS_SERVER, OPTION_REDIRECTED_HEADER,
     OPTION_SOURCE_LINK_LAYER_ADDRESS, OPTION_TARGET_LINK_LAYER_ADDRESS, OptionRef, Options,
-    PrefixInfo, Redirect, RouterAdvertisement, Servers, decode, is_server,
+    PrefixInfo, Redirect, RouterAdvertisement, Servers, decode, decode_as, is_server,
 };
 pub use opt::Opt;
 

@@ -1,5 +1,5 @@
 -- The first of some reasons: that there is one answer, and how lists of reasons are joined.
-use Rattle.std.proofs.Common.{◌≡◌, true, Bool, List, [], ◌∷◌, ◌++◌, Some, None, sym, ◌∙◌, inl, inr}
+use Rattle.std.proofs.Common.{◌≡◌, true, Bool, List, [], ◌∷◌, ◌++◌, Some, None, sym, subst, ◌∙◌, inl, inr}
 use Rattle.std.specs.List.{AllByRecursion}
 use Rattle.std.proofs.lemmas.Bool.{cases_Bool}
 use Rattle.nd_addr.specs.declared.why.Why.{Why}
@@ -19,6 +19,12 @@ pub first_not_none : (Holds : Why → Type 0) (whys : List Why) (a : Why) → Is
 first_not_none Holds [] a h none = h
 first_not_none Holds (w ∷ ws) a (inl h) none = none.0 h.1
 first_not_none Holds (w ∷ ws) a (inr h) none = first_not_none Holds ws a h.1 none.1
+
+-- what is true of each reason is true of the first
+pub first_of_all : (Holds P : Why → Type 0) (whys : List Why) (a : Why) → IsFirstOf Holds whys a → AllByRecursion P whys → P a
+first_of_all Holds P [] a h all = absurd h
+first_of_all Holds P (w ∷ ws) a (inl h) all = subst P (sym h.0) all.0
+first_of_all Holds P (w ∷ ws) a (inr h) all = first_of_all Holds P ws a h.1 all.1
 
 -- a first reason is one still with more behind it
 pub first_front : (Holds : Why → Type 0) (front back : List Why) (a : Why) → IsFirstOf Holds front a → IsFirstOf Holds (front ++ back) a

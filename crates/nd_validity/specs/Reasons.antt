@@ -9,18 +9,23 @@ use Rattle.nd_addr.specs.Ip6.{payload_length_of}
 use Rattle.nd_addr.specs.Checksum.{IsGoodSum}
 use Rattle.nd_decode.specs.Message.{Parts, Spells, IsRefused}
 use Rattle.nd_validity.specs.Places.{packet_in, header_in, payload_in, IsMessage}
-use Rattle.nd_validity.specs.Validity.{has_fault}
+use Rattle.nd_validity.specs.Validity.{has_fault, is_not_for}
 
 -- the frame is a message, whose bytes spell no message, for this reason (RFC 4861, section 4)
 abbrev pub IsMisspelled : List ℕ → Why → Type 0
 IsMisspelled frame why = IsMessage (header_in frame) (payload_in frame) × IsRefused (payload_in frame) why
 
 -- the frame is a message that has this fault (RFC 4861, sections 6.1, 7.1 and 8.1)
-abbrev pub IsFaulty : List ℕ → Role → Why → Type 0
-IsFaulty frame role why = IsMessage (header_in frame) (payload_in frame)
-    × (message : Parts) × Spells (payload_in frame) message × IsTrue (has_fault (header_in frame).source (header_in frame).destination role message why)
+abbrev pub IsFaulty : List ℕ → Why → Type 0
+IsFaulty frame why = IsMessage (header_in frame) (payload_in frame)
+    × (message : Parts) × Spells (payload_in frame) message × IsTrue (has_fault (header_in frame).source (header_in frame).destination message why)
 
--- The reasons. Those behind the fifth are of messages alone.
+-- the frame is a message that nodes of this role don't take (RFC 4861, sections 6.2.6, 6.2.7 and 8.2)
+abbrev pub IsNotFor : List ℕ → Role → Type 0
+IsNotFor frame role = IsMessage (header_in frame) (payload_in frame)
+    × (message : Parts) × Spells (payload_in frame) message × IsTrue (is_not_for role message.body)
+
+-- The reasons. Those behind the fifth are of messages alone, and the last one alone asks for the role.
 abbrev pub IsReason : List ℕ → Role → Why → Type 0
 -- fewer bytes than an Ethernet header has (RFC 2464, section 3)
 IsReason frame role FrameShort = length frame < 14
@@ -41,14 +46,14 @@ IsReason frame role Code = IsMisspelled frame Code
 IsReason frame role Length = IsMisspelled frame Length
 IsReason frame role OptionZero = IsMisspelled frame OptionZero
 IsReason frame role OptionOver = IsMisspelled frame OptionOver
-IsReason frame role Source = IsFaulty frame role Source
-IsReason frame role Target = IsFaulty frame role Target
-IsReason frame role UnspecifiedSlla = IsFaulty frame role UnspecifiedSlla
-IsReason frame role NotSolicitedNode = IsFaulty frame role NotSolicitedNode
-IsReason frame role SolicitedMulticast = IsFaulty frame role SolicitedMulticast
-IsReason frame role RedirectTarget = IsFaulty frame role RedirectTarget
-IsReason frame role RedirectDestination = IsFaulty frame role RedirectDestination
-IsReason frame role NotForUs = IsFaulty frame role NotForUs
+IsReason frame role Source = IsFaulty frame Source
+IsReason frame role Target = IsFaulty frame Target
+IsReason frame role UnspecifiedSlla = IsFaulty frame UnspecifiedSlla
+IsReason frame role NotSolicitedNode = IsFaulty frame NotSolicitedNode
+IsReason frame role SolicitedMulticast = IsFaulty frame SolicitedMulticast
+IsReason frame role RedirectTarget = IsFaulty frame RedirectTarget
+IsReason frame role RedirectDestination = IsFaulty frame RedirectDestination
+IsReason frame role NotForUs = IsNotFor frame role
 -- this one asks the node that hears
 IsReason frame role NotFirstHop = ⊥
 

@@ -1,5 +1,5 @@
 -- What makes a message invalid that is well spelled (RFC 4861, sections 6.1, 7.1 and 8.1): one statement for each reason, each a
--- test of the message with its source, its destination and the role of who hears it.
+-- test of the message with its source and its destination. Which role takes a message is asked last, and by itself.
 use Rattle.std.specs.Prelude.{Bool, true, false, ◌&&◌, ◌||◌, not, bytes_eq, List, [], ◌∷◌, Option, Some, None, if◌then◌else◌}
 use Rattle.std.specs.List.{list_any}
 use Rattle.nd_addr.specs.Kind.{multicast_prefix, link_local_prefix, unspecified_address, solicited_node_of}
@@ -8,7 +8,7 @@ use Rattle.nd_addr.specs.declared.addr.Addr.{Addr}
 use Rattle.nd_addr.specs.declared.role.Role.{Role}
 use Rattle.nd_addr.specs.declared.role.Role.TheVariants.{Host, Router}
 use Rattle.nd_addr.specs.declared.why.Why.{Why}
-use Rattle.nd_addr.specs.declared.why.Why.TheVariants.{Source, Target, UnspecifiedSlla, NotSolicitedNode, SolicitedMulticast, RedirectTarget, RedirectDestination, NotForUs}
+use Rattle.nd_addr.specs.declared.why.Why.TheVariants.{Source, Target, UnspecifiedSlla, NotSolicitedNode, SolicitedMulticast, RedirectTarget, RedirectDestination}
 use Rattle.nd_decode.specs.Option.{Said, slla}
 use Rattle.nd_decode.specs.Message.{Parts}
 use Rattle.nd_decode.specs.declared.body.Body.{Body}
@@ -71,28 +71,20 @@ abbrev pub redirects_multicast : Body → Bool
 redirects_multicast (bodies.Redirect r) = holds multicast_prefix r.destination.0
 redirects_multicast _ = false
 
--- NotForUs: hosts take no Router Solicitation (RFC 4861, section 6.2.6), and routers neither a Router Advertisement nor a Redirect for
--- themselves (RFC 4861, sections 6.2.7 and 8.2)
-abbrev pub is_not_for : Role → Body → Bool
-is_not_for Host bodies.Rs = true
-is_not_for Router body = is_of_routers body
-is_not_for Host _ = false
-
 -- the message has this fault
-abbrev pub has_fault : Addr → Addr → Role → Parts → Why → Bool
-has_fault source destination role message Source = has_bad_source source message.body
-has_fault source destination role message Target = has_bad_target message.body
-has_fault source destination role message UnspecifiedSlla = has_unspecified_slla source message
-has_fault source destination role message NotSolicitedNode = misses_solicited_node source destination message.body
-has_fault source destination role message SolicitedMulticast = is_solicited_multicast destination message.body
-has_fault source destination role message RedirectTarget = has_bad_redirect_target message.body
-has_fault source destination role message RedirectDestination = redirects_multicast message.body
-has_fault source destination role message NotForUs = is_not_for role message.body
-has_fault source destination role message _ = false
+abbrev pub has_fault : Addr → Addr → Parts → Why → Bool
+has_fault source destination message Source = has_bad_source source message.body
+has_fault source destination message Target = has_bad_target message.body
+has_fault source destination message UnspecifiedSlla = has_unspecified_slla source message
+has_fault source destination message NotSolicitedNode = misses_solicited_node source destination message.body
+has_fault source destination message SolicitedMulticast = is_solicited_multicast destination message.body
+has_fault source destination message RedirectTarget = has_bad_redirect_target message.body
+has_fault source destination message RedirectDestination = redirects_multicast message.body
+has_fault source destination message _ = false
 
 -- the order in which they are looked for
 abbrev pub faults : List Why
-faults = Source ∷ Target ∷ UnspecifiedSlla ∷ NotSolicitedNode ∷ SolicitedMulticast ∷ RedirectTarget ∷ RedirectDestination ∷ NotForUs ∷ []
+faults = Source ∷ Target ∷ UnspecifiedSlla ∷ NotSolicitedNode ∷ SolicitedMulticast ∷ RedirectTarget ∷ RedirectDestination ∷ []
 
 -- the first of some reasons that passes a test
 abbrev pub first_of : (Why → Bool) → List Why → Option Why
@@ -100,5 +92,12 @@ first_of test [] = None
 first_of test (why ∷ whys) = if test why then Some why else first_of test whys
 
 -- the first fault of a message
-abbrev pub fault_of : Addr → Addr → Role → Parts → Option Why
-fault_of source destination role message = first_of (has_fault source destination role message) faults
+abbrev pub fault_of : Addr → Addr → Parts → Option Why
+fault_of source destination message = first_of (has_fault source destination message) faults
+
+-- NotForUs: hosts take no Router Solicitation (RFC 4861, section 6.2.6), and routers neither a Router Advertisement nor a Redirect for
+-- themselves (RFC 4861, sections 6.2.7 and 8.2)
+abbrev pub is_not_for : Role → Body → Bool
+is_not_for Host bodies.Rs = true
+is_not_for Router body = is_of_routers body
+is_not_for Host _ = false

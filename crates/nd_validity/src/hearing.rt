@@ -1,9 +1,10 @@
-ghost use Rattle.std.specs.Prelude.{◌≡◌};
-ghost use Rattle.nd_validity.specs.Hearing.{Outcome, outcome, Hears, is_message, outcome_of_packet, hearing_of};
+ghost use Rattle.std.specs.Prelude.{◌≡◌, MatchOption, true, false};
+ghost use Rattle.nd_decode.specs.MessageType.{IsOfType};
+ghost use Rattle.nd_validity.specs.Hearing.{Outcome, outcome, Hears, HearsInSomeRole, is_message, outcome_of_packet, hearing_in_some_role, taken_by, hearing_of};
 
-use crate::validity::fault;
+use crate::validity::{fault, is_not_for};
 use nd_addr::{Addr, Frame, Ip6, Ip6Ref, Role, Why, sum_is_good};
-use nd_decode::{ICMPV6_REDIRECT, ICMPV6_ROUTER_SOLICITATION, MessageRef, decode};
+use nd_decode::{MessageRef, MessageType, decode_as};
 
 /// The next header of ICMPv6 (RFC 4443, section 1).
 const ICMPV6: u8 = 58;
@@ -43,39 +44,64 @@ pub fn hear(frame: &[u8], role: Role) -> Hearing<'_>
     // The same by a function.
     ensures exactly { outcome result ≡ hearing_of frame.now role }
 {
-    hear_exactly(frame, role)
+    taken_by(role, hear_exactly(frame))
 }
 
-/// What a frame is, by the function that decides it.
-#[tactic(auto, unfolding(crate::specs::Hearing::hearing_of))]
-fn hear_exactly(frame: &[u8], role: Role) -> Hearing<'_>
-    ensures { outcome result ≡ hearing_of frame.now role }
+/// What a frame is to a node of the role that takes its message: a Router Solicitation to a router, a Router Advertisement or a
+/// Redirect to a host, and all else to both alike. The reasons are those of `hear` in their order, but for `NotForUs`, which is
+/// never told.
+pub fn hear_in_some_role(frame: &[u8]) -> Hearing<'_>
+    // What is answered some role hears that takes the message, and nothing else is heard so.
+    ensures heard { HearsInSomeRole frame.now (outcome result) }
+    ensures only { (o : Outcome) → HearsInSomeRole frame.now o → outcome result ≡ o }
+    // The same by a function.
+    ensures exactly { outcome result ≡ hearing_in_some_role frame.now }
+{
+    hear_exactly(frame)
+}
+
+/// What a frame is, by the function that decides it, where nobody asks for the role.
+#[tactic(auto, unfolding(crate::specs::Hearing::hearing_in_some_role))]
+fn hear_exactly(frame: &[u8]) -> Hearing<'_>
+    ensures { outcome result ≡ hearing_in_some_role frame.now }
 {
     let frame = match Frame::read(frame) {
         Ok(frame) => frame,
         Err(why) => return Hearing::Drop(why),
     };
     match Ip6::read(frame.rest) {
-        Ok(packet) => hear_packet(packet, role),
+        Ok(packet) => hear_packet(packet),
         Err(why) => Hearing::Drop(why),
     }
 }
 
+/// What a node of a role hears: it drops a message that it does not take.
+fn taken_by(role: Role, heard: Hearing<'_>) -> Hearing<'_>
+    ensures { outcome result ≡ taken_by role (outcome heard.entry) }
+{
+    match heard {
+        Hearing::Valid(valid) if is_not_for(role, &valid.message.body) => {
+            Hearing::Drop(Why::NotForUs)
+        }
+        _ => heard,
+    }
+}
+
 /// What a packet is.
-fn hear_packet(packet: Ip6Ref<'_>, role: Role) -> Hearing<'_>
-    ensures { outcome result ≡ outcome_of_packet role (record { header = packet.entry.header; payload = packet.entry.payload.now }) }
+fn hear_packet(packet: Ip6Ref<'_>) -> Hearing<'_>
+    ensures { outcome result ≡ outcome_of_packet (record { header = packet.entry.header; payload = packet.entry.payload.now }) }
 {
     let header = packet.header;
-    if !is_message(&packet) {
+    let Some(kind) = message_type(&packet) else {
         return Hearing::Other(packet);
-    }
+    };
     if header.hop_limit != HOP_LIMIT {
         return Hearing::Drop(Why::HopLimit);
     }
     if !sum_is_good(header.source, header.destination, packet.payload) {
         return Hearing::Drop(Why::Sum);
     }
-    let message = match decode(packet.payload) {
+    let message = match decode_as(kind, packet.payload) {
         Ok(message) => message,
         Err(why) => return Hearing::Drop(why),
     };
@@ -84,18 +110,19 @@ fn hear_packet(packet: Ip6Ref<'_>, role: Role) -> Hearing<'_>
         destination: header.destination,
         message,
     };
-    match fault(&heard, role) {
+    match fault(&heard) {
         Some(why) => Hearing::Drop(why),
         None => Hearing::Valid(heard),
     }
 }
 
-/// Whether a packet is a message of Neighbor Discovery, by its next header and its type.
-fn is_message(packet: &Ip6Ref<'_>) -> bool
-    ensures { result ≡ is_message packet.now.header packet.now.payload.now }
+/// The type of the message of Neighbor Discovery that a packet is, by its next header and its first byte, if it is one.
+fn message_type(packet: &Ip6Ref<'_>) -> Option<MessageType>
+    ensures { MatchOption result (is_message packet.now.header packet.now.payload.now ≡ false)
+        (λ kind. (is_message packet.now.header packet.now.payload.now ≡ true) × IsOfType kind packet.now.payload.now) }
 {
-    packet.header.next_header == ICMPV6
-        && !packet.payload.is_empty()
-        && packet.payload[0] >= ICMPV6_ROUTER_SOLICITATION
-        && packet.payload[0] <= ICMPV6_REDIRECT
+    if packet.header.next_header != ICMPV6 || packet.payload.is_empty() {
+        return None;
+    }
+    MessageType::of(packet.payload[0])
 }

@@ -5,7 +5,7 @@
 mod hearing;
 mod validity;
 
-pub use hearing::{Heard, Hearing, hear};
+pub use hearing::{Heard, Hearing, hear, hear_in_some_role};
 
 #[cfg(test)]
 mod tests;

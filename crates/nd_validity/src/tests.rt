@@ -118,6 +118,26 @@ fn hears_what_routers_send_at_a_host_alone(rt: HostRuntime) {
     assert_eq!(rt; dropped(&REDIRECT, Role::Router), Some(Why::NotForUs));
 }
 
+/// The role that takes a message is found by the message: what a router takes, and what a host takes, is valid to some role.
+#[test]
+fn hears_each_message_in_the_role_that_takes_it(rt: HostRuntime) {
+    assert!(rt;
+        matches!(hear_in_some_role(&ROUTER_SOLICITATION), Hearing::Valid(heard) if heard.message.body == Body::Rs)
+    );
+    assert!(rt;
+        matches!(hear_in_some_role(&ADVERTISEMENT), Hearing::Valid(heard) if matches!(heard.message.body, Body::Ra(_)))
+    );
+    assert!(rt;
+        matches!(hear_in_some_role(&REDIRECT), Hearing::Valid(heard) if matches!(heard.message.body, Body::Redirect(_)))
+    );
+    assert!(rt;
+        matches!(hear_in_some_role(&DATAGRAM), Hearing::Other(packet) if packet.header.next_header == 17)
+    );
+    let mut from_afar = ROUTER_SOLICITATION;
+    from_afar[21] = 254;
+    assert!(rt; matches!(hear_in_some_role(&from_afar), Hearing::Drop(Why::HopLimit)));
+}
+
 #[test]
 fn hands_on_what_is_no_message(rt: HostRuntime) {
     assert!(rt;

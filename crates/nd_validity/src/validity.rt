@@ -11,8 +11,8 @@ use nd_addr::{Addr, Role, Why};
 use nd_decode::{Body, MessageRef, OptionRef, Options};
 
 /// The first fault of a message that is well spelled.
-pub(crate) fn fault(heard: &Heard<'_>, role: Role) -> Option<Why>
-    ensures { result ≡ fault_of heard.now.source heard.now.destination role (parts heard.now.message) }
+pub(crate) fn fault(heard: &Heard<'_>) -> Option<Why>
+    ensures { result ≡ fault_of heard.now.source heard.now.destination (parts heard.now.message) }
 {
     let body = &heard.message.body;
     if has_bad_source(&heard.source, body) {
@@ -33,10 +33,7 @@ pub(crate) fn fault(heard: &Heard<'_>, role: Role) -> Option<Why>
     if has_bad_redirect_target(body) {
         return Some(Why::RedirectTarget);
     }
-    if redirects_multicast(body) {
-        return Some(Why::RedirectDestination);
-    }
-    is_not_for(role, body).then_some(Why::NotForUs)
+    redirects_multicast(body).then_some(Why::RedirectDestination)
 }
 
 /// Whether routers alone send it.
@@ -138,7 +135,7 @@ fn redirects_multicast(body: &Body) -> bool
 
 /// Whether nodes of this role take no such message: hosts no Router Solicitation, routers neither a Router Advertisement nor
 /// a Redirect (RFC 4861, sections 6.2.6, 6.2.7 and 8.2).
-fn is_not_for(role: Role, body: &Body) -> bool
+pub(crate) fn is_not_for(role: Role, body: &Body) -> bool
     ensures { result ≡ is_not_for role body.now }
 {
     match role {

@@ -1,0 +1,33 @@
+-- The types of messages by their numbers.
+use Rattle.std.proofs.Common.{◌≡◌, ◌≢◌, ℕ, List, slice_index, refl, arith}
+use Rattle.nd_decode.specs.declared.message_type.MessageType.{MessageType}
+use Rattle.nd_decode.specs.declared.message_type.MessageType.TheVariants.{RouterSolicitation, RouterAdvertisement, NeighborSolicitation, NeighborAdvertisement, Redirect}
+use Rattle.nd_decode.specs.MessageType.{type_number, IsOfType}
+use Rattle.nd_decode.specs.Message.{HasKnownKind}
+use Rattle.nd_decode.specs.Decoding.{body_as, body_of}
+
+-- a number that is that of no type is no known one
+pub none_known : (bytes : List ℕ) → HasKnownKind bytes → ((kind : MessageType) → slice_index bytes 0 ≢ type_number kind) → ⊥
+none_known bytes h none =
+    let a : slice_index bytes 0 ≢ 133 = none RouterSolicitation in
+    let b : slice_index bytes 0 ≢ 134 = none RouterAdvertisement in
+    let c : slice_index bytes 0 ≢ 135 = none NeighborSolicitation in
+    let d : slice_index bytes 0 ≢ 136 = none NeighborAdvertisement in
+    let e : slice_index bytes 0 ≢ 137 = none Redirect in
+    omega (arith, h.least, h.most, a, b, c, d, e)
+
+-- the number of a type is a known one
+pub type_known : (kind : MessageType) (bytes : List ℕ) → IsOfType kind bytes → HasKnownKind bytes
+type_known RouterSolicitation bytes h = let e : slice_index bytes 0 ≡ 133 = h.kind_is in record { some = h.some; least = omega (arith, e); most = omega (arith, e) }
+type_known RouterAdvertisement bytes h = let e : slice_index bytes 0 ≡ 134 = h.kind_is in record { some = h.some; least = omega (arith, e); most = omega (arith, e) }
+type_known NeighborSolicitation bytes h = let e : slice_index bytes 0 ≡ 135 = h.kind_is in record { some = h.some; least = omega (arith, e); most = omega (arith, e) }
+type_known NeighborAdvertisement bytes h = let e : slice_index bytes 0 ≡ 136 = h.kind_is in record { some = h.some; least = omega (arith, e); most = omega (arith, e) }
+type_known Redirect bytes h = let e : slice_index bytes 0 ≡ 137 = h.kind_is in record { some = h.some; least = omega (arith, e); most = omega (arith, e) }
+
+-- the fields of the type that the first byte tells
+pub body_is : (kind : MessageType) (bytes : List ℕ) → slice_index bytes 0 ≡ type_number kind → body_as kind bytes ≡ body_of bytes
+body_is RouterSolicitation bytes e = rw e refl
+body_is RouterAdvertisement bytes e = rw e refl
+body_is NeighborSolicitation bytes e = rw e refl
+body_is NeighborAdvertisement bytes e = rw e refl
+body_is Redirect bytes e = rw e refl

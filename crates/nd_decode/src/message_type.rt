@@ -1,0 +1,57 @@
+ghost use Rattle.std.specs.Prelude.{◌≡◌, ◌≢◌, MatchOption};
+ghost use Rattle.nd_decode.specs.MessageType.{type_number};
+ghost use Rattle.nd_decode.specs.Message.{least_length};
+
+/// The ICMPv6 type of a Router Solicitation (RFC 4861, section 4.1).
+pub const ICMPV6_ROUTER_SOLICITATION: u8 = 133;
+
+/// The ICMPv6 type of a Router Advertisement (RFC 4861, section 4.2).
+pub const ICMPV6_ROUTER_ADVERTISEMENT: u8 = 134;
+
+/// The ICMPv6 type of a Neighbor Solicitation (RFC 4861, section 4.3).
+pub const ICMPV6_NEIGHBOR_SOLICITATION: u8 = 135;
+
+/// The ICMPv6 type of a Neighbor Advertisement (RFC 4861, section 4.4).
+pub const ICMPV6_NEIGHBOR_ADVERTISEMENT: u8 = 136;
+
+/// The ICMPv6 type of a Redirect (RFC 4861, section 4.5).
+pub const ICMPV6_REDIRECT: u8 = 137;
+
+/// The types of the messages of Neighbor Discovery (RFC 4861, sections 4.1 to 4.5).
+#[derive(Clone, Copy, Debug, PartialEq, Eq)]
+pub enum MessageType {
+    RouterSolicitation,
+    RouterAdvertisement,
+    NeighborSolicitation,
+    NeighborAdvertisement,
+    Redirect,
+}
+
+impl MessageType {
+    /// The type of this number. No other number than 133 to 137 is that of a message.
+    pub fn of(number: u8) -> Option<MessageType>
+        ensures { MatchOption result ((kind : MessageType) → number ≢ type_number kind) (λ kind. number ≡ type_number kind) }
+    {
+        match number {
+            ICMPV6_ROUTER_SOLICITATION => Some(MessageType::RouterSolicitation),
+            ICMPV6_ROUTER_ADVERTISEMENT => Some(MessageType::RouterAdvertisement),
+            ICMPV6_NEIGHBOR_SOLICITATION => Some(MessageType::NeighborSolicitation),
+            ICMPV6_NEIGHBOR_ADVERTISEMENT => Some(MessageType::NeighborAdvertisement),
+            ICMPV6_REDIRECT => Some(MessageType::Redirect),
+            _ => None,
+        }
+    }
+
+    /// How many bytes a message of the type has at least, which is where its options begin (RFC 4861, sections 4.1 to 4.5).
+    pub(crate) fn least_length(self) -> usize
+        ensures { result ≡ least_length (type_number self) }
+    {
+        match self {
+            MessageType::RouterSolicitation => 8,
+            MessageType::RouterAdvertisement => 16,
+            MessageType::NeighborSolicitation => 24,
+            MessageType::NeighborAdvertisement => 24,
+            MessageType::Redirect => 40,
+        }
+    }
+}
