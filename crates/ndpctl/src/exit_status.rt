@@ -1,9 +1,9 @@
-//! How the program ends where it doesn't do what it was asked: a text on standard error, and the status.
+//! How the program ends: its status, and a text on standard error where it doesn't do what it was asked.
 
 ghost use Rattle.std.specs.Prelude.{◌≡◌};
 ghost use Rattle.std.specs.Process.{exit_status};
 ghost use Rattle.nd_io.specs.ToolFault.{status_of};
-ghost use Rattle.ndpctl.specs.ExitStatus.{status_of_refused, status_of_unread};
+ghost use Rattle.ndpctl.specs.ExitStatus.{status_of_done, status_of_refused, status_of_unread};
 
 use crate::command_line::Refused;
 use clap::error::ErrorKind;
@@ -13,6 +13,16 @@ use std::process::ExitCode;
 
 /// The status of a bad command line.
 const BAD_COMMAND_LINE: u8 = 2;
+
+/// The status of what was asked: 0 where it was done, else that of its fault, which is told.
+pub fn end(rt: &HostRuntime, done: Result<(), ToolFault>) -> ExitCode
+    ensures { exit_status result ≡ status_of_done done }
+{
+    match done {
+        Ok(()) => ExitCode::SUCCESS,
+        Err(fault) => fail(rt, fault),
+    }
+}
 
 /// Tells a fault, and answers its status.
 pub fn fail(rt: &HostRuntime, fault: ToolFault) -> ExitCode

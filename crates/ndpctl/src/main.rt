@@ -8,7 +8,7 @@ mod run;
 mod tests;
 
 use command_line::read_words;
-use exit_status::{fail, fail_on_refused, fail_on_unread};
+use exit_status::{end, fail, fail_on_refused, fail_on_unread};
 use nd_io::input::Reading;
 use nd_io::output::Writing;
 use nd_io::tool_fault::ToolFault;
@@ -30,8 +30,6 @@ fn main(rt: HostRuntime) -> ExitCode {
     };
     let mut reader = Reading::new(rt.reader());
     let mut writer = Writing::new(io::writer(&rt));
-    match run(rt.alloc(), asked, &mut reader, &mut writer) {
-        Ok(()) => ExitCode::SUCCESS,
-        Err(fault) => fail(&rt, fault),
-    }
+    let done = run(rt.alloc(), asked, &mut reader, &mut writer);
+    end(&rt, done)
 }
