@@ -1,6 +1,6 @@
 ghost use Rattle.std.specs.Prelude.{◌<◌, ◌^◌};
 
-use super::*;
+use nd_params::*;
 use nd_decode::{Body, MessageRef, decode};
 use std::test::*;
 

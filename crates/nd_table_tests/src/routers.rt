@@ -1,6 +1,6 @@
 ghost use Rattle.std.specs.Prelude.{◌<◌, ◌^◌};
 
-use super::*;
+use nd_routers::*;
 use nd_addr::{Addr, Prefix};
 use nd_decode::{Body, decode};
 use std::alloc::Global;

@@ -1,6 +1,6 @@
 ghost use Rattle.std.specs.Prelude.{◌<◌, ◌^◌};
 
-use super::*;
+use nd_slaac::*;
 use nd_addr::{Addr, Mac, Prefix};
 use nd_decode::{PrefixInfo, decode};
 use std::alloc::Global;

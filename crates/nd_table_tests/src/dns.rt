@@ -1,6 +1,6 @@
 ghost use Rattle.std.specs.Prelude.{◌<◌, ◌^◌};
 
-use super::*;
+use nd_dns::*;
 use nd_addr::Addr;
 use nd_decode::{Options, decode};
 use std::alloc::Global;
