@@ -11,7 +11,7 @@ use nd_table::put;
 use nd_waiting::{Packet, Ring};
 use std::alloc::Allocator;
 
-/// How many multicast solicitations a resolution sends (RFC 4861, section 10).
+/// How many multicast solicitations a resolution sends, the first included (RFC 4861, section 10).
 pub(crate) const MAX_MULTICAST_SOLICIT: u8 = 3;
 
 /// A resolution begins with a first packet, for an address that has no entry (RFC 4861, section 7.2.2).
@@ -40,7 +40,8 @@ pub(crate) fn begin<A: Allocator>(
 impl<A: Allocator> Entry<A> {
     ghost use Rattle.nd_neighbour.specs.Change.{asked_node};
 
-    /// An entry whose resolution begins now, with a first packet that waits (RFC 4861, section 7.2.2).
+    /// An entry whose resolution begins now (INCOMPLETE), with a first packet that waits. The first solicitation is sent
+    /// now, the next is due a RetransTimer later (RFC 4861, section 7.2.2).
     pub(crate) fn asked(
         addr: Addr,
         now: u64,

@@ -5,10 +5,12 @@ use nd_waiting::Ring;
 use std::alloc::{AllocError, Allocator};
 use std::marker::Model;
 
-/// How many rings may be in hand.
+/// How many rings may be in hand. Our choice: one packet may need one for its neighbour and, as `room` asks, one for a
+/// second neighbour.
 const MAX_RINGS: usize = 2;
 
-/// The neighbours of a node on its link (RFC 4861, section 5.1).
+/// The neighbours of a node on its link (RFC 4861, section 5.1). Each moment that a call takes or answers is in
+/// milliseconds, from a beginning that is the caller's.
 #[derive(Drop)]
 pub struct Cache<A: Allocator> {
     pub(crate) entries: Vec<Entry<A>, A>,
@@ -31,7 +33,7 @@ impl<A: Allocator> Model for Cache<A> {
 impl<A: Allocator + Clone> Cache<A> {
     ghost use Rattle.nd_neighbour.specs.Table.{Stands};
 
-    /// A cache with room for so many neighbours. All of it is reserved here.
+    /// A cache with room for so many neighbours. All of it is reserved here; an error comes where memory is refused.
     pub fn new(alloc: A, limit: usize) -> Result<Self, AllocError>
         ensures empty { IfOk result (λ cache. cache ≡ record { limit = limit; nodes = []; rings = 0 }) }
         ensures stands { IfOk result (λ cache. Stands cache.nodes []) }

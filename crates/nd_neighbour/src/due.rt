@@ -6,7 +6,6 @@ ghost use Rattle.nd_neighbour.specs.View.{falls_of};
 use crate::address_resolution::MAX_MULTICAST_SOLICIT;
 use crate::cache::Cache;
 use crate::entry::{Entry, Stage};
-use crate::unreachability_detection::{MAX_UNICAST_SOLICIT, Probing};
 use nd_addr::{Addr, Mac};
 use nd_table::{first_at, next_date};
 use nd_waiting::Packets;
@@ -19,9 +18,10 @@ pub enum Due<A: Allocator> {
     Multicast(Addr),
     /// A unicast solicitation is to be sent to it (RFC 4861, section 7.3.3).
     Unicast(Addr, Mac),
-    /// Nothing answered. The entry is gone, and these packets with it.
+    /// No solicitation was answered. The entry is gone, and these packets, which waited for it, weren't sent (RFC
+    /// 4861, sections 7.2.2 and 7.3.3).
     Failed(Addr, Packets<A>),
-    /// The entry was stale and unused for too long, and is gone.
+    /// The entry was STALE and unused for a day, and is gone: our choice (RFC 4861, section 5.3, leaves it open).
     Aged(Addr),
 }
 
@@ -31,7 +31,7 @@ impl<A: Allocator + Clone> Cache<A> {
     ghost use Rattle.nd_neighbour.specs.Due.{FirstDue, NextDue, NoneBefore, due_row, next_in, turns_left};
     ghost use Rattle.nd_neighbour.specs.View.{falls_of};
 
-    /// The earliest moment at which something falls due.
+    /// The earliest moment at which something falls due, in milliseconds, if there is one. It may have passed.
     pub fn next_due(&self) -> Option<u64>
         ensures value { result ≡ next_in self.now.nodes }
         ensures due { (history : List Row) → Stands self.now.nodes history → NextDue history result }
@@ -39,7 +39,11 @@ impl<A: Allocator + Clone> Cache<A> {
         next_date(&self.entries)
     }
 
-    /// What falls due now, for the least address for which something does (RFC 4861, sections 7.2.2 and 7.3.3).
+    /// What falls due at this moment, for the least address for which something does (RFC 4861, sections 7.2.2 and
+    /// 7.3.3). None where nothing falls due at it; nothing changes then.
+    ///
+    /// It asks that nothing is left that fell due earlier. So a caller who comes late doesn't ask with the moment that
+    /// it is, but with the one that `next_due` tells, until that lies ahead.
     pub fn turn(&mut self, now: u64) -> Option<Due<A>>
         requires moment { now < 2 ^ 62 }
         requires none_before { NoneBefore self.old.nodes now }
@@ -59,7 +63,7 @@ impl<A: Allocator + Clone> Cache<A> {
     }
 }
 
-/// What falls due now for the first entry for which something does: it is asked once more, or goes.
+/// What falls due now for the first entry for which something does: a solicitation, or its end.
 pub(crate) fn turn_first<A: Allocator>(entries: &mut Vec<Entry<A>, A>, now: u64) -> Option<Due<A>>
     requires { now < 2 ^ 62 }
     ensures turns { IfSome result (λ due. Turns now entries.old.items entries.new.items (falls_of due)) }
@@ -90,6 +94,8 @@ impl<A: Allocator> Entry<A> {
         ensures none { IfNone result (stays (falls self.old) ≡ false) }
     {
         match &mut self.stage {
+            // INCOMPLETE: a multicast solicitation a RetransTimer after the one before, MAX_MULTICAST_SOLICIT with the
+            // one that began the resolution (7.2.2).
             Stage::Resolving { retrans, sent, .. } => {
                 if *sent >= MAX_MULTICAST_SOLICIT - 1 {
                     return None;
@@ -98,16 +104,11 @@ impl<A: Allocator> Entry<A> {
                 *sent += 1;
                 Some(Due::Multicast(self.addr))
             }
+            // DELAY becomes PROBE, and PROBE stays: a unicast solicitation (7.3.3). Without a use there is none to send.
             Stage::Known { mac, probing, .. } => {
-                let before = (*probing)?;
-                if before.sent >= MAX_UNICAST_SOLICIT {
-                    return None;
-                }
-                self.due = now + u64::from(before.retrans);
-                *probing = Some(Probing {
-                    sent: before.sent + 1,
-                    ..before
-                });
+                let next = (*probing)?.probed()?;
+                self.due = now + u64::from(next.retrans);
+                *probing = Some(next);
                 Some(Due::Unicast(self.addr, *mac))
             }
         }
@@ -120,8 +121,11 @@ impl<A: Allocator> Entry<A> {
     {
         let Entry { addr, stage, .. } = self;
         match stage {
+            // INCOMPLETE, and the last solicitation went unanswered: resolution failed, with all that waits (7.2.2).
             Stage::Resolving { waiting, .. } => Due::Failed(addr, Packets::of(waiting)),
+            // No use for STALE_LIFETIME: our choice (5.3 leaves it open).
             Stage::Known { probing: None, .. } => Due::Aged(addr),
+            // PROBE, and the last probe went unanswered: the entry is deleted (7.3.3).
             Stage::Known { .. } => Due::Failed(addr, Packets::none()),
         }
     }

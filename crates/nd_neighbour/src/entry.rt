@@ -10,7 +10,8 @@ use std::alloc::Allocator;
 use std::marker::Model;
 use std::mem;
 
-/// How long an entry that is stale and unused is kept, in milliseconds: a day.
+/// How long an entry that is STALE and unused is kept, in milliseconds: a day. Our choice: RFC 4861, section 5.3,
+/// leaves it open.
 pub(crate) const STALE_LIFETIME: u64 = 86_400_000;
 
 /// An entry of the neighbour cache (RFC 4861, section 5.1).
@@ -18,7 +19,7 @@ pub(crate) const STALE_LIFETIME: u64 = 86_400_000;
 pub(crate) struct Entry<A: Allocator> {
     pub(crate) addr: Addr,
     pub(crate) router: bool,
-    /// The moment at which something falls due.
+    /// The moment at which something falls due, in milliseconds.
     pub(crate) due: u64,
     pub(crate) stage: Stage<A>,
 }
@@ -28,7 +29,7 @@ pub(crate) struct Entry<A: Allocator> {
 pub(crate) enum Stage<A: Allocator> {
     /// Its link-layer address is being resolved (RFC 4861, section 7.2.2).
     Resolving {
-        /// The time between two solicitations.
+        /// RetransTimer when it began: the time between two solicitations, in milliseconds.
         retrans: u32,
         /// How many were sent after the first.
         sent: u8,
@@ -39,8 +40,9 @@ pub(crate) enum Stage<A: Allocator> {
         mac: Mac,
         /// Whether the last thing that was heard is a confirmation.
         confirmed: bool,
-        /// Until when the confirmation holds, or since when there is none.
+        /// The moment until which the confirmation holds, or since which there is none, in milliseconds.
         since: u64,
+        /// What follows the first use since then.
         probing: Option<Probing>,
     },
 }

@@ -14,7 +14,8 @@ use nd_table::{find, holds, put};
 use nd_waiting::Packets;
 use std::alloc::Allocator;
 
-/// An address is given: it changes the entry that is there, or makes one, where there is place.
+/// A message gives a link-layer address (RFC 4861, sections 6.2.6, 6.3.4, 7.2.3 and 8.3): it changes the entry that is
+/// there, or makes one that is STALE, where there is place. Else it answers Full.
 pub(crate) fn give_or_enter<A: Allocator>(
     entries: &mut Vec<Entry<A>, A>,
     limit: usize,
@@ -46,7 +47,7 @@ pub(crate) fn give_or_enter<A: Allocator>(
     Ok(Touched::nothing())
 }
 
-/// The address of an entry that may be there is given (RFC 4861, sections 6.2.6, 6.3.4, 7.2.3 and 8.3).
+/// The same for an entry that may be there.
 pub(crate) fn give<A: Allocator>(
     entries: &mut Vec<Entry<A>, A>,
     now: u64,
@@ -73,19 +74,23 @@ pub(crate) fn give<A: Allocator>(
 impl<A: Allocator> Entry<A> {
     ghost use Rattle.nd_neighbour.specs.Change.{given, released, stale_node};
 
-    /// Its link-layer address is given. A first address sends what waited; another one takes the place of the one that
-    /// is known, which makes the entry stale (RFC 4861, sections 7.2.3 and 7.3.3).
+    /// Its link-layer address is given (RFC 4861, sections 6.2.6, 6.3.4, 7.2.3 and 8.3).
     pub(crate) fn given(&mut self, now: u64, mac: Mac, mark: Option<bool>) -> Packets<A>
         requires { now < 2 ^ 62 }
         ensures entry { self.new ≡ given now (number_of mac.0) mark self.old }
         ensures released { result ≡ released self.old self.new }
     {
+        // A Router Advertisement and a Redirect to a router say that it is one, a Router Solicitation that it is none.
         if let Some(router) = mark {
             self.router = router;
         }
         match self.mac() {
+            // INCOMPLETE: the address is recorded, the entry is STALE, and what waited is sent (7.2.3, 7.3.3).
+            None => self.learn(mac, false, now),
+            // The address that is known: the state stays (7.2.3).
             Some(known) if is_same_mac(mac, known) => Packets::none(),
-            _ => self.learn(mac, false, now),
+            // Another one takes its place, and the entry is STALE (7.2.3, 6.3.4, 6.2.6, 8.3).
+            Some(_) => self.learn(mac, false, now),
         }
     }
 

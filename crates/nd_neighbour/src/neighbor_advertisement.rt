@@ -13,7 +13,7 @@ use nd_table::find;
 use nd_waiting::Packets;
 use std::alloc::Allocator;
 
-/// An advertisement for an entry that may be there (RFC 4861, section 7.2.5).
+/// A Neighbor Advertisement comes (RFC 4861, section 7.2.5). Where there is no entry it is discarded, and makes none.
 pub(crate) fn advertise<A: Allocator>(
     entries: &mut Vec<Entry<A>, A>,
     now: u64,
@@ -40,9 +40,9 @@ pub(crate) fn advertise<A: Allocator>(
 }
 
 impl<A: Allocator> Entry<A> {
-    ghost use Rattle.nd_neighbour.specs.Change.{advertised, conforming, known_mac, released, waiting_in};
+    ghost use Rattle.nd_neighbour.specs.Change.{advertised, conforming, released, waiting_in};
 
-    /// A Neighbor Advertisement for it comes (RFC 4861, section 7.2.5).
+    /// A Neighbor Advertisement for it comes (RFC 4861, section 7.2.5). No address is known in INCOMPLETE alone.
     pub(crate) fn advertised(
         &mut self,
         now: u64,
@@ -56,43 +56,28 @@ impl<A: Allocator> Entry<A> {
         ensures released { result ≡ released self.old self.new }
     {
         match (self.mac(), mac) {
-            // Without an address it says nothing of one that is being resolved.
+            // INCOMPLETE, and no address is given: it is discarded.
             (None, None) => Packets::none(),
+            // INCOMPLETE: the address is recorded, whatever Override says, and what waited is sent.
             (None, Some(first)) => self.conform(now, flags, first, true, reachable),
+            // II: no address is given.
             (Some(known), None) => self.conform(now, flags, known, false, reachable),
-            (Some(known), Some(other)) => self.compared(now, flags, known, other, reachable),
+            // II: the address is the one that is known.
+            (Some(known), Some(given)) if is_same_mac(given, known) => {
+                self.conform(now, flags, known, false, reachable)
+            }
+            // II: Override is set, so another address takes the place of the one that is known.
+            (Some(_), Some(other)) if flags.overrides => {
+                self.conform(now, flags, other, true, reachable)
+            }
+            // I a: Override is clear: another address makes a REACHABLE entry STALE, and changes nothing else.
+            (Some(known), Some(_)) if self.is_reachable(now) => self.learn(known, false, now),
+            // I b: in any other state it is ignored.
+            (Some(_), Some(_)) => Packets::none(),
         }
     }
 
-    /// The same where an address is known and one is given: without Override another address only ends a confirmation.
-    fn compared(
-        &mut self,
-        now: u64,
-        flags: Flags,
-        known: Mac,
-        given: Mac,
-        reachable: u64,
-    ) -> Packets<A>
-        requires moment { now < 2 ^ 62 }
-        requires span { reachable < 2 ^ 62 }
-        requires known { known_mac self.old.kept ≡ Some (number_of known.0) }
-        ensures entry { self.new ≡ advertised now flags (Some (number_of given.0)) reachable self.old }
-        ensures released { result ≡ released self.old self.new }
-    {
-        if is_same_mac(given, known) {
-            return self.conform(now, flags, known, false, reachable);
-        }
-        if flags.overrides {
-            return self.conform(now, flags, given, true, reachable);
-        }
-        if self.is_reachable(now) {
-            return self.learn(known, false, now);
-        }
-        Packets::none()
-    }
-
-    /// A Neighbor Advertisement conforms, at this address (RFC 4861, section 7.2.5): it marks the entry, a solicited
-    /// one confirms, and another one makes the entry stale where the address is new.
+    /// It takes effect, at this address (RFC 4861, section 7.2.5, INCOMPLETE and II).
     fn conform(
         &mut self,
         now: u64,
@@ -106,13 +91,17 @@ impl<A: Allocator> Entry<A> {
         ensures entry { self.new ≡ conforming flags now reachable (number_of mac.0) is_new self.old }
         ensures released { result ≡ (if flags.solicited || is_new then waiting_in self.old.kept else []) }
     {
+        // IsRouter is set by the R flag.
         self.router = flags.router;
+        // Solicited: the entry is REACHABLE.
         if flags.solicited {
             return self.learn(mac, true, now + reachable);
         }
+        // Not solicited, and the address is new: the entry is STALE.
         if is_new {
             return self.learn(mac, false, now);
         }
+        // Else its state stays.
         Packets::none()
     }
 }

@@ -42,19 +42,19 @@ pub enum News {
         flags: Flags,
         mac: Option<Mac>,
     },
-    /// What a message without a link-layer address says of IsRouter.
+    /// What a message without a link-layer address says of IsRouter (RFC 4861, sections 6.2.6, 6.3.4 and 8.3).
     Marked {
         addr: Addr,
         router: bool,
     },
 }
 
-/// The times in force when a call is made, in milliseconds (RFC 4861, section 6.3.2).
+/// The times in force when a call is made (RFC 4861, section 6.3.2).
 #[derive(Clone, Copy, Debug, PartialEq, Eq)]
 pub struct Times {
-    /// RetransTimer: the time between two solicitations.
+    /// RetransTimer: the time between two solicitations, in milliseconds.
     pub retrans: u32,
-    /// ReachableTime: how long a confirmation holds.
+    /// ReachableTime: how long a confirmation holds, in milliseconds.
     pub reachable: u64,
 }
 
@@ -94,8 +94,12 @@ impl<A: Allocator + Clone> Cache<A> {
     ghost use Rattle.nd_neighbour.specs.Room.{NoPlace};
     ghost use Rattle.nd_neighbour.specs.Calls.{GainsNews, Tells, lets_enter, news_key, news_row};
 
-    /// A message says something of a neighbour (RFC 4861, sections 6.2.6, 6.3.4, 7.2.3, 7.2.5 and 8.3). An address
-    /// that is given makes an entry. It takes no memory.
+    /// A message says something of a neighbour (RFC 4861, sections 6.2.6, 6.3.4, 7.2.3, 7.2.5 and 8.3). Only an address
+    /// that is given makes an entry; the other news of a neighbour that isn't there change nothing. Of `times` only
+    /// ReachableTime counts, and only where a solicited advertisement confirms. It takes no memory.
+    ///
+    /// `Full` comes where an address is given, the neighbour is new, all places are taken and no neighbour is STALE;
+    /// nothing has changed then.
     pub fn heard(&mut self, now: u64, news: News, times: Times) -> Result<Touched<A>, CacheRefusal>
         requires moment { now < 2 ^ 62 }
         requires span { times.reachable < 2 ^ 62 }
@@ -126,7 +130,8 @@ impl<A: Allocator + Clone> Cache<A> {
     }
 }
 
-/// What a message says of IsRouter, where the entry is there.
+/// A message without a link-layer address says whether a neighbour is a router (RFC 4861, sections 6.2.6, 6.3.4 and
+/// 8.3): IsRouter is set where the entry is there.
 pub(crate) fn mark<A: Allocator>(
     entries: &mut Vec<Entry<A>, A>,
     addr: Addr,

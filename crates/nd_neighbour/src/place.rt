@@ -45,7 +45,8 @@ pub(crate) fn has_place<A: Allocator>(entries: &[Entry<A>], limit: usize, now: u
     entries.len() < limit || stalest(entries, now).is_some()
 }
 
-/// Makes place for one more entry: where all places are taken, the entry that is stale for longest goes.
+/// Makes place for one more entry: where all places are taken, the entry that is stale for longest goes. Our choice: RFC
+/// 4861, section 5.3, leaves it open.
 pub(crate) fn make_place<A: Allocator>(entries: &mut Vec<Entry<A>, A>, limit: usize, now: u64)
     requires few { vec_len entries.old ≤ limit }
     requires place { has_place limit now entries.old.items ≡ true }

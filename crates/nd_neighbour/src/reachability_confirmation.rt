@@ -13,7 +13,8 @@ impl<A: Allocator + Clone> Cache<A> {
     ghost use Rattle.nd_neighbour.specs.History.{Confirmed};
     ghost use Rattle.nd_neighbour.specs.Table.{GainsRow};
 
-    /// An upper layer confirms that a neighbour is reached (RFC 4861, section 7.3.1).
+    /// An upper layer confirms that a neighbour is reached (RFC 4861, section 7.3.1). It is REACHABLE for `reachable`
+    /// milliseconds from `now` on. Where there is no entry, or no link-layer address in it, nothing changes.
     pub fn confirmed(&mut self, now: u64, addr: Addr, reachable: u64)
         requires moment { now < 2 ^ 62 }
         requires span { reachable < 2 ^ 62 }
@@ -47,14 +48,19 @@ pub(crate) fn confirm<A: Allocator>(
 impl<A: Allocator> Entry<A> {
     ghost use Rattle.nd_neighbour.specs.Change.{confirmed};
 
-    /// An upper layer confirms that it is reached (RFC 4861, section 7.3.1).
+    /// An upper layer confirms that it is reached (RFC 4861, sections 7.3.1 and 7.3.3).
     pub(crate) fn confirm(&mut self, now: u64, reachable: u64)
         requires moment { now < 2 ^ 62 }
         requires span { reachable < 2 ^ 62 }
         ensures { self.new ≡ confirmed now reachable self.old }
     {
-        if let Some(mac) = self.mac() {
-            let _ = self.learn(mac, true, now + reachable);
+        match self.mac() {
+            // INCOMPLETE: an upper layer's advice has no effect.
+            None => {}
+            // In any other state the entry becomes REACHABLE, for a ReachableTime from now on.
+            Some(mac) => {
+                let _ = self.learn(mac, true, now + reachable);
+            }
         }
     }
 }

@@ -17,7 +17,7 @@ impl<A: Allocator + Clone> Cache<A> {
     ghost use Rattle.nd_neighbour.specs.Seen.{waits_of};
     ghost use Rattle.nd_neighbour.specs.Calls.{all_waiting, cleared};
 
-    /// A neighbour is forgotten. What waited for it is handed out.
+    /// A neighbour is forgotten, if it is there. What waited for it is handed out.
     pub fn forget(&mut self, addr: Addr) -> Packets<A>
         ensures stands { (at : ℕ) → GainsRow self.old.nodes self.new.nodes (at, number_of addr.0, Forgot Removed) }
         ensures packets { (history : List Row) → Stands self.old.nodes history → result ≡ waits_of (story (number_of addr.0) history) }
@@ -27,7 +27,8 @@ impl<A: Allocator + Clone> Cache<A> {
         remove(&mut self.entries, addr)
     }
 
-    /// All neighbours are forgotten. What waited is handed out, in the order of the addresses, the oldest first.
+    /// All neighbours are forgotten. What waited is handed out, in the order of the addresses, the oldest first. Where
+    /// memory for the list of packets is refused, none is forgotten.
     pub fn clear(&mut self) -> Result<Vec<Packet<A>, A>, AllocError>
         ensures stands { OnOk result ((at : ℕ) (history : List Row) → Stands self.old.nodes history → Stands self.new.nodes (cleared at self.old.nodes history)) }
         ensures none { OnOk result (self.new.nodes ≡ []) }

@@ -6,7 +6,8 @@ use nd_waiting::Ring;
 use std::alloc::{AllocError, Allocator};
 
 impl<A: Allocator + Clone> Cache<A> {
-    /// Makes so many rings for new entries, where they aren't in hand. With a ring in hand `used` takes no memory.
+    /// Makes rings for new neighbours until so many are in hand, at most two. With a ring in hand `used` takes no
+    /// memory. `Memory` comes where the allocator refuses one; those that were made before it stay in hand.
     pub fn ready(&mut self, n: usize) -> Result<(), CacheRefusal>
         requires { n ≤ 2 }
         ensures ok { OnOk result (n ≤ self.new.rings) }

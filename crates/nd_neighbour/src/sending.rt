@@ -13,7 +13,7 @@ use crate::news::Times;
 use crate::place::has_place;
 use crate::refusal::CacheRefusal;
 use crate::rings::take_ring;
-use crate::unreachability_detection::{DELAY_FIRST_PROBE_TIME, Probing};
+use crate::unreachability_detection::Probing;
 use nd_addr::{Addr, Mac};
 use nd_table::{find, holds, put};
 use nd_waiting::Packet;
@@ -41,8 +41,13 @@ impl<A: Allocator + Clone> Cache<A> {
     ghost use Rattle.nd_neighbour.specs.Calls.{GainsPacket, refusal_of, sending_of_story};
     ghost use Rattle.nd_neighbour.specs.View.{sending_of};
 
-    /// A packet for a neighbour: it can be sent, or it waits for the address, and the first one begins a resolution
-    /// (RFC 4861, sections 7.2.2 and 7.3.3). A packet that is refused comes back.
+    /// A packet is to be sent to a neighbour (RFC 4861, sections 7.2.2 and 7.3.3): it can be, or it waits until the
+    /// link-layer address is known, and the first one that waits begins a resolution. Of `times` only RetransTimer
+    /// counts, and only where a resolution or probing begins.
+    ///
+    /// `Full` comes where the neighbour is new, all places are taken and no neighbour is STALE; `Memory` where it is
+    /// new, none of the rings that `ready` makes is in hand, and the allocator refuses one. The packet comes back, and
+    /// nothing has changed.
     pub fn used(
         &mut self,
         now: u64,
@@ -95,7 +100,7 @@ impl<A: Allocator + Clone> Cache<A> {
     }
 }
 
-/// A packet for an entry that is there (RFC 4861, sections 7.2.2 and 7.3.3).
+/// A packet is to be sent to a neighbour whose entry is there.
 pub(crate) fn pass<A: Allocator>(
     entries: &mut Vec<Entry<A>, A>,
     now: u64,
@@ -121,13 +126,14 @@ impl<A: Allocator> Entry<A> {
     ghost use Rattle.nd_neighbour.specs.Change.{sending_to, used};
     ghost use Rattle.nd_neighbour.specs.View.{sending_of};
 
-    /// A packet for it is sent, or waits (RFC 4861, sections 7.2.2 and 7.3.3).
+    /// A packet for it is to be sent (RFC 4861, sections 7.2.2 and 7.3.3).
     pub(crate) fn send(&mut self, now: u64, retrans: u32, packet: Packet<A>) -> Use<A>
         requires { now < 2 ^ 62 }
         ensures entry { self.new ≡ used now retrans packet self.old }
         ensures sending { sending_of result ≡ sending_to self.old.kept packet }
     {
         match &mut self.stage {
+            // INCOMPLETE: it waits, and a fourth one takes the place of the oldest (7.2.2).
             Stage::Resolving { waiting, .. } => Use::Queued {
                 solicit: false,
                 replaced: waiting.put(packet),
@@ -138,15 +144,13 @@ impl<A: Allocator> Entry<A> {
                 probing,
                 ..
             } => {
-                // Only a use of a stale entry leads to probing.
+                // STALE: the first packet makes it DELAY. REACHABLE, DELAY and PROBE stay (7.3.3).
                 if probing.is_none() && *since <= now {
-                    self.due = now + DELAY_FIRST_PROBE_TIME;
-                    *probing = Some(Probing {
-                        from: now + DELAY_FIRST_PROBE_TIME,
-                        retrans,
-                        sent: 0,
-                    });
+                    let begun = Probing::after_use(now, retrans);
+                    self.due = begun.from;
+                    *probing = Some(begun);
                 }
+                // Else it is sent to the address that is known.
                 Use::Send(*mac, packet)
             }
         }

@@ -25,15 +25,15 @@ pub struct Neighbour {
 /// What is known of the reachability of a neighbour (RFC 4861, section 7.3.2).
 #[derive(Clone, Copy, Debug, PartialEq, Eq)]
 pub enum Reachability {
-    /// Its link-layer address is being resolved.
+    /// INCOMPLETE: its link-layer address is being resolved.
     Incomplete,
-    /// It was confirmed within the last ReachableTime.
+    /// REACHABLE: it was confirmed within the last ReachableTime.
     Reachable,
-    /// It was not, and nothing was sent to it since.
+    /// STALE: it was not, and nothing was sent to it since.
     Stale,
-    /// A packet was sent to it, and a confirmation may still come.
+    /// DELAY: a packet was sent to it, and a confirmation may still come.
     Delay,
-    /// It is asked whether it is there.
+    /// PROBE: it is asked whether it is there.
     Probe,
 }
 
@@ -51,7 +51,8 @@ impl<A: Allocator + Clone> Cache<A> {
         show(&self.entries, now, addr)
     }
 
-    /// All neighbours at a moment, in the order of their addresses (RFC 4861, sections 5.1 and 7.3.2).
+    /// All neighbours at a moment, in the order of their addresses (RFC 4861, sections 5.1 and 7.3.2). An error comes
+    /// where memory for the list is refused.
     pub fn rows(&self, now: u64) -> Result<Vec<Neighbour, A>, AllocError>
         ensures value { IfOk result (λ shown. map (λ n. seen_in n) shown.items ≡ map (seen now) self.now.nodes) }
         ensures lists { IfOk result (λ shown. (history : List Row) → Stands self.now.nodes history → Lists history now (map (λ n. seen_in n) shown.items)) }
