@@ -3,7 +3,7 @@ use Rattle.std.proofs.Common.{◌≡◌, ℕ, ◌+◌, ◌<◌, ◌≤◌, true,
 use Rattle.std.specs.Prelude.{not, is_some}
 use Rattle.std.proofs.lemmas.Bool.Decides.{nat_tests}
 use Rattle.std.proofs.lemmas.Bool.{cond_both, cond-true, cond-false, true≢false, eq-eqb}
-use Rattle.nd_neighbour.specs.declared.reachability.Reachability.TheVariants.{Reachable, Stale, Delay, Probe}
+use Rattle.nd_neighbour.specs.declared.shown.Reachability.TheVariants.{Reachable, Stale, Delay, Probe}
 use Rattle.nd_neighbour.specs.History.{RowKind, Row, Story, story, is_end, Forgot, PushedOut}
 use Rattle.nd_neighbour.specs.Address.{is_present, mac_of}
 use Rattle.nd_neighbour.specs.Confirming.{Word, Confirms, Disturbs, Use, word_of, use_of}

@@ -6,7 +6,7 @@ use Rattle.nd_table.specs.History.{GainsRowsMakingPlace}
 use Rattle.nd_neighbour.specs.declared.news.News.{News}
 use Rattle.nd_neighbour.specs.declared.news.News.TheVariants as news
 use Rattle.nd_neighbour.specs.declared.refusal.CacheRefusal.{CacheRefusal}
-use Rattle.nd_neighbour.specs.declared.times.Times.{Times}
+use Rattle.nd_neighbour.specs.declared.news.Times.{Times}
 use Rattle.nd_neighbour.specs.History.{Row, Story, story, RowKind, Given, Advertised, Marked, Asked, Waits, Used, Forgot, Cleared}
 use Rattle.nd_neighbour.specs.Address.{is_present, mac_of, is_router}
 use Rattle.nd_neighbour.specs.Resolving.{waiting_of}

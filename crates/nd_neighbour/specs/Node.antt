@@ -1,6 +1,6 @@
 -- What is kept of a neighbour, and what its story says that it is.
 use Rattle.std.specs.Prelude.{ℕ, ◌+◌, ◌*◌, Bool, true, false, if◌then◌else◌, List, Option, Some, None}
-use Rattle.nd_neighbour.specs.declared.probing.Probing.{Probing}
+use Rattle.nd_neighbour.specs.declared.unreachability_detection.Probing.{Probing}
 use Rattle.nd_neighbour.specs.History.{Story}
 use Rattle.nd_neighbour.specs.Address.{is_present, mac_of, is_router}
 use Rattle.nd_neighbour.specs.Confirming.{Word, Confirms, Disturbs, since, Use, word_of, use_of}

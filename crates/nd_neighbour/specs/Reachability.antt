@@ -1,7 +1,7 @@
 -- The reachability state of a neighbour that is present (RFC 4861, section 7.3.2), and its dates.
 use Rattle.std.specs.Prelude.{ℕ, ◌+◌, nat_lt, if◌then◌else◌, Option, Some, None}
-use Rattle.nd_neighbour.specs.declared.reachability.Reachability.{Reachability}
-use Rattle.nd_neighbour.specs.declared.reachability.Reachability.TheVariants.{Incomplete, Reachable, Stale, Delay, Probe}
+use Rattle.nd_neighbour.specs.declared.shown.Reachability.{Reachability}
+use Rattle.nd_neighbour.specs.declared.shown.Reachability.TheVariants.{Incomplete, Reachable, Stale, Delay, Probe}
 use Rattle.nd_neighbour.specs.History.{Story}
 use Rattle.nd_neighbour.specs.Address.{mac_of}
 use Rattle.nd_neighbour.specs.Confirming.{Word, Use, holds, word_of, use_of}

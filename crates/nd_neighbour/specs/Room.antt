@@ -1,7 +1,7 @@
 -- Which neighbour makes place for a new one, and when there is no place (RFC 4861, section 5.3, leaves this open).
 use Rattle.std.specs.Prelude.{◌≡◌, ℕ, ◌<◌, ◌≤◌, ◌⊎◌, nat_lt, Bool, true, false, ◌&&◌, ◌||◌, not, if◌then◌else◌, List, [], ◌∷◌, length, slice_get, slice_index_or, slice_set, Option, Some, None, is_some, MatchBool}
 use Rattle.std.specs.List.{insert, remove}
-use Rattle.nd_neighbour.specs.declared.reachability.Reachability.TheVariants.{Stale}
+use Rattle.nd_neighbour.specs.declared.shown.Reachability.TheVariants.{Stale}
 use Rattle.nd_neighbour.specs.History.{Row, story, Forgot, PushedOut}
 use Rattle.nd_neighbour.specs.Address.{is_present}
 use Rattle.nd_neighbour.specs.Confirming.{word_of}

@@ -1,9 +1,9 @@
 -- What is shown of a neighbour at a moment.
 use Rattle.std.specs.Prelude.{◌≡◌, ℕ, nat_lt, Bool, ◌&&◌, if◌then◌else◌, List, [], Option, Some, None}
 use Rattle.nd_table.specs.Keyed.{at_key, Rises}
-use Rattle.nd_neighbour.specs.declared.reachability.Reachability.{Reachability}
-use Rattle.nd_neighbour.specs.declared.reachability.Reachability.TheVariants.{Incomplete, Reachable, Stale, Delay, Probe}
-use Rattle.nd_neighbour.specs.declared.probing.Probing.{Probing}
+use Rattle.nd_neighbour.specs.declared.shown.Reachability.{Reachability}
+use Rattle.nd_neighbour.specs.declared.shown.Reachability.TheVariants.{Incomplete, Reachable, Stale, Delay, Probe}
+use Rattle.nd_neighbour.specs.declared.unreachability_detection.Probing.{Probing}
 use Rattle.nd_neighbour.specs.History.{Row, Story, story}
 use Rattle.nd_neighbour.specs.Address.{is_present, mac_of, is_router}
 use Rattle.nd_neighbour.specs.Resolving.{waiting_of}

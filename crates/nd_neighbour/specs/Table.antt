@@ -1,5 +1,5 @@
 -- What a table of neighbours is to what happened to them.
-use Rattle.std.specs.Prelude.{◌≡◌, ℕ, List, ◌∷◌, Option}
+use Rattle.std.specs.Prelude.{◌≡◌, ℕ, List, Option}
 use Rattle.nd_table.specs.History as growing
 use Rattle.nd_table.specs.Keyed as keyed
 use Rattle.nd_table.specs.Keyed.{at_key, place_of}

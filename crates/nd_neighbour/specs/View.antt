@@ -1,13 +1,13 @@
 -- What a contract sees of an entry.
 use Rattle.std.specs.Option.{option_map}
 use Rattle.nd_addr.specs.Number.{number_of}
-use Rattle.nd_neighbour.specs.declared.stage.Stage.{Stage}
-use Rattle.nd_neighbour.specs.declared.stage.Stage.TheVariants.{Resolving, Known}
+use Rattle.nd_neighbour.specs.declared.entry.Stage.{Stage}
+use Rattle.nd_neighbour.specs.declared.entry.Stage.TheVariants.{Resolving, Known}
 use Rattle.nd_neighbour.specs.declared.sending.Use.{Use}
 use Rattle.nd_neighbour.specs.declared.sending.Use.TheVariants.{Send, Queued}
 use Rattle.nd_neighbour.specs.declared.due.Due.{Due}
 use Rattle.nd_neighbour.specs.declared.due.Due.TheVariants.{Multicast, Unicast, Failed, Aged}
-use Rattle.nd_neighbour.specs.declared.neighbour.Neighbour.{Neighbour}
+use Rattle.nd_neighbour.specs.declared.shown.Neighbour.{Neighbour}
 use Rattle.nd_neighbour.specs.Seen.{Seen}
 use Rattle.nd_neighbour.specs.Node.{Kept, Resolves, Reaches}
 use Rattle.nd_neighbour.specs.Change.{Sending, Sends, Queues, Falls, Multicasts, Unicasts, Fails, Ages}

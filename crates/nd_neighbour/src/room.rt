@@ -1,10 +1,10 @@
-ghost use Rattle.std.specs.Prelude.{◌≡◌, ◌↔◌, ◌<◌, List, length, slice_get, Some, true, not, ◌==◌};
-ghost use Rattle.std.specs.Option.{option_map};
+ghost use Rattle.std.specs.Prelude.{List, Some, length, not, slice_get, true, ◌<◌, ◌==◌, ◌↔◌, ◌≡◌};
 ghost use Rattle.std.specs.List.{list_any};
+ghost use Rattle.std.specs.Option.{option_map};
 ghost use Rattle.nd_addr.specs.Number.{number_of};
 ghost use Rattle.nd_neighbour.specs.Node.{Node};
 ghost use Rattle.nd_neighbour.specs.Room.{stalest};
-ghost use Rattle.nd_neighbour.specs.Second.{has_room, place_beside, place_without, place_behind, stays_stale, stale_beside};
+ghost use Rattle.nd_neighbour.specs.Second.{has_room, place_behind, place_beside, place_without, stale_beside, stays_stale};
 
 use crate::cache::Cache;
 use crate::entry::Entry;

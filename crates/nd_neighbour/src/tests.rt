@@ -312,7 +312,7 @@ const fn leads_to(
 /// The rows for an entry that is being resolved: every address is the first.
 fn rows_while_incomplete() -> [Row; 12] {
     use Gives::*;
-    use crate::reachability::Reachability::*;
+    use crate::shown::Reachability::*;
     [
         leads_to(false, false, No, None, None, false),
         leads_to(false, true, No, None, None, false),
@@ -332,7 +332,7 @@ fn rows_while_incomplete() -> [Row; 12] {
 /// The rows for an entry with an address. Without O another address only ends REACHABLE.
 fn rows_with_address(without_override: Option<Reachability>) -> [Row; 12] {
     use Gives::*;
-    use crate::reachability::Reachability::*;
+    use crate::shown::Reachability::*;
     [
         leads_to(false, false, No, None, Some(MAC), true),
         leads_to(false, true, No, None, Some(MAC), true),
@@ -466,7 +466,7 @@ fn given_makes(
 fn an_address_that_is_given_makes_of_an_entry_what_the_table_says(
     rt: HostRuntime,
 ) -> Result<(), Fail> {
-    use crate::reachability::Reachability::*;
+    use crate::shown::Reachability::*;
     assert!(rt; given_makes(&rt, Incomplete, MAC, Stale)?);
     for before in [Reachable, Stale, Delay, Probe] {
         assert!(rt; given_makes(&rt, before, MAC, before)?);
