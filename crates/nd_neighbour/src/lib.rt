@@ -26,6 +26,3 @@ pub use news::{Flags, News, Times, Touched};
 pub use refusal::CacheRefusal;
 pub use sending::Use;
 pub use shown::{Neighbour, Reachability};
-
-#[cfg(test)]
-mod tests;

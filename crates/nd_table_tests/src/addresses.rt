@@ -57,6 +57,14 @@ fn option(n: u16, valid_lifetime: u32, preferred_lifetime: u32) -> Option<Prefix
     })
 }
 
+/// 2001:db8:n:0:3656:78ff:fe9a:bcde, which an option for 2001:db8:n::/64 forms.
+fn formed_of(n: u16) -> Addr {
+    let [high, low] = n.to_be_bytes();
+    Addr([
+        0x20, 0x01, 0x0d, 0xb8, high, low, 0, 0, 0x36, 0x56, 0x78, 0xff, 0xfe, 0x9a, 0xbc, 0xde,
+    ])
+}
+
 /// A month and a week, as routers announce by default (RFC 4861, section 6.2.1).
 fn default_option(n: u16) -> Option<PrefixInfo> {
     option(n, 2_592_000, 604_800)
@@ -388,7 +396,13 @@ fn the_65th_address_has_no_room(rt: HostRuntime) -> Result<(), Fail> {
         addresses.heard_prefix(1200, &last, 0, 1000),
         Ok(Taken::Formed)
     );
-    assert_eq!(rt; addresses.rows(1200)?.len(), 64);
+    // The link-local address comes behind those of 2001:db8::/32.
+    let mut n = 0u16;
+    for row in &addresses.rows(1200)? {
+        assert!(rt; row.addr == if n < 63 { formed_of(n) } else { LINK_LOCAL });
+        n = n.saturating_add(1);
+    }
+    assert_eq!(rt; n, 64);
     // There are 64. An option for one that is known is taken still.
     assert!(rt; !addresses.fits(twice.options));
     assert_eq!(rt;
@@ -398,7 +412,13 @@ fn the_65th_address_has_no_room(rt: HostRuntime) -> Result<(), Fail> {
     let next = default_option(63).ok_or("option")?;
     assert!(rt; addresses.would_form(&next));
     assert_eq!(rt; addresses.heard_prefix(1200, &next, 0, 1000), Err(Full));
-    assert_eq!(rt; addresses.rows(1200)?.len(), 64);
+    // The link-local address comes behind those of 2001:db8::/32.
+    let mut n = 0u16;
+    for row in &addresses.rows(1200)? {
+        assert!(rt; row.addr == if n < 63 { formed_of(n) } else { LINK_LOCAL });
+        n = n.saturating_add(1);
+    }
+    assert_eq!(rt; n, 64);
     Ok(())
 }
 

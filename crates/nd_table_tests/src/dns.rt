@@ -226,6 +226,13 @@ fn has_room_for_thirty_two_servers(rt: HostRuntime) -> Result<(), Fail> {
     for n in 1..=32u8 {
         assert!(rt; hear_servers(&mut dns, 1_000, lasting(n, 100), lasting(n, 200)) == TAKEN);
     }
+    let mut n = 0u8;
+    for entry in dns.servers(1_000) {
+        n = n.saturating_add(1);
+        assert!(rt; entry.key == server(n));
+        assert!(rt; entry.end == Some(201_000));
+    }
+    assert_eq!(rt; n, 32);
     // A new server before the old one leaves is one too many, and nothing changes.
     assert!(rt; hear_servers(&mut dns, 2_000, lasting(33, 9), lasting(1, 0)) == SERVERS_FULL);
     assert_eq!(rt; count_servers(&dns, 2_000), 32);
@@ -249,7 +256,13 @@ fn has_room_for_thirty_two_names(rt: HostRuntime) -> Result<(), Fail> {
     for n in b'0'..=b'5' {
         assert!(rt; hear_names(&mut dns, 1_000, lasting(n, 100), lasting(n, 200)) == TAKEN);
     }
-    assert_eq!(rt; count_names(&dns, 1_000), 32);
+    let mut wanted = b"abcdefghijklmnopqrstuvwxyz012345".iter();
+    for entry in dns.search_names(1_000) {
+        let n = wanted.next().ok_or("one name too many")?;
+        assert!(rt; entry.key.as_name().as_bytes() == [2, b'x', *n].as_slice());
+        assert!(rt; entry.end == Some(201_000));
+    }
+    assert!(rt; wanted.next().is_none());
     // A new name before the old one leaves is one too many, and nothing changes.
     assert!(rt; hear_names(&mut dns, 2_000, lasting(b'6', 9), lasting(b'A', 0)) == NAMES_FULL);
     assert_eq!(rt; count_names(&dns, 2_000), 32);

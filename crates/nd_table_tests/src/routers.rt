@@ -191,6 +191,32 @@ fn clears_in_the_order_of_the_list(rt: HostRuntime) -> Result<(), Fail> {
     Ok(())
 }
 
+#[test]
+fn sixteen_routers_are_shown_and_cleared_in_order(rt: HostRuntime) -> Result<(), Fail> {
+    let mut routers = Routers::new(rt.alloc())?;
+    // They come in another order than that of their addresses.
+    for n in (0..16u8).rev() {
+        assert!(rt; hear(&mut routers, 1_000, addr(n), 1_800) == Some(Ok(Change::Entered)));
+    }
+    let mut n = 16u8;
+    for entry in routers.rows(1_000) {
+        n = n.saturating_sub(1);
+        assert!(rt; entry.key.addr() == addr(n));
+        assert!(rt; entry.end == Some(1_801_000));
+    }
+    assert_eq!(rt; n, 0);
+    let cleared = routers.clear()?;
+    assert_eq!(rt; cleared.len(), 16);
+    let mut n = 16u8;
+    for source in &cleared {
+        n = n.saturating_sub(1);
+        assert!(rt; *source == addr(n));
+    }
+    assert_eq!(rt; routers.len(), 0);
+    assert!(rt; routers.at(0).is_none());
+    Ok(())
+}
+
 /// A prefix option of an advertisement: the last byte of 2001:db8:0:n::/64, its flags, and its valid lifetime in seconds.
 #[derive(Clone, Copy)]
 struct Told {
@@ -359,6 +385,13 @@ fn has_room_for_sixty_four(rt: HostRuntime) -> Result<(), Fail> {
     for n in 0..64u8 {
         assert!(rt; hear_both(&mut prefixes, 1_000, lasting(n, 100), lasting(n, 200)) == TAKEN);
     }
+    let mut n = 0u8;
+    for entry in prefixes.rows(1_000) {
+        assert!(rt; Some(entry.key) == prefix(n));
+        assert!(rt; entry.end == Some(201_000));
+        n = n.saturating_add(1);
+    }
+    assert_eq!(rt; n, 64);
     // A new prefix before the old one leaves is one too many, and nothing changes.
     assert!(rt; hear_both(&mut prefixes, 2_000, lasting(64, 100), lasting(0, 0)) == FULL);
     assert!(rt; count_at(&prefixes, 2_000) == 64);

@@ -1,7 +1,7 @@
 ghost use Rattle.std.specs.Prelude.{◌<◌, ◌^◌};
 
-use super::*;
 use nd_addr::{Addr, Mac};
+use nd_neighbour::*;
 use std::alloc::Global;
 use std::process::Abort;
 use std::test::*;
@@ -312,7 +312,7 @@ const fn leads_to(
 /// The rows for an entry that is being resolved: every address is the first.
 fn rows_while_incomplete() -> [Row; 12] {
     use Gives::*;
-    use crate::shown::Reachability::*;
+    use nd_neighbour::Reachability::*;
     [
         leads_to(false, false, No, None, None, false),
         leads_to(false, true, No, None, None, false),
@@ -332,7 +332,7 @@ fn rows_while_incomplete() -> [Row; 12] {
 /// The rows for an entry with an address. Without O another address only ends REACHABLE.
 fn rows_with_address(without_override: Option<Reachability>) -> [Row; 12] {
     use Gives::*;
-    use crate::shown::Reachability::*;
+    use nd_neighbour::Reachability::*;
     [
         leads_to(false, false, No, None, Some(MAC), true),
         leads_to(false, true, No, None, Some(MAC), true),
@@ -466,7 +466,7 @@ fn given_makes(
 fn an_address_that_is_given_makes_of_an_entry_what_the_table_says(
     rt: HostRuntime,
 ) -> Result<(), Fail> {
-    use crate::shown::Reachability::*;
+    use nd_neighbour::Reachability::*;
     assert!(rt; given_makes(&rt, Incomplete, MAC, Stale)?);
     for before in [Reachable, Stale, Delay, Probe] {
         assert!(rt; given_makes(&rt, before, MAC, before)?);
@@ -533,5 +533,39 @@ fn five_hundred_and_eleven_in_use_leave_room_for_one(rt: HostRuntime) -> Result<
     assert!(rt; cache.room(1512, addr(600), Some(addr(3))));
     assert!(rt; cache.room(1512, addr(3), Some(addr(600))));
     assert_eq!(rt; cache.rows(1512)?.len(), 511);
+    Ok(())
+}
+
+/// A packet of two bytes, which are this number.
+fn numbered(rt: &HostRuntime, n: u16) -> Result<Packet<Global>, Fail> {
+    let mut bytes = Vec::new(rt.alloc());
+    bytes.extend_from_slice(&n.to_be_bytes())?;
+    Ok(Packet(bytes))
+}
+
+#[test]
+fn five_hundred_and_twelve_neighbours_are_shown_and_cleared(rt: HostRuntime) -> Result<(), Fail> {
+    let mut cache = Cache::new(rt.alloc(), 512)?;
+    // The highest address first, so that each is put before all others.
+    for n in (0..512u16).rev() {
+        let sent = cache.used(0, addr(n), numbered(&rt, n)?, TIMES);
+        assert!(rt; is_queued(sent) == Some(true));
+    }
+    assert_eq!(rt; cache.waiting(), 512);
+    let mut n = 0u16;
+    for row in &cache.rows(0)? {
+        assert!(rt; row.addr == addr(n));
+        assert!(rt; row.state == Reachability::Incomplete);
+        n = n.saturating_add(1);
+    }
+    assert_eq!(rt; n, 512);
+    let mut n = 0u16;
+    for packet in &cache.clear()? {
+        assert!(rt; packet.0.as_slice() == n.to_be_bytes().as_slice());
+        n = n.saturating_add(1);
+    }
+    assert_eq!(rt; n, 512);
+    assert_eq!(rt; cache.waiting(), 0);
+    assert!(rt; cache.rows(0)?.is_empty());
     Ok(())
 }
