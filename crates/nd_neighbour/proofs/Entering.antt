@@ -5,13 +5,14 @@ use Rattle.std.proofs.lemmas.Bool.Decides.{nat_tests}
 use Rattle.std.proofs.lemmas.Bool.{cond_both, cond-true, cond-false, true≢false, eq-eqb}
 use Rattle.nd_neighbour.specs.declared.shown.Reachability.TheVariants.{Reachable, Stale, Delay, Probe}
 use Rattle.nd_neighbour.specs.History.{RowKind, Row, Story, story, is_end, Forgot, PushedOut}
-use Rattle.nd_neighbour.specs.Address.{is_present, mac_of}
-use Rattle.nd_neighbour.specs.Confirming.{Word, Confirms, Disturbs, Use, word_of, use_of}
-use Rattle.nd_neighbour.specs.Resolving.{Resolution, resolution_of, waiting_of}
-use Rattle.nd_neighbour.specs.Reachability.{state_by}
-use Rattle.nd_neighbour.specs.Node.{Node, kept_by, the_node, node_of, since_in}
-use Rattle.nd_neighbour.specs.Table.{address, node_in, Rises, Stands, GainsRow}
-use Rattle.nd_neighbour.specs.Room.{IsStale, stale_since, IsLongestStale, MakesPlace, HadPlace, Pushed, is_stale, since_kept, longer, if_stale, stalest, Places, Enough, Went, Alters, NotThere, There}
+use Rattle.nd_neighbour.specs.Entry.{Node}
+use Rattle.nd_neighbour.specs.ReachabilityConfirmation.{Word, Confirms, Disturbs, since_in}
+use Rattle.nd_neighbour.specs.AddressResolution.{Resolution, resolution_of, waiting_of}
+use Rattle.nd_neighbour.specs.UnreachabilityDetection.{Use}
+use Rattle.nd_neighbour.specs.Story.{is_present, mac_of, word_of, use_of, kept_by, the_node, node_of}
+use Rattle.nd_neighbour.specs.Table.{address, node_in, Rises, Stands, GainsRow, Alters, NotThere, There}
+use Rattle.nd_neighbour.specs.Shown.{state_by}
+use Rattle.nd_neighbour.specs.Place.{IsStale, stale_since, IsLongestStale, MakesPlace, HadPlace, Pushed, is_stale, since_kept, longer, if_stale, stalest, Places, Enough, Went}
 use Rattle.nd_table.proofs.Cases.{either}
 use Rattle.nd_table.proofs.Keyed.{key_is, above_in, at_place, at_key-remove}
 use Rattle.nd_neighbour.proofs.Steps.{changing, passing, leaving, node_present, node_absent}

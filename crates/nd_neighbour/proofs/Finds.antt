@@ -2,13 +2,13 @@
 use Rattle.std.proofs.Common.{◌≡◌, ℕ, ◌<◌, Bool, true, false, cond, List, [], refl, length, get_or, set, Option, Some, None, sym, ◌∙◌, ap, subst, arith, suc, zero}
 use Rattle.std.specs.Prelude.{slice_get, is_some, ◌&&◌, not}
 use Rattle.std.proofs.lemmas.Option.{slice_get-get_or}
-use Rattle.nd_neighbour.specs.Node.{Node, Kept, Resolves, Reaches}
-use Rattle.nd_neighbour.specs.Change.{released, known_mac, waiting_in}
-use Rattle.nd_neighbour.specs.Table.{node_in, place_in}
+use Rattle.nd_neighbour.specs.Entry.{Node, Kept, Resolves, Reaches, released, known_mac, waiting_in}
+use Rattle.nd_neighbour.specs.Table.{node_in, place_in, Alters, There}
+use Rattle.nd_neighbour.specs.Place.{Gives, Was, Came, NoPlace, Places}
+use Rattle.nd_neighbour.specs.News.{told_released, told_turned}
+use Rattle.nd_neighbour.specs.Removal.{Removes, Gone, waiting_at}
 use Rattle.std.specs.List.{insert, remove}
 use Rattle.std.proofs.lemmas.Bool.{true≢false}
-use Rattle.nd_neighbour.specs.Room.{Alters, There, Gives, Was, Came, NoPlace, Places, Removes, Gone}
-use Rattle.nd_neighbour.specs.Calls.{told_released, told_turned, waiting_at}
 
 pub found_is : (key : ℕ) (ns : List Node) (i : ℕ) (n : Node) → i < length ns → n ≡ get_or ns i n → node_in key ns ≡ slice_get ns i → node_in key ns ≡ Some n
 found_is key ns i n lt is found = found ∙ (slice_get-get_or ns i n lt ∙ ap Some (sym is))

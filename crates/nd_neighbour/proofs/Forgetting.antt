@@ -5,16 +5,15 @@ use Rattle.std.specs.Option.{option_map}
 use Rattle.std.proofs.lemmas.Bool.{cond-true, cond-false, eqb-true}
 use Rattle.nd_neighbour.specs.declared.shown.Reachability.{Reachability}
 use Rattle.nd_neighbour.specs.History.{Row, Story, story, Forgot, Cause, Cleared}
-use Rattle.nd_neighbour.specs.Address.{is_present, mac_of}
-use Rattle.nd_neighbour.specs.Confirming.{Word, Confirms, Disturbs, Use, word_of, use_of}
-use Rattle.nd_neighbour.specs.Resolving.{Resolution, resolution_of, waiting_of}
-use Rattle.nd_neighbour.specs.Reachability.{state_by}
-use Rattle.nd_neighbour.specs.Node.{Node, kept_by, the_node, node_of}
+use Rattle.nd_neighbour.specs.Entry.{Node}
+use Rattle.nd_neighbour.specs.ReachabilityConfirmation.{Word, Confirms, Disturbs}
+use Rattle.nd_neighbour.specs.AddressResolution.{Resolution, resolution_of, waiting_of}
+use Rattle.nd_neighbour.specs.UnreachabilityDetection.{Use}
+use Rattle.nd_neighbour.specs.Story.{is_present, mac_of, word_of, use_of, kept_by, the_node, node_of, waits_of}
 use Rattle.nd_neighbour.specs.Table.{address, node_in, Stands, GainsRow}
+use Rattle.nd_neighbour.specs.Shown.{state_by, Seen, seen, seen_of, state_in, seen_key, Lists}
+use Rattle.nd_neighbour.specs.Removal.{Removes, WasNot, Gone, waiting_at, cleared}
 use Rattle.nd_table.proofs.Mapped.{at_key-map, Rises-map}
-use Rattle.nd_neighbour.specs.Room.{Removes, WasNot, Gone}
-use Rattle.nd_neighbour.specs.Seen.{Seen, seen, seen_of, state_in, waits_of, seen_key, Lists}
-use Rattle.nd_neighbour.specs.Calls.{waiting_at, cleared}
 use Rattle.nd_table.proofs.Cases.{either}
 use Rattle.nd_table.proofs.Keyed.{key_is}
 use Rattle.nd_neighbour.proofs.Steps.{leaving, each_other, ended_story, node_present, node_absent}

@@ -4,15 +4,16 @@ use Rattle.std.specs.Prelude.{◌&&◌, not, is_some}
 use Rattle.std.proofs.lemmas.Bool.{cond-true, cond-false}
 use Rattle.nd_neighbour.specs.declared.news.Flags.{Flags}
 use Rattle.nd_neighbour.specs.History.{RowKind, Given, Advertised, Marked, Confirmed, Row, Story, story}
-use Rattle.nd_neighbour.specs.Address.{is_present, mac_of, is_router}
-use Rattle.nd_neighbour.specs.Confirming.{Word, Use, word_of, use_of}
-use Rattle.nd_neighbour.specs.Resolving.{Resolution, resolution_of, waiting_of}
-use Rattle.nd_neighbour.specs.Node.{Node, Kept, Resolves, Reaches, kept_by, the_node, node_of}
-use Rattle.nd_neighbour.specs.Change.{given, given_to, advertised, advertised_to, conforming, confirmed, confirmed_to, with_mark, stale_node, mark_or, known_mac, waiting_in}
-use Rattle.nd_neighbour.specs.Table.{address, node_in, Stands, GainsRow}
-use Rattle.nd_neighbour.specs.Room.{Prepares, MakesPlace, Alters, NotThere, There, Gives, Was, Came}
-use Rattle.nd_neighbour.specs.Seen.{waits_by, waits_of}
-use Rattle.nd_neighbour.specs.Calls.{released_by, ends_router, Tells, told_released, told_turned}
+use Rattle.nd_neighbour.specs.Entry.{Node, Kept, Resolves, Reaches, with_mark, stale_node, known_mac, waiting_in}
+use Rattle.nd_neighbour.specs.LinkLayerAddress.{given, given_to, mark_or}
+use Rattle.nd_neighbour.specs.ReachabilityConfirmation.{Word, confirmed, confirmed_to}
+use Rattle.nd_neighbour.specs.NeighborAdvertisement.{advertised, advertised_to, conforming}
+use Rattle.nd_neighbour.specs.AddressResolution.{Resolution, resolution_of, waiting_of}
+use Rattle.nd_neighbour.specs.UnreachabilityDetection.{Use}
+use Rattle.nd_neighbour.specs.Story.{is_present, mac_of, is_router, word_of, use_of, kept_by, the_node, node_of, waits_by, waits_of}
+use Rattle.nd_neighbour.specs.Table.{address, node_in, Stands, GainsRow, Alters, NotThere, There}
+use Rattle.nd_neighbour.specs.Place.{Prepares, MakesPlace, Gives, Was, Came}
+use Rattle.nd_neighbour.specs.News.{released_by, ends_router, Tells, told_released, told_turned}
 use Rattle.nd_neighbour.proofs.Stories.{absent_router}
 use Rattle.nd_neighbour.proofs.Changes.{when_given, when_advertised, when_marked, when_confirmed, first_given}
 use Rattle.nd_neighbour.proofs.Steps.{changing, entering, node_present, node_absent}

@@ -3,14 +3,14 @@ use Rattle.std.proofs.Common.{◌≡◌, ℕ, ◌+◌, ◌*◌, Bool, true, fals
 use Rattle.std.specs.Prelude.{is_some, nat_le}
 use Rattle.std.proofs.lemmas.Bool.{cond-true, cond-false}
 use Rattle.nd_neighbour.specs.History.{Row, Story, story, Asked, Waits, Used}
-use Rattle.nd_neighbour.specs.Address.{is_present, mac_of}
-use Rattle.nd_neighbour.specs.Confirming.{Word, Use, word_of, use_of}
-use Rattle.nd_neighbour.specs.Resolving.{Resolution, resolution_of, waiting_of}
-use Rattle.nd_neighbour.specs.Node.{Node, Kept, Resolves, Reaches, kept_by, node_of}
-use Rattle.nd_neighbour.specs.Change.{used, used_to, asked_node, known_mac, sending_to}
-use Rattle.nd_neighbour.specs.Table.{address, node_in, Stands}
-use Rattle.nd_neighbour.specs.Room.{Alters, NotThere, There, Gives, Was, Came}
-use Rattle.nd_neighbour.specs.Calls.{GainsPacket, then_packet, sending_by, sending_of_story, sending_in}
+use Rattle.nd_neighbour.specs.Entry.{Node, Kept, Resolves, Reaches, known_mac}
+use Rattle.nd_neighbour.specs.ReachabilityConfirmation.{Word}
+use Rattle.nd_neighbour.specs.AddressResolution.{Resolution, resolution_of, waiting_of, asked_node}
+use Rattle.nd_neighbour.specs.UnreachabilityDetection.{Use}
+use Rattle.nd_neighbour.specs.Story.{is_present, mac_of, word_of, use_of, kept_by, node_of}
+use Rattle.nd_neighbour.specs.Table.{address, node_in, Stands, Alters, NotThere, There}
+use Rattle.nd_neighbour.specs.Place.{Gives, Was, Came}
+use Rattle.nd_neighbour.specs.Sending.{used, used_to, sending_to, GainsPacket, then_packet, sending_by, sending_of_story, sending_in}
 use Rattle.nd_table.proofs.Cases.{either}
 use Rattle.nd_neighbour.proofs.Stories.{absent_mac, absent_router}
 use Rattle.nd_neighbour.proofs.Changes.{when_used, when_waits, first_asked}

@@ -5,8 +5,8 @@ use Rattle.std.specs.List.{remove}
 use Rattle.std.proofs.lemmas.Bool.Decides.{nat_tests}
 use Rattle.std.proofs.lemmas.Bool.{cond_both}
 use Rattle.std.proofs.lemmas.Option.{slice_get-get_or}
-use Rattle.nd_neighbour.specs.Node.{Node}
-use Rattle.nd_neighbour.specs.Room.{since_kept, longer, stalest, picked, picked_stale, Places, Went}
+use Rattle.nd_neighbour.specs.Entry.{Node}
+use Rattle.nd_neighbour.specs.Place.{since_kept, longer, stalest, picked, picked_stale, Places, Went}
 use Rattle.nd_table.proofs.Cases.{either}
 
 longer_assoc : (a b c : Option Node) → longer (longer a b) c ≡ longer a (longer b c)

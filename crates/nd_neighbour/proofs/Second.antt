@@ -11,13 +11,13 @@ use Rattle.nd_table.proofs.Cases.{either}
 use Rattle.nd_table.proofs.Any.{or_left, or_right, or_either, any_set, any_remove, any_insert, any_inserted, any_was_set, any_was_removed, still_set, still_removed, held_at}
 use Rattle.nd_table.proofs.Keyed.{key_is, place_found, place_of-le, put_in, at_key-put, at_key-set, at_key-remove}
 use Rattle.nd_neighbour.specs.History.{Row, story, Forgot, PushedOut}
-use Rattle.nd_neighbour.specs.Address.{is_present, mac_of}
-use Rattle.nd_neighbour.specs.Node.{Node, Kept, Resolves, Reaches}
-use Rattle.nd_neighbour.specs.Change.{used, used_to, asked_node}
-use Rattle.nd_neighbour.specs.Table.{address, node_in, Rises, Stands}
-use Rattle.nd_neighbour.specs.Room.{Prepares, MakesPlace, HadPlace, Pushed, WouldBeFull, NoPlace, is_stale, since_kept, longer, if_stale, stalest, has_place, Enough, Went, NotThere, There, Gives, Was, Came}
-use Rattle.nd_neighbour.specs.Calls.{then_packet}
-use Rattle.nd_neighbour.specs.Second.{HasRoom, stays_stale, stale_beside, place_beside, place_without, place_behind, has_second, has_first, has_room, LeavesRoom}
+use Rattle.nd_neighbour.specs.Entry.{Node, Kept, Resolves, Reaches}
+use Rattle.nd_neighbour.specs.AddressResolution.{asked_node}
+use Rattle.nd_neighbour.specs.Story.{is_present, mac_of}
+use Rattle.nd_neighbour.specs.Table.{address, node_in, Rises, Stands, NotThere, There}
+use Rattle.nd_neighbour.specs.Place.{Prepares, MakesPlace, HadPlace, Pushed, WouldBeFull, NoPlace, is_stale, since_kept, longer, if_stale, stalest, has_place, Enough, Went, Gives, Was, Came}
+use Rattle.nd_neighbour.specs.Sending.{used, used_to, then_packet}
+use Rattle.nd_neighbour.specs.Room.{HasRoom, stays_stale, stale_beside, place_beside, place_without, place_behind, has_second, has_first, has_room, LeavesRoom}
 use Rattle.nd_neighbour.proofs.Entering.{stalest_in}
 use Rattle.nd_neighbour.proofs.Finds.{none_is, some_is}
 use Rattle.nd_neighbour.proofs.PacketCalls.{takes_packet, used_key}

@@ -1,13 +1,19 @@
--- What falls due, asked of what happened (RFC 4861, sections 7.2.2, 7.3.3 and 10).
-use Rattle.std.specs.Prelude.{◌≡◌, ℕ, ◌+◌, ◌-◌, ◌≤◌, nat_lt, true, if◌then◌else◌, List, [], ◌∷◌, length, slice_index_or, slice_set, ◌<◌, Option, Some, None}
+-- What falls due, and when (RFC 4861, sections 7.2.2, 7.3.3 and 10): asked of what happened, and of what is kept.
+use Rattle.std.specs.Prelude.{ℕ, List, nat_lt, if◌then◌else◌, [], Some, None, Bool, true, false, ◌+◌, ◌≡◌, Option, ◌≤◌, ◌-◌, ◌∷◌, length, slice_index_or, slice_set, ◌<◌}
 use Rattle.std.specs.List.{remove}
 use Rattle.nd_table.specs.Due.{least_date, first_at, NotBefore}
-use Rattle.nd_neighbour.specs.History.{Row, Story, story, Solicited, Probed, Forgot, Failed, Aged}
-use Rattle.nd_neighbour.specs.Address.{is_present, mac_of}
-use Rattle.nd_neighbour.specs.Confirming.{Use, use_of}
-use Rattle.nd_neighbour.specs.Resolving.{Resolution, resolution_of, waiting_of}
-use Rattle.nd_neighbour.specs.Node.{Node, Kept, Resolves, Reaches, due_of, more_in}
-use Rattle.nd_neighbour.specs.Change.{Falls, Multicasts, Unicasts, Fails, Ages, falls, stays, solicited}
+use Rattle.nd_neighbour.specs.History.{Row, story, Story, Solicited, Probed, Forgot, Failed, Aged}
+use Rattle.nd_neighbour.specs.Entry.{Kept, Resolves, Reaches, Node}
+use Rattle.nd_neighbour.specs.AddressResolution.{Resolution, more_in, resolution_of, waiting_of}
+use Rattle.nd_neighbour.specs.UnreachabilityDetection.{Use}
+use Rattle.nd_neighbour.specs.Story.{is_present, due_of, mac_of, use_of}
+
+-- what falls due for a neighbour
+pub data Falls : Type 0 where
+  Multicasts : (key : ℕ) → Falls
+  Unicasts : (key mac : ℕ) → Falls
+  Fails : (key : ℕ) (packets : List (List ℕ)) → Falls
+  Ages : (key : ℕ) → Falls
 
 -- something falls due for the neighbour at the moment, and no row has come for it yet
 abbrev pub IsDue : List Row → ℕ → ℕ → Type 0
@@ -47,6 +53,41 @@ due_row now (Unicasts key mac) = (now, key, Probed)
 due_row now (Fails key packets) = (now, key, Forgot Failed)
 due_row now (Ages key) = (now, key, Forgot Aged)
 
+-- the same of what is kept
+abbrev pub falls_to : ℕ → Kept → Falls
+falls_to key (Resolves retrans sent waiting) = if nat_lt sent 2 then Multicasts key else Fails key waiting
+falls_to key (Reaches mac confirmed since None) = Ages key
+falls_to key (Reaches mac confirmed since (Some probing)) = if nat_lt probing.sent 3 then Unicasts key mac else Fails key []
+
+-- what falls due for the neighbour at its moment
+abbrev pub falls : Node → Falls
+falls n = falls_to n.key n.kept
+
+-- it is a solicitation, and the entry stays
+abbrev pub stays : Falls → Bool
+stays (Multicasts key) = true
+stays (Unicasts key mac) = true
+stays (Fails key packets) = false
+stays (Ages key) = false
+
+-- a solicitation that was due is sent: one more was, and the next falls due a RetransTimer later
+abbrev pub solicited_to : Kept → ℕ → Node → Node
+solicited_to (Resolves retrans sent waiting) at n =
+    record { key = n.key; router = n.router; due = at + retrans; kept = Resolves retrans (sent + 1) waiting }
+solicited_to (Reaches mac confirmed since None) at n = n
+solicited_to (Reaches mac confirmed since (Some probing)) at n =
+    record {
+      key = n.key;
+      router = n.router;
+      due = at + probing.retrans;
+      kept = Reaches mac confirmed since (Some (record { from = probing.from; retrans = probing.retrans; sent = probing.sent + 1 }));
+    }
+
+-- the same of a neighbour
+abbrev pub solicited : ℕ → Node → Node
+solicited at n = solicited_to n.kept at n
+
+-- the moment at which something falls due for it
 abbrev pub date_of : Node → Option ℕ
 date_of n = Some n.due
 

@@ -49,7 +49,7 @@ pub(crate) enum Stage<A: Allocator> {
 
 impl<A: Allocator> Model for Entry<A> {
     ghost use Rattle.nd_addr.specs.Number.{number_of};
-    ghost use Rattle.nd_neighbour.specs.Node.{Node};
+    ghost use Rattle.nd_neighbour.specs.Entry.{Node};
     ghost use Rattle.nd_neighbour.specs.View.{kept_of};
 
     ghost Value = { Node };
@@ -78,8 +78,7 @@ impl<A: Allocator> Dated<()> for Entry<A> {
 }
 
 impl<A: Allocator> Entry<A> {
-    ghost use Rattle.nd_neighbour.specs.Node.{Reaches};
-    ghost use Rattle.nd_neighbour.specs.Change.{is_reachable, known_mac, waiting_in};
+    ghost use Rattle.nd_neighbour.specs.Entry.{Reaches, is_reachable, known_mac, waiting_in};
 
     /// The link-layer address, if it is known.
     pub(crate) fn mac(&self) -> Option<Mac>

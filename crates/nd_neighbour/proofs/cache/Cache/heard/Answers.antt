@@ -2,11 +2,12 @@ use Rattle.std.proofs.Common.{◌≡◌, refl, subst, false}
 use Rattle.std.specs.Prelude.{OnOk, IfOk}
 use Rattle.std.specs.Option.{option_map}
 use Rattle.nd_addr.specs.Number.{number_of}
-use Rattle.nd_neighbour.specs.Node.{Node}
-use Rattle.nd_neighbour.specs.Change.{given, advertised, with_mark, stale_node, mark_or}
-use Rattle.nd_neighbour.specs.Table.{Table, node_in}
-use Rattle.nd_neighbour.specs.Room.{Alters, Gives}
-use Rattle.nd_neighbour.specs.Calls.{told_released, told_turned}
+use Rattle.nd_neighbour.specs.Entry.{Node, with_mark, stale_node}
+use Rattle.nd_neighbour.specs.LinkLayerAddress.{given, mark_or}
+use Rattle.nd_neighbour.specs.NeighborAdvertisement.{advertised}
+use Rattle.nd_neighbour.specs.Table.{Table, node_in, Alters}
+use Rattle.nd_neighbour.specs.Place.{Gives}
+use Rattle.nd_neighbour.specs.News.{told_released, told_turned}
 use Rattle.nd_neighbour.proofs.Results.{on_ok, if_ok_both}
 use Rattle.nd_neighbour.proofs.NewsCalls.{given_key, given_hears, advertised_gains, marked_gains, given_tells, advertised_tells, marked_tells}
 use Rattle.nd_neighbour.proofs.Second.{gives_there}

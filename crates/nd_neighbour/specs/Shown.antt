@@ -1,15 +1,28 @@
--- What is shown of a neighbour at a moment.
-use Rattle.std.specs.Prelude.{◌≡◌, ℕ, nat_lt, Bool, ◌&&◌, if◌then◌else◌, List, [], Option, Some, None}
+-- What is shown of a neighbour at a moment, and its reachability state (RFC 4861, sections 5.1 and 7.3.2).
+use Rattle.std.specs.Prelude.{ℕ, ◌+◌, nat_lt, if◌then◌else◌, Option, Some, None, Bool, ◌&&◌, ◌≡◌, List}
 use Rattle.nd_table.specs.Keyed.{at_key, Rises}
 use Rattle.nd_neighbour.specs.declared.shown.Reachability.{Reachability}
-use Rattle.nd_neighbour.specs.declared.shown.Reachability.TheVariants.{Incomplete, Reachable, Stale, Delay, Probe}
+use Rattle.nd_neighbour.specs.declared.shown.Reachability.TheVariants.{Stale, Delay, Probe, Incomplete, Reachable}
 use Rattle.nd_neighbour.specs.declared.unreachability_detection.Probing.{Probing}
-use Rattle.nd_neighbour.specs.History.{Row, Story, story}
-use Rattle.nd_neighbour.specs.Address.{is_present, mac_of, is_router}
-use Rattle.nd_neighbour.specs.Resolving.{waiting_of}
-use Rattle.nd_neighbour.specs.Reachability.{state_of}
-use Rattle.nd_neighbour.specs.Node.{Node, Kept, Resolves, Reaches}
-use Rattle.nd_neighbour.specs.Change.{known_mac}
+use Rattle.nd_neighbour.specs.History.{Story, Row, story}
+use Rattle.nd_neighbour.specs.Entry.{Kept, Resolves, Reaches, Node, known_mac}
+use Rattle.nd_neighbour.specs.ReachabilityConfirmation.{Word, holds}
+use Rattle.nd_neighbour.specs.UnreachabilityDetection.{Use}
+use Rattle.nd_neighbour.specs.Story.{mac_of, word_of, use_of, is_present, is_router}
+
+-- without a use STALE; after the first use DELAY for DELAY_FIRST_PROBE_TIME, and PROBE from then on
+abbrev pub used_state : Option Use → ℕ → Reachability
+used_state None t = Stale
+used_state (Some use') t = if nat_lt t (use'.at + 5000) then Delay else Probe
+
+-- without an address INCOMPLETE, while a confirmation holds REACHABLE
+abbrev pub state_by : Option ℕ → Option Word → Option Use → ℕ → Reachability
+state_by None word use' t = Incomplete
+state_by (Some mac) word use' t = if holds (Some mac) word t then Reachable else used_state use' t
+
+-- the state at a moment
+abbrev pub state_of : Story → ℕ → Reachability
+state_of s t = state_by (mac_of s) (word_of s) (use_of s) t
 
 -- a neighbour: its address, its link-layer address, its mark and its state
 pub record Seen : Type 0 where
@@ -23,26 +36,21 @@ abbrev pub seen_of : ℕ → Story → ℕ → Option Seen
 seen_of key s t =
     if is_present s then Some (record { key = key; mac = mac_of s; router = is_router s; state = state_of s t }) else None
 
--- what waits for a neighbour whose address isn't known
-abbrev pub waits_by : Option ℕ → List (List ℕ) → List (List ℕ)
-waits_by None waiting = waiting
-waits_by (Some mac) waiting = []
-
-abbrev pub waits_of : Story → List (List ℕ)
-waits_of s = if is_present s then waits_by (mac_of s) (waiting_of s) else []
-
--- the same of what is kept
+-- the same of what is kept: without a use STALE; DELAY before the first probe, and PROBE from then on
 abbrev pub probing_state : Option Probing → ℕ → Reachability
 probing_state None t = Stale
 probing_state (Some probing) t = if nat_lt t probing.from then Delay else Probe
 
+-- the state by what is kept
 abbrev pub state_in : Kept → ℕ → Reachability
 state_in (Resolves retrans sent waiting) t = Incomplete
 state_in (Reaches mac confirmed since probing) t = if confirmed && nat_lt t since then Reachable else probing_state probing t
 
+-- a neighbour at the moment
 abbrev pub seen : ℕ → Node → Seen
 seen t n = record { key = n.key; mac = known_mac n.kept; router = n.router; state = state_in n.kept t }
 
+-- its address
 abbrev pub seen_key : Seen → ℕ
 seen_key x = x.key
 

@@ -1,0 +1,49 @@
+-- What is kept of a neighbour, beside its story.
+use Rattle.std.specs.Prelude.{ℕ, Bool, List, Option, Some, None, [], if◌then◌else◌, is_some, nat_lt, false, ◌&&◌, ◌+◌, true}
+use Rattle.nd_neighbour.specs.declared.unreachability_detection.Probing.{Probing}
+
+-- what is kept of a neighbour, beside its address and its mark
+pub data Kept : Type 0 where
+  -- no address is known: the time between two solicitations, how many were sent after the first, what waits
+  Resolves : (retrans sent : ℕ) (waiting : List (List ℕ)) → Kept
+  -- an address is known: whether the last word is a confirmation, until or from when, and the use afterwards
+  Reaches : (mac : ℕ) (confirmed : Bool) (since : ℕ) (probing : Option Probing) → Kept
+
+-- a neighbour: its address, its mark, the moment at which something falls due, and the rest
+pub record Node : Type 0 where
+  pub key : ℕ
+  pub router : Bool
+  pub due : ℕ
+  pub kept : Kept
+
+-- the link-layer address, if it is known
+abbrev pub known_mac : Kept → Option ℕ
+known_mac (Resolves retrans sent waiting) = None
+known_mac (Reaches mac confirmed since probing) = Some mac
+
+-- what waits
+abbrev pub waiting_in : Kept → List (List ℕ)
+waiting_in (Resolves retrans sent waiting) = waiting
+waiting_in (Reaches mac confirmed since probing) = []
+
+-- what is released: where an address is known after the change, all that waited
+abbrev pub released : Node → Node → List (List ℕ)
+released old new = if is_some (known_mac new.kept) then waiting_in old.kept else []
+
+-- the neighbour is reachable at the moment
+abbrev pub is_reachable : Kept → ℕ → Bool
+is_reachable (Resolves retrans sent waiting) t = false
+is_reachable (Reaches mac confirmed since probing) t = confirmed && nat_lt t since
+
+-- a message says whether it is a router
+abbrev pub with_mark : Bool → Node → Node
+with_mark router n = record { key = n.key; router = router; due = n.due; kept = n.kept }
+
+-- the address is known from now on, and nothing says that the neighbour is reachable
+abbrev pub stale_node : ℕ → Bool → ℕ → ℕ → Node
+stale_node key router at mac = record { key = key; router = router; due = at + 86400000; kept = Reaches mac false at None }
+
+-- the neighbour is reachable until the ReachableTime is over
+abbrev pub reachable_node : ℕ → Bool → ℕ → ℕ → ℕ → Node
+reachable_node key router at mac reachable =
+    record { key = key; router = router; due = at + reachable + 86400000; kept = Reaches mac true (at + reachable) None }
