@@ -1,8 +1,16 @@
 -- The resolution of a neighbour whose link-layer address isn't known (RFC 4861, section 7.2.2).
-use Rattle.std.specs.Prelude.{ℕ, ◌+◌, Option, Some, None, [], ◌∷◌, List, ◌++◌, ◌*◌, false}
+use Rattle.std.specs.Prelude.{ℕ, ◌-◌, ◌+◌, Option, Some, None, [], ◌∷◌, List, ◌++◌, ◌*◌, false}
 use Rattle.circular_buffer.specs.Buffer.{keep_last}
 use Rattle.nd_neighbour.specs.History.{Asked, Solicited, Story, Waits}
 use Rattle.nd_neighbour.specs.Entry.{Node, Resolves}
+
+-- MAX_MULTICAST_SOLICIT: how many solicitations a resolution sends, the first included (RFC 4861, section 10)
+abbrev pub max_multicast_solicit : ℕ
+max_multicast_solicit = 3
+
+-- how many follow the first
+abbrev pub max_more : ℕ
+max_more = max_multicast_solicit - 1
 
 -- a resolution: its moment, the RetransTimer in force then, and how many solicitations were sent after the first
 pub record Resolution : Type 0 where

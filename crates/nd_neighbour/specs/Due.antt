@@ -4,8 +4,8 @@ use Rattle.std.specs.List.{remove}
 use Rattle.nd_table.specs.Due.{least_date, first_at, NotBefore}
 use Rattle.nd_neighbour.specs.History.{Row, story, Story, Solicited, Probed, Forgot, Failed, Aged}
 use Rattle.nd_neighbour.specs.Entry.{Kept, Resolves, Reaches, Node}
-use Rattle.nd_neighbour.specs.AddressResolution.{Resolution, more_in, resolution_of, waiting_of}
-use Rattle.nd_neighbour.specs.UnreachabilityDetection.{Use}
+use Rattle.nd_neighbour.specs.AddressResolution.{max_more, Resolution, more_in, resolution_of, waiting_of}
+use Rattle.nd_neighbour.specs.UnreachabilityDetection.{max_unicast_solicit, Use}
 use Rattle.nd_neighbour.specs.Story.{is_present, due_of, mac_of, use_of}
 
 -- what falls due for a neighbour
@@ -22,9 +22,9 @@ IsDue history moment key = (is_present (story key history) ≡ true) × (due_of 
 -- without an address: a second and a third solicitation, and then the failure, with all that waits. With one: three
 -- probes after a use, and then the failure; without a use the entry goes.
 abbrev pub falling_by : ℕ → Option ℕ → Option Use → Option Resolution → List (List ℕ) → Falls
-falling_by key None use' resolution waiting = if nat_lt (more_in resolution) 2 then Multicasts key else Fails key waiting
+falling_by key None use' resolution waiting = if nat_lt (more_in resolution) max_more then Multicasts key else Fails key waiting
 falling_by key (Some mac) None resolution waiting = Ages key
-falling_by key (Some mac) (Some use') resolution waiting = if nat_lt use'.probes 3 then Unicasts key mac else Fails key []
+falling_by key (Some mac) (Some use') resolution waiting = if nat_lt use'.probes max_unicast_solicit then Unicasts key mac else Fails key []
 
 -- what falls due for the neighbour
 abbrev pub falling : ℕ → Story → Falls
@@ -55,9 +55,9 @@ due_row now (Ages key) = (now, key, Forgot Aged)
 
 -- the same of what is kept
 abbrev pub falls_to : ℕ → Kept → Falls
-falls_to key (Resolves retrans sent waiting) = if nat_lt sent 2 then Multicasts key else Fails key waiting
+falls_to key (Resolves retrans sent waiting) = if nat_lt sent max_more then Multicasts key else Fails key waiting
 falls_to key (Reaches mac confirmed since None) = Ages key
-falls_to key (Reaches mac confirmed since (Some probing)) = if nat_lt probing.sent 3 then Unicasts key mac else Fails key []
+falls_to key (Reaches mac confirmed since (Some probing)) = if nat_lt probing.sent max_unicast_solicit then Unicasts key mac else Fails key []
 
 -- what falls due for the neighbour at its moment
 abbrev pub falls : Node → Falls
@@ -105,9 +105,9 @@ NoneBefore nodes now = NotBefore now (next_in nodes)
 
 -- how many turns a neighbour can still take, where nothing else happens
 abbrev pub turns_to : Kept → ℕ
-turns_to (Resolves retrans sent waiting) = 2 - sent + 1
+turns_to (Resolves retrans sent waiting) = max_more - sent + 1
 turns_to (Reaches mac confirmed since None) = 1
-turns_to (Reaches mac confirmed since (Some probing)) = 3 - probing.sent + 1
+turns_to (Reaches mac confirmed since (Some probing)) = max_unicast_solicit - probing.sent + 1
 
 abbrev pub turns_left : List Node → ℕ
 turns_left [] = 0

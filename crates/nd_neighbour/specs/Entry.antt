@@ -2,6 +2,11 @@
 use Rattle.std.specs.Prelude.{ℕ, Bool, List, Option, Some, None, [], if◌then◌else◌, is_some, nat_lt, false, ◌&&◌, ◌+◌, true}
 use Rattle.nd_neighbour.specs.declared.unreachability_detection.Probing.{Probing}
 
+-- STALE_LIFETIME: how long a neighbour that is STALE and unused is kept, in milliseconds, a day. Our choice: RFC 4861,
+-- section 5.3, leaves it open.
+abbrev pub stale_lifetime : ℕ
+stale_lifetime = 86400000
+
 -- what is kept of a neighbour, beside its address and its mark
 pub data Kept : Type 0 where
   -- no address is known: the time between two solicitations, how many were sent after the first, what waits
@@ -41,9 +46,9 @@ with_mark router n = record { key = n.key; router = router; due = n.due; kept = 
 
 -- the address is known from now on, and nothing says that the neighbour is reachable
 abbrev pub stale_node : ℕ → Bool → ℕ → ℕ → Node
-stale_node key router at mac = record { key = key; router = router; due = at + 86400000; kept = Reaches mac false at None }
+stale_node key router at mac = record { key = key; router = router; due = at + stale_lifetime; kept = Reaches mac false at None }
 
 -- the neighbour is reachable until the ReachableTime is over
 abbrev pub reachable_node : ℕ → Bool → ℕ → ℕ → ℕ → Node
 reachable_node key router at mac reachable =
-    record { key = key; router = router; due = at + reachable + 86400000; kept = Reaches mac true (at + reachable) None }
+    record { key = key; router = router; due = at + reachable + stale_lifetime; kept = Reaches mac true (at + reachable) None }

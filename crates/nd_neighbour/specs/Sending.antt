@@ -6,6 +6,7 @@ use Rattle.nd_neighbour.specs.declared.refusal.CacheRefusal.{CacheRefusal}
 use Rattle.nd_neighbour.specs.History.{Row, Asked, Waits, Used, story, Story}
 use Rattle.nd_neighbour.specs.Entry.{Kept, Resolves, Reaches, Node}
 use Rattle.nd_neighbour.specs.AddressResolution.{waiting_of}
+use Rattle.nd_neighbour.specs.UnreachabilityDetection.{delay_first_probe_time}
 use Rattle.nd_neighbour.specs.Story.{is_present, mac_of}
 use Rattle.nd_neighbour.specs.Table.{Stands}
 use Rattle.nd_neighbour.specs.Place.{Prepares}
@@ -58,8 +59,8 @@ used_to (Reaches mac confirmed since None) at retrans packet n =
     then record {
       key = n.key;
       router = n.router;
-      due = at + 5000;
-      kept = Reaches mac confirmed since (Some (record { from = at + 5000; retrans = retrans; sent = 0 }));
+      due = at + delay_first_probe_time;
+      kept = Reaches mac confirmed since (Some (record { from = at + delay_first_probe_time; retrans = retrans; sent = 0 }));
     }
     else n
 used_to (Reaches mac confirmed since (Some probing)) at retrans packet n = n

@@ -7,13 +7,13 @@ use Rattle.nd_neighbour.specs.declared.unreachability_detection.Probing.{Probing
 use Rattle.nd_neighbour.specs.History.{Story, Row, story}
 use Rattle.nd_neighbour.specs.Entry.{Kept, Resolves, Reaches, Node, known_mac}
 use Rattle.nd_neighbour.specs.ReachabilityConfirmation.{Word, holds}
-use Rattle.nd_neighbour.specs.UnreachabilityDetection.{Use}
+use Rattle.nd_neighbour.specs.UnreachabilityDetection.{delay_first_probe_time, Use}
 use Rattle.nd_neighbour.specs.Story.{mac_of, word_of, use_of, is_present, is_router}
 
 -- without a use STALE; after the first use DELAY for DELAY_FIRST_PROBE_TIME, and PROBE from then on
 abbrev pub used_state : Option Use → ℕ → Reachability
 used_state None t = Stale
-used_state (Some use') t = if nat_lt t (use'.at + 5000) then Delay else Probe
+used_state (Some use') t = if nat_lt t (use'.at + delay_first_probe_time) then Delay else Probe
 
 -- without an address INCOMPLETE, while a confirmation holds REACHABLE
 abbrev pub state_by : Option ℕ → Option Word → Option Use → ℕ → Reachability

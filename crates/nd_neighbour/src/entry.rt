@@ -78,7 +78,7 @@ impl<A: Allocator> Dated<()> for Entry<A> {
 }
 
 impl<A: Allocator> Entry<A> {
-    ghost use Rattle.nd_neighbour.specs.Entry.{Reaches, is_reachable, known_mac, waiting_in};
+    ghost use Rattle.nd_neighbour.specs.Entry.{Reaches, stale_lifetime, is_reachable, known_mac, waiting_in};
 
     /// The link-layer address, if it is known.
     pub(crate) fn mac(&self) -> Option<Mac>
@@ -114,7 +114,7 @@ impl<A: Allocator> Entry<A> {
     /// The address is known from now on. What waited is handed out.
     pub(crate) fn learn(&mut self, mac: Mac, confirmed: bool, since: u64) -> Packets<A>
         requires { since < 2 ^ 63 }
-        ensures entry { self.new ≡ record self.old { due = since + 86400000; kept = Reaches (number_of mac.0) confirmed since None } }
+        ensures entry { self.new ≡ record self.old { due = since + stale_lifetime; kept = Reaches (number_of mac.0) confirmed since None } }
         ensures released { result ≡ waiting_in self.old.kept }
     {
         self.due = since + STALE_LIFETIME;
