@@ -9,7 +9,7 @@ use Rattle.nd_neighbour.specs.Entry.{Node}
 use Rattle.nd_neighbour.specs.ReachabilityConfirmation.{Word, Confirms, Disturbs}
 use Rattle.nd_neighbour.specs.AddressResolution.{Resolution, resolution_of, waiting_of}
 use Rattle.nd_neighbour.specs.UnreachabilityDetection.{Use}
-use Rattle.nd_neighbour.specs.Story.{is_present, mac_of, word_of, use_of, kept_by, the_node, node_of, waits_of}
+use Rattle.nd_neighbour.specs.Story.{is_present, mac_of, word_of, use_of, stage_by, the_node, node_of, waits_of}
 use Rattle.nd_neighbour.specs.Table.{address, node_in, Stands, GainsRow}
 use Rattle.nd_neighbour.specs.Shown.{state_by, Seen, seen, seen_of, state_in, seen_key, Lists}
 use Rattle.nd_neighbour.specs.Removal.{Removes, WasNot, Gone, waiting_at, cleared}
@@ -42,7 +42,7 @@ pub waits_by_rows : (key : ℕ) (old : List Node) (history : List Row) → Stand
 waits_by_rows key old history s = waits_at key (story key history) (node_in key old) (s.each key)
 
 -- what is shown
-state_is : (t : ℕ) (mac : Option ℕ) (w : Option Word) (u : Option Use) (r : Option Resolution) (ws : List (List ℕ)) → state_in (kept_by mac w u r ws) t ≡ state_by mac w u t
+state_is : (t : ℕ) (mac : Option ℕ) (w : Option Word) (u : Option Use) (r : Option Resolution) (ws : List (List ℕ)) → state_in (stage_by mac w u r ws) t ≡ state_by mac w u t
 state_is t None w u r ws = refl
 state_is t (Some mac) None None r ws = refl
 state_is t (Some mac) None (Some u) r ws = refl

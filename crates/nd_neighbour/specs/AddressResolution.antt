@@ -2,7 +2,7 @@
 use Rattle.std.specs.Prelude.{ℕ, ◌-◌, ◌+◌, Option, Some, None, [], ◌∷◌, List, ◌++◌, ◌*◌, false}
 use Rattle.circular_buffer.specs.Buffer.{keep_last}
 use Rattle.nd_neighbour.specs.History.{Asked, Solicited, Story, Waits}
-use Rattle.nd_neighbour.specs.Entry.{Node, Resolves}
+use Rattle.nd_neighbour.specs.Entry.{Node, Resolving}
 
 -- MAX_MULTICAST_SOLICIT: how many solicitations a resolution sends, the first included (RFC 4861, section 10)
 abbrev pub max_multicast_solicit : ℕ
@@ -59,4 +59,4 @@ resolution_due (Some r) = r.at + (r.more + 1) * r.retrans
 -- a resolution begins with a packet that waits
 abbrev pub asked_node : ℕ → ℕ → ℕ → List ℕ → Node
 asked_node key at retrans packet =
-    record { key = key; router = false; due = at + retrans; kept = Resolves retrans 0 (packet ∷ []) }
+    record { key = key; router = false; due = at + retrans; stage = Resolving retrans 0 (packet ∷ []) }

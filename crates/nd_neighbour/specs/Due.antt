@@ -3,7 +3,7 @@ use Rattle.std.specs.Prelude.{ℕ, List, nat_lt, if◌then◌else◌, [], Some, 
 use Rattle.std.specs.List.{remove}
 use Rattle.nd_table.specs.Due.{least_date, first_at, NotBefore}
 use Rattle.nd_neighbour.specs.History.{Row, story, Story, Solicited, Probed, Forgot, Failed, Aged}
-use Rattle.nd_neighbour.specs.Entry.{Kept, Resolves, Reaches, Node}
+use Rattle.nd_neighbour.specs.Entry.{Stage, Resolving, Known, Node}
 use Rattle.nd_neighbour.specs.AddressResolution.{max_more, Resolution, more_in, resolution_of, waiting_of}
 use Rattle.nd_neighbour.specs.UnreachabilityDetection.{max_unicast_solicit, Use}
 use Rattle.nd_neighbour.specs.Story.{is_present, due_of, mac_of, use_of}
@@ -54,14 +54,14 @@ due_row now (Fails key packets) = (now, key, Forgot Failed)
 due_row now (Ages key) = (now, key, Forgot Aged)
 
 -- the same of what is kept
-abbrev pub falls_to : ℕ → Kept → Falls
-falls_to key (Resolves retrans sent waiting) = if nat_lt sent max_more then Multicasts key else Fails key waiting
-falls_to key (Reaches mac confirmed since None) = Ages key
-falls_to key (Reaches mac confirmed since (Some probing)) = if nat_lt probing.sent max_unicast_solicit then Unicasts key mac else Fails key []
+abbrev pub falls_to : ℕ → Stage → Falls
+falls_to key (Resolving retrans sent waiting) = if nat_lt sent max_more then Multicasts key else Fails key waiting
+falls_to key (Known mac confirmed since None) = Ages key
+falls_to key (Known mac confirmed since (Some probing)) = if nat_lt probing.sent max_unicast_solicit then Unicasts key mac else Fails key []
 
 -- what falls due for the neighbour at its moment
 abbrev pub falls : Node → Falls
-falls n = falls_to n.key n.kept
+falls n = falls_to n.key n.stage
 
 -- it is a solicitation, and the entry stays
 abbrev pub stays : Falls → Bool
@@ -71,21 +71,21 @@ stays (Fails key packets) = false
 stays (Ages key) = false
 
 -- a solicitation that was due is sent: one more was, and the next falls due a RetransTimer later
-abbrev pub solicited_to : Kept → ℕ → Node → Node
-solicited_to (Resolves retrans sent waiting) at n =
-    record { key = n.key; router = n.router; due = at + retrans; kept = Resolves retrans (sent + 1) waiting }
-solicited_to (Reaches mac confirmed since None) at n = n
-solicited_to (Reaches mac confirmed since (Some probing)) at n =
+abbrev pub solicited_to : Stage → ℕ → Node → Node
+solicited_to (Resolving retrans sent waiting) at n =
+    record { key = n.key; router = n.router; due = at + retrans; stage = Resolving retrans (sent + 1) waiting }
+solicited_to (Known mac confirmed since None) at n = n
+solicited_to (Known mac confirmed since (Some probing)) at n =
     record {
       key = n.key;
       router = n.router;
       due = at + probing.retrans;
-      kept = Reaches mac confirmed since (Some (record { from = probing.from; retrans = probing.retrans; sent = probing.sent + 1 }));
+      stage = Known mac confirmed since (Some (record { from = probing.from; retrans = probing.retrans; sent = probing.sent + 1 }));
     }
 
 -- the same of a neighbour
 abbrev pub solicited : ℕ → Node → Node
-solicited at n = solicited_to n.kept at n
+solicited at n = solicited_to n.stage at n
 
 -- the moment at which something falls due for it
 abbrev pub date_of : Node → Option ℕ
@@ -104,14 +104,14 @@ abbrev pub NoneBefore : List Node → ℕ → Type 0
 NoneBefore nodes now = NotBefore now (next_in nodes)
 
 -- how many turns a neighbour can still take, where nothing else happens
-abbrev pub turns_to : Kept → ℕ
-turns_to (Resolves retrans sent waiting) = max_more - sent + 1
-turns_to (Reaches mac confirmed since None) = 1
-turns_to (Reaches mac confirmed since (Some probing)) = max_unicast_solicit - probing.sent + 1
+abbrev pub turns_to : Stage → ℕ
+turns_to (Resolving retrans sent waiting) = max_more - sent + 1
+turns_to (Known mac confirmed since None) = 1
+turns_to (Known mac confirmed since (Some probing)) = max_unicast_solicit - probing.sent + 1
 
 abbrev pub turns_left : List Node → ℕ
 turns_left [] = 0
-turns_left (n ∷ nodes) = turns_to n.kept + turns_left nodes
+turns_left (n ∷ nodes) = turns_to n.stage + turns_left nodes
 
 -- the first neighbour of a list for which something falls due takes a turn: it stays with one more solicitation, or goes
 pub record Turns (now : ℕ) (old new : List Node) (what : Falls) : Type 0 where

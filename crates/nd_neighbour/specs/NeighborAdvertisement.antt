@@ -1,7 +1,7 @@
 -- A Neighbor Advertisement comes (RFC 4861, section 7.2.5).
 use Rattle.std.specs.Prelude.{ℕ, Bool, if◌then◌else◌, Option, Some, None, true, ◌==◌, ◌||◌, is_some, false, nat_lt, ◌&&◌}
 use Rattle.nd_neighbour.specs.declared.news.Flags.{Flags}
-use Rattle.nd_neighbour.specs.Entry.{Node, stale_node, reachable_node, with_mark, Kept, Resolves, Reaches}
+use Rattle.nd_neighbour.specs.Entry.{Node, stale_node, reachable_node, with_mark, Stage, Resolving, Known}
 use Rattle.nd_neighbour.specs.LinkLayerAddress.{changes}
 use Rattle.nd_neighbour.specs.ReachabilityConfirmation.{Word, Confirms, Disturbs, holds}
 
@@ -41,15 +41,15 @@ conforming flags at reachable mac changed n =
 -- what an advertisement makes of what is kept. In INCOMPLETE one without an address is discarded, and one with an address
 -- conforms. Else one conforms that gives no address, the one that is known, or another one with Override; another one
 -- without Override makes REACHABLE STALE, and is ignored in every other state.
-abbrev pub advertised_to : Kept → Flags → Option ℕ → ℕ → ℕ → Node → Node
-advertised_to (Resolves retrans sent waiting) flags None at reachable n = n
-advertised_to (Resolves retrans sent waiting) flags (Some mac) at reachable n = conforming flags at reachable mac true n
-advertised_to (Reaches known confirmed since probing) flags None at reachable n = conforming flags at reachable known false n
-advertised_to (Reaches known confirmed since probing) flags (Some mac) at reachable n =
+abbrev pub advertised_to : Stage → Flags → Option ℕ → ℕ → ℕ → Node → Node
+advertised_to (Resolving retrans sent waiting) flags None at reachable n = n
+advertised_to (Resolving retrans sent waiting) flags (Some mac) at reachable n = conforming flags at reachable mac true n
+advertised_to (Known known confirmed since probing) flags None at reachable n = conforming flags at reachable known false n
+advertised_to (Known known confirmed since probing) flags (Some mac) at reachable n =
     if mac == known then conforming flags at reachable known false n
     else (if flags.overrides then conforming flags at reachable mac true n
     else (if confirmed && nat_lt at since then stale_node n.key n.router at known else n))
 
 -- the same of a neighbour
 abbrev pub advertised : ℕ → Flags → Option ℕ → ℕ → Node → Node
-advertised at flags mac reachable n = advertised_to n.kept flags mac at reachable n
+advertised at flags mac reachable n = advertised_to n.stage flags mac at reachable n

@@ -3,7 +3,7 @@ use Rattle.std.specs.Prelude.{◌≡◌, ℕ, true, List, ◌<◌, ◌≤◌, �
 use Rattle.std.specs.List.{remove, insert}
 use Rattle.nd_neighbour.specs.declared.shown.Reachability.TheVariants.{Stale}
 use Rattle.nd_neighbour.specs.History.{Row, story, Forgot, PushedOut}
-use Rattle.nd_neighbour.specs.Entry.{Node, Kept, Resolves, Reaches}
+use Rattle.nd_neighbour.specs.Entry.{Node, Stage, Resolving, Known}
 use Rattle.nd_neighbour.specs.ReachabilityConfirmation.{since_in}
 use Rattle.nd_neighbour.specs.Story.{is_present, word_of}
 use Rattle.nd_neighbour.specs.Table.{Stands, node_in, place_in, Alters}
@@ -42,23 +42,23 @@ pub record WouldBeFull (limit now key : ℕ) (history : List Row) : Type 0 where
   pub none_stale : (k : ℕ) → IsStale history now k → ⊥
 
 -- the same of what is kept
-abbrev pub is_stale : Kept → ℕ → Bool
-is_stale (Resolves retrans sent waiting) t = false
-is_stale (Reaches mac confirmed since None) t = not (confirmed && nat_lt t since)
-is_stale (Reaches mac confirmed since (Some probing)) t = false
+abbrev pub is_stale : Stage → ℕ → Bool
+is_stale (Resolving retrans sent waiting) t = false
+is_stale (Known mac confirmed since None) t = not (confirmed && nat_lt t since)
+is_stale (Known mac confirmed since (Some probing)) t = false
 
-abbrev pub since_kept : Kept → ℕ
-since_kept (Resolves retrans sent waiting) = 0
-since_kept (Reaches mac confirmed since probing) = since
+abbrev pub since_of : Stage → ℕ
+since_of (Resolving retrans sent waiting) = 0
+since_of (Known mac confirmed since probing) = since
 
 -- the one of two that isn't reachable for longer, at a tie the first
 abbrev pub longer : Option Node → Option Node → Option Node
 longer None other = other
 longer (Some n) None = Some n
-longer (Some n) (Some m) = if nat_lt (since_kept m.kept) (since_kept n.kept) then Some m else Some n
+longer (Some n) (Some m) = if nat_lt (since_of m.stage) (since_of n.stage) then Some m else Some n
 
 abbrev pub if_stale : ℕ → Node → Option Node
-if_stale now n = if is_stale n.kept now then Some n else None
+if_stale now n = if is_stale n.stage now then Some n else None
 
 -- the one of a list that is stale for longest
 abbrev pub stalest : ℕ → List Node → Option Node

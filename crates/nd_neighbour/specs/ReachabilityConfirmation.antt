@@ -1,6 +1,6 @@
 -- When a neighbour was confirmed as reachable, and what disturbs that (RFC 4861, sections 7.2.5 and 7.3.1).
 use Rattle.std.specs.Prelude.{ℕ, ◌+◌, nat_lt, Bool, false, Option, Some, true, None}
-use Rattle.nd_neighbour.specs.Entry.{Node, Kept, Resolves, Reaches, reachable_node}
+use Rattle.nd_neighbour.specs.Entry.{Node, Stage, Resolving, Known, reachable_node}
 
 -- a confirmation at a moment, which holds for a ReachableTime, or a disturbance at a moment
 pub data Word : Type 0 where
@@ -29,10 +29,10 @@ since_in None = 0
 since_in (Some word) = since word
 
 -- what an upper layer's confirmation makes of what is kept: in INCOMPLETE nothing, else it is REACHABLE
-abbrev pub confirmed_to : Kept → ℕ → ℕ → Node → Node
-confirmed_to (Resolves retrans sent waiting) at reachable n = n
-confirmed_to (Reaches mac confirmed since probing) at reachable n = reachable_node n.key n.router at mac reachable
+abbrev pub confirmed_to : Stage → ℕ → ℕ → Node → Node
+confirmed_to (Resolving retrans sent waiting) at reachable n = n
+confirmed_to (Known mac confirmed since probing) at reachable n = reachable_node n.key n.router at mac reachable
 
 -- the same of a neighbour
 abbrev pub confirmed : ℕ → ℕ → Node → Node
-confirmed at reachable n = confirmed_to n.kept at reachable n
+confirmed at reachable n = confirmed_to n.stage at reachable n

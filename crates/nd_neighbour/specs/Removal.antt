@@ -18,9 +18,9 @@ pub data Removes (key : ℕ) (old new : List Node) : Type 0 where
 -- what waits at a neighbour that may be there
 abbrev pub waiting_at : Option Node → List (List ℕ)
 waiting_at None = []
-waiting_at (Some n) = waiting_in n.kept
+waiting_at (Some n) = waiting_in n.stage
 
 -- what waits at all of them, in the order of their addresses, the oldest first
 abbrev pub all_waiting : List Node → List (List ℕ)
 all_waiting [] = []
-all_waiting (n ∷ nodes) = waiting_in n.kept ++ all_waiting nodes
+all_waiting (n ∷ nodes) = waiting_in n.stage ++ all_waiting nodes

@@ -5,7 +5,7 @@ use Rattle.nd_neighbour.specs.History.{Row, story}
 use Rattle.nd_neighbour.specs.Entry.{Node}
 use Rattle.nd_neighbour.specs.Story.{is_present, mac_of}
 use Rattle.nd_neighbour.specs.Table.{node_in}
-use Rattle.nd_neighbour.specs.Place.{Prepares, WouldBeFull, is_stale, since_kept, stalest, has_place, NoPlace}
+use Rattle.nd_neighbour.specs.Place.{Prepares, WouldBeFull, is_stale, since_of, stalest, has_place, NoPlace}
 use Rattle.nd_neighbour.specs.Sending.{then_packet}
 
 -- the first one wouldn't be full, and the second one neither after the history of a packet for the first
@@ -15,11 +15,11 @@ pub record HasRoom (limit now key : ℕ) (second : Option ℕ) (history : List R
 
 -- The same of what is kept. This neighbour is stale after a use of the first:
 abbrev pub stays_stale : ℕ → ℕ → Node → Bool
-stays_stale key now n = is_stale n.kept now && (not (n.key == key) || nat_lt now (since_kept n.kept))
+stays_stale key now n = is_stale n.stage now && (not (n.key == key) || nat_lt now (since_of n.stage))
 
 -- it is stale, and another one than the one that goes
 abbrev pub stale_beside : ℕ → ℕ → Node → Bool
-stale_beside gone now n = is_stale n.kept now && not (n.key == gone)
+stale_beside gone now n = is_stale n.stage now && not (n.key == gone)
 
 -- the second has place where the first is there and is used
 abbrev pub place_beside : ℕ → ℕ → ℕ → ℕ → List Node → Bool

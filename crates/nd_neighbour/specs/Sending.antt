@@ -4,7 +4,7 @@ use Rattle.circular_buffer.specs.Buffer.{keep_last}
 use Rattle.nd_table.specs.History.{GainsRowsMakingPlace}
 use Rattle.nd_neighbour.specs.declared.refusal.CacheRefusal.{CacheRefusal}
 use Rattle.nd_neighbour.specs.History.{Row, Asked, Waits, Used, story, Story}
-use Rattle.nd_neighbour.specs.Entry.{Kept, Resolves, Reaches, Node}
+use Rattle.nd_neighbour.specs.Entry.{Stage, Resolving, Known, Node}
 use Rattle.nd_neighbour.specs.AddressResolution.{waiting_of}
 use Rattle.nd_neighbour.specs.UnreachabilityDetection.{delay_first_probe_time}
 use Rattle.nd_neighbour.specs.Story.{is_present, mac_of}
@@ -39,35 +39,35 @@ GainsPacket limit now key retrans packet old new =
     (λ history made. then_packet (is_present (story key history)) (mac_of (story key history)) now key retrans packet made)
 
 -- the same by what is kept
-abbrev pub sending_to : Kept → List ℕ → Sending
-sending_to (Resolves retrans sent waiting) packet =
+abbrev pub sending_to : Stage → List ℕ → Sending
+sending_to (Resolving retrans sent waiting) packet =
     Queues false (if nat_lt (length waiting) 3 then None else slice_get (waiting ++ packet ∷ []) 0)
-sending_to (Reaches mac confirmed since probing) packet = Sends mac packet
+sending_to (Known mac confirmed since probing) packet = Sends mac packet
 
 -- and of a neighbour that may not be there
 abbrev pub sending_in : Option Node → List ℕ → Sending
 sending_in None packet = Queues true None
-sending_in (Some n) packet = sending_to n.kept packet
+sending_in (Some n) packet = sending_to n.stage packet
 
 -- what a packet makes of what is kept: in INCOMPLETE it waits; in STALE the first one leads to DELAY; in REACHABLE, DELAY
 -- and PROBE nothing changes
-abbrev pub used_to : Kept → ℕ → ℕ → List ℕ → Node → Node
-used_to (Resolves retrans sent waiting) at new_retrans packet n =
-    record { key = n.key; router = n.router; due = n.due; kept = Resolves retrans sent (keep_last 3 (waiting ++ packet ∷ [])) }
-used_to (Reaches mac confirmed since None) at retrans packet n =
+abbrev pub used_to : Stage → ℕ → ℕ → List ℕ → Node → Node
+used_to (Resolving retrans sent waiting) at new_retrans packet n =
+    record { key = n.key; router = n.router; due = n.due; stage = Resolving retrans sent (keep_last 3 (waiting ++ packet ∷ [])) }
+used_to (Known mac confirmed since None) at retrans packet n =
     if nat_le since at
     then record {
       key = n.key;
       router = n.router;
       due = at + delay_first_probe_time;
-      kept = Reaches mac confirmed since (Some (record { from = at + delay_first_probe_time; retrans = retrans; sent = 0 }));
+      stage = Known mac confirmed since (Some (record { from = at + delay_first_probe_time; retrans = retrans; sent = 0 }));
     }
     else n
-used_to (Reaches mac confirmed since (Some probing)) at retrans packet n = n
+used_to (Known mac confirmed since (Some probing)) at retrans packet n = n
 
 -- the same of a neighbour
 abbrev pub used : ℕ → ℕ → List ℕ → Node → Node
-used at retrans packet n = used_to n.kept at retrans packet n
+used at retrans packet n = used_to n.stage at retrans packet n
 
 -- why a packet is refused
 abbrev pub refusal_of : {U P : Type 0} → Result U (CacheRefusal × P) → Option CacheRefusal

@@ -5,7 +5,7 @@ use Rattle.nd_neighbour.specs.declared.shown.Reachability.{Reachability}
 use Rattle.nd_neighbour.specs.declared.shown.Reachability.TheVariants.{Stale, Delay, Probe, Incomplete, Reachable}
 use Rattle.nd_neighbour.specs.declared.unreachability_detection.Probing.{Probing}
 use Rattle.nd_neighbour.specs.History.{Story, Row, story}
-use Rattle.nd_neighbour.specs.Entry.{Kept, Resolves, Reaches, Node, known_mac}
+use Rattle.nd_neighbour.specs.Entry.{Stage, Resolving, Known, Node, known_mac}
 use Rattle.nd_neighbour.specs.ReachabilityConfirmation.{Word, holds}
 use Rattle.nd_neighbour.specs.UnreachabilityDetection.{delay_first_probe_time, Use}
 use Rattle.nd_neighbour.specs.Story.{mac_of, word_of, use_of, is_present, is_router}
@@ -42,13 +42,13 @@ probing_state None t = Stale
 probing_state (Some probing) t = if nat_lt t probing.from then Delay else Probe
 
 -- the state by what is kept
-abbrev pub state_in : Kept → ℕ → Reachability
-state_in (Resolves retrans sent waiting) t = Incomplete
-state_in (Reaches mac confirmed since probing) t = if confirmed && nat_lt t since then Reachable else probing_state probing t
+abbrev pub state_in : Stage → ℕ → Reachability
+state_in (Resolving retrans sent waiting) t = Incomplete
+state_in (Known mac confirmed since probing) t = if confirmed && nat_lt t since then Reachable else probing_state probing t
 
 -- a neighbour at the moment
 abbrev pub seen : ℕ → Node → Seen
-seen t n = record { key = n.key; mac = known_mac n.kept; router = n.router; state = state_in n.kept t }
+seen t n = record { key = n.key; mac = known_mac n.stage; router = n.router; state = state_in n.stage t }
 
 -- its address
 abbrev pub seen_key : Seen → ℕ

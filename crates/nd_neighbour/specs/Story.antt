@@ -2,7 +2,7 @@
 -- confirmation or disturbance, its first use afterwards, and what is kept of it.
 use Rattle.std.specs.Prelude.{Bool, true, false, [], ◌∷◌, ℕ, if◌then◌else◌, Option, Some, None, ◌&&◌, is_some, List}
 use Rattle.nd_neighbour.specs.History.{Given, Asked, Story, Advertised, Marked, RowKind, Confirmed}
-use Rattle.nd_neighbour.specs.Entry.{Kept, Resolves, Reaches, Node}
+use Rattle.nd_neighbour.specs.Entry.{Stage, Resolving, Known, Node}
 use Rattle.nd_neighbour.specs.LinkLayerAddress.{changes}
 use Rattle.nd_neighbour.specs.ReachabilityConfirmation.{Word, Confirms, Disturbs, is_confirmed, since_in}
 use Rattle.nd_neighbour.specs.NeighborAdvertisement.{taken, conforms, advert_says}
@@ -73,9 +73,9 @@ due_by None word use' resolution = resolution_due resolution
 due_by (Some mac) word use' resolution = reach_due word use'
 
 -- what is kept: of the resolution without an address, of reachability with one
-abbrev pub kept_by : Option ℕ → Option Word → Option Use → Option Resolution → List (List ℕ) → Kept
-kept_by None word use' resolution waiting = Resolves (retrans_in resolution) (more_in resolution) waiting
-kept_by (Some mac) word use' resolution waiting = Reaches mac (is_confirmed word) (since_in word) (probing_of use')
+abbrev pub stage_by : Option ℕ → Option Word → Option Use → Option Resolution → List (List ℕ) → Stage
+stage_by None word use' resolution waiting = Resolving (retrans_in resolution) (more_in resolution) waiting
+stage_by (Some mac) word use' resolution waiting = Known mac (is_confirmed word) (since_in word) (probing_of use')
 
 -- the moment at which something falls due for a neighbour that is present
 abbrev pub due_of : Story → ℕ
@@ -87,7 +87,7 @@ the_node key s = record {
   key = key;
   router = is_router s;
   due = due_of s;
-  kept = kept_by (mac_of s) (word_of s) (use_of s) (resolution_of s) (waiting_of s);
+  stage = stage_by (mac_of s) (word_of s) (use_of s) (resolution_of s) (waiting_of s);
 }
 
 -- and of one that may not be

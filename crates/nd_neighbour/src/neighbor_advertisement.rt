@@ -89,7 +89,7 @@ impl<A: Allocator> Entry<A> {
         requires moment { now < 2 ^ 62 }
         requires span { reachable < 2 ^ 62 }
         ensures entry { self.new ≡ conforming flags now reachable (number_of mac.0) is_new self.old }
-        ensures released { result ≡ (if flags.solicited || is_new then waiting_in self.old.kept else []) }
+        ensures released { result ≡ (if flags.solicited || is_new then waiting_in self.old.stage else []) }
     {
         // IsRouter is set by the R flag.
         self.router = flags.router;

@@ -108,7 +108,7 @@ impl<A: Allocator> Entry<A> {
 
     /// What waits at an entry that goes.
     pub(crate) fn packets(self) -> Packets<A>
-        ensures { result ≡ waiting_in self.kept }
+        ensures { result ≡ waiting_in self.stage }
     {
         match self.stage {
             Stage::Resolving { waiting, .. } => Packets::of(waiting),
@@ -118,7 +118,7 @@ impl<A: Allocator> Entry<A> {
 
     /// How many packets wait.
     pub(crate) fn waiting(&self) -> usize
-        ensures value { result ≡ length (waiting_in self.now.kept) }
+        ensures value { result ≡ length (waiting_in self.now.stage) }
         ensures few { result ≤ 3 }
     {
         match &self.stage {

@@ -128,7 +128,7 @@ impl<A: Allocator> Entry<A> {
     pub(crate) fn send(&mut self, now: u64, retrans: u32, packet: Packet<A>) -> Use<A>
         requires { now < 2 ^ 62 }
         ensures entry { self.new ≡ used now retrans packet self.old }
-        ensures sending { sending_of result ≡ sending_to self.old.kept packet }
+        ensures sending { sending_of result ≡ sending_to self.old.stage packet }
     {
         match &mut self.stage {
             // INCOMPLETE: it waits, and a fourth one takes the place of the oldest (7.2.2).

@@ -104,7 +104,7 @@ impl<A: Allocator> Entry<A> {
 
     /// Its state at a moment (RFC 4861, section 7.3.2).
     fn state(&self, now: u64) -> Reachability
-        ensures { result ≡ state_in self.now.kept now }
+        ensures { result ≡ state_in self.now.stage now }
     {
         match &self.stage {
             Stage::Resolving { .. } => Reachability::Incomplete,

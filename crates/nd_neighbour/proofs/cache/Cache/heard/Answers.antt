@@ -70,5 +70,5 @@ returns-in-Given-clause-there g c =
     let mark = c.in-Given.mark in
     let change : Node → Node = λ n. given c.args.now mac mark n in
     let new = c.give_or_enter.new.entries.items in
-    rw c.in-Given.is (on_ok c.give_or_enter.result _ _ (λ gives _. gives_there c.args.self.now.limit c.args.now key change (stale_node key (mark_or mark false) c.args.now mac) c.args.self.now.nodes new (λ n. given_key c.args.now mac mark n n.kept) refl gives)
+    rw c.in-Given.is (on_ok c.give_or_enter.result _ _ (λ gives _. gives_there c.args.self.now.limit c.args.now key change (stale_node key (mark_or mark false) c.args.now mac) c.args.self.now.nodes new (λ n. given_key c.args.now mac mark n n.stage) refl gives)
     (subst (λ (t : Table). OnOk c.give_or_enter.result (Gives t.limit c.args.now key change (stale_node key (mark_or mark false) c.args.now mac) t.nodes new)) c.self.view_is c.give_or_enter.ensures.gives))
