@@ -1,8 +1,9 @@
 ghost use Rattle.std.specs.Prelude.{None, true, vec_capacity, vec_len, ◌<◌, ◌^◌, ◌≡◌, ◌≤◌};
 ghost use Rattle.nd_addr.specs.Number.{number_of};
-ghost use Rattle.nd_neighbour.specs.Change.{asked_node, used};
+ghost use Rattle.nd_neighbour.specs.AddressResolution.{asked_node};
 ghost use Rattle.nd_neighbour.specs.Table.{node_in};
-ghost use Rattle.nd_neighbour.specs.Room.{Gives, has_place};
+ghost use Rattle.nd_neighbour.specs.Place.{Gives, has_place};
+ghost use Rattle.nd_neighbour.specs.Sending.{used};
 
 use crate::entry::{Entry, Stage};
 use crate::place::make_place;
@@ -38,7 +39,7 @@ pub(crate) fn begin<A: Allocator>(
 }
 
 impl<A: Allocator> Entry<A> {
-    ghost use Rattle.nd_neighbour.specs.Change.{asked_node};
+    ghost use Rattle.nd_neighbour.specs.AddressResolution.{asked_node};
 
     /// An entry whose resolution begins now (INCOMPLETE), with a first packet that waits. The first solicitation is sent
     /// now, the next is due a RetransTimer later (RFC 4861, section 7.2.2).

@@ -82,7 +82,7 @@ pub(crate) fn turn_first<A: Allocator>(entries: &mut Vec<Entry<A>, A>, now: u64)
 }
 
 impl<A: Allocator> Entry<A> {
-    ghost use Rattle.nd_neighbour.specs.Change.{falls, solicited, stays};
+    ghost use Rattle.nd_neighbour.specs.Due.{falls, solicited, stays};
     ghost use Rattle.nd_neighbour.specs.View.{falls_of};
 
     /// A solicitation that is due is sent, if one is left.

@@ -49,12 +49,12 @@ pub(crate) enum Stage<A: Allocator> {
 
 impl<A: Allocator> Model for Entry<A> {
     ghost use Rattle.nd_addr.specs.Number.{number_of};
-    ghost use Rattle.nd_neighbour.specs.Node.{Node};
-    ghost use Rattle.nd_neighbour.specs.View.{kept_of};
+    ghost use Rattle.nd_neighbour.specs.Entry.{Node};
+    ghost use Rattle.nd_neighbour.specs.View.{stage_of};
 
     ghost Value = { Node };
 
-    ghost view = { λ e. record { key = number_of e.addr.0; router = e.router; due = e.due; kept = kept_of e.stage } };
+    ghost view = { λ e. record { key = number_of e.addr.0; router = e.router; due = e.due; stage = stage_of e.stage } };
 }
 
 impl<A: Allocator> Addressed for Entry<A> {
@@ -78,12 +78,11 @@ impl<A: Allocator> Dated<()> for Entry<A> {
 }
 
 impl<A: Allocator> Entry<A> {
-    ghost use Rattle.nd_neighbour.specs.Node.{Reaches};
-    ghost use Rattle.nd_neighbour.specs.Change.{is_reachable, known_mac, waiting_in};
+    ghost use Rattle.nd_neighbour.specs.Entry.{Known, stale_lifetime, is_reachable, known_mac, waiting_in};
 
     /// The link-layer address, if it is known.
     pub(crate) fn mac(&self) -> Option<Mac>
-        ensures { option_map (λ mac. number_of mac.0) result ≡ known_mac self.now.kept }
+        ensures { option_map (λ mac. number_of mac.0) result ≡ known_mac self.now.stage }
     {
         match &self.stage {
             Stage::Resolving { .. } => None,
@@ -100,7 +99,7 @@ impl<A: Allocator> Entry<A> {
 
     /// Whether a confirmation holds (REACHABLE).
     pub(crate) fn is_reachable(&self, now: u64) -> bool
-        ensures { result ≡ is_reachable self.now.kept now }
+        ensures { result ≡ is_reachable self.now.stage now }
     {
         match &self.stage {
             Stage::Resolving { .. } => false,
@@ -115,8 +114,8 @@ impl<A: Allocator> Entry<A> {
     /// The address is known from now on. What waited is handed out.
     pub(crate) fn learn(&mut self, mac: Mac, confirmed: bool, since: u64) -> Packets<A>
         requires { since < 2 ^ 63 }
-        ensures entry { self.new ≡ record self.old { due = since + 86400000; kept = Reaches (number_of mac.0) confirmed since None } }
-        ensures released { result ≡ waiting_in self.old.kept }
+        ensures entry { self.new ≡ record self.old { due = since + stale_lifetime; stage = Known (number_of mac.0) confirmed since None } }
+        ensures released { result ≡ waiting_in self.old.stage }
     {
         self.due = since + STALE_LIFETIME;
         let known = Stage::Known {

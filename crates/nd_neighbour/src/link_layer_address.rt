@@ -1,9 +1,10 @@
 ghost use Rattle.std.specs.Prelude.{IfErr, IfOk, IsErr, OnErr, OnOk, false, vec_capacity, vec_len, ◌<◌, ◌^◌, ◌↔◌, ◌≡◌, ◌≤◌};
 ghost use Rattle.nd_addr.specs.Number.{number_of};
-ghost use Rattle.nd_neighbour.specs.Change.{given, mark_or, stale_node};
-ghost use Rattle.nd_neighbour.specs.Table.{node_in};
-ghost use Rattle.nd_neighbour.specs.Room.{Alters, Gives, NoPlace};
-ghost use Rattle.nd_neighbour.specs.Calls.{told_released, told_turned};
+ghost use Rattle.nd_neighbour.specs.Entry.{stale_node};
+ghost use Rattle.nd_neighbour.specs.LinkLayerAddress.{given, mark_or};
+ghost use Rattle.nd_neighbour.specs.Table.{node_in, Alters};
+ghost use Rattle.nd_neighbour.specs.Place.{Gives, NoPlace};
+ghost use Rattle.nd_neighbour.specs.News.{told_released, told_turned};
 
 use crate::entry::{Entry, STALE_LIFETIME, Stage, is_same_mac};
 use crate::news::Touched;
@@ -72,7 +73,8 @@ pub(crate) fn give<A: Allocator>(
 }
 
 impl<A: Allocator> Entry<A> {
-    ghost use Rattle.nd_neighbour.specs.Change.{given, released, stale_node};
+    ghost use Rattle.nd_neighbour.specs.Entry.{released, stale_node};
+    ghost use Rattle.nd_neighbour.specs.LinkLayerAddress.{given};
 
     /// Its link-layer address is given (RFC 4861, sections 6.2.6, 6.3.4, 7.2.3 and 8.3).
     pub(crate) fn given(&mut self, now: u64, mac: Mac, mark: Option<bool>) -> Packets<A>

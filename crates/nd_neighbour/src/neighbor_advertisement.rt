@@ -1,10 +1,9 @@
 ghost use Rattle.std.specs.Prelude.{[], if◌then◌else◌, vec_capacity, vec_len, ◌<◌, ◌^◌, ◌||◌, ◌≡◌};
 ghost use Rattle.std.specs.Option.{option_map};
 ghost use Rattle.nd_addr.specs.Number.{number_of};
-ghost use Rattle.nd_neighbour.specs.Change.{advertised};
-ghost use Rattle.nd_neighbour.specs.Table.{node_in};
-ghost use Rattle.nd_neighbour.specs.Room.{Alters};
-ghost use Rattle.nd_neighbour.specs.Calls.{told_released, told_turned};
+ghost use Rattle.nd_neighbour.specs.NeighborAdvertisement.{advertised};
+ghost use Rattle.nd_neighbour.specs.Table.{node_in, Alters};
+ghost use Rattle.nd_neighbour.specs.News.{told_released, told_turned};
 
 use crate::entry::{Entry, is_same_mac};
 use crate::news::{Flags, Touched};
@@ -40,7 +39,8 @@ pub(crate) fn advertise<A: Allocator>(
 }
 
 impl<A: Allocator> Entry<A> {
-    ghost use Rattle.nd_neighbour.specs.Change.{advertised, conforming, released, waiting_in};
+    ghost use Rattle.nd_neighbour.specs.Entry.{released, waiting_in};
+    ghost use Rattle.nd_neighbour.specs.NeighborAdvertisement.{advertised, conforming};
 
     /// A Neighbor Advertisement for it comes (RFC 4861, section 7.2.5). No address is known in INCOMPLETE alone.
     pub(crate) fn advertised(
@@ -89,7 +89,7 @@ impl<A: Allocator> Entry<A> {
         requires moment { now < 2 ^ 62 }
         requires span { reachable < 2 ^ 62 }
         ensures entry { self.new ≡ conforming flags now reachable (number_of mac.0) is_new self.old }
-        ensures released { result ≡ (if flags.solicited || is_new then waiting_in self.old.kept else []) }
+        ensures released { result ≡ (if flags.solicited || is_new then waiting_in self.old.stage else []) }
     {
         // IsRouter is set by the R flag.
         self.router = flags.router;

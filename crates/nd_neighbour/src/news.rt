@@ -1,9 +1,8 @@
 ghost use Rattle.std.specs.Prelude.{IfErr, IfOk, IsErr, OnErr, OnOk, [], false, is_some, not, true, vec_capacity, vec_len, ◌&&◌, ◌<◌, ◌^◌, ◌↔◌, ◌≡◌};
 ghost use Rattle.nd_addr.specs.Number.{number_of};
-ghost use Rattle.nd_neighbour.specs.Change.{with_mark};
-ghost use Rattle.nd_neighbour.specs.Table.{node_in};
-ghost use Rattle.nd_neighbour.specs.Room.{Alters};
-ghost use Rattle.nd_neighbour.specs.Calls.{told_released, told_turned};
+ghost use Rattle.nd_neighbour.specs.Entry.{with_mark};
+ghost use Rattle.nd_neighbour.specs.Table.{node_in, Alters};
+ghost use Rattle.nd_neighbour.specs.News.{told_released, told_turned};
 
 use crate::cache::Cache;
 use crate::entry::Entry;
@@ -91,8 +90,8 @@ impl<A: Allocator> Touched<A> {
 
 impl<A: Allocator + Clone> Cache<A> {
     ghost use Rattle.nd_neighbour.specs.Table.{node_in};
-    ghost use Rattle.nd_neighbour.specs.Room.{NoPlace};
-    ghost use Rattle.nd_neighbour.specs.Calls.{GainsNews, Tells, lets_enter, news_key, news_row};
+    ghost use Rattle.nd_neighbour.specs.Place.{NoPlace};
+    ghost use Rattle.nd_neighbour.specs.News.{GainsNews, Tells, lets_enter, news_key, news_row};
 
     /// A message says something of a neighbour (RFC 4861, sections 6.2.6, 6.3.4, 7.2.3, 7.2.5 and 8.3). Only an address
     /// that is given makes an entry; the other news of a neighbour that isn't there change nothing. Of `times` only
@@ -153,7 +152,7 @@ pub(crate) fn mark<A: Allocator>(
 }
 
 impl<A: Allocator> Entry<A> {
-    ghost use Rattle.nd_neighbour.specs.Change.{with_mark};
+    ghost use Rattle.nd_neighbour.specs.Entry.{with_mark};
 
     /// A message says whether it is a router.
     pub(crate) fn mark(&mut self, router: bool)

@@ -1,5 +1,5 @@
 ghost use Rattle.std.specs.Prelude.{IfSome, length, slice_get, true, vec_capacity, vec_len, ◌<◌, ◌≡◌, ◌≤◌};
-ghost use Rattle.nd_neighbour.specs.Room.{Places, has_place, longer, picked, picked_stale, stalest};
+ghost use Rattle.nd_neighbour.specs.Place.{Places, has_place, longer, picked, picked_stale, stalest};
 
 use crate::entry::{Entry, Stage};
 use std::alloc::Allocator;
@@ -63,11 +63,11 @@ pub(crate) fn make_place<A: Allocator>(entries: &mut Vec<Entry<A>, A>, limit: us
 }
 
 impl<A: Allocator> Entry<A> {
-    ghost use Rattle.nd_neighbour.specs.Room.{is_stale, since_kept};
+    ghost use Rattle.nd_neighbour.specs.Place.{is_stale, since_of};
 
     /// Whether it is stale at a moment (STALE).
     pub(crate) fn is_stale(&self, now: u64) -> bool
-        ensures { result ≡ is_stale self.now.kept now }
+        ensures { result ≡ is_stale self.now.stage now }
     {
         match &self.stage {
             Stage::Resolving { .. } => false,
@@ -82,7 +82,7 @@ impl<A: Allocator> Entry<A> {
 
     /// Since when it isn't known to be reachable.
     pub(crate) fn since(&self) -> u64
-        ensures { result ≡ since_kept self.now.kept }
+        ensures { result ≡ since_of self.now.stage }
     {
         match &self.stage {
             Stage::Resolving { .. } => 0,

@@ -1,7 +1,7 @@
 ghost use Rattle.std.specs.Prelude.{vec_capacity, vec_len, ◌<◌, ◌^◌, ◌≡◌};
 ghost use Rattle.nd_addr.specs.Number.{number_of};
-ghost use Rattle.nd_neighbour.specs.Change.{confirmed};
-ghost use Rattle.nd_neighbour.specs.Room.{Alters};
+ghost use Rattle.nd_neighbour.specs.ReachabilityConfirmation.{confirmed};
+ghost use Rattle.nd_neighbour.specs.Table.{Alters};
 
 use crate::cache::Cache;
 use crate::entry::Entry;
@@ -46,7 +46,7 @@ pub(crate) fn confirm<A: Allocator>(
 }
 
 impl<A: Allocator> Entry<A> {
-    ghost use Rattle.nd_neighbour.specs.Change.{confirmed};
+    ghost use Rattle.nd_neighbour.specs.ReachabilityConfirmation.{confirmed};
 
     /// An upper layer confirms that it is reached (RFC 4861, sections 7.3.1 and 7.3.3).
     pub(crate) fn confirm(&mut self, now: u64, reachable: u64)

@@ -1,8 +1,7 @@
 ghost use Rattle.std.specs.Prelude.{IfOk, List, OnErr, OnOk, [], length, vec_capacity, vec_len, ℕ, ◌++◌, ◌+◌, ◌≡◌, ◌≤◌};
 ghost use Rattle.nd_addr.specs.Number.{number_of};
 ghost use Rattle.nd_neighbour.specs.Table.{node_in};
-ghost use Rattle.nd_neighbour.specs.Room.{Removes};
-ghost use Rattle.nd_neighbour.specs.Calls.{all_waiting, waiting_at};
+ghost use Rattle.nd_neighbour.specs.Removal.{Removes, all_waiting, waiting_at};
 
 use crate::cache::Cache;
 use crate::entry::{Entry, Stage};
@@ -13,9 +12,9 @@ use std::alloc::{AllocError, Allocator};
 
 impl<A: Allocator + Clone> Cache<A> {
     ghost use Rattle.nd_neighbour.specs.History.{Forgot, Removed, Row, story};
+    ghost use Rattle.nd_neighbour.specs.Story.{waits_of};
     ghost use Rattle.nd_neighbour.specs.Table.{GainsRow, Stands};
-    ghost use Rattle.nd_neighbour.specs.Seen.{waits_of};
-    ghost use Rattle.nd_neighbour.specs.Calls.{all_waiting, cleared};
+    ghost use Rattle.nd_neighbour.specs.Removal.{all_waiting, cleared};
 
     /// A neighbour is forgotten, if it is there. What waited for it is handed out.
     pub fn forget(&mut self, addr: Addr) -> Packets<A>
@@ -105,11 +104,11 @@ pub(crate) fn take_all<A: Allocator + Clone>(
 }
 
 impl<A: Allocator> Entry<A> {
-    ghost use Rattle.nd_neighbour.specs.Change.{waiting_in};
+    ghost use Rattle.nd_neighbour.specs.Entry.{waiting_in};
 
     /// What waits at an entry that goes.
     pub(crate) fn packets(self) -> Packets<A>
-        ensures { result ≡ waiting_in self.kept }
+        ensures { result ≡ waiting_in self.stage }
     {
         match self.stage {
             Stage::Resolving { waiting, .. } => Packets::of(waiting),
@@ -119,7 +118,7 @@ impl<A: Allocator> Entry<A> {
 
     /// How many packets wait.
     pub(crate) fn waiting(&self) -> usize
-        ensures value { result ≡ length (waiting_in self.now.kept) }
+        ensures value { result ≡ length (waiting_in self.now.stage) }
         ensures few { result ≤ 3 }
     {
         match &self.stage {

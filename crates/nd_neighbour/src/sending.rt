@@ -1,9 +1,7 @@
 ghost use Rattle.std.specs.Prelude.{IfErr, IfOk, List, None, OnErr, OnOk, Some, if◌then◌else◌, is_some, true, vec_capacity, vec_len, ◌-◌, ◌<◌, ◌^◌, ◌↔◌, ◌≡◌};
 ghost use Rattle.nd_addr.specs.Number.{number_of};
-ghost use Rattle.nd_neighbour.specs.Change.{used};
-ghost use Rattle.nd_neighbour.specs.Table.{node_in};
-ghost use Rattle.nd_neighbour.specs.Room.{Alters};
-ghost use Rattle.nd_neighbour.specs.Calls.{sending_in};
+ghost use Rattle.nd_neighbour.specs.Table.{node_in, Alters};
+ghost use Rattle.nd_neighbour.specs.Sending.{used, sending_in};
 ghost use Rattle.nd_neighbour.specs.View.{sending_of};
 
 use crate::address_resolution::begin;
@@ -36,9 +34,9 @@ pub enum Use<A: Allocator> {
 impl<A: Allocator + Clone> Cache<A> {
     ghost use Rattle.nd_neighbour.specs.History.{Row, story};
     ghost use Rattle.nd_neighbour.specs.Table.{Stands, node_in};
-    ghost use Rattle.nd_neighbour.specs.Room.{NoPlace};
-    ghost use Rattle.nd_neighbour.specs.Second.{LeavesRoom};
-    ghost use Rattle.nd_neighbour.specs.Calls.{GainsPacket, refusal_of, sending_of_story};
+    ghost use Rattle.nd_neighbour.specs.Place.{NoPlace};
+    ghost use Rattle.nd_neighbour.specs.Sending.{GainsPacket, refusal_of, sending_of_story};
+    ghost use Rattle.nd_neighbour.specs.Room.{LeavesRoom};
     ghost use Rattle.nd_neighbour.specs.View.{sending_of};
 
     /// A packet is to be sent to a neighbour (RFC 4861, sections 7.2.2 and 7.3.3): it can be, or it waits until the
@@ -123,14 +121,14 @@ pub(crate) fn pass<A: Allocator>(
 }
 
 impl<A: Allocator> Entry<A> {
-    ghost use Rattle.nd_neighbour.specs.Change.{sending_to, used};
+    ghost use Rattle.nd_neighbour.specs.Sending.{sending_to, used};
     ghost use Rattle.nd_neighbour.specs.View.{sending_of};
 
     /// A packet for it is to be sent (RFC 4861, sections 7.2.2 and 7.3.3).
     pub(crate) fn send(&mut self, now: u64, retrans: u32, packet: Packet<A>) -> Use<A>
         requires { now < 2 ^ 62 }
         ensures entry { self.new ≡ used now retrans packet self.old }
-        ensures sending { sending_of result ≡ sending_to self.old.kept packet }
+        ensures sending { sending_of result ≡ sending_to self.old.stage packet }
     {
         match &mut self.stage {
             // INCOMPLETE: it waits, and a fourth one takes the place of the oldest (7.2.2).

@@ -2,7 +2,7 @@ ghost use Rattle.std.specs.Prelude.{IfOk, List, map, ◌≡◌};
 ghost use Rattle.std.specs.Option.{option_map};
 ghost use Rattle.nd_addr.specs.Number.{number_of};
 ghost use Rattle.nd_neighbour.specs.Table.{node_in};
-ghost use Rattle.nd_neighbour.specs.Seen.{seen};
+ghost use Rattle.nd_neighbour.specs.Shown.{seen};
 ghost use Rattle.nd_neighbour.specs.View.{seen_in};
 
 use crate::cache::Cache;
@@ -40,7 +40,7 @@ pub enum Reachability {
 impl<A: Allocator + Clone> Cache<A> {
     ghost use Rattle.nd_neighbour.specs.History.{Row, story};
     ghost use Rattle.nd_neighbour.specs.Table.{Stands, node_in};
-    ghost use Rattle.nd_neighbour.specs.Seen.{Lists, seen, seen_of};
+    ghost use Rattle.nd_neighbour.specs.Shown.{Lists, seen, seen_of};
     ghost use Rattle.nd_neighbour.specs.View.{seen_in};
 
     /// A neighbour at a moment, if there is an entry for it (RFC 4861, sections 5.1 and 7.3.2).
@@ -87,7 +87,7 @@ pub(crate) fn show_all<A: Allocator + Clone>(
 }
 
 impl<A: Allocator> Entry<A> {
-    ghost use Rattle.nd_neighbour.specs.Seen.{seen, state_in};
+    ghost use Rattle.nd_neighbour.specs.Shown.{seen, state_in};
     ghost use Rattle.nd_neighbour.specs.View.{seen_in};
 
     /// What is shown of it at a moment (RFC 4861, section 7.3.2).
@@ -104,7 +104,7 @@ impl<A: Allocator> Entry<A> {
 
     /// Its state at a moment (RFC 4861, section 7.3.2).
     fn state(&self, now: u64) -> Reachability
-        ensures { result ≡ state_in self.now.kept now }
+        ensures { result ≡ state_in self.now.stage now }
     {
         match &self.stage {
             Stage::Resolving { .. } => Reachability::Incomplete,

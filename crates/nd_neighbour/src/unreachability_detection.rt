@@ -1,4 +1,5 @@
 ghost use Rattle.std.specs.Prelude.{IfSome, is_some, nat_lt, ◌+◌, ◌<◌, ◌^◌, ◌≡◌};
+ghost use Rattle.nd_neighbour.specs.UnreachabilityDetection.{delay_first_probe_time, max_unicast_solicit};
 
 /// How long after the first use of a STALE entry its first probe is sent, in milliseconds (RFC 4861, section 10).
 const DELAY_FIRST_PROBE_TIME: u64 = 5_000;
@@ -23,7 +24,7 @@ impl Probing {
     /// section 7.3.3).
     pub(crate) fn after_use(now: u64, retrans: u32) -> Self
         requires { now < 2 ^ 62 }
-        ensures { result ≡ record { from = now + 5000; retrans = retrans; sent = 0 } }
+        ensures { result ≡ record { from = now + delay_first_probe_time; retrans = retrans; sent = 0 } }
     {
         Probing {
             from: now + DELAY_FIRST_PROBE_TIME,
@@ -35,7 +36,7 @@ impl Probing {
     /// A probe is due: it is sent, in PROBE, a RetransTimer after the one before. None follows the third, and the entry
     /// goes (RFC 4861, section 7.3.3).
     pub(crate) fn probed(self) -> Option<Self>
-        ensures left { is_some result ≡ nat_lt self.sent 3 }
+        ensures left { is_some result ≡ nat_lt self.sent max_unicast_solicit }
         ensures sent { IfSome result (λ next. next ≡ record { from = self.from; retrans = self.retrans; sent = self.sent + 1 }) }
     {
         if self.sent >= MAX_UNICAST_SOLICIT {

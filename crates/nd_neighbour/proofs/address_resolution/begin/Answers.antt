@@ -1,8 +1,8 @@
 use Rattle.std.proofs.Common.{◌∙◌, ap}
 use Rattle.std.specs.List.{insert}
-use Rattle.nd_neighbour.specs.Node.{Node}
+use Rattle.nd_neighbour.specs.Entry.{Node}
 use Rattle.nd_neighbour.specs.Table.{place_in}
-use Rattle.nd_neighbour.specs.Room.{Came}
+use Rattle.nd_neighbour.specs.Place.{Came}
 use Rattle.nd_neighbour.proofs.address_resolution.begin.Goals as goal
 
 pub returns-clause-gives : goal.returns-clause-gives

@@ -1,7 +1,7 @@
 use Rattle.std.proofs.Common.{subst, ◌<◌, length}
 use Rattle.std.specs.Prelude.{slice_get, List, ◌≡◌}
+use Rattle.nd_neighbour.specs.Entry.{Node}
 use Rattle.nd_neighbour.specs.Due.{due_in}
-use Rattle.nd_neighbour.specs.Node.{Node}
 use Rattle.nd_neighbour.proofs.Turns.{went}
 use Rattle.nd_neighbour.proofs.due.turn_first.Goals as goal
 

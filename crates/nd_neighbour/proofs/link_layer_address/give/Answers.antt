@@ -1,7 +1,7 @@
 use Rattle.std.proofs.Common.{◌∙◌, ap}
 use Rattle.std.specs.Prelude.{◌&&◌, not}
 use Rattle.nd_addr.specs.Number.{number_of}
-use Rattle.nd_neighbour.specs.Change.{given}
+use Rattle.nd_neighbour.specs.LinkLayerAddress.{given}
 use Rattle.nd_neighbour.proofs.Finds.{alters, releases, turns}
 use Rattle.nd_neighbour.proofs.link_layer_address.give.Goals as goal
 

@@ -1,5 +1,5 @@
 use Rattle.nd_addr.specs.Number.{number_of}
-use Rattle.nd_neighbour.specs.Change.{confirmed}
+use Rattle.nd_neighbour.specs.ReachabilityConfirmation.{confirmed}
 use Rattle.nd_neighbour.proofs.Finds.{alters}
 use Rattle.nd_neighbour.proofs.reachability_confirmation.confirm.Goals as goal
 

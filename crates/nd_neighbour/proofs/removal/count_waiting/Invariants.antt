@@ -1,5 +1,5 @@
 use Rattle.std.proofs.Common.{◌≡◌, ◌+◌, ◌*◌, ◌≤◌, drop, length}
-use Rattle.nd_neighbour.specs.Calls.{all_waiting}
+use Rattle.nd_neighbour.specs.Removal.{all_waiting}
 use Rattle.nd_neighbour.proofs.removal.count_waiting.Given as goal
 
 -- those so far and those of the rest are all

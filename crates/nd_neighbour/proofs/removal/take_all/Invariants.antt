@@ -1,5 +1,5 @@
 use Rattle.std.proofs.Common.{◌≡◌, ◌+◌, ◌≤◌, ◌++◌, length, vec_len, vec_capacity}
-use Rattle.nd_neighbour.specs.Calls.{all_waiting}
+use Rattle.nd_neighbour.specs.Removal.{all_waiting}
 use Rattle.nd_neighbour.proofs.removal.take_all.Given as goal
 
 -- those that were handed out and those of the rest are all

@@ -1,8 +1,7 @@
 use Rattle.std.proofs.Common.{◌∙◌, sym, ap, Option}
 use Rattle.nd_addr.specs.Number.{number_of}
-use Rattle.nd_neighbour.specs.Node.{Node}
-use Rattle.nd_neighbour.specs.Change.{used}
-use Rattle.nd_neighbour.specs.Calls.{sending_in}
+use Rattle.nd_neighbour.specs.Entry.{Node}
+use Rattle.nd_neighbour.specs.Sending.{used, sending_in}
 use Rattle.nd_neighbour.proofs.Finds.{alters, there}
 use Rattle.nd_neighbour.proofs.sending.pass.Goals as goal
 

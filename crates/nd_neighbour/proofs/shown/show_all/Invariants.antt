@@ -1,6 +1,6 @@
 use Rattle.std.proofs.Common.{◌≡◌, take, vec_len, vec_capacity}
 use Rattle.std.specs.Prelude.{map}
-use Rattle.nd_neighbour.specs.Seen.{seen}
+use Rattle.nd_neighbour.specs.Shown.{seen}
 use Rattle.nd_neighbour.specs.View.{seen_in}
 use Rattle.nd_neighbour.proofs.shown.show_all.Given as goal
 
