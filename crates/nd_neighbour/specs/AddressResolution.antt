@@ -12,6 +12,10 @@ max_multicast_solicit = 3
 abbrev pub max_more : ℕ
 max_more = max_multicast_solicit - 1
 
+-- how many packets wait for one neighbour. Our choice: RFC 4861, section 7.2.2, asks for one at least.
+abbrev pub max_waiting : ℕ
+max_waiting = 3
+
 -- a resolution: its moment, the RetransTimer in force then, and how many solicitations were sent after the first
 pub record Resolution : Type 0 where
   pub at : ℕ
@@ -37,9 +41,9 @@ packets_of ((at, Asked retrans) ∷ s) = []
 packets_of ((at, Waits packet) ∷ s) = packets_of s ++ packet ∷ []
 packets_of ((at, _) ∷ s) = packets_of s
 
--- the last three of them wait
+-- the last of them wait
 abbrev pub waiting_of : Story → List (List ℕ)
-waiting_of s = keep_last 3 (packets_of s)
+waiting_of s = keep_last max_waiting (packets_of s)
 
 -- the RetransTimer of the resolution
 abbrev pub retrans_in : Option Resolution → ℕ

@@ -9,9 +9,9 @@ stale_lifetime = 86400000
 
 -- what is kept of a neighbour, beside its address and its mark
 pub data Stage : Type 0 where
-  -- no address is known: the time between two solicitations, how many were sent after the first, what waits
+  -- no address is known (INCOMPLETE): the time between two solicitations, how many were sent after the first, what waits
   Resolving : (retrans sent : ℕ) (waiting : List (List ℕ)) → Stage
-  -- an address is known: whether the last word is a confirmation, until or from when, and the use afterwards
+  -- an address is known (REACHABLE, STALE, DELAY or PROBE): whether the last word is a confirmation, until or from when, and the use afterwards
   Known : (mac : ℕ) (confirmed : Bool) (since : ℕ) (probing : Option Probing) → Stage
 
 -- a neighbour: its address, its mark, the moment at which something falls due, and the rest

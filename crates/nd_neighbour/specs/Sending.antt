@@ -5,7 +5,7 @@ use Rattle.nd_table.specs.History.{GainsRowsMakingPlace}
 use Rattle.nd_neighbour.specs.declared.refusal.CacheRefusal.{CacheRefusal}
 use Rattle.nd_neighbour.specs.History.{Row, Asked, Waits, Used, story, Story}
 use Rattle.nd_neighbour.specs.Entry.{Stage, Resolving, Known, Node}
-use Rattle.nd_neighbour.specs.AddressResolution.{waiting_of}
+use Rattle.nd_neighbour.specs.AddressResolution.{max_waiting, waiting_of}
 use Rattle.nd_neighbour.specs.UnreachabilityDetection.{delay_first_probe_time}
 use Rattle.nd_neighbour.specs.Story.{is_present, mac_of}
 use Rattle.nd_neighbour.specs.Table.{Stands}
@@ -19,7 +19,7 @@ pub data Sending : Type 0 where
 -- what becomes of the packet: it begins a resolution, or waits, or is sent
 abbrev pub sending_by : Bool → Option ℕ → List (List ℕ) → List ℕ → Sending
 sending_by false known waiting packet = Queues true None
-sending_by true None waiting packet = Queues false (if nat_lt (length waiting) 3 then None else slice_get (waiting ++ packet ∷ []) 0)
+sending_by true None waiting packet = Queues false (if nat_lt (length waiting) max_waiting then None else slice_get (waiting ++ packet ∷ []) 0)
 sending_by true (Some mac) waiting packet = Sends mac packet
 
 -- the same by the story
@@ -41,7 +41,7 @@ GainsPacket limit now key retrans packet old new =
 -- the same by what is kept
 abbrev pub sending_to : Stage → List ℕ → Sending
 sending_to (Resolving retrans sent waiting) packet =
-    Queues false (if nat_lt (length waiting) 3 then None else slice_get (waiting ++ packet ∷ []) 0)
+    Queues false (if nat_lt (length waiting) max_waiting then None else slice_get (waiting ++ packet ∷ []) 0)
 sending_to (Known mac confirmed since probing) packet = Sends mac packet
 
 -- and of a neighbour that may not be there
@@ -53,7 +53,7 @@ sending_in (Some n) packet = sending_to n.stage packet
 -- and PROBE nothing changes
 abbrev pub used_to : Stage → ℕ → ℕ → List ℕ → Node → Node
 used_to (Resolving retrans sent waiting) at new_retrans packet n =
-    record { key = n.key; router = n.router; due = n.due; stage = Resolving retrans sent (keep_last 3 (waiting ++ packet ∷ [])) }
+    record { key = n.key; router = n.router; due = n.due; stage = Resolving retrans sent (keep_last max_waiting (waiting ++ packet ∷ [])) }
 used_to (Known mac confirmed since None) at retrans packet n =
     if nat_le since at
     then record {

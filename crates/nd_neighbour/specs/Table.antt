@@ -7,6 +7,11 @@ use Rattle.nd_neighbour.specs.History.{Row, story}
 use Rattle.nd_neighbour.specs.Entry.{Node}
 use Rattle.nd_neighbour.specs.Story.{node_of}
 
+-- how many rings may be in hand for new neighbours. Our choice: a packet may need one for its neighbour and, as `room`
+-- asks, one for a second neighbour.
+abbrev pub max_rings : ℕ
+max_rings = 2
+
 -- a cache: how many neighbours it has room for, those that it has, and how many rings are in hand for new ones
 pub record Table : Type 0 where
   pub limit : ℕ

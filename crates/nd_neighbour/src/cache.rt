@@ -21,13 +21,13 @@ pub struct Cache<A: Allocator> {
 impl<A: Allocator> Model for Cache<A> {
     ghost use Rattle.std.specs.Prelude.{◌≤◌, length};
     ghost use Rattle.std.specs.Vec.{vec_len, vec_capacity};
-    ghost use Rattle.nd_neighbour.specs.Table.{Table};
+    ghost use Rattle.nd_neighbour.specs.Table.{Table, max_rings};
 
     ghost Value = { Table };
 
     ghost view = { λ c. record { limit = c.limit; nodes = c.entries.items; rings = length c.rings.items } };
 
-    ghost invariant = { λ c. (vec_len c.entries ≤ c.limit) × (c.limit ≤ vec_capacity c.entries) × (vec_len c.rings ≤ 2) × (2 ≤ vec_capacity c.rings) };
+    ghost invariant = { λ c. (vec_len c.entries ≤ c.limit) × (c.limit ≤ vec_capacity c.entries) × (vec_len c.rings ≤ max_rings) × (max_rings ≤ vec_capacity c.rings) };
 }
 
 impl<A: Allocator + Clone> Cache<A> {

@@ -27,7 +27,7 @@ pub(crate) struct Entry<A: Allocator> {
 /// What is kept of a neighbour beside its address and its mark.
 #[derive(Drop)]
 pub(crate) enum Stage<A: Allocator> {
-    /// Its link-layer address is being resolved (RFC 4861, section 7.2.2).
+    /// INCOMPLETE: its link-layer address is being resolved (RFC 4861, section 7.2.2).
     Resolving {
         /// RetransTimer when it began: the time between two solicitations, in milliseconds.
         retrans: u32,
@@ -35,7 +35,7 @@ pub(crate) enum Stage<A: Allocator> {
         sent: u8,
         waiting: Waiting<A>,
     },
-    /// Its link-layer address is known.
+    /// REACHABLE, STALE, DELAY or PROBE: its link-layer address is known.
     Known {
         mac: Mac,
         /// Whether the last thing that was heard is a confirmation.
@@ -78,7 +78,7 @@ impl<A: Allocator> Dated<()> for Entry<A> {
 }
 
 impl<A: Allocator> Entry<A> {
-    ghost use Rattle.nd_neighbour.specs.Entry.{Known, stale_lifetime, is_reachable, known_mac, waiting_in};
+    ghost use Rattle.nd_neighbour.specs.Entry.{Known, is_reachable, known_mac, stale_lifetime, waiting_in};
 
     /// The link-layer address, if it is known.
     pub(crate) fn mac(&self) -> Option<Mac>

@@ -1,4 +1,5 @@
 ghost use Rattle.std.specs.Prelude.{IfErr, IsOk, OnErr, OnOk, length, max, vec_capacity, vec_len, ◌-◌, ◌<◌, ◌≡◌, ◌≤◌};
+ghost use Rattle.nd_neighbour.specs.Table.{max_rings};
 
 use crate::cache::Cache;
 use crate::refusal::CacheRefusal;
@@ -9,7 +10,7 @@ impl<A: Allocator + Clone> Cache<A> {
     /// Makes rings for new neighbours until so many are in hand, at most two. With a ring in hand `used` takes no
     /// memory. `Memory` comes where the allocator refuses one; those that were made before it stay in hand.
     pub fn ready(&mut self, n: usize) -> Result<(), CacheRefusal>
-        requires { n ≤ 2 }
+        requires { n ≤ max_rings }
         ensures ok { OnOk result (n ≤ self.new.rings) }
         ensures err { IfErr result (λ refusal. refusal ≡ CacheRefusal.Memory) }
         ensures in_hand { n ≤ self.old.rings → IsOk result }
@@ -44,15 +45,15 @@ pub(crate) fn fill<A: Allocator + Clone>(
     rings: &mut Vec<Ring<A>, A>,
     n: usize,
 ) -> Result<(), CacheRefusal>
-    requires n { n ≤ 2 }
-    requires few { vec_len rings.old ≤ 2 }
-    requires room { 2 ≤ vec_capacity rings.old }
+    requires n { n ≤ max_rings }
+    requires few { vec_len rings.old ≤ max_rings }
+    requires room { max_rings ≤ vec_capacity rings.old }
     ensures ok { OnOk result (n ≤ vec_len rings.new) }
     ensures err { IfErr result (λ refusal. refusal ≡ CacheRefusal.Memory) }
     ensures in_hand { n ≤ vec_len rings.old → IsOk result }
     ensures kept { vec_len rings.old ≤ vec_len rings.new }
     ensures no_more { vec_len rings.new ≤ max n (vec_len rings.old) }
-    ensures few { vec_len rings.new ≤ 2 }
+    ensures few { vec_len rings.new ≤ max_rings }
     ensures capacity { vec_capacity rings.new ≡ vec_capacity rings.old }
 {
     while rings.len() < n {
