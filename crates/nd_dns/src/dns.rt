@@ -46,7 +46,7 @@ impl<A: Allocator + Clone> Dns<A> {
     ghost use Rattle.nd_dns.specs.Dns.{Stands};
     ghost use Rattle.nd_dns.specs.Names.{same_name};
 
-    /// Nothing heard, with room for 32 servers and for 32 names. All of it is reserved here.
+    /// Nothing heard, with room for 32 servers and for 32 names. All of it is reserved here; the error is want of memory.
     pub fn new(alloc: A) -> Result<Self, AllocError>
         ensures empty { IfOk result (λ dns. dns ≡ record { servers = []; names = [] }) }
         ensures stands { IfOk result (λ dns. Stands dns [] []) }
@@ -60,7 +60,7 @@ impl<A: Allocator + Clone> Dns<A> {
         })
     }
 
-    /// The servers that stand at a moment, in the order in which they came.
+    /// The servers that stand at a moment, with their ends, both in milliseconds, in the order in which they came.
     pub fn servers(&self, now: u64) -> Standing<'_, Addr>
         ensures value { standing_left result ≡ open_at now self.now.servers }
         ensures lists { (history : List (Row Addr)) (names : List (Row (List ℕ))) → Stands self.now history names → last_moment history ≤ now → Lists same_addr history now (standing_left result) }
@@ -68,7 +68,7 @@ impl<A: Allocator + Clone> Dns<A> {
         Standing::new(&self.servers, now)
     }
 
-    /// The search names that stand at a moment, in the order in which they came.
+    /// The search names that stand at a moment, with their ends, both in milliseconds, in the order in which they came.
     pub fn search_names(&self, now: u64) -> Standing<'_, SearchName<A>>
         ensures value { standing_left result ≡ open_at now self.now.names }
         ensures lists { (servers : List (Row Addr)) (history : List (Row (List ℕ))) → Stands self.now servers history → last_moment history ≤ now → Lists same_name history now (standing_left result) }

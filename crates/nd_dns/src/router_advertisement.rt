@@ -21,7 +21,8 @@ impl<A: Allocator + Clone> Dns<A> {
     ghost use Rattle.nd_dns.specs.Servers.{servers_told};
     ghost use Rattle.nd_dns.specs.Names.{same_name, names_told};
 
-    /// Whether there is room for the servers that the options of a Router Advertisement tell, taken in order. It takes no memory.
+    /// Whether there is room for the servers that the options of a Router Advertisement tell at a moment in milliseconds, taken in order.
+    /// It takes no memory.
     pub fn fits_servers(&self, now: u64, options: Options<'_>) -> bool
         ensures value { result ≡ fits same_addr max_servers now (servers_told (options_left options.entry)) self.now.servers }
         ensures by_history { (history : List (Row Addr)) (names : List (Row (List ℕ))) (es : List (Lasting Addr)) → Stands self.now history names → last_moment history ≤ now → Lists same_addr history now es
@@ -31,7 +32,7 @@ impl<A: Allocator + Clone> Dns<A> {
         fits_all(&self.servers, MAX_SERVERS, now, told)
     }
 
-    /// Whether there is room for the search names that they tell, taken in order. It takes no memory.
+    /// The same for the search names that they tell.
     pub fn fits_names(&self, now: u64, options: Options<'_>) -> bool
         ensures value { result ≡ fits same_name max_names now (names_told (options_left options.entry)) self.now.names }
         ensures by_history { (servers : List (Row Addr)) (history : List (Row (List ℕ))) (es : List (Lasting (List ℕ))) → Stands self.now servers history → last_moment history ≤ now → Lists same_name history now es
@@ -59,8 +60,9 @@ impl<A: Allocator + Clone> Dns<A> {
         }
     }
 
-    /// The options of a Router Advertisement are heard, in order, with the names that they add (RFC 8106, section 6.1). It takes no
-    /// memory.
+    /// The options of a Router Advertisement are heard at a moment in milliseconds, in order, with the names that they add (RFC 8106,
+    /// section 6.1): a server or a name enters or is refreshed, and a lifetime of 0 removes it. `Full` comes where the servers or the
+    /// names are too many at some point, and names the servers first. It takes no memory.
     pub fn heard_ra(
         &mut self,
         now: u64,

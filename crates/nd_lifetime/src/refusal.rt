@@ -11,11 +11,11 @@ pub enum Limit {
     Names,
 }
 
-/// Why a call is refused.
+/// Why a call of a table is refused. Nothing has changed then.
 #[derive(Clone, Copy, Debug, PartialEq, Eq)]
 pub enum TableRefusal {
-    /// The announcements of a message, taken in order, pass this table's limit.
+    /// There is no room: the announcements of a message, taken in order, pass this table's limit at some point.
     Full(Limit),
-    /// Memory was refused.
+    /// The allocator refused memory.
     Memory,
 }

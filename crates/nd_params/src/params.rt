@@ -46,7 +46,7 @@ impl Model for Params {
 }
 
 impl Params {
-    /// The defaults, with a first ReachableTime that was drawn for their base, in milliseconds.
+    /// The defaults (RFC 4861, section 10), with a first ReachableTime that was drawn for their base, at a moment, both in milliseconds.
     pub fn new(now: u64, drawn: u64) -> Params
         requires { now < 2 ^ 62 }
         ensures value { result ≡ record { hop_limit = default_hop_limit; mtu = ethernet_mtu; base_reachable_time = reachable_time; reachable_time = drawn; retrans_timer = retrans_timer; managed = false; other = false; drawn_at = now } }

@@ -4,11 +4,12 @@ ghost use Rattle.nd_params.specs.Params.{Stands, GainsRows};
 
 use crate::params::Params;
 
-/// How long after a draw of ReachableTime the next one comes, in milliseconds: two hours.
+/// How long after a draw of ReachableTime the next one comes, in milliseconds: two hours, which is our
+/// choice of the few hours of RFC 4861, section 6.3.4.
 const REDRAW_AFTER: u64 = 7_200_000;
 
 impl Params {
-    /// The moment at which ReachableTime is to be drawn again.
+    /// The moment at which ReachableTime is to be drawn again, in milliseconds.
     pub fn next_due(&self) -> u64
         ensures value { result ≡ self.now.drawn_at + redraw_after }
         ensures due { (history : List Row) → Stands self.now history → result ≡ next_draw history }
@@ -16,7 +17,7 @@ impl Params {
         self.drawn_at + REDRAW_AFTER
     }
 
-    /// ReachableTime was drawn again, in milliseconds.
+    /// ReachableTime was drawn again at a moment, both in milliseconds.
     pub fn redrawn(&mut self, now: u64, drawn: u64)
         requires { now < 2 ^ 62 }
         ensures value { self.new ≡ record self.old { reachable_time = drawn; drawn_at = now } }

@@ -16,8 +16,8 @@ impl Params {
         ra.reachable_time != 0 && ra.reachable_time != self.base_reachable_time
     }
 
-    /// A Router Advertisement is heard (RFC 4861, section 6.3.4). Where it changes the base a new ReachableTime was drawn, in
-    /// milliseconds.
+    /// A Router Advertisement is heard at a moment (RFC 4861, section 6.3.4). Where it changes the base, which `redraws` tells, a new
+    /// ReachableTime was drawn. Moment and ReachableTime are in milliseconds.
     pub fn heard_ra(
         &mut self,
         now: u64,

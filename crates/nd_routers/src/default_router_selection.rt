@@ -24,7 +24,8 @@ impl<A: Allocator + Clone> Routers<A> {
     ghost use Rattle.nd_routers.specs.Routers.{Stands, GainsRow, keys};
     ghost use Rattle.nd_routers.specs.DefaultRouterSelection.{place_among, FailsAt};
 
-    /// A router can't be reached: its failure is noted, if it is in the list. It takes no memory.
+    /// A router can't be reached: its failure is noted, if it is in the list, so that it is chosen last (RFC 4861, section 6.3.6). It
+    /// takes no memory.
     pub fn failed(&mut self, source: Addr)
         ensures stands { (at : ℕ) → GainsRow self.old self.new (Failed at (number_of source.0)) }
         ensures entries { self.new.entries ≡ self.old.entries }

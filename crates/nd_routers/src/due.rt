@@ -19,7 +19,7 @@ impl<A: Allocator + Clone> Routers<A> {
     ghost use Rattle.nd_routers.specs.Routers.{same, Stands, GainsRow, next_end, IsSettled, NoneBefore};
     ghost use Rattle.nd_routers.specs.Due.{FirstDue, NextDue};
 
-    /// The earliest end.
+    /// The earliest end, in milliseconds, or `None` where no router's lifetime ends.
     pub fn next_due(&self) -> Option<u64>
         ensures value { result ≡ next_end self.now.entries }
         ensures due { (history : List RouterRow) → Stands self.now history → NextDue history result }
@@ -27,7 +27,11 @@ impl<A: Allocator + Clone> Routers<A> {
         next_date(&self.entries)
     }
 
-    /// The least address of the routers whose lifetime ends now, which leaves the list (RFC 4861, section 6.3.5).
+    /// The least address of the routers whose lifetime ends at this moment, in milliseconds, which leaves the list (RFC 4861, section
+    /// 6.3.5). `None` where none ends at it; nothing changes then.
+    ///
+    /// It asks that no end is left that came earlier. So a caller who comes late doesn't ask with the moment that it is, but with the
+    /// one that `next_due` tells, until that lies ahead.
     pub fn turn(&mut self, now: u64) -> Option<Addr>
         requires { NoneBefore self.old.entries now }
         ensures due { (history : List RouterRow) → Stands self.old history → FirstDue history now (option_map (λ a. number_of a.0) result) }
@@ -43,7 +47,8 @@ impl<A: Allocator + Clone> Routers<A> {
         Some(source)
     }
 
-    /// A router leaves the list, if it is in it. It answers whether it was.
+    /// A router leaves the list, if it is in it, as one that is no router any more does (RFC 4861, section 7.2.5). It answers whether it
+    /// was in it. It takes no memory.
     pub fn ended(&mut self, source: Addr) -> bool
         ensures stands { (at : ℕ) → GainsRow self.old self.new (LeftList at (number_of source.0)) }
         ensures listed { result ≡ is_some (end_in same (number_of source.0) self.old.entries) }

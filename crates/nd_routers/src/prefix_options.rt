@@ -15,14 +15,17 @@ use std::alloc::Allocator;
 impl<A: Allocator + Clone> Prefixes<A> {
     ghost use Rattle.nd_routers.specs.PrefixOptions.{prefixes_in};
 
-    /// Whether there is room for what the options of a Router Advertisement announce, taken in order. It takes no memory.
+    /// Whether there is room for what the options of a Router Advertisement announce at a moment in milliseconds, taken in order: where it
+    /// is so, `heard_ra` isn't refused. It takes no memory.
     pub fn fits(&self, now: u64, options: Options<'_>) -> bool
         ensures { result ≡ fits same_prefix max_prefixes now (prefixes_in (options_left options.entry)) self.now }
     {
         fits_all(&self.entries, MAX_PREFIXES, now, OnLink { options })
     }
 
-    /// The options of a Router Advertisement are heard, in order (RFC 4861, section 6.3.4). It takes no memory.
+    /// The options of a Router Advertisement are heard at a moment in milliseconds, in order (RFC 4861, section 6.3.4): a prefix that is
+    /// on the link enters or is refreshed, and a valid lifetime of 0 removes it. `Full` comes where the prefixes are too many at some
+    /// point. It takes no memory.
     pub fn heard_ra(&mut self, now: u64, options: Options<'_>) -> Result<(), TableRefusal>
         requires moment { now < 2 ^ 62 }
 

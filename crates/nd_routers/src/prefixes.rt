@@ -37,7 +37,7 @@ impl<A: Allocator> Model for Prefixes<A> {
 }
 
 impl<A: Allocator + Clone> Prefixes<A> {
-    /// No prefixes, with room for 64. All of it is reserved here.
+    /// No prefixes, with room for 64. All of it is reserved here; the error is want of memory.
     pub fn new(alloc: A) -> Result<Self, AllocError>
         ensures empty { IfOk result (λ prefixes. prefixes ≡ []) }
         ensures stands { IfOk result (λ prefixes. Stands same_prefix prefixes []) }
@@ -47,7 +47,7 @@ impl<A: Allocator + Clone> Prefixes<A> {
         })
     }
 
-    /// The prefixes that are on the link at a moment, in the order in which they came. fe80::/64 isn't among them.
+    /// The prefixes that are on the link at a moment, with their ends, both in milliseconds, in the order in which they came. fe80::/64 isn't among them.
     pub fn rows(&self, now: u64) -> Standing<'_, Prefix>
         ensures value { standing_left result ≡ open_at now self.now }
         ensures lists { (history : List (Row PrefixValue)) → Stands same_prefix self.now history → last_moment history ≤ now → Lists same_prefix history now (standing_left result) }

@@ -29,7 +29,8 @@ impl<A: Allocator + Clone> Routers<A> {
     ghost use Rattle.nd_routers.specs.Routers.{max_routers, same, Stands, GainsRow, IsSettled};
     ghost use Rattle.nd_routers.specs.RouterAdvertisement.{change_of};
 
-    /// Whether there is room for what a Router Advertisement announces. It takes no memory.
+    /// Whether there is room for a router that announces itself at a moment in milliseconds, for a lifetime in seconds: where it is so,
+    /// `heard_ra` isn't refused. It takes no memory.
     pub fn fits(&self, now: u64, source: Addr, lifetime: u16) -> bool
         ensures { result ≡ fits same max_routers now ((number_of source.0, lifetime) ∷ []) self.now.entries }
     {
@@ -39,8 +40,10 @@ impl<A: Allocator + Clone> Routers<A> {
         lifetime == 0 || count(&self.entries, now) < MAX_ROUTERS
     }
 
-    /// A router is heard that announces itself for a lifetime in seconds (RFC 4861, section 6.3.4). No router's end has come that is
-    /// still to be told. It takes no memory.
+    /// A router is heard that announces itself, at a moment in milliseconds, for a lifetime in seconds (RFC 4861, section 6.3.4): it
+    /// enters the list or is refreshed, and a lifetime of 0 removes it. `Full` comes where it is one too many. It takes no memory.
+    ///
+    /// It asks that no router's end has come that is still to be told, which `next_due` tells.
     pub fn heard_ra(
         &mut self,
         now: u64,

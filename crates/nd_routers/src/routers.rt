@@ -37,7 +37,7 @@ impl<A: Allocator + Clone> Routers<A> {
     ghost use Rattle.nd_routers.specs.History.{RouterRow, announcements};
     ghost use Rattle.nd_routers.specs.Routers.{max_routers, same, Stands, then_left, keys};
 
-    /// No routers, with room for 16. All of it is reserved here.
+    /// No routers, with room for 16. All of it is reserved here; the error is want of memory.
     pub fn new(alloc: A) -> Result<Self, AllocError>
         ensures empty { IfOk result (λ routers. routers ≡ record { entries = []; failed = [] }) }
         ensures stands { IfOk result (λ routers. Stands routers []) }
@@ -47,7 +47,7 @@ impl<A: Allocator + Clone> Routers<A> {
         Ok(Routers { entries, failed })
     }
 
-    /// Whether a router is in the list at a moment.
+    /// Whether a router is in the list at a moment, in milliseconds.
     pub fn holds(&self, now: u64, source: Addr) -> bool
         ensures value { result ≡ is_some (end_in same (number_of source.0) (open_at now self.now.entries)) }
         ensures stands { (history : List RouterRow) → Stands self.now history → result ≡ stands same (number_of source.0) (announcements history) now }
@@ -55,7 +55,7 @@ impl<A: Allocator + Clone> Routers<A> {
         stands(&self.entries, now, &source)
     }
 
-    /// The routers in the list at a moment, in the order in which they came.
+    /// The routers in the list at a moment, with their ends, both in milliseconds, in the order in which they came.
     pub fn rows(&self, now: u64) -> Standing<'_, Router>
         ensures value { standing_left result ≡ open_at now self.now.entries }
         ensures lists { (history : List RouterRow) → Stands self.now history → Lists same (announcements history) now (standing_left result) }
@@ -63,7 +63,8 @@ impl<A: Allocator + Clone> Routers<A> {
         Standing::new(&self.entries, now)
     }
 
-    /// All routers leave the list. They are handed out in the order in which they came.
+    /// All routers leave the list. They are handed out in the order in which they came. The error is want of memory, and then none has
+    /// left.
     pub fn clear(&mut self) -> Result<Vec<Addr, A>, AllocError>
         ensures routers { IfOk result (λ routers. map (λ a. number_of a.0) routers.items ≡ keys self.old.entries) }
         ensures stands { OnOk result ((at : ℕ) (history : List RouterRow) → Stands self.old history → Stands self.new (then_left at (keys self.old.entries) history)) }

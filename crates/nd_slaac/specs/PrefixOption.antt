@@ -1,8 +1,8 @@
 -- Which prefix options name an address, and which (RFC 4862, section 5.5.3; RFC 4291, section 2.5.1 and appendix A).
-use Rattle.std.specs.Prelude.{ℕ, ◌==◌, nat_le, Bool, ◌&&◌, not, List, [], ◌∷◌, replicate}
+use Rattle.std.specs.Prelude.{ℕ, ◌==◌, nat_le, Bool, ◌&&◌, not, List, [], ◌∷◌}
 use Rattle.nd_addr.specs.declared.mac.Mac.{Mac}
 use Rattle.nd_addr.specs.Number.{number_of, holds}
-use Rattle.nd_addr.specs.Kind.{multicast_prefix, link_local_prefix, address_from_mac}
+use Rattle.nd_addr.specs.Kind.{multicast_prefix, link_local_prefix, link_local_subnet, address_from_mac}
 use Rattle.nd_decode.specs.declared.prefix_info.PrefixInfo.{PrefixInfo}
 use Rattle.nd_decode.specs.Option.{Said, prefix}
 use Rattle.nd_slaac.specs.History.{Lifetimes}
@@ -24,7 +24,7 @@ named_by mac info = number_of (address_from_mac info.prefix.address.0 mac.0)
 
 -- the link-local address: fe80::/64 and that identifier (RFC 4862, section 5.3)
 unfoldable pub link_local_of : Mac → ℕ
-link_local_of mac = number_of (address_from_mac (0xfe ∷ 0x80 ∷ replicate 14 0) mac.0)
+link_local_of mac = number_of (address_from_mac link_local_subnet.address.0 mac.0)
 
 abbrev pub lifetimes_of : PrefixInfo → Lifetimes
 lifetimes_of info = record { valid = info.valid_lifetime; preferred = info.preferred_lifetime }

@@ -37,7 +37,8 @@ impl<A: Allocator + Clone> Addresses<A> {
     ghost use Rattle.nd_slaac.specs.Calls.{formed};
 
     /// The addresses of an interface that starts: its link-local address, whose first solicitation waits for a delay
-    /// (RFC 4862, sections 5.3 and 5.4.2). Delay and RetransTimer are in milliseconds. All room is reserved here.
+    /// (RFC 4862, sections 5.3 and 5.4.2). Moment, delay and RetransTimer are in milliseconds. All room is reserved here; the error is
+    /// want of memory.
     pub fn start(alloc: A, now: u64, mac: Mac, delay: u32, retrans: u32) -> Result<Self, AllocError>
         requires { now < 2 ^ 62 }
         ensures first { IfOk result (λ table. table ≡ record { mac = mac; addresses = formed (link_local_of mac) now delay retrans None ∷ [] }) }

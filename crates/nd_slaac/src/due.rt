@@ -29,7 +29,7 @@ impl<A: Allocator + Clone> Addresses<A> {
     ghost use Rattle.nd_slaac.specs.MayCome.{MayCome};
     ghost use Rattle.nd_slaac.specs.View.{falls_of};
 
-    /// The earliest moment at which something falls due.
+    /// The earliest moment at which something falls due, in milliseconds; `None` where nothing does.
     pub fn next_due(&self) -> Option<u64>
         ensures value { result ≡ next_in self.now.addresses }
         ensures due { (history : List Row) → Stands self.now.addresses history → NextDue history result }
@@ -37,8 +37,12 @@ impl<A: Allocator + Clone> Addresses<A> {
         next(&self.entries)
     }
 
-    /// What falls due now: the end of the least address whose valid lifetime ends, and where there is none, the step
-    /// of the least address whose detection has one (RFC 4862, sections 5.4.2 and 5.5.4).
+    /// What falls due at this moment, in milliseconds: the end of the least address whose valid lifetime ends, and where there is none,
+    /// the step of the least address whose detection has one (RFC 4862, sections 5.4.2 and 5.5.4). `None` where nothing falls due at
+    /// it; nothing changes then.
+    ///
+    /// It asks that nothing is left that fell due earlier. So a caller who comes late doesn't ask with the moment that it is, but with
+    /// the one that `next_due` tells, until that lies ahead.
     pub fn turn(&mut self, now: u64) -> Option<Due>
         requires moment { now < 2 ^ 62 }
         requires none_before { NoneBefore self.old.addresses now }

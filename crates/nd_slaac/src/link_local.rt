@@ -2,7 +2,6 @@ ghost use Rattle.std.specs.Prelude.{◌≡◌};
 ghost use Rattle.nd_addr.specs.Number.{number_of};
 ghost use Rattle.nd_slaac.specs.PrefixOption.{link_local_of};
 
-use crate::prefix_option::PREFIX_LENGTH;
 use nd_addr::{Addr, Mac, Prefix};
 
 /// The link-local address of an interface (RFC 4862, section 5.3).
@@ -10,9 +9,5 @@ use nd_addr::{Addr, Mac, Prefix};
 pub(crate) fn link_local(mac: Mac) -> Addr
     ensures { number_of result.0 ≡ link_local_of mac }
 {
-    let first = Addr([0xfe, 0x80, 0, 0, 0, 0, 0, 0, 0, 0, 0, 0, 0, 0, 0, 0]);
-    match Prefix::new(first, PREFIX_LENGTH) {
-        Some(prefix) => Addr::from_mac(&prefix, mac),
-        None => unreachable!(),
-    }
+    Addr::from_mac(&Prefix::link_local_subnet(), mac)
 }

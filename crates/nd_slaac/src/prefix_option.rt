@@ -24,7 +24,7 @@ pub enum Taken {
     Ignored,
 }
 
-/// There is no room for one more address.
+/// There is no room: a prefix option would form one address too many. Nothing has changed then.
 #[derive(Clone, Copy, Debug, PartialEq, Eq)]
 pub struct Full;
 
@@ -37,9 +37,10 @@ impl<A: Allocator + Clone> Addresses<A> {
     ghost use Rattle.nd_slaac.specs.Calls.{keys_in, taken_of, row_taken, GainsRowIfAny};
     ghost use Rattle.nd_slaac.specs.MayCome.{MayCome};
 
-    /// A prefix option of a Router Advertisement (RFC 4862, section 5.5.3): it forms an address, whose first
-    /// solicitation waits for the delay, renews the lifetimes of one that is known, or says nothing. Delay and
-    /// RetransTimer are in milliseconds, and count where an address is formed. It takes no memory.
+    /// A prefix option of a Router Advertisement is heard (RFC 4862, section 5.5.3): it forms an address, whose first solicitation
+    /// waits for the delay, renews the lifetimes of one that is known, or says nothing. Moment, delay and RetransTimer are in
+    /// milliseconds; the latter two count where an address is formed. `Full` comes where that would be one address too many. It takes
+    /// no memory.
     pub fn heard_prefix(
         &mut self,
         now: u64,
@@ -67,7 +68,7 @@ impl<A: Allocator + Clone> Addresses<A> {
 }
 
 /// How many bits of an address its prefix has, the identifier that is formed having the others (RFC 4291, section 2.5.1).
-pub(crate) const PREFIX_LENGTH: u8 = 64;
+const PREFIX_LENGTH: u8 = 64;
 
 /// Whether an option may form or renew an address (RFC 4862, section 5.5.3 a to c).
 #[tactic(auto, unfolding(crate::specs::PrefixOption::is_taken))]

@@ -30,7 +30,7 @@ impl<A: Allocator + Clone> Addresses<A> {
     ghost use Rattle.nd_slaac.specs.Shown.{state_at, seen, Lists};
     ghost use Rattle.nd_slaac.specs.View.{seen_in};
 
-    /// The state of an address at a moment, if it is known (RFC 4862, section 2).
+    /// The state of an address at a moment, in milliseconds, if it is known (RFC 4862, section 2).
     pub fn state(&self, now: u64, addr: Addr) -> Option<State>
         ensures value { result ≡ option_map (state_at now) (address_in (number_of addr.0) self.now.addresses) }
         ensures state { (history : List Row) → Stands self.now.addresses history → result ≡ state_of (story (number_of addr.0) history) now }
@@ -38,7 +38,7 @@ impl<A: Allocator + Clone> Addresses<A> {
         show(&self.entries, now, addr)
     }
 
-    /// All addresses at a moment, in their order.
+    /// All addresses at a moment, in milliseconds, in the order of their numbers. The error is want of memory.
     pub fn rows(&self, now: u64) -> Result<Vec<OwnAddress, A>, AllocError>
         ensures value { IfOk result (λ shown. map (λ a. seen_in a) shown.items ≡ map (seen now) self.now.addresses) }
         ensures lists { IfOk result (λ shown. (history : List Row) → Stands self.now.addresses history → Lists history now (map (λ a. seen_in a) shown.items)) }
