@@ -2,6 +2,7 @@
 -- its rest by 65535.
 use Rattle.std.specs.Prelude.{◌≡◌, ℕ, ◌+◌, ◌-◌, ◌*◌, ◌%◌, ◌<◌, ◌≤◌, ◌↔◌, List, [], ◌∷◌, ◌++◌, length, take, drop, nat_lt, if◌then◌else◌}
 use Rattle.byteorder.specs.Endian.{big_bytes}
+use Rattle.nd_addr.specs.Ip6.{next_header_icmpv6}
 
 -- the plain sum of the 16-bit words of some bytes, an odd end padded by a zero byte
 abbrev pub word_sum : List ℕ → ℕ
@@ -11,7 +12,7 @@ word_sum (a ∷ b ∷ bytes) = 256 * a + b + word_sum bytes
 
 -- what stands in front of a message for its sum: both addresses, its length, and the next header of ICMPv6
 abbrev pub pseudo_header : List ℕ → List ℕ → ℕ → List ℕ
-pseudo_header source destination len = source ++ destination ++ big_bytes 4 len ++ 0 ∷ 0 ∷ 0 ∷ 58 ∷ []
+pseudo_header source destination len = source ++ destination ++ big_bytes 4 len ++ 0 ∷ 0 ∷ 0 ∷ next_header_icmpv6 ∷ []
 
 -- the plain sum of all words of the pseudo-header and the message
 unfoldable pub total : List ℕ → List ℕ → List ℕ → ℕ

@@ -6,6 +6,10 @@ use Rattle.nd_addr.specs.declared.why.Why.TheVariants.{HeaderShort, Version, Pay
 use Rattle.nd_addr.specs.declared.ip6.Ip6.{Ip6}
 use Rattle.nd_addr.specs.declared.ip6.Ip6Ref.{Ip6Ref}
 
+-- the next header of ICMPv6 (RFC 4443, section 1)
+abbrev pub next_header_icmpv6 : ℕ
+next_header_icmpv6 = 58
+
 -- a packet without where its payload lies
 pub record PacketParts : Type 0 where
   pub header : Ip6

@@ -6,9 +6,17 @@ use Rattle.nd_addr.specs.Prefix.{PrefixValue}
 abbrev pub multicast_prefix : PrefixValue
 multicast_prefix = record { address = record { 0 = 0xff ∷ replicate 15 0 }; length = 8 }
 
--- fe80::/10 (RFC 4291, section 2.5.6)
+-- fe80:: (RFC 4291, section 2.5.6)
+abbrev pub link_local_address : List ℕ
+link_local_address = 0xfe ∷ 0x80 ∷ replicate 14 0
+
+-- fe80::/10, which all link-local addresses are in (RFC 4291, section 2.5.6)
 abbrev pub link_local_prefix : PrefixValue
-link_local_prefix = record { address = record { 0 = 0xfe ∷ 0x80 ∷ replicate 14 0 }; length = 10 }
+link_local_prefix = record { address = record { 0 = link_local_address }; length = 10 }
+
+-- fe80::/64, the subnet that they have on each link (RFC 4291, section 2.5.6: 54 zero bits)
+abbrev pub link_local_subnet : PrefixValue
+link_local_subnet = record { address = record { 0 = link_local_address }; length = 64 }
 
 -- :: (RFC 4291, section 2.5.2)
 abbrev pub unspecified_address : List ℕ

@@ -3,10 +3,14 @@ ghost use Rattle.byteorder.specs.Endian.{big_bytes};
 ghost use Rattle.nd_addr.specs.Checksum.{word_sum, pseudo_header, total, IsGoodSum, IsFolded, with_sum, sum_to_write};
 
 use crate::addr::Addr;
+use crate::ip6::NEXT_HEADER_ICMPV6;
 use byteorder::{BigEndian, ByteOrder};
 
-/// The next header of ICMPv6, the last byte of the pseudo-header (RFC 8200, section 8.1).
-const ICMPV6: u16 = 58;
+/// Where the checksum stands in an ICMPv6 message, in 2 bytes (RFC 4443, section 2.1).
+pub const SUM_AT: usize = 2;
+
+/// How many bytes a message has up to the end of its checksum.
+const SUM_END: usize = SUM_AT + 2;
 
 /// Two numbers added, with the carry brought back in.
 fn folded(a: u16, b: u16) -> u16
@@ -39,7 +43,10 @@ fn header_sum(source: Addr, destination: Addr, length: usize) -> u16
     let mut length_bytes = [0; 4];
     BigEndian::write_u32(&mut length_bytes, (length % (1 << 32)) as u32);
     let addresses = add_words(add_words(0, &source.0), &destination.0);
-    folded(add_words(addresses, &length_bytes), ICMPV6)
+    folded(
+        add_words(addresses, &length_bytes),
+        NEXT_HEADER_ICMPV6 as u16,
+    )
 }
 
 /// Whether the checksum of a message is good, its field included (RFC 4443, section 2.3). Both
@@ -55,10 +62,10 @@ fn sum_without_field(source: Addr, destination: Addr, message: &[u8]) -> u16
     ensures { IsFolded result (total source.0 destination.0 (with_sum (0 ∷ 0 ∷ []) message.now)) }
 {
     let start = header_sum(source, destination, message.len());
-    if message.len() < 4 {
+    if message.len() < SUM_END {
         return add_words(start, message);
     }
-    add_words(add_words(start, &message[..2]), &message[4..])
+    add_words(add_words(start, &message[..SUM_AT]), &message[SUM_END..])
 }
 
 /// The checksum to be written into a message, whatever stands in its field (RFC 4443, section 2.3).

@@ -7,6 +7,26 @@ use crate::why::Why;
 use byteorder::{BigEndian, ByteOrder};
 use std::alloc::{AllocError, Allocator};
 
+/// The next header of ICMPv6 (RFC 4443, section 1), which is also the last byte of its pseudo-header (RFC 8200, section 8.1).
+pub const NEXT_HEADER_ICMPV6: u8 = 58;
+
+/// How many bytes an IPv6 header has, which is where the payload begins (RFC 8200, section 3).
+pub(crate) const IPV6_HEADER_LENGTH: usize = 40;
+
+/// The version of IPv6, in the first four bits.
+const VERSION: u32 = 6;
+
+/// Where the fields stand behind the first four bytes, which are version, traffic class and flow label.
+const PAYLOAD_LENGTH_AT: usize = 4;
+
+const NEXT_HEADER_AT: usize = 6;
+
+const HOP_LIMIT_AT: usize = 7;
+
+const SOURCE_AT: usize = 8;
+
+const DESTINATION_AT: usize = 24;
+
 /// An IPv6 header (RFC 8200, section 3) without its version, which is 6, and its payload's length.
 #[derive(Clone, Copy, Debug, PartialEq, Eq)]
 pub struct Ip6 {
@@ -32,28 +52,28 @@ impl Ip6 {
     pub fn read(bytes: &[u8]) -> Result<Ip6Ref<'_>, Why>
         ensures { Gives packet_parts result (packet_of bytes.now) }
     {
-        if bytes.len() < 40 {
+        if bytes.len() < IPV6_HEADER_LENGTH {
             return Err(Why::HeaderShort);
         }
         let first = BigEndian::read_u32(bytes);
-        if first / (1 << 28) != 6 {
+        if first / (1 << 28) != VERSION {
             return Err(Why::Version);
         }
-        let length = BigEndian::read_u16(&bytes[4..]) as usize;
-        if bytes.len() < 40 + length {
+        let length = BigEndian::read_u16(&bytes[PAYLOAD_LENGTH_AT..]) as usize;
+        if bytes.len() < IPV6_HEADER_LENGTH + length {
             return Err(Why::PayloadShort);
         }
         let header = Ip6 {
             traffic_class: (first / (1 << 20) % 256) as u8,
             flow_label: first % (1 << 20),
-            next_header: bytes[6],
-            hop_limit: bytes[7],
-            source: Addr::at(bytes, 8),
-            destination: Addr::at(bytes, 24),
+            next_header: bytes[NEXT_HEADER_AT],
+            hop_limit: bytes[HOP_LIMIT_AT],
+            source: Addr::at(bytes, SOURCE_AT),
+            destination: Addr::at(bytes, DESTINATION_AT),
         };
         Ok(Ip6Ref {
             header,
-            payload: &bytes[40..40 + length],
+            payload: &bytes[IPV6_HEADER_LENGTH..IPV6_HEADER_LENGTH + length],
         })
     }
 }
@@ -68,7 +88,7 @@ pub(crate) fn push_packet<A: Allocator>(
     ensures { OnOk result (out.new.items ≡ out.old.items ++ written_packet header.now payload.now) }
 {
     let class = header.traffic_class as u32;
-    let first = 6 * (1 << 28) + class * (1 << 20) + header.flow_label % (1 << 20);
+    let first = VERSION * (1 << 28) + class * (1 << 20) + header.flow_label % (1 << 20);
     let [a, b, c, d] = first.to_be_bytes();
     let [e, f] = (payload.len() as u16).to_be_bytes();
     out.extend_from_slice(&[a, b, c, d, e, f, header.next_header, header.hop_limit])?;

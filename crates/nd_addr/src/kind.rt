@@ -1,7 +1,7 @@
 //! Kinds of address, and addresses that are made of others.
 
 ghost use Rattle.std.specs.Prelude.{◌≡◌, ◌↔◌, IsTrue, bytes_eq};
-ghost use Rattle.nd_addr.specs.Kind.{multicast_prefix, link_local_prefix, unspecified_address, loopback_address, solicited_node_of, address_from_mac, multicast_mac_of};
+ghost use Rattle.nd_addr.specs.Kind.{multicast_prefix, link_local_prefix, link_local_subnet, unspecified_address, loopback_address, solicited_node_of, address_from_mac, multicast_mac_of};
 ghost use Rattle.nd_addr.specs.Number.{Holds, holds};
 
 use crate::addr::Addr;
@@ -14,6 +14,9 @@ impl Addr {
 
     /// The loopback address `::1` (RFC 4291, section 2.5.3).
     pub const LOOPBACK: Addr = Addr([0, 0, 0, 0, 0, 0, 0, 0, 0, 0, 0, 0, 0, 0, 0, 1]);
+
+    /// The address of the link-local prefix, fe80:: (RFC 4291, section 2.5.6).
+    pub const LINK_LOCAL: Addr = Addr([0xfe, 0x80, 0, 0, 0, 0, 0, 0, 0, 0, 0, 0, 0, 0, 0, 0]);
 
     /// Whether it is a multicast address, in ff00::/8 (RFC 4291, section 2.7).
     pub fn is_multicast(&self) -> bool
@@ -30,7 +33,8 @@ impl Addr {
         ensures exactly { result ≡ holds link_local_prefix self.now.0 }
     {
         let bytes = self.as_bytes();
-        bytes[0] == 0xfe && bytes[1] / 64 == 2
+        let [first, second, ..] = Addr::LINK_LOCAL.0;
+        bytes[0] == first && bytes[1] / 64 == second / 64
     }
 
     /// Whether it is the unspecified address `::` (RFC 4291, section 2.5.2).
@@ -68,6 +72,18 @@ impl Addr {
         let [a, b, c, d, e, f] = mac.0;
         address.0[8..].copy_from_slice(&[a ^ 2, b, c, 0xff, 0xfe, d, e, f]);
         address
+    }
+}
+
+impl Prefix {
+    /// The subnet of link-local addresses, fe80::/64 (RFC 4291, section 2.5.6: the 54 bits behind fe80::/10 are zero).
+    pub fn link_local_subnet() -> Prefix
+        ensures { result ≡ link_local_subnet }
+    {
+        match Prefix::new(Addr::LINK_LOCAL, 64) {
+            Some(prefix) => prefix,
+            None => unreachable!(),
+        }
     }
 }
 

@@ -27,6 +27,20 @@ fn text_of(rt: &HostRuntime, groups: [u16; 8]) -> Result<String, Fail> {
     Ok(text)
 }
 
+/// fe80::/10 and then 54 zero bits (RFC 4291, section 2.5.6).
+#[test]
+fn the_subnet_of_link_local_addresses_has_64_bits(rt: HostRuntime) {
+    let subnet = Prefix::link_local_subnet();
+    assert_eq!(rt; subnet.length(), 64);
+    let mut inside = Addr::LINK_LOCAL;
+    inside.0[8] = 0xff;
+    assert!(rt; subnet.holds(inside));
+    let mut outside = Addr::LINK_LOCAL;
+    outside.0[7] = 1;
+    assert!(rt; outside.is_link_local());
+    assert!(rt; !subnet.holds(outside));
+}
+
 #[test]
 fn the_longest_run_of_zeros_is_shortened(rt: HostRuntime) -> Result<(), Fail> {
     assert_eq!(rt; text_of(&rt, [0, 0, 0, 0, 0, 0, 0, 0])?.as_str(), "::");

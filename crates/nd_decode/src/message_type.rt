@@ -2,6 +2,11 @@ ghost use Rattle.std.specs.Prelude.{◌≡◌, ◌≢◌, MatchOption};
 ghost use Rattle.nd_decode.specs.MessageType.{type_number};
 ghost use Rattle.nd_decode.specs.Message.{least_length};
 
+use crate::neighbor_advertisement::NeighborAdvertisement;
+use crate::neighbor_solicitation::NeighborSolicitation;
+use crate::redirect::Redirect;
+use crate::router_advertisement::RouterAdvertisement;
+
 /// The ICMPv6 type of a Router Solicitation (RFC 4861, section 4.1).
 pub const ICMPV6_ROUTER_SOLICITATION: u8 = 133;
 
@@ -16,6 +21,9 @@ pub const ICMPV6_NEIGHBOR_ADVERTISEMENT: u8 = 136;
 
 /// The ICMPv6 type of a Redirect (RFC 4861, section 4.5).
 pub const ICMPV6_REDIRECT: u8 = 137;
+
+/// How many bytes a Router Solicitation has in front of its options (RFC 4861, section 4.1). It has no fields.
+pub const ROUTER_SOLICITATION_LENGTH: usize = 8;
 
 /// The types of the messages of Neighbor Discovery (RFC 4861, sections 4.1 to 4.5).
 #[derive(Clone, Copy, Debug, PartialEq, Eq)]
@@ -47,11 +55,11 @@ impl MessageType {
         ensures { result ≡ least_length (type_number self) }
     {
         match self {
-            MessageType::RouterSolicitation => 8,
-            MessageType::RouterAdvertisement => 16,
-            MessageType::NeighborSolicitation => 24,
-            MessageType::NeighborAdvertisement => 24,
-            MessageType::Redirect => 40,
+            MessageType::RouterSolicitation => ROUTER_SOLICITATION_LENGTH,
+            MessageType::RouterAdvertisement => RouterAdvertisement::LENGTH,
+            MessageType::NeighborSolicitation => NeighborSolicitation::LENGTH,
+            MessageType::NeighborAdvertisement => NeighborAdvertisement::LENGTH,
+            MessageType::Redirect => Redirect::LENGTH,
         }
     }
 }

@@ -17,16 +17,34 @@ pub struct NeighborAdvertisement {
 }
 
 impl NeighborAdvertisement {
+    /// How many bytes its fields have, which is where its options begin.
+    pub const LENGTH: usize = 24;
+
+    /// Where the byte of flags stands.
+    pub const FLAGS_AT: usize = 4;
+
+    /// The flag R, Router.
+    pub const FLAG_ROUTER: u8 = 0x80;
+
+    /// The flag S, Solicited.
+    pub const FLAG_SOLICITED: u8 = 0x40;
+
+    /// The flag O, Override.
+    pub const FLAG_OVERRIDE: u8 = 0x20;
+
+    /// Where Target Address stands.
+    pub const TARGET_AT: usize = 8;
+
     /// The fields at their places.
     pub(crate) fn read(bytes: &[u8]) -> NeighborAdvertisement
         requires { 24 ≤ length bytes.now }
         ensures { result ≡ neighbor_advertisement_of bytes.now }
     {
         NeighborAdvertisement {
-            router: bytes[4] & 0x80 != 0,
-            solicited: bytes[4] & 0x40 != 0,
-            override_flag: bytes[4] & 0x20 != 0,
-            target: Addr::at(bytes, 8),
+            router: bytes[Self::FLAGS_AT] & Self::FLAG_ROUTER != 0,
+            solicited: bytes[Self::FLAGS_AT] & Self::FLAG_SOLICITED != 0,
+            override_flag: bytes[Self::FLAGS_AT] & Self::FLAG_OVERRIDE != 0,
+            target: Addr::at(bytes, Self::TARGET_AT),
         }
     }
 }

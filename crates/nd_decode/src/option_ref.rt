@@ -29,6 +29,32 @@ pub const OPTION_RECURSIVE_DNS_SERVER: u8 = 25;
 /// The type of a DNS Search List (RFC 8106, section 5.2).
 pub const OPTION_DNS_SEARCH_LIST: u8 = 31;
 
+/// The length of a Source or Target Link-Layer Address of Ethernet, in units of 8 bytes (RFC 4861, section 4.6.1; RFC 2464, section 6).
+pub const LINK_LAYER_ADDRESS_UNITS: u8 = 1;
+
+/// The length of an MTU, in units of 8 bytes (RFC 4861, section 4.6.4).
+pub const MTU_UNITS: u8 = 1;
+
+/// The least length of a Recursive DNS Server, in units of 8 bytes: with one server. It is odd (RFC 8106, section 5.1).
+pub const LEAST_SERVERS_UNITS: u8 = 3;
+
+/// The least length of a DNS Search List, in units of 8 bytes (RFC 8106, section 5.2).
+pub const LEAST_NAMES_UNITS: u8 = 2;
+
+/// How many bytes an option has at most: 255 units of 8 bytes (RFC 4861, section 4.6).
+pub const LONGEST_OPTION: usize = 2040;
+
+/// Where the link-layer address stands in its option (RFC 4861, section 4.6.1).
+const LINK_LAYER_ADDRESS_AT: usize = 2;
+
+/// Where an option has its number of 4 bytes: the MTU (RFC 4861, section 4.6.4), or a lifetime in seconds (RFC 8106, sections 5.1
+/// and 5.2).
+const NUMBER_AT: usize = 4;
+
+/// Where an option has its data of any length, behind its type, its length and 6 bytes: the packet (RFC 4861, section 4.6.3), the servers or the names (RFC 8106,
+/// sections 5.1 and 5.2).
+pub const OPTION_DATA_AT: usize = 8;
+
 /// An option of a message, with its bytes where they lie (RFC 4861, section 4.6; RFC 8106, section 5).
 #[derive(Clone, Copy, Debug)]
 pub enum OptionRef<'a> {
@@ -70,25 +96,27 @@ impl<'a> OptionRef<'a> {
     {
         let length = piece[1];
         match piece[0] {
-            OPTION_SOURCE_LINK_LAYER_ADDRESS if length == 1 => {
-                Some(OptionRef::Slla(Mac::at(piece, 2)))
+            OPTION_SOURCE_LINK_LAYER_ADDRESS if length == LINK_LAYER_ADDRESS_UNITS => {
+                Some(OptionRef::Slla(Mac::at(piece, LINK_LAYER_ADDRESS_AT)))
             }
-            OPTION_TARGET_LINK_LAYER_ADDRESS if length == 1 => {
-                Some(OptionRef::Tlla(Mac::at(piece, 2)))
+            OPTION_TARGET_LINK_LAYER_ADDRESS if length == LINK_LAYER_ADDRESS_UNITS => {
+                Some(OptionRef::Tlla(Mac::at(piece, LINK_LAYER_ADDRESS_AT)))
             }
-            OPTION_PREFIX_INFORMATION if length == 4 => {
+            OPTION_PREFIX_INFORMATION if length == PrefixInfo::UNITS => {
                 let info = PrefixInfo::read(piece)?;
                 Some(OptionRef::Prefix(info))
             }
-            OPTION_REDIRECTED_HEADER => Some(OptionRef::Redirected(&piece[8..])),
-            OPTION_MTU if length == 1 => Some(OptionRef::Mtu(BigEndian::read_u32(&piece[4..]))),
-            OPTION_RECURSIVE_DNS_SERVER if length % 2 == 1 && length >= 3 => {
-                let servers = Servers::read(&piece[8..])?;
-                Some(OptionRef::Rdnss(BigEndian::read_u32(&piece[4..]), servers))
+            OPTION_REDIRECTED_HEADER => Some(OptionRef::Redirected(&piece[OPTION_DATA_AT..])),
+            OPTION_MTU if length == MTU_UNITS => Some(OptionRef::Mtu(BigEndian::read_u32(
+                &piece[NUMBER_AT..],
+            ))),
+            OPTION_RECURSIVE_DNS_SERVER if length % 2 == 1 && length >= LEAST_SERVERS_UNITS => {
+                let servers = Servers::read(&piece[OPTION_DATA_AT..])?;
+                Some(OptionRef::Rdnss(BigEndian::read_u32(&piece[NUMBER_AT..]), servers))
             }
-            OPTION_DNS_SEARCH_LIST if length >= 2 => {
-                let names = Names::read(&piece[8..])?;
-                Some(OptionRef::Dnssl(BigEndian::read_u32(&piece[4..]), names))
+            OPTION_DNS_SEARCH_LIST if length >= LEAST_NAMES_UNITS => {
+                let names = Names::read(&piece[OPTION_DATA_AT..])?;
+                Some(OptionRef::Dnssl(BigEndian::read_u32(&piece[NUMBER_AT..]), names))
             }
             _ => None,
         }

@@ -20,18 +20,45 @@ pub struct PrefixInfo {
 }
 
 impl PrefixInfo {
+    /// Its length in units of 8 bytes.
+    pub const UNITS: u8 = 4;
+
+    /// Where Prefix Length stands.
+    pub const PREFIX_LENGTH_AT: usize = 2;
+
+    /// Where the byte of flags stands.
+    pub const FLAGS_AT: usize = 3;
+
+    /// The flag L, on-link.
+    pub const FLAG_ON_LINK: u8 = 0x80;
+
+    /// The flag A, autonomous address-configuration.
+    pub const FLAG_AUTONOMOUS: u8 = 0x40;
+
+    /// Where Valid Lifetime stands, in 4 bytes.
+    pub const VALID_LIFETIME_AT: usize = 4;
+
+    /// Where Preferred Lifetime stands, in 4 bytes.
+    pub const PREFERRED_LIFETIME_AT: usize = 8;
+
+    /// Where Prefix stands, in 16 bytes.
+    pub const PREFIX_AT: usize = 16;
+
     /// The fields at their places, if the prefix length is at most 128.
     pub(crate) fn read(piece: &[u8]) -> Option<PrefixInfo>
         requires { 32 ≤ length piece.now }
         ensures { SomeIff result (slice_index piece.now 2 ≤ 128) (prefix_of piece.now) }
     {
-        let prefix = Prefix::new(Addr::at(piece, 16), piece[2])?;
+        let prefix = Prefix::new(
+            Addr::at(piece, Self::PREFIX_AT),
+            piece[Self::PREFIX_LENGTH_AT],
+        )?;
         Some(PrefixInfo {
             prefix,
-            on_link: piece[3] & 0x80 != 0,
-            autonomous: piece[3] & 0x40 != 0,
-            valid_lifetime: BigEndian::read_u32(&piece[4..]),
-            preferred_lifetime: BigEndian::read_u32(&piece[8..]),
+            on_link: piece[Self::FLAGS_AT] & Self::FLAG_ON_LINK != 0,
+            autonomous: piece[Self::FLAGS_AT] & Self::FLAG_AUTONOMOUS != 0,
+            valid_lifetime: BigEndian::read_u32(&piece[Self::VALID_LIFETIME_AT..]),
+            preferred_lifetime: BigEndian::read_u32(&piece[Self::PREFERRED_LIFETIME_AT..]),
         })
     }
 }

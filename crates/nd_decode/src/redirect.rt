@@ -13,14 +13,23 @@ pub struct Redirect {
 }
 
 impl Redirect {
+    /// How many bytes its fields have, which is where its options begin.
+    pub const LENGTH: usize = 40;
+
+    /// Where Target Address stands.
+    pub const TARGET_AT: usize = 8;
+
+    /// Where Destination Address stands.
+    pub const DESTINATION_AT: usize = 24;
+
     /// The fields at their places.
     pub(crate) fn read(bytes: &[u8]) -> Redirect
         requires { 40 ≤ length bytes.now }
         ensures { result ≡ redirect_of bytes.now }
     {
         Redirect {
-            target: Addr::at(bytes, 8),
-            destination: Addr::at(bytes, 24),
+            target: Addr::at(bytes, Self::TARGET_AT),
+            destination: Addr::at(bytes, Self::DESTINATION_AT),
         }
     }
 }

@@ -21,18 +21,42 @@ pub struct RouterAdvertisement {
 }
 
 impl RouterAdvertisement {
+    /// How many bytes its fields have, which is where its options begin.
+    pub const LENGTH: usize = 16;
+
+    /// Where Cur Hop Limit stands.
+    pub const HOP_LIMIT_AT: usize = 4;
+
+    /// Where the byte of flags stands.
+    pub const FLAGS_AT: usize = 5;
+
+    /// The flag M, Managed address configuration.
+    pub const FLAG_MANAGED: u8 = 0x80;
+
+    /// The flag O, Other configuration.
+    pub const FLAG_OTHER: u8 = 0x40;
+
+    /// Where Router Lifetime stands, in 2 bytes.
+    pub const ROUTER_LIFETIME_AT: usize = 6;
+
+    /// Where Reachable Time stands, in 4 bytes.
+    pub const REACHABLE_TIME_AT: usize = 8;
+
+    /// Where Retrans Timer stands, in 4 bytes.
+    pub const RETRANS_TIMER_AT: usize = 12;
+
     /// The fields at their places.
     pub(crate) fn read(bytes: &[u8]) -> RouterAdvertisement
         requires { 16 ≤ length bytes.now }
         ensures { result ≡ router_advertisement_of bytes.now }
     {
         RouterAdvertisement {
-            hop_limit: bytes[4],
-            managed: bytes[5] & 0x80 != 0,
-            other: bytes[5] & 0x40 != 0,
-            router_lifetime: BigEndian::read_u16(&bytes[6..]),
-            reachable_time: BigEndian::read_u32(&bytes[8..]),
-            retrans_timer: BigEndian::read_u32(&bytes[12..]),
+            hop_limit: bytes[Self::HOP_LIMIT_AT],
+            managed: bytes[Self::FLAGS_AT] & Self::FLAG_MANAGED != 0,
+            other: bytes[Self::FLAGS_AT] & Self::FLAG_OTHER != 0,
+            router_lifetime: BigEndian::read_u16(&bytes[Self::ROUTER_LIFETIME_AT..]),
+            reachable_time: BigEndian::read_u32(&bytes[Self::REACHABLE_TIME_AT..]),
+            retrans_timer: BigEndian::read_u32(&bytes[Self::RETRANS_TIMER_AT..]),
         }
     }
 }

@@ -10,6 +10,13 @@ use Rattle.nd_lifetime.specs.Same.{same_addr}
 use Rattle.nd_dns.specs.Servers.{servers_told}
 use Rattle.nd_dns.specs.Names.{same_name, names_told}
 
+-- how many servers and how many search names may be known (our choice)
+abbrev pub max_servers : ℕ
+max_servers = 32
+
+abbrev pub max_names : ℕ
+max_names = 32
+
 -- the servers and the search names with their ends, each list in the order in which they came
 pub record Table : Type 0 where
   pub servers : List (Lasting Addr)

@@ -12,10 +12,10 @@ use nd_lifetime::{Lasting, Standing};
 use std::alloc::{AllocError, Allocator};
 use std::marker::Model;
 
-/// How many servers may be known.
+/// How many servers may be known (our choice).
 pub(crate) const MAX_SERVERS: usize = 32;
 
-/// How many search names may be known.
+/// How many search names may be known (our choice).
 pub(crate) const MAX_NAMES: usize = 32;
 
 /// The DNS servers and search names that a host has heard of, each list in the order in which they came (RFC 8106, section 6.1).
@@ -31,15 +31,15 @@ impl<A: Allocator> Model for Dns<A> {
     ghost use Rattle.std.specs.Vec.{vec_len, vec_capacity};
     ghost use Rattle.nd_lifetime.specs.Listing.{Distinct};
     ghost use Rattle.nd_lifetime.specs.Same.{same_addr};
-    ghost use Rattle.nd_dns.specs.Dns.{Table};
+    ghost use Rattle.nd_dns.specs.Dns.{Table, max_servers, max_names};
     ghost use Rattle.nd_dns.specs.Names.{same_name};
 
     ghost Value = { Table };
 
     ghost view = { λ d. record { servers = d.servers.items; names = d.names.items } };
 
-    ghost invariant = { λ d. (vec_len d.servers ≤ 32) × (32 ≤ vec_capacity d.servers) × Distinct same_addr d.servers.items
-        × (vec_len d.names ≤ 32) × (32 ≤ vec_capacity d.names) × Distinct same_name d.names.items };
+    ghost invariant = { λ d. (vec_len d.servers ≤ max_servers) × (max_servers ≤ vec_capacity d.servers) × Distinct same_addr d.servers.items
+        × (vec_len d.names ≤ max_names) × (max_names ≤ vec_capacity d.names) × Distinct same_name d.names.items };
 }
 
 impl<A: Allocator + Clone> Dns<A> {

@@ -13,6 +13,3 @@ pub use dns::Dns;
 pub use nd_lifetime::{Lasting, Limit, Standing, TableRefusal};
 pub use new_names::NewNames;
 pub use search_name::SearchName;
-
-#[cfg(test)]
-mod tests;

@@ -17,15 +17,15 @@ use nd_lifetime::{Lasting, Limit, TableRefusal, announce_all, fits_all};
 use std::alloc::Allocator;
 
 impl<A: Allocator + Clone> Dns<A> {
-    ghost use Rattle.nd_dns.specs.Dns.{Stands, after, new_names};
+    ghost use Rattle.nd_dns.specs.Dns.{max_servers, max_names, Stands, after, new_names};
     ghost use Rattle.nd_dns.specs.Servers.{servers_told};
     ghost use Rattle.nd_dns.specs.Names.{same_name, names_told};
 
     /// Whether there is room for the servers that the options of a Router Advertisement tell, taken in order. It takes no memory.
     pub fn fits_servers(&self, now: u64, options: Options<'_>) -> bool
-        ensures value { result ≡ fits same_addr 32 now (servers_told (options_left options.entry)) self.now.servers }
+        ensures value { result ≡ fits same_addr max_servers now (servers_told (options_left options.entry)) self.now.servers }
         ensures by_history { (history : List (Row Addr)) (names : List (Row (List ℕ))) (es : List (Lasting Addr)) → Stands self.now history names → last_moment history ≤ now → Lists same_addr history now es
-            → result ≡ fits same_addr 32 now (servers_told (options_left options.entry)) es }
+            → result ≡ fits same_addr max_servers now (servers_told (options_left options.entry)) es }
     {
         let told = AnnouncedServers::new(options);
         fits_all(&self.servers, MAX_SERVERS, now, told)
@@ -33,9 +33,9 @@ impl<A: Allocator + Clone> Dns<A> {
 
     /// Whether there is room for the search names that they tell, taken in order. It takes no memory.
     pub fn fits_names(&self, now: u64, options: Options<'_>) -> bool
-        ensures value { result ≡ fits same_name 32 now (names_told (options_left options.entry)) self.now.names }
+        ensures value { result ≡ fits same_name max_names now (names_told (options_left options.entry)) self.now.names }
         ensures by_history { (servers : List (Row Addr)) (history : List (Row (List ℕ))) (es : List (Lasting (List ℕ))) → Stands self.now servers history → last_moment history ≤ now → Lists same_name history now es
-            → result ≡ fits same_name 32 now (names_told (options_left options.entry)) es }
+            → result ≡ fits same_name max_names now (names_told (options_left options.entry)) es }
     {
         let told = AnnouncedNames::new(options);
         fits_all(&self.names, MAX_NAMES, now, told)
@@ -47,7 +47,7 @@ impl<A: Allocator + Clone> Dns<A> {
         ensures value { IfOk result (λ names. names ≡ new_names now (options_left options.entry) self.now) }
 
         // There is no room exactly where the names, taken in order, are too many at some point.
-        ensures full { IsErrAnd result (λ refusal. refusal ≡ TableRefusal.Full Limit.Names) ↔ (fits same_name 32 now (names_told (options_left options.entry)) self.now.names ≡ false) }
+        ensures full { IsErrAnd result (λ refusal. refusal ≡ TableRefusal.Full Limit.Names) ↔ (fits same_name max_names now (names_told (options_left options.entry)) self.now.names ≡ false) }
         ensures refusal { IfErr result (λ refusal. (refusal ≡ TableRefusal.Full Limit.Names) ⊎ (refusal ≡ TableRefusal.Memory)) }
     {
         if !self.fits_names(now, options) {
@@ -75,8 +75,8 @@ impl<A: Allocator + Clone> Dns<A> {
         ensures value { OnOk result (self.new ≡ after now (options_left options.entry) self.old) }
 
         // It is refused exactly where the servers or the names, taken in order, are too many at some point.
-        ensures full { IsErr result ↔ ((fits same_addr 32 now (servers_told (options_left options.entry)) self.old.servers && fits same_name 32 now (names_told (options_left options.entry)) self.old.names) ≡ false) }
-        ensures refusal { IfErr result (λ refusal. refusal ≡ TableRefusal.Full (if fits same_addr 32 now (servers_told (options_left options.entry)) self.old.servers then Limit.Names else Limit.Servers)) }
+        ensures full { IsErr result ↔ ((fits same_addr max_servers now (servers_told (options_left options.entry)) self.old.servers && fits same_name max_names now (names_told (options_left options.entry)) self.old.names) ≡ false) }
+        ensures refusal { IfErr result (λ refusal. refusal ≡ TableRefusal.Full (if fits same_addr max_servers now (servers_told (options_left options.entry)) self.old.servers then Limit.Names else Limit.Servers)) }
         ensures same { OnErr result (self.new ≡ self.old) }
     {
         if !self.fits_servers(now, options) {

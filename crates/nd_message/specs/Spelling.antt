@@ -1,5 +1,5 @@
 -- The one spelling that is written: all that is ignored is 0.
-use Rattle.std.specs.Prelude.{ℕ, ◌+◌, ◌/◌, Bool, true, false, List, [], ◌∷◌, ◌++◌, length}
+use Rattle.std.specs.Prelude.{ℕ, ◌+◌, ◌/◌, Bool, bit_or, if◌then◌else◌, List, [], ◌∷◌, ◌++◌, length}
 use Rattle.std.specs.List.{flat_map}
 use Rattle.byteorder.specs.Endian.{big_bytes}
 use Rattle.nd_addr.specs.declared.addr.Addr.{Addr}
@@ -14,21 +14,11 @@ use Rattle.nd_message.specs.Dnssl.{dnssl_piece}
 
 -- a byte of two flags, at its highest bits
 abbrev pub flags_of : Bool → Bool → ℕ
-flags_of true true = 0xc0
-flags_of true false = 0x80
-flags_of false true = 0x40
-flags_of false false = 0
+flags_of first second = bit_or (if first then 0x80 else 0) (if second then 0x40 else 0)
 
 -- a byte of three flags, at its highest bits
 abbrev pub three_flags_of : Bool → Bool → Bool → ℕ
-three_flags_of true true true = 0xe0
-three_flags_of true true false = 0xc0
-three_flags_of true false true = 0xa0
-three_flags_of true false false = 0x80
-three_flags_of false true true = 0x60
-three_flags_of false true false = 0x40
-three_flags_of false false true = 0x20
-three_flags_of false false false = 0
+three_flags_of first second third = bit_or (flags_of first second) (if third then 0x20 else 0)
 
 -- a Prefix Information (RFC 4861, section 4.6.2)
 abbrev pub prefix_piece : PrefixInfo → List ℕ

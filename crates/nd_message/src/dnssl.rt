@@ -4,12 +4,12 @@ ghost use Rattle.nd_message.specs.Owned.{labels_of};
 ghost use Rattle.nd_message.specs.Dnssl.{missing, names_data, dnssl_piece, FitNames, FitsDnssl};
 
 use crate::name::Name;
-use nd_decode::OPTION_DNS_SEARCH_LIST;
+use nd_decode::{LONGEST_OPTION, OPTION_DATA_AT, OPTION_DNS_SEARCH_LIST};
 use nd_search_list::is_name;
 use std::alloc::{AllocError, Allocator};
 
-/// How many bytes of names a DNS Search List has at most: 255 units of 8 bytes, but for the first.
-const LONGEST_NAMES: usize = 2032;
+/// How many bytes of names a DNS Search List has at most (RFC 4861, section 4.6).
+const LONGEST_NAMES: usize = LONGEST_OPTION - OPTION_DATA_AT;
 
 /// How many bytes a DNS Search List has, if these can be its names.
 pub(crate) fn dnssl_length<A: Allocator>(lifetime: u32, names: &[Name<A>]) -> Option<usize>

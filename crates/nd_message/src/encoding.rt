@@ -9,7 +9,7 @@ ghost use Rattle.nd_message.specs.WellFormed.{IsWellFormed};
 
 use crate::fields::push_fields;
 use crate::message::Message;
-use nd_addr::{Addr, sum_for};
+use nd_addr::{Addr, SUM_AT, sum_for};
 use std::alloc::{AllocError, Allocator};
 
 /// The message with a sum of 0.
@@ -33,8 +33,8 @@ fn put_sum<A: Allocator>(out: &mut Vec<u8, A>, sum: u16)
     requires { 4 ≤ length out.old.items }
     ensures { out.new.items ≡ with_sum (big_bytes 2 sum) out.old.items }
 {
-    out[2] = (sum / 256) as u8;
-    out[3] = (sum % 256) as u8;
+    out[SUM_AT] = (sum / 256) as u8;
+    out[SUM_AT + 1] = (sum % 256) as u8;
 }
 
 /// The bytes of a message from a source to a destination (RFC 4861, section 4). All that its readers ignore is 0, and the

@@ -7,7 +7,9 @@ use crate::neighbor_solicitation::push_neighbor_solicitation;
 use crate::redirect::push_redirect;
 use crate::router_advertisement::{push_router_advertisement, router_advertisement_length};
 use crate::router_solicitation::push_router_solicitation;
-use nd_decode::Body;
+use nd_decode::{
+    Body, NeighborAdvertisement, NeighborSolicitation, ROUTER_SOLICITATION_LENGTH, Redirect,
+};
 use std::alloc::{AllocError, Allocator};
 
 /// How many bytes the fields of a body have. They hold each value that it can have.
@@ -16,12 +18,14 @@ pub(crate) fn fields_length(body: &Body) -> usize
     ensures fits { FitsBody body.now }
 {
     match body {
-        Body::Rs => 8,
+        Body::Rs => ROUTER_SOLICITATION_LENGTH,
         Body::Ra(ra) => router_advertisement_length(ra),
-        Body::Ns(ns) => ns.target.as_bytes().len() + 8,
-        Body::Na(na) => na.target.as_bytes().len() + 8,
+        Body::Ns(ns) => ns.target.as_bytes().len() + NeighborSolicitation::TARGET_AT,
+        Body::Na(na) => na.target.as_bytes().len() + NeighborAdvertisement::TARGET_AT,
         Body::Redirect(redirect) => {
-            redirect.target.as_bytes().len() + redirect.destination.as_bytes().len() + 8
+            let addresses = redirect.target.as_bytes().len()
+                + redirect.destination.as_bytes().len();
+            addresses + Redirect::TARGET_AT
         }
     }
 }

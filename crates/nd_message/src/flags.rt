@@ -1,30 +1,8 @@
-ghost use Rattle.std.specs.Prelude.{◌≡◌};
-ghost use Rattle.nd_message.specs.Spelling.{flags_of, three_flags_of};
+ghost use Rattle.std.specs.Prelude.{◌≡◌, if◌then◌else◌};
 
-/// The byte of two flags, at its highest bits.
-pub(crate) fn flag_byte(high: bool, low: bool) -> u8
-    ensures { result ≡ flags_of high low }
+/// A byte with the bits of the mask where the flag is set, and else 0.
+pub(crate) fn flag(is_set: bool, mask: u8) -> u8
+    ensures { result ≡ (if is_set then mask else 0) }
 {
-    match (high, low) {
-        (true, true) => 0xc0,
-        (true, false) => 0x80,
-        (false, true) => 0x40,
-        (false, false) => 0,
-    }
-}
-
-/// The byte of three flags, at its highest bits.
-pub(crate) fn three_flag_byte(first: bool, second: bool, third: bool) -> u8
-    ensures { result ≡ three_flags_of first second third }
-{
-    match (first, second, third) {
-        (true, true, true) => 0xe0,
-        (true, true, false) => 0xc0,
-        (true, false, true) => 0xa0,
-        (true, false, false) => 0x80,
-        (false, true, true) => 0x60,
-        (false, true, false) => 0x40,
-        (false, false, true) => 0x20,
-        (false, false, false) => 0,
-    }
+    if is_set { mask } else { 0 }
 }

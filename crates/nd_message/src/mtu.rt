@@ -2,7 +2,7 @@ ghost use Rattle.std.specs.Prelude.{◌≡◌, ◌++◌, ◌^◌, ◌<◌, OnOk,
 ghost use Rattle.nd_decode.specs.Option.{mtu};
 ghost use Rattle.nd_message.specs.Spelling.{piece_of};
 
-use nd_decode::OPTION_MTU;
+use nd_decode::{MTU_UNITS, OPTION_MTU};
 use std::alloc::{AllocError, Allocator};
 
 /// How many bytes an MTU has. They hold each number that it can be.
@@ -19,6 +19,6 @@ pub(crate) fn push_mtu<A: Allocator>(number: u32, out: &mut Vec<u8, A>) -> Resul
     ensures { OnOk result (out.new.items ≡ out.old.items ++ piece_of (mtu number)) }
 {
     let [a, b, c, d] = number.to_be_bytes();
-    out.extend_from_slice(&[OPTION_MTU, 1, 0, 0, a, b, c, d])?;
+    out.extend_from_slice(&[OPTION_MTU, MTU_UNITS, 0, 0, a, b, c, d])?;
     Ok(())
 }

@@ -5,9 +5,10 @@ ghost use Rattle.nd_message.specs.Spelling.{other_piece};
 ghost use Rattle.nd_message.specs.Fitting.{FitsOption};
 
 use nd_decode::{
+    LEAST_NAMES_UNITS, LEAST_SERVERS_UNITS, LINK_LAYER_ADDRESS_UNITS, LONGEST_OPTION, MTU_UNITS,
     OPTION_DNS_SEARCH_LIST, OPTION_MTU, OPTION_PREFIX_INFORMATION, OPTION_RECURSIVE_DNS_SERVER,
     OPTION_REDIRECTED_HEADER, OPTION_SOURCE_LINK_LAYER_ADDRESS, OPTION_TARGET_LINK_LAYER_ADDRESS,
-    Servers,
+    PrefixInfo, Servers,
 };
 use nd_search_list::Names;
 use std::alloc::{AllocError, Allocator};
@@ -17,7 +18,7 @@ pub(crate) fn is_other(kind: u8, rest: &[u8]) -> bool
     ensures { IsTrue result ↔ FitsOption (other kind rest.now) }
 {
     // With its type and its length, a piece has 8 to 2040 bytes.
-    if rest.len() < 6 || rest.len() > 2038 || rest.len() % 8 != 6 {
+    if rest.len() < 6 || rest.len() > LONGEST_OPTION - 2 || rest.len() % 8 != 6 {
         return false;
     }
     !is_known(kind, rest)
@@ -32,14 +33,19 @@ fn is_known(kind: u8, rest: &[u8]) -> bool
 {
     let units = (rest.len() + 2) / 8;
     match kind {
-        OPTION_SOURCE_LINK_LAYER_ADDRESS | OPTION_TARGET_LINK_LAYER_ADDRESS => units == 1,
-        OPTION_PREFIX_INFORMATION => units == 4 && rest[0] <= 128,
-        OPTION_REDIRECTED_HEADER => true,
-        OPTION_MTU => units == 1,
-        OPTION_RECURSIVE_DNS_SERVER => {
-            units % 2 == 1 && units >= 3 && Servers::read(&rest[6..]).is_some()
+        OPTION_SOURCE_LINK_LAYER_ADDRESS | OPTION_TARGET_LINK_LAYER_ADDRESS => {
+            units == LINK_LAYER_ADDRESS_UNITS as usize
         }
-        OPTION_DNS_SEARCH_LIST => units >= 2 && Names::read(&rest[6..]).is_some(),
+        OPTION_PREFIX_INFORMATION => units == PrefixInfo::UNITS as usize && rest[0] <= 128,
+        OPTION_REDIRECTED_HEADER => true,
+        OPTION_MTU => units == MTU_UNITS as usize,
+        OPTION_RECURSIVE_DNS_SERVER => {
+            units % 2 == 1
+                && units >= LEAST_SERVERS_UNITS as usize
+                && Servers::read(&rest[6..]).is_some()
+        }
+        OPTION_DNS_SEARCH_LIST => units >= LEAST_NAMES_UNITS as usize
+            && Names::read(&rest[6..]).is_some(),
         _ => false,
     }
 }

@@ -2,7 +2,7 @@ ghost use Rattle.std.specs.Prelude.{◌≡◌, ◌++◌, OnOk, length};
 ghost use Rattle.nd_message.specs.Spelling.{prefix_piece};
 ghost use Rattle.nd_message.specs.Fitting.{FitsPrefix};
 
-use crate::flags::flag_byte;
+use crate::flags::flag;
 use nd_decode::{OPTION_PREFIX_INFORMATION, PrefixInfo};
 use std::alloc::{AllocError, Allocator};
 
@@ -18,7 +18,7 @@ pub(crate) fn prefix_length(info: &PrefixInfo) -> usize
         preferred_lifetime: _preferred_lifetime,
         ..
     } = *info;
-    prefix.address().as_bytes().len() + 16
+    prefix.address().as_bytes().len() + PrefixInfo::PREFIX_AT
 }
 
 /// Writes the piece of a Prefix Information at the end (RFC 4861, section 4.6.2).
@@ -30,10 +30,14 @@ pub(crate) fn push_prefix<A: Allocator>(
 {
     let kind = OPTION_PREFIX_INFORMATION;
     let length = info.prefix.length();
-    let flags = flag_byte(info.on_link, info.autonomous);
+    let on_link = flag(info.on_link, PrefixInfo::FLAG_ON_LINK);
+    let flags = on_link | flag(info.autonomous, PrefixInfo::FLAG_AUTONOMOUS);
+    let units = PrefixInfo::UNITS;
     let [a, b, c, d] = info.valid_lifetime.to_be_bytes();
     let [e, f, g, h] = info.preferred_lifetime.to_be_bytes();
-    out.extend_from_slice(&[kind, 4, length, flags, a, b, c, d, e, f, g, h, 0, 0, 0, 0])?;
+    out.extend_from_slice(&[
+        kind, units, length, flags, a, b, c, d, e, f, g, h, 0, 0, 0, 0,
+    ])?;
     out.extend_from_slice(&info.prefix.address().0)?;
     Ok(())
 }

@@ -4,11 +4,11 @@ ghost use Rattle.std.specs.Option.{SomeIff};
 ghost use Rattle.nd_message.specs.Rdnss.{rdnss_piece, FitsServer, FitsRdnss};
 
 use nd_addr::Addr;
-use nd_decode::{OPTION_RECURSIVE_DNS_SERVER, is_server};
+use nd_decode::{LONGEST_OPTION, OPTION_DATA_AT, OPTION_RECURSIVE_DNS_SERVER, is_server};
 use std::alloc::{AllocError, Allocator};
 
-/// How many servers an option has at most: 255 units of 8 bytes, but for the first, and two for each server.
-const MOST_SERVERS: usize = 127;
+/// How many servers an option has at most: of its bytes each server has 16 (RFC 4861, section 4.6; RFC 8106, section 5.1).
+const MOST_SERVERS: usize = (LONGEST_OPTION - OPTION_DATA_AT) / 16;
 
 /// How many it has at least (RFC 8106, section 5.1).
 const FEWEST_SERVERS: usize = 1;

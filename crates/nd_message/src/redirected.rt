@@ -4,11 +4,11 @@ ghost use Rattle.nd_decode.specs.Option.{redirected};
 ghost use Rattle.nd_message.specs.Spelling.{piece_of};
 ghost use Rattle.nd_message.specs.Fitting.{FitsRedirected};
 
-use nd_decode::OPTION_REDIRECTED_HEADER;
+use nd_decode::{LONGEST_OPTION, OPTION_DATA_AT, OPTION_REDIRECTED_HEADER};
 use std::alloc::{AllocError, Allocator};
 
-/// How many bytes of a packet a Redirected Header has at most: 255 units of 8 bytes, but for the first.
-const LONGEST_REDIRECTED: usize = 2032;
+/// How many bytes of a packet a Redirected Header has at most (RFC 4861, section 4.6).
+const LONGEST_REDIRECTED: usize = LONGEST_OPTION - OPTION_DATA_AT;
 
 /// How many bytes a Redirected Header has, if it can have this packet.
 pub(crate) fn redirected_length(packet: &[u8]) -> Option<usize>

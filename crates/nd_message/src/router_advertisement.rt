@@ -3,7 +3,7 @@ ghost use Rattle.nd_decode.specs.declared.body.Body.TheVariants as bodies;
 ghost use Rattle.nd_message.specs.Fitting.{FitsRouterAdvertisement};
 ghost use Rattle.nd_message.specs.Spelling.{fields_of};
 
-use crate::flags::flag_byte;
+use crate::flags::flag;
 use nd_decode::{ICMPV6_ROUTER_ADVERTISEMENT, RouterAdvertisement};
 use std::alloc::{AllocError, Allocator};
 
@@ -20,7 +20,7 @@ pub(crate) fn router_advertisement_length(ra: &RouterAdvertisement) -> usize
         retrans_timer: _retrans_timer,
         ..
     } = *ra;
-    16
+    RouterAdvertisement::LENGTH
 }
 
 /// Writes the fields of a Router Advertisement at the end (RFC 4861, section 4.2).
@@ -32,7 +32,8 @@ pub(crate) fn push_router_advertisement<A: Allocator>(
 {
     let kind = ICMPV6_ROUTER_ADVERTISEMENT;
     let limit = ra.hop_limit;
-    let flags = flag_byte(ra.managed, ra.other);
+    let managed = flag(ra.managed, RouterAdvertisement::FLAG_MANAGED);
+    let flags = managed | flag(ra.other, RouterAdvertisement::FLAG_OTHER);
     let [a, b] = ra.router_lifetime.to_be_bytes();
     let [c, d, e, f] = ra.reachable_time.to_be_bytes();
     let [g, h, i, j] = ra.retrans_timer.to_be_bytes();

@@ -5,12 +5,16 @@ use Rattle.std.proofs.lemmas.Bool.Decides.{nat_tests}
 use Rattle.std.proofs.lemmas.Bool.{true≢false, eqb-true}
 use Rattle.nd_neighbour.specs.declared.news.Flags.{Flags}
 use Rattle.nd_neighbour.specs.History.{Given, Advertised, Marked, Asked, Solicited, Waits, Used, Probed, Confirmed, Story}
-use Rattle.nd_neighbour.specs.Address.{is_present, taken, mac_of, conforms, is_router}
-use Rattle.nd_neighbour.specs.Confirming.{Word, Confirms, Disturbs, Use, says, or_else, word_of, use_of, advert_says, goes_on}
-use Rattle.nd_neighbour.specs.Resolving.{Resolution, one_more, resolution_of, packets_of, waiting_of}
-use Rattle.nd_neighbour.specs.Node.{Node, due_by, due_of, kept_by, the_node, node_of}
+use Rattle.nd_neighbour.specs.Entry.{Node, with_mark, stale_node}
+use Rattle.nd_neighbour.specs.LinkLayerAddress.{given, mark_or}
+use Rattle.nd_neighbour.specs.ReachabilityConfirmation.{Word, Confirms, Disturbs, confirmed}
+use Rattle.nd_neighbour.specs.NeighborAdvertisement.{taken, conforms, advert_says, advertised}
+use Rattle.nd_neighbour.specs.AddressResolution.{Resolution, one_more, resolution_of, packets_of, waiting_of, asked_node}
+use Rattle.nd_neighbour.specs.UnreachabilityDetection.{Use, goes_on}
+use Rattle.nd_neighbour.specs.Story.{is_present, mac_of, is_router, says, or_else, word_of, use_of, due_by, due_of, stage_by, the_node, node_of}
+use Rattle.nd_neighbour.specs.Due.{solicited, falls, stays}
+use Rattle.nd_neighbour.specs.Sending.{used}
 use Rattle.circular_buffer.specs.Buffer.{keep_last}
-use Rattle.nd_neighbour.specs.Change.{given, advertised, confirmed, used, solicited, asked_node, mark_or, with_mark, stale_node, falls, stays}
 use Rattle.nd_neighbour.proofs.LastThree.{keep_more}
 use Rattle.nd_table.proofs.Cases.{either}
 use Rattle.nd_neighbour.proofs.Stories.{absent_mac, absent_router, resolving, known_word}
@@ -18,7 +22,7 @@ use Rattle.nd_neighbour.proofs.Stories.{absent_mac, absent_router, resolving, kn
 -- a node by its parts
 abbrev made : ℕ → Bool → Option ℕ → Option Word → Option Use → Option Resolution → List (List ℕ) → Node
 made key router mac word use' resolution waiting =
-    record { key = key; router = router; due = due_by mac word use' resolution; kept = kept_by mac word use' resolution waiting }
+    record { key = key; router = router; due = due_by mac word use' resolution; stage = stage_by mac word use' resolution waiting }
 
 marked_router : (at mac : ℕ) (mark : Option Bool) (s : Story) → is_router ((at, Given mac mark) ∷ s) ≡ mark_or mark (is_router s)
 marked_router at mac None s = refl

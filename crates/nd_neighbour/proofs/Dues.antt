@@ -4,23 +4,23 @@ use Rattle.std.specs.List.{remove}
 use Rattle.std.proofs.lemmas.Bool.Decides.{nat_tests}
 use Rattle.std.proofs.lemmas.Bool.{cond-true, cond-false, true≢false}
 use Rattle.nd_neighbour.specs.History.{Row, Story, story, Solicited, Probed, Failed, Aged}
-use Rattle.nd_neighbour.specs.Address.{is_present, mac_of}
-use Rattle.nd_neighbour.specs.Confirming.{Word, Use, word_of, use_of}
-use Rattle.nd_neighbour.specs.Resolving.{Resolution, resolution_of, waiting_of}
-use Rattle.nd_neighbour.specs.Node.{Node, Kept, Resolves, Reaches, due_of, kept_by, the_node, node_of}
-use Rattle.nd_neighbour.specs.Change.{Falls, falls, falls_to, stays, solicited, known_mac}
+use Rattle.nd_neighbour.specs.Entry.{Node, Stage, Resolving, Known, known_mac}
+use Rattle.nd_neighbour.specs.ReachabilityConfirmation.{Word}
+use Rattle.nd_neighbour.specs.AddressResolution.{Resolution, resolution_of, waiting_of}
+use Rattle.nd_neighbour.specs.UnreachabilityDetection.{Use}
+use Rattle.nd_neighbour.specs.Story.{is_present, mac_of, word_of, use_of, due_of, stage_by, the_node, node_of}
 use Rattle.nd_neighbour.specs.Table.{address, node_in, Stands, GainsRow}
-use Rattle.nd_neighbour.specs.Due.{date_of, IsDue, falling_by, IsFirst, FirstDue, NextDue, due_row, next_in, due_in, NoneBefore, turns_to, turns_left, Turns}
+use Rattle.nd_neighbour.specs.Due.{Falls, falls, falls_to, stays, solicited, date_of, IsDue, falling_by, IsFirst, FirstDue, NextDue, due_row, next_in, due_in, NoneBefore, turns_to, turns_left, Turns}
 use Rattle.nd_table.proofs.Cases.{either}
 use Rattle.nd_table.proofs.Due.{AtMost-some, AtMost-none, due_now, due_has, due_least, none_due, least_at_most, least_found, NotBefore-set, NotBefore-remove}
 use Rattle.nd_neighbour.proofs.Changes.{when_solicited, when_probed}
 use Rattle.nd_neighbour.proofs.Steps.{changing, leaving, node_present}
 
-pub known_by : (mac : Option ℕ) (w : Option Word) (u : Option Use) (r : Option Resolution) (ws : List (List ℕ)) → known_mac (kept_by mac w u r ws) ≡ mac
+pub known_by : (mac : Option ℕ) (w : Option Word) (u : Option Use) (r : Option Resolution) (ws : List (List ℕ)) → known_mac (stage_by mac w u r ws) ≡ mac
 known_by None w u r ws = refl
 known_by (Some mac) w u r ws = refl
 
-falls_by : (key : ℕ) (mac : Option ℕ) (w : Option Word) (u : Option Use) (r : Option Resolution) (ws : List (List ℕ)) → falls_to key (kept_by mac w u r ws) ≡ falling_by key mac u r ws
+falls_by : (key : ℕ) (mac : Option ℕ) (w : Option Word) (u : Option Use) (r : Option Resolution) (ws : List (List ℕ)) → falls_to key (stage_by mac w u r ws) ≡ falling_by key mac u r ws
 falls_by key None w u None ws = refl
 falls_by key None w u (Some r) ws = refl
 falls_by key (Some mac) w None r ws = refl
@@ -56,24 +56,24 @@ module _ (ns : List Node) (history : List Row) (s : Stands ns history) where
 
 -- what is found at the node of a turn
 module _ (key now : ℕ) (n : Node) (s : Story) (is : n ≡ the_node key s) where
-  pub mac_is : known_mac n.kept ≡ mac_of s
-  mac_is = ap (λ (m : Node). known_mac m.kept) is ∙ known_by (mac_of s) (word_of s) (use_of s) (resolution_of s) (waiting_of s)
+  pub mac_is : known_mac n.stage ≡ mac_of s
+  mac_is = ap (λ (m : Node). known_mac m.stage) is ∙ known_by (mac_of s) (word_of s) (use_of s) (resolution_of s) (waiting_of s)
 
   due_is : n.due ≡ now → now ≡ due_of s
   due_is due = sym due ∙ ap (λ (m : Node). m.due) is
 
-asks : (key now : ℕ) (n : Node) (s : Story) → n ≡ the_node key s → is_present s ≡ true → n.due ≡ now → known_mac n.kept ≡ None → node_of key ((now, Solicited) ∷ s) ≡ Some (solicited now n)
+asks : (key now : ℕ) (n : Node) (s : Story) → n ≡ the_node key s → is_present s ≡ true → n.due ≡ now → known_mac n.stage ≡ None → node_of key ((now, Solicited) ∷ s) ≡ Some (solicited now n)
 asks key now n s is present due unknown =
     when_solicited key now s present (sym (mac_is key now n s is) ∙ unknown) (due_is key now n s is due) ∙ ap (λ (m : Node). Some (solicited now m)) (sym is)
 
-probes : (key now mac : ℕ) (n : Node) (s : Story) → n ≡ the_node key s → is_present s ≡ true → n.due ≡ now → known_mac n.kept ≡ Some mac → stays (falls n) ≡ true → node_of key ((now, Probed) ∷ s) ≡ Some (solicited now n)
+probes : (key now mac : ℕ) (n : Node) (s : Story) → n ≡ the_node key s → is_present s ≡ true → n.due ≡ now → known_mac n.stage ≡ Some mac → stays (falls n) ≡ true → node_of key ((now, Probed) ∷ s) ≡ Some (solicited now n)
 probes key now mac n s is present due known left =
     when_probed key now s present mac (sym (mac_is key now n s is) ∙ known) (due_is key now n s is due) (ap (λ (m : Node). stays (falls m)) (sym is) ∙ left) ∙ ap (λ (m : Node). Some (solicited now m)) (sym is)
 
-solicited_key : (now : ℕ) (n : Node) (k : Kept) → n.kept ≡ k → (solicited now n).key ≡ n.key
-solicited_key now n (Resolves r t ws) is = rw is refl
-solicited_key now n (Reaches mac c since None) is = rw is refl
-solicited_key now n (Reaches mac c since (Some p)) is = rw is refl
+solicited_key : (now : ℕ) (n : Node) (k : Stage) → n.stage ≡ k → (solicited now n).key ≡ n.key
+solicited_key now n (Resolving r t ws) is = rw is refl
+solicited_key now n (Known mac c since None) is = rw is refl
+solicited_key now n (Known mac c since (Some p)) is = rw is refl
 
 -- a turn adds its row
 module _ (now : ℕ) (old new : List Node) (i : ℕ) (n : Node) (lt : i < length old) (at_i : n ≡ get_or old i n) (first : due_in now old ≡ Some n) (is : new ≡ cond (stays (falls n)) (set old i (solicited now n)) (remove old i)) where
@@ -83,27 +83,27 @@ module _ (now : ℕ) (old new : List Node) (i : ℕ) (n : Node) (lt : i < length
   going : (stays (falls n) ≡ false) → new ≡ remove old i
   going left = is ∙ cond-false (stays (falls n)) (set old i (solicited now n)) _ left
 
-  turn_gains : (k : Kept) → n.kept ≡ k → GainsRow old new (due_row now (falls_to n.key k))
-  turn_gains (Resolves r t ws) kept = elim (either (ltb t 2)) [
+  turn_gains : (k : Stage) → n.stage ≡ k → GainsRow old new (due_row now (falls_to n.key k))
+  turn_gains (Resolving r t ws) kept = elim (either (ltb t 2)) [
     | inl more ↦
         let left : stays (falls n) ≡ true = rw (kept, more) refl in
         rw more (record {
           stands = λ history s.
-              (changing old new n.key now Solicited i n (solicited now n) refl lt at_i (due_has address date_of now old n s.order first) (solicited_key now n (Resolves r t ws) kept) refl (staying left)
+              (changing old new n.key now Solicited i n (solicited now n) refl lt at_i (due_has address date_of now old n s.order first) (solicited_key now n (Resolving r t ws) kept) refl (staying left)
               (λ story present known. asks n.key now n story known present (same_moment n.due now (due_now date_of now old n first)) (ap known_mac kept))).stands history s;
         })
     | inr last ↦
         let left : stays (falls n) ≡ false = rw (kept, last) refl in
         rw last (leaving old new n.key now Failed i n lt at_i refl (going left))
   ]
-  turn_gains (Reaches mac c since None) kept =
+  turn_gains (Known mac c since None) kept =
       leaving old new n.key now Aged i n lt at_i refl (going (ap (λ k. stays (falls_to n.key k)) kept))
-  turn_gains (Reaches mac c since (Some p)) kept = elim (either (ltb p.sent 3)) [
+  turn_gains (Known mac c since (Some p)) kept = elim (either (ltb p.sent 3)) [
     | inl more ↦
         let left : stays (falls n) ≡ true = rw (kept, more) refl in
         rw more (record {
           stands = λ history s.
-              (changing old new n.key now Probed i n (solicited now n) refl lt at_i (due_has address date_of now old n s.order first) (solicited_key now n (Reaches mac c since (Some p)) kept) refl (staying left)
+              (changing old new n.key now Probed i n (solicited now n) refl lt at_i (due_has address date_of now old n s.order first) (solicited_key now n (Known mac c since (Some p)) kept) refl (staying left)
               (λ story present known. probes n.key now mac n story known present (same_moment n.due now (due_now date_of now old n first)) (ap known_mac kept) left)).stands history s;
         })
     | inr last ↦
@@ -113,7 +113,7 @@ module _ (now : ℕ) (old new : List Node) (i : ℕ) (n : Node) (lt : i < length
 
 pub turned_gains : (now : ℕ) (old new : List Node) (what : Falls) → Turns now old new what → GainsRow old new (due_row now what)
 turned_gains now old new what t =
-    subst (λ (f : Falls). GainsRow old new (due_row now f)) (sym t.falls_is) (turn_gains now old new t.at t.node t.within t.is t.first t.new_is t.node.kept refl)
+    subst (λ (f : Falls). GainsRow old new (due_row now f)) (sym t.falls_is) (turn_gains now old new t.at t.node t.within t.is t.first t.new_is t.node.stage refl)
 
 module _ (ns : List Node) (history : List Row) (s : Stands ns history) where
   pub next_is_due : (next : Option ℕ) → next_in ns ≡ next → NextDue history next
@@ -128,26 +128,26 @@ module _ (ns : List Node) (history : List Row) (s : Stands ns history) where
             subst (λ (m : ℕ). next ≤ m) d.2 (AtMost-some (next_in ns) d.0.due next is (least_at_most address date_of key ns d.0 d.0.due d.1 (omega arith))),
       )
 
-turns-set : (ns : List Node) (i : ℕ) (n m : Node) → i < length ns → n ≡ get_or ns i n → turns_left (set ns i m) + turns_to n.kept ≡ turns_left ns + turns_to m.kept
+turns-set : (ns : List Node) (i : ℕ) (n m : Node) → i < length ns → n ≡ get_or ns i n → turns_left (set ns i m) + turns_to n.stage ≡ turns_left ns + turns_to m.stage
 turns-set [] i n m lt is = absurd (omega arith)
-turns-set (x ∷ ns) zero n m lt is = let e : turns_to n.kept ≡ turns_to x.kept = ap (λ (y : Node). turns_to y.kept) is in omega arith
+turns-set (x ∷ ns) zero n m lt is = let e : turns_to n.stage ≡ turns_to x.stage = ap (λ (y : Node). turns_to y.stage) is in omega arith
 turns-set (x ∷ ns) (suc i) n m lt is = omega (arith, turns-set ns i n m (omega arith) is)
 
-turns-remove : (ns : List Node) (i : ℕ) (n : Node) → i < length ns → n ≡ get_or ns i n → turns_left (remove ns i) + turns_to n.kept ≡ turns_left ns
+turns-remove : (ns : List Node) (i : ℕ) (n : Node) → i < length ns → n ≡ get_or ns i n → turns_left (remove ns i) + turns_to n.stage ≡ turns_left ns
 turns-remove [] i n lt is = absurd (omega arith)
-turns-remove (x ∷ ns) zero n lt is = let e : turns_to n.kept ≡ turns_to x.kept = ap (λ (y : Node). turns_to y.kept) is in omega arith
+turns-remove (x ∷ ns) zero n lt is = let e : turns_to n.stage ≡ turns_to x.stage = ap (λ (y : Node). turns_to y.stage) is in omega arith
 turns-remove (x ∷ ns) (suc i) n lt is = omega (arith, turns-remove ns i n (omega arith) is)
 
-some_turn : (k : Kept) → 0 < turns_to k
-some_turn (Resolves r t ws) = omega arith
-some_turn (Reaches mac c since None) = omega arith
-some_turn (Reaches mac c since (Some p)) = omega arith
+some_turn : (k : Stage) → 0 < turns_to k
+some_turn (Resolving r t ws) = omega arith
+some_turn (Known mac c since None) = omega arith
+some_turn (Known mac c since (Some p)) = omega arith
 
-fewer_to : (now : ℕ) (n : Node) (k : Kept) → n.kept ≡ k → stays (falls_to n.key k) ≡ true → turns_to (solicited now n).kept < turns_to n.kept
-fewer_to now n (Resolves r t ws) kept left =
+fewer_to : (now : ℕ) (n : Node) (k : Stage) → n.stage ≡ k → stays (falls_to n.key k) ≡ true → turns_to (solicited now n).stage < turns_to n.stage
+fewer_to now n (Resolving r t ws) kept left =
     let lt : t < 2 = grind (arith, nat_tests, left) in rw kept (omega arith)
-fewer_to now n (Reaches mac c since None) kept left = absurd (true≢false (sym left))
-fewer_to now n (Reaches mac c since (Some p)) kept left =
+fewer_to now n (Known mac c since None) kept left = absurd (true≢false (sym left))
+fewer_to now n (Known mac c since (Some p)) kept left =
     let lt : p.sent < 3 = grind (arith, nat_tests, left) in rw kept (omega arith)
 
 -- a turn leaves fewer turns
@@ -155,23 +155,23 @@ pub turned_fewer : (now : ℕ) (old new : List Node) (what : Falls) → Turns no
 turned_fewer now old new what t = elim (either (stays (falls t.node))) [
   | inl left ↦
       let is : new ≡ set old t.at (solicited now t.node) = t.new_is ∙ cond-true (stays (falls t.node)) _ (remove old t.at) left in
-      rw is (omega (arith, turns-set old t.at t.node (solicited now t.node) t.within t.is, fewer_to now t.node t.node.kept refl left))
+      rw is (omega (arith, turns-set old t.at t.node (solicited now t.node) t.within t.is, fewer_to now t.node t.node.stage refl left))
   | inr none ↦
       let is : new ≡ remove old t.at = t.new_is ∙ cond-false (stays (falls t.node)) (set old t.at (solicited now t.node)) _ none in
-      rw is (omega (arith, turns-remove old t.at t.node t.within t.is, some_turn t.node.kept))
+      rw is (omega (arith, turns-remove old t.at t.node t.within t.is, some_turn t.node.stage))
 ]
 
-later_to : (now : ℕ) (n : Node) (k : Kept) → n.kept ≡ k → stays (falls_to n.key k) ≡ true → now ≤ (solicited now n).due
-later_to now n (Resolves r t ws) kept left = rw kept (omega arith)
-later_to now n (Reaches mac c since None) kept left = absurd (true≢false (sym left))
-later_to now n (Reaches mac c since (Some p)) kept left = rw kept (omega arith)
+later_to : (now : ℕ) (n : Node) (k : Stage) → n.stage ≡ k → stays (falls_to n.key k) ≡ true → now ≤ (solicited now n).due
+later_to now n (Resolving r t ws) kept left = rw kept (omega arith)
+later_to now n (Known mac c since None) kept left = absurd (true≢false (sym left))
+later_to now n (Known mac c since (Some p)) kept left = rw kept (omega arith)
 
 -- after a turn nothing is due before the moment
 pub turned_later : (now : ℕ) (old new : List Node) (what : Falls) → Turns now old new what → NoneBefore old now → NoneBefore new now
 turned_later now old new what t h = elim (either (stays (falls t.node))) [
   | inl left ↦
       let is : new ≡ set old t.at (solicited now t.node) = t.new_is ∙ cond-true (stays (falls t.node)) _ (remove old t.at) left in
-      rw is (NotBefore-set date_of now old t.at (solicited now t.node) h (later_to now t.node t.node.kept refl left))
+      rw is (NotBefore-set date_of now old t.at (solicited now t.node) h (later_to now t.node t.node.stage refl left))
   | inr none ↦
       let is : new ≡ remove old t.at = t.new_is ∙ cond-false (stays (falls t.node)) (set old t.at (solicited now t.node)) _ none in
       rw is (NotBefore-remove date_of now old t.at h)

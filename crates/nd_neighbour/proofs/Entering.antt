@@ -3,15 +3,16 @@ use Rattle.std.proofs.Common.{◌≡◌, ℕ, ◌+◌, ◌<◌, ◌≤◌, true,
 use Rattle.std.specs.Prelude.{not, is_some}
 use Rattle.std.proofs.lemmas.Bool.Decides.{nat_tests}
 use Rattle.std.proofs.lemmas.Bool.{cond_both, cond-true, cond-false, true≢false, eq-eqb}
-use Rattle.nd_neighbour.specs.declared.reachability.Reachability.TheVariants.{Reachable, Stale, Delay, Probe}
+use Rattle.nd_neighbour.specs.declared.shown.Reachability.TheVariants.{Reachable, Stale, Delay, Probe}
 use Rattle.nd_neighbour.specs.History.{RowKind, Row, Story, story, is_end, Forgot, PushedOut}
-use Rattle.nd_neighbour.specs.Address.{is_present, mac_of}
-use Rattle.nd_neighbour.specs.Confirming.{Word, Confirms, Disturbs, Use, word_of, use_of}
-use Rattle.nd_neighbour.specs.Resolving.{Resolution, resolution_of, waiting_of}
-use Rattle.nd_neighbour.specs.Reachability.{state_by}
-use Rattle.nd_neighbour.specs.Node.{Node, kept_by, the_node, node_of, since_in}
-use Rattle.nd_neighbour.specs.Table.{address, node_in, Rises, Stands, GainsRow}
-use Rattle.nd_neighbour.specs.Room.{IsStale, stale_since, IsLongestStale, MakesPlace, HadPlace, Pushed, is_stale, since_kept, longer, if_stale, stalest, Places, Enough, Went, Alters, NotThere, There}
+use Rattle.nd_neighbour.specs.Entry.{Node}
+use Rattle.nd_neighbour.specs.ReachabilityConfirmation.{Word, Confirms, Disturbs, since_in}
+use Rattle.nd_neighbour.specs.AddressResolution.{Resolution, resolution_of, waiting_of}
+use Rattle.nd_neighbour.specs.UnreachabilityDetection.{Use}
+use Rattle.nd_neighbour.specs.Story.{is_present, mac_of, word_of, use_of, stage_by, the_node, node_of}
+use Rattle.nd_neighbour.specs.Table.{address, node_in, Rises, Stands, GainsRow, Alters, NotThere, There}
+use Rattle.nd_neighbour.specs.Shown.{state_by}
+use Rattle.nd_neighbour.specs.Place.{IsStale, stale_since, IsLongestStale, MakesPlace, HadPlace, Pushed, is_stale, since_of, longer, if_stale, stalest, Places, Enough, Went}
 use Rattle.nd_table.proofs.Cases.{either}
 use Rattle.nd_table.proofs.Keyed.{key_is, above_in, at_place, at_key-remove}
 use Rattle.nd_neighbour.proofs.Steps.{changing, passing, leaving, node_present, node_absent}
@@ -27,7 +28,7 @@ altered_gains key at h change old new goes keeps makes absent (NotThere none new
     (λ s is. cond-false (is_present ((at, h) ∷ s)) (Some (the_node key ((at, h) ∷ s))) None (absent s (node_absent key s (sym is ∙ none))) ∙ sym none) new_is
 
 -- what is stale by the story is stale by what is kept
-stale_by : (t : ℕ) (mac : Option ℕ) (w : Option Word) (u : Option Use) (r : Option Resolution) (ws : List (List ℕ)) → state_by mac w u t ≡ Stale → is_stale (kept_by mac w u r ws) t ≡ true
+stale_by : (t : ℕ) (mac : Option ℕ) (w : Option Word) (u : Option Use) (r : Option Resolution) (ws : List (List ℕ)) → state_by mac w u t ≡ Stale → is_stale (stage_by mac w u r ws) t ≡ true
 stale_by t None w u r ws h = absurd (cc)
 stale_by t (Some mac) None None r ws h = refl
 stale_by t (Some mac) None (Some u) r ws h = cond_both (ltb t (u.at + 5000)) Delay Probe (λ s. s ≡ Stale → false ≡ true) (λ _ e. absurd (cc)) (λ _ e. absurd (cc)) h
@@ -39,7 +40,7 @@ stale_by t (Some mac) (Some (Confirms d l)) (Some u) r ws h =
     (λ _ e. cond_both (ltb t (u.at + 5000)) Delay Probe (λ s. s ≡ Stale → false ≡ true) (λ _ e'. absurd (cc)) (λ _ e'. absurd (cc)) e) h
 
 -- and the other way
-by_stale : (t : ℕ) (mac : Option ℕ) (w : Option Word) (u : Option Use) (r : Option Resolution) (ws : List (List ℕ)) → is_stale (kept_by mac w u r ws) t ≡ true → state_by mac w u t ≡ Stale
+by_stale : (t : ℕ) (mac : Option ℕ) (w : Option Word) (u : Option Use) (r : Option Resolution) (ws : List (List ℕ)) → is_stale (stage_by mac w u r ws) t ≡ true → state_by mac w u t ≡ Stale
 by_stale t None w u r ws h = absurd (true≢false (sym h))
 by_stale t (Some mac) w (Some u) r ws h = absurd (true≢false (sym h))
 by_stale t (Some mac) None None r ws h = refl
@@ -49,80 +50,80 @@ by_stale t (Some mac) (Some (Confirms d l)) None r ws h = elim (either (ltb t (d
   | inr k ↦ rw k refl
 ]
 
-since_by : (t : ℕ) (mac : Option ℕ) (w : Option Word) (u : Option Use) (r : Option Resolution) (ws : List (List ℕ)) → is_stale (kept_by mac w u r ws) t ≡ true → since_kept (kept_by mac w u r ws) ≡ since_in w
+since_by : (t : ℕ) (mac : Option ℕ) (w : Option Word) (u : Option Use) (r : Option Resolution) (ws : List (List ℕ)) → is_stale (stage_by mac w u r ws) t ≡ true → since_of (stage_by mac w u r ws) ≡ since_in w
 since_by t None w u r ws h = absurd (true≢false (sym h))
 since_by t (Some mac) w u r ws h = refl
 
 -- the one that is stale for longest
-if_stale_is : (now : ℕ) (x n : Node) → if_stale now x ≡ Some n → (x ≡ n) × (is_stale x.kept now ≡ true)
+if_stale_is : (now : ℕ) (x n : Node) → if_stale now x ≡ Some n → (x ≡ n) × (is_stale x.stage now ≡ true)
 if_stale_is now x n h =
-    cond_both (is_stale x.kept now) (Some x) None (λ o. o ≡ Some n → (x ≡ n) × (is_stale x.kept now ≡ true)) (λ k e. (let f : x ≡ n = cc in f, k)) (λ _ e. absurd (cc)) h
+    cond_both (is_stale x.stage now) (Some x) None (λ o. o ≡ Some n → (x ≡ n) × (is_stale x.stage now ≡ true)) (λ k e. (let f : x ≡ n = cc in f, k)) (λ _ e. absurd (cc)) h
 
 longer_is : (a b : Option Node) (n : Node) → longer a b ≡ Some n → (a ≡ Some n) ⊎ (b ≡ Some n)
 longer_is None b n h = inr h
 longer_is (Some x) None n h = inl h
-longer_is (Some x) (Some y) n h = cond_both (ltb (since_kept y.kept) (since_kept x.kept)) (Some y) (Some x) (λ o. o ≡ Some n → (Some x ≡ Some n) ⊎ (Some y ≡ Some n)) (λ _ e. inr e) (λ _ e. inl e) h
+longer_is (Some x) (Some y) n h = cond_both (ltb (since_of y.stage) (since_of x.stage)) (Some y) (Some x) (λ o. o ≡ Some n → (Some x ≡ Some n) ⊎ (Some y ≡ Some n)) (λ _ e. inr e) (λ _ e. inl e) h
 
-stalest_is_stale : (now : ℕ) (ns : List Node) (n : Node) → stalest now ns ≡ Some n → is_stale n.kept now ≡ true
+stalest_is_stale : (now : ℕ) (ns : List Node) (n : Node) → stalest now ns ≡ Some n → is_stale n.stage now ≡ true
 stalest_is_stale now [] n h = absurd (cc)
 stalest_is_stale now (x ∷ ns) n h = elim (longer_is (if_stale now x) (stalest now ns) n h) [
-  | inl e ↦ let f = if_stale_is now x n e in subst (λ (y : Node). is_stale y.kept now ≡ true) f.0 f.1
+  | inl e ↦ let f = if_stale_is now x n e in subst (λ (y : Node). is_stale y.stage now ≡ true) f.0 f.1
   | inr e ↦ stalest_is_stale now ns n e
 ]
 
 -- the first of two comes first
 abbrev NotAfter : Node → Node → Type 0
-NotAfter n m = (since_kept n.kept < since_kept m.kept) ⊎ ((since_kept n.kept ≡ since_kept m.kept) × (n.key ≤ m.key))
+NotAfter n m = (since_of n.stage < since_of m.stage) ⊎ ((since_of n.stage ≡ since_of m.stage) × (n.key ≤ m.key))
 
 some_left : (x : Node) (o : Option Node) → is_some (longer (Some x) o) ≡ true
 some_left x None = refl
-some_left x (Some y) = cond_both (ltb (since_kept y.kept) (since_kept x.kept)) (Some y) (Some x) (λ o. is_some o ≡ true) (λ _. refl) (λ _. refl)
+some_left x (Some y) = cond_both (ltb (since_of y.stage) (since_of x.stage)) (Some y) (Some x) (λ o. is_some o ≡ true) (λ _. refl) (λ _. refl)
 
 some_right : (o b : Option Node) → is_some b ≡ true → is_some (longer o b) ≡ true
 some_right None b h = h
 some_right (Some x) b h = some_left x b
 
-stalest_some : (now k : ℕ) (ns : List Node) (m : Node) → node_in k ns ≡ Some m → is_stale m.kept now ≡ true → is_some (stalest now ns) ≡ true
+stalest_some : (now k : ℕ) (ns : List Node) (m : Node) → node_in k ns ≡ Some m → is_stale m.stage now ≡ true → is_some (stalest now ns) ≡ true
 stalest_some now k [] m is stale = absurd (cc)
 stalest_some now k (x ∷ ns) m is stale =
     cond_both (eqb x.key k) (Some x) (node_in k ns) (λ o. o ≡ Some m → is_some (stalest now (x ∷ ns)) ≡ true)
     (λ _ e. let f : x ≡ m = cc in
-    let here : if_stale now x ≡ Some x = cond-true (is_stale x.kept now) (Some x) None (ap (λ (y : Node). is_stale y.kept now) f ∙ stale) in
+    let here : if_stale now x ≡ Some x = cond-true (is_stale x.stage now) (Some x) None (ap (λ (y : Node). is_stale y.stage now) f ∙ stale) in
     ap (λ o. is_some (longer o (stalest now ns))) here ∙ some_left x (stalest now ns))
     (λ _ e. some_right (if_stale now x) (stalest now ns) (stalest_some now k ns m e stale)) is
 
 -- the order of two, through a third that isn't before the first
-through : (x y m : Node) → since_kept x.kept ≤ since_kept y.kept → x.key ≤ m.key → NotAfter y m → NotAfter x m
-through x y m le key after = elim (either (ltb (since_kept x.kept) (since_kept m.kept))) [
+through : (x y m : Node) → since_of x.stage ≤ since_of y.stage → x.key ≤ m.key → NotAfter y m → NotAfter x m
+through x y m le key after = elim (either (ltb (since_of x.stage) (since_of m.stage))) [
   | inl lt ↦ inl (grind (arith, nat_tests, lt))
   | inr ge ↦
-      let back : since_kept m.kept ≤ since_kept x.kept = grind (arith, nat_tests, ge) in
+      let back : since_of m.stage ≤ since_of x.stage = grind (arith, nat_tests, ge) in
       elim after [
         | inl lt ↦ absurd (omega arith)
-        | inr same ↦ let e : since_kept y.kept ≡ since_kept m.kept = same.0 in inr (omega arith, key)
+        | inr same ↦ let e : since_of y.stage ≡ since_of m.stage = same.0 in inr (omega arith, key)
       ]
 ]
 
 -- with the one that is stale for longest of the rest
-first_of_two : (now k : ℕ) (x : Node) (ns : List Node) (n m : Node) (o : Option Node) → Rises (x ∷ ns) → stalest now ns ≡ o → longer (Some x) o ≡ Some n → node_in k (x ∷ ns) ≡ Some m → is_stale m.kept now ≡ true → ((y : Node) → stalest now ns ≡ Some y → node_in k ns ≡ Some m → NotAfter y m) → NotAfter n m
+first_of_two : (now k : ℕ) (x : Node) (ns : List Node) (n m : Node) (o : Option Node) → Rises (x ∷ ns) → stalest now ns ≡ o → longer (Some x) o ≡ Some n → node_in k (x ∷ ns) ≡ Some m → is_stale m.stage now ≡ true → ((y : Node) → stalest now ns ≡ Some y → node_in k ns ≡ Some m → NotAfter y m) → NotAfter n m
 first_of_two now k x ns n m None r rest h is stale ih =
     let e : x ≡ n = cc in
     cond_both (eqb x.key k) (Some x) (node_in k ns) (λ o. o ≡ Some m → NotAfter n m)
     (λ _ f. let g : x ≡ m = cc in subst (λ (y : Node). NotAfter y m) e (subst (λ (y : Node). NotAfter x y) g (inr (refl, omega arith))))
     (λ _ f. absurd (true≢false (sym (stalest_some now k ns m f stale) ∙ ap is_some rest))) is
-first_of_two now k x ns n m (Some y) r rest h is stale ih = elim (either (ltb (since_kept y.kept) (since_kept x.kept))) [
+first_of_two now k x ns n m (Some y) r rest h is stale ih = elim (either (ltb (since_of y.stage) (since_of x.stage))) [
   | inl lt ↦
-      let f : Some y ≡ Some n = sym (cond-true (ltb (since_kept y.kept) (since_kept x.kept)) (Some y) (Some x) lt) ∙ h in
+      let f : Some y ≡ Some n = sym (cond-true (ltb (since_of y.stage) (since_of x.stage)) (Some y) (Some x) lt) ∙ h in
       let e : y ≡ n = cc in
       cond_both (eqb x.key k) (Some x) (node_in k ns) (λ o. o ≡ Some m → NotAfter n m)
       (λ _ f. let g : x ≡ m = cc in
-      let lt' : since_kept y.kept < since_kept x.kept = grind (arith, nat_tests, lt) in
+      let lt' : since_of y.stage < since_of x.stage = grind (arith, nat_tests, lt) in
       subst (λ (z : Node). NotAfter z m) e (subst (λ (z : Node). NotAfter y z) g (inl lt')))
       (λ _ f. subst (λ (z : Node). NotAfter z m) e (ih y rest f)) is
   | inr ge ↦
-      let f : Some x ≡ Some n = sym (cond-false (ltb (since_kept y.kept) (since_kept x.kept)) (Some y) (Some x) ge) ∙ h in
+      let f : Some x ≡ Some n = sym (cond-false (ltb (since_of y.stage) (since_of x.stage)) (Some y) (Some x) ge) ∙ h in
       let e : x ≡ n = cc in
-      let le : since_kept x.kept ≤ since_kept y.kept = grind (arith, nat_tests, ge) in
+      let le : since_of x.stage ≤ since_of y.stage = grind (arith, nat_tests, ge) in
       cond_both (eqb x.key k) (Some x) (node_in k ns) (λ o. o ≡ Some m → NotAfter n m)
       (λ _ f. let g : x ≡ m = cc in subst (λ (z : Node). NotAfter z m) e (subst (λ (z : Node). NotAfter x z) g (inr (refl, omega arith))))
       (λ _ f. let above : x.key < k = above_in address k x.key ns m r.0 f in
@@ -130,35 +131,35 @@ first_of_two now k x ns n m (Some y) r rest h is stale ih = elim (either (ltb (s
       subst (λ (z : Node). NotAfter z m) e (through x y m le (omega arith) (ih y rest f))) is
 ]
 
-stalest_first : (now k : ℕ) (ns : List Node) (n m : Node) → Rises ns → stalest now ns ≡ Some n → node_in k ns ≡ Some m → is_stale m.kept now ≡ true → NotAfter n m
+stalest_first : (now k : ℕ) (ns : List Node) (n m : Node) → Rises ns → stalest now ns ≡ Some n → node_in k ns ≡ Some m → is_stale m.stage now ≡ true → NotAfter n m
 stalest_first now k [] n m r h is stale = absurd (cc)
-stalest_first now k (x ∷ ns) n m r h is stale = elim (either (is_stale x.kept now)) [
+stalest_first now k (x ∷ ns) n m r h is stale = elim (either (is_stale x.stage now)) [
   | inl stale' ↦
-      let here : if_stale now x ≡ Some x = cond-true (is_stale x.kept now) (Some x) None stale' in
+      let here : if_stale now x ≡ Some x = cond-true (is_stale x.stage now) (Some x) None stale' in
       first_of_two now k x ns n m (stalest now ns) r refl (ap (λ o. longer o (stalest now ns)) (sym here) ∙ h) is stale (λ y e f. stalest_first now k ns y m r.1 e f stale)
   | inr other ↦
-      let here : if_stale now x ≡ None = cond-false (is_stale x.kept now) (Some x) None other in
+      let here : if_stale now x ≡ None = cond-false (is_stale x.stage now) (Some x) None other in
       let rest : stalest now ns ≡ Some n = ap (λ o. longer o (stalest now ns)) (sym here) ∙ h in
       cond_both (eqb x.key k) (Some x) (node_in k ns) (λ o. o ≡ Some m → NotAfter n m)
-      (λ _ e. let f : x ≡ m = cc in absurd (true≢false (sym (ap (λ (y : Node). is_stale y.kept now) f ∙ stale) ∙ other)))
+      (λ _ e. let f : x ≡ m = cc in absurd (true≢false (sym (ap (λ (y : Node). is_stale y.stage now) f ∙ stale) ∙ other)))
       (λ _ e. stalest_first now k ns n m r.1 rest e stale) is
 ]
 
 -- what is stale by the history is stale in the table, and the other way
 module _ (ns : List Node) (history : List Row) (s : Stands ns history) (now : ℕ) where
-  stale_node_of : (k : ℕ) → IsStale history now k → (m : Node) × (node_in k ns ≡ Some m) × (is_stale m.kept now ≡ true) × (since_kept m.kept ≡ stale_since history k)
+  stale_node_of : (k : ℕ) → IsStale history now k → (m : Node) × (node_in k ns ≡ Some m) × (is_stale m.stage now ≡ true) × (since_of m.stage ≡ stale_since history k)
   stale_node_of k stale =
       let st = story k history in
-      let is : is_stale (the_node k st).kept now ≡ true = stale_by now (mac_of st) (word_of st) (use_of st) (resolution_of st) (waiting_of st) stale.1 in
+      let is : is_stale (the_node k st).stage now ≡ true = stale_by now (mac_of st) (word_of st) (use_of st) (resolution_of st) (waiting_of st) stale.1 in
       (the_node k st, s.each k ∙ cond-true (is_present st) (Some (the_node k st)) None stale.0, is, since_by now (mac_of st) (word_of st) (use_of st) (resolution_of st) (waiting_of st) is)
 
-  stale_by_node : (k : ℕ) (m : Node) → node_in k ns ≡ Some m → is_stale m.kept now ≡ true → IsStale history now k × (since_kept m.kept ≡ stale_since history k)
+  stale_by_node : (k : ℕ) (m : Node) → node_in k ns ≡ Some m → is_stale m.stage now ≡ true → IsStale history now k × (since_of m.stage ≡ stale_since history k)
   stale_by_node k m is stale =
       let st = story k history in
       let known = node_present k st m (sym (s.each k) ∙ is) in
-      let stale' : is_stale (the_node k st).kept now ≡ true = ap (λ (x : Node). is_stale x.kept now) (sym known.1) ∙ stale in (
+      let stale' : is_stale (the_node k st).stage now ≡ true = ap (λ (x : Node). is_stale x.stage now) (sym known.1) ∙ stale in (
         (known.0, by_stale now (mac_of st) (word_of st) (use_of st) (resolution_of st) (waiting_of st) stale'),
-        ap (λ (x : Node). since_kept x.kept) known.1 ∙ since_by now (mac_of st) (word_of st) (use_of st) (resolution_of st) (waiting_of st) stale',
+        ap (λ (x : Node). since_of x.stage) known.1 ∙ since_by now (mac_of st) (word_of st) (use_of st) (resolution_of st) (waiting_of st) stale',
       )
 
   pub none_is_stale : stalest now ns ≡ None → (k : ℕ) → IsStale history now k → ⊥

@@ -2,13 +2,13 @@
 use Rattle.std.proofs.Common.{◌≡◌, ℕ, ◌<◌, Bool, true, false, cond, List, [], refl, length, get_or, set, Option, Some, None, sym, ◌∙◌, ap, subst, arith, suc, zero}
 use Rattle.std.specs.Prelude.{slice_get, is_some, ◌&&◌, not}
 use Rattle.std.proofs.lemmas.Option.{slice_get-get_or}
-use Rattle.nd_neighbour.specs.Node.{Node, Kept, Resolves, Reaches}
-use Rattle.nd_neighbour.specs.Change.{released, known_mac, waiting_in}
-use Rattle.nd_neighbour.specs.Table.{node_in, place_in}
+use Rattle.nd_neighbour.specs.Entry.{Node, Stage, Resolving, Known, released, known_mac, waiting_in}
+use Rattle.nd_neighbour.specs.Table.{node_in, place_in, Alters, There}
+use Rattle.nd_neighbour.specs.Place.{Gives, Was, Came, NoPlace, Places}
+use Rattle.nd_neighbour.specs.News.{told_released, told_turned}
+use Rattle.nd_neighbour.specs.Removal.{Removes, Gone, waiting_at}
 use Rattle.std.specs.List.{insert, remove}
 use Rattle.std.proofs.lemmas.Bool.{true≢false}
-use Rattle.nd_neighbour.specs.Room.{Alters, There, Gives, Was, Came, NoPlace, Places, Removes, Gone}
-use Rattle.nd_neighbour.specs.Calls.{told_released, told_turned, waiting_at}
 
 pub found_is : (key : ℕ) (ns : List Node) (i : ℕ) (n : Node) → i < length ns → n ≡ get_or ns i n → node_in key ns ≡ slice_get ns i → node_in key ns ≡ Some n
 found_is key ns i n lt is found = found ∙ (slice_get-get_or ns i n lt ∙ ap Some (sym is))
@@ -31,9 +31,9 @@ module _ (key : ℕ) (change : Node → Node) (old seen : List Node) (i : ℕ) (
   turns turned e = e ∙ (ap (λ (x : Node). n.router && not x.router) new_is ∙ sym (ap (told_turned change) there))
 
 -- a mark releases nothing
-pub nothing_by : (k : Kept) → cond (is_some (known_mac k)) (waiting_in k) [] ≡ []
-nothing_by (Resolves retrans sent waiting) = refl
-nothing_by (Reaches mac confirmed since probing) = refl
+pub nothing_by : (k : Stage) → cond (is_some (known_mac k)) (waiting_in k) [] ≡ []
+nothing_by (Resolving retrans sent waiting) = refl
+nothing_by (Known mac confirmed since probing) = refl
 
 pub some_is : (o : Option Node) → is_some o ≡ true → (n : Node) × (o ≡ Some n)
 some_is None h = absurd (true≢false (sym h))
@@ -73,7 +73,7 @@ taken_out key old seen new i n same lt found is gone =
     let within : i < length old = subst (λ (l : List Node). i < length l) same lt in
     Gone i n within is (found_is key old i n within is (subst (λ (l : List Node). node_in key l ≡ slice_get l i) same found)) gone
 
-pub taken_waits : (key : ℕ) (old seen : List Node) (i : ℕ) (n : Node) (packets : List (List ℕ)) → seen ≡ old → i < length seen → node_in key seen ≡ slice_get seen i → n ≡ get_or old i n → packets ≡ waiting_in n.kept → packets ≡ waiting_at (node_in key old)
+pub taken_waits : (key : ℕ) (old seen : List Node) (i : ℕ) (n : Node) (packets : List (List ℕ)) → seen ≡ old → i < length seen → node_in key seen ≡ slice_get seen i → n ≡ get_or old i n → packets ≡ waiting_in n.stage → packets ≡ waiting_at (node_in key old)
 taken_waits key old seen i n packets same lt found is p =
     let within : i < length old = subst (λ (l : List Node). i < length l) same lt in
     p ∙ sym (ap waiting_at (found_is key old i n within is (subst (λ (l : List Node). node_in key l ≡ slice_get l i) same found)))

@@ -3,18 +3,17 @@ use Rattle.std.proofs.Common.{◌≡◌, ℕ, Bool, true, eqb, List, [], ◌∷�
 use Rattle.std.specs.Prelude.{map, slice_get}
 use Rattle.std.specs.Option.{option_map}
 use Rattle.std.proofs.lemmas.Bool.{cond-true, cond-false, eqb-true}
-use Rattle.nd_neighbour.specs.declared.reachability.Reachability.{Reachability}
+use Rattle.nd_neighbour.specs.declared.shown.Reachability.{Reachability}
 use Rattle.nd_neighbour.specs.History.{Row, Story, story, Forgot, Cause, Cleared}
-use Rattle.nd_neighbour.specs.Address.{is_present, mac_of}
-use Rattle.nd_neighbour.specs.Confirming.{Word, Confirms, Disturbs, Use, word_of, use_of}
-use Rattle.nd_neighbour.specs.Resolving.{Resolution, resolution_of, waiting_of}
-use Rattle.nd_neighbour.specs.Reachability.{state_by}
-use Rattle.nd_neighbour.specs.Node.{Node, kept_by, the_node, node_of}
+use Rattle.nd_neighbour.specs.Entry.{Node}
+use Rattle.nd_neighbour.specs.ReachabilityConfirmation.{Word, Confirms, Disturbs}
+use Rattle.nd_neighbour.specs.AddressResolution.{Resolution, resolution_of, waiting_of}
+use Rattle.nd_neighbour.specs.UnreachabilityDetection.{Use}
+use Rattle.nd_neighbour.specs.Story.{is_present, mac_of, word_of, use_of, stage_by, the_node, node_of, waits_of}
 use Rattle.nd_neighbour.specs.Table.{address, node_in, Stands, GainsRow}
+use Rattle.nd_neighbour.specs.Shown.{state_by, Seen, seen, seen_of, state_in, seen_key, Lists}
+use Rattle.nd_neighbour.specs.Removal.{Removes, WasNot, Gone, waiting_at, cleared}
 use Rattle.nd_table.proofs.Mapped.{at_key-map, Rises-map}
-use Rattle.nd_neighbour.specs.Room.{Removes, WasNot, Gone}
-use Rattle.nd_neighbour.specs.Seen.{Seen, seen, seen_of, state_in, waits_of, seen_key, Lists}
-use Rattle.nd_neighbour.specs.Calls.{waiting_at, cleared}
 use Rattle.nd_table.proofs.Cases.{either}
 use Rattle.nd_table.proofs.Keyed.{key_is}
 use Rattle.nd_neighbour.proofs.Steps.{leaving, each_other, ended_story, node_present, node_absent}
@@ -43,7 +42,7 @@ pub waits_by_rows : (key : ℕ) (old : List Node) (history : List Row) → Stand
 waits_by_rows key old history s = waits_at key (story key history) (node_in key old) (s.each key)
 
 -- what is shown
-state_is : (t : ℕ) (mac : Option ℕ) (w : Option Word) (u : Option Use) (r : Option Resolution) (ws : List (List ℕ)) → state_in (kept_by mac w u r ws) t ≡ state_by mac w u t
+state_is : (t : ℕ) (mac : Option ℕ) (w : Option Word) (u : Option Use) (r : Option Resolution) (ws : List (List ℕ)) → state_in (stage_by mac w u r ws) t ≡ state_by mac w u t
 state_is t None w u r ws = refl
 state_is t (Some mac) None None r ws = refl
 state_is t (Some mac) None (Some u) r ws = refl

@@ -5,7 +5,7 @@ use Rattle.std.specs.Option.{option_to_list}
 use Rattle.std.proofs.lemmas.Bool.{cases_lt}
 use Rattle.circular_buffer.specs.Buffer.{keep_last}
 use Rattle.nd_neighbour.specs.History.{Story}
-use Rattle.nd_neighbour.specs.Resolving.{packets_of, waiting_of}
+use Rattle.nd_neighbour.specs.AddressResolution.{packets_of, waiting_of}
 
 module _ {X : Type 0} where
   keep_short : (n : ℕ) (xs : List X) → length xs ≤ n → keep_last n xs ≡ xs

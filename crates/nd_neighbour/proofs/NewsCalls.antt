@@ -4,15 +4,16 @@ use Rattle.std.specs.Prelude.{◌&&◌, not, is_some}
 use Rattle.std.proofs.lemmas.Bool.{cond-true, cond-false}
 use Rattle.nd_neighbour.specs.declared.news.Flags.{Flags}
 use Rattle.nd_neighbour.specs.History.{RowKind, Given, Advertised, Marked, Confirmed, Row, Story, story}
-use Rattle.nd_neighbour.specs.Address.{is_present, mac_of, is_router}
-use Rattle.nd_neighbour.specs.Confirming.{Word, Use, word_of, use_of}
-use Rattle.nd_neighbour.specs.Resolving.{Resolution, resolution_of, waiting_of}
-use Rattle.nd_neighbour.specs.Node.{Node, Kept, Resolves, Reaches, kept_by, the_node, node_of}
-use Rattle.nd_neighbour.specs.Change.{given, given_to, advertised, advertised_to, conforming, confirmed, confirmed_to, with_mark, stale_node, mark_or, known_mac, waiting_in}
-use Rattle.nd_neighbour.specs.Table.{address, node_in, Stands, GainsRow}
-use Rattle.nd_neighbour.specs.Room.{Prepares, MakesPlace, Alters, NotThere, There, Gives, Was, Came}
-use Rattle.nd_neighbour.specs.Seen.{waits_by, waits_of}
-use Rattle.nd_neighbour.specs.Calls.{released_by, ends_router, Tells, told_released, told_turned}
+use Rattle.nd_neighbour.specs.Entry.{Node, Stage, Resolving, Known, with_mark, stale_node, known_mac, waiting_in}
+use Rattle.nd_neighbour.specs.LinkLayerAddress.{given, given_to, mark_or}
+use Rattle.nd_neighbour.specs.ReachabilityConfirmation.{Word, confirmed, confirmed_to}
+use Rattle.nd_neighbour.specs.NeighborAdvertisement.{advertised, advertised_to, conforming}
+use Rattle.nd_neighbour.specs.AddressResolution.{Resolution, resolution_of, waiting_of}
+use Rattle.nd_neighbour.specs.UnreachabilityDetection.{Use}
+use Rattle.nd_neighbour.specs.Story.{is_present, mac_of, is_router, word_of, use_of, stage_by, the_node, node_of, waits_by, waits_of}
+use Rattle.nd_neighbour.specs.Table.{address, node_in, Stands, GainsRow, Alters, NotThere, There}
+use Rattle.nd_neighbour.specs.Place.{Prepares, MakesPlace, Gives, Was, Came}
+use Rattle.nd_neighbour.specs.News.{released_by, ends_router, Tells, told_released, told_turned}
 use Rattle.nd_neighbour.proofs.Stories.{absent_router}
 use Rattle.nd_neighbour.proofs.Changes.{when_given, when_advertised, when_marked, when_confirmed, first_given}
 use Rattle.nd_neighbour.proofs.Steps.{changing, entering, node_present, node_absent}
@@ -24,29 +25,29 @@ pub keys_of : (b : Bool) (m o n : Node) → m.key ≡ n.key → o.key ≡ n.key 
 keys_of true m o n h k = h
 keys_of false m o n h k = k
 
-pub given_key : (at mac : ℕ) (mark : Option Bool) (n : Node) (k : Kept) → (given_to k n at mac (mark_or mark n.router)).key ≡ n.key
-given_key at mac mark n (Resolves r t ws) = refl
-given_key at mac mark n (Reaches known c since p) = keys_of (eqb mac known) _ _ n refl refl
+pub given_key : (at mac : ℕ) (mark : Option Bool) (n : Node) (k : Stage) → (given_to k n at mac (mark_or mark n.router)).key ≡ n.key
+given_key at mac mark n (Resolving r t ws) = refl
+given_key at mac mark n (Known known c since p) = keys_of (eqb mac known) _ _ n refl refl
 
 conforming_key : (flags : Flags) (at reachable mac : ℕ) (changed : Bool) (n : Node) → (conforming flags at reachable mac changed n).key ≡ n.key
 conforming_key flags at reachable mac changed n = keys_of flags.solicited _ _ n refl (keys_of changed _ _ n refl refl)
 
-advertised_key : (flags : Flags) (mac : Option ℕ) (at reachable : ℕ) (n : Node) (k : Kept) → (advertised_to k flags mac at reachable n).key ≡ n.key
-advertised_key flags None at reachable n (Resolves r t ws) = refl
-advertised_key flags (Some mac) at reachable n (Resolves r t ws) = conforming_key flags at reachable mac true n
-advertised_key flags None at reachable n (Reaches known c since p) = conforming_key flags at reachable known false n
-advertised_key flags (Some mac) at reachable n (Reaches known c since p) =
+advertised_key : (flags : Flags) (mac : Option ℕ) (at reachable : ℕ) (n : Node) (k : Stage) → (advertised_to k flags mac at reachable n).key ≡ n.key
+advertised_key flags None at reachable n (Resolving r t ws) = refl
+advertised_key flags (Some mac) at reachable n (Resolving r t ws) = conforming_key flags at reachable mac true n
+advertised_key flags None at reachable n (Known known c since p) = conforming_key flags at reachable known false n
+advertised_key flags (Some mac) at reachable n (Known known c since p) =
     keys_of (eqb mac known) _ _ n (conforming_key flags at reachable known false n)
     (keys_of flags.overrides _ _ n (conforming_key flags at reachable mac true n) (keys_of (c && ltb at since) _ _ n refl refl))
 
-confirmed_key : (at reachable : ℕ) (n : Node) (k : Kept) → (confirmed_to k at reachable n).key ≡ n.key
-confirmed_key at reachable n (Resolves r t ws) = refl
-confirmed_key at reachable n (Reaches mac c since p) = refl
+confirmed_key : (at reachable : ℕ) (n : Node) (k : Stage) → (confirmed_to k at reachable n).key ≡ n.key
+confirmed_key at reachable n (Resolving r t ws) = refl
+confirmed_key at reachable n (Known mac c since p) = refl
 
 pub advertised_gains : (key at : ℕ) (flags : Flags) (mac : Option ℕ) (reachable : ℕ) (old new : List Node) → Alters key (λ n. advertised at flags mac reachable n) old new → GainsRow old new (at, key, Advertised flags mac reachable)
 advertised_gains key at flags mac reachable old new a =
     altered_gains key at (Advertised flags mac reachable) (λ n. advertised at flags mac reachable n) old new refl
-    (λ n. advertised_key flags mac at reachable n n.kept) (λ s p. when_advertised key at s p flags mac reachable) (λ s p. p) a
+    (λ n. advertised_key flags mac at reachable n n.stage) (λ s p. when_advertised key at s p flags mac reachable) (λ s p. p) a
 
 pub marked_gains : (key at : ℕ) (router : Bool) (old new : List Node) → Alters key (λ n. with_mark router n) old new → GainsRow old new (at, key, Marked router)
 marked_gains key at router old new a =
@@ -55,12 +56,12 @@ marked_gains key at router old new a =
 pub confirmed_gains : (key at reachable : ℕ) (old new : List Node) → Alters key (λ n. confirmed at reachable n) old new → GainsRow old new (at, key, Confirmed reachable)
 confirmed_gains key at reachable old new a =
     altered_gains key at (Confirmed reachable) (λ n. confirmed at reachable n) old new refl
-    (λ n. confirmed_key at reachable n n.kept) (λ s p. when_confirmed key at s p reachable) (λ s p. p) a
+    (λ n. confirmed_key at reachable n n.stage) (λ s p. when_confirmed key at s p reachable) (λ s p. p) a
 
 altered_there : (key at mac : ℕ) (mark : Option Bool) (old new : List Node) (n : Node) → node_in key old ≡ Some n → Alters key (λ n. given at mac mark n) old new → GainsRow old new (at, key, Given mac mark)
 altered_there key at mac mark old new n found (There i m lt is there new_is) =
     let m_key : m.key ≡ key = key_is address key old m there in
-    changing old new key at (Given mac mark) i m (given at mac mark m) refl lt is there (given_key at mac mark m m.kept ∙ m_key) m_key new_is
+    changing old new key at (Given mac mark) i m (given at mac mark m) refl lt is there (given_key at mac mark m m.stage ∙ m_key) m_key new_is
     (λ s p known. when_given key at s p mac mark ∙ ap (λ (x : Node). Some (given at mac mark x)) (sym known))
 altered_there key at mac mark old new n found (NotThere none new_is) = let e : Some n ≡ None = sym found ∙ none in absurd (cc)
 
@@ -87,14 +88,14 @@ given_hears limit now key mac mark old new (Came mid none places is) history s =
     entering mid new key now (Given mac mark) (stale_node key (mark_or mark false) now mac) refl place.3 refl is (λ story' absent. first_given key now story' absent mac mark) in
     (place.0, place_needed limit now key history place.0 gone place.1, gains.stands place.0 place.2)
 
-waiting_by : (mac : Option ℕ) (w : Option Word) (u : Option Use) (r : Option Resolution) (ws : List (List ℕ)) → waiting_in (kept_by mac w u r ws) ≡ waits_by mac ws
+waiting_by : (mac : Option ℕ) (w : Option Word) (u : Option Use) (r : Option Resolution) (ws : List (List ℕ)) → waiting_in (stage_by mac w u r ws) ≡ waits_by mac ws
 waiting_by None w u r ws = refl
 waiting_by (Some mac) w u r ws = refl
 
 -- what waits at an entry is what waits by its story
-pub node_waits : (key : ℕ) (s : Story) (n : Node) → is_present s ≡ true → n ≡ the_node key s → waiting_in n.kept ≡ waits_of s
+pub node_waits : (key : ℕ) (s : Story) (n : Node) → is_present s ≡ true → n ≡ the_node key s → waiting_in n.stage ≡ waits_of s
 node_waits key s n p is =
-    ap (λ (m : Node). waiting_in m.kept) is ∙ (waiting_by (mac_of s) (word_of s) (use_of s) (resolution_of s) (waiting_of s)
+    ap (λ (m : Node). waiting_in m.stage) is ∙ (waiting_by (mac_of s) (word_of s) (use_of s) (resolution_of s) (waiting_of s)
     ∙ sym (cond-true (is_present s) (waits_by (mac_of s) (waiting_of s)) [] p))
 
 pub none_waits : (s : Story) → is_present s ≡ false → waits_of s ≡ []
@@ -115,9 +116,9 @@ module _ (key at : ℕ) (h : RowKind) (change : Node → Node) (old : List Node)
   releases_by s (Some n) is =
       let known = node_present key s n (sym is) in
       let after : change n ≡ the_node key ((at, h) ∷ s) = ap change known.1 ∙ changed_node s known.0 in
-      let mac : known_mac (change n).kept ≡ mac_of ((at, h) ∷ s) =
-      ap (λ (m : Node). known_mac m.kept) after ∙ known_by (mac_of ((at, h) ∷ s)) (word_of ((at, h) ∷ s)) (use_of ((at, h) ∷ s)) (resolution_of ((at, h) ∷ s)) (waiting_of ((at, h) ∷ s)) in
-      ap (λ (m : Option ℕ). cond (is_some m) (waiting_in n.kept) []) mac
+      let mac : known_mac (change n).stage ≡ mac_of ((at, h) ∷ s) =
+      ap (λ (m : Node). known_mac m.stage) after ∙ known_by (mac_of ((at, h) ∷ s)) (word_of ((at, h) ∷ s)) (use_of ((at, h) ∷ s)) (resolution_of ((at, h) ∷ s)) (waiting_of ((at, h) ∷ s)) in
+      ap (λ (m : Option ℕ). cond (is_some m) (waiting_in n.stage) []) mac
       ∙ ap (λ (l : List (List ℕ)). cond (is_some (mac_of ((at, h) ∷ s))) l []) (node_waits key s n known.0 known.1)
 
   turns_by : (s : Story) (o : Option Node) → o ≡ node_of key s → told_turned change o ≡ ends_router at h s

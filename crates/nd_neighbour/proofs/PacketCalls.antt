@@ -3,14 +3,14 @@ use Rattle.std.proofs.Common.{◌≡◌, ℕ, ◌+◌, ◌*◌, Bool, true, fals
 use Rattle.std.specs.Prelude.{is_some, nat_le}
 use Rattle.std.proofs.lemmas.Bool.{cond-true, cond-false}
 use Rattle.nd_neighbour.specs.History.{Row, Story, story, Asked, Waits, Used}
-use Rattle.nd_neighbour.specs.Address.{is_present, mac_of}
-use Rattle.nd_neighbour.specs.Confirming.{Word, Use, word_of, use_of}
-use Rattle.nd_neighbour.specs.Resolving.{Resolution, resolution_of, waiting_of}
-use Rattle.nd_neighbour.specs.Node.{Node, Kept, Resolves, Reaches, kept_by, node_of}
-use Rattle.nd_neighbour.specs.Change.{used, used_to, asked_node, known_mac, sending_to}
-use Rattle.nd_neighbour.specs.Table.{address, node_in, Stands}
-use Rattle.nd_neighbour.specs.Room.{Alters, NotThere, There, Gives, Was, Came}
-use Rattle.nd_neighbour.specs.Calls.{GainsPacket, then_packet, sending_by, sending_of_story, sending_in}
+use Rattle.nd_neighbour.specs.Entry.{Node, Stage, Resolving, Known, known_mac}
+use Rattle.nd_neighbour.specs.ReachabilityConfirmation.{Word}
+use Rattle.nd_neighbour.specs.AddressResolution.{Resolution, resolution_of, waiting_of, asked_node}
+use Rattle.nd_neighbour.specs.UnreachabilityDetection.{Use}
+use Rattle.nd_neighbour.specs.Story.{is_present, mac_of, word_of, use_of, stage_by, node_of}
+use Rattle.nd_neighbour.specs.Table.{address, node_in, Stands, Alters, NotThere, There}
+use Rattle.nd_neighbour.specs.Place.{Gives, Was, Came}
+use Rattle.nd_neighbour.specs.Sending.{used, used_to, sending_to, GainsPacket, then_packet, sending_by, sending_of_story, sending_in}
 use Rattle.nd_table.proofs.Cases.{either}
 use Rattle.nd_neighbour.proofs.Stories.{absent_mac, absent_router}
 use Rattle.nd_neighbour.proofs.Changes.{when_used, when_waits, first_asked}
@@ -20,10 +20,10 @@ use Rattle.nd_neighbour.proofs.Dues.{mac_is}
 use Rattle.nd_neighbour.proofs.Entering.{place_made}
 use Rattle.nd_neighbour.proofs.NewsCalls.{no_place_needed, place_needed, keys_of}
 
-pub used_key : (at retrans : ℕ) (packet : List ℕ) (n : Node) (k : Kept) → (used_to k at retrans packet n).key ≡ n.key
-used_key at retrans packet n (Resolves r t ws) = refl
-used_key at retrans packet n (Reaches mac c since None) = keys_of (nat_le since at) _ _ n refl refl
-used_key at retrans packet n (Reaches mac c since (Some p)) = refl
+pub used_key : (at retrans : ℕ) (packet : List ℕ) (n : Node) (k : Stage) → (used_to k at retrans packet n).key ≡ n.key
+used_key at retrans packet n (Resolving r t ws) = refl
+used_key at retrans packet n (Known mac c since None) = keys_of (nat_le since at) _ _ n refl refl
+used_key at retrans packet n (Known mac c since (Some p)) = refl
 
 module _ (key now retrans : ℕ) (packet : List ℕ) where
   -- to a neighbour that is there
@@ -31,20 +31,20 @@ module _ (key now retrans : ℕ) (packet : List ℕ) where
   used_stands old new history mac s mac_eq (NotThere none is) some = let e : false ≡ true = sym (ap is_some none) ∙ some in absurd (cc)
   used_stands old new history None s mac_eq (There i n lt at_i found is) some =
       let known = node_present key (story key history) n (sym (s.each key) ∙ found) in
-      let unknown : known_mac n.kept ≡ None = mac_is key now n (story key history) known.1 ∙ mac_eq in
+      let unknown : known_mac n.stage ≡ None = mac_is key now n (story key history) known.1 ∙ mac_eq in
       let n_key : n.key ≡ key = key_is address key old n found in
-      (changing old new key now (Waits packet) i n (used now retrans packet n) refl lt at_i found (used_key now retrans packet n n.kept ∙ n_key) n_key is
+      (changing old new key now (Waits packet) i n (used now retrans packet n) refl lt at_i found (used_key now retrans packet n n.stage ∙ n_key) n_key is
       (λ s' p e. when_waits key now s' p retrans packet (sym (mac_is key now n s' e) ∙ unknown) ∙ ap (λ (m : Node). Some (used now retrans packet m)) (sym e))).stands history s
   used_stands old new history (Some mac) s mac_eq (There i n lt at_i found is) some =
       let known = node_present key (story key history) n (sym (s.each key) ∙ found) in
-      let known_is : known_mac n.kept ≡ Some mac = mac_is key now n (story key history) known.1 ∙ mac_eq in
+      let known_is : known_mac n.stage ≡ Some mac = mac_is key now n (story key history) known.1 ∙ mac_eq in
       let n_key : n.key ≡ key = key_is address key old n found in
-      (changing old new key now (Used retrans) i n (used now retrans packet n) refl lt at_i found (used_key now retrans packet n n.kept ∙ n_key) n_key is
+      (changing old new key now (Used retrans) i n (used now retrans packet n) refl lt at_i found (used_key now retrans packet n n.stage ∙ n_key) n_key is
       (λ s' p e. when_used key now s' p retrans mac packet (sym (mac_is key now n s' e) ∙ known_is) ∙ ap (λ (m : Node). Some (used now retrans packet m)) (sym e))).stands history s
 
   -- the node of a resolution before any packet waits
   only_asked : Node
-  only_asked = record { key = key; router = false; due = now + retrans; kept = Resolves retrans 0 [] }
+  only_asked = record { key = key; router = false; due = now + retrans; stage = Resolving retrans 0 [] }
 
   asked_first : (s : Story) → is_present s ≡ false → node_of key ((now, Asked retrans) ∷ s) ≡ Some only_asked
   unfolding only_asked
@@ -98,17 +98,17 @@ module _ (key now retrans : ℕ) (packet : List ℕ) where
         );
   }
 
-sending_by_kept : (packet : List ℕ) (mac : Option ℕ) (w : Option Word) (u : Option Use) (r : Option Resolution) (ws : List (List ℕ)) → sending_to (kept_by mac w u r ws) packet ≡ sending_by true mac ws packet
-sending_by_kept packet None w u r ws = refl
-sending_by_kept packet (Some mac) w u r ws = refl
+sending_by_stage : (packet : List ℕ) (mac : Option ℕ) (w : Option Word) (u : Option Use) (r : Option Resolution) (ws : List (List ℕ)) → sending_to (stage_by mac w u r ws) packet ≡ sending_by true mac ws packet
+sending_by_stage packet None w u r ws = refl
+sending_by_stage packet (Some mac) w u r ws = refl
 
 -- what becomes of a packet is what the history say
 sending_told : (key : ℕ) (packet : List ℕ) (s : Story) (o : Option Node) → o ≡ node_of key s → sending_in o packet ≡ sending_of_story s packet
 sending_told key packet s None is = ap (λ b. sending_by b (mac_of s) (waiting_of s) packet) (sym (node_absent key s (sym is)))
 sending_told key packet s (Some n) is =
     let known = node_present key s n (sym is) in
-    ap (λ (m : Node). sending_to m.kept packet) known.1
-    ∙ (sending_by_kept packet (mac_of s) (word_of s) (use_of s) (resolution_of s) (waiting_of s) ∙ ap (λ b. sending_by b (mac_of s) (waiting_of s) packet) (sym known.0))
+    ap (λ (m : Node). sending_to m.stage packet) known.1
+    ∙ (sending_by_stage packet (mac_of s) (word_of s) (use_of s) (resolution_of s) (waiting_of s) ∙ ap (λ b. sending_by b (mac_of s) (waiting_of s) packet) (sym known.0))
 
 pub sending_by_rows : (key : ℕ) (packet : List ℕ) (old : List Node) (history : List Row) → Stands old history → sending_in (node_in key old) packet ≡ sending_of_story (story key history) packet
 sending_by_rows key packet old history s = sending_told key packet (story key history) (node_in key old) (s.each key)

@@ -11,34 +11,34 @@ use Rattle.nd_table.proofs.Cases.{either}
 use Rattle.nd_table.proofs.Any.{or_left, or_right, or_either, any_set, any_remove, any_insert, any_inserted, any_was_set, any_was_removed, still_set, still_removed, held_at}
 use Rattle.nd_table.proofs.Keyed.{key_is, place_found, place_of-le, put_in, at_key-put, at_key-set, at_key-remove}
 use Rattle.nd_neighbour.specs.History.{Row, story, Forgot, PushedOut}
-use Rattle.nd_neighbour.specs.Address.{is_present, mac_of}
-use Rattle.nd_neighbour.specs.Node.{Node, Kept, Resolves, Reaches}
-use Rattle.nd_neighbour.specs.Change.{used, used_to, asked_node}
-use Rattle.nd_neighbour.specs.Table.{address, node_in, Rises, Stands}
-use Rattle.nd_neighbour.specs.Room.{Prepares, MakesPlace, HadPlace, Pushed, WouldBeFull, NoPlace, is_stale, since_kept, longer, if_stale, stalest, has_place, Enough, Went, NotThere, There, Gives, Was, Came}
-use Rattle.nd_neighbour.specs.Calls.{then_packet}
-use Rattle.nd_neighbour.specs.Second.{HasRoom, stays_stale, stale_beside, place_beside, place_without, place_behind, has_second, has_first, has_room, LeavesRoom}
+use Rattle.nd_neighbour.specs.Entry.{Node, Stage, Resolving, Known}
+use Rattle.nd_neighbour.specs.AddressResolution.{asked_node}
+use Rattle.nd_neighbour.specs.Story.{is_present, mac_of}
+use Rattle.nd_neighbour.specs.Table.{address, node_in, Rises, Stands, NotThere, There}
+use Rattle.nd_neighbour.specs.Place.{Prepares, MakesPlace, HadPlace, Pushed, WouldBeFull, NoPlace, is_stale, since_of, longer, if_stale, stalest, has_place, Enough, Went, Gives, Was, Came}
+use Rattle.nd_neighbour.specs.Sending.{used, used_to, then_packet}
+use Rattle.nd_neighbour.specs.Room.{HasRoom, stays_stale, stale_beside, place_beside, place_without, place_behind, has_second, has_first, has_room, LeavesRoom}
 use Rattle.nd_neighbour.proofs.Entering.{stalest_in}
 use Rattle.nd_neighbour.proofs.Finds.{none_is, some_is}
 use Rattle.nd_neighbour.proofs.PacketCalls.{takes_packet, used_key}
 use Rattle.nd_neighbour.proofs.Unique.{one_table, one_longest, full_by_history}
 
 stale_now : ℕ → Node → Bool
-stale_now now n = is_stale n.kept now
+stale_now now n = is_stale n.stage now
 
 longer_some : (a b : Option Node) → is_some (longer a b) ≡ (is_some a || is_some b)
 longer_some None b = refl
 longer_some (Some x) None = refl
-longer_some (Some x) (Some y) = elim (either (ltb (since_kept y.kept) (since_kept x.kept))) [ inl e ↦ rw e refl | inr e ↦ rw e refl ]
+longer_some (Some x) (Some y) = elim (either (ltb (since_of y.stage) (since_of x.stage))) [ inl e ↦ rw e refl | inr e ↦ rw e refl ]
 
-if_stale_some : (now : ℕ) (n : Node) → is_some (if_stale now n) ≡ is_stale n.kept now
-if_stale_some now n = elim (either (is_stale n.kept now)) [ inl e ↦ rw e refl | inr e ↦ rw e refl ]
+if_stale_some : (now : ℕ) (n : Node) → is_some (if_stale now n) ≡ is_stale n.stage now
+if_stale_some now n = elim (either (is_stale n.stage now)) [ inl e ↦ rw e refl | inr e ↦ rw e refl ]
 
 -- one is stale for longest where one is stale
-stalest_any : (now : ℕ) (ns : List Node) → is_some (stalest now ns) ≡ list_any (λ n. is_stale n.kept now) ns
+stalest_any : (now : ℕ) (ns : List Node) → is_some (stalest now ns) ≡ list_any (λ n. is_stale n.stage now) ns
 stalest_any now [] = refl
 stalest_any now (n ∷ ns) =
-    longer_some (if_stale now n) (stalest now ns) ∙ (ap (λ b. b || is_some (stalest now ns)) (if_stale_some now n) ∙ ap (λ b. is_stale n.kept now || b) (stalest_any now ns))
+    longer_some (if_stale now n) (stalest now ns) ∙ (ap (λ b. b || is_some (stalest now ns)) (if_stale_some now n) ∙ ap (λ b. is_stale n.stage now || b) (stalest_any now ns))
 
 and_none : (b : Bool) → false ≡ (b && false)
 and_none true = refl
@@ -64,13 +64,13 @@ and_both : (a b : Bool) → a ≡ true → b ≡ true → (a && b) ≡ true
 and_both a b e f = ap (λ x. x && b) e ∙ f
 
 -- after a use only one that became stale later is stale
-used_stale : (now retrans : ℕ) (packet : List ℕ) (n : Node) (k : Kept) → n.kept ≡ k → is_stale (used_to k now retrans packet n).kept now ≡ (is_stale k now && ltb now (since_kept k))
-used_stale now retrans packet n (Resolves r t ws) is = refl
-used_stale now retrans packet n (Reaches mac c since None) is = elim (either (nat_le since now)) [
+used_stale : (now retrans : ℕ) (packet : List ℕ) (n : Node) (k : Stage) → n.stage ≡ k → is_stale (used_to k now retrans packet n).stage now ≡ (is_stale k now && ltb now (since_of k))
+used_stale now retrans packet n (Resolving r t ws) is = refl
+used_stale now retrans packet n (Known mac c since None) is = elim (either (nat_le since now)) [
   | inl le ↦ let lt : ltb now since ≡ false = grind (arith, nat_tests, le) in rw (le, lt) (and_none (not (c && false)))
   | inr gt ↦ let lt : ltb now since ≡ true = grind (arith, nat_tests, gt) in rw (gt, is, lt) (and_all (not (c && true)))
 ]
-used_stale now retrans packet n (Reaches mac c since (Some p)) is = rw is refl
+used_stale now retrans packet n (Known mac c since (Some p)) is = rw is refl
 
 -- who is in the list after a change of an entry was in it before
 was_there : (k : ℕ) (ns : List Node) (i : ℕ) (m d : Node) → Rises ns → i < length ns → (get_or ns i d).key ≡ m.key → is_some (node_in k (set ns i m)) ≡ true → is_some (node_in k ns) ≡ true
@@ -81,10 +81,10 @@ was_there k ns i m d r lt same h = elim (either (eqb m.key k)) [
 
 -- the second one is in the list, or has place in it
 abbrev place_after : ℕ → ℕ → ℕ → List Node → Bool
-place_after limit now next ns = is_some (node_in next ns) || (ltb (length ns) limit || list_any (λ n. is_stale n.kept now) ns)
+place_after limit now next ns = is_some (node_in next ns) || (ltb (length ns) limit || list_any (λ n. is_stale n.stage now) ns)
 
 module _ (limit now next : ℕ) (ns : List Node) where
-  has_place_any : has_place limit now ns ≡ (ltb (length ns) limit || list_any (λ n. is_stale n.kept now) ns)
+  has_place_any : has_place limit now ns ≡ (ltb (length ns) limit || list_any (λ n. is_stale n.stage now) ns)
   has_place_any = ap (λ b. ltb (length ns) limit || b) (stalest_any now ns)
 
   placed : place_after limit now next ns ≡ true → NoPlace limit now next ns → ⊥
@@ -99,7 +99,7 @@ module _ (limit now next : ℕ) (ns : List Node) where
       | inl e ↦ absurd (true≢false (sym (or_left (is_some (node_in next ns)) _ e) ∙ h))
       | inr e ↦ none_is (node_in next ns) e
     ],
-    elim (either (ltb (length ns) limit || list_any (λ n. is_stale n.kept now) ns)) [
+    elim (either (ltb (length ns) limit || list_any (λ n. is_stale n.stage now) ns)) [
       | inl e ↦ absurd (true≢false (sym (or_right (is_some (node_in next ns)) _ e) ∙ h))
       | inr e ↦ has_place_any ∙ e
     ],
@@ -111,10 +111,10 @@ module _ (limit now next : ℕ) (ns : List Node) where
   few_after : ltb (length ns) limit ≡ true → place_after limit now next ns ≡ true
   few_after h = or_right (is_some (node_in next ns)) _ (or_left (ltb (length ns) limit) _ h)
 
-  stale_after : list_any (λ n. is_stale n.kept now) ns ≡ true → place_after limit now next ns ≡ true
+  stale_after : list_any (λ n. is_stale n.stage now) ns ≡ true → place_after limit now next ns ≡ true
   stale_after h = or_right (is_some (node_in next ns)) _ (or_right (ltb (length ns) limit) _ h)
 
-  after_cases : {X : Type 0} → place_after limit now next ns ≡ true → (is_some (node_in next ns) ≡ true → X) → (ltb (length ns) limit ≡ true → X) → (list_any (λ n. is_stale n.kept now) ns ≡ true → X) → X
+  after_cases : {X : Type 0} → place_after limit now next ns ≡ true → (is_some (node_in next ns) ≡ true → X) → (ltb (length ns) limit ≡ true → X) → (list_any (λ n. is_stale n.stage now) ns ≡ true → X) → X
   after_cases h is few stale = elim (or_either (is_some (node_in next ns)) _ h) [
     | inl e ↦ is e
     | inr e ↦ elim (or_either (ltb (length ns) limit) _ e) [ inl f ↦ few f | inr f ↦ stale f ]
@@ -128,14 +128,14 @@ module _ (limit now key next retrans : ℕ) (packet : List ℕ) (old : List Node
 
     same_key : (get_or old i n).key ≡ the_used.key
     unfolding the_used
-    same_key = ap (λ (x : Node). x.key) (sym at) ∙ sym (used_key now retrans packet n n.kept)
+    same_key = ap (λ (x : Node). x.key) (sym at) ∙ sym (used_key now retrans packet n n.stage)
 
-    it_stays : stays_stale key now (get_or old i n) ≡ is_stale the_used.kept now
+    it_stays : stays_stale key now (get_or old i n) ≡ is_stale the_used.stage now
     unfolding the_used
     it_stays =
         ap (λ (x : Node). stays_stale key now x) (sym at)
-        ∙ (ap (λ b. is_stale n.kept now && (not b || ltb now (since_kept n.kept))) (eq-eqb n.key key n_key)
-        ∙ sym (used_stale now retrans packet n n.kept refl))
+        ∙ (ap (λ b. is_stale n.stage now && (not b || ltb now (since_of n.stage))) (eq-eqb n.key key n_key)
+        ∙ sym (used_stale now retrans packet n n.stage refl))
 
     used_on : place_beside limit now key next old ≡ true → place_after limit now next (set old i the_used) ≡ true
     used_on h = elim (or_either (is_some (node_in next old)) _ h) [
@@ -143,7 +143,7 @@ module _ (limit now key next retrans : ℕ) (packet : List ℕ) (old : List Node
       | inr e ↦ elim (or_either (ltb (length old) limit) _ e) [
         | inl f ↦ few_after limit now next (set old i the_used) (ap (λ x. ltb x limit) (length-set old i the_used) ∙ f)
         | inr f ↦ stale_after limit now next (set old i the_used)
-            (any_set (stays_stale key now) (λ x. is_stale x.kept now) (λ x. and_left (is_stale x.kept now) _) old i the_used n lt (λ g. sym it_stays ∙ g) f)
+            (any_set (stays_stale key now) (λ x. is_stale x.stage now) (λ x. and_left (is_stale x.stage now) _) old i the_used n lt (λ g. sym it_stays ∙ g) f)
       ]
     ]
 
@@ -152,8 +152,8 @@ module _ (limit now key next retrans : ℕ) (packet : List ℕ) (old : List Node
         (λ e. or_left (is_some (node_in next old)) _ (was_there next old i the_used n r lt same_key e))
         (λ e. or_right (is_some (node_in next old)) _ (or_left (ltb (length old) limit) _ (sym (ap (λ x. ltb x limit) (length-set old i the_used)) ∙ e)))
         (λ e. or_right (is_some (node_in next old)) _ (or_right (ltb (length old) limit) _
-        (any_was_set address key (λ x. is_stale x.kept now) (stays_stale key now)
-        (λ x differ f. and_both (is_stale x.kept now) _ f (or_left (not (eqb x.key key)) _ (ap not (ne_eqb x.key key differ))))
+        (any_was_set address key (λ x. is_stale x.stage now) (stays_stale key now)
+        (λ x differ f. and_both (is_stale x.stage now) _ f (or_left (not (eqb x.key key)) _ (ap not (ne_eqb x.key key differ))))
         old i the_used n r lt (ap (λ (x : Node). x.key) (sym at) ∙ n_key) (λ f. it_stays ∙ f) e)))
 
   -- the first enters
@@ -187,13 +187,13 @@ module _ (limit now key next retrans : ℕ) (packet : List ℕ) (old : List Node
       | inr e ↦ inr (sym (ap is_some (entered_in ∙ cond-false (eqb key next) (Some the_asked) (node_in next mid) e)) ∙ h)
     ]
 
-    stale_entered : (p : Node → Bool) → ((n : Node) → p n ≡ true → is_stale n.kept now ≡ true) → list_any p mid ≡ true → list_any (λ n. is_stale n.kept now) entered ≡ true
+    stale_entered : (p : Node → Bool) → ((n : Node) → p n ≡ true → is_stale n.stage now ≡ true) → list_any p mid ≡ true → list_any (λ n. is_stale n.stage now) entered ≡ true
     unfolding entered the_asked
-    stale_entered p passes h = any_insert p (λ n. is_stale n.kept now) passes mid (place_of address key mid) the_asked h
+    stale_entered p passes h = any_insert p (λ n. is_stale n.stage now) passes mid (place_of address key mid) the_asked h
 
-    entered_stale : list_any (λ n. is_stale n.kept now) entered ≡ true → list_any (λ n. is_stale n.kept now) mid ≡ true
+    entered_stale : list_any (λ n. is_stale n.stage now) entered ≡ true → list_any (λ n. is_stale n.stage now) mid ≡ true
     unfolding entered the_asked
-    entered_stale h = any_inserted (λ n. is_stale n.kept now) (λ n. is_stale n.kept now) (λ n f. f) mid (place_of address key mid) the_asked (place_of-le address key mid) refl h
+    entered_stale h = any_inserted (λ n. is_stale n.stage now) (λ n. is_stale n.stage now) (λ n f. f) mid (place_of address key mid) the_asked (place_of-le address key mid) refl h
 
   -- there was place
   enough_on : (o : Option Node) → stalest now old ≡ o → place_behind limit now key next old o ≡ true → place_after limit now next (entered old) ≡ true
@@ -204,7 +204,7 @@ module _ (limit now key next retrans : ℕ) (packet : List ℕ) (old : List Node
       | inr f ↦ few_after limit now next (entered old) (ap (λ x. ltb x limit) (entered_length old) ∙ f)
     ]
   ]
-  enough_on (Some n) is h = stale_after limit now next (entered old) (stale_entered old (λ x. is_stale x.kept now) (λ x f. f) (sym (stalest_any now old) ∙ ap is_some is))
+  enough_on (Some n) is h = stale_after limit now next (entered old) (stale_entered old (λ x. is_stale x.stage now) (λ x f. f) (sym (stalest_any now old) ∙ ap is_some is))
 
   enough_back : (o : Option Node) → stalest now old ≡ o → length old < limit → place_after limit now next (entered old) ≡ true → place_behind limit now key next old o ≡ true
   enough_back None is few h = after_cases limit now next (entered old) h
@@ -235,9 +235,9 @@ module _ (limit now key next retrans : ℕ) (packet : List ℕ) (old : List Node
       | inr e ↦ elim (or_either (not (eqb n.key next) && is_some (node_in next old)) _ e) [
         | inl f ↦ in_after limit now next (entered left) (in_entered left (inr (still_removed address next old i n lt
             (ap (λ (x : ℕ). eqb x next) gone_key ∙ not_true (eqb n.key next) (and_left (not (eqb n.key next)) _ f)) (and_right (not (eqb n.key next)) _ f))))
-        | inr f ↦ stale_after limit now next (entered left) (stale_entered left (λ x. is_stale x.kept now) (λ x g. g)
-            (any_remove (stale_beside n.key now) (λ x. is_stale x.kept now) (λ x. and_left (is_stale x.kept now) _) old i n lt
-            (ap (stale_beside n.key now) (sym at) ∙ (ap (λ b. is_stale n.kept now && not b) (eq-eqb n.key n.key refl) ∙ sym (and_none (is_stale n.kept now)))) f))
+        | inr f ↦ stale_after limit now next (entered left) (stale_entered left (λ x. is_stale x.stage now) (λ x g. g)
+            (any_remove (stale_beside n.key now) (λ x. is_stale x.stage now) (λ x. and_left (is_stale x.stage now) _) old i n lt
+            (ap (stale_beside n.key now) (sym at) ∙ (ap (λ b. is_stale n.stage now && not b) (eq-eqb n.key n.key refl) ∙ sym (and_none (is_stale n.stage now)))) f))
       ]
     ]
 
@@ -259,8 +259,8 @@ module _ (limit now key next retrans : ℕ) (packet : List ℕ) (old : List Node
         ])
         (λ e. let few : length old < limit = grind (arith, nat_tests, as_many, e) in absurd (omega arith))
         (λ e. or_right (eqb key next) _ (or_right (not (eqb n.key next) && is_some (node_in next old)) _
-        (any_was_removed address n.key (λ x. is_stale x.kept now) (stale_beside n.key now)
-        (λ x differ f. and_both (is_stale x.kept now) _ f (ap not (ne_eqb x.key n.key differ)))
+        (any_was_removed address n.key (λ x. is_stale x.stage now) (stale_beside n.key now)
+        (λ x differ f. and_both (is_stale x.stage now) _ f (ap not (ne_eqb x.key n.key differ)))
         old i n r lt gone_key (entered_stale left e))))
 
   -- where the first is there

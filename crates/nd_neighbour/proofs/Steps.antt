@@ -3,8 +3,8 @@ use Rattle.std.proofs.Common.{◌≡◌, ℕ, ◌<◌, true, false, cond, eqb, L
 use Rattle.std.specs.List.{remove}
 use Rattle.std.proofs.lemmas.Bool.{cond_both, eqb-true, eq-eqb, cond-true, cond-false}
 use Rattle.nd_neighbour.specs.History.{RowKind, Forgot, Cause, is_end, Row, Story, story}
-use Rattle.nd_neighbour.specs.Address.{is_present}
-use Rattle.nd_neighbour.specs.Node.{Node, the_node, node_of}
+use Rattle.nd_neighbour.specs.Entry.{Node}
+use Rattle.nd_neighbour.specs.Story.{is_present, the_node, node_of}
 use Rattle.nd_neighbour.specs.Table.{address, node_in, GainsRow}
 use Rattle.nd_table.proofs.Cases.{either}
 use Rattle.nd_table.proofs.Keyed.{at_key-set, Rises-set, at_key-remove, Rises-remove, put_in, at_key-put, Rises-put}

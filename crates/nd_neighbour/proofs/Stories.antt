@@ -4,9 +4,10 @@ use Rattle.std.specs.Prelude.{is_some}
 use Rattle.std.proofs.lemmas.Bool.{cond_both, true≢false}
 use Rattle.nd_neighbour.specs.declared.news.Flags.{Flags}
 use Rattle.nd_neighbour.specs.History.{Given, Advertised, Marked, Asked, Solicited, Waits, Used, Probed, Confirmed, Forgot, Story}
-use Rattle.nd_neighbour.specs.Address.{is_present, taken, mac_of, is_router}
-use Rattle.nd_neighbour.specs.Confirming.{Word, says, or_else, word_of, advert_says}
-use Rattle.nd_neighbour.specs.Resolving.{Resolution, one_more, resolution_of}
+use Rattle.nd_neighbour.specs.ReachabilityConfirmation.{Word}
+use Rattle.nd_neighbour.specs.NeighborAdvertisement.{taken, advert_says}
+use Rattle.nd_neighbour.specs.AddressResolution.{Resolution, one_more, resolution_of}
+use Rattle.nd_neighbour.specs.Story.{is_present, mac_of, is_router, says, or_else, word_of}
 
 -- an absent neighbour has no address
 pub absent_mac : (s : Story) → is_present s ≡ false → mac_of s ≡ None

@@ -3,13 +3,11 @@ use Rattle.std.proofs.Common.{◌≡◌, ℕ, ◌<◌, List, Option, Some, None,
 use Rattle.std.specs.Prelude.{IfSome, IfNone, ◌≢◌}
 use Rattle.std.specs.Option.{option_map}
 use Rattle.nd_neighbour.specs.History.{Row}
-use Rattle.nd_neighbour.specs.Node.{Node}
-use Rattle.nd_neighbour.specs.Change.{Falls}
+use Rattle.nd_neighbour.specs.Entry.{Node}
 use Rattle.nd_neighbour.specs.Table.{Stands, GainsRow}
-use Rattle.nd_neighbour.specs.Due.{FirstDue, due_row, next_in, due_in, NoneBefore, turns_left, Turns}
+use Rattle.nd_neighbour.specs.Due.{Falls, FirstDue, due_row, next_in, due_in, NoneBefore, turns_left, Turns, date_of}
 use Rattle.nd_neighbour.proofs.Dues.{first_falls, none_falls, turned_gains, turned_fewer, turned_later}
 use Rattle.nd_table.proofs.Due.{next_not_now}
-use Rattle.nd_neighbour.specs.Due.{date_of}
 
 module _ {X : Type 0} (f : X → Falls) (now : ℕ) (new : List Node) where
   pub due_call : (o : Option X) (inside old : List Node) → inside ≡ old → IfSome o (λ d. Turns now inside new (f d)) → IfNone o (due_in now inside ≡ None) → (history : List Row) → Stands old history → FirstDue history now (option_map f o)

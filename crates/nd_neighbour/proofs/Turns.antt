@@ -5,9 +5,8 @@ use Rattle.std.specs.List.{remove}
 use Rattle.std.proofs.lemmas.List.{set-get_or, get_or_default}
 use Rattle.std.proofs.lemmas.Option.{slice_get-get_or}
 use Rattle.std.proofs.lemmas.Bool.{cond-false}
-use Rattle.nd_neighbour.specs.Node.{Node}
-use Rattle.nd_neighbour.specs.Change.{Falls, falls, stays, solicited}
-use Rattle.nd_neighbour.specs.Due.{due_in, Turns}
+use Rattle.nd_neighbour.specs.Entry.{Node}
+use Rattle.nd_neighbour.specs.Due.{Falls, falls, stays, solicited, due_in, Turns}
 
 -- an entry for which no solicitation is left is taken out
 pub went : (now : ℕ) (ns : List Node) (i : ℕ) (n m r : Node) (new : List Node) (what : Falls) → i < length ns → due_in now ns ≡ slice_get ns i → n ≡ get_or ns i n → m ≡ cond (stays (falls n)) (solicited now n) n → stays (falls n) ≡ false → r ≡ get_or (set ns i m) i r → what ≡ falls r → new ≡ remove (set ns i m) i → Turns now ns new what

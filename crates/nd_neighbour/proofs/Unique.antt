@@ -4,12 +4,11 @@ use Rattle.std.specs.Prelude.{is_some, ◌||◌, ◌↔◌}
 use Rattle.std.proofs.lemmas.Bool.Decides.{nat_tests}
 use Rattle.std.proofs.lemmas.Bool.{cond-false, true≢false}
 use Rattle.nd_neighbour.specs.History.{Row, story}
-use Rattle.nd_neighbour.specs.Address.{is_present}
-use Rattle.nd_neighbour.specs.Node.{Node, the_node}
-use Rattle.nd_neighbour.specs.Change.{Falls}
+use Rattle.nd_neighbour.specs.Entry.{Node}
+use Rattle.nd_neighbour.specs.Story.{is_present, the_node}
 use Rattle.nd_neighbour.specs.Table.{address, Stands}
-use Rattle.nd_neighbour.specs.Due.{falling, FirstDue}
-use Rattle.nd_neighbour.specs.Room.{IsStale, IsLongestStale, stalest, NoPlace, WouldBeFull}
+use Rattle.nd_neighbour.specs.Due.{Falls, falling, FirstDue}
+use Rattle.nd_neighbour.specs.Place.{IsStale, IsLongestStale, stalest, NoPlace, WouldBeFull}
 use Rattle.nd_neighbour.proofs.Steps.{node_absent}
 use Rattle.nd_table.proofs.Unique.{one_list}
 use Rattle.nd_neighbour.proofs.Entering.{none_is_stale, some_stale}

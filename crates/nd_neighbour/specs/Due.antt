@@ -1,13 +1,19 @@
--- What falls due, asked of what happened (RFC 4861, sections 7.2.2, 7.3.3 and 10).
-use Rattle.std.specs.Prelude.{◌≡◌, ℕ, ◌+◌, ◌-◌, ◌≤◌, nat_lt, true, if◌then◌else◌, List, [], ◌∷◌, length, slice_index_or, slice_set, ◌<◌, Option, Some, None}
+-- What falls due, and when (RFC 4861, sections 7.2.2, 7.3.3 and 10): asked of what happened, and of what is kept.
+use Rattle.std.specs.Prelude.{ℕ, List, nat_lt, if◌then◌else◌, [], Some, None, Bool, true, false, ◌+◌, ◌≡◌, Option, ◌≤◌, ◌-◌, ◌∷◌, length, slice_index_or, slice_set, ◌<◌}
 use Rattle.std.specs.List.{remove}
 use Rattle.nd_table.specs.Due.{least_date, first_at, NotBefore}
-use Rattle.nd_neighbour.specs.History.{Row, Story, story, Solicited, Probed, Forgot, Failed, Aged}
-use Rattle.nd_neighbour.specs.Address.{is_present, mac_of}
-use Rattle.nd_neighbour.specs.Confirming.{Use, use_of}
-use Rattle.nd_neighbour.specs.Resolving.{Resolution, resolution_of, waiting_of}
-use Rattle.nd_neighbour.specs.Node.{Node, Kept, Resolves, Reaches, due_of, more_in}
-use Rattle.nd_neighbour.specs.Change.{Falls, Multicasts, Unicasts, Fails, Ages, falls, stays, solicited}
+use Rattle.nd_neighbour.specs.History.{Row, story, Story, Solicited, Probed, Forgot, Failed, Aged}
+use Rattle.nd_neighbour.specs.Entry.{Stage, Resolving, Known, Node}
+use Rattle.nd_neighbour.specs.AddressResolution.{max_more, Resolution, more_in, resolution_of, waiting_of}
+use Rattle.nd_neighbour.specs.UnreachabilityDetection.{max_unicast_solicit, Use}
+use Rattle.nd_neighbour.specs.Story.{is_present, due_of, mac_of, use_of}
+
+-- what falls due for a neighbour
+pub data Falls : Type 0 where
+  Multicasts : (key : ℕ) → Falls
+  Unicasts : (key mac : ℕ) → Falls
+  Fails : (key : ℕ) (packets : List (List ℕ)) → Falls
+  Ages : (key : ℕ) → Falls
 
 -- something falls due for the neighbour at the moment, and no row has come for it yet
 abbrev pub IsDue : List Row → ℕ → ℕ → Type 0
@@ -16,9 +22,9 @@ IsDue history moment key = (is_present (story key history) ≡ true) × (due_of 
 -- without an address: a second and a third solicitation, and then the failure, with all that waits. With one: three
 -- probes after a use, and then the failure; without a use the entry goes.
 abbrev pub falling_by : ℕ → Option ℕ → Option Use → Option Resolution → List (List ℕ) → Falls
-falling_by key None use' resolution waiting = if nat_lt (more_in resolution) 2 then Multicasts key else Fails key waiting
+falling_by key None use' resolution waiting = if nat_lt (more_in resolution) max_more then Multicasts key else Fails key waiting
 falling_by key (Some mac) None resolution waiting = Ages key
-falling_by key (Some mac) (Some use') resolution waiting = if nat_lt use'.probes 3 then Unicasts key mac else Fails key []
+falling_by key (Some mac) (Some use') resolution waiting = if nat_lt use'.probes max_unicast_solicit then Unicasts key mac else Fails key []
 
 -- what falls due for the neighbour
 abbrev pub falling : ℕ → Story → Falls
@@ -47,6 +53,41 @@ due_row now (Unicasts key mac) = (now, key, Probed)
 due_row now (Fails key packets) = (now, key, Forgot Failed)
 due_row now (Ages key) = (now, key, Forgot Aged)
 
+-- the same of what is kept
+abbrev pub falls_to : ℕ → Stage → Falls
+falls_to key (Resolving retrans sent waiting) = if nat_lt sent max_more then Multicasts key else Fails key waiting
+falls_to key (Known mac confirmed since None) = Ages key
+falls_to key (Known mac confirmed since (Some probing)) = if nat_lt probing.sent max_unicast_solicit then Unicasts key mac else Fails key []
+
+-- what falls due for the neighbour at its moment
+abbrev pub falls : Node → Falls
+falls n = falls_to n.key n.stage
+
+-- it is a solicitation, and the entry stays
+abbrev pub stays : Falls → Bool
+stays (Multicasts key) = true
+stays (Unicasts key mac) = true
+stays (Fails key packets) = false
+stays (Ages key) = false
+
+-- a solicitation that was due is sent: one more was, and the next falls due a RetransTimer later
+abbrev pub solicited_to : Stage → ℕ → Node → Node
+solicited_to (Resolving retrans sent waiting) at n =
+    record { key = n.key; router = n.router; due = at + retrans; stage = Resolving retrans (sent + 1) waiting }
+solicited_to (Known mac confirmed since None) at n = n
+solicited_to (Known mac confirmed since (Some probing)) at n =
+    record {
+      key = n.key;
+      router = n.router;
+      due = at + probing.retrans;
+      stage = Known mac confirmed since (Some (record { from = probing.from; retrans = probing.retrans; sent = probing.sent + 1 }));
+    }
+
+-- the same of a neighbour
+abbrev pub solicited : ℕ → Node → Node
+solicited at n = solicited_to n.stage at n
+
+-- the moment at which something falls due for it
 abbrev pub date_of : Node → Option ℕ
 date_of n = Some n.due
 
@@ -63,14 +104,14 @@ abbrev pub NoneBefore : List Node → ℕ → Type 0
 NoneBefore nodes now = NotBefore now (next_in nodes)
 
 -- how many turns a neighbour can still take, where nothing else happens
-abbrev pub turns_to : Kept → ℕ
-turns_to (Resolves retrans sent waiting) = 2 - sent + 1
-turns_to (Reaches mac confirmed since None) = 1
-turns_to (Reaches mac confirmed since (Some probing)) = 3 - probing.sent + 1
+abbrev pub turns_to : Stage → ℕ
+turns_to (Resolving retrans sent waiting) = max_more - sent + 1
+turns_to (Known mac confirmed since None) = 1
+turns_to (Known mac confirmed since (Some probing)) = max_unicast_solicit - probing.sent + 1
 
 abbrev pub turns_left : List Node → ℕ
 turns_left [] = 0
-turns_left (n ∷ nodes) = turns_to n.kept + turns_left nodes
+turns_left (n ∷ nodes) = turns_to n.stage + turns_left nodes
 
 -- the first neighbour of a list for which something falls due takes a turn: it stays with one more solicitation, or goes
 pub record Turns (now : ℕ) (old new : List Node) (what : Falls) : Type 0 where

@@ -1,5 +1,5 @@
 -- What happened to the neighbours, the newest first, and the part of it that one neighbour's story is.
-use Rattle.std.specs.Prelude.{ℕ, Bool, true, false, ◌==◌, if◌then◌else◌, List, [], ◌∷◌, Option}
+use Rattle.std.specs.Prelude.{ℕ, Bool, List, Option, true, false, ◌==◌, if◌then◌else◌, [], ◌∷◌}
 use Rattle.nd_neighbour.specs.declared.news.Flags.{Flags}
 
 -- why a neighbour was forgotten

@@ -1,104 +1,54 @@
--- Which neighbour makes place for a new one, and when there is no place (RFC 4861, section 5.3, leaves this open).
-use Rattle.std.specs.Prelude.{◌≡◌, ℕ, ◌<◌, ◌≤◌, ◌⊎◌, nat_lt, Bool, true, false, ◌&&◌, ◌||◌, not, if◌then◌else◌, List, [], ◌∷◌, length, slice_get, slice_index_or, slice_set, Option, Some, None, is_some, MatchBool}
-use Rattle.std.specs.List.{insert, remove}
-use Rattle.nd_neighbour.specs.declared.reachability.Reachability.TheVariants.{Stale}
-use Rattle.nd_neighbour.specs.History.{Row, story, Forgot, PushedOut}
-use Rattle.nd_neighbour.specs.Address.{is_present}
-use Rattle.nd_neighbour.specs.Confirming.{word_of}
-use Rattle.nd_neighbour.specs.Reachability.{state_of}
-use Rattle.nd_neighbour.specs.Node.{Node, Kept, Resolves, Reaches, since_in}
-use Rattle.nd_neighbour.specs.Table.{node_in, place_in, Stands}
+-- Whether a neighbour that may enter has place, and after a use of it a second one.
+use Rattle.std.specs.Prelude.{ℕ, true, List, Option, MatchOption, nat_lt, Bool, ◌&&◌, ◌||◌, not, ◌==◌, length, is_some, ◌+◌, Some, None, if◌then◌else◌, ◌≡◌}
+use Rattle.std.specs.List.{list_any}
+use Rattle.nd_neighbour.specs.History.{Row, story}
+use Rattle.nd_neighbour.specs.Entry.{Node}
+use Rattle.nd_neighbour.specs.Story.{is_present, mac_of}
+use Rattle.nd_neighbour.specs.Table.{node_in}
+use Rattle.nd_neighbour.specs.Place.{Prepares, WouldBeFull, is_stale, since_of, stalest, has_place, NoPlace}
+use Rattle.nd_neighbour.specs.Sending.{then_packet}
 
--- the neighbour is present and STALE at the moment
-abbrev pub IsStale : List Row → ℕ → ℕ → Type 0
-IsStale history now key = (is_present (story key history) ≡ true) × (state_of (story key history) now ≡ Stale)
+-- the first one wouldn't be full, and the second one neither after the history of a packet for the first
+pub record HasRoom (limit now key : ℕ) (second : Option ℕ) (history : List Row) : Type 0 where
+  pub first : WouldBeFull limit now key history → ⊥
+  pub both : MatchOption second (Unit {0}) (λ next. (retrans : ℕ) (packet : List ℕ) (made : List Row) → Prepares limit now true key history made → WouldBeFull limit now next (then_packet (is_present (story key history)) (mac_of (story key history)) now key retrans packet made) → ⊥)
 
--- since when it isn't known to be reachable
-abbrev pub stale_since : List Row → ℕ → ℕ
-stale_since history key = since_in (word_of (story key history))
+-- The same of what is kept. This neighbour is stale after a use of the first:
+abbrev pub stays_stale : ℕ → ℕ → Node → Bool
+stays_stale key now n = is_stale n.stage now && (not (n.key == key) || nat_lt now (since_of n.stage))
 
--- no other one is stale for longer, and none of a lower address for as long
-pub record IsLongestStale (history : List Row) (now key : ℕ) : Type 0 where
-  pub stale : IsStale history now key
-  pub longest : (k : ℕ) → IsStale history now k → (stale_since history key < stale_since history k) ⊎ ((stale_since history key ≡ stale_since history k) × (key ≤ k))
+-- it is stale, and another one than the one that goes
+abbrev pub stale_beside : ℕ → ℕ → Node → Bool
+stale_beside gone now n = is_stale n.stage now && not (n.key == gone)
 
--- what a new neighbour adds before it: nothing where there are fewer than the limit, else the end of the one that
--- is stale for longest
-pub data MakesPlace (limit now : ℕ) (history made : List Row) : Type 0 where
-  HadPlace : (nodes : List Node) → Stands nodes history → length nodes < limit → made ≡ history → MakesPlace limit now history made
-  Pushed : (nodes : List Node) (key : ℕ) → Stands nodes history → limit ≤ length nodes → IsLongestStale history now key → made ≡ (now, key, Forgot PushedOut) ∷ history → MakesPlace limit now history made
+-- the second has place where the first is there and is used
+abbrev pub place_beside : ℕ → ℕ → ℕ → ℕ → List Node → Bool
+place_beside limit now key next nodes =
+    is_some (node_in next nodes) || (nat_lt (length nodes) limit || list_any (stays_stale key now) nodes)
 
--- what comes before a row of the neighbour, which may be one that lets it enter
-abbrev pub Prepares : ℕ → ℕ → Bool → ℕ → List Row → List Row → Type 0
-Prepares limit now enters key history made =
-    MatchBool (enters && not (is_present (story key history))) (MakesPlace limit now history made) (made ≡ history)
+-- or where the first enters, and this one goes for it
+abbrev pub place_without : Node → ℕ → ℕ → ℕ → List Node → Bool
+place_without gone now key next nodes =
+    (key == next) || ((not (gone.key == next) && is_some (node_in next nodes)) || list_any (stale_beside gone.key now) nodes)
 
--- a new neighbour has no place: it isn't present, there are as many as there may be, and none is stale
-pub record WouldBeFull (limit now key : ℕ) (history : List Row) : Type 0 where
-  pub absent : is_present (story key history) ≡ false
-  pub nodes : List Node
-  pub those : Stands nodes history
-  pub many : limit ≤ length nodes
-  pub none_stale : (k : ℕ) → IsStale history now k → ⊥
+-- or where the first enters; the one that is stale for longest goes only where all places are taken
+abbrev pub place_behind : ℕ → ℕ → ℕ → ℕ → List Node → Option Node → Bool
+place_behind limit now key next nodes None = (key == next) || (is_some (node_in next nodes) || nat_lt (length nodes + 1) limit)
+place_behind limit now key next nodes (Some n) = nat_lt (length nodes) limit || place_without n now key next nodes
 
--- the same of what is kept
-abbrev pub is_stale : Kept → ℕ → Bool
-is_stale (Resolves retrans sent waiting) t = false
-is_stale (Reaches mac confirmed since None) t = not (confirmed && nat_lt t since)
-is_stale (Reaches mac confirmed since (Some probing)) t = false
+-- the second has place after a use of the first
+abbrev pub has_second : ℕ → ℕ → ℕ → ℕ → List Node → Bool
+has_second limit now key next nodes =
+    if is_some (node_in key nodes) then place_beside limit now key next nodes
+    else place_behind limit now key next nodes (stalest now nodes)
 
-abbrev pub since_kept : Kept → ℕ
-since_kept (Resolves retrans sent waiting) = 0
-since_kept (Reaches mac confirmed since probing) = since
+abbrev pub has_first : ℕ → ℕ → ℕ → List Node → Bool
+has_first limit now key nodes = is_some (node_in key nodes) || has_place limit now nodes
 
--- the one of two that isn't reachable for longer, at a tie the first
-abbrev pub longer : Option Node → Option Node → Option Node
-longer None other = other
-longer (Some n) None = Some n
-longer (Some n) (Some m) = if nat_lt (since_kept m.kept) (since_kept n.kept) then Some m else Some n
+abbrev pub has_room : ℕ → ℕ → ℕ → Option ℕ → List Node → Bool
+has_room limit now key None nodes = has_first limit now key nodes
+has_room limit now key (Some next) nodes = has_first limit now key nodes && has_second limit now key next nodes
 
-abbrev pub if_stale : ℕ → Node → Option Node
-if_stale now n = if is_stale n.kept now then Some n else None
-
--- the one of a list that is stale for longest
-abbrev pub stalest : ℕ → List Node → Option Node
-stalest now [] = None
-stalest now (n ∷ nodes) = longer (if_stale now n) (stalest now nodes)
-
--- there is place for one more, or one that makes place
-abbrev pub has_place : ℕ → ℕ → List Node → Bool
-has_place limit now nodes = nat_lt (length nodes) limit || is_some (stalest now nodes)
-
--- a new neighbour has no place in the list
-abbrev pub NoPlace : ℕ → ℕ → ℕ → List Node → Type 0
-NoPlace limit now key nodes = (node_in key nodes ≡ None) × (has_place limit now nodes ≡ false)
-
--- the list with place for one more
-pub data Places (limit now : ℕ) (old new : List Node) : Type 0 where
-  Enough : length old < limit → new ≡ old → Places limit now old new
-  Went : (at : ℕ) (node : Node) → limit ≤ length old → at < length old → node ≡ slice_index_or old at node → stalest now old ≡ Some node → new ≡ remove old at → Places limit now old new
-
--- the list with the neighbour changed, if it is there
-pub data Alters (key : ℕ) (change : Node → Node) (old new : List Node) : Type 0 where
-  NotThere : node_in key old ≡ None → new ≡ old → Alters key change old new
-  There : (at : ℕ) (node : Node) → at < length old → node ≡ slice_index_or old at node → node_in key old ≡ Some node → new ≡ slice_set old at (change node) → Alters key change old new
-
--- the neighbour at a place that may be missing
-abbrev pub picked : List Node → Option ℕ → Option Node
-picked nodes None = None
-picked nodes (Some i) = slice_get nodes i
-
--- the same where it is stale
-abbrev pub picked_stale : ℕ → Option Node → Option Node
-picked_stale now None = None
-picked_stale now (Some n) = if_stale now n
-
--- the list with the neighbour changed where it is there, and else with a new one in its place
-pub data Gives (limit now key : ℕ) (change : Node → Node) (m : Node) (old new : List Node) : Type 0 where
-  Was : (node : Node) → node_in key old ≡ Some node → Alters key change old new → Gives limit now key change m old new
-  Came : (mid : List Node) → node_in key old ≡ None → Places limit now old mid → new ≡ insert mid (place_in m.key mid) m → Gives limit now key change m old new
-
--- the list without the neighbour
-pub data Removes (key : ℕ) (old new : List Node) : Type 0 where
-  WasNot : node_in key old ≡ None → new ≡ old → Removes key old new
-  Gone : (at : ℕ) (node : Node) → at < length old → node ≡ slice_index_or old at node → node_in key old ≡ Some node → new ≡ remove old at → Removes key old new
+-- a second one that had room before a use of the first has place after it
+pub record LeavesRoom (limit now key : ℕ) (old new : List Node) : Type 0 where
+  pub has : (next : ℕ) → has_room limit now key (Some next) old ≡ true → NoPlace limit now next new → ⊥

@@ -1,10 +1,11 @@
 -- What a table of neighbours is to what happened to them.
-use Rattle.std.specs.Prelude.{◌≡◌, ℕ, List, ◌∷◌, Option}
+use Rattle.std.specs.Prelude.{ℕ, List, Option, ◌≡◌, ◌<◌, length, slice_index_or, slice_set, Some, None}
 use Rattle.nd_table.specs.History as growing
 use Rattle.nd_table.specs.Keyed as keyed
 use Rattle.nd_table.specs.Keyed.{at_key, place_of}
 use Rattle.nd_neighbour.specs.History.{Row, story}
-use Rattle.nd_neighbour.specs.Node.{Node, node_of}
+use Rattle.nd_neighbour.specs.Entry.{Node}
+use Rattle.nd_neighbour.specs.Story.{node_of}
 
 -- a cache: how many neighbours it has room for, those that it has, and how many rings are in hand for new ones
 pub record Table : Type 0 where
@@ -12,6 +13,7 @@ pub record Table : Type 0 where
   pub nodes : List Node
   pub rings : ℕ
 
+-- the address of a neighbour
 abbrev pub address : Node → ℕ
 address n = n.key
 
@@ -35,3 +37,8 @@ GainsRow = growing.GainsRow Stands
 -- how many neighbours at the front have lower addresses
 abbrev pub place_in : ℕ → List Node → ℕ
 place_in key nodes = place_of address key nodes
+
+-- the list with the neighbour changed, if it is there
+pub data Alters (key : ℕ) (change : Node → Node) (old new : List Node) : Type 0 where
+  NotThere : node_in key old ≡ None → new ≡ old → Alters key change old new
+  There : (at : ℕ) (node : Node) → at < length old → node ≡ slice_index_or old at node → node_in key old ≡ Some node → new ≡ slice_set old at (change node) → Alters key change old new

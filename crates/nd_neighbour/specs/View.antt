@@ -1,20 +1,21 @@
 -- What a contract sees of an entry.
 use Rattle.std.specs.Option.{option_map}
 use Rattle.nd_addr.specs.Number.{number_of}
-use Rattle.nd_neighbour.specs.declared.stage.Stage.{Stage}
-use Rattle.nd_neighbour.specs.declared.stage.Stage.TheVariants.{Resolving, Known}
-use Rattle.nd_neighbour.specs.declared.sending.Use.{Use}
-use Rattle.nd_neighbour.specs.declared.sending.Use.TheVariants.{Send, Queued}
 use Rattle.nd_neighbour.specs.declared.due.Due.{Due}
 use Rattle.nd_neighbour.specs.declared.due.Due.TheVariants.{Multicast, Unicast, Failed, Aged}
-use Rattle.nd_neighbour.specs.declared.neighbour.Neighbour.{Neighbour}
-use Rattle.nd_neighbour.specs.Seen.{Seen}
-use Rattle.nd_neighbour.specs.Node.{Kept, Resolves, Reaches}
-use Rattle.nd_neighbour.specs.Change.{Sending, Sends, Queues, Falls, Multicasts, Unicasts, Fails, Ages}
+use Rattle.nd_neighbour.specs.declared.entry.Stage as held
+use Rattle.nd_neighbour.specs.declared.entry.Stage.TheVariants as variant
+use Rattle.nd_neighbour.specs.declared.sending.Use.{Use}
+use Rattle.nd_neighbour.specs.declared.sending.Use.TheVariants.{Send, Queued}
+use Rattle.nd_neighbour.specs.declared.shown.Neighbour.{Neighbour}
+use Rattle.nd_neighbour.specs.Entry.{Stage, Resolving, Known}
+use Rattle.nd_neighbour.specs.Shown.{Seen}
+use Rattle.nd_neighbour.specs.Due.{Falls, Multicasts, Unicasts, Fails, Ages}
+use Rattle.nd_neighbour.specs.Sending.{Sending, Sends, Queues}
 
-abbrev pub kept_of : {A : Type 0} → Stage A → Kept
-kept_of (Resolving retrans sent waiting) = Resolves retrans sent waiting
-kept_of (Known mac confirmed since probing) = Reaches (number_of mac.0) confirmed since probing
+abbrev pub stage_of : {A : Type 0} → held.Stage A → Stage
+stage_of (variant.Resolving retrans sent waiting) = Resolving retrans sent waiting
+stage_of (variant.Known mac confirmed since probing) = Known (number_of mac.0) confirmed since probing
 
 abbrev pub sending_of : {A : Type 0} → Use A → Sending
 sending_of (Send mac packet) = Sends (number_of mac.0) packet

@@ -1,4 +1,13 @@
+ghost use Rattle.std.specs.Prelude.{IfNone, IfSome, List, None, Some, false, if◌then◌else◌, true, vec_capacity, vec_len, ◌<◌, ◌^◌, ◌≡◌, ◌≢◌, ◌≤◌};
+ghost use Rattle.std.specs.Option.{option_map};
+ghost use Rattle.nd_neighbour.specs.Due.{Turns, due_in};
+ghost use Rattle.nd_neighbour.specs.View.{falls_of};
+
+use crate::address_resolution::MAX_MULTICAST_SOLICIT;
+use crate::cache::Cache;
+use crate::entry::{Entry, Stage};
 use nd_addr::{Addr, Mac};
+use nd_table::{first_at, next_date};
 use nd_waiting::Packets;
 use std::alloc::Allocator;
 
@@ -9,8 +18,115 @@ pub enum Due<A: Allocator> {
     Multicast(Addr),
     /// A unicast solicitation is to be sent to it (RFC 4861, section 7.3.3).
     Unicast(Addr, Mac),
-    /// Nothing answered. The entry is gone, and these packets with it.
+    /// No solicitation was answered. The entry is gone, and these packets, which waited for it, weren't sent (RFC
+    /// 4861, sections 7.2.2 and 7.3.3).
     Failed(Addr, Packets<A>),
-    /// The entry was stale and unused for too long, and is gone.
+    /// The entry was STALE and unused for a day, and is gone: our choice (RFC 4861, section 5.3, leaves it open).
     Aged(Addr),
+}
+
+impl<A: Allocator + Clone> Cache<A> {
+    ghost use Rattle.nd_neighbour.specs.History.{Row};
+    ghost use Rattle.nd_neighbour.specs.Table.{GainsRow, Stands};
+    ghost use Rattle.nd_neighbour.specs.Due.{FirstDue, NextDue, NoneBefore, due_row, next_in, turns_left};
+    ghost use Rattle.nd_neighbour.specs.View.{falls_of};
+
+    /// The earliest moment at which something falls due, in milliseconds, if there is one. It may have passed.
+    pub fn next_due(&self) -> Option<u64>
+        ensures value { result ≡ next_in self.now.nodes }
+        ensures due { (history : List Row) → Stands self.now.nodes history → NextDue history result }
+    {
+        next_date(&self.entries)
+    }
+
+    /// What falls due at this moment, for the least address for which something does (RFC 4861, sections 7.2.2 and
+    /// 7.3.3). None where nothing falls due at it; nothing changes then.
+    ///
+    /// It asks that nothing is left that fell due earlier. So a caller who comes late doesn't ask with the moment that
+    /// it is, but with the one that `next_due` tells, until that lies ahead.
+    pub fn turn(&mut self, now: u64) -> Option<Due<A>>
+        requires moment { now < 2 ^ 62 }
+        requires none_before { NoneBefore self.old.nodes now }
+
+        ensures due { (history : List Row) → Stands self.old.nodes history → FirstDue history now (option_map (λ due. falls_of due) result) }
+        ensures gains { IfSome result (λ due. GainsRow self.old.nodes self.new.nodes (due_row now (falls_of due))) }
+        ensures same { IfNone result (self.new ≡ self.old) }
+        ensures rings { self.new.rings ≡ self.old.rings }
+        ensures limit { self.new.limit ≡ self.old.limit }
+
+        // Turns at one moment end.
+        ensures fewer { IfSome result (λ _. turns_left self.new.nodes < turns_left self.old.nodes) }
+        ensures none { IfNone result (next_in self.old.nodes ≢ Some now) }
+        ensures later { NoneBefore self.new.nodes now }
+    {
+        turn_first(&mut self.entries, now)
+    }
+}
+
+/// What falls due now for the first entry for which something does: a solicitation, or its end.
+pub(crate) fn turn_first<A: Allocator>(entries: &mut Vec<Entry<A>, A>, now: u64) -> Option<Due<A>>
+    requires { now < 2 ^ 62 }
+    ensures turns { IfSome result (λ due. Turns now entries.old.items entries.new.items (falls_of due)) }
+    ensures none { IfNone result (due_in now entries.old.items ≡ None) }
+    ensures same { IfNone result (entries.new.items ≡ entries.old.items) }
+    ensures len { vec_len entries.new ≤ vec_len entries.old }
+    ensures capacity { vec_capacity entries.new ≡ vec_capacity entries.old }
+{
+    let i = first_at(entries, now)?;
+    let entry = &mut entries[i];
+    if let Some(due) = entry.solicit(now) {
+        return Some(due);
+    }
+    let entry = entries.remove(i);
+    Some(entry.end())
+}
+
+impl<A: Allocator> Entry<A> {
+    ghost use Rattle.nd_neighbour.specs.Due.{falls, solicited, stays};
+    ghost use Rattle.nd_neighbour.specs.View.{falls_of};
+
+    /// A solicitation that is due is sent, if one is left.
+    pub(crate) fn solicit(&mut self, now: u64) -> Option<Due<A>>
+        requires { now < 2 ^ 62 }
+        ensures entry { self.new ≡ (if stays (falls self.old) then solicited now self.old else self.old) }
+        ensures due { IfSome result (λ due. falls_of due ≡ falls self.old) }
+        ensures some { IfSome result (λ _. stays (falls self.old) ≡ true) }
+        ensures none { IfNone result (stays (falls self.old) ≡ false) }
+    {
+        match &mut self.stage {
+            // INCOMPLETE: a multicast solicitation a RetransTimer after the one before, MAX_MULTICAST_SOLICIT with the
+            // one that began the resolution (7.2.2).
+            Stage::Resolving { retrans, sent, .. } => {
+                if *sent >= MAX_MULTICAST_SOLICIT - 1 {
+                    return None;
+                }
+                self.due = now + u64::from(*retrans);
+                *sent += 1;
+                Some(Due::Multicast(self.addr))
+            }
+            // DELAY becomes PROBE, and PROBE stays: a unicast solicitation (7.3.3). Without a use there is none to send.
+            Stage::Known { mac, probing, .. } => {
+                let next = (*probing)?.probed()?;
+                self.due = now + u64::from(next.retrans);
+                *probing = Some(next);
+                Some(Due::Unicast(self.addr, *mac))
+            }
+        }
+    }
+
+    /// The end of an entry for which no solicitation is left.
+    pub(crate) fn end(self) -> Due<A>
+        requires { stays (falls self) ≡ false }
+        ensures { falls_of result ≡ falls self }
+    {
+        let Entry { addr, stage, .. } = self;
+        match stage {
+            // INCOMPLETE, and the last solicitation went unanswered: resolution failed, with all that waits (7.2.2).
+            Stage::Resolving { waiting, .. } => Due::Failed(addr, Packets::of(waiting)),
+            // No use for STALE_LIFETIME: our choice (5.3 leaves it open).
+            Stage::Known { probing: None, .. } => Due::Aged(addr),
+            // PROBE, and the last probe went unanswered: the entry is deleted (7.3.3).
+            Stage::Known { .. } => Due::Failed(addr, Packets::none()),
+        }
+    }
 }

@@ -4,12 +4,11 @@ ghost use Rattle.std.specs.Prelude.{◌≡◌, ◌≤◌, ◌↔◌, ◌++◌, �
 ghost use Rattle.std.specs.Option.{option_to_list};
 ghost use Rattle.circular_buffer.specs.Buffer.{keep_last};
 ghost use Rattle.nd_neighbour.specs.History.{Row, Story};
-ghost use Rattle.nd_neighbour.specs.Resolving.{waiting_of};
-ghost use Rattle.nd_neighbour.specs.Node.{Node};
-ghost use Rattle.nd_neighbour.specs.Change.{Falls};
+ghost use Rattle.nd_neighbour.specs.Entry.{Node};
+ghost use Rattle.nd_neighbour.specs.AddressResolution.{waiting_of};
 ghost use Rattle.nd_neighbour.specs.Table.{Stands};
-ghost use Rattle.nd_neighbour.specs.Due.{FirstDue};
-ghost use Rattle.nd_neighbour.specs.Room.{IsLongestStale, NoPlace, WouldBeFull};
+ghost use Rattle.nd_neighbour.specs.Due.{Falls, FirstDue};
+ghost use Rattle.nd_neighbour.specs.Place.{IsLongestStale, NoPlace, WouldBeFull};
 
 /// The definitions give one table, one thing that falls due first, and one neighbour that makes place.
 pub fn one_answer()

@@ -1,4 +1,18 @@
+ghost use Rattle.std.specs.Prelude.{IfErr, IfOk, IsErr, OnErr, OnOk, [], false, is_some, not, true, vec_capacity, vec_len, ◌&&◌, ◌<◌, ◌^◌, ◌↔◌, ◌≡◌};
+ghost use Rattle.nd_addr.specs.Number.{number_of};
+ghost use Rattle.nd_neighbour.specs.Entry.{with_mark};
+ghost use Rattle.nd_neighbour.specs.Table.{node_in, Alters};
+ghost use Rattle.nd_neighbour.specs.News.{told_released, told_turned};
+
+use crate::cache::Cache;
+use crate::entry::Entry;
+use crate::link_layer_address::give_or_enter;
+use crate::neighbor_advertisement::advertise;
+use crate::refusal::CacheRefusal;
 use nd_addr::{Addr, Mac};
+use nd_table::find;
+use nd_waiting::Packets;
+use std::alloc::Allocator;
 
 /// The flags of a Neighbor Advertisement (RFC 4861, section 4.4).
 #[derive(Clone, Copy, Debug, PartialEq, Eq)]
@@ -27,9 +41,123 @@ pub enum News {
         flags: Flags,
         mac: Option<Mac>,
     },
-    /// What a message without a link-layer address says of IsRouter.
+    /// What a message without a link-layer address says of IsRouter (RFC 4861, sections 6.2.6, 6.3.4 and 8.3).
     Marked {
         addr: Addr,
         router: bool,
     },
+}
+
+/// The times in force when a call is made (RFC 4861, section 6.3.2).
+#[derive(Clone, Copy, Debug, PartialEq, Eq)]
+pub struct Times {
+    /// RetransTimer: the time between two solicitations, in milliseconds.
+    pub retrans: u32,
+    /// ReachableTime: how long a confirmation holds, in milliseconds.
+    pub reachable: u64,
+}
+
+/// What news of a neighbour bring with them.
+#[derive(Drop)]
+pub struct Touched<A: Allocator> {
+    /// The packets that waited for its link-layer address and can be sent now.
+    pub released: Packets<A>,
+    /// It was a router, and is none any more: it has to leave the list of default routers (RFC 4861, section 7.2.5).
+    pub ends_router: bool,
+}
+
+impl<A: Allocator> Touched<A> {
+    pub(crate) fn new(released: Packets<A>, was_router: bool, is_router: bool) -> Self
+        ensures released { result.released ≡ released }
+        ensures ends_router { result.ends_router ≡ (was_router && not is_router) }
+    {
+        Touched {
+            released,
+            ends_router: was_router && !is_router,
+        }
+    }
+
+    pub(crate) fn nothing() -> Self
+        ensures released { result.released ≡ [] }
+        ensures ends_router { result.ends_router ≡ false }
+    {
+        Touched {
+            released: Packets::none(),
+            ends_router: false,
+        }
+    }
+}
+
+impl<A: Allocator + Clone> Cache<A> {
+    ghost use Rattle.nd_neighbour.specs.Table.{node_in};
+    ghost use Rattle.nd_neighbour.specs.Place.{NoPlace};
+    ghost use Rattle.nd_neighbour.specs.News.{GainsNews, Tells, lets_enter, news_key, news_row};
+
+    /// A message says something of a neighbour (RFC 4861, sections 6.2.6, 6.3.4, 7.2.3, 7.2.5 and 8.3). Only an address
+    /// that is given makes an entry; the other news of a neighbour that isn't there change nothing. Of `times` only
+    /// ReachableTime counts, and only where a solicited advertisement confirms. It takes no memory.
+    ///
+    /// `Full` comes where an address is given, the neighbour is new, all places are taken and no neighbour is STALE;
+    /// nothing has changed then.
+    pub fn heard(&mut self, now: u64, news: News, times: Times) -> Result<Touched<A>, CacheRefusal>
+        requires moment { now < 2 ^ 62 }
+        requires span { times.reachable < 2 ^ 62 }
+
+        ensures stands { OnOk result (GainsNews self.old.limit now news times self.old.nodes self.new.nodes) }
+        ensures told { IfOk result (λ touched. Tells now (news_key news) (news_row news times) self.old.nodes touched.released touched.ends_router) }
+
+        // It is refused exactly where a new neighbour has no place, and only for that.
+        ensures full { IsErr result ↔ ((lets_enter news ≡ true) × NoPlace self.old.limit now (news_key news) self.old.nodes) }
+        ensures err { IfErr result (λ refusal. refusal ≡ CacheRefusal.Full) }
+        ensures same { OnErr result (self.new ≡ self.old) }
+
+        // A neighbour whose address is given is there, so a use of it isn't refused as full.
+        ensures there { OnOk result (lets_enter news ≡ true → is_some (node_in (news_key news) self.new.nodes) ≡ true) }
+
+        ensures limit { self.new.limit ≡ self.old.limit }
+        ensures rings { self.new.rings ≡ self.old.rings }
+    {
+        match news {
+            News::Given { addr, mac, mark } => {
+                give_or_enter(&mut self.entries, self.limit, now, addr, mac, mark)
+            }
+            News::Advert { addr, flags, mac } => {
+                Ok(advertise(&mut self.entries, now, addr, flags, mac, times.reachable))
+            }
+            News::Marked { addr, router } => Ok(mark(&mut self.entries, addr, router)),
+        }
+    }
+}
+
+/// A message without a link-layer address says whether a neighbour is a router (RFC 4861, sections 6.2.6, 6.3.4 and
+/// 8.3): IsRouter is set where the entry is there.
+pub(crate) fn mark<A: Allocator>(
+    entries: &mut Vec<Entry<A>, A>,
+    addr: Addr,
+    router: bool,
+) -> Touched<A>
+    ensures alters { Alters (number_of addr.0) (λ n. with_mark router n) entries.old.items entries.new.items }
+    ensures released { result.released ≡ told_released (λ n. with_mark router n) (node_in (number_of addr.0) entries.old.items) }
+    ensures ends_router { result.ends_router ≡ told_turned (λ n. with_mark router n) (node_in (number_of addr.0) entries.old.items) }
+    ensures len { vec_len entries.new ≡ vec_len entries.old }
+    ensures capacity { vec_capacity entries.new ≡ vec_capacity entries.old }
+{
+    let Some(i) = find(entries, addr) else {
+        return Touched::nothing();
+    };
+    let entry = &mut entries[i];
+    let was_router = entry.router();
+    entry.mark(router);
+    Touched::new(Packets::none(), was_router, entry.router())
+}
+
+impl<A: Allocator> Entry<A> {
+    ghost use Rattle.nd_neighbour.specs.Entry.{with_mark};
+
+    /// A message says whether it is a router.
+    pub(crate) fn mark(&mut self, router: bool)
+        ensures { self.new ≡ with_mark router self.old }
+    {
+        self.router = router;
+    }
 }

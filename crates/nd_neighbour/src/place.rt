@@ -1,7 +1,7 @@
-ghost use Rattle.std.specs.Prelude.{◌≡◌, ◌<◌, ◌≤◌, length, slice_get, IfSome, IfNone, None, true, vec_len, vec_capacity};
-ghost use Rattle.nd_neighbour.specs.Room.{stalest, has_place, Places, longer, picked, picked_stale};
+ghost use Rattle.std.specs.Prelude.{IfSome, length, slice_get, true, vec_capacity, vec_len, ◌<◌, ◌≡◌, ◌≤◌};
+ghost use Rattle.nd_neighbour.specs.Place.{Places, has_place, longer, picked, picked_stale, stalest};
 
-use crate::entry::Entry;
+use crate::entry::{Entry, Stage};
 use std::alloc::Allocator;
 
 /// The place of the one of two entries that is stale for longer, at a tie of the first.
@@ -45,7 +45,8 @@ pub(crate) fn has_place<A: Allocator>(entries: &[Entry<A>], limit: usize, now: u
     entries.len() < limit || stalest(entries, now).is_some()
 }
 
-/// Makes place for one more entry: where all places are taken, the entry that is stale for longest goes.
+/// Makes place for one more entry: where all places are taken, the entry that is stale for longest goes. Our choice: RFC
+/// 4861, section 5.3, leaves it open.
 pub(crate) fn make_place<A: Allocator>(entries: &mut Vec<Entry<A>, A>, limit: usize, now: u64)
     requires few { vec_len entries.old ≤ limit }
     requires place { has_place limit now entries.old.items ≡ true }
@@ -58,5 +59,34 @@ pub(crate) fn make_place<A: Allocator>(entries: &mut Vec<Entry<A>, A>, limit: us
     }
     if let Some(i) = stalest(entries, now) {
         let _ = entries.remove(i);
+    }
+}
+
+impl<A: Allocator> Entry<A> {
+    ghost use Rattle.nd_neighbour.specs.Place.{is_stale, since_of};
+
+    /// Whether it is stale at a moment (STALE).
+    pub(crate) fn is_stale(&self, now: u64) -> bool
+        ensures { result ≡ is_stale self.now.stage now }
+    {
+        match &self.stage {
+            Stage::Resolving { .. } => false,
+            Stage::Known {
+                confirmed,
+                since,
+                probing,
+                ..
+            } => probing.is_none() && !(*confirmed && now < *since),
+        }
+    }
+
+    /// Since when it isn't known to be reachable.
+    pub(crate) fn since(&self) -> u64
+        ensures { result ≡ since_of self.now.stage }
+    {
+        match &self.stage {
+            Stage::Resolving { .. } => 0,
+            Stage::Known { since, .. } => *since,
+        }
     }
 }

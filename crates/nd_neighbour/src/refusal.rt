@@ -1,8 +1,8 @@
 /// Cause a call is refused.
 #[derive(Clone, Copy, Debug, PartialEq, Eq)]
 pub enum CacheRefusal {
-    /// There is no place for one more neighbour, and none that is stale.
+    /// A new neighbour has no place: there are as many as there may be, and none of them is STALE.
     Full = 1,
-    /// Memory was refused.
+    /// The allocator refused the ring for the packets of a new neighbour.
     Memory = 2,
 }

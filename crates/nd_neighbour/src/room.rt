@@ -1,10 +1,10 @@
-ghost use Rattle.std.specs.Prelude.{◌≡◌, ◌↔◌, ◌<◌, List, length, slice_get, Some, true, not, ◌==◌};
-ghost use Rattle.std.specs.Option.{option_map};
+ghost use Rattle.std.specs.Prelude.{List, Some, length, not, slice_get, true, ◌<◌, ◌==◌, ◌↔◌, ◌≡◌};
 ghost use Rattle.std.specs.List.{list_any};
+ghost use Rattle.std.specs.Option.{option_map};
 ghost use Rattle.nd_addr.specs.Number.{number_of};
-ghost use Rattle.nd_neighbour.specs.Node.{Node};
-ghost use Rattle.nd_neighbour.specs.Room.{stalest};
-ghost use Rattle.nd_neighbour.specs.Second.{has_room, place_beside, place_without, place_behind, stays_stale, stale_beside};
+ghost use Rattle.nd_neighbour.specs.Entry.{Node};
+ghost use Rattle.nd_neighbour.specs.Place.{stalest};
+ghost use Rattle.nd_neighbour.specs.Room.{has_room, place_behind, place_beside, place_without, stale_beside, stays_stale};
 
 use crate::cache::Cache;
 use crate::entry::Entry;
@@ -16,7 +16,7 @@ use std::alloc::Allocator;
 impl<A: Allocator + Clone> Cache<A> {
     ghost use Rattle.nd_neighbour.specs.History.{Row};
     ghost use Rattle.nd_neighbour.specs.Table.{Stands};
-    ghost use Rattle.nd_neighbour.specs.Second.{HasRoom};
+    ghost use Rattle.nd_neighbour.specs.Room.{HasRoom};
 
     /// Whether a neighbour that may be new has place, and after a use of it a second one: whether neither would be
     /// refused as `Full`. A second one that had room here has place after `used` of the first.

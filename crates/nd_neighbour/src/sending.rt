@@ -1,4 +1,19 @@
-use nd_addr::Mac;
+ghost use Rattle.std.specs.Prelude.{IfErr, IfOk, List, None, OnErr, OnOk, Some, if◌then◌else◌, is_some, true, vec_capacity, vec_len, ◌-◌, ◌<◌, ◌^◌, ◌↔◌, ◌≡◌};
+ghost use Rattle.nd_addr.specs.Number.{number_of};
+ghost use Rattle.nd_neighbour.specs.Table.{node_in, Alters};
+ghost use Rattle.nd_neighbour.specs.Sending.{used, sending_in};
+ghost use Rattle.nd_neighbour.specs.View.{sending_of};
+
+use crate::address_resolution::begin;
+use crate::cache::Cache;
+use crate::entry::{Entry, Stage};
+use crate::news::Times;
+use crate::place::has_place;
+use crate::refusal::CacheRefusal;
+use crate::rings::take_ring;
+use crate::unreachability_detection::Probing;
+use nd_addr::{Addr, Mac};
+use nd_table::{find, holds, put};
 use nd_waiting::Packet;
 use std::alloc::Allocator;
 
@@ -14,4 +29,128 @@ pub enum Use<A: Allocator> {
         /// The oldest packet, where it had to make place.
         replaced: Option<Packet<A>>,
     },
+}
+
+impl<A: Allocator + Clone> Cache<A> {
+    ghost use Rattle.nd_neighbour.specs.History.{Row, story};
+    ghost use Rattle.nd_neighbour.specs.Table.{Stands, node_in};
+    ghost use Rattle.nd_neighbour.specs.Place.{NoPlace};
+    ghost use Rattle.nd_neighbour.specs.Sending.{GainsPacket, refusal_of, sending_of_story};
+    ghost use Rattle.nd_neighbour.specs.Room.{LeavesRoom};
+    ghost use Rattle.nd_neighbour.specs.View.{sending_of};
+
+    /// A packet is to be sent to a neighbour (RFC 4861, sections 7.2.2 and 7.3.3): it can be, or it waits until the
+    /// link-layer address is known, and the first one that waits begins a resolution. Of `times` only RetransTimer
+    /// counts, and only where a resolution or probing begins.
+    ///
+    /// `Full` comes where the neighbour is new, all places are taken and no neighbour is STALE; `Memory` where it is
+    /// new, none of the rings that `ready` makes is in hand, and the allocator refuses one. The packet comes back, and
+    /// nothing has changed.
+    pub fn used(
+        &mut self,
+        now: u64,
+        addr: Addr,
+        packet: Packet<A>,
+        times: Times,
+    ) -> Result<Use<A>, (CacheRefusal, Packet<A>)>
+        requires { now < 2 ^ 62 }
+
+        ensures stands { OnOk result (GainsPacket self.old.limit now (number_of addr.0) times.retrans packet self.old.nodes self.new.nodes) }
+        ensures sending { IfOk result (λ sent. (history : List Row) → Stands self.old.nodes history → sending_of sent ≡ sending_of_story (story (number_of addr.0) history) packet) }
+
+        // Full comes exactly where a new neighbour has no place, and Memory only where one needs a ring and none is in hand.
+        ensures full { (refusal_of result ≡ Some CacheRefusal.Full) ↔ NoPlace self.old.limit now (number_of addr.0) self.old.nodes }
+        ensures memory { refusal_of result ≡ Some CacheRefusal.Memory → (self.old.rings ≡ 0) × (node_in (number_of addr.0) self.old.nodes ≡ None) }
+        ensures back { IfErr result (λ refused. refused.1 ≡ packet) }
+        ensures same { OnErr result (self.new ≡ self.old) }
+
+        // Who had room after a use of this one has place.
+        ensures leaves { OnOk result (LeavesRoom self.old.limit now (number_of addr.0) self.old.nodes self.new.nodes) }
+
+        ensures limit { self.new.limit ≡ self.old.limit }
+
+        // Only a new neighbour takes a ring, one of those in hand where there is one.
+        ensures rings { OnOk result (self.new.rings ≡ (if is_some (node_in (number_of addr.0) self.old.nodes) then self.old.rings else self.old.rings - 1)) }
+    {
+        if holds(&self.entries, addr) {
+            return Ok(pass(&mut self.entries, now, addr, times.retrans, packet));
+        }
+        if !has_place(&self.entries, self.limit, now) {
+            return Err((CacheRefusal::Full, packet));
+        }
+        let ring = match take_ring(&mut self.rings) {
+            Ok(ring) => ring,
+            Err(_) => return Err((CacheRefusal::Memory, packet)),
+        };
+        begin(
+            &mut self.entries,
+            self.limit,
+            now,
+            addr,
+            times.retrans,
+            packet,
+            ring,
+        );
+        Ok(Use::Queued {
+            solicit: true,
+            replaced: None,
+        })
+    }
+}
+
+/// A packet is to be sent to a neighbour whose entry is there.
+pub(crate) fn pass<A: Allocator>(
+    entries: &mut Vec<Entry<A>, A>,
+    now: u64,
+    addr: Addr,
+    retrans: u32,
+    packet: Packet<A>,
+) -> Use<A>
+    requires moment { now < 2 ^ 62 }
+    requires there { is_some (node_in (number_of addr.0) entries.old.items) ≡ true }
+    ensures alters { Alters (number_of addr.0) (λ n. used now retrans packet n) entries.old.items entries.new.items }
+    ensures sending { sending_of result ≡ sending_in (node_in (number_of addr.0) entries.old.items) packet }
+    ensures len { vec_len entries.new ≡ vec_len entries.old }
+    ensures capacity { vec_capacity entries.new ≡ vec_capacity entries.old }
+{
+    let Some(i) = find(entries, addr) else {
+        unreachable!();
+    };
+    let entry = &mut entries[i];
+    entry.send(now, retrans, packet)
+}
+
+impl<A: Allocator> Entry<A> {
+    ghost use Rattle.nd_neighbour.specs.Sending.{sending_to, used};
+    ghost use Rattle.nd_neighbour.specs.View.{sending_of};
+
+    /// A packet for it is to be sent (RFC 4861, sections 7.2.2 and 7.3.3).
+    pub(crate) fn send(&mut self, now: u64, retrans: u32, packet: Packet<A>) -> Use<A>
+        requires { now < 2 ^ 62 }
+        ensures entry { self.new ≡ used now retrans packet self.old }
+        ensures sending { sending_of result ≡ sending_to self.old.stage packet }
+    {
+        match &mut self.stage {
+            // INCOMPLETE: it waits, and a fourth one takes the place of the oldest (7.2.2).
+            Stage::Resolving { waiting, .. } => Use::Queued {
+                solicit: false,
+                replaced: waiting.put(packet),
+            },
+            Stage::Known {
+                mac,
+                since,
+                probing,
+                ..
+            } => {
+                // STALE: the first packet makes it DELAY. REACHABLE, DELAY and PROBE stay (7.3.3).
+                if probing.is_none() && *since <= now {
+                    let begun = Probing::after_use(now, retrans);
+                    self.due = begun.from;
+                    *probing = Some(begun);
+                }
+                // Else it is sent to the address that is known.
+                Use::Send(*mac, packet)
+            }
+        }
+    }
 }

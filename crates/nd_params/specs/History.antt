@@ -21,6 +21,29 @@ first_mtu (rdnss _ _ ∷ options) = first_mtu options
 first_mtu (dnssl _ _ ∷ options) = first_mtu options
 first_mtu (other _ _ ∷ options) = first_mtu options
 
+-- CurHopLimit until one is told: the number of the registry of IP parameters (RFC 4861, section 6.3.2)
+abbrev pub default_hop_limit : ℕ
+default_hop_limit = 64
+
+-- LinkMTU of Ethernet, in bytes, which is also the greatest one (RFC 2464, section 2)
+abbrev pub ethernet_mtu : ℕ
+ethernet_mtu = 1500
+
+-- the least MTU of a link, in bytes (RFC 8200, section 5)
+abbrev pub least_mtu : ℕ
+least_mtu = 1280
+
+-- BaseReachableTime and RetransTimer until they are told, in milliseconds (RFC 4861, section 10)
+abbrev pub reachable_time : ℕ
+reachable_time = 30000
+
+abbrev pub retrans_timer : ℕ
+retrans_timer = 1000
+
+-- how long after a draw of ReachableTime the next one comes, in milliseconds (RFC 4861, section 6.3.4: every few hours)
+abbrev pub redraw_after : ℕ
+redraw_after = 7200000
+
 -- a number that is told, where 0 says nothing
 abbrev pub nonzero_or : ℕ → ℕ → ℕ
 nonzero_or told before = if told == 0 then before else told
@@ -28,29 +51,29 @@ nonzero_or told before = if told == 0 then before else told
 -- an MTU that the link can have: at least that of IPv6 (RFC 8200, section 5), at most that of Ethernet (RFC 2464, section 2)
 abbrev pub valid_mtu_or : Option ℕ → ℕ → ℕ
 valid_mtu_or None before = before
-valid_mtu_or (Some n) before = if nat_le 1280 n && nat_le n 1500 then n else before
+valid_mtu_or (Some n) before = if nat_le least_mtu n && nat_le n ethernet_mtu then n else before
 
 -- CurHopLimit: the last one that was told
 abbrev pub hop_limit_of : List Row → ℕ
-hop_limit_of [] = 64
+hop_limit_of [] = default_hop_limit
 hop_limit_of (Heard ra options ∷ history) = nonzero_or ra.hop_limit (hop_limit_of history)
 hop_limit_of (Drew at value ∷ history) = hop_limit_of history
 
 -- LinkMTU: the last one that was told and the link can have
 abbrev pub mtu_of : List Row → ℕ
-mtu_of [] = 1500
+mtu_of [] = ethernet_mtu
 mtu_of (Heard ra options ∷ history) = valid_mtu_or (first_mtu options) (mtu_of history)
 mtu_of (Drew at value ∷ history) = mtu_of history
 
 -- BaseReachableTime in milliseconds: the last one that was told
 abbrev pub base_of : List Row → ℕ
-base_of [] = 30000
+base_of [] = reachable_time
 base_of (Heard ra options ∷ history) = nonzero_or ra.reachable_time (base_of history)
 base_of (Drew at value ∷ history) = base_of history
 
 -- RetransTimer in milliseconds: the last one that was told
 abbrev pub retrans_of : List Row → ℕ
-retrans_of [] = 1000
+retrans_of [] = retrans_timer
 retrans_of (Heard ra options ∷ history) = nonzero_or ra.retrans_timer (retrans_of history)
 retrans_of (Drew at value ∷ history) = retrans_of history
 
@@ -77,9 +100,9 @@ last_draw [] = 0
 last_draw (Heard ra options ∷ history) = last_draw history
 last_draw (Drew at value ∷ history) = at
 
--- ReachableTime is drawn again two hours after the last draw (RFC 4861, section 6.3.4: every few hours)
+-- when ReachableTime is drawn again
 abbrev pub next_draw : List Row → ℕ
-next_draw history = last_draw history + 7200000
+next_draw history = last_draw history + redraw_after
 
 -- a Router Advertisement is heard, and ReachableTime drawn where this is told
 abbrev pub then_heard : ℕ → RouterAdvertisement → List Said → Option ℕ → List Row → List Row

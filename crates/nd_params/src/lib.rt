@@ -9,6 +9,3 @@ mod values;
 
 pub use params::Params;
 pub use reachable_time::reachable_range;
-
-#[cfg(test)]
-mod tests;

@@ -1,5 +1,5 @@
 ghost use Rattle.std.specs.Prelude.{◌≡◌, ◌^◌, ◌<◌, ◌∷◌, [], false};
-ghost use Rattle.nd_params.specs.History.{Drew};
+ghost use Rattle.nd_params.specs.History.{Drew, default_hop_limit, ethernet_mtu, reachable_time, retrans_timer};
 ghost use Rattle.nd_params.specs.Params.{Values, Stands};
 
 use std::marker::Model;
@@ -49,7 +49,7 @@ impl Params {
     /// The defaults, with a first ReachableTime that was drawn for their base, in milliseconds.
     pub fn new(now: u64, drawn: u64) -> Params
         requires { now < 2 ^ 62 }
-        ensures value { result ≡ record { hop_limit = 64; mtu = 1500; base_reachable_time = 30000; reachable_time = drawn; retrans_timer = 1000; managed = false; other = false; drawn_at = now } }
+        ensures value { result ≡ record { hop_limit = default_hop_limit; mtu = ethernet_mtu; base_reachable_time = reachable_time; reachable_time = drawn; retrans_timer = retrans_timer; managed = false; other = false; drawn_at = now } }
         ensures stands { Stands result (Drew now drawn ∷ []) }
     {
         Params {

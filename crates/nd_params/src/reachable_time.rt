@@ -1,5 +1,5 @@
 ghost use Rattle.std.specs.Prelude.{◌≡◌, ◌*◌, ◌/◌, ◌^◌, ◌<◌, ◌+◌, ◌∷◌, List};
-ghost use Rattle.nd_params.specs.History.{Row, Drew, next_draw};
+ghost use Rattle.nd_params.specs.History.{Row, Drew, next_draw, redraw_after};
 ghost use Rattle.nd_params.specs.Params.{Stands, GainsRows};
 
 use crate::params::Params;
@@ -10,7 +10,7 @@ const REDRAW_AFTER: u64 = 7_200_000;
 impl Params {
     /// The moment at which ReachableTime is to be drawn again.
     pub fn next_due(&self) -> u64
-        ensures value { result ≡ self.now.drawn_at + 7200000 }
+        ensures value { result ≡ self.now.drawn_at + redraw_after }
         ensures due { (history : List Row) → Stands self.now history → result ≡ next_draw history }
     {
         self.drawn_at + REDRAW_AFTER

@@ -9,6 +9,10 @@ use Rattle.nd_decode.specs.Option.{Said, slla, tlla, prefix, redirected, mtu, rd
 use Rattle.nd_decode.specs.Pieces.{options_left}
 use Rattle.nd_routers.specs.declared.prefix_options.OnLink.{OnLink}
 
+-- how many prefixes may be on the link (our choice)
+abbrev pub max_prefixes : ℕ
+max_prefixes = 64
+
 -- an option says that its prefix is on the link: its flag L is set, and its address is neither link-local nor multicast
 abbrev pub is_on_link : PrefixInfo → Bool
 is_on_link p = p.on_link && not (holds link_local_prefix p.prefix.address.0) && not (holds multicast_prefix p.prefix.address.0)

@@ -8,6 +8,10 @@ use Rattle.nd_lifetime.specs.Listing.{StandsUntilTold}
 use Rattle.nd_routers.specs.History.{RouterRow, LeftList, announcements}
 use Rattle.nd_routers.specs.DefaultRouterSelection.{Failures}
 
+-- how many default routers there may be (our choice)
+abbrev pub max_routers : ℕ
+max_routers = 16
+
 -- the routers with their ends, in the order in which they came, and those of them that failed, in the order of their last failures
 pub record Table : Type 0 where
   pub entries : List (Lasting ℕ)

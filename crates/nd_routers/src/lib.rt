@@ -20,6 +20,3 @@ pub use prefixes::Prefixes;
 pub use router::Router;
 pub use router_advertisement::Change;
 pub use routers::Routers;
-
-#[cfg(test)]
-mod tests;

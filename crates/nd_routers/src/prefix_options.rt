@@ -1,5 +1,5 @@
 ghost use Rattle.std.specs.Prelude.{◌≡◌, ◌≤◌, ◌<◌, ◌^◌, ◌↔◌, List, IfErr, OnOk, OnErr, IsErr, false};
-ghost use Rattle.nd_routers.specs.PrefixOptions.{is_on_link};
+ghost use Rattle.nd_routers.specs.PrefixOptions.{is_on_link, max_prefixes};
 ghost use Rattle.nd_addr.specs.Prefix.{PrefixValue};
 ghost use Rattle.nd_decode.specs.Pieces.{options_left};
 ghost use Rattle.nd_lifetime.specs.History.{Row, last_moment};
@@ -17,7 +17,7 @@ impl<A: Allocator + Clone> Prefixes<A> {
 
     /// Whether there is room for what the options of a Router Advertisement announce, taken in order. It takes no memory.
     pub fn fits(&self, now: u64, options: Options<'_>) -> bool
-        ensures { result ≡ fits same_prefix 64 now (prefixes_in (options_left options.entry)) self.now }
+        ensures { result ≡ fits same_prefix max_prefixes now (prefixes_in (options_left options.entry)) self.now }
     {
         fits_all(&self.entries, MAX_PREFIXES, now, OnLink { options })
     }
@@ -31,7 +31,7 @@ impl<A: Allocator + Clone> Prefixes<A> {
         ensures value { OnOk result (self.new ≡ announced_all same_prefix now (prefixes_in (options_left options.entry)) self.old) }
 
         // It is refused exactly where the prefixes, taken in order, are too many at some point.
-        ensures full { IsErr result ↔ (fits same_prefix 64 now (prefixes_in (options_left options.entry)) self.old ≡ false) }
+        ensures full { IsErr result ↔ (fits same_prefix max_prefixes now (prefixes_in (options_left options.entry)) self.old ≡ false) }
         ensures refusal { IfErr result (λ refusal. refusal ≡ TableRefusal.Full Limit.Prefixes) }
         ensures same { OnErr result (self.new ≡ self.old) }
     {

@@ -11,7 +11,7 @@ use nd_lifetime::{Lasting, Standing};
 use std::alloc::{AllocError, Allocator};
 use std::marker::Model;
 
-/// How many prefixes may be on the link.
+/// How many prefixes may be on the link (our choice).
 pub(crate) const MAX_PREFIXES: usize = 64;
 
 /// The prefixes that are on the link, in the order in which they came (RFC 4861, section 5.1).
@@ -24,6 +24,7 @@ impl<A: Allocator> Model for Prefixes<A> {
     ghost use Rattle.std.specs.Prelude.{◌≤◌, List};
     ghost use Rattle.std.specs.Vec.{vec_len, vec_capacity};
     ghost use Rattle.nd_addr.specs.Prefix.{PrefixValue};
+    ghost use Rattle.nd_routers.specs.PrefixOptions.{max_prefixes};
     ghost use Rattle.nd_lifetime.specs.declared.lasting.Lasting.{Lasting};
     ghost use Rattle.nd_lifetime.specs.Listing.{Distinct};
     ghost use Rattle.nd_lifetime.specs.Same.{same_prefix};
@@ -32,7 +33,7 @@ impl<A: Allocator> Model for Prefixes<A> {
 
     ghost view = { λ p. p.entries.items };
 
-    ghost invariant = { λ p. (vec_len p.entries ≤ 64) × (64 ≤ vec_capacity p.entries) × Distinct same_prefix p.entries.items };
+    ghost invariant = { λ p. (vec_len p.entries ≤ max_prefixes) × (max_prefixes ≤ vec_capacity p.entries) × Distinct same_prefix p.entries.items };
 }
 
 impl<A: Allocator + Clone> Prefixes<A> {

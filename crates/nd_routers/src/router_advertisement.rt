@@ -26,12 +26,12 @@ pub enum Change {
 
 impl<A: Allocator + Clone> Routers<A> {
     ghost use Rattle.nd_routers.specs.History.{RouterRow, Heard, announcements};
-    ghost use Rattle.nd_routers.specs.Routers.{same, Stands, GainsRow, IsSettled};
+    ghost use Rattle.nd_routers.specs.Routers.{max_routers, same, Stands, GainsRow, IsSettled};
     ghost use Rattle.nd_routers.specs.RouterAdvertisement.{change_of};
 
     /// Whether there is room for what a Router Advertisement announces. It takes no memory.
     pub fn fits(&self, now: u64, source: Addr, lifetime: u16) -> bool
-        ensures { result ≡ fits same 16 now ((number_of source.0, lifetime) ∷ []) self.now.entries }
+        ensures { result ≡ fits same max_routers now ((number_of source.0, lifetime) ∷ []) self.now.entries }
     {
         if stands(&self.entries, now, &source) {
             return true;
@@ -56,7 +56,7 @@ impl<A: Allocator + Clone> Routers<A> {
             → change ≡ change_of (stands same (number_of source.0) (announcements history) now) (stands same (number_of source.0) (announcements (Heard now (number_of source.0) lifetime ∷ history)) now)) }
 
         // It is refused exactly where the router is one too many.
-        ensures full { IsErr result ↔ (fits same 16 now ((number_of source.0, lifetime) ∷ []) self.old.entries ≡ false) }
+        ensures full { IsErr result ↔ (fits same max_routers now ((number_of source.0, lifetime) ∷ []) self.old.entries ≡ false) }
         ensures refusal { IfErr result (λ refusal. refusal ≡ TableRefusal.Full Limit.Routers) }
         ensures same { OnErr result (self.new ≡ self.old) }
     {

@@ -10,7 +10,7 @@ use nd_lifetime::{Lasting, Standing, stands};
 use std::alloc::{AllocError, Allocator};
 use std::marker::Model;
 
-/// How many default routers there may be.
+/// How many default routers there may be (our choice).
 pub(crate) const MAX_ROUTERS: usize = 16;
 
 /// The default routers, in the order in which they came (RFC 4861, section 5.1).
@@ -24,18 +24,18 @@ pub struct Routers<A: Allocator> {
 impl<A: Allocator> Model for Routers<A> {
     ghost use Rattle.std.specs.Prelude.{◌≤◌};
     ghost use Rattle.std.specs.Vec.{vec_len, vec_capacity};
-    ghost use Rattle.nd_routers.specs.Routers.{Table};
+    ghost use Rattle.nd_routers.specs.Routers.{Table, max_routers};
 
     ghost Value = { Table };
 
     ghost view = { λ r. record { entries = r.entries.items; failed = r.failed.items } };
 
-    ghost invariant = { λ r. (vec_len r.entries ≤ 16) × (16 ≤ vec_capacity r.entries) × (vec_len r.failed ≤ 16) × (16 ≤ vec_capacity r.failed) };
+    ghost invariant = { λ r. (vec_len r.entries ≤ max_routers) × (max_routers ≤ vec_capacity r.entries) × (vec_len r.failed ≤ max_routers) × (max_routers ≤ vec_capacity r.failed) };
 }
 
 impl<A: Allocator + Clone> Routers<A> {
     ghost use Rattle.nd_routers.specs.History.{RouterRow, announcements};
-    ghost use Rattle.nd_routers.specs.Routers.{same, Stands, then_left, keys};
+    ghost use Rattle.nd_routers.specs.Routers.{max_routers, same, Stands, then_left, keys};
 
     /// No routers, with room for 16. All of it is reserved here.
     pub fn new(alloc: A) -> Result<Self, AllocError>
@@ -79,7 +79,7 @@ impl<A: Allocator + Clone> Routers<A> {
     /// How many routers there are whose end hasn't been told.
     pub fn len(&self) -> usize
         ensures value { result ≡ length self.now.entries }
-        ensures few { result ≤ 16 }
+        ensures few { result ≤ max_routers }
     {
         self.entries.len()
     }

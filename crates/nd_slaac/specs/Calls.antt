@@ -15,6 +15,7 @@ use Rattle.nd_table.specs.Ends.{end_time}
 use Rattle.nd_slaac.specs.TwoHours.{renewed}
 use Rattle.nd_slaac.specs.Address.{Address}
 use Rattle.nd_slaac.specs.Table.{key_of, address_in, GainsRow}
+use Rattle.nd_slaac.specs.Room.{max_addresses}
 use Rattle.nd_slaac.specs.PrefixOption.{is_taken, named_by, lifetimes_of}
 
 -- the numbers of the addresses
@@ -58,7 +59,7 @@ pub record Alters (key : ℕ) (change : Address → Address) (old new : List Add
 -- what becomes of an option that is taken, by whether its address is known, its valid lifetime, and how many are known
 abbrev pub taken_by : Bool → ℕ → ℕ → Result Taken Full
 taken_by true valid count = Ok Renewed
-taken_by false valid count = if valid == 0 then Ok Ignored else if nat_lt count 64 then Ok Formed else Err (record {})
+taken_by false valid count = if valid == 0 then Ok Ignored else if nat_lt count max_addresses then Ok Formed else Err (record {})
 
 -- what becomes of an option, where its address is known or not and so many are
 abbrev pub taken_of : PrefixInfo → Bool → ℕ → Result Taken Full

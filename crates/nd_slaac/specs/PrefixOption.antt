@@ -7,12 +7,16 @@ use Rattle.nd_decode.specs.declared.prefix_info.PrefixInfo.{PrefixInfo}
 use Rattle.nd_decode.specs.Option.{Said, prefix}
 use Rattle.nd_slaac.specs.History.{Lifetimes}
 
+-- how many bits of an address are its prefix, the identifier having the others (RFC 4291, section 2.5.1)
+abbrev pub prefix_bits : ℕ
+prefix_bits = 64
+
 -- the option is taken: it has the autonomous flag, its prefix is neither multicast nor link-local, its preferred
 -- lifetime isn't above the valid one, and with an identifier of 64 bits the prefix makes an address
 unfoldable pub is_taken : PrefixInfo → Bool
 is_taken info =
     info.autonomous && not (holds multicast_prefix info.prefix.address.0) && not (holds link_local_prefix info.prefix.address.0)
-    && nat_le info.preferred_lifetime info.valid_lifetime && (info.prefix.length == 64)
+    && nat_le info.preferred_lifetime info.valid_lifetime && (info.prefix.length == prefix_bits)
 
 -- the address that the option names: its prefix and the identifier that comes of the link-layer address
 unfoldable pub named_by : Mac → PrefixInfo → ℕ

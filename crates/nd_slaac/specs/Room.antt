@@ -4,6 +4,11 @@ use Rattle.nd_addr.specs.declared.mac.Mac.{Mac}
 use Rattle.nd_decode.specs.declared.prefix_info.PrefixInfo.{PrefixInfo}
 use Rattle.nd_slaac.specs.PrefixOption.{is_forming, named_by}
 
+-- how many addresses there may be, the link-local one included (our choice)
+abbrev pub max_addresses : ℕ
+max_addresses = 64
+
+-- the address is among these
 abbrev pub is_among : ℕ → List ℕ → Bool
 is_among key [] = false
 is_among key (k ∷ keys) = (k == key) || is_among key keys
@@ -16,7 +21,7 @@ would_form mac keys info = is_forming info && not (is_among (named_by mac info) 
 abbrev pub fits_in : Mac → List ℕ → List PrefixInfo → Bool
 fits_in mac keys [] = true
 fits_in mac keys (info ∷ infos) =
-    if would_form mac keys info then (nat_lt (length keys) 64 && fits_in mac (named_by mac info ∷ keys) infos) else fits_in mac keys infos
+    if would_form mac keys info then (nat_lt (length keys) max_addresses && fits_in mac (named_by mac info ∷ keys) infos) else fits_in mac keys infos
 
 -- the same without a list of the new ones: some option forms the address
 abbrev pub is_formed_by : Mac → ℕ → List PrefixInfo → Bool

@@ -6,7 +6,7 @@ use nd_addr::Mac;
 use std::alloc::{AllocError, Allocator};
 use std::marker::Model;
 
-/// How many addresses there may be, the link-local one included.
+/// How many addresses there may be, the link-local one included (our choice).
 pub const LIMIT: usize = 64;
 
 /// The addresses of an interface (RFC 4862, section 5): each is formed, tried for, and then assigned until its valid
@@ -21,12 +21,13 @@ impl<A: Allocator> Model for Addresses<A> {
     ghost use Rattle.std.specs.Prelude.{◌≤◌};
     ghost use Rattle.std.specs.Vec.{vec_len, vec_capacity};
     ghost use Rattle.nd_slaac.specs.Table.{Table};
+    ghost use Rattle.nd_slaac.specs.Room.{max_addresses};
 
     ghost Value = { Table };
 
     ghost view = { λ a. record { mac = a.mac; addresses = a.entries.items } };
 
-    ghost invariant = { λ a. (vec_len a.entries ≤ 64) × (64 ≤ vec_capacity a.entries) };
+    ghost invariant = { λ a. (vec_len a.entries ≤ max_addresses) × (max_addresses ≤ vec_capacity a.entries) };
 }
 
 impl<A: Allocator + Clone> Addresses<A> {

@@ -20,6 +20,3 @@ pub use prefix_option::{Full, Taken};
 pub use shown::OwnAddress;
 pub use state::State;
 pub use two_hours::renewed;
-
-#[cfg(test)]
-mod tests;

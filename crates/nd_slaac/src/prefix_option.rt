@@ -2,6 +2,7 @@ ghost use Rattle.std.specs.Prelude.{◌≡◌, true, ◌<◌, ◌^◌, ◌∷◌
 ghost use Rattle.nd_addr.specs.Number.{number_of};
 ghost use Rattle.nd_slaac.specs.PrefixOption.{is_taken, named_by, lifetimes_of};
 ghost use Rattle.nd_decode.specs.declared.prefix_info.PrefixInfo.{PrefixInfo};
+ghost use Rattle.nd_slaac.specs.Room.{max_addresses};
 ghost use Rattle.nd_slaac.specs.Table.{address_in};
 ghost use Rattle.nd_slaac.specs.Calls.{taken_by, Changes};
 
@@ -100,11 +101,11 @@ pub(crate) fn take<A: Allocator>(
     retrans: u32,
 ) -> Result<Taken, Full>
     requires moment { now < 2 ^ 62 }
-    requires few { vec_len entries.old ≤ 64 }
-    requires capacity { 64 ≤ vec_capacity entries.old }
+    requires few { vec_len entries.old ≤ max_addresses }
+    requires capacity { max_addresses ≤ vec_capacity entries.old }
     ensures value { result ≡ taken_by (is_some (address_in (number_of addr.0) entries.old.items)) info.now.valid_lifetime (length entries.old.items) }
     ensures changes { Changes now (number_of addr.0) (lifetimes_of info.now) delay retrans result entries.old.items entries.new.items }
-    ensures few { vec_len entries.new ≤ 64 }
+    ensures few { vec_len entries.new ≤ max_addresses }
     ensures capacity { vec_capacity entries.new ≡ vec_capacity entries.old }
 {
     if let Some(i) = find(entries, addr) {

@@ -2,7 +2,7 @@ ghost use Rattle.std.specs.Prelude.{◌≡◌, ◌≤◌, ◌&&◌, ◌==◌, no
 ghost use Rattle.nd_addr.specs.Number.{number_of};
 ghost use Rattle.nd_decode.specs.Pieces.{options_left};
 ghost use Rattle.nd_slaac.specs.PrefixOption.{is_forming, named_by, prefixes_in};
-ghost use Rattle.nd_slaac.specs.Room.{is_among, would_form, is_formed_by, fits_in};
+ghost use Rattle.nd_slaac.specs.Room.{is_among, would_form, is_formed_by, fits_in, max_addresses};
 ghost use Rattle.nd_slaac.specs.Calls.{keys_in};
 ghost use Rattle.nd_decode.specs.declared.prefix_info.PrefixInfo.{PrefixInfo};
 
@@ -80,7 +80,7 @@ fn is_formed_by(options: Options<'_>, mac: Mac, addr: Addr) -> bool
 
 /// Whether there is room for each address that the options would form.
 pub(crate) fn fits(entries: &[Entry], mac: Mac, options: Options<'_>) -> bool
-    requires { length entries.now ≤ 64 }
+    requires { length entries.now ≤ max_addresses }
     ensures { result ≡ fits_in mac (keys_in entries.now) (prefixes_in (options_left options.entry)) }
 {
     let mut count = entries.len();

@@ -6,7 +6,7 @@ use Rattle.nd_addr.specs.declared.role.Role.{Role}
 use Rattle.nd_addr.specs.declared.why.Why.{Why}
 use Rattle.nd_addr.specs.declared.why.Why.TheVariants.{HopLimit, Sum, NotForUs}
 use Rattle.nd_addr.specs.Frame.{FrameParts, frame_of}
-use Rattle.nd_addr.specs.Ip6.{PacketParts, packet_parts, packet_of}
+use Rattle.nd_addr.specs.Ip6.{PacketParts, next_header_icmpv6, packet_parts, packet_of}
 use Rattle.nd_addr.specs.Checksum.{total}
 use Rattle.nd_decode.specs.Message.{Parts, parts, Spells}
 use Rattle.nd_decode.specs.Decoding.{decode_of}
@@ -45,7 +45,7 @@ HearsInSomeRole frame heard = (role : Role) × Hears frame role heard × (heard 
 -- the test of a message of Neighbor Discovery
 abbrev pub is_message : Ip6 → List ℕ → Bool
 is_message header payload =
-    nat_eq header.next_header 58 && nat_lt 0 (length payload) && nat_le 133 (slice_index payload 0) && nat_le (slice_index payload 0) 137
+    nat_eq header.next_header next_header_icmpv6 && nat_lt 0 (length payload) && nat_le 133 (slice_index payload 0) && nat_le (slice_index payload 0) 137
 
 -- the test of its checksum
 abbrev pub has_good_sum : Addr → Addr → List ℕ → Bool

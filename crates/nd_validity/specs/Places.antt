@@ -2,7 +2,7 @@
 -- section 3; RFC 4861, section 4).
 use Rattle.std.specs.Prelude.{◌≡◌, ℕ, ◌+◌, List, drop, slice_range}
 use Rattle.nd_addr.specs.declared.ip6.Ip6.{Ip6}
-use Rattle.nd_addr.specs.Ip6.{PacketParts, header_of, payload_length_of}
+use Rattle.nd_addr.specs.Ip6.{PacketParts, next_header_icmpv6, header_of, payload_length_of}
 use Rattle.nd_decode.specs.Message.{HasKnownKind}
 
 -- the IPv6 packet, and the padding behind it
@@ -23,5 +23,5 @@ parts_in frame = record { header = header_in frame; payload = payload_in frame }
 
 -- the payload is a message of Neighbor Discovery: ICMPv6, whose type is 133 to 137
 pub record IsMessage (header : Ip6) (payload : List ℕ) : Type 0 where
-  pub icmpv6 : header.next_header ≡ 58
+  pub icmpv6 : header.next_header ≡ next_header_icmpv6
   pub kind : HasKnownKind payload

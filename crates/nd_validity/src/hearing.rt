@@ -3,11 +3,8 @@ ghost use Rattle.nd_decode.specs.MessageType.{IsOfType};
 ghost use Rattle.nd_validity.specs.Hearing.{Outcome, outcome, Hears, HearsInSomeRole, is_message, outcome_of_packet, hearing_in_some_role, taken_by, hearing_of};
 
 use crate::validity::{fault, is_not_for};
-use nd_addr::{Addr, Frame, Ip6, Ip6Ref, Role, Why, sum_is_good};
+use nd_addr::{Addr, Frame, Ip6, Ip6Ref, NEXT_HEADER_ICMPV6, Role, Why, sum_is_good};
 use nd_decode::{MessageRef, MessageType, decode_as};
-
-/// The next header of ICMPv6 (RFC 4443, section 1).
-const ICMPV6: u8 = 58;
 
 /// The hop limit of every message of Neighbor Discovery: no router can have sent it on (RFC 4861, section 3.1).
 const HOP_LIMIT: u8 = 255;
@@ -121,7 +118,7 @@ fn message_type(packet: &Ip6Ref<'_>) -> Option<MessageType>
     ensures { MatchOption result (is_message packet.now.header packet.now.payload.now ≡ false)
         (λ kind. (is_message packet.now.header packet.now.payload.now ≡ true) × IsOfType kind packet.now.payload.now) }
 {
-    if packet.header.next_header != ICMPV6 || packet.payload.is_empty() {
+    if packet.header.next_header != NEXT_HEADER_ICMPV6 || packet.payload.is_empty() {
         return None;
     }
     MessageType::of(packet.payload[0])

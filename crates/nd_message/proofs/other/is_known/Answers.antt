@@ -17,8 +17,8 @@ unfolding known_of
 names_known rest None long h = rw (le-leb _ _ long, h) refl
 names_known rest (Some n) long h = rw (le-leb _ _ long, h.0) refl
 
-pub returns-then-units-ge2 : goal.returns-then-units-ge2
-returns-then-units-ge2 c =
+pub returns-then-units-3 : goal.returns-then-units-3
+returns-then-units-3 c =
     let behind : take (length c.args.rest.now - 6) (drop 6 c.args.rest.now) ≡ drop 6 c.args.rest.now = take_all _ _ (omega (arith, length-drop 6 c.args.rest.now)) in
-    let exactly = rw behind at c.read-then-units-ge2.ensures.exactly in
-    c.is_some-then-units-ge2.ensures ∙ names_known c.args.rest.now c.read-then-units-ge2.result c.if-units-ge2.true exactly ∙ ap (λ (k : ℕ). is_some (known_of (other_piece k c.args.rest.now))) (sym c.in-31.is)
+    let exactly = rw behind at c.read-then-units-3.ensures.exactly in
+    c.is_some-then-units-3.ensures ∙ names_known c.args.rest.now c.read-then-units-3.result c.if-units-3.true exactly ∙ ap (λ (k : ℕ). is_some (known_of (other_piece k c.args.rest.now))) (sym c.in-31.is)

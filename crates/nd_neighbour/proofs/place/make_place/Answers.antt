@@ -1,7 +1,7 @@
 use Rattle.std.proofs.Common.{◌≡◌, ◌<◌, subst, List, length, arith}
 use Rattle.std.specs.Prelude.{slice_get}
-use Rattle.nd_neighbour.specs.Node.{Node}
-use Rattle.nd_neighbour.specs.Room.{stalest}
+use Rattle.nd_neighbour.specs.Entry.{Node}
+use Rattle.nd_neighbour.specs.Place.{stalest}
 use Rattle.nd_neighbour.proofs.Places.{went_out}
 use Rattle.nd_neighbour.proofs.place.make_place.Goals as goal
 

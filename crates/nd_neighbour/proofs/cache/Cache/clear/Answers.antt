@@ -1,7 +1,7 @@
 use Rattle.std.proofs.Common.{sym, subst, List}
-use Rattle.nd_neighbour.specs.Node.{Node}
+use Rattle.nd_neighbour.specs.Entry.{Node}
 use Rattle.nd_neighbour.specs.Table.{Stands}
-use Rattle.nd_neighbour.specs.Calls.{cleared}
+use Rattle.nd_neighbour.specs.Removal.{cleared}
 use Rattle.nd_neighbour.proofs.Results.{on_ok}
 use Rattle.nd_neighbour.proofs.Forgetting.{cleared_stands}
 use Rattle.nd_neighbour.proofs.cache.Cache.clear.Goals as goal

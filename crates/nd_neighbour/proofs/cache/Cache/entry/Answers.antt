@@ -2,7 +2,7 @@ use Rattle.std.proofs.Common.{◌∙◌, ap}
 use Rattle.std.specs.Option.{option_map}
 use Rattle.nd_addr.specs.Number.{number_of}
 use Rattle.nd_neighbour.specs.Table.{Table, node_in}
-use Rattle.nd_neighbour.specs.Seen.{seen}
+use Rattle.nd_neighbour.specs.Shown.{seen}
 use Rattle.nd_neighbour.proofs.Forgetting.{seen_by_rows}
 use Rattle.nd_neighbour.proofs.cache.Cache.entry.Goals as goal
 

@@ -2,8 +2,7 @@ use Rattle.std.proofs.Common.{◌≡◌, ◌∙◌, subst}
 use Rattle.nd_addr.specs.Number.{number_of}
 use Rattle.nd_neighbour.specs.History.{Removed}
 use Rattle.nd_neighbour.specs.Table.{Table, node_in}
-use Rattle.nd_neighbour.specs.Room.{Removes}
-use Rattle.nd_neighbour.specs.Calls.{waiting_at}
+use Rattle.nd_neighbour.specs.Removal.{Removes, waiting_at}
 use Rattle.nd_neighbour.proofs.Forgetting.{removed_gains, waits_by_rows}
 use Rattle.nd_neighbour.proofs.cache.Cache.forget.Goals as goal
 

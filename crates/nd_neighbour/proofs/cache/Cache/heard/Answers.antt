@@ -2,11 +2,12 @@ use Rattle.std.proofs.Common.{◌≡◌, refl, subst, false}
 use Rattle.std.specs.Prelude.{OnOk, IfOk}
 use Rattle.std.specs.Option.{option_map}
 use Rattle.nd_addr.specs.Number.{number_of}
-use Rattle.nd_neighbour.specs.Node.{Node}
-use Rattle.nd_neighbour.specs.Change.{given, advertised, with_mark, stale_node, mark_or}
-use Rattle.nd_neighbour.specs.Table.{Table, node_in}
-use Rattle.nd_neighbour.specs.Room.{Alters, Gives}
-use Rattle.nd_neighbour.specs.Calls.{told_released, told_turned}
+use Rattle.nd_neighbour.specs.Entry.{Node, with_mark, stale_node}
+use Rattle.nd_neighbour.specs.LinkLayerAddress.{given, mark_or}
+use Rattle.nd_neighbour.specs.NeighborAdvertisement.{advertised}
+use Rattle.nd_neighbour.specs.Table.{Table, node_in, Alters}
+use Rattle.nd_neighbour.specs.Place.{Gives}
+use Rattle.nd_neighbour.specs.News.{told_released, told_turned}
 use Rattle.nd_neighbour.proofs.Results.{on_ok, if_ok_both}
 use Rattle.nd_neighbour.proofs.NewsCalls.{given_key, given_hears, advertised_gains, marked_gains, given_tells, advertised_tells, marked_tells}
 use Rattle.nd_neighbour.proofs.Second.{gives_there}
@@ -69,5 +70,5 @@ returns-in-Given-clause-there g c =
     let mark = c.in-Given.mark in
     let change : Node → Node = λ n. given c.args.now mac mark n in
     let new = c.give_or_enter.new.entries.items in
-    rw c.in-Given.is (on_ok c.give_or_enter.result _ _ (λ gives _. gives_there c.args.self.now.limit c.args.now key change (stale_node key (mark_or mark false) c.args.now mac) c.args.self.now.nodes new (λ n. given_key c.args.now mac mark n n.kept) refl gives)
+    rw c.in-Given.is (on_ok c.give_or_enter.result _ _ (λ gives _. gives_there c.args.self.now.limit c.args.now key change (stale_node key (mark_or mark false) c.args.now mac) c.args.self.now.nodes new (λ n. given_key c.args.now mac mark n n.stage) refl gives)
     (subst (λ (t : Table). OnOk c.give_or_enter.result (Gives t.limit c.args.now key change (stale_node key (mark_or mark false) c.args.now mac) t.nodes new)) c.self.view_is c.give_or_enter.ensures.gives))

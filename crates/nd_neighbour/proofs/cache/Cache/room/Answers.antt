@@ -2,9 +2,9 @@ use Rattle.std.proofs.Common.{◌≡◌, ◌∙◌, sym, ap, subst, Bool, true, 
 use Rattle.std.specs.Prelude.{◌↔◌}
 use Rattle.std.specs.Option.{option_map}
 use Rattle.nd_addr.specs.Number.{number_of}
-use Rattle.nd_neighbour.specs.Node.{Node}
+use Rattle.nd_neighbour.specs.Entry.{Node}
 use Rattle.nd_neighbour.specs.Table.{Table}
-use Rattle.nd_neighbour.specs.Second.{HasRoom, has_room}
+use Rattle.nd_neighbour.specs.Room.{HasRoom, has_room}
 use Rattle.nd_neighbour.proofs.Second.{room_by_rows}
 use Rattle.nd_neighbour.proofs.cache.Cache.room.Goals as goal
 

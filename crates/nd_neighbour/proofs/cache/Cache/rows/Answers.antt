@@ -1,7 +1,7 @@
 use Rattle.std.proofs.Common.{◌≡◌, subst}
 use Rattle.std.specs.Prelude.{IfOk, map}
 use Rattle.nd_neighbour.specs.Table.{Table}
-use Rattle.nd_neighbour.specs.Seen.{seen}
+use Rattle.nd_neighbour.specs.Shown.{seen}
 use Rattle.nd_neighbour.specs.View.{seen_in}
 use Rattle.nd_neighbour.proofs.Results.{if_ok}
 use Rattle.nd_neighbour.proofs.Forgetting.{lists_all}

@@ -1,10 +1,10 @@
 use Rattle.std.proofs.Common.{◌≡◌, ◌∙◌, sym, ap, subst, Option, None}
 use Rattle.nd_addr.specs.Number.{number_of}
-use Rattle.nd_neighbour.specs.Node.{Node}
-use Rattle.nd_neighbour.specs.Change.{used, asked_node}
-use Rattle.nd_neighbour.specs.Table.{Table, node_in}
-use Rattle.nd_neighbour.specs.Room.{Alters, Gives}
-use Rattle.nd_neighbour.specs.Calls.{sending_in}
+use Rattle.nd_neighbour.specs.Entry.{Node}
+use Rattle.nd_neighbour.specs.AddressResolution.{asked_node}
+use Rattle.nd_neighbour.specs.Table.{Table, node_in, Alters}
+use Rattle.nd_neighbour.specs.Place.{Gives}
+use Rattle.nd_neighbour.specs.Sending.{used, sending_in}
 use Rattle.nd_neighbour.specs.View.{sending_of}
 use Rattle.nd_neighbour.proofs.Finds.{was_there, not_there, no_rings}
 use Rattle.nd_neighbour.proofs.PacketCalls.{takes_packet, sending_by_rows}

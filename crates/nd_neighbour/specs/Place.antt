@@ -1,0 +1,94 @@
+-- Which neighbour makes place for a new one, and when there is no place (RFC 4861, section 5.3, leaves this open).
+use Rattle.std.specs.Prelude.{◌≡◌, ℕ, true, List, ◌<◌, ◌≤◌, ◌⊎◌, ◌∷◌, length, Bool, ◌&&◌, not, MatchBool, false, nat_lt, Some, None, if◌then◌else◌, Option, [], ◌||◌, is_some, slice_index_or, slice_get}
+use Rattle.std.specs.List.{remove, insert}
+use Rattle.nd_neighbour.specs.declared.shown.Reachability.TheVariants.{Stale}
+use Rattle.nd_neighbour.specs.History.{Row, story, Forgot, PushedOut}
+use Rattle.nd_neighbour.specs.Entry.{Node, Stage, Resolving, Known}
+use Rattle.nd_neighbour.specs.ReachabilityConfirmation.{since_in}
+use Rattle.nd_neighbour.specs.Story.{is_present, word_of}
+use Rattle.nd_neighbour.specs.Table.{Stands, node_in, place_in, Alters}
+use Rattle.nd_neighbour.specs.Shown.{state_of}
+
+-- the neighbour is present and STALE at the moment
+abbrev pub IsStale : List Row → ℕ → ℕ → Type 0
+IsStale history now key = (is_present (story key history) ≡ true) × (state_of (story key history) now ≡ Stale)
+
+-- since when it isn't known to be reachable
+abbrev pub stale_since : List Row → ℕ → ℕ
+stale_since history key = since_in (word_of (story key history))
+
+-- no other one is stale for longer, and none of a lower address for as long
+pub record IsLongestStale (history : List Row) (now key : ℕ) : Type 0 where
+  pub stale : IsStale history now key
+  pub longest : (k : ℕ) → IsStale history now k → (stale_since history key < stale_since history k) ⊎ ((stale_since history key ≡ stale_since history k) × (key ≤ k))
+
+-- what a new neighbour adds before it: nothing where there are fewer than the limit, else the end of the one that
+-- is stale for longest
+pub data MakesPlace (limit now : ℕ) (history made : List Row) : Type 0 where
+  HadPlace : (nodes : List Node) → Stands nodes history → length nodes < limit → made ≡ history → MakesPlace limit now history made
+  Pushed : (nodes : List Node) (key : ℕ) → Stands nodes history → limit ≤ length nodes → IsLongestStale history now key → made ≡ (now, key, Forgot PushedOut) ∷ history → MakesPlace limit now history made
+
+-- what comes before a row of the neighbour, which may be one that lets it enter
+abbrev pub Prepares : ℕ → ℕ → Bool → ℕ → List Row → List Row → Type 0
+Prepares limit now enters key history made =
+    MatchBool (enters && not (is_present (story key history))) (MakesPlace limit now history made) (made ≡ history)
+
+-- a new neighbour has no place: it isn't present, there are as many as there may be, and none is stale
+pub record WouldBeFull (limit now key : ℕ) (history : List Row) : Type 0 where
+  pub absent : is_present (story key history) ≡ false
+  pub nodes : List Node
+  pub those : Stands nodes history
+  pub many : limit ≤ length nodes
+  pub none_stale : (k : ℕ) → IsStale history now k → ⊥
+
+-- the same of what is kept
+abbrev pub is_stale : Stage → ℕ → Bool
+is_stale (Resolving retrans sent waiting) t = false
+is_stale (Known mac confirmed since None) t = not (confirmed && nat_lt t since)
+is_stale (Known mac confirmed since (Some probing)) t = false
+
+abbrev pub since_of : Stage → ℕ
+since_of (Resolving retrans sent waiting) = 0
+since_of (Known mac confirmed since probing) = since
+
+-- the one of two that isn't reachable for longer, at a tie the first
+abbrev pub longer : Option Node → Option Node → Option Node
+longer None other = other
+longer (Some n) None = Some n
+longer (Some n) (Some m) = if nat_lt (since_of m.stage) (since_of n.stage) then Some m else Some n
+
+abbrev pub if_stale : ℕ → Node → Option Node
+if_stale now n = if is_stale n.stage now then Some n else None
+
+-- the one of a list that is stale for longest
+abbrev pub stalest : ℕ → List Node → Option Node
+stalest now [] = None
+stalest now (n ∷ nodes) = longer (if_stale now n) (stalest now nodes)
+
+-- there is place for one more, or one that makes place
+abbrev pub has_place : ℕ → ℕ → List Node → Bool
+has_place limit now nodes = nat_lt (length nodes) limit || is_some (stalest now nodes)
+
+-- a new neighbour has no place in the list
+abbrev pub NoPlace : ℕ → ℕ → ℕ → List Node → Type 0
+NoPlace limit now key nodes = (node_in key nodes ≡ None) × (has_place limit now nodes ≡ false)
+
+-- the list with place for one more
+pub data Places (limit now : ℕ) (old new : List Node) : Type 0 where
+  Enough : length old < limit → new ≡ old → Places limit now old new
+  Went : (at : ℕ) (node : Node) → limit ≤ length old → at < length old → node ≡ slice_index_or old at node → stalest now old ≡ Some node → new ≡ remove old at → Places limit now old new
+
+-- the neighbour at a place that may be missing
+abbrev pub picked : List Node → Option ℕ → Option Node
+picked nodes None = None
+picked nodes (Some i) = slice_get nodes i
+
+-- the same where it is stale
+abbrev pub picked_stale : ℕ → Option Node → Option Node
+picked_stale now None = None
+picked_stale now (Some n) = if_stale now n
+
+-- the list with the neighbour changed where it is there, and else with a new one in its place
+pub data Gives (limit now key : ℕ) (change : Node → Node) (m : Node) (old new : List Node) : Type 0 where
+  Was : (node : Node) → node_in key old ≡ Some node → Alters key change old new → Gives limit now key change m old new
+  Came : (mid : List Node) → node_in key old ≡ None → Places limit now old mid → new ≡ insert mid (place_in m.key mid) m → Gives limit now key change m old new

@@ -1,0 +1,60 @@
+-- What is shown of a neighbour at a moment, and its reachability state (RFC 4861, sections 5.1 and 7.3.2).
+use Rattle.std.specs.Prelude.{ℕ, ◌+◌, nat_lt, if◌then◌else◌, Option, Some, None, Bool, ◌&&◌, ◌≡◌, List}
+use Rattle.nd_table.specs.Keyed.{at_key, Rises}
+use Rattle.nd_neighbour.specs.declared.shown.Reachability.{Reachability}
+use Rattle.nd_neighbour.specs.declared.shown.Reachability.TheVariants.{Stale, Delay, Probe, Incomplete, Reachable}
+use Rattle.nd_neighbour.specs.declared.unreachability_detection.Probing.{Probing}
+use Rattle.nd_neighbour.specs.History.{Story, Row, story}
+use Rattle.nd_neighbour.specs.Entry.{Stage, Resolving, Known, Node, known_mac}
+use Rattle.nd_neighbour.specs.ReachabilityConfirmation.{Word, holds}
+use Rattle.nd_neighbour.specs.UnreachabilityDetection.{delay_first_probe_time, Use}
+use Rattle.nd_neighbour.specs.Story.{mac_of, word_of, use_of, is_present, is_router}
+
+-- without a use STALE; after the first use DELAY for DELAY_FIRST_PROBE_TIME, and PROBE from then on
+abbrev pub used_state : Option Use → ℕ → Reachability
+used_state None t = Stale
+used_state (Some use') t = if nat_lt t (use'.at + delay_first_probe_time) then Delay else Probe
+
+-- without an address INCOMPLETE, while a confirmation holds REACHABLE
+abbrev pub state_by : Option ℕ → Option Word → Option Use → ℕ → Reachability
+state_by None word use' t = Incomplete
+state_by (Some mac) word use' t = if holds (Some mac) word t then Reachable else used_state use' t
+
+-- the state at a moment
+abbrev pub state_of : Story → ℕ → Reachability
+state_of s t = state_by (mac_of s) (word_of s) (use_of s) t
+
+-- a neighbour: its address, its link-layer address, its mark and its state
+pub record Seen : Type 0 where
+  pub key : ℕ
+  pub mac : Option ℕ
+  pub router : Bool
+  pub state : Reachability
+
+-- what the story says at the moment
+abbrev pub seen_of : ℕ → Story → ℕ → Option Seen
+seen_of key s t =
+    if is_present s then Some (record { key = key; mac = mac_of s; router = is_router s; state = state_of s t }) else None
+
+-- the same of what is kept: without a use STALE; DELAY before the first probe, and PROBE from then on
+abbrev pub probing_state : Option Probing → ℕ → Reachability
+probing_state None t = Stale
+probing_state (Some probing) t = if nat_lt t probing.from then Delay else Probe
+
+-- the state by what is kept
+abbrev pub state_in : Stage → ℕ → Reachability
+state_in (Resolving retrans sent waiting) t = Incomplete
+state_in (Known mac confirmed since probing) t = if confirmed && nat_lt t since then Reachable else probing_state probing t
+
+-- a neighbour at the moment
+abbrev pub seen : ℕ → Node → Seen
+seen t n = record { key = n.key; mac = known_mac n.stage; router = n.router; state = state_in n.stage t }
+
+-- its address
+abbrev pub seen_key : Seen → ℕ
+seen_key x = x.key
+
+-- the list shows the neighbours that the history tell of, as they are at the moment, in the order of their addresses
+pub record Lists (history : List Row) (now : ℕ) (shown : List Seen) : Type 0 where
+  pub each : (key : ℕ) → at_key seen_key key shown ≡ seen_of key (story key history) now
+  pub order : Rises seen_key shown

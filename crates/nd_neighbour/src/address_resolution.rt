@@ -1,0 +1,67 @@
+ghost use Rattle.std.specs.Prelude.{None, true, vec_capacity, vec_len, ◌<◌, ◌^◌, ◌≡◌, ◌≤◌};
+ghost use Rattle.nd_addr.specs.Number.{number_of};
+ghost use Rattle.nd_neighbour.specs.AddressResolution.{asked_node};
+ghost use Rattle.nd_neighbour.specs.Table.{node_in};
+ghost use Rattle.nd_neighbour.specs.Place.{Gives, has_place};
+ghost use Rattle.nd_neighbour.specs.Sending.{used};
+
+use crate::entry::{Entry, Stage};
+use crate::place::make_place;
+use nd_addr::Addr;
+use nd_table::put;
+use nd_waiting::{Packet, Ring};
+use std::alloc::Allocator;
+
+/// How many multicast solicitations a resolution sends, the first included (RFC 4861, section 10).
+pub(crate) const MAX_MULTICAST_SOLICIT: u8 = 3;
+
+/// A resolution begins with a first packet, for an address that has no entry (RFC 4861, section 7.2.2).
+pub(crate) fn begin<A: Allocator>(
+    entries: &mut Vec<Entry<A>, A>,
+    limit: usize,
+    now: u64,
+    addr: Addr,
+    retrans: u32,
+    packet: Packet<A>,
+    ring: Ring<A>,
+)
+    requires moment { now < 2 ^ 62 }
+    requires absent { node_in (number_of addr.0) entries.old.items ≡ None }
+    requires place { has_place limit now entries.old.items ≡ true }
+    requires few { vec_len entries.old ≤ limit }
+    requires capacity { limit ≤ vec_capacity entries.old }
+    ensures gives { Gives limit now (number_of addr.0) (λ n. used now retrans packet n) (asked_node (number_of addr.0) now retrans packet) entries.old.items entries.new.items }
+    ensures few { vec_len entries.new ≤ limit }
+    ensures capacity { vec_capacity entries.new ≡ vec_capacity entries.old }
+{
+    make_place(entries, limit, now);
+    put(entries, Entry::asked(addr, now, retrans, packet, ring));
+}
+
+impl<A: Allocator> Entry<A> {
+    ghost use Rattle.nd_neighbour.specs.AddressResolution.{asked_node};
+
+    /// An entry whose resolution begins now (INCOMPLETE), with a first packet that waits. The first solicitation is sent
+    /// now, the next is due a RetransTimer later (RFC 4861, section 7.2.2).
+    pub(crate) fn asked(
+        addr: Addr,
+        now: u64,
+        retrans: u32,
+        packet: Packet<A>,
+        ring: Ring<A>,
+    ) -> Self
+        requires { now < 2 ^ 62 }
+        ensures { result ≡ asked_node (number_of addr.0) now retrans packet }
+    {
+        Entry {
+            addr,
+            router: false,
+            due: now + u64::from(retrans),
+            stage: Stage::Resolving {
+                retrans,
+                sent: 0,
+                waiting: ring.with(packet),
+            },
+        }
+    }
+}

@@ -1,0 +1,116 @@
+ghost use Rattle.std.specs.Prelude.{IfErr, IfOk, IsErr, OnErr, OnOk, false, vec_capacity, vec_len, ◌<◌, ◌^◌, ◌↔◌, ◌≡◌, ◌≤◌};
+ghost use Rattle.nd_addr.specs.Number.{number_of};
+ghost use Rattle.nd_neighbour.specs.Entry.{stale_node};
+ghost use Rattle.nd_neighbour.specs.LinkLayerAddress.{given, mark_or};
+ghost use Rattle.nd_neighbour.specs.Table.{node_in, Alters};
+ghost use Rattle.nd_neighbour.specs.Place.{Gives, NoPlace};
+ghost use Rattle.nd_neighbour.specs.News.{told_released, told_turned};
+
+use crate::entry::{Entry, STALE_LIFETIME, Stage, is_same_mac};
+use crate::news::Touched;
+use crate::place::{has_place, make_place};
+use crate::refusal::CacheRefusal;
+use nd_addr::{Addr, Mac};
+use nd_table::{find, holds, put};
+use nd_waiting::Packets;
+use std::alloc::Allocator;
+
+/// A message gives a link-layer address (RFC 4861, sections 6.2.6, 6.3.4, 7.2.3 and 8.3): it changes the entry that is
+/// there, or makes one that is STALE, where there is place. Else it answers Full.
+pub(crate) fn give_or_enter<A: Allocator>(
+    entries: &mut Vec<Entry<A>, A>,
+    limit: usize,
+    now: u64,
+    addr: Addr,
+    mac: Mac,
+    mark: Option<bool>,
+) -> Result<Touched<A>, CacheRefusal>
+    requires moment { now < 2 ^ 62 }
+    requires few { vec_len entries.old ≤ limit }
+    requires capacity { limit ≤ vec_capacity entries.old }
+    ensures gives { OnOk result (Gives limit now (number_of addr.0) (λ n. given now (number_of mac.0) mark n) (stale_node (number_of addr.0) (mark_or mark false) now (number_of mac.0)) entries.old.items entries.new.items) }
+    ensures released { IfOk result (λ touched. touched.released ≡ told_released (λ n. given now (number_of mac.0) mark n) (node_in (number_of addr.0) entries.old.items)) }
+    ensures ends_router { IfOk result (λ touched. touched.ends_router ≡ told_turned (λ n. given now (number_of mac.0) mark n) (node_in (number_of addr.0) entries.old.items)) }
+    ensures full { IsErr result ↔ NoPlace limit now (number_of addr.0) entries.old.items }
+    ensures err { IfErr result (λ refusal. refusal ≡ CacheRefusal.Full) }
+    ensures same { OnErr result (entries.new.items ≡ entries.old.items) }
+    ensures few { vec_len entries.new ≤ limit }
+    ensures capacity { vec_capacity entries.new ≡ vec_capacity entries.old }
+{
+    if holds(entries, addr) {
+        return Ok(give(entries, now, addr, mac, mark));
+    }
+    if !has_place(entries, limit, now) {
+        return Err(CacheRefusal::Full);
+    }
+    make_place(entries, limit, now);
+    put(entries, Entry::stale(addr, mark.unwrap_or(false), now, mac));
+    Ok(Touched::nothing())
+}
+
+/// The same for an entry that may be there.
+pub(crate) fn give<A: Allocator>(
+    entries: &mut Vec<Entry<A>, A>,
+    now: u64,
+    addr: Addr,
+    mac: Mac,
+    mark: Option<bool>,
+) -> Touched<A>
+    requires { now < 2 ^ 62 }
+    ensures alters { Alters (number_of addr.0) (λ n. given now (number_of mac.0) mark n) entries.old.items entries.new.items }
+    ensures released { result.released ≡ told_released (λ n. given now (number_of mac.0) mark n) (node_in (number_of addr.0) entries.old.items) }
+    ensures ends_router { result.ends_router ≡ told_turned (λ n. given now (number_of mac.0) mark n) (node_in (number_of addr.0) entries.old.items) }
+    ensures len { vec_len entries.new ≡ vec_len entries.old }
+    ensures capacity { vec_capacity entries.new ≡ vec_capacity entries.old }
+{
+    let Some(i) = find(entries, addr) else {
+        return Touched::nothing();
+    };
+    let entry = &mut entries[i];
+    let was_router = entry.router();
+    let released = entry.given(now, mac, mark);
+    Touched::new(released, was_router, entry.router())
+}
+
+impl<A: Allocator> Entry<A> {
+    ghost use Rattle.nd_neighbour.specs.Entry.{released, stale_node};
+    ghost use Rattle.nd_neighbour.specs.LinkLayerAddress.{given};
+
+    /// Its link-layer address is given (RFC 4861, sections 6.2.6, 6.3.4, 7.2.3 and 8.3).
+    pub(crate) fn given(&mut self, now: u64, mac: Mac, mark: Option<bool>) -> Packets<A>
+        requires { now < 2 ^ 62 }
+        ensures entry { self.new ≡ given now (number_of mac.0) mark self.old }
+        ensures released { result ≡ released self.old self.new }
+    {
+        // A Router Advertisement and a Redirect to a router say that it is one, a Router Solicitation that it is none.
+        if let Some(router) = mark {
+            self.router = router;
+        }
+        match self.mac() {
+            // INCOMPLETE: the address is recorded, the entry is STALE, and what waited is sent (7.2.3, 7.3.3).
+            None => self.learn(mac, false, now),
+            // The address that is known: the state stays (7.2.3).
+            Some(known) if is_same_mac(mac, known) => Packets::none(),
+            // Another one takes its place, and the entry is STALE (7.2.3, 6.3.4, 6.2.6, 8.3).
+            Some(_) => self.learn(mac, false, now),
+        }
+    }
+
+    /// An entry whose link-layer address is known and not confirmed (STALE).
+    pub(crate) fn stale(addr: Addr, router: bool, now: u64, mac: Mac) -> Self
+        requires { now < 2 ^ 62 }
+        ensures { result ≡ stale_node (number_of addr.0) router now (number_of mac.0) }
+    {
+        Entry {
+            addr,
+            router,
+            due: now + STALE_LIFETIME,
+            stage: Stage::Known {
+                mac,
+                confirmed: false,
+                since: now,
+                probing: None,
+            },
+        }
+    }
+}

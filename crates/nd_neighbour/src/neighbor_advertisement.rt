@@ -1,0 +1,107 @@
+ghost use Rattle.std.specs.Prelude.{[], if◌then◌else◌, vec_capacity, vec_len, ◌<◌, ◌^◌, ◌||◌, ◌≡◌};
+ghost use Rattle.std.specs.Option.{option_map};
+ghost use Rattle.nd_addr.specs.Number.{number_of};
+ghost use Rattle.nd_neighbour.specs.NeighborAdvertisement.{advertised};
+ghost use Rattle.nd_neighbour.specs.Table.{node_in, Alters};
+ghost use Rattle.nd_neighbour.specs.News.{told_released, told_turned};
+
+use crate::entry::{Entry, is_same_mac};
+use crate::news::{Flags, Touched};
+use nd_addr::{Addr, Mac};
+use nd_table::find;
+use nd_waiting::Packets;
+use std::alloc::Allocator;
+
+/// A Neighbor Advertisement comes (RFC 4861, section 7.2.5). Where there is no entry it is discarded, and makes none.
+pub(crate) fn advertise<A: Allocator>(
+    entries: &mut Vec<Entry<A>, A>,
+    now: u64,
+    addr: Addr,
+    flags: Flags,
+    mac: Option<Mac>,
+    reachable: u64,
+) -> Touched<A>
+    requires moment { now < 2 ^ 62 }
+    requires span { reachable < 2 ^ 62 }
+    ensures alters { Alters (number_of addr.0) (λ n. advertised now flags (option_map (λ m. number_of m.0) mac) reachable n) entries.old.items entries.new.items }
+    ensures released { result.released ≡ told_released (λ n. advertised now flags (option_map (λ m. number_of m.0) mac) reachable n) (node_in (number_of addr.0) entries.old.items) }
+    ensures ends_router { result.ends_router ≡ told_turned (λ n. advertised now flags (option_map (λ m. number_of m.0) mac) reachable n) (node_in (number_of addr.0) entries.old.items) }
+    ensures len { vec_len entries.new ≡ vec_len entries.old }
+    ensures capacity { vec_capacity entries.new ≡ vec_capacity entries.old }
+{
+    let Some(i) = find(entries, addr) else {
+        return Touched::nothing();
+    };
+    let entry = &mut entries[i];
+    let was_router = entry.router();
+    let released = entry.advertised(now, flags, mac, reachable);
+    Touched::new(released, was_router, entry.router())
+}
+
+impl<A: Allocator> Entry<A> {
+    ghost use Rattle.nd_neighbour.specs.Entry.{released, waiting_in};
+    ghost use Rattle.nd_neighbour.specs.NeighborAdvertisement.{advertised, conforming};
+
+    /// A Neighbor Advertisement for it comes (RFC 4861, section 7.2.5). No address is known in INCOMPLETE alone.
+    pub(crate) fn advertised(
+        &mut self,
+        now: u64,
+        flags: Flags,
+        mac: Option<Mac>,
+        reachable: u64,
+    ) -> Packets<A>
+        requires moment { now < 2 ^ 62 }
+        requires span { reachable < 2 ^ 62 }
+        ensures entry { self.new ≡ advertised now flags (option_map (λ mac. number_of mac.0) mac) reachable self.old }
+        ensures released { result ≡ released self.old self.new }
+    {
+        match (self.mac(), mac) {
+            // INCOMPLETE, and no address is given: it is discarded.
+            (None, None) => Packets::none(),
+            // INCOMPLETE: the address is recorded, whatever Override says, and what waited is sent.
+            (None, Some(first)) => self.conform(now, flags, first, true, reachable),
+            // II: no address is given.
+            (Some(known), None) => self.conform(now, flags, known, false, reachable),
+            // II: the address is the one that is known.
+            (Some(known), Some(given)) if is_same_mac(given, known) => {
+                self.conform(now, flags, known, false, reachable)
+            }
+            // II: Override is set, so another address takes the place of the one that is known.
+            (Some(_), Some(other)) if flags.overrides => {
+                self.conform(now, flags, other, true, reachable)
+            }
+            // I a: Override is clear: another address makes a REACHABLE entry STALE, and changes nothing else.
+            (Some(known), Some(_)) if self.is_reachable(now) => self.learn(known, false, now),
+            // I b: in any other state it is ignored.
+            (Some(_), Some(_)) => Packets::none(),
+        }
+    }
+
+    /// It takes effect, at this address (RFC 4861, section 7.2.5, INCOMPLETE and II).
+    fn conform(
+        &mut self,
+        now: u64,
+        flags: Flags,
+        mac: Mac,
+        is_new: bool,
+        reachable: u64,
+    ) -> Packets<A>
+        requires moment { now < 2 ^ 62 }
+        requires span { reachable < 2 ^ 62 }
+        ensures entry { self.new ≡ conforming flags now reachable (number_of mac.0) is_new self.old }
+        ensures released { result ≡ (if flags.solicited || is_new then waiting_in self.old.stage else []) }
+    {
+        // IsRouter is set by the R flag.
+        self.router = flags.router;
+        // Solicited: the entry is REACHABLE.
+        if flags.solicited {
+            return self.learn(mac, true, now + reachable);
+        }
+        // Not solicited, and the address is new: the entry is STALE.
+        if is_new {
+            return self.learn(mac, false, now);
+        }
+        // Else its state stays.
+        Packets::none()
+    }
+}

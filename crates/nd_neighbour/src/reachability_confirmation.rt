@@ -1,0 +1,66 @@
+ghost use Rattle.std.specs.Prelude.{vec_capacity, vec_len, ◌<◌, ◌^◌, ◌≡◌};
+ghost use Rattle.nd_addr.specs.Number.{number_of};
+ghost use Rattle.nd_neighbour.specs.ReachabilityConfirmation.{confirmed};
+ghost use Rattle.nd_neighbour.specs.Table.{Alters};
+
+use crate::cache::Cache;
+use crate::entry::Entry;
+use nd_addr::Addr;
+use nd_table::find;
+use std::alloc::Allocator;
+
+impl<A: Allocator + Clone> Cache<A> {
+    ghost use Rattle.nd_neighbour.specs.History.{Confirmed};
+    ghost use Rattle.nd_neighbour.specs.Table.{GainsRow};
+
+    /// An upper layer confirms that a neighbour is reached (RFC 4861, section 7.3.1). It is REACHABLE for `reachable`
+    /// milliseconds from `now` on. Where there is no entry, or no link-layer address in it, nothing changes.
+    pub fn confirmed(&mut self, now: u64, addr: Addr, reachable: u64)
+        requires moment { now < 2 ^ 62 }
+        requires span { reachable < 2 ^ 62 }
+        ensures stands { GainsRow self.old.nodes self.new.nodes (now, number_of addr.0, Confirmed reachable) }
+        ensures limit { self.new.limit ≡ self.old.limit }
+        ensures rings { self.new.rings ≡ self.old.rings }
+    {
+        confirm(&mut self.entries, now, addr, reachable);
+    }
+}
+
+/// An upper layer confirms that an entry that may be there is reached (RFC 4861, section 7.3.1).
+pub(crate) fn confirm<A: Allocator>(
+    entries: &mut Vec<Entry<A>, A>,
+    now: u64,
+    addr: Addr,
+    reachable: u64,
+)
+    requires moment { now < 2 ^ 62 }
+    requires span { reachable < 2 ^ 62 }
+    ensures alters { Alters (number_of addr.0) (λ n. confirmed now reachable n) entries.old.items entries.new.items }
+    ensures len { vec_len entries.new ≡ vec_len entries.old }
+    ensures capacity { vec_capacity entries.new ≡ vec_capacity entries.old }
+{
+    if let Some(i) = find(entries, addr) {
+        let entry = &mut entries[i];
+        entry.confirm(now, reachable);
+    }
+}
+
+impl<A: Allocator> Entry<A> {
+    ghost use Rattle.nd_neighbour.specs.ReachabilityConfirmation.{confirmed};
+
+    /// An upper layer confirms that it is reached (RFC 4861, sections 7.3.1 and 7.3.3).
+    pub(crate) fn confirm(&mut self, now: u64, reachable: u64)
+        requires moment { now < 2 ^ 62 }
+        requires span { reachable < 2 ^ 62 }
+        ensures { self.new ≡ confirmed now reachable self.old }
+    {
+        match self.mac() {
+            // INCOMPLETE: an upper layer's advice has no effect.
+            None => {}
+            // In any other state the entry becomes REACHABLE, for a ReachableTime from now on.
+            Some(mac) => {
+                let _ = self.learn(mac, true, now + reachable);
+            }
+        }
+    }
+}

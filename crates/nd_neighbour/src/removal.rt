@@ -1,0 +1,129 @@
+ghost use Rattle.std.specs.Prelude.{IfOk, List, OnErr, OnOk, [], length, vec_capacity, vec_len, ℕ, ◌++◌, ◌+◌, ◌≡◌, ◌≤◌};
+ghost use Rattle.nd_addr.specs.Number.{number_of};
+ghost use Rattle.nd_neighbour.specs.Table.{node_in};
+ghost use Rattle.nd_neighbour.specs.Removal.{Removes, all_waiting, waiting_at};
+
+use crate::cache::Cache;
+use crate::entry::{Entry, Stage};
+use nd_addr::Addr;
+use nd_table::find;
+use nd_waiting::{Packet, Packets};
+use std::alloc::{AllocError, Allocator};
+
+impl<A: Allocator + Clone> Cache<A> {
+    ghost use Rattle.nd_neighbour.specs.History.{Forgot, Removed, Row, story};
+    ghost use Rattle.nd_neighbour.specs.Story.{waits_of};
+    ghost use Rattle.nd_neighbour.specs.Table.{GainsRow, Stands};
+    ghost use Rattle.nd_neighbour.specs.Removal.{all_waiting, cleared};
+
+    /// A neighbour is forgotten, if it is there. What waited for it is handed out.
+    pub fn forget(&mut self, addr: Addr) -> Packets<A>
+        ensures stands { (at : ℕ) → GainsRow self.old.nodes self.new.nodes (at, number_of addr.0, Forgot Removed) }
+        ensures packets { (history : List Row) → Stands self.old.nodes history → result ≡ waits_of (story (number_of addr.0) history) }
+        ensures limit { self.new.limit ≡ self.old.limit }
+        ensures rings { self.new.rings ≡ self.old.rings }
+    {
+        remove(&mut self.entries, addr)
+    }
+
+    /// All neighbours are forgotten. What waited is handed out, in the order of the addresses, the oldest first. Where
+    /// memory for the list of packets is refused, none is forgotten.
+    pub fn clear(&mut self) -> Result<Vec<Packet<A>, A>, AllocError>
+        ensures stands { OnOk result ((at : ℕ) (history : List Row) → Stands self.old.nodes history → Stands self.new.nodes (cleared at self.old.nodes history)) }
+        ensures none { OnOk result (self.new.nodes ≡ []) }
+        ensures packets { IfOk result (λ packets. packets.items ≡ all_waiting self.old.nodes) }
+        ensures same { OnErr result (self.new ≡ self.old) }
+        ensures limit { self.new.limit ≡ self.old.limit }
+        ensures rings { self.new.rings ≡ self.old.rings }
+    {
+        take_all(&mut self.entries)
+    }
+
+    /// How many packets wait.
+    pub fn waiting(&self) -> usize
+        ensures { result ≡ length (all_waiting self.now.nodes) }
+    {
+        count_waiting(&self.entries)
+    }
+}
+
+/// Takes an entry out, if it is there.
+pub(crate) fn remove<A: Allocator>(entries: &mut Vec<Entry<A>, A>, addr: Addr) -> Packets<A>
+    ensures removes { Removes (number_of addr.0) entries.old.items entries.new.items }
+    ensures packets { result ≡ waiting_at (node_in (number_of addr.0) entries.old.items) }
+    ensures len { vec_len entries.new ≤ vec_len entries.old }
+    ensures capacity { vec_capacity entries.new ≡ vec_capacity entries.old }
+{
+    let Some(i) = find(entries, addr) else {
+        return Packets::none();
+    };
+    let entry = entries.remove(i);
+    entry.packets()
+}
+
+/// How many packets wait.
+pub(crate) fn count_waiting<A: Allocator>(entries: &[Entry<A>]) -> usize
+    ensures { result ≡ length (all_waiting entries.now) }
+{
+    let mut count = 0;
+    for entry in entries {
+        count += entry.waiting();
+    }
+    count
+}
+
+/// Moves packets behind others. There is room for them.
+fn move_all<A: Allocator>(mut from: Packets<A>, to: &mut Vec<Packet<A>, A>)
+    requires { vec_len to.old + length from ≤ vec_capacity to.old }
+    ensures items { to.new.items ≡ to.old.items ++ from }
+    ensures len { vec_len to.new ≡ vec_len to.old + length from }
+    ensures capacity { vec_capacity to.new ≡ vec_capacity to.old }
+{
+    while let Some(packet) = from.take() {
+        to.push_reserved(packet);
+    }
+}
+
+/// Takes all entries out. What waited is handed out, by the order of the addresses, the oldest first.
+pub(crate) fn take_all<A: Allocator + Clone>(
+    entries: &mut Vec<Entry<A>, A>,
+) -> Result<Vec<Packet<A>, A>, AllocError>
+    ensures none { OnOk result (entries.new.items ≡ []) }
+    ensures packets { IfOk result (λ packets. packets.items ≡ all_waiting entries.old.items) }
+    ensures same { OnErr result (entries.new.items ≡ entries.old.items) }
+    ensures len { vec_len entries.new ≤ vec_len entries.old }
+    ensures capacity { vec_capacity entries.new ≡ vec_capacity entries.old }
+{
+    let alloc = entries.allocator().clone()?;
+    let mut packets = Vec::with_capacity(alloc, count_waiting(entries))?;
+    while !entries.is_empty() {
+        let entry = entries.remove(0);
+        move_all(entry.packets(), &mut packets);
+    }
+    Ok(packets)
+}
+
+impl<A: Allocator> Entry<A> {
+    ghost use Rattle.nd_neighbour.specs.Entry.{waiting_in};
+
+    /// What waits at an entry that goes.
+    pub(crate) fn packets(self) -> Packets<A>
+        ensures { result ≡ waiting_in self.stage }
+    {
+        match self.stage {
+            Stage::Resolving { waiting, .. } => Packets::of(waiting),
+            Stage::Known { .. } => Packets::none(),
+        }
+    }
+
+    /// How many packets wait.
+    pub(crate) fn waiting(&self) -> usize
+        ensures value { result ≡ length (waiting_in self.now.stage) }
+        ensures few { result ≤ 3 }
+    {
+        match &self.stage {
+            Stage::Resolving { waiting, .. } => waiting.len(),
+            Stage::Known { .. } => 0,
+        }
+    }
+}

@@ -1,0 +1,128 @@
+ghost use Rattle.std.specs.Prelude.{IfOk, List, map, ◌≡◌};
+ghost use Rattle.std.specs.Option.{option_map};
+ghost use Rattle.nd_addr.specs.Number.{number_of};
+ghost use Rattle.nd_neighbour.specs.Table.{node_in};
+ghost use Rattle.nd_neighbour.specs.Shown.{seen};
+ghost use Rattle.nd_neighbour.specs.View.{seen_in};
+
+use crate::cache::Cache;
+use crate::entry::{Entry, Stage};
+use nd_addr::{Addr, Mac};
+use nd_table::find;
+use std::alloc::{AllocError, Allocator};
+
+/// What is shown of a neighbour (RFC 4861, section 5.1).
+#[derive(Clone, Copy, Debug, PartialEq, Eq)]
+pub struct Neighbour {
+    pub addr: Addr,
+    /// Its link-layer address, if it is known.
+    pub mac: Option<Mac>,
+    /// IsRouter: whether it is known to be a router.
+    pub router: bool,
+    pub state: Reachability,
+}
+
+/// What is known of the reachability of a neighbour (RFC 4861, section 7.3.2).
+#[derive(Clone, Copy, Debug, PartialEq, Eq)]
+pub enum Reachability {
+    /// INCOMPLETE: its link-layer address is being resolved.
+    Incomplete,
+    /// REACHABLE: it was confirmed within the last ReachableTime.
+    Reachable,
+    /// STALE: it was not, and nothing was sent to it since.
+    Stale,
+    /// DELAY: a packet was sent to it, and a confirmation may still come.
+    Delay,
+    /// PROBE: it is asked whether it is there.
+    Probe,
+}
+
+impl<A: Allocator + Clone> Cache<A> {
+    ghost use Rattle.nd_neighbour.specs.History.{Row, story};
+    ghost use Rattle.nd_neighbour.specs.Table.{Stands, node_in};
+    ghost use Rattle.nd_neighbour.specs.Shown.{Lists, seen, seen_of};
+    ghost use Rattle.nd_neighbour.specs.View.{seen_in};
+
+    /// A neighbour at a moment, if there is an entry for it (RFC 4861, sections 5.1 and 7.3.2).
+    pub fn entry(&self, now: u64, addr: Addr) -> Option<Neighbour>
+        ensures value { option_map (λ n. seen_in n) result ≡ option_map (seen now) (node_in (number_of addr.0) self.now.nodes) }
+        ensures seen { (history : List Row) → Stands self.now.nodes history → option_map (λ n. seen_in n) result ≡ seen_of (number_of addr.0) (story (number_of addr.0) history) now }
+    {
+        show(&self.entries, now, addr)
+    }
+
+    /// All neighbours at a moment, in the order of their addresses (RFC 4861, sections 5.1 and 7.3.2). An error comes
+    /// where memory for the list is refused.
+    pub fn rows(&self, now: u64) -> Result<Vec<Neighbour, A>, AllocError>
+        ensures value { IfOk result (λ shown. map (λ n. seen_in n) shown.items ≡ map (seen now) self.now.nodes) }
+        ensures lists { IfOk result (λ shown. (history : List Row) → Stands self.now.nodes history → Lists history now (map (λ n. seen_in n) shown.items)) }
+    {
+        show_all(&self.entries, now)
+    }
+}
+
+/// What is shown of an entry that may be there.
+pub(crate) fn show<A: Allocator>(entries: &[Entry<A>], now: u64, addr: Addr) -> Option<Neighbour>
+    ensures { option_map (λ n. seen_in n) result ≡ option_map (seen now) (node_in (number_of addr.0) entries.now) }
+{
+    match find(entries, addr) {
+        Some(i) => Some(entries[i].shown(now)),
+        None => None,
+    }
+}
+
+/// What is shown of all entries.
+pub(crate) fn show_all<A: Allocator + Clone>(
+    entries: &Vec<Entry<A>, A>,
+    now: u64,
+) -> Result<Vec<Neighbour, A>, AllocError>
+    ensures { IfOk result (λ shown. map (λ n. seen_in n) shown.items ≡ map (seen now) entries.now.items) }
+{
+    let alloc = entries.allocator().clone()?;
+    let mut shown = Vec::with_capacity(alloc, entries.len())?;
+    for entry in entries {
+        shown.push_reserved(entry.shown(now));
+    }
+    Ok(shown)
+}
+
+impl<A: Allocator> Entry<A> {
+    ghost use Rattle.nd_neighbour.specs.Shown.{seen, state_in};
+    ghost use Rattle.nd_neighbour.specs.View.{seen_in};
+
+    /// What is shown of it at a moment (RFC 4861, section 7.3.2).
+    pub(crate) fn shown(&self, now: u64) -> Neighbour
+        ensures { seen_in result ≡ seen now self.now }
+    {
+        Neighbour {
+            addr: self.addr,
+            mac: self.mac(),
+            router: self.router,
+            state: self.state(now),
+        }
+    }
+
+    /// Its state at a moment (RFC 4861, section 7.3.2).
+    fn state(&self, now: u64) -> Reachability
+        ensures { result ≡ state_in self.now.stage now }
+    {
+        match &self.stage {
+            Stage::Resolving { .. } => Reachability::Incomplete,
+            Stage::Known {
+                confirmed,
+                since,
+                probing,
+                ..
+            } => {
+                if *confirmed && now < *since {
+                    return Reachability::Reachable;
+                }
+                match probing {
+                    None => Reachability::Stale,
+                    Some(probing) if now < probing.from => Reachability::Delay,
+                    Some(_) => Reachability::Probe,
+                }
+            }
+        }
+    }
+}

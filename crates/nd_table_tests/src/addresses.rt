@@ -1,0 +1,476 @@
+ghost use Rattle.std.specs.Prelude.{◌<◌, ◌^◌};
+
+use nd_slaac::*;
+use nd_addr::{Addr, Mac, Prefix};
+use nd_decode::{PrefixInfo, decode};
+use std::alloc::Global;
+use std::process::Abort;
+use std::test::*;
+
+const MAC: Mac = Mac([0x34, 0x56, 0x78, 0x9a, 0xbc, 0xde]);
+
+/// fe80::3656:78ff:fe9a:bcde.
+const LINK_LOCAL: Addr = Addr([
+    0xfe, 0x80, 0, 0, 0, 0, 0, 0, 0x36, 0x56, 0x78, 0xff, 0xfe, 0x9a, 0xbc, 0xde,
+]);
+
+/// 2001:db8::3656:78ff:fe9a:bcde.
+const GLOBAL: Addr = Addr([
+    0x20, 0x01, 0x0d, 0xb8, 0, 0, 0, 0, 0x36, 0x56, 0x78, 0xff, 0xfe, 0x9a, 0xbc, 0xde,
+]);
+
+/// 2001:db8:1::3656:78ff:fe9a:bcde.
+const OTHER: Addr = Addr([
+    0x20, 0x01, 0x0d, 0xb8, 0, 1, 0, 0, 0x36, 0x56, 0x78, 0xff, 0xfe, 0x9a, 0xbc, 0xde,
+]);
+
+/// A Router Advertisement with the prefixes 2001:db8:3f::/64 and 2001:db8:40::/64, for 2592000 and 604800 seconds.
+const TWO_PREFIXES: [u8; 80] = [
+    0x86, 0x00, 0x00, 0x00, 0x40, 0x00, 0x07, 0x08, 0x00, 0x00, 0x00, 0x00, 0x00, 0x00, 0x00, 0x00,
+    0x03, 0x04, 0x40, 0xc0, 0x00, 0x27, 0x8d, 0x00, 0x00, 0x09, 0x3a, 0x80, 0x00, 0x00, 0x00, 0x00,
+    0x20, 0x01, 0x0d, 0xb8, 0x00, 0x3f, 0x00, 0x00, 0x00, 0x00, 0x00, 0x00, 0x00, 0x00, 0x00, 0x00,
+    0x03, 0x04, 0x40, 0xc0, 0x00, 0x27, 0x8d, 0x00, 0x00, 0x09, 0x3a, 0x80, 0x00, 0x00, 0x00, 0x00,
+    0x20, 0x01, 0x0d, 0xb8, 0x00, 0x40, 0x00, 0x00, 0x00, 0x00, 0x00, 0x00, 0x00, 0x00, 0x00, 0x00,
+];
+
+/// The same with the prefix 2001:db8:3f::/64 twice.
+const PREFIX_TWICE: [u8; 80] = [
+    0x86, 0x00, 0x00, 0x00, 0x40, 0x00, 0x07, 0x08, 0x00, 0x00, 0x00, 0x00, 0x00, 0x00, 0x00, 0x00,
+    0x03, 0x04, 0x40, 0xc0, 0x00, 0x27, 0x8d, 0x00, 0x00, 0x09, 0x3a, 0x80, 0x00, 0x00, 0x00, 0x00,
+    0x20, 0x01, 0x0d, 0xb8, 0x00, 0x3f, 0x00, 0x00, 0x00, 0x00, 0x00, 0x00, 0x00, 0x00, 0x00, 0x00,
+    0x03, 0x04, 0x40, 0xc0, 0x00, 0x27, 0x8d, 0x00, 0x00, 0x09, 0x3a, 0x80, 0x00, 0x00, 0x00, 0x00,
+    0x20, 0x01, 0x0d, 0xb8, 0x00, 0x3f, 0x00, 0x00, 0x00, 0x00, 0x00, 0x00, 0x00, 0x00, 0x00, 0x00,
+];
+
+/// An option for the prefix 2001:db8:n::/64.
+fn option(n: u16, valid_lifetime: u32, preferred_lifetime: u32) -> Option<PrefixInfo> {
+    let [high, low] = n.to_be_bytes();
+    let first = Addr([
+        0x20, 0x01, 0x0d, 0xb8, high, low, 0, 0, 0, 0, 0, 0, 0, 0, 0, 0,
+    ]);
+    Some(PrefixInfo {
+        prefix: Prefix::new(first, 64)?,
+        on_link: true,
+        autonomous: true,
+        valid_lifetime,
+        preferred_lifetime,
+    })
+}
+
+/// 2001:db8:n:0:3656:78ff:fe9a:bcde, which an option for 2001:db8:n::/64 forms.
+fn formed_of(n: u16) -> Addr {
+    let [high, low] = n.to_be_bytes();
+    Addr([
+        0x20, 0x01, 0x0d, 0xb8, high, low, 0, 0, 0x36, 0x56, 0x78, 0xff, 0xfe, 0x9a, 0xbc, 0xde,
+    ])
+}
+
+/// A month and a week, as routers announce by default (RFC 4861, section 6.2.1).
+fn default_option(n: u16) -> Option<PrefixInfo> {
+    option(n, 2_592_000, 604_800)
+}
+
+/// A turn at the moment that is next.
+fn turn_at(rt: &impl Abort, addresses: &mut Addresses<Global>, now: u64) -> Option<Due>
+    requires { now < 2 ^ 62 }
+{
+    match addresses.next_due() {
+        Some(next) => assert!(rt; next == now),
+        None => assert!(rt; false),
+    }
+    addresses.turn(now)
+}
+
+/// A turn before the moment that is next.
+fn turn_before(rt: &impl Abort, addresses: &mut Addresses<Global>, now: u64) -> Option<Due>
+    requires { now < 2 ^ 62 }
+{
+    match addresses.next_due() {
+        Some(next) => assert!(rt; now < next),
+        None => {}
+    }
+    addresses.turn(now)
+}
+
+/// The addresses of an interface whose link-local one was assigned at 1000.
+fn started(rt: &impl Abort, alloc: Global) -> Result<Addresses<Global>, Fail> {
+    let mut addresses = Addresses::start(alloc, 0, MAC, 0, 1000)?;
+    assert_eq!(rt; addresses.state(0, LINK_LOCAL), Some(State::Tentative));
+    assert_eq!(rt;
+        turn_at(rt, &mut addresses, 0),
+        Some(Due::Solicit(LINK_LOCAL))
+    );
+    assert_eq!(rt; addresses.state(999, LINK_LOCAL), Some(State::Tentative));
+    assert_eq!(rt;
+        turn_at(rt, &mut addresses, 1000),
+        Some(Due::Assign(LINK_LOCAL))
+    );
+    assert_eq!(rt; addresses.state(1000, LINK_LOCAL), Some(State::Preferred));
+    assert_eq!(rt; addresses.next_due(), None);
+    Ok(addresses)
+}
+
+#[test]
+fn an_address_is_tried_assigned_deprecated_and_ended(rt: HostRuntime) -> Result<(), Fail> {
+    let mut addresses = started(&rt, rt.alloc())?;
+    let info = default_option(0).ok_or("option")?;
+    assert!(rt; addresses.would_form(&info));
+    assert_eq!(rt;
+        addresses.heard_prefix(1200, &info, 0, 1000),
+        Ok(Taken::Formed)
+    );
+    assert!(rt; !addresses.would_form(&info));
+    assert_eq!(rt;
+        turn_at(&rt, &mut addresses, 1200),
+        Some(Due::Solicit(GLOBAL))
+    );
+    assert_eq!(rt; addresses.state(2199, GLOBAL), Some(State::Tentative));
+    assert_eq!(rt;
+        turn_at(&rt, &mut addresses, 2200),
+        Some(Due::Assign(GLOBAL))
+    );
+    assert_eq!(rt;
+        addresses.state(604_801_199, GLOBAL),
+        Some(State::Preferred)
+    );
+    assert_eq!(rt;
+        addresses.state(604_801_200, GLOBAL),
+        Some(State::Deprecated)
+    );
+    assert_eq!(rt;
+        turn_at(&rt, &mut addresses, 2_592_001_200),
+        Some(Due::End(GLOBAL))
+    );
+    assert_eq!(rt; addresses.state(2_592_001_200, GLOBAL), None);
+    assert_eq!(rt; addresses.next_due(), None);
+    Ok(())
+}
+
+#[test]
+fn addresses_are_shown_in_their_order(rt: HostRuntime) -> Result<(), Fail> {
+    let mut addresses = started(&rt, rt.alloc())?;
+    let info = default_option(0).ok_or("option")?;
+    assert_eq!(rt;
+        addresses.heard_prefix(1200, &info, 0, 1000),
+        Ok(Taken::Formed)
+    );
+    assert_eq!(rt;
+        turn_at(&rt, &mut addresses, 1200),
+        Some(Due::Solicit(GLOBAL))
+    );
+    assert_eq!(rt;
+        turn_at(&rt, &mut addresses, 2200),
+        Some(Due::Assign(GLOBAL))
+    );
+    let shown = addresses.rows(2200)?;
+    assert_eq!(rt; shown.len(), 2);
+    let global = OwnAddress {
+        addr: GLOBAL,
+        state: State::Preferred,
+        preferred_left: Some(604_799_000),
+        valid_left: Some(2_591_999_000),
+    };
+    let link_local = OwnAddress {
+        addr: LINK_LOCAL,
+        state: State::Preferred,
+        preferred_left: None,
+        valid_left: None,
+    };
+    assert!(rt; shown.first().copied() == Some(global));
+    assert!(rt; shown.last().copied() == Some(link_local));
+    let later = addresses.rows(604_801_201)?;
+    let deprecated = OwnAddress {
+        addr: GLOBAL,
+        state: State::Deprecated,
+        preferred_left: Some(0),
+        valid_left: Some(1_987_199_999),
+    };
+    assert!(rt; later.first().copied() == Some(deprecated));
+    Ok(())
+}
+
+#[test]
+fn a_conflict_makes_a_tentative_address_a_duplicate(rt: HostRuntime) -> Result<(), Fail> {
+    let mut addresses = started(&rt, rt.alloc())?;
+    let info = default_option(0).ok_or("option")?;
+    assert_eq!(rt;
+        addresses.heard_prefix(1200, &info, 0, 1000),
+        Ok(Taken::Formed)
+    );
+    assert_eq!(rt;
+        turn_at(&rt, &mut addresses, 1200),
+        Some(Due::Solicit(GLOBAL))
+    );
+    assert!(rt; addresses.conflict(GLOBAL));
+    assert!(rt; !addresses.conflict(GLOBAL));
+    assert_eq!(rt; addresses.state(2199, GLOBAL), Some(State::Duplicate));
+    assert_eq!(rt;
+        addresses.heard_prefix(3000, &info, 0, 1000),
+        Ok(Taken::Renewed)
+    );
+    assert_eq!(rt; addresses.state(3000, GLOBAL), Some(State::Duplicate));
+    assert_eq!(rt;
+        turn_at(&rt, &mut addresses, 2_592_003_000),
+        Some(Due::End(GLOBAL))
+    );
+    Ok(())
+}
+
+#[test]
+fn a_link_local_duplicate_has_no_end(rt: HostRuntime) -> Result<(), Fail> {
+    let mut addresses = Addresses::start(rt.alloc(), 0, MAC, 0, 1000)?;
+    assert_eq!(rt;
+        turn_at(&rt, &mut addresses, 0),
+        Some(Due::Solicit(LINK_LOCAL))
+    );
+    assert!(rt; addresses.conflict(LINK_LOCAL));
+    assert_eq!(rt; addresses.next_due(), None);
+    let shown = addresses.rows(999)?;
+    let duplicate = OwnAddress {
+        addr: LINK_LOCAL,
+        state: State::Duplicate,
+        preferred_left: None,
+        valid_left: None,
+    };
+    assert!(rt; shown.first().copied() == Some(duplicate));
+    Ok(())
+}
+
+#[test]
+fn the_first_solicitation_waits_for_the_delay(rt: HostRuntime) -> Result<(), Fail> {
+    let mut addresses = Addresses::start(rt.alloc(), 100, MAC, 1000, 400)?;
+    assert_eq!(rt;
+        turn_at(&rt, &mut addresses, 1100),
+        Some(Due::Solicit(LINK_LOCAL))
+    );
+    assert_eq!(rt;
+        turn_at(&rt, &mut addresses, 1500),
+        Some(Due::Assign(LINK_LOCAL))
+    );
+    Ok(())
+}
+
+#[test]
+fn an_assigned_address_has_no_conflict(rt: HostRuntime) -> Result<(), Fail> {
+    let mut addresses = started(&rt, rt.alloc())?;
+    assert!(rt; !addresses.conflict(LINK_LOCAL));
+    assert!(rt; !addresses.conflict(GLOBAL));
+    assert_eq!(rt; addresses.state(1000, LINK_LOCAL), Some(State::Preferred));
+    Ok(())
+}
+
+#[test]
+fn a_detection_keeps_its_retrans_timer(rt: HostRuntime) -> Result<(), Fail> {
+    let mut addresses = started(&rt, rt.alloc())?;
+    let info = default_option(0).ok_or("option")?;
+    assert_eq!(rt;
+        addresses.heard_prefix(1200, &info, 0, 1000),
+        Ok(Taken::Formed)
+    );
+    assert_eq!(rt;
+        turn_at(&rt, &mut addresses, 1200),
+        Some(Due::Solicit(GLOBAL))
+    );
+    assert_eq!(rt;
+        addresses.heard_prefix(1300, &info, 0, 1),
+        Ok(Taken::Renewed)
+    );
+    assert_eq!(rt;
+        turn_at(&rt, &mut addresses, 2200),
+        Some(Due::Assign(GLOBAL))
+    );
+    Ok(())
+}
+
+#[test]
+fn an_address_may_end_before_it_is_assigned(rt: HostRuntime) -> Result<(), Fail> {
+    let mut addresses = started(&rt, rt.alloc())?;
+    let info = option(0, 1, 1).ok_or("option")?;
+    assert_eq!(rt;
+        addresses.heard_prefix(1200, &info, 0, 5000),
+        Ok(Taken::Formed)
+    );
+    assert_eq!(rt;
+        turn_at(&rt, &mut addresses, 1200),
+        Some(Due::Solicit(GLOBAL))
+    );
+    assert_eq!(rt; turn_at(&rt, &mut addresses, 2200), Some(Due::End(GLOBAL)));
+    assert_eq!(rt; addresses.next_due(), None);
+    Ok(())
+}
+
+#[test]
+fn ends_come_before_all_else(rt: HostRuntime) -> Result<(), Fail> {
+    let mut addresses = started(&rt, rt.alloc())?;
+    let lasting = default_option(0).ok_or("option")?;
+    let short = option(1, 1, 1).ok_or("option")?;
+    assert_eq!(rt;
+        addresses.heard_prefix(1200, &lasting, 0, 1000),
+        Ok(Taken::Formed)
+    );
+    assert_eq!(rt;
+        addresses.heard_prefix(1200, &short, 0, 1000),
+        Ok(Taken::Formed)
+    );
+    assert_eq!(rt;
+        turn_at(&rt, &mut addresses, 1200),
+        Some(Due::Solicit(GLOBAL))
+    );
+    assert_eq!(rt;
+        turn_at(&rt, &mut addresses, 1200),
+        Some(Due::Solicit(OTHER))
+    );
+    assert_eq!(rt; turn_at(&rt, &mut addresses, 2200), Some(Due::End(OTHER)));
+    assert_eq!(rt;
+        turn_at(&rt, &mut addresses, 2200),
+        Some(Due::Assign(GLOBAL))
+    );
+    assert_eq!(rt; turn_before(&rt, &mut addresses, 2200), None);
+    assert_eq!(rt; addresses.next_due(), Some(2_592_001_200));
+    Ok(())
+}
+
+#[test]
+fn some_options_say_nothing_of_an_address(rt: HostRuntime) -> Result<(), Fail> {
+    let mut addresses = started(&rt, rt.alloc())?;
+    let info = default_option(0).ok_or("option")?;
+    let link_local = PrefixInfo {
+        prefix: Prefix::new(LINK_LOCAL, 64).ok_or("prefix")?,
+        ..info
+    };
+    let multicast = PrefixInfo {
+        prefix: Prefix::new(Addr([0xff; 16]), 64).ok_or("prefix")?,
+        ..info
+    };
+    let short = PrefixInfo {
+        prefix: Prefix::new(GLOBAL, 63).ok_or("prefix")?,
+        ..info
+    };
+    let on_link_alone = PrefixInfo {
+        autonomous: false,
+        ..info
+    };
+    let preferred_for_longer = option(0, 1799, 1800).ok_or("option")?;
+    let over = option(0, 0, 0).ok_or("option")?;
+    assert!(rt; !addresses.would_form(&over));
+    for said in [
+        link_local,
+        multicast,
+        short,
+        on_link_alone,
+        preferred_for_longer,
+        over,
+    ] {
+        assert_eq!(rt;
+            addresses.heard_prefix(1200, &said, 0, 1000),
+            Ok(Taken::Ignored)
+        );
+    }
+    assert_eq!(rt; addresses.rows(1200)?.len(), 1);
+    Ok(())
+}
+
+#[test]
+fn the_65th_address_has_no_room(rt: HostRuntime) -> Result<(), Fail> {
+    let two = decode(&TWO_PREFIXES).ok().ok_or("message")?;
+    let twice = decode(&PREFIX_TWICE).ok().ok_or("message")?;
+    let mut addresses = started(&rt, rt.alloc())?;
+    for n in 0..61u16 {
+        let info = default_option(n).ok_or("option")?;
+        assert_eq!(rt;
+            addresses.heard_prefix(1200, &info, 0, 1000),
+            Ok(Taken::Formed)
+        );
+    }
+    assert!(rt; addresses.fits(two.options));
+    let info = default_option(61).ok_or("option")?;
+    assert_eq!(rt;
+        addresses.heard_prefix(1200, &info, 0, 1000),
+        Ok(Taken::Formed)
+    );
+    // One place is left. Two options that form one address need one place.
+    assert!(rt; addresses.fits(twice.options));
+    assert!(rt; !addresses.fits(two.options));
+    let last = default_option(62).ok_or("option")?;
+    assert_eq!(rt;
+        addresses.heard_prefix(1200, &last, 0, 1000),
+        Ok(Taken::Formed)
+    );
+    // The link-local address comes behind those of 2001:db8::/32.
+    let mut n = 0u16;
+    for row in &addresses.rows(1200)? {
+        assert!(rt; row.addr == if n < 63 { formed_of(n) } else { LINK_LOCAL });
+        n = n.saturating_add(1);
+    }
+    assert_eq!(rt; n, 64);
+    // There are 64. An option for one that is known is taken still.
+    assert!(rt; !addresses.fits(twice.options));
+    assert_eq!(rt;
+        addresses.heard_prefix(1200, &last, 0, 1000),
+        Ok(Taken::Renewed)
+    );
+    let next = default_option(63).ok_or("option")?;
+    assert!(rt; addresses.would_form(&next));
+    assert_eq!(rt; addresses.heard_prefix(1200, &next, 0, 1000), Err(Full));
+    // The link-local address comes behind those of 2001:db8::/32.
+    let mut n = 0u16;
+    for row in &addresses.rows(1200)? {
+        assert!(rt; row.addr == if n < 63 { formed_of(n) } else { LINK_LOCAL });
+        n = n.saturating_add(1);
+    }
+    assert_eq!(rt; n, 64);
+    Ok(())
+}
+
+#[test]
+fn a_rest_is_cut_to_two_hours(rt: HostRuntime) -> Result<(), Fail> {
+    let now = 1_000_000u64;
+    assert_eq!(rt;
+        renewed(now, Some(now + 10_800_000), 3600),
+        Some(now + 7_200_000)
+    );
+    assert_eq!(rt;
+        renewed(now, Some(now + 3_600_000), 1800),
+        Some(now + 3_600_000)
+    );
+    assert_eq!(rt;
+        renewed(now, Some(now + 3_600_000), 5400),
+        Some(now + 5_400_000)
+    );
+    assert_eq!(rt;
+        renewed(now, Some(now + 10_800_000), 7201),
+        Some(now + 7_201_000)
+    );
+    assert_eq!(rt; renewed(now, Some(now + 10_800_000), 0xffff_ffff), None);
+    assert_eq!(rt; renewed(now, None, 60), Some(now + 7_200_000));
+    Ok(())
+}
+
+#[test]
+fn a_renewal_cuts_the_preferred_lifetime(rt: HostRuntime) -> Result<(), Fail> {
+    let mut addresses = started(&rt, rt.alloc())?;
+    let info = default_option(0).ok_or("option")?;
+    assert_eq!(rt;
+        addresses.heard_prefix(1200, &info, 0, 1000),
+        Ok(Taken::Formed)
+    );
+    assert_eq!(rt;
+        turn_at(&rt, &mut addresses, 1200),
+        Some(Due::Solicit(GLOBAL))
+    );
+    assert_eq!(rt;
+        turn_at(&rt, &mut addresses, 2200),
+        Some(Due::Assign(GLOBAL))
+    );
+    let over = option(0, 0, 0).ok_or("option")?;
+    assert_eq!(rt;
+        addresses.heard_prefix(3000, &over, 0, 1000),
+        Ok(Taken::Renewed)
+    );
+    assert_eq!(rt; addresses.state(3000, GLOBAL), Some(State::Deprecated));
+    assert_eq!(rt;
+        turn_at(&rt, &mut addresses, 7_203_000),
+        Some(Due::End(GLOBAL))
+    );
+    Ok(())
+}
