@@ -43,7 +43,7 @@ module _ {K : Type 0} (same : K → K → Bool) where
     pub ends : (key : K) → end_in key entries ≡ (if stands same key history moment then end_of same key history else None)
     pub order : Rises (λ key. place same key history) entries
 
-  -- A list whose keys are ended by history of their own: the entries are the keys with their ends, in the order of their places, whether
+  -- A list whose keys are ended by rows of their own: the entries are the keys with their ends, in the order of their places, whether
   -- the end has come or not.
   pub record StandsUntilTold (entries : List (Lasting K)) (history : List (Row K)) : Type 0 where
     pub ends : (key : K) → end_in key entries ≡ end_of same key history

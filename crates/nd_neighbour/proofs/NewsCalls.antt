@@ -74,7 +74,7 @@ no_place_needed limit now key false history p = refl
 pub place_needed : (limit now key : ℕ) (history made : List Row) → is_present (story key history) ≡ false → MakesPlace limit now history made → Prepares limit now true key history made
 place_needed limit now key history made p m = rw p m
 
--- whatever history old stands for, new stands for them with an address that is given
+-- whatever history old stands for, new stands for it with an address that is given
 pub given_hears : (limit now key mac : ℕ) (mark : Option Bool) (old new : List Node) → Gives limit now key (λ n. given now mac mark n) (stale_node key (mark_or mark false) now mac) old new → (history : List Row) → Stands old history → (made : List Row) × Prepares limit now true key history made × Stands new ((now, key, Given mac mark) ∷ made)
 given_hears limit now key mac mark old new (Was n found a) history s =
     let known = node_present key (story key history) n (sym (s.each key) ∙ found) in
@@ -105,7 +105,7 @@ cond_same : {X : Type 0} (b : Bool) (x : X) → cond b x x ≡ x
 cond_same true x = refl
 cond_same false x = refl
 
--- what is told of a change is what the history say
+-- what is told of a change is what the history says
 module _ (key at : ℕ) (h : RowKind) (change : Node → Node) (old : List Node) (makes : (s : Story) → is_present s ≡ true → node_of key ((at, h) ∷ s) ≡ Some (change (the_node key s))) where
   changed_node : (s : Story) → is_present s ≡ true → change (the_node key s) ≡ the_node key ((at, h) ∷ s)
   changed_node s p = (node_present key ((at, h) ∷ s) (change (the_node key s)) (makes s p)).1

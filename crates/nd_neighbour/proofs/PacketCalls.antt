@@ -102,7 +102,7 @@ sending_by_stage : (packet : List ℕ) (mac : Option ℕ) (w : Option Word) (u :
 sending_by_stage packet None w u r ws = refl
 sending_by_stage packet (Some mac) w u r ws = refl
 
--- what becomes of a packet is what the history say
+-- what becomes of a packet is what the history says
 sending_told : (key : ℕ) (packet : List ℕ) (s : Story) (o : Option Node) → o ≡ node_of key s → sending_in o packet ≡ sending_of_story s packet
 sending_told key packet s None is = ap (λ b. sending_by b (mac_of s) (waiting_of s) packet) (sym (node_absent key s (sym is)))
 sending_told key packet s (Some n) is =

@@ -1,4 +1,4 @@
--- Room for a neighbour, and for a second one after it: what is kept says what the history say.
+-- Room for a neighbour, and for a second one after it: what is kept says what the history says.
 use Rattle.std.proofs.Common.{◌≡◌, ℕ, ◌+◌, ◌<◌, ◌≤◌, Bool, true, false, cond, eqb, ltb, List, [], ◌∷◌, length, get_or, set, Option, Some, None, refl, sym, ◌∙◌, ap, subst, arith, ◌⊎◌, inl, inr}
 use Rattle.std.specs.Prelude.{◌||◌, ◌&&◌, not, is_some, nat_le, MatchBool, ◌↔◌}
 use Rattle.std.specs.List.{remove, list_any}
@@ -360,7 +360,7 @@ module _ (limit now key : ℕ) (ns : List Node) (history : List Row) (s : Stands
   first_by_rows : has_first limit now key ns ≡ true → WouldBeFull limit now key history → ⊥
   first_by_rows h full = first_has limit now key ns h ((full_by_history limit now key ns history s).1 full)
 
-  -- the history of a packet for the first, and the list that stands for them
+  -- the rows of a packet for the first, and the list that stands for them
   module _ (retrans : ℕ) (packet : List ℕ) (h : has_first limit now key ns ≡ true) where
     to : (new : List Node) × Gives limit now key (λ n. used now retrans packet n) (asked_node key now retrans packet) ns new
     to = leads limit now key ns retrans packet s.order h

@@ -30,7 +30,7 @@ lets_enter (news.Given addr mac mark) = true
 lets_enter (news.Advert addr flags mac) = false
 lets_enter (news.Marked addr router) = false
 
--- whatever history old stands for, new stands for them with the news, and with what makes place before
+-- whatever history old stands for, new stands for it with the row of the news, and with what makes place before
 abbrev pub GainsNews : ℕ → ℕ → News → Times → List Node → List Node → Type 0
 GainsNews limit now n times old new =
     GainsRowsMakingPlace Stands old new (Prepares limit now (lets_enter n) (news_key n)) (λ history made. (now, news_key n, news_row n times) ∷ made)
@@ -43,7 +43,7 @@ released_by at kind s = if is_some (mac_of ((at, kind) ∷ s)) then waits_of s e
 abbrev pub ends_router : ℕ → RowKind → Story → Bool
 ends_router at kind s = is_router s && not (is_router ((at, kind) ∷ s))
 
--- what is told of news is what the history say
+-- what is told of news is what the history says
 pub record Tells (now key : ℕ) (kind : RowKind) (old : List Node) (packets : List (List ℕ)) (turned : Bool) : Type 0 where
   pub released : (history : List Row) → Stands old history → packets ≡ released_by now kind (story key history)
   pub turned_is : (history : List Row) → Stands old history → turned ≡ ends_router now kind (story key history)

@@ -30,7 +30,7 @@ node_in key nodes = at_key address key nodes
 abbrev pub Rises : List Node → Type 0
 Rises nodes = keyed.Rises address nodes
 
--- The neighbours are those that the history tell of, each as its story says, in the order of their addresses.
+-- The neighbours are those that the history tells of, each as its story says, in the order of their addresses.
 pub record Stands (nodes : List Node) (history : List Row) : Type 0 where
   pub each : (key : ℕ) → node_in key nodes ≡ node_of key (story key history)
   pub order : Rises nodes

@@ -14,7 +14,7 @@ pub record Values : Type 0 where
   pub other : Bool
   pub drawn_at : ℕ
 
--- the values are those that the history give
+-- the values are those that the history gives
 pub record Stands (values : Values) (history : List Row) : Type 0 where
   pub hop_limit : values.hop_limit ≡ hop_limit_of history
   pub mtu : values.mtu ≡ mtu_of history

@@ -9,7 +9,7 @@ use Rattle.nd_slaac.specs.Ends.{preferred_end, valid_end}
 use Rattle.nd_slaac.specs.TwoHours.{renewed}
 use Rattle.nd_slaac.specs.State.{Forming, forming_of, has_conflict, was_assigned, sent_of}
 use Rattle.nd_slaac.specs.Address.{Address, step_at, stage_by, address_by, address_of}
-use Rattle.nd_slaac.specs.Due.{transmits, happens}
+use Rattle.nd_slaac.specs.Due.{dup_addr_detect_transmits, happens}
 use Rattle.nd_slaac.specs.Dates.{next_step, falls_by, stepped}
 use Rattle.nd_slaac.specs.Calls.{formed, announced, failed}
 use Rattle.nd_slaac.proofs.Stories.{made, was_formed, steps}
@@ -27,7 +27,7 @@ detecting key f s c w = detecting_by key f (has_conflict s) (was_assigned s) (se
 
 -- a step of a detection that goes on
 stepping : (key at : ℕ) (s : Story) (f : Forming) → forming_of s ≡ Some f → has_conflict s ≡ false → was_assigned s ≡ false → step_at f (sent_of s) ≡ at → let a : Address = record { key = key; preferred_end = preferred_end s; valid_end = valid_end s; stage = Detecting (sent_of s) (step_at f (sent_of s)) f.retrans } in address_of key ((at, happens (falls_by key a.stage)) ∷ s) ≡ Some (stepped at a)
-stepping key at s f is c w d = elim (either (ltb (sent_of s) transmits)) [
+stepping key at s f is c w d = elim (either (ltb (sent_of s) dup_addr_detect_transmits)) [
   | inl more ↦
       let e : step_at f (sent_of s + 1) ≡ at + f.retrans = omega (arith, d) in
       rw more (rw (is, c, w, e) refl)

@@ -12,7 +12,7 @@ use Rattle.nd_slaac.specs.History.{Row, Story, story, is_end}
 use Rattle.nd_slaac.specs.State.{Forming, forming_of, is_known, has_conflict, was_assigned, sent_of, is_tentative}
 use Rattle.nd_slaac.specs.Address.{Address, step_at, stage_by, address_of}
 use Rattle.nd_slaac.specs.Table.{key_of, address_in, Stands, GainsRow}
-use Rattle.nd_slaac.specs.Due.{transmits, Falls, Ends, Solicits, Assigns, IsStep, date_by, IsDue, key_in, pass_of, NotAfter, IsFirst, FirstDue, NextDue, happens, due_row}
+use Rattle.nd_slaac.specs.Due.{dup_addr_detect_transmits, Falls, Ends, Solicits, Assigns, IsStep, date_by, IsDue, key_in, pass_of, NotAfter, IsFirst, FirstDue, NextDue, happens, due_row}
 use Rattle.nd_slaac.specs.Dates.{earlier, end_date, stage_date, next_step, first_at, next_in, NoneBefore, falls_by, stage_after, stepped, Turns, Goes, Steps, Rests, turns_to, turns_left}
 use Rattle.nd_slaac.specs.MayCome.{IsTurn, MayCome}
 use Rattle.nd_table.proofs.Due.{AtMost, AtMost-some, AtMost-none, due_now, due_has, due_least, none_due, least_at_most, least_found, lesser_is, NotBefore-both, NotBefore-set, NotBefore-remove}
@@ -54,11 +54,11 @@ step_is key s a now there h =
       date = ap (λ o. date_by o (sent_of s)) was.1 ∙ ap Some step.2;
     }
 
-stage_sent : (f : Forming) (c w : Bool) (sent key : ℕ) → c ≡ false → w ≡ false → falls_by key (stage_by f c w sent) ≡ cond (ltb sent transmits) (Solicits key) (Assigns key)
+stage_sent : (f : Forming) (c w : Bool) (sent key : ℕ) → c ≡ false → w ≡ false → falls_by key (stage_by f c w sent) ≡ cond (ltb sent dup_addr_detect_transmits) (Solicits key) (Assigns key)
 stage_sent f c w sent key not_c not_w = rw (not_c, not_w) refl
 
 -- which step it is
-falls_is : (key : ℕ) (s : Story) (a : Address) (now : ℕ) → address_of key s ≡ Some a → next_step a ≡ Some now → falls_by key a.stage ≡ cond (ltb (sent_of s) transmits) (Solicits key) (Assigns key)
+falls_is : (key : ℕ) (s : Story) (a : Address) (now : ℕ) → address_of key s ≡ Some a → next_step a ≡ Some now → falls_by key a.stage ≡ cond (ltb (sent_of s) dup_addr_detect_transmits) (Solicits key) (Assigns key)
 falls_is key s a now there h =
     let was = was_formed key s a there in
     let step = steps key s a was.0 now was.2 h in
@@ -68,7 +68,7 @@ step_due : (history : List Row) (key : ℕ) (a : Address) (now : ℕ) → addres
 step_due history key a now there h =
     let s = story key history in
     let step = step_is key s a now there h in
-    elim (either (ltb (sent_of s) transmits)) [
+    elim (either (ltb (sent_of s) dup_addr_detect_transmits)) [
       | inl more ↦
           let e : falls_by key a.stage ≡ Solicits key = falls_is key s a now there h ∙ rw more refl in
           subst (IsDue history now) (sym e) (step, grind (arith, nat_tests, more))
@@ -114,7 +114,7 @@ module _ (xs : List Address) (history : List Row) (s : Stands xs history) where
 stage_falls : (key now : ℕ) (st : Stage) → stage_date st ≡ Some now → (falls_by key st ≡ Solicits key) ⊎ (falls_by key st ≡ Assigns key)
 stage_falls key now Failed h = absurd (cc)
 stage_falls key now Passed h = absurd (cc)
-stage_falls key now (Detecting sent due retrans) h = elim (either (ltb sent transmits)) [
+stage_falls key now (Detecting sent due retrans) h = elim (either (ltb sent dup_addr_detect_transmits)) [
   | inl more ↦ inl (rw more refl)
   | inr last ↦ inr (rw last refl)
 ]
@@ -239,8 +239,8 @@ some_turn Passed = omega arith
 fewer_to : (now : ℕ) (st : Stage) → stage_date st ≡ Some now → turns_to (stage_after now st) < turns_to st
 fewer_to now Failed h = absurd (cc)
 fewer_to now Passed h = absurd (cc)
-fewer_to now (Detecting sent due retrans) h = elim (either (ltb sent transmits)) [
-  | inl more ↦ let lt : sent < transmits = grind (arith, nat_tests, more) in rw more (omega arith)
+fewer_to now (Detecting sent due retrans) h = elim (either (ltb sent dup_addr_detect_transmits)) [
+  | inl more ↦ let lt : sent < dup_addr_detect_transmits = grind (arith, nat_tests, more) in rw more (omega arith)
   | inr last ↦ rw last (omega arith)
 ]
 
@@ -253,7 +253,7 @@ turn_fewer now old new what (Steps i a lt is none first what_is new_is) =
 later_to : (now : ℕ) (st : Stage) → NotBefore now (stage_date (stage_after now st))
 later_to now Failed = tt
 later_to now Passed = tt
-later_to now (Detecting sent due retrans) = elim (either (ltb sent transmits)) [
+later_to now (Detecting sent due retrans) = elim (either (ltb sent dup_addr_detect_transmits)) [
   | inl more ↦ rw more (omega arith)
   | inr last ↦ rw last tt
 ]

@@ -9,7 +9,7 @@ use Rattle.nd_table.specs.Ends.{is_before}
 use Rattle.nd_slaac.specs.Ends.{valid_end}
 use Rattle.nd_slaac.specs.State.{Forming, forming_of, is_known, has_conflict, was_assigned, sent_of, is_tentative, is_assigned}
 use Rattle.nd_slaac.specs.Address.{step_at}
-use Rattle.nd_slaac.specs.Due.{transmits, Falls, Ends, Assigns, step_date, date_by, IsDue}
+use Rattle.nd_slaac.specs.Due.{dup_addr_detect_transmits, Falls, Ends, Assigns, step_date, date_by, IsDue}
 use Rattle.nd_slaac.specs.MayCome.{IsTurn, MayCome, IsHistory, Past, Tried, Held}
 use Rattle.nd_slaac.proofs.Steps.{other_story, same_story, ended_story}
 use Rattle.nd_slaac.proofs.Dues.{tentative_parts}
@@ -33,7 +33,7 @@ record TriedNow (key : ℕ) (history : List Row) : Type 0 where
   below : List Row
   tried : Tried key history formed delay retrans (sent_of (story key history)) lifetimes below
   forming : forming_of (story key history) ≡ Some (record { at = formed; delay = delay; retrans = retrans })
-  few : sent_of (story key history) ≤ transmits
+  few : sent_of (story key history) ≤ dup_addr_detect_transmits
 
 -- one more row that is no solicitation for it
 module _ (key : ℕ) (row : Row) (history : List Row) where
@@ -121,7 +121,7 @@ module _ (key at : ℕ) (history : List Row) (before : is_tentative (story key h
         tried = subst (λ (n : ℕ). Tried key ((at, key, h) ∷ history) t.formed t.delay t.retrans n t.lifetimes t.below) (sym sent_is)
             (goes_on key (at, key, h) history t.formed t.delay t.retrans (sent_of s) t.lifetimes t.below t.tried now (λ moment e. differs moment (ap (λ (r : Row). r.2) e)));
         forming = ap forming_of (same_at h goes) ∙ (forming s ∙ t.forming);
-        few = subst (λ (n : ℕ). n ≤ transmits) (sym sent_is) t.few;
+        few = subst (λ (n : ℕ). n ≤ dup_addr_detect_transmits) (sym sent_is) t.few;
       }
 
   tried_on : (h : RowKind) → MayCome (at, key, h) history → is_tentative (story key ((at, key, h) ∷ history)) ≡ true → TriedNow key ((at, key, h) ∷ history)
@@ -182,7 +182,7 @@ tried_beside key at k h history differ before now =
           (goes_on key (at, k, h) history t.formed t.delay t.retrans (sent_of (story key history)) t.lifetimes t.below t.tried now
           (λ moment e. let f : k ≡ key = ap (λ (r : Row). r.1) e in true≢false (sym (eq-eqb k key f) ∙ differ)));
       forming = ap forming_of same ∙ t.forming;
-      few = subst (λ (n : ℕ). n ≤ transmits) (sym (ap sent_of same)) t.few;
+      few = subst (λ (n : ℕ). n ≤ dup_addr_detect_transmits) (sym (ap sent_of same)) t.few;
     }
 
 tried : (key : ℕ) (history : List Row) → IsHistory history → is_tentative (story key history) ≡ true → TriedNow key history
@@ -249,11 +249,11 @@ module _ (key at : ℕ) (history : List Row) (came : IsHistory history) (before 
       let s = story key history in
       let step = may.first.due in
       let t = tried key history came step.0.tentative in
-      let sent_is : sent_of s ≡ transmits = omega (arith, t.few, step.1) in
+      let sent_is : sent_of s ≡ dup_addr_detect_transmits = omega (arith, t.few, step.1) in
       let parts = tentative_parts s step.0.tentative in
-      let was : Tried key history t.formed t.delay t.retrans transmits t.lifetimes t.below = subst (λ (n : ℕ). Tried key history t.formed t.delay t.retrans n t.lifetimes t.below) sent_is t.tried in
-      let last = was.solicited (transmits - 1) (omega arith) in
-      let date : at ≡ t.formed + t.delay + transmits * t.retrans = date_is s t.formed t.delay t.retrans at t.forming step.0.date ∙ ap (λ n. t.formed + t.delay + n * t.retrans) sent_is in
+      let was : Tried key history t.formed t.delay t.retrans dup_addr_detect_transmits t.lifetimes t.below = subst (λ (n : ℕ). Tried key history t.formed t.delay t.retrans n t.lifetimes t.below) sent_is t.tried in
+      let last = was.solicited (dup_addr_detect_transmits - 1) (omega arith) in
+      let date : at ≡ t.formed + t.delay + dup_addr_detect_transmits * t.retrans = date_is s t.formed t.delay t.retrans at t.forming step.0.date ∙ ap (λ n. t.formed + t.delay + n * t.retrans) sent_is in
       record {
         formed = t.formed;
         delay = t.delay;
@@ -264,7 +264,7 @@ module _ (key at : ℕ) (history : List Row) (came : IsHistory history) (before 
         over = history;
         assigned_at = inl refl;
         tried = was;
-        sent = t.formed + t.delay + (transmits - 1) * t.retrans;
+        sent = t.formed + t.delay + (dup_addr_detect_transmits - 1) * t.retrans;
         earlier = last.0;
         solicited_at = last.1;
         solicited_since = last.2;

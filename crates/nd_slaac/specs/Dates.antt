@@ -6,7 +6,7 @@ use Rattle.nd_table.specs.Due.{lesser, least_date, NotBefore}
 use Rattle.nd_slaac.specs.declared.stage.Stage.{Stage}
 use Rattle.nd_slaac.specs.declared.stage.Stage.TheVariants.{Detecting, Failed, Passed}
 use Rattle.nd_slaac.specs.Address.{Address}
-use Rattle.nd_slaac.specs.Due.{transmits, Falls, Ends, Solicits, Assigns}
+use Rattle.nd_slaac.specs.Due.{dup_addr_detect_transmits, Falls, Ends, Solicits, Assigns}
 
 abbrev pub end_date : Address → Option ℕ
 end_date a = a.valid_end
@@ -37,13 +37,13 @@ NoneBefore addresses now = NotBefore now (next_in addresses)
 
 -- the step that an address takes
 abbrev pub falls_by : ℕ → Stage → Falls
-falls_by key (Detecting sent due retrans) = if nat_lt sent transmits then Solicits key else Assigns key
+falls_by key (Detecting sent due retrans) = if nat_lt sent dup_addr_detect_transmits then Solicits key else Assigns key
 falls_by key Failed = Ends key
 falls_by key Passed = Ends key
 
 -- and its stage afterwards
 abbrev pub stage_after : ℕ → Stage → Stage
-stage_after now (Detecting sent due retrans) = if nat_lt sent transmits then Detecting (sent + 1) (now + retrans) retrans else Passed
+stage_after now (Detecting sent due retrans) = if nat_lt sent dup_addr_detect_transmits then Detecting (sent + 1) (now + retrans) retrans else Passed
 stage_after now Failed = Failed
 stage_after now Passed = Passed
 
@@ -62,7 +62,7 @@ pub record Rests (now : ℕ) (addresses : List Address) : Type 0 where
 
 -- how many turns an address can still take, where nothing else happens
 abbrev pub turns_to : Stage → ℕ
-turns_to (Detecting sent due retrans) = transmits - sent + 2
+turns_to (Detecting sent due retrans) = dup_addr_detect_transmits - sent + 2
 turns_to Failed = 1
 turns_to Passed = 1
 

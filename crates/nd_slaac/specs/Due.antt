@@ -6,8 +6,8 @@ use Rattle.nd_slaac.specs.State.{Forming, forming_of, is_known, is_tentative, se
 use Rattle.nd_slaac.specs.Address.{step_at}
 
 -- how many solicitations a detection sends (RFC 4862, section 5.1, DupAddrDetectTransmits)
-abbrev pub transmits : ℕ
-transmits = 1
+abbrev pub dup_addr_detect_transmits : ℕ
+dup_addr_detect_transmits = 1
 
 -- an address falls due: its valid lifetime ends, a solicitation for it is to be sent, or it is assigned
 pub data Falls : Type 0 where
@@ -32,8 +32,8 @@ pub record IsStep (s : Story) (moment : ℕ) : Type 0 where
 -- it falls due at the moment, and no row has come for it yet
 abbrev pub IsDue : List Row → ℕ → Falls → Type 0
 IsDue history moment (Ends key) = (is_known (story key history) ≡ true) × (valid_end (story key history) ≡ Some moment)
-IsDue history moment (Solicits key) = IsStep (story key history) moment × (sent_of (story key history) < transmits)
-IsDue history moment (Assigns key) = IsStep (story key history) moment × (transmits ≤ sent_of (story key history))
+IsDue history moment (Solicits key) = IsStep (story key history) moment × (sent_of (story key history) < dup_addr_detect_transmits)
+IsDue history moment (Assigns key) = IsStep (story key history) moment × (dup_addr_detect_transmits ≤ sent_of (story key history))
 
 abbrev pub key_in : Falls → ℕ
 key_in (Ends key) = key

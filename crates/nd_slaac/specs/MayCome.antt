@@ -1,10 +1,10 @@
--- Histories: lists of history of which each came where it may come, and what they say of an address that is assigned.
+-- Histories: lists of rows of which each came where it may come, and what they say of an address that is assigned.
 use Rattle.std.specs.Prelude.{◌≡◌, ℕ, ◌+◌, ◌*◌, ◌<◌, ◌≤◌, ◌⊎◌, true, false, List, [], ◌∷◌, Option, Some}
 use Rattle.nd_slaac.specs.History.{Lifetimes, Row, story, Formed, Announced, Solicited, Conflict, Assigned, Ended}
 use Rattle.nd_slaac.specs.State.{is_known, is_tentative, is_assigned}
 use Rattle.nd_table.specs.Ends.{is_before}
 use Rattle.nd_slaac.specs.Ends.{valid_end}
-use Rattle.nd_slaac.specs.Due.{transmits, Falls, Ends, Solicits, Assigns, IsDue, FirstDue}
+use Rattle.nd_slaac.specs.Due.{dup_addr_detect_transmits, Falls, Ends, Solicits, Assigns, IsDue, FirstDue}
 
 -- it is the first that falls due at the moment, and nothing was due before
 pub record IsTurn (history : List Row) (now : ℕ) (falls : Falls) : Type 0 where
@@ -25,7 +25,7 @@ abbrev pub IsHistory : List Row → Type 0
 IsHistory [] = Unit {0}
 IsHistory (row ∷ history) = MayCome row history × IsHistory history
 
--- the history were these at some time, or are these now
+-- the history was this one at some time, or is this one now
 abbrev pub Past : List Row → List Row → Type 0
 Past h [] = h ≡ []
 Past h (row ∷ history) = (h ≡ row ∷ history) ⊎ Past h history
@@ -53,7 +53,7 @@ pub record Held (key : ℕ) (history : List Row) : Type 0 where
   pub assigned : ℕ
   pub over : List Row
   pub assigned_at : Past ((assigned, key, Assigned) ∷ over) history
-  pub tried : Tried key over formed delay retrans transmits lifetimes below
+  pub tried : Tried key over formed delay retrans dup_addr_detect_transmits lifetimes below
   pub sent : ℕ
   pub earlier : List Row
   pub solicited_at : Past ((sent, key, Solicited) ∷ earlier) over

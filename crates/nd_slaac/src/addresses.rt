@@ -7,7 +7,7 @@ use std::alloc::{AllocError, Allocator};
 use std::marker::Model;
 
 /// How many addresses there may be, the link-local one included (our choice).
-pub const LIMIT: usize = 64;
+pub const MAX_ADDRESSES: usize = 64;
 
 /// The addresses of an interface (RFC 4862, section 5): each is formed, tried for, and then assigned until its valid
 /// lifetime ends.
@@ -44,7 +44,7 @@ impl<A: Allocator + Clone> Addresses<A> {
         ensures first { IfOk result (λ table. table ≡ record { mac = mac; addresses = formed (link_local_of mac) now delay retrans None ∷ [] }) }
         ensures stands { IfOk result (λ table. Stands table.addresses ((now, link_local_of mac, Formed delay retrans None) ∷ [])) }
     {
-        let mut entries = Vec::with_capacity(alloc, LIMIT)?;
+        let mut entries = Vec::with_capacity(alloc, MAX_ADDRESSES)?;
         entries.push_reserved(Entry::link_local(link_local(mac), now, delay, retrans));
         Ok(Addresses { mac, entries })
     }

@@ -6,7 +6,7 @@ ghost use Rattle.nd_slaac.specs.Room.{max_addresses};
 ghost use Rattle.nd_slaac.specs.Table.{address_in};
 ghost use Rattle.nd_slaac.specs.Calls.{taken_by, Changes};
 
-use crate::addresses::{Addresses, LIMIT};
+use crate::addresses::{Addresses, MAX_ADDRESSES};
 use crate::entry::Entry;
 use nd_addr::{Addr, Mac};
 use nd_decode::PrefixInfo;
@@ -117,7 +117,7 @@ pub(crate) fn take<A: Allocator>(
     if info.valid_lifetime == 0 {
         return Ok(Taken::Ignored);
     }
-    if entries.len() >= LIMIT {
+    if entries.len() >= MAX_ADDRESSES {
         return Err(Full);
     }
     put(entries, Entry::formed(addr, now, info, delay, retrans));

@@ -6,7 +6,7 @@ ghost use Rattle.nd_slaac.specs.Room.{is_among, would_form, is_formed_by, fits_i
 ghost use Rattle.nd_slaac.specs.Calls.{keys_in};
 ghost use Rattle.nd_decode.specs.declared.prefix_info.PrefixInfo.{PrefixInfo};
 
-use crate::addresses::{Addresses, LIMIT};
+use crate::addresses::{Addresses, MAX_ADDRESSES};
 use crate::entry::Entry;
 use crate::prefix_option::{is_taken, named_by};
 use nd_addr::{Addr, Mac};
@@ -91,7 +91,7 @@ pub(crate) fn fits(entries: &[Entry], mac: Mac, options: Options<'_>) -> bool
         };
         // An address that several options would form is counted at the last of them.
         if is_new(entries, mac, &info, rest) {
-            if count >= LIMIT {
+            if count >= MAX_ADDRESSES {
                 return false;
             }
             count += 1;

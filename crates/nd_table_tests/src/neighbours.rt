@@ -95,7 +95,7 @@ fn byte_of(packet: &Packet<Global>) -> u8 {
     packet.0.first().copied().unwrap_or(0)
 }
 
-/// Cause a packet is refused, and its first byte.
+/// Why a packet is refused, and its first byte.
 fn refusal(
     sent: Result<Use<Global>, (CacheRefusal, Packet<Global>)>,
 ) -> Option<(CacheRefusal, u8)> {
