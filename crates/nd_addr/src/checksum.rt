@@ -69,7 +69,7 @@ fn sum_without_field(source: Addr, destination: Addr, message: &[u8]) -> u16
 }
 
 /// The checksum to be written into a message, whatever stands in its field (RFC 4443, section 2.3).
-/// A message shorter than four bytes is summed as it is.
+/// A message shorter than four bytes has no such field, and is summed as it is (our choice).
 pub fn sum_for(source: Addr, destination: Addr, message: &[u8]) -> u16
     ensures exact { result ≡ sum_to_write source.0 destination.0 message.now }
     ensures good { 4 ≤ length message.now → IsGoodSum source.0 destination.0 (with_sum (big_bytes 2 result) message.now) }

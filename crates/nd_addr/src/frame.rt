@@ -25,17 +25,20 @@ const TYPE_AT: usize = 12;
 /// source 6, type 2, and then the packet.
 pub enum Frame {}
 
-/// An Ethernet frame, with the bytes behind its type where they lie.
+/// An Ethernet frame, with the bytes behind its type where they lie (RFC 2464, section 3).
 #[derive(Clone, Copy, Debug)]
 pub struct FrameRef<'a> {
+    /// Whom it is for.
     pub destination: Mac,
+    /// Who sent it.
     pub source: Mac,
     /// The packet, and whatever padding follows it.
     pub rest: &'a [u8],
 }
 
 impl Frame {
-    /// Reads a frame. The error is `FrameShort` or `NotIpv6`, in this order.
+    /// Reads a frame. The error is `FrameShort` for fewer than 14 bytes, and else `NotIpv6` for an Ethernet type other than
+    /// 0x86dd (RFC 2464, section 3).
     pub fn read(bytes: &[u8]) -> Result<FrameRef<'_>, Why>
         ensures { Gives frame_parts result (frame_of bytes.now) }
     {

@@ -30,25 +30,32 @@ const DESTINATION_AT: usize = 24;
 /// An IPv6 header (RFC 8200, section 3) without its version, which is 6, and its payload's length.
 #[derive(Clone, Copy, Debug, PartialEq, Eq)]
 pub struct Ip6 {
+    /// Traffic Class (RFC 8200, section 7).
     pub traffic_class: u8,
-    /// 20 bits. Of a larger number the low 20 bits are written.
+    /// Flow Label, 20 bits (RFC 8200, section 6). Of a larger number the low 20 bits are written.
     pub flow_label: u32,
+    /// What follows the header: `NEXT_HEADER_ICMPV6`, or another number of IANA's protocol numbers.
     pub next_header: u8,
+    /// How many more nodes may send the packet on.
     pub hop_limit: u8,
+    /// The address of who sent it.
     pub source: Addr,
+    /// The address of whom it is for.
     pub destination: Addr,
 }
 
 /// An IPv6 packet, with its payload where it lies.
 #[derive(Clone, Copy, Debug)]
 pub struct Ip6Ref<'a> {
+    /// The fields of its header.
     pub header: Ip6,
     /// As many bytes as the payload length says: padding behind them is left out.
     pub payload: &'a [u8],
 }
 
 impl Ip6 {
-    /// Reads a packet. The error is `HeaderShort`, `Version` or `PayloadShort`, in this order.
+    /// Reads a packet (RFC 8200, section 3). The error is `HeaderShort` for fewer than 40 bytes, else `Version` for a version other
+    /// than 6, and else `PayloadShort` for fewer bytes behind the header than its payload length says.
     pub fn read(bytes: &[u8]) -> Result<Ip6Ref<'_>, Why>
         ensures { Gives packet_parts result (packet_of bytes.now) }
     {

@@ -25,7 +25,8 @@ impl Model for Prefix {
 }
 
 impl Prefix {
-    /// The first bits of an address: its bits past them are made zero. There is no prefix of a length above 128.
+    /// The first bits of an address: its bits past them are made zero. There is no prefix of a length above 128 (RFC 4861, section
+    /// 4.6.2).
     pub fn new(address: Addr, length: u8) -> Option<Prefix>
         ensures { SomeIff result (length ≤ 128) (prefix_at length address.0) }
     {

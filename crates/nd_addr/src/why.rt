@@ -1,7 +1,7 @@
 ghost use Rattle.std.specs.Prelude.{◌≡◌};
 ghost use Rattle.nd_addr.specs.Why.{number_of, name_of};
 
-/// Why a frame is dropped. The numbers are those by which reasons are told.
+/// Why a frame is dropped. The numbers by which reasons are told, and their names, are our choice.
 #[derive(Clone, Copy, Debug, PartialEq, Eq)]
 pub enum Why {
     /// Fewer than the 14 bytes of an Ethernet header (RFC 2464, section 3).
@@ -20,13 +20,14 @@ pub enum Why {
     Length = 7,
     /// An option of length 0 (RFC 4861, section 4.6).
     OptionZero = 8,
-    /// An option that is not all there (RFC 4861, section 4.6).
+    /// An option that is not all there (RFC 4861, section 4.6), also a single byte behind the last one.
     OptionOver = 9,
     /// A hop limit other than 255 (RFC 4861, sections 6.1, 7.1, 8.1).
     HopLimit = 10,
     /// A bad ICMPv6 checksum (RFC 4443, section 2.3).
     Sum = 11,
-    /// A source that the message may not have (RFC 4861, sections 6.1.2 and 8.1).
+    /// Of a Router Advertisement or a Redirect a source that is not link-local (RFC 4861, sections 6.1.2 and 8.1); of any message a
+    /// multicast source (our choice).
     Source = 12,
     /// A multicast target of a solicitation or advertisement (RFC 4861, sections 7.1.1 and 7.1.2).
     Target = 13,
@@ -40,7 +41,8 @@ pub enum Why {
     RedirectTarget = 17,
     /// A redirect for a multicast destination (RFC 4861, section 8.1).
     RedirectDestination = 18,
-    /// A message that is not for this node.
+    /// A message that is not for this node: to a host a Router Solicitation, to a router a Router Advertisement or a Redirect (RFC
+    /// 4861, sections 6.2.6, 6.2.7 and 8.2).
     NotForUs = 19,
     /// A redirect from a node that is not the first hop of its destination (RFC 4861, section 8.1).
     NotFirstHop = 20,

@@ -14,9 +14,13 @@ use crate::router_advertisement::RouterAdvertisement;
 pub enum Body {
     /// A Router Solicitation, which has no fields (RFC 4861, section 4.1).
     Rs,
+    /// A Router Advertisement (RFC 4861, section 4.2).
     Ra(RouterAdvertisement),
+    /// A Neighbor Solicitation (RFC 4861, section 4.3).
     Ns(NeighborSolicitation),
+    /// A Neighbor Advertisement (RFC 4861, section 4.4).
     Na(NeighborAdvertisement),
+    /// A Redirect (RFC 4861, section 4.5).
     Redirect(Redirect),
 }
 

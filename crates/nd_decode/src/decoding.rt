@@ -11,7 +11,7 @@ use crate::options::{Options, fault_in};
 use nd_addr::Why;
 
 /// The message that some bytes spell whose type is known already, as it is to whoever has asked whether they are a message
-/// at all. The same as `decode`.
+/// at all. The errors are those of `decode`.
 #[tactic(auto, unfolding(crate::specs::Decoding::decode_of))]
 pub fn decode_as(kind: MessageType, bytes: &[u8]) -> Result<MessageRef<'_>, Why>
     requires { IsOfType kind bytes.now }
@@ -36,8 +36,10 @@ pub fn decode_as(kind: MessageType, bytes: &[u8]) -> Result<MessageRef<'_>, Why>
 
 /// The message that some bytes spell (RFC 4861, section 4). Their first byte is the type of a known message.
 ///
-/// The error is the first of `Code`, `Length`, `OptionZero` and `OptionOver`. The checksum and all that
-/// is reserved are not looked at.
+/// The error is `Code` where a second byte is there and is not 0; else `Length` where there are fewer bytes than the fields of the type
+/// have; else what is wrong with the first option that is not whole, `OptionZero` for a length of 0 and `OptionOver` where it is not all
+/// there. This order is our choice. The checksum and all that is reserved are not looked at, and an option whose type is not known or
+/// whose data do not fit its type is `Other` (RFC 4861, sections 4.6 and 6.1 to 8.1).
 pub fn decode(bytes: &[u8]) -> Result<MessageRef<'_>, Why>
     requires { HasKnownKind bytes.now }
     // What is answered is spelled so, and what is spelled is answered.

@@ -4,6 +4,8 @@ use crate::options::Options;
 /// A message, with its options where they lie (RFC 4861, section 4).
 #[derive(Clone, Copy, Debug)]
 pub struct MessageRef<'a> {
+    /// Its type and its fields.
     pub body: Body,
+    /// Its options in their order.
     pub options: Options<'a>,
 }

@@ -62,8 +62,9 @@ pub enum OptionRef<'a> {
     Slla(Mac),
     /// Target Link-Layer Address: that of the message's target.
     Tlla(Mac),
+    /// Prefix Information (RFC 4861, section 4.6.2).
     Prefix(PrefixInfo),
-    /// The beginning of the packet that was redirected, and what pads it to a multiple of 8 bytes.
+    /// Redirected Header: the beginning of the packet that was redirected, and what pads it to a multiple of 8 bytes.
     Redirected(&'a [u8]),
     /// The MTU of the link, in bytes.
     Mtu(u32),
@@ -71,7 +72,8 @@ pub enum OptionRef<'a> {
     Rdnss(u32, Servers<'a>),
     /// Names in which to search, and for how many seconds, all ones standing for ever.
     Dnssl(u32, Names<'a>),
-    /// Any other option: its type, and its bytes behind the length.
+    /// Any other option: its type, and its bytes behind the length. It has a type that is not known, or one of the types above
+    /// with a length or data that do not fit it (our choice), and is to be passed over (RFC 4861, section 4.6).
     Other(u8, &'a [u8]),
 }
 

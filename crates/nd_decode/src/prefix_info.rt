@@ -8,10 +8,11 @@ use nd_addr::{Addr, Prefix};
 /// What a router tells of a prefix (RFC 4861, section 4.6.2).
 #[derive(Clone, Copy, Debug, PartialEq, Eq)]
 pub struct PrefixInfo {
+    /// The prefix, its bits past its length being zero whatever was sent.
     pub prefix: Prefix,
-    /// Whether its addresses are on the link.
+    /// The flag L: whether its addresses are on the link.
     pub on_link: bool,
-    /// Whether a host may make itself an address of it (RFC 4862).
+    /// The flag A: whether a host may make itself an address of it (RFC 4862, section 5.5.3).
     pub autonomous: bool,
     /// For how many seconds it is on the link, all ones standing for ever.
     pub valid_lifetime: u32,

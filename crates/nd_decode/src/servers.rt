@@ -12,7 +12,8 @@ pub struct Servers<'a> {
 }
 
 impl<'a> Servers<'a> {
-    /// The addresses in these bytes, if each is one that a server can have. What is left behind the last whole one is not looked at.
+    /// The addresses in these bytes, if each is one that a server can have (`is_server`). What is left behind the last whole one is not
+    /// looked at.
     pub fn read(bytes: &'a [u8]) -> Option<Servers<'a>>
         ensures { MatchOption result (list_all is_server (servers_in bytes.entry.now) ≡ false)
             (λ s. (list_all is_server (servers_in bytes.entry.now) ≡ true) × (servers_left s ≡ servers_in bytes.entry.now)) }
@@ -65,7 +66,7 @@ fn split_server(bytes: &[u8]) -> Option<(Addr, &[u8])>
     Some((Addr::at(first, 0), rest))
 }
 
-/// Whether a server can have the address: it is not multicast, unspecified or loopback.
+/// Whether a server can have the address: it is not multicast, unspecified or loopback (our choice; RFC 8106 leaves it open).
 pub fn is_server(address: Addr) -> bool
     ensures value { result ≡ is_server address }
     ensures bytes { AreBytes 16 address.0 }

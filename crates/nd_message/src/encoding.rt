@@ -38,7 +38,8 @@ fn put_sum<A: Allocator>(out: &mut Vec<u8, A>, sum: u16)
 }
 
 /// The bytes of a message from a source to a destination (RFC 4861, section 4). All that its readers ignore is 0, and the
-/// checksum is that of RFC 4443, section 2.3. The error is want of memory.
+/// checksum is that of RFC 4443, section 2.3. The error is want of memory, and there is no other: whether a message has a spelling
+/// is `Message::is_well_formed`'s.
 pub fn encode<A: Allocator, B: Allocator>(
     alloc: A,
     message: &Message<B>,

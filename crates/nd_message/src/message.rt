@@ -15,7 +15,9 @@ const LONGEST_PAYLOAD: usize = 65535;
 /// A message that owns its options (RFC 4861, section 4).
 #[derive(Debug, Drop)]
 pub struct Message<A: Allocator> {
+    /// Its type and its fields.
     pub body: Body,
+    /// Its options in their order.
     pub options: Vec<Opt<A>, A>,
 }
 

@@ -23,22 +23,28 @@ pub enum Opt<A: Allocator> {
     Slla(Mac),
     /// Target Link-Layer Address: that of the message's target.
     Tlla(Mac),
+    /// Prefix Information (RFC 4861, section 4.6.2).
     Prefix(PrefixInfo),
-    /// The beginning of the packet that was redirected, and what pads it to a multiple of 8 bytes.
+    /// Redirected Header: the beginning of the packet that was redirected, and what pads it to a multiple of 8 bytes, 2,032 bytes at
+    /// most.
     Redirected(Vec<u8, A>),
     /// The MTU of the link, in bytes.
     Mtu(u32),
-    /// DNS servers, at least one, and for how many seconds they serve, all ones standing for ever.
+    /// DNS servers, 1 to 127, each one that `is_server` takes.
     Rdnss {
+        /// For how many seconds they serve, all ones standing for ever.
         lifetime: u32,
+        /// Their addresses, in their order.
         servers: Vec<Addr, A>,
     },
-    /// Names in which to search, at least one, and for how many seconds, all ones standing for ever.
+    /// Names in which to search, at least one, each one that `is_name` takes, and 2,032 bytes at most with the zero byte behind each.
     Dnssl {
+        /// For how many seconds they are searched in, all ones standing for ever.
         lifetime: u32,
+        /// The names, in their order.
         names: Vec<Name<A>, A>,
     },
-    /// Any other option: its type, and its bytes behind the length, 8k - 2 of them.
+    /// Any other option: its type, and its bytes behind the length, 8k - 2 of them, 6 to 2,038.
     Other(u8, Vec<u8, A>),
 }
 

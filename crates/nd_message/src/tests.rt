@@ -467,3 +467,84 @@ fn reads_what_it_wrote(rt: HostRuntime) -> Result<(), Fail> {
     assert!(rt; left.next().is_none());
     Ok(())
 }
+
+/// Five options as they are spelled: an address, an MTU, a prefix, two servers for half an hour, and one of a type that nobody knows.
+const FIVE_OPTIONS: [u8; 152] = [
+    0x01, 0x01, 0x02, 0x00, 0x00, 0x00, 0x00, 0x01, 0x05, 0x01, 0x00, 0x00, 0x00, 0x00, 0x05, 0xdc,
+    0x03, 0x04, 0x40, 0xc0, 0x00, 0x27, 0x8d, 0x00, 0x00, 0x09, 0x3a, 0x80, 0x00, 0x00, 0x00, 0x00,
+    0x20, 0x01, 0x0d, 0xb8, 0x00, 0x00, 0x00, 0x00, 0x00, 0x00, 0x00, 0x00, 0x00, 0x00, 0x00, 0x00,
+    0x19, 0x05, 0x00, 0x00, 0x00, 0x00, 0x07, 0x08, 0x20, 0x01, 0x0d, 0xb8, 0x00, 0x00, 0x00, 0x00,
+    0x00, 0x00, 0x00, 0x00, 0x00, 0x00, 0x00, 0x53, 0x20, 0x01, 0x0d, 0xb8, 0x00, 0x00, 0x00, 0x00,
+    0x00, 0x00, 0x00, 0x00, 0x00, 0x00, 0x00, 0x09, 0xc8, 0x08, 0x05, 0x05, 0x05, 0x05, 0x05, 0x05,
+    0x05, 0x05, 0x05, 0x05, 0x05, 0x05, 0x05, 0x05, 0x05, 0x05, 0x05, 0x05, 0x05, 0x05, 0x05, 0x05,
+    0x05, 0x05, 0x05, 0x05, 0x05, 0x05, 0x05, 0x05, 0x05, 0x05, 0x05, 0x05, 0x05, 0x05, 0x05, 0x05,
+    0x05, 0x05, 0x05, 0x05, 0x05, 0x05, 0x05, 0x05, 0x05, 0x05, 0x05, 0x05, 0x05, 0x05, 0x05, 0x05,
+    0x05, 0x05, 0x05, 0x05, 0x05, 0x05, 0x05, 0x05,
+];
+
+/// Adds the five options.
+fn push_five(rt: &HostRuntime, options: &mut Vec<Opt<Global>>) -> Result<(), Fail> {
+    let prefix = Prefix::new(DOCUMENTATION, 64).ok_or("prefix")?;
+    options.push(Opt::Slla(Mac([2, 0, 0, 0, 0, 1])))?;
+    options.push(Opt::Mtu(1500))?;
+    options.push(Opt::Prefix(PrefixInfo {
+        prefix,
+        on_link: true,
+        autonomous: true,
+        valid_lifetime: 2592000,
+        preferred_lifetime: 604800,
+    }))?;
+    let mut servers = Vec::new(rt.alloc());
+    servers.push(SERVER)?;
+    servers.push(NEAR)?;
+    let lifetime = 1800;
+    options.push(Opt::Rdnss { lifetime, servers })?;
+    options.push(Opt::Other(200, vec![in rt.alloc(); 5; 62]?))?;
+    Ok(())
+}
+
+/// Whether the next five options are these.
+fn next_are_five(left: &mut Options<'_>) -> bool {
+    let slla = matches!(left.next(), Some(OptionRef::Slla(mac)) if mac == Mac([2, 0, 0, 0, 0, 1]));
+    let mtu = matches!(left.next(), Some(OptionRef::Mtu(1500)));
+    let prefix =
+        matches!(left.next(), Some(OptionRef::Prefix(info)) if info.prefix.address() == DOCUMENTATION
+        && info.prefix.length() == 64 && info.on_link && info.autonomous
+        && info.valid_lifetime == 2592000 && info.preferred_lifetime == 604800);
+    let servers = match left.next() {
+        Some(OptionRef::Rdnss(1800, mut told)) => {
+            told.next() == Some(SERVER) && told.next() == Some(NEAR) && told.next().is_none()
+        }
+        _ => false,
+    };
+    let other =
+        matches!(left.next(), Some(OptionRef::Other(200, rest)) if rest == [5; 62].as_slice());
+    slla && mtu && prefix && servers && other
+}
+
+/// The longest message of whole options: 16 bytes of fields, and 431 times 152 bytes of options, 65,528 in all. It has 2,155 options.
+#[test]
+fn writes_the_longest_message(rt: HostRuntime) -> Result<(), Fail> {
+    let mut options = Vec::new(rt.alloc());
+    for _ in 0..431 {
+        push_five(&rt, &mut options)?;
+    }
+    let body = Body::Ra(BODY);
+    let message = Message { body, options };
+    assert!(rt; message.is_well_formed());
+    let bytes = encode(rt.alloc(), &message, ROUTER, ALL_NODES)?;
+    assert_eq!(rt; bytes.len(), 65528);
+    let fields = bytes.get(..16).ok_or("fields")?;
+    let spelled = [134, 0, 0x4e, 0x9a, 64, 0, 7, 8, 0, 0, 0, 0, 0, 0, 0, 0];
+    assert_eq!(rt; fields, &spelled[..]);
+    assert_eq!(rt; bytes.get(16..168).ok_or("first")?, &FIVE_OPTIONS[..]);
+    assert_eq!(rt; bytes.get(65376..).ok_or("last")?, &FIVE_OPTIONS[..]);
+    let read = decode(&bytes).ok().ok_or("message")?;
+    assert_eq!(rt; read.body, body);
+    let mut left = read.options;
+    for _ in 0..431 {
+        assert!(rt; next_are_five(&mut left));
+    }
+    assert!(rt; left.next().is_none());
+    Ok(())
+}

@@ -14,8 +14,8 @@ pub struct Names<'a> {
 }
 
 impl<'a> Names<'a> {
-    /// The names in the data of a DNS Search List behind its lifetime: at least one name, and then zeros to the end, or nothing. There
-    /// are none where a label has another byte than letters, digits, hyphens and underscores or is longer than 63 bytes, a name is longer
+    /// The names in the data of a DNS Search List behind its lifetime: at least one name, and then zeros to the end, or nothing (RFC
+    /// 8106, section 5.2). Names are not compressed. There are none where a label has another byte than letters, digits, hyphens and underscores or is longer than 63 bytes, a name is longer
     /// than 255 bytes with its zero byte or runs out, or the padding has another byte.
     pub fn read(bytes: &'a [u8]) -> Option<Names<'a>>
         // What is answered is spelled so, and where some names are spelled, these are answered.

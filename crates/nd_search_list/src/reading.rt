@@ -6,10 +6,11 @@ ghost use Rattle.nd_search_list.specs.Reading.{labels_length, name_length, are_s
 /// How many bytes a label has at most (RFC 1035, section 2.3.4).
 const LONGEST_LABEL: u8 = 63;
 
-/// How many bytes a name has at most before its zero byte (RFC 1035, section 2.3.4).
+/// How many bytes a name has at most before its zero byte, with which they are 255 (RFC 1035, section 2.3.4).
 const LONGEST_NAME: usize = 254;
 
-/// Whether a byte may stand in a label: a letter, a digit, a hyphen or an underscore.
+/// Whether a byte may stand in a label: a letter, a digit or a hyphen (RFC 1035, section 2.3.1), or an underscore (our choice, since
+/// names of services have it: RFC 8552). Where hyphens stand is not looked at (our choice).
 fn is_sign(byte: u8) -> bool
     ensures { result ≡ is_sign byte }
 {
