@@ -20,15 +20,14 @@ fn main(rt: HostRuntime) -> anyhow::Result<()> {
     if let Hearing::Valid(heard) = hear(&frame, Role::Host) {
         for option in heard.message.options {
             if let OptionRef::Slla(mac) = option {
-                let addr = heard.source;
                 // At 0 ms the entry is made, STALE; a packet for it is sent at once, and starts the DELAY.
-                let news = News::Given {
-                    addr,
+                let given = News::Given {
+                    addr: heard.source,
                     mac,
                     mark: None,
                 };
-                let _ = cache.heard(0, news, times);
-                let _ = cache.used(0, addr, Packet(Vec::new(rt.alloc())), times);
+                let _ = cache.heard(0, given, times);
+                let _ = cache.used(0, heard.source, Packet(Vec::new(rt.alloc())), times);
             }
         }
     }
