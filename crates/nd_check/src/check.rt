@@ -13,7 +13,7 @@ use nd_io::run::run_lines;
 use nd_io::tool_fault::ToolFault;
 use std::alloc::Allocator;
 
-/// The most bytes of a frame: a line has at most 16,384 digits.
+/// The most bytes of a frame: a line has at most 16,384 digits (our choice).
 const LONGEST_FRAME: usize = 8192;
 
 /// What answers lines of frames, with room for one frame.

@@ -12,8 +12,11 @@ const HOP_LIMIT: u8 = 255;
 /// A valid message, with the addresses of its packet.
 #[derive(Clone, Copy, Debug)]
 pub struct Heard<'a> {
+    /// The source of its packet.
     pub source: Addr,
+    /// The destination of its packet.
     pub destination: Addr,
+    /// What it says.
     pub message: MessageRef<'a>,
 }
 
@@ -22,7 +25,7 @@ pub struct Heard<'a> {
 pub enum Hearing<'a> {
     /// A valid message of Neighbor Discovery.
     Valid(Heard<'a>),
-    /// A packet that is no such message.
+    /// A packet that is no such message: another next header than ICMPv6's, no payload, or another type than 133 to 137.
     Other(Ip6Ref<'a>),
     /// The first reason to drop the frame.
     Drop(Why),
@@ -32,7 +35,8 @@ pub enum Hearing<'a> {
 ///
 /// The reasons are looked for in this order: `FrameShort`, `NotIpv6`, `HeaderShort`, `Version`, `PayloadShort`; then, of messages
 /// alone, `HopLimit`, `Sum`, `Code`, `Length`, `OptionZero`, `OptionOver`, `Source`, `Target`, `UnspecifiedSlla`,
-/// `NotSolicitedNode`, `SolicitedMulticast`, `RedirectTarget`, `RedirectDestination`, `NotForUs`. What asks for a node's
+/// `NotSolicitedNode`, `SolicitedMulticast`, `RedirectTarget`, `RedirectDestination`, `NotForUs`. The order is our
+/// choice, in which no option is looked at before the checksum is good; `Why` says when each comes. What asks for a node's
 /// addresses or tables isn't looked at, nor are the Ethernet addresses.
 pub fn hear(frame: &[u8], role: Role) -> Hearing<'_>
     // What is answered is heard so, and nothing else is.

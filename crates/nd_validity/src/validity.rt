@@ -43,8 +43,8 @@ fn is_of_routers(body: &Body) -> bool
     matches!(body, Body::Ra(_) | Body::Redirect(_))
 }
 
-/// Whether the source is a multicast address, or, of what routers send, one that is not link-local (RFC 4861, sections 6.1.2
-/// and 8.1).
+/// Whether the source is a multicast address (our choice for all five messages; RFC 4291, section 2.7, has none), or, of what routers
+/// send, one that is not link-local (RFC 4861, sections 6.1.2 and 8.1).
 fn has_bad_source(source: &Addr, body: &Body) -> bool
     ensures { result ≡ has_bad_source source.now body.now }
 {
