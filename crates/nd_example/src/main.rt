@@ -7,7 +7,8 @@ use nd_neighbour::{Cache, Due, News, Packet, Times};
 use nd_validity::{Hearing, hear};
 
 /// A Neighbor Solicitation from fe80::ff:fe00:2, with its link-layer address.
-const SOLICITATION: &str = "02000000009902000000000286dd6000000000203afffe80000000000000000000fffe000002\
+const SOLICITATION: &str =
+    "02000000009902000000000286dd6000000000203afffe80000000000000000000fffe000002\
     fe80000000000000000000fffe00009987007beb00000000fe80000000000000000000fffe0000990101020000000002";
 
 fn main(rt: HostRuntime) -> anyhow::Result<()> {

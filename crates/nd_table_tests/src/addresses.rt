@@ -1,8 +1,8 @@
 ghost use Rattle.std.specs.Prelude.{◌<◌, ◌^◌};
 
-use nd_slaac::*;
 use nd_addr::{Addr, Mac, Prefix};
 use nd_decode::{PrefixInfo, decode};
+use nd_slaac::*;
 use std::alloc::Global;
 use std::process::Abort;
 use std::test::*;

@@ -1,8 +1,8 @@
 ghost use Rattle.std.specs.Prelude.{◌<◌, ◌^◌};
 
-use nd_dns::*;
 use nd_addr::Addr;
 use nd_decode::{Options, decode};
+use nd_dns::*;
 use std::alloc::Global;
 use std::process::Abort;
 use std::test::*;

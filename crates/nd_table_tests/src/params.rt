@@ -1,7 +1,7 @@
 ghost use Rattle.std.specs.Prelude.{◌<◌, ◌^◌};
 
-use nd_params::*;
 use nd_decode::{Body, MessageRef, decode};
+use nd_params::*;
 use std::test::*;
 
 /// An advertisement of every kind of parameter: hop limit 32, flags M and O, ReachableTime 32047, RetransTimer 2000, MTU 1280.

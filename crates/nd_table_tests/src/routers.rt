@@ -1,8 +1,8 @@
 ghost use Rattle.std.specs.Prelude.{◌<◌, ◌^◌};
 
-use nd_routers::*;
 use nd_addr::{Addr, Prefix};
 use nd_decode::{Body, decode};
+use nd_routers::*;
 use std::alloc::Global;
 use std::process::Abort;
 use std::test::*;
