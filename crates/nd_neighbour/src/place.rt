@@ -70,7 +70,9 @@ impl<A: Allocator> Entry<A> {
         ensures { result ≡ is_stale self.now.stage now }
     {
         match &self.stage {
+            // INCOMPLETE.
             Stage::Resolving { .. } => false,
+            // Neither DELAY nor PROBE, and not REACHABLE.
             Stage::Known {
                 confirmed,
                 since,

@@ -106,7 +106,7 @@ pub(crate) fn take_all<A: Allocator + Clone>(
 impl<A: Allocator> Entry<A> {
     ghost use Rattle.nd_neighbour.specs.Entry.{waiting_in};
 
-    /// What waits at an entry that goes.
+    /// What waits at an entry that goes. Packets wait in INCOMPLETE alone (RFC 4861, section 7.2.2).
     pub(crate) fn packets(self) -> Packets<A>
         ensures { result ≡ waiting_in self.stage }
     {

@@ -107,6 +107,7 @@ impl<A: Allocator> Entry<A> {
         ensures { result ≡ state_in self.now.stage now }
     {
         match &self.stage {
+            // INCOMPLETE: no address is known yet.
             Stage::Resolving { .. } => Reachability::Incomplete,
             Stage::Known {
                 confirmed,
@@ -114,12 +115,16 @@ impl<A: Allocator> Entry<A> {
                 probing,
                 ..
             } => {
+                // REACHABLE: a ReachableTime hasn't passed since it was confirmed.
                 if *confirmed && now < *since {
                     return Reachability::Reachable;
                 }
                 match probing {
+                    // STALE: nothing was sent to it since then.
                     None => Reachability::Stale,
+                    // DELAY: DELAY_FIRST_PROBE_TIME hasn't passed since a packet was.
                     Some(probing) if now < probing.from => Reachability::Delay,
+                    // PROBE: it has.
                     Some(_) => Reachability::Probe,
                 }
             }
