@@ -1,7 +1,8 @@
 ghost use Rattle.std.specs.Prelude.{◌<◌, ◌^◌};
 
+use crate::messages::advertisement;
 use nd_addr::{Addr, Mac, Prefix};
-use nd_decode::{PrefixInfo, decode};
+use nd_decode::PrefixInfo;
 use nd_slaac::*;
 use std::alloc::Global;
 use std::process::Abort;
@@ -370,55 +371,45 @@ fn some_options_say_nothing_of_an_address(rt: HostRuntime) -> Result<(), Fail> {
     Ok(())
 }
 
+/// The 64 addresses are shown in the order of their numbers, the link-local one behind those of 2001:db8::/32.
+fn all_are_shown(rt: &impl Abort, addresses: &Addresses<Global>) -> Result<(), Fail> {
+    let mut n = 0u16;
+    for row in &addresses.rows(1200)? {
+        assert!(rt; row.addr == if n < 63 { formed_of(n) } else { LINK_LOCAL });
+        n = n.saturating_add(1);
+    }
+    assert_eq!(rt; n, 64);
+    Ok(())
+}
+
+/// Hears the option for 2001:db8:n::/64.
+fn hear_option(addresses: &mut Addresses<Global>, n: u16) -> Option<Result<Taken, Full>> {
+    let info = default_option(n)?;
+    Some(addresses.heard_prefix(1200, &info, 0, 1000))
+}
+
 #[test]
 fn the_65th_address_has_no_room(rt: HostRuntime) -> Result<(), Fail> {
-    let two = decode(&TWO_PREFIXES).ok().ok_or("message")?;
-    let twice = decode(&PREFIX_TWICE).ok().ok_or("message")?;
+    let two = advertisement(&TWO_PREFIXES).ok_or("message")?;
+    let twice = advertisement(&PREFIX_TWICE).ok_or("message")?;
     let mut addresses = started(&rt, rt.alloc())?;
     for n in 0..61u16 {
-        let info = default_option(n).ok_or("option")?;
-        assert_eq!(rt;
-            addresses.heard_prefix(1200, &info, 0, 1000),
-            Ok(Taken::Formed)
-        );
+        assert!(rt; hear_option(&mut addresses, n) == Some(Ok(Taken::Formed)));
     }
     assert!(rt; addresses.fits(two.options));
-    let info = default_option(61).ok_or("option")?;
-    assert_eq!(rt;
-        addresses.heard_prefix(1200, &info, 0, 1000),
-        Ok(Taken::Formed)
-    );
+    assert!(rt; hear_option(&mut addresses, 61) == Some(Ok(Taken::Formed)));
     // One place is left. Two options that form one address need one place.
     assert!(rt; addresses.fits(twice.options));
     assert!(rt; !addresses.fits(two.options));
-    let last = default_option(62).ok_or("option")?;
-    assert_eq!(rt;
-        addresses.heard_prefix(1200, &last, 0, 1000),
-        Ok(Taken::Formed)
-    );
-    // The link-local address comes behind those of 2001:db8::/32.
-    let mut n = 0u16;
-    for row in &addresses.rows(1200)? {
-        assert!(rt; row.addr == if n < 63 { formed_of(n) } else { LINK_LOCAL });
-        n = n.saturating_add(1);
-    }
-    assert_eq!(rt; n, 64);
+    assert!(rt; hear_option(&mut addresses, 62) == Some(Ok(Taken::Formed)));
+    all_are_shown(&rt, &addresses)?;
     // There are 64. An option for one that is known is taken still.
     assert!(rt; !addresses.fits(twice.options));
-    assert_eq!(rt;
-        addresses.heard_prefix(1200, &last, 0, 1000),
-        Ok(Taken::Renewed)
-    );
+    assert!(rt; hear_option(&mut addresses, 62) == Some(Ok(Taken::Renewed)));
     let next = default_option(63).ok_or("option")?;
     assert!(rt; addresses.would_form(&next));
-    assert_eq!(rt; addresses.heard_prefix(1200, &next, 0, 1000), Err(Full));
-    // The link-local address comes behind those of 2001:db8::/32.
-    let mut n = 0u16;
-    for row in &addresses.rows(1200)? {
-        assert!(rt; row.addr == if n < 63 { formed_of(n) } else { LINK_LOCAL });
-        n = n.saturating_add(1);
-    }
-    assert_eq!(rt; n, 64);
+    assert!(rt; hear_option(&mut addresses, 63) == Some(Err(Full)));
+    all_are_shown(&rt, &addresses)?;
     Ok(())
 }
 

@@ -1,7 +1,8 @@
 ghost use Rattle.std.specs.Prelude.{◌<◌, ◌^◌};
 
+use crate::messages::advertisement;
 use nd_addr::Addr;
-use nd_decode::{Options, decode};
+use nd_decode::Options;
 use nd_dns::*;
 use std::alloc::Global;
 use std::process::Abort;
@@ -51,7 +52,7 @@ fn hear_servers(
         0x0d, 0xb8, 0, 0, 0, 0, 0, 0, 0, 0, 0, 0, 0, a.n, 25, 3, 0, 0, b1, b2, b3, b4, 0x20, 0x01,
         0x0d, 0xb8, 0, 0, 0, 0, 0, 0, 0, 0, 0, 0, 0, b.n,
     ];
-    let message = decode(&bytes).ok()?;
+    let message = advertisement(&bytes)?;
     Some(hear(dns, now, message.options))
 }
 
@@ -65,7 +66,7 @@ fn hear_names(dns: &mut Dns<Global>, now: u64, a: Told, b: Told) -> Option<Resul
         0x86, 0, 0, 0, 0, 0, 0, 0, 0, 0, 0, 0, 0, 0, 0, 0, 31, 2, 0, 0, a1, a2, a3, a4, 2, b'x',
         a.n, 0, 0, 0, 0, 0, 31, 2, 0, 0, b1, b2, b3, b4, 2, b'X', b.n, 0, 0, 0, 0, 0,
     ];
-    let message = decode(&bytes).ok()?;
+    let message = advertisement(&bytes)?;
     Some(hear(dns, now, message.options))
 }
 
@@ -119,7 +120,7 @@ const BOTH: [u8; 72] = [
 #[test]
 fn hears_a_server_and_a_name(rt: HostRuntime) -> Result<(), Fail> {
     let mut dns = Dns::new(rt.alloc())?;
-    let message = decode(&BOTH).ok().ok_or("message")?;
+    let message = advertisement(&BOTH).ok_or("message")?;
     assert!(rt; hear(&mut dns, 1_200, message.options) == Ok(()));
     servers_are(&rt, &dns, 1_200, &[(0x53, Some(1_801_200))]);
     let mut count = 0u8;

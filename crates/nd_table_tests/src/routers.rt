@@ -1,7 +1,8 @@
 ghost use Rattle.std.specs.Prelude.{◌<◌, ◌^◌};
 
+use crate::messages::advertisement;
 use nd_addr::{Addr, Prefix};
-use nd_decode::{Body, decode};
+use nd_decode::Body;
 use nd_routers::*;
 use std::alloc::Global;
 use std::process::Abort;
@@ -259,7 +260,7 @@ fn hear_from(
         b.flags, 0, 0, 0, b.valid, 0, 0, 0, 1, 0, 0, 0, 0, x, y, 0x0d, 0xb8, 0, 0, 0, b.n, 0, 0, 0,
         0, 0, 0, 0, 0,
     ];
-    let message = decode(&bytes).ok()?;
+    let message = advertisement(&bytes)?;
     let fits = prefixes.fits(now, message.options);
     Some((fits, prefixes.heard_ra(now, message.options)))
 }
@@ -435,7 +436,7 @@ const EVERY_OPTION: [u8; 136] = [
 
 #[test]
 fn takes_every_kind_of_option(rt: HostRuntime) -> Result<(), Fail> {
-    let message = decode(&EVERY_OPTION).ok().ok_or("message")?;
+    let message = advertisement(&EVERY_OPTION).ok_or("message")?;
     let mut params = Params::new(0, 15_000);
     let mut routers = Routers::new(rt.alloc())?;
     let mut prefixes = Prefixes::new(rt.alloc())?;
