@@ -12,5 +12,6 @@ pub mod Results
 pub mod NewsCalls
 pub mod PacketCalls
 pub mod Forgetting
+pub mod Overdue
 pub mod Unique
 pub mod Second

@@ -46,6 +46,10 @@ abbrev pub NextDue : List Row → Option ℕ → Type 0
 NextDue history None = (moment key : ℕ) → IsDue history moment key → ⊥
 NextDue history (Some next) = ((key : ℕ) × IsDue history next key) × ((moment key : ℕ) → IsDue history moment key → next ≤ moment)
 
+-- nothing that is due was due before the moment
+pub record NoneOverdue (history : List Row) (now : ℕ) : Type 0 where
+  pub none : (moment key : ℕ) → IsDue history moment key → now ≤ moment
+
 -- the row that comes with it
 abbrev pub due_row : ℕ → Falls → Row
 due_row now (Multicasts key) = (now, key, Solicited)

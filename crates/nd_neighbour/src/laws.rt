@@ -3,11 +3,11 @@
 ghost use Rattle.std.specs.Prelude.{◌≡◌, ◌≤◌, ◌↔◌, ◌++◌, ◌∷◌, [], ℕ, List, Option, None, length, nat_lt, slice_get, if◌then◌else◌};
 ghost use Rattle.std.specs.Option.{option_to_list};
 ghost use Rattle.circular_buffer.specs.Buffer.{keep_last};
-ghost use Rattle.nd_neighbour.specs.History.{Row, Story};
+ghost use Rattle.nd_neighbour.specs.History.{Row, RowKind, Story};
 ghost use Rattle.nd_neighbour.specs.Entry.{Node};
 ghost use Rattle.nd_neighbour.specs.AddressResolution.{waiting_of};
 ghost use Rattle.nd_neighbour.specs.Table.{Stands};
-ghost use Rattle.nd_neighbour.specs.Due.{Falls, FirstDue};
+ghost use Rattle.nd_neighbour.specs.Due.{Falls, FirstDue, NoneBefore, NoneOverdue};
 ghost use Rattle.nd_neighbour.specs.Place.{IsLongestStale, NoPlace, WouldBeFull};
 
 /// The definitions give one table, one thing that falls due first, and one neighbour that makes place.
@@ -15,6 +15,14 @@ pub fn one_answer()
     ensures table { (history : List Row) (a b : List Node) → Stands a history → Stands b history → a ≡ b }
     ensures due { (history : List Row) (moment : ℕ) (a b : Option Falls) → FirstDue history moment a → FirstDue history moment b → a ≡ b }
     ensures longest { (history : List Row) (now a b : ℕ) → IsLongestStale history now a → IsLongestStale history now b → a ≡ b }
+{}
+
+/// Nothing that happens falls due in the past. Where nothing in a history is overdue at a moment, nothing is after one more row of that
+/// moment, whatever it is; and a table that stands for a history has no date before a moment exactly where nothing in the history is
+/// overdue then.
+pub fn none_overdue()
+    ensures still { (history : List Row) (now key : ℕ) (kind : RowKind) → NoneOverdue history now → NoneOverdue ((now, key, kind) ∷ history) now }
+    ensures table { (nodes : List Node) (history : List Row) (now : ℕ) → Stands nodes history → NoneBefore nodes now ↔ NoneOverdue history now }
 {}
 
 /// A cache has no place for a new neighbour exactly where what happened leaves none.

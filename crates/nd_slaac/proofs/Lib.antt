@@ -12,4 +12,5 @@ pub mod Keys
 pub mod Counting
 pub mod HeardPrefix
 pub mod Histories
+pub mod Overdue
 pub mod Unique

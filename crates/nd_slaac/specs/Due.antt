@@ -64,6 +64,10 @@ abbrev pub NextDue : List Row → Option ℕ → Type 0
 NextDue history None = (moment : ℕ) (falls : Falls) → IsDue history moment falls → ⊥
 NextDue history (Some next) = ((falls : Falls) × IsDue history next falls) × ((moment : ℕ) (falls : Falls) → IsDue history moment falls → next ≤ moment)
 
+-- nothing that is due was due before the moment
+pub record NoneOverdue (history : List Row) (now : ℕ) : Type 0 where
+  pub none : (moment : ℕ) (falls : Falls) → IsDue history moment falls → now ≤ moment
+
 -- what has come then
 abbrev pub happens : Falls → RowKind
 happens (Ends key) = Ended

@@ -1,19 +1,28 @@
 //! Laws of the definitions, each the contract of a function that does nothing.
 
-ghost use Rattle.std.specs.Prelude.{◌≡◌, ◌<◌, ℕ, List, Option, true};
-ghost use Rattle.nd_slaac.specs.History.{Row, story};
+ghost use Rattle.std.specs.Prelude.{◌≡◌, ◌<◌, ◌↔◌, ◌∷◌, ℕ, List, Option, true};
+ghost use Rattle.nd_slaac.specs.History.{Row, RowKind, story};
 ghost use Rattle.nd_table.specs.Ends.{is_before};
 ghost use Rattle.nd_slaac.specs.Ends.{valid_end};
 ghost use Rattle.nd_slaac.specs.State.{is_known, is_assigned};
 ghost use Rattle.nd_slaac.specs.Address.{Address};
 ghost use Rattle.nd_slaac.specs.Table.{Stands};
-ghost use Rattle.nd_slaac.specs.Due.{Falls, IsDue, FirstDue};
+ghost use Rattle.nd_slaac.specs.Due.{Falls, IsDue, FirstDue, NoneOverdue};
+ghost use Rattle.nd_slaac.specs.Dates.{NoneBefore};
 ghost use Rattle.nd_slaac.specs.MayCome.{IsHistory, Held};
 
 /// The definitions give one table, and one thing that falls due first.
 pub fn one_answer()
     ensures table { (history : List Row) (a b : List Address) → Stands a history → Stands b history → a ≡ b }
     ensures due { (history : List Row) (moment : ℕ) (a b : Option Falls) → FirstDue history moment a → FirstDue history moment b → a ≡ b }
+{}
+
+/// Nothing that happens falls due in the past. Where nothing in a history is overdue at a moment, nothing is after one more row of that
+/// moment, whatever it is; and a table that stands for a history has no date before a moment exactly where nothing in the history is
+/// overdue then.
+pub fn none_overdue()
+    ensures still { (history : List Row) (now key : ℕ) (kind : RowKind) → NoneOverdue history now → NoneOverdue ((now, key, kind) ∷ history) now }
+    ensures table { (addresses : List Address) (history : List Row) (now : ℕ) → Stands addresses history → NoneBefore addresses now ↔ NoneOverdue history now }
 {}
 
 /// No address is assigned untried (RFC 4862, section 5.4): in every history an address that is assigned was formed with
