@@ -213,6 +213,7 @@ module _ (key : ℕ) (row : Row) (history : List Row) where
     solicited_at = held.solicited_at;
     solicited_since = held.solicited_since;
     wait = held.wait;
+    date = held.date;
     valid = held.valid;
     since = λ h p q. elim p [
       | inl e ↦ ap (λ l. is_assigned (story key l)) e ∙ now
@@ -269,6 +270,7 @@ module _ (key at : ℕ) (history : List Row) (came : IsHistory history) (before 
         solicited_at = last.1;
         solicited_since = last.2;
         wait = omega (arith, date);
+        date = date;
         valid = before_end history key at (valid_end s) refl parts.0 may;
         since = λ h p q. ap (λ l. is_assigned (story key l)) (past-same h (at, key, Assigned) history p q) ∙ now;
       }

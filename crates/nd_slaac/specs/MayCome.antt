@@ -59,5 +59,7 @@ pub record Held (key : ℕ) (history : List Row) : Type 0 where
   pub solicited_at : Past ((sent, key, Solicited) ∷ earlier) over
   pub solicited_since : Past ((formed, key, Formed delay retrans lifetimes) ∷ below) earlier
   pub wait : assigned ≡ sent + retrans
+  -- its date follows from the forming: the delay, and as many RetransTimers as there are solicitations
+  pub date : assigned ≡ formed + delay + dup_addr_detect_transmits * retrans
   pub valid : is_before assigned (valid_end (story key over)) ≡ true
   pub since : (h : List Row) → Past h history → Past ((assigned, key, Assigned) ∷ over) h → is_assigned (story key h) ≡ true
