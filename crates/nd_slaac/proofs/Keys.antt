@@ -7,6 +7,10 @@ use Rattle.nd_slaac.specs.Address.{Address}
 use Rattle.nd_slaac.specs.Table.{key_of, address_in}
 use Rattle.nd_slaac.specs.Room.{is_among}
 use Rattle.nd_slaac.specs.Calls.{keys_in}
+use Rattle.nd_slaac.specs.History.{Row, story}
+use Rattle.nd_slaac.specs.State.{is_known}
+use Rattle.nd_slaac.specs.Table.{Stands}
+use Rattle.nd_slaac.proofs.Stories.{known_story}
 
 -- an address is known where its number is among those
 pub known_among : (key : ℕ) (xs : List Address) → is_some (address_in key xs) ≡ is_among key (keys_in xs)
@@ -63,3 +67,7 @@ length-put m (x ∷ xs) = elim (either (ltb x.key m.key)) [
   | inl lt ↦ rw (put_behind m x xs lt) (ap suc (length-put m xs))
   | inr ge ↦ rw (put_before m x xs ge) refl
 ]
+
+-- an address is among those that the history knows exactly where its story says so
+pub known_by_history : (key : ℕ) (addresses : List Address) (history : List Row) → Stands addresses history → is_among key (keys_in addresses) ≡ is_known (story key history)
+known_by_history key addresses history s = sym (known_among key addresses) ∙ (ap is_some (s.each key) ∙ known_story key (story key history))

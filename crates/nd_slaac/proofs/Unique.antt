@@ -1,14 +1,21 @@
--- One table stands for the history, and one thing falls due first.
-use Rattle.std.proofs.Common.{◌≡◌, ℕ, List, Option, Some, None, refl, sym, ◌∙◌, ap, arith, inl, inr}
+-- One table stands for the history, options fit or not, and one thing falls due first.
+use Rattle.std.proofs.Common.{◌≡◌, ℕ, Bool, List, Option, Some, None, refl, sym, ◌∙◌, ap, arith, inl, inr}
 use Rattle.nd_table.proofs.Unique.{one_list}
 use Rattle.nd_slaac.specs.History.{Row, story}
 use Rattle.nd_slaac.specs.State.{sent_of}
 use Rattle.nd_slaac.specs.Address.{Address}
 use Rattle.nd_slaac.specs.Table.{key_of, Stands}
+use Rattle.std.specs.Prelude.{map}
+use Rattle.nd_addr.specs.declared.mac.Mac.{Mac}
+use Rattle.nd_decode.specs.declared.prefix_info.PrefixInfo.{PrefixInfo}
+use Rattle.nd_slaac.specs.Room.{FitsBy, fits_in}
 use Rattle.nd_slaac.specs.Due.{Falls, Ends, Solicits, Assigns, IsDue, NotAfter, FirstDue, key_in}
 
 pub one_table : (history : List Row) (a b : List Address) → Stands a history → Stands b history → a ≡ b
 one_table history a b s t = one_list key_of a b s.order t.order (λ key. s.each key ∙ sym (t.each key))
+
+pub one_fit : (mac : Mac) (history : List Row) (infos : List PrefixInfo) (a b : Bool) → FitsBy mac history infos a → FitsBy mac history infos b → a ≡ b
+one_fit mac history infos a b x y = x.fit_is ∙ (ap (λ xs. fits_in mac (map key_of xs) infos) (one_table history x.known y.known x.those y.those) ∙ sym y.fit_is)
 
 same_key : (x y : Falls) → NotAfter x y → NotAfter y x → key_in x ≡ key_in y
 same_key x y (inl lt) (inl lt') = absurd (omega arith)

@@ -1,6 +1,6 @@
 //! Laws of the definitions, each the contract of a function that does nothing.
 
-ghost use Rattle.std.specs.Prelude.{◌≡◌, ◌<◌, ◌↔◌, ◌∷◌, ℕ, List, Option, true};
+ghost use Rattle.std.specs.Prelude.{◌≡◌, ◌<◌, ◌↔◌, ◌∷◌, ℕ, Bool, List, Option, true};
 ghost use Rattle.nd_slaac.specs.History.{Row, RowKind, story};
 ghost use Rattle.nd_table.specs.Ends.{is_before};
 ghost use Rattle.nd_slaac.specs.Ends.{valid_end};
@@ -9,11 +9,15 @@ ghost use Rattle.nd_slaac.specs.Address.{Address};
 ghost use Rattle.nd_slaac.specs.Table.{Stands};
 ghost use Rattle.nd_slaac.specs.Due.{Falls, IsDue, FirstDue, NoneOverdue};
 ghost use Rattle.nd_slaac.specs.Dates.{NoneBefore};
+ghost use Rattle.nd_slaac.specs.Room.{FitsBy};
+ghost use Rattle.nd_addr.specs.declared.mac.Mac.{Mac};
+ghost use Rattle.nd_decode.specs.declared.prefix_info.PrefixInfo.{PrefixInfo};
 ghost use Rattle.nd_slaac.specs.MayCome.{IsHistory, Held};
 
-/// The definitions give one table, and one thing that falls due first.
+/// The definitions give one table, one answer whether options fit, and one thing that falls due first.
 pub fn one_answer()
     ensures table { (history : List Row) (a b : List Address) → Stands a history → Stands b history → a ≡ b }
+    ensures fits { (mac : Mac) (history : List Row) (infos : List PrefixInfo) (a b : Bool) → FitsBy mac history infos a → FitsBy mac history infos b → a ≡ b }
     ensures due { (history : List Row) (moment : ℕ) (a b : Option Falls) → FirstDue history moment a → FirstDue history moment b → a ≡ b }
 {}
 

@@ -2,7 +2,18 @@ ghost use Rattle.std.specs.Prelude.{◌≡◌};
 ghost use Rattle.nd_addr.specs.Number.{number_of};
 ghost use Rattle.nd_slaac.specs.PrefixOption.{link_local_of};
 
+use crate::addresses::Addresses;
 use nd_addr::{Addr, Mac, Prefix};
+use std::alloc::Allocator;
+
+impl<A: Allocator> Addresses<A> {
+    /// The link-local address of the interface (RFC 4862, section 5.3), which `start` formed.
+    pub fn link_local(&self) -> Addr
+        ensures { number_of result.0 ≡ link_local_of self.now.mac }
+    {
+        link_local(self.mac)
+    }
+}
 
 /// The link-local address of an interface (RFC 4862, section 5.3).
 #[tactic(auto, unfolding(crate::specs::PrefixOption::link_local_of))]

@@ -1,4 +1,4 @@
-ghost use Rattle.std.specs.Prelude.{◌≡◌, ◌≤◌, ◌&&◌, ◌==◌, not, length, ◌<◌, true, is_some};
+ghost use Rattle.std.specs.Prelude.{◌≡◌, ◌≤◌, ◌&&◌, ◌==◌, not, length, ◌<◌, List, true, is_some};
 ghost use Rattle.nd_addr.specs.Number.{number_of};
 ghost use Rattle.nd_decode.specs.Pieces.{options_left};
 ghost use Rattle.nd_slaac.specs.PrefixOption.{is_forming, named_by, prefixes_in};
@@ -16,13 +16,17 @@ use std::alloc::Allocator;
 
 impl<A: Allocator + Clone> Addresses<A> {
     ghost use Rattle.nd_slaac.specs.PrefixOption.{prefixes_in};
-    ghost use Rattle.nd_slaac.specs.Room.{would_form, fits_in};
+    ghost use Rattle.nd_slaac.specs.Room.{would_form, fits_in, FitsBy};
+    ghost use Rattle.nd_slaac.specs.History.{Row, story};
+    ghost use Rattle.nd_slaac.specs.State.{is_known};
+    ghost use Rattle.nd_slaac.specs.Table.{Stands};
     ghost use Rattle.nd_slaac.specs.Calls.{keys_in};
 
     /// Whether a prefix option would form an address, where there is room for it (RFC 4862, section 5.5.3 a to d). An address is known
     /// until `turn` has told its end.
     pub fn would_form(&self, info: &PrefixInfo) -> bool
-        ensures { result ≡ would_form self.now.mac (keys_in self.now.addresses) info.now }
+        ensures value { result ≡ would_form self.now.mac (keys_in self.now.addresses) info.now }
+        ensures by_history { (history : List Row) → Stands self.now.addresses history → result ≡ (is_forming info.now && not (is_known (story (named_by self.now.mac info.now) history))) }
     {
         would_form(&self.entries, self.mac, info)
     }
@@ -30,7 +34,8 @@ impl<A: Allocator + Clone> Addresses<A> {
     /// Whether there is room for each address that the options of a Router Advertisement, taken in their order, would
     /// form. Where it is so, `heard_prefix` refuses none of them. An address is known until `turn` has told its end.
     pub fn fits(&self, options: Options<'_>) -> bool
-        ensures { result ≡ fits_in self.now.mac (keys_in self.now.addresses) (prefixes_in (options_left options.entry)) }
+        ensures value { result ≡ fits_in self.now.mac (keys_in self.now.addresses) (prefixes_in (options_left options.entry)) }
+        ensures by_history { (history : List Row) → Stands self.now.addresses history → FitsBy self.now.mac history (prefixes_in (options_left options.entry)) result }
     {
         fits(&self.entries, self.mac, options)
     }

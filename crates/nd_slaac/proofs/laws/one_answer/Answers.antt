@@ -1,4 +1,4 @@
-use Rattle.nd_slaac.proofs.Unique.{one_table, one_due}
+use Rattle.nd_slaac.proofs.Unique.{one_table, one_due, one_fit}
 use Rattle.nd_slaac.proofs.laws.one_answer.Goals as goal
 
 pub returns-clause-table : goal.returns-clause-table
@@ -6,3 +6,6 @@ returns-clause-table c = one_table
 
 pub returns-clause-due : goal.returns-clause-due
 returns-clause-due c = one_due
+
+pub returns-clause-fits : goal.returns-clause-fits
+returns-clause-fits c = one_fit
