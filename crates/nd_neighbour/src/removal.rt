@@ -13,12 +13,13 @@ use std::alloc::{AllocError, Allocator};
 impl<A: Allocator + Clone> Cache<A> {
     ghost use Rattle.nd_neighbour.specs.History.{Forgot, Removed, Row, story};
     ghost use Rattle.nd_neighbour.specs.Story.{waits_of};
-    ghost use Rattle.nd_neighbour.specs.Table.{GainsRow, Stands};
-    ghost use Rattle.nd_neighbour.specs.Removal.{all_waiting, cleared};
+    ghost use Rattle.nd_neighbour.specs.Table.{GainsRow, Stands, node_in};
+    ghost use Rattle.nd_neighbour.specs.Removal.{all_waiting, cleared, waiting_at};
 
     /// A neighbour is forgotten, if it is there. What waited for it is handed out.
     pub fn forget(&mut self, addr: Addr) -> Packets<A>
         ensures stands { (at : ℕ) → GainsRow self.old.nodes self.new.nodes (at, number_of addr.0, Forgot Removed) }
+        ensures value { result ≡ waiting_at (node_in (number_of addr.0) self.old.nodes) }
         ensures packets { (history : List Row) → Stands self.old.nodes history → result ≡ waits_of (story (number_of addr.0) history) }
         ensures limit { self.new.limit ≡ self.old.limit }
         ensures rings { self.new.rings ≡ self.old.rings }
@@ -37,6 +38,15 @@ impl<A: Allocator + Clone> Cache<A> {
         ensures rings { self.new.rings ≡ self.old.rings }
     {
         take_all(&mut self.entries)
+    }
+
+    /// How many packets wait for a neighbour, at most three: so many places a caller needs for what `heard`, `turn` or `forget` hands
+    /// out of it.
+    pub fn waiting_at(&self, addr: Addr) -> usize
+        ensures value { result ≡ length (waiting_at (node_in (number_of addr.0) self.now.nodes)) }
+        ensures by_history { (history : List Row) → Stands self.now.nodes history → result ≡ length (waits_of (story (number_of addr.0) history)) }
+    {
+        count_at(&self.entries, addr)
     }
 
     /// How many packets wait.
@@ -59,6 +69,16 @@ pub(crate) fn remove<A: Allocator>(entries: &mut Vec<Entry<A>, A>, addr: Addr) -
     };
     let entry = entries.remove(i);
     entry.packets()
+}
+
+/// How many packets wait for a neighbour that may be there.
+fn count_at<A: Allocator>(entries: &[Entry<A>], addr: Addr) -> usize
+    ensures { result ≡ length (waiting_at (node_in (number_of addr.0) entries.now)) }
+{
+    match find(entries, addr) {
+        Some(i) => entries[i].waiting(),
+        None => 0,
+    }
 }
 
 /// How many packets wait.

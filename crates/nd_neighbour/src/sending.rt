@@ -35,7 +35,7 @@ impl<A: Allocator + Clone> Cache<A> {
     ghost use Rattle.nd_neighbour.specs.History.{Row, story};
     ghost use Rattle.nd_neighbour.specs.Table.{Stands, node_in};
     ghost use Rattle.nd_neighbour.specs.Place.{NoPlace};
-    ghost use Rattle.nd_neighbour.specs.Sending.{GainsPacket, refusal_of, sending_of_story};
+    ghost use Rattle.nd_neighbour.specs.Sending.{GainsPacket, refusal_of, sending_in, sending_of_story};
     ghost use Rattle.nd_neighbour.specs.Room.{LeavesRoom};
     ghost use Rattle.nd_neighbour.specs.View.{sending_of};
 
@@ -56,6 +56,7 @@ impl<A: Allocator + Clone> Cache<A> {
         requires { now < 2 ^ 62 }
 
         ensures stands { OnOk result (GainsPacket self.old.limit now (number_of addr.0) times.retrans packet self.old.nodes self.new.nodes) }
+        ensures value { IfOk result (λ sent. sending_of sent ≡ sending_in (node_in (number_of addr.0) self.old.nodes) packet) }
         ensures sending { IfOk result (λ sent. (history : List Row) → Stands self.old.nodes history → sending_of sent ≡ sending_of_story (story (number_of addr.0) history) packet) }
 
         // Full comes exactly where a new neighbour has no place, and Memory only where one needs a ring and none is in hand.

@@ -17,3 +17,7 @@ returns-clause-packets g c = λ history s.
     let key = number_of c.args.addr.0 in
     subst (λ (t : Table). c.remove.result ≡ waiting_at (node_in key t.nodes)) c.self.view_is c.remove.ensures.packets
     ∙ waits_by_rows key c.args.self.now.nodes history s
+
+pub returns-clause-value : goal.returns-clause-value
+returns-clause-value g c =
+    subst (λ (t : Table). c.remove.result ≡ waiting_at (node_in (number_of c.args.addr.0) t.nodes)) c.self.view_is c.remove.ensures.packets

@@ -21,6 +21,10 @@ returns-then-holds-clause-stands g c =
     (was_there c.args.self.now.limit c.args.now key old c.deref.result.now c.holds.result (c.deref.ensures.value ∙ ap (λ (t : Table). t.nodes) c.self.view_is) c.holds.ensures c.if-holds.true
     change (asked_node key c.args.now c.args.times.retrans c.args.packet) new (subst (λ (t : Table). Alters key change t.nodes new) c.self.view_is c.pass.ensures.alters))
 
+pub returns-then-holds-clause-value : goal.returns-then-holds-clause-value
+returns-then-holds-clause-value g c =
+    subst (λ (t : Table). sending_of c.pass.result ≡ sending_in (node_in (number_of c.args.addr.0) t.nodes) c.args.packet) c.self.view_is c.pass.ensures.sending
+
 pub returns-then-holds-clause-sending : goal.returns-then-holds-clause-sending
 returns-then-holds-clause-sending g c = λ history s.
     let key = number_of c.args.addr.0 in
@@ -41,6 +45,13 @@ returns-clause-stands g c =
     let new = c.begin.new.entries.items in
     takes_packet key c.args.now c.args.times.retrans c.args.packet c.args.self.now.limit c.args.self.now.nodes new
     (subst (λ (t : Table). Gives t.limit c.args.now key (λ n. used c.args.now c.args.times.retrans c.args.packet n) (asked_node key c.args.now c.args.times.retrans c.args.packet) t.nodes new) c.self.view_is c.begin.ensures.gives)
+
+pub returns-clause-value : goal.returns-clause-value
+returns-clause-value g c =
+    let key = number_of c.args.addr.0 in
+    let old = c.args.self.now.nodes in
+    let none : node_in key old ≡ None = not_there c.args.self.now.limit c.args.now key old c.deref.result.now c.holds.result (c.deref.ensures.value ∙ ap (λ (t : Table). t.nodes) c.self.view_is) c.holds.ensures c.if-holds.false in
+    sym (ap (λ (o : Option Node). sending_in o c.args.packet) none)
 
 pub returns-clause-sending : goal.returns-clause-sending
 returns-clause-sending g c = λ history s.
