@@ -4,7 +4,7 @@ use Rattle.std.specs.Prelude.{nat_lt, slice_get, if◌then◌else◌}
 use Rattle.std.specs.Option.{option_to_list}
 use Rattle.std.proofs.lemmas.Bool.{cases_lt}
 use Rattle.circular_buffer.specs.Buffer.{keep_last}
-use Rattle.nd_neighbour.specs.History.{Story}
+use Rattle.nd_neighbour.specs.History.{Story, Waits}
 use Rattle.nd_neighbour.specs.AddressResolution.{packets_of, waiting_of}
 
 module _ {X : Type 0} where
@@ -36,3 +36,9 @@ last_few n xs = omega (arith, length-drop (length xs - n) xs)
 
 pub three_wait : (s : Story) → length (waiting_of s) ≤ 3
 three_wait s = last_few 3 (packets_of s)
+
+-- the same of what happened
+pub none_lost : (s : Story) (at : ℕ) (packet : List ℕ) → waiting_of s ++ packet ∷ [] ≡ option_to_list (if nat_lt (length (waiting_of s)) 3 then None else slice_get (waiting_of s ++ packet ∷ []) 0) ++ waiting_of ((at, Waits packet) ∷ s)
+none_lost s at packet =
+    nothing_lost (waiting_of s) packet (three_wait s)
+    ∙ ap (λ (l : List (List ℕ)). option_to_list (if nat_lt (length (waiting_of s)) 3 then None else slice_get (waiting_of s ++ packet ∷ []) 0) ++ l) (keep_more 3 (packets_of s) packet)

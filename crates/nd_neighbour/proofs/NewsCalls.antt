@@ -1,5 +1,5 @@
 -- What news do to the table that stands for the history, and what is told of them.
-use Rattle.std.proofs.Common.{◌≡◌, ℕ, Bool, true, false, cond, eqb, ltb, List, [], ◌∷◌, Option, Some, None, refl, sym, ◌∙◌, ap}
+use Rattle.std.proofs.Common.{◌≡◌, ℕ, Bool, true, false, cond, eqb, ltb, List, [], ◌∷◌, Option, Some, None, refl, sym, ◌∙◌, ap, ◌≤◌, length, arith}
 use Rattle.std.specs.Prelude.{◌&&◌, not, is_some}
 use Rattle.std.proofs.lemmas.Bool.{cond-true, cond-false}
 use Rattle.nd_neighbour.specs.declared.news.Flags.{Flags}
@@ -14,6 +14,7 @@ use Rattle.nd_neighbour.specs.Story.{is_present, mac_of, is_router, word_of, use
 use Rattle.nd_neighbour.specs.Table.{address, node_in, Stands, GainsRow, Alters, NotThere, There}
 use Rattle.nd_neighbour.specs.Place.{Prepares, MakesPlace, Gives, Was, Came}
 use Rattle.nd_neighbour.specs.News.{released_by, ends_router, Tells, told_released, told_turned}
+use Rattle.nd_neighbour.specs.Removal.{waiting_at}
 use Rattle.nd_neighbour.proofs.Stories.{absent_router}
 use Rattle.nd_neighbour.proofs.Changes.{when_given, when_advertised, when_marked, when_confirmed, first_given}
 use Rattle.nd_neighbour.proofs.Steps.{changing, entering, node_present, node_absent}
@@ -142,3 +143,12 @@ advertised_tells key at flags mac reachable old packets turned = tells_by key at
 
 pub marked_tells : (key at : ℕ) (router : Bool) (old : List Node) (packets : List (List ℕ)) (turned : Bool) → packets ≡ told_released (λ n. with_mark router n) (node_in key old) → turned ≡ told_turned (λ n. with_mark router n) (node_in key old) → Tells at key (Marked router) old packets turned
 marked_tells key at router old packets turned = tells_by key at (Marked router) (λ n. with_mark router n) old (λ s p. when_marked key at s p router) packets turned
+
+few_by : (known : Bool) (waiting packets : List (List ℕ)) → packets ≡ cond known waiting [] → length packets ≤ length waiting
+few_by true waiting packets is = let e = ap length is in omega (arith, e)
+few_by false waiting packets is = let e = ap length is in omega (arith, e)
+
+-- no more is released than waited
+pub few_released : (change : Node → Node) (o : Option Node) (packets : List (List ℕ)) → packets ≡ told_released change o → length packets ≤ length (waiting_at o)
+few_released change None packets is = let e = ap length is in omega (arith, e)
+few_released change (Some n) packets is = few_by (is_some (known_mac (change n).stage)) (waiting_in n.stage) packets is

@@ -416,3 +416,7 @@ gives_there limit now key change m old new keeps m_key (Was n found (There i x l
 gives_there limit now key change m old new keeps m_key (Came mid none places is) =
     subst (λ (l : List Node). is_some (node_in key l) ≡ true) (sym is)
     (ap is_some (at_key-put address key m mid ∙ cond-true (eqb m.key key) (Some m) (node_in key mid) (eq-eqb m.key key m_key)))
+
+pub room_has_place : (limit now key : ℕ) (second : Option ℕ) (ns : List Node) → has_room limit now key second ns ≡ true → NoPlace limit now key ns → ⊥
+room_has_place limit now key None ns h = first_has limit now key ns h
+room_has_place limit now key (Some next) ns h = first_has limit now key ns (and_left (has_first limit now key ns) _ h)

@@ -1,9 +1,10 @@
 //! Laws of the definitions, each the contract of a function that does nothing.
 
-ghost use Rattle.std.specs.Prelude.{◌≡◌, ◌≤◌, ◌↔◌, ◌++◌, ◌∷◌, [], ℕ, List, Option, None, length, nat_lt, slice_get, if◌then◌else◌};
+ghost use Rattle.std.specs.Prelude.{◌≡◌, ◌≤◌, ◌↔◌, ◌++◌, ◌∷◌, [], ℕ, true, List, Option, None, length, nat_lt, slice_get, if◌then◌else◌};
 ghost use Rattle.std.specs.Option.{option_to_list};
 ghost use Rattle.circular_buffer.specs.Buffer.{keep_last};
-ghost use Rattle.nd_neighbour.specs.History.{Row, RowKind, Story};
+ghost use Rattle.nd_neighbour.specs.History.{Row, RowKind, Story, Waits};
+ghost use Rattle.nd_neighbour.specs.Room.{has_room};
 ghost use Rattle.nd_neighbour.specs.Entry.{Node};
 ghost use Rattle.nd_neighbour.specs.AddressResolution.{waiting_of};
 ghost use Rattle.nd_neighbour.specs.Table.{Stands};
@@ -25,6 +26,11 @@ pub fn none_overdue()
     ensures table { (nodes : List Node) (history : List Row) (now : ℕ) → Stands nodes history → NoneBefore nodes now ↔ NoneOverdue history now }
 {}
 
+/// Where there is room for a neighbour, and after it for a second one, the first one has place.
+pub fn room_is_place()
+    ensures { (limit now key : ℕ) (second : Option ℕ) (nodes : List Node) → has_room limit now key second nodes ≡ true → NoPlace limit now key nodes → ⊥ }
+{}
+
 /// A cache has no place for a new neighbour exactly where what happened leaves none.
 pub fn full_by_history()
     ensures { (limit now key : ℕ) (nodes : List Node) (history : List Row) → Stands nodes history → NoPlace limit now key nodes ↔ WouldBeFull limit now key history }
@@ -34,5 +40,6 @@ pub fn full_by_history()
 /// new one are the one that has to make place, if one has, and those that wait then.
 pub fn no_packet_is_lost()
     ensures three { (s : Story) → length (waiting_of s) ≤ 3 }
+    ensures history { (s : Story) (at : ℕ) (packet : List ℕ) → waiting_of s ++ packet ∷ [] ≡ option_to_list (if nat_lt (length (waiting_of s)) 3 then None else slice_get (waiting_of s ++ packet ∷ []) 0) ++ waiting_of ((at, Waits packet) ∷ s) }
     ensures kept { (waiting : List (List ℕ)) (packet : List ℕ) → length waiting ≤ 3 → waiting ++ packet ∷ [] ≡ option_to_list (if nat_lt (length waiting) 3 then None else slice_get (waiting ++ packet ∷ []) 0) ++ keep_last 3 (waiting ++ packet ∷ []) }
 {}

@@ -1,4 +1,4 @@
-ghost use Rattle.std.specs.Prelude.{IfErr, IfOk, IsErr, OnErr, OnOk, [], false, is_some, not, true, vec_capacity, vec_len, ◌&&◌, ◌<◌, ◌^◌, ◌↔◌, ◌≡◌};
+ghost use Rattle.std.specs.Prelude.{IfErr, IfOk, IsErr, OnErr, OnOk, [], false, is_some, not, true, vec_capacity, vec_len, ◌&&◌, ◌<◌, ◌^◌, ◌↔◌, ◌≡◌, length, ◌≤◌};
 ghost use Rattle.nd_addr.specs.Number.{number_of};
 ghost use Rattle.nd_neighbour.specs.Entry.{with_mark};
 ghost use Rattle.nd_neighbour.specs.Table.{node_in, Alters};
@@ -89,6 +89,7 @@ impl<A: Allocator> Touched<A> {
 }
 
 impl<A: Allocator + Clone> Cache<A> {
+    ghost use Rattle.nd_neighbour.specs.Removal.{waiting_at};
     ghost use Rattle.nd_neighbour.specs.Table.{node_in};
     ghost use Rattle.nd_neighbour.specs.Place.{NoPlace};
     ghost use Rattle.nd_neighbour.specs.News.{GainsNews, Tells, lets_enter, news_key, news_row};
@@ -105,6 +106,9 @@ impl<A: Allocator + Clone> Cache<A> {
 
         ensures stands { OnOk result (GainsNews self.old.limit now news times self.old.nodes self.new.nodes) }
         ensures told { IfOk result (λ touched. Tells now (news_key news) (news_row news times) self.old.nodes touched.released touched.ends_router) }
+
+        // No more packets are released than waited for that neighbour.
+        ensures few { IfOk result (λ touched. length touched.released ≤ length (waiting_at (node_in (news_key news) self.old.nodes))) }
 
         // It is refused exactly where a new neighbour has no place, and only for that.
         ensures full { IsErr result ↔ ((lets_enter news ≡ true) × NoPlace self.old.limit now (news_key news) self.old.nodes) }

@@ -8,8 +8,8 @@ use Rattle.nd_neighbour.specs.NeighborAdvertisement.{advertised}
 use Rattle.nd_neighbour.specs.Table.{Table, node_in, Alters}
 use Rattle.nd_neighbour.specs.Place.{Gives}
 use Rattle.nd_neighbour.specs.News.{told_released, told_turned}
-use Rattle.nd_neighbour.proofs.Results.{on_ok, if_ok_both}
-use Rattle.nd_neighbour.proofs.NewsCalls.{given_key, given_hears, advertised_gains, marked_gains, given_tells, advertised_tells, marked_tells}
+use Rattle.nd_neighbour.proofs.Results.{on_ok, if_ok, if_ok_both}
+use Rattle.nd_neighbour.proofs.NewsCalls.{given_key, given_hears, advertised_gains, marked_gains, given_tells, advertised_tells, marked_tells, few_released}
 use Rattle.nd_neighbour.proofs.Second.{gives_there}
 use Rattle.nd_neighbour.proofs.cache.Cache.heard.Goals as goal
 
@@ -72,3 +72,24 @@ returns-in-Given-clause-there g c =
     let new = c.give_or_enter.new.entries.items in
     rw c.in-Given.is (on_ok c.give_or_enter.result _ _ (λ gives _. gives_there c.args.self.now.limit c.args.now key change (stale_node key (mark_or mark false) c.args.now mac) c.args.self.now.nodes new (λ n. given_key c.args.now mac mark n n.stage) refl gives)
     (subst (λ (t : Table). OnOk c.give_or_enter.result (Gives t.limit c.args.now key change (stale_node key (mark_or mark false) c.args.now mac) t.nodes new)) c.self.view_is c.give_or_enter.ensures.gives))
+
+pub returns-in-Given-clause-few : goal.returns-in-Given-clause-few
+returns-in-Given-clause-few g c =
+    let key = number_of c.in-Given.addr.0 in
+    let change : Node → Node = λ n. given c.args.now (number_of c.in-Given.mac.0) c.in-Given.mark n in
+    rw c.in-Given.is (if_ok c.give_or_enter.result _ _ (λ t p. few_released change (node_in key c.args.self.now.nodes) t.released p)
+    (subst (λ (t : Table). IfOk c.give_or_enter.result (λ touched. touched.released ≡ told_released change (node_in key t.nodes))) c.self.view_is c.give_or_enter.ensures.released))
+
+pub returns-in-Advert-clause-few : goal.returns-in-Advert-clause-few
+returns-in-Advert-clause-few g c =
+    let key = number_of c.in-Advert.addr.0 in
+    let change : Node → Node = λ n. advertised c.args.now c.in-Advert.flags (option_map (λ m. number_of m.0) c.in-Advert.mac) c.args.times.reachable n in
+    rw c.in-Advert.is (few_released change (node_in key c.args.self.now.nodes) c.advertise.result.released
+    (subst (λ (t : Table). c.advertise.result.released ≡ told_released change (node_in key t.nodes)) c.self.view_is c.advertise.ensures.released))
+
+pub returns-in-Marked-clause-few : goal.returns-in-Marked-clause-few
+returns-in-Marked-clause-few g c =
+    let key = number_of c.in-Marked.addr.0 in
+    let change : Node → Node = λ n. with_mark c.in-Marked.router n in
+    rw c.in-Marked.is (few_released change (node_in key c.args.self.now.nodes) c.mark.result.released
+    (subst (λ (t : Table). c.mark.result.released ≡ told_released change (node_in key t.nodes)) c.self.view_is c.mark.ensures.released))
