@@ -13,5 +13,6 @@ pub mod NewsCalls
 pub mod PacketCalls
 pub mod Forgetting
 pub mod Overdue
+pub mod Pushing
 pub mod Unique
 pub mod Second

@@ -33,6 +33,11 @@ abbrev pub Prepares : ℕ → ℕ → Bool → ℕ → List Row → List Row →
 Prepares limit now enters key history made =
     MatchBool (enters && not (is_present (story key history))) (MakesPlace limit now history made) (made ≡ history)
 
+-- the history behind the end of a neighbour that is pushed out, if one is
+abbrev pub pushing : ℕ → Option ℕ → List Row → List Row
+pushing now None history = history
+pushing now (Some key) history = (now, key, Forgot PushedOut) ∷ history
+
 -- a new neighbour has no place: it isn't present, there are as many as there may be, and none is stale
 pub record WouldBeFull (limit now key : ℕ) (history : List Row) : Type 0 where
   pub absent : is_present (story key history) ≡ false

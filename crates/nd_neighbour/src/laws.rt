@@ -1,6 +1,6 @@
 //! Laws of the definitions, each the contract of a function that does nothing.
 
-ghost use Rattle.std.specs.Prelude.{◌≡◌, ◌≤◌, ◌↔◌, ◌++◌, ◌∷◌, [], ℕ, true, List, Option, None, length, nat_lt, slice_get, if◌then◌else◌};
+ghost use Rattle.std.specs.Prelude.{◌≡◌, ◌≤◌, ◌↔◌, ◌++◌, ◌∷◌, [], ℕ, Bool, true, List, Option, None, length, nat_lt, slice_get, if◌then◌else◌};
 ghost use Rattle.std.specs.Option.{option_to_list};
 ghost use Rattle.circular_buffer.specs.Buffer.{keep_last};
 ghost use Rattle.nd_neighbour.specs.History.{Row, RowKind, Story, Waits};
@@ -9,7 +9,7 @@ ghost use Rattle.nd_neighbour.specs.Entry.{Node};
 ghost use Rattle.nd_neighbour.specs.AddressResolution.{waiting_of};
 ghost use Rattle.nd_neighbour.specs.Table.{Stands};
 ghost use Rattle.nd_neighbour.specs.Due.{Falls, FirstDue, NoneBefore, NoneOverdue};
-ghost use Rattle.nd_neighbour.specs.Place.{IsLongestStale, NoPlace, WouldBeFull};
+ghost use Rattle.nd_neighbour.specs.Place.{IsLongestStale, NoPlace, Prepares, WouldBeFull, pushing};
 
 /// The definitions give one table, one thing that falls due first, and one neighbour that makes place.
 pub fn one_answer()
@@ -24,6 +24,11 @@ pub fn one_answer()
 pub fn none_overdue()
     ensures still { (history : List Row) (now key : ℕ) (kind : RowKind) → NoneOverdue history now → NoneOverdue ((now, key, kind) ∷ history) now }
     ensures table { (nodes : List Node) (history : List Row) (now : ℕ) → Stands nodes history → NoneBefore nodes now ↔ NoneOverdue history now }
+{}
+
+/// What makes place is the end of one neighbour, or nothing.
+pub fn one_is_pushed_out()
+    ensures { (limit now key : ℕ) (enters : Bool) (history made : List Row) → Prepares limit now enters key history made → (pushed : Option ℕ) × (made ≡ pushing now pushed history) }
 {}
 
 /// Where there is room for a neighbour, and after it for a second one, the first one has place.
