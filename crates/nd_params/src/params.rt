@@ -40,7 +40,7 @@ impl Model for Params {
 
     ghost view = { λ p. record { hop_limit = p.hop_limit; mtu = p.mtu; base_reachable_time = p.base_reachable_time; reachable_time = p.reachable_time; retrans_timer = p.retrans_timer; managed = p.managed; other = p.other; drawn_at = p.drawn_at } };
 
-    ghost invariant = { λ p. p.drawn_at < 2 ^ 62 };
+    ghost invariant = { λ p. (p.drawn_at < 2 ^ 62) × (p.reachable_time < 2 ^ 62) × (0 < p.retrans_timer) };
 
     ghost inverse = { λ v. record { hop_limit = v.hop_limit; mtu = v.mtu; base_reachable_time = v.base_reachable_time; reachable_time = v.reachable_time; retrans_timer = v.retrans_timer; managed = v.managed; other = v.other; drawn_at = v.drawn_at } };
 }
@@ -48,7 +48,8 @@ impl Model for Params {
 impl Params {
     /// The defaults (RFC 4861, section 10), with a first ReachableTime that was drawn for their base, at a moment, both in milliseconds.
     pub fn new(now: u64, drawn: u64) -> Params
-        requires { now < 2 ^ 62 }
+        requires moment { now < 2 ^ 62 }
+        requires span { drawn < 2 ^ 62 }
         ensures value { result ≡ record { hop_limit = default_hop_limit; mtu = ethernet_mtu; base_reachable_time = reachable_time; reachable_time = drawn; retrans_timer = retrans_timer; managed = false; other = false; drawn_at = now } }
         ensures stands { Stands result (Drew now drawn ∷ []) }
     {

@@ -1,6 +1,6 @@
-ghost use Rattle.std.specs.Prelude.{◌≡◌, ◌*◌, ◌/◌, ◌^◌, ◌<◌, ◌+◌, ◌∷◌, List};
+ghost use Rattle.std.specs.Prelude.{◌≡◌, ◌*◌, ◌/◌, ◌^◌, ◌<◌, ◌+◌, ◌∷◌, List, ℕ};
 ghost use Rattle.nd_params.specs.History.{Row, Drew, next_draw, redraw_after};
-ghost use Rattle.nd_params.specs.Params.{Stands, GainsRows};
+ghost use Rattle.nd_params.specs.Params.{Stands, GainsRows, reachable_range, MayBeDrawn};
 
 use crate::params::Params;
 
@@ -19,7 +19,8 @@ impl Params {
 
     /// ReachableTime was drawn again at a moment, both in milliseconds.
     pub fn redrawn(&mut self, now: u64, drawn: u64)
-        requires { now < 2 ^ 62 }
+        requires moment { now < 2 ^ 62 }
+        requires span { drawn < 2 ^ 62 }
         ensures value { self.new ≡ record self.old { reachable_time = drawn; drawn_at = now } }
         ensures stands { GainsRows self.old self.new (λ history. Drew now drawn ∷ history) }
     {
@@ -31,7 +32,9 @@ impl Params {
 /// The least and the greatest ReachableTime that may be drawn for a base, all in milliseconds: half of it and one and a half of it
 /// (RFC 4861, section 6.3.2), both rounded down.
 pub fn reachable_range(base: u32) -> (u64, u64)
-    ensures { result ≡ (base / 2, 3 * base / 2) }
+    ensures value { result ≡ reachable_range base }
+    // What may be drawn for a base is a ReachableTime that `new`, `heard_ra` and `redrawn` take.
+    ensures below { (value : ℕ) → MayBeDrawn base value → value < 2 ^ 62 }
 {
     let base = u64::from(base);
     (base / 2, 3 * base / 2)

@@ -1,4 +1,4 @@
-ghost use Rattle.std.specs.Prelude.{◌≡◌, ◌^◌, ◌<◌, ◌∷◌, List, is_some, not, ◌==◌};
+ghost use Rattle.std.specs.Prelude.{◌≡◌, ◌^◌, ◌<◌, ◌∷◌, List, is_some, not, ◌==◌, IfSome};
 ghost use Rattle.nd_decode.specs.Option.{Said};
 ghost use Rattle.nd_decode.specs.Pieces.{options_left};
 ghost use Rattle.nd_params.specs.History.{Row, Heard, first_mtu, valid_mtu_or, base_of, then_heard};
@@ -26,6 +26,7 @@ impl Params {
         drawn: Option<u64>,
     )
         requires moment { now < 2 ^ 62 }
+        requires span { IfSome drawn (λ value. value < 2 ^ 62) }
         requires drawn { is_some drawn ≡ redraws self.old.base_reachable_time ra.now.reachable_time }
         ensures stands { GainsRows self.old self.new (then_heard now ra.now (options_left options.entry) drawn) }
     {

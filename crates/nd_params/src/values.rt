@@ -1,4 +1,4 @@
-ghost use Rattle.std.specs.Prelude.{◌≡◌, List};
+ghost use Rattle.std.specs.Prelude.{◌≡◌, List, ◌<◌, ◌^◌};
 ghost use Rattle.nd_params.specs.History.{Row, hop_limit_of, mtu_of, base_of, retrans_of, managed_of, other_of, reachable_of};
 ghost use Rattle.nd_params.specs.Params.{Stands};
 
@@ -32,6 +32,7 @@ impl Params {
     /// ReachableTime, in milliseconds.
     pub fn reachable_time(&self) -> u64
         ensures value { result ≡ self.now.reachable_time }
+        ensures below { result < 2 ^ 62 }
         ensures by_history { (history : List Row) → Stands self.now history → result ≡ reachable_of history }
     {
         self.reachable_time
@@ -40,6 +41,7 @@ impl Params {
     /// RetransTimer, in milliseconds.
     pub fn retrans_timer(&self) -> u32
         ensures value { result ≡ self.now.retrans_timer }
+        ensures positive { 0 < result }
         ensures by_history { (history : List Row) → Stands self.now history → result ≡ retrans_of history }
     {
         self.retrans_timer

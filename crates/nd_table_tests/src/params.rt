@@ -41,7 +41,8 @@ const DNS_ADVERTISEMENT: [u8; 72] = [
 
 /// Hears an advertisement, and draws this value where one is drawn. It tells whether it was.
 fn hear(params: &mut Params, now: u64, message: MessageRef<'_>, value: u64) -> bool
-    requires { now < 2 ^ 62 }
+    requires moment { now < 2 ^ 62 }
+    requires span { value < 2 ^ 62 }
 {
     match message.body {
         Body::Ra(ra) => {
