@@ -3,7 +3,7 @@ ghost use Rattle.std.specs.Option.{option_map};
 ghost use Rattle.nd_addr.specs.Number.{number_of};
 ghost use Rattle.nd_routers.specs.Routers.{first_due};
 ghost use Rattle.nd_table.specs.Due.{lesser};
-ghost use Rattle.nd_lifetime.specs.History.{stands};
+ghost use Rattle.nd_lifetime.specs.History.{end_of};
 ghost use Rattle.nd_lifetime.specs.Listing.{end_in};
 
 use crate::default_router_selection::forget;
@@ -15,7 +15,7 @@ use nd_table::{compare, is_at, next_date};
 use std::alloc::Allocator;
 
 impl<A: Allocator + Clone> Routers<A> {
-    ghost use Rattle.nd_routers.specs.History.{RouterRow, LeftList};
+    ghost use Rattle.nd_routers.specs.History.{RouterRow, LeftList, announcements};
     ghost use Rattle.nd_routers.specs.Routers.{same, Stands, GainsRow, next_end, IsSettled, NoneBefore};
     ghost use Rattle.nd_routers.specs.Due.{FirstDue, NextDue};
 
@@ -51,6 +51,7 @@ impl<A: Allocator + Clone> Routers<A> {
     /// was in it. It takes no memory.
     pub fn ended(&mut self, source: Addr) -> bool
         ensures stands { (at : ℕ) → GainsRow self.old self.new (LeftList at (number_of source.0)) }
+        ensures by_history { (history : List RouterRow) → Stands self.old history → result ≡ is_some (end_of same (number_of source.0) (announcements history)) }
         ensures listed { result ≡ is_some (end_in same (number_of source.0) self.old.entries) }
         ensures settled { (now : ℕ) → IsSettled self.old.entries now → IsSettled self.new.entries now }
     {

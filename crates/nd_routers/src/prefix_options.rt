@@ -3,7 +3,8 @@ ghost use Rattle.nd_routers.specs.PrefixOptions.{is_on_link, max_prefixes};
 ghost use Rattle.nd_addr.specs.Prefix.{PrefixValue};
 ghost use Rattle.nd_decode.specs.Pieces.{options_left};
 ghost use Rattle.nd_lifetime.specs.History.{Row, last_moment};
-ghost use Rattle.nd_lifetime.specs.Listing.{fits, announced_all, then_announced, Stands};
+ghost use Rattle.nd_lifetime.specs.Listing.{fits, announced_all, then_announced, Lists, Stands};
+ghost use Rattle.nd_lifetime.specs.declared.lasting.Lasting.{Lasting};
 ghost use Rattle.nd_lifetime.specs.Same.{same_prefix};
 
 use crate::prefixes::{MAX_PREFIXES, Prefixes};
@@ -18,7 +19,9 @@ impl<A: Allocator + Clone> Prefixes<A> {
     /// Whether there is room for what the options of a Router Advertisement announce at a moment in milliseconds, taken in order: where it
     /// is so, `heard_ra` isn't refused. It takes no memory.
     pub fn fits(&self, now: u64, options: Options<'_>) -> bool
-        ensures { result ≡ fits same_prefix max_prefixes now (prefixes_in (options_left options.entry)) self.now }
+        ensures value { result ≡ fits same_prefix max_prefixes now (prefixes_in (options_left options.entry)) self.now }
+        ensures by_history { (history : List (Row PrefixValue)) (es : List (Lasting PrefixValue)) → Stands same_prefix self.now history → last_moment history ≤ now → Lists same_prefix history now es
+            → result ≡ fits same_prefix max_prefixes now (prefixes_in (options_left options.entry)) es }
     {
         fits_all(&self.entries, MAX_PREFIXES, now, OnLink { options })
     }

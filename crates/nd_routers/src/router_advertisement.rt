@@ -1,14 +1,16 @@
-ghost use Rattle.std.specs.Prelude.{◌≡◌, ◌<◌, ◌^◌, ◌↔◌, ◌∷◌, List, [], IfOk, IfErr, OnOk, OnErr, IsErr, Some, false};
+ghost use Rattle.std.specs.Prelude.{◌≡◌, ◌≤◌, ◌<◌, ◌^◌, ◌↔◌, ◌∷◌, ℕ, length, List, [], IfOk, IfErr, OnOk, OnErr, IsErr, Some, false};
 ghost use Rattle.nd_routers.specs.RouterAdvertisement.{change_of};
 ghost use Rattle.nd_addr.specs.Number.{number_of};
 ghost use Rattle.nd_lifetime.specs.History.{stands};
-ghost use Rattle.nd_lifetime.specs.Listing.{fits};
+ghost use Rattle.nd_lifetime.specs.Listing.{fits, Lists};
+ghost use Rattle.nd_lifetime.specs.declared.lasting.Lasting.{Lasting};
+ghost use Rattle.nd_routers.specs.Routers.{max_routers, same};
 
 use crate::default_router_selection::forget;
 use crate::router::Router;
 use crate::routers::{MAX_ROUTERS, Routers};
 use nd_addr::Addr;
-use nd_lifetime::{Limit, TableRefusal, announce, count, has, stands};
+use nd_lifetime::{Lasting, Limit, TableRefusal, announce, count, has, stands};
 use std::alloc::Allocator;
 
 /// What a Router Advertisement does to the list of default routers.
@@ -32,12 +34,11 @@ impl<A: Allocator + Clone> Routers<A> {
     /// Whether there is room for a router that announces itself at a moment in milliseconds, for a lifetime in seconds: where it is so,
     /// `heard_ra` isn't refused. It takes no memory.
     pub fn fits(&self, now: u64, source: Addr, lifetime: u16) -> bool
-        ensures { result ≡ fits same max_routers now ((number_of source.0, lifetime) ∷ []) self.now.entries }
+        ensures value { result ≡ fits same max_routers now ((number_of source.0, lifetime) ∷ []) self.now.entries }
+        ensures by_history { (history : List RouterRow) (es : List (Lasting ℕ)) → Stands self.now history → Lists same (announcements history) now es
+            → result ≡ fits same max_routers now ((number_of source.0, lifetime) ∷ []) es }
     {
-        if stands(&self.entries, now, &source) {
-            return true;
-        }
-        lifetime == 0 || count(&self.entries, now) < MAX_ROUTERS
+        fits_one(&self.entries, now, source, lifetime)
     }
 
     /// A router is heard that announces itself, at a moment in milliseconds, for a lifetime in seconds (RFC 4861, section 6.3.4): it
@@ -80,6 +81,17 @@ impl<A: Allocator + Clone> Routers<A> {
         }
         Ok(change_by(before, true))
     }
+}
+
+/// Whether there is room for a router that announces itself.
+fn fits_one(entries: &[Lasting<Router>], now: u64, source: Addr, lifetime: u16) -> bool
+    requires { length entries.now ≤ max_routers }
+    ensures { result ≡ fits same max_routers now ((number_of source.0, lifetime) ∷ []) entries.now }
+{
+    if stands(entries, now, &source) {
+        return true;
+    }
+    lifetime == 0 || count(entries, now) < MAX_ROUTERS
 }
 
 /// What changes where a router was listed before or not, and is then or not.

@@ -1,6 +1,7 @@
 use Rattle.std.proofs.Common.{◌∙◌, ap}
+use Rattle.std.specs.Prelude.{is_some}
 use Rattle.nd_addr.specs.Number.{number_of}
-use Rattle.nd_lifetime.specs.Listing.{without}
+use Rattle.nd_lifetime.specs.Listing.{end_in, without}
 use Rattle.nd_routers.specs.DefaultRouterSelection.{others}
 use Rattle.nd_routers.specs.Routers.{same}
 use Rattle.nd_routers.proofs.Steps.{gains_left, settled_without}
@@ -17,3 +18,9 @@ pub returns-clause-settled : goal.returns-clause-settled
 returns-clause-settled g c = λ now h.
     let key = number_of c.args.source.0 in
     rw (c.remove.ensures.items ∙ ap (λ t. without same key t.entries) c.self.view_is) (settled_without c.args.self.now.entries now key h)
+
+pub returns-clause-by_history : goal.returns-clause-by_history
+returns-clause-by_history g c = λ history s.
+    let key = number_of c.args.source.0 in
+    c.has-listed.ensures ∙ (ap (λ es. is_some (end_in same key es)) c.deref.ensures.value
+    ∙ (ap (λ t. is_some (end_in same key t.entries)) c.self.view_is ∙ ap is_some (s.routers.ends key)))
