@@ -1,5 +1,5 @@
 ghost use Rattle.std.specs.Prelude.{◌≢◌, ◌^◌, ◌⊎◌, ℕ, OnOk, OnErr, IsErrOf, Some, None, Err};
-ghost use Rattle.nd_io.specs.Counts.{HasRisen, HasGrownBy};
+ghost use Rattle.nd_io.specs.Counts.{HasRisen, HasGrownBy, most_reads};
 ghost use Rattle.nd_io.specs.Run.{Wrote, WroteFront, Answered};
 ghost use Rattle.nd_io.specs.Each.{text_of_each, malformed_of_each};
 ghost use Rattle.nd_check.specs.Check.{answer_to};
@@ -57,7 +57,7 @@ pub fn run_check<R: Input, W: Output, A: Allocator + Clone>(
     ensures ok { OnOk result (Wrote (text_of_each answer_to) (malformed_of_each answer_to) (R.remaining reader.old) (W.contents writer.old) (W.contents writer.new) None) }
     ensures line { (n : ℕ) → IsErrOf result (ToolFault.Line n) → Wrote (text_of_each answer_to) (malformed_of_each answer_to) (R.remaining reader.old) (W.contents writer.old) (W.contents writer.new) (Some n) }
     ensures front { OnErr result (WroteFront (text_of_each answer_to) (R.remaining reader.old) (W.contents writer.old) (W.contents writer.new)) }
-    ensures read_failed { IsErrOf result ToolFault.Read → HasRisen (R.failed reader.old) (R.failed reader.new) ⊎ HasGrownBy (2 ^ 40) (R.given reader.old) (R.given reader.new) }
+    ensures read_failed { IsErrOf result ToolFault.Read → HasRisen (R.failed reader.old) (R.failed reader.new) ⊎ HasGrownBy most_reads (R.given reader.old) (R.given reader.new) }
     // Where a read fails, the answers to all lines that were read before it are written.
     ensures answered { IsErrOf result ToolFault.Read → Answered (text_of_each answer_to) (malformed_of_each answer_to) (R.remaining reader.old) (R.remaining reader.new) (W.contents writer.old) (W.contents writer.new) }
     ensures write_failed { IsErrOf result ToolFault.Write → HasRisen (W.failed writer.old) (W.failed writer.new) }

@@ -1,4 +1,5 @@
 -- What holds of lines that are answered each by itself, for the laws of what answers them.
+use Rattle.nd_io.specs.Lines.{longest_line}
 use Rattle.std.specs.Prelude.{◌≡◌, ◌<◌, ◌+◌, ℕ, List, Option, None, Bool, length, if◌then◌else◌}
 use Rattle.std.proofs.Common.{ap}
 use Rattle.std.proofs.lemmas.Bool.{lt-leb}
@@ -13,5 +14,5 @@ each_unanswered answer_to line none = (
 )
 
 -- a line that is too long is malformed
-pub each_too_long : (answer_to : List ℕ → Option (List ℕ)) (line : List ℕ) → 16384 < length line → IsMalformed (text_of_each answer_to) (malformed_of_each answer_to) line
-each_too_long answer_to line long = each_unanswered answer_to line (ap (λ (b : Bool). if b then answer_to line else None) (lt-leb (length line) 16384 long))
+pub each_too_long : (answer_to : List ℕ → Option (List ℕ)) (line : List ℕ) → longest_line < length line → IsMalformed (text_of_each answer_to) (malformed_of_each answer_to) line
+each_too_long answer_to line long = each_unanswered answer_to line (ap (λ (b : Bool). if b then answer_to line else None) (lt-leb (length line) longest_line long))

@@ -1,5 +1,6 @@
 //! What answers lines, one after the other.
 
+ghost use Rattle.nd_io.specs.Lines.{longest_line};
 ghost use Rattle.std.specs.Prelude.{◌≡◌, ◌≤◌, ◌<◌, ◌++◌, ◌∷◌, ℕ, List, Option, [], Some, None, length, string_bytes, OnOk, IsErrOf};
 ghost use Rattle.nd_io.specs.Answers.{Tells, Passes, IsMalformed};
 
@@ -27,7 +28,7 @@ pub trait Answering {
 
     /// Appends the answer to one line, which comes without its line feed.
     fn answer<A: Allocator>(&mut self, line: &[u8], text: &mut String<A>) -> Result<(), Unanswered>
-        requires { length line.now ≤ 16384 }
+        requires { length line.now ≤ longest_line }
         ensures answered { OnOk result (Tells (text_for self.old) (text_for self.new) line.now (string_bytes text.old) (string_bytes text.new)) }
         ensures passed { OnOk result (Passes (malformed_from self.old) (malformed_from self.new) line.now) }
         ensures malformed { IsErrOf result Unanswered.Malformed → IsMalformed (text_for self.old) (malformed_from self.old) line.now }
@@ -39,5 +40,5 @@ pub trait Answering {
     ghost none_malformed: { (answering : Self) (n : ℕ) → malformed_from answering n [] ≡ None };
 
     /// A line that is too long is malformed.
-    ghost too_long: { (answering : Self) (line : List ℕ) → 16384 < length line → IsMalformed (text_for answering) (malformed_from answering) line };
+    ghost too_long: { (answering : Self) (line : List ℕ) → longest_line < length line → IsMalformed (text_for answering) (malformed_from answering) line };
 }

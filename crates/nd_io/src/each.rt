@@ -1,5 +1,6 @@
 //! Answers that depend on one line alone.
 
+ghost use Rattle.nd_io.specs.Lines.{longest_line};
 ghost use Rattle.std.specs.Prelude.{◌≡◌, ◌≤◌, ◌++◌, ℕ, List, Option, None, length, string_bytes, OnOk, IsErrOf, IsSomeAnd, refl};
 ghost use Rattle.nd_io.specs.Each.{text_of_each, malformed_of_each};
 ghost use Rattle.nd_io.specs.EachLaws.{each_too_long};
@@ -18,7 +19,7 @@ pub trait AnsweringEach {
         line: &[u8],
         text: &mut String<A>,
     ) -> Result<(), Unanswered>
-        requires { length line.now ≤ 16384 }
+        requires { length line.now ≤ longest_line }
         ensures answered { OnOk result (IsSomeAnd (answer_to line.now) (λ told. string_bytes text.new ≡ string_bytes text.old ++ told)) }
         ensures malformed { IsErrOf result Unanswered.Malformed → answer_to line.now ≡ None }
         // A malformed line is told, whatever memory there is.

@@ -3,8 +3,8 @@
 ghost use Rattle.std.specs.Prelude.{◌≡◌, ◌≢◌, ◌≤◌, ◌<◌, ◌^◌, ◌++◌, ◌∷◌, ◌⊎◌, ℕ, List, [], None, Some, Err, length, string_bytes, OnOk, OnErr, IsErrOf};
 ghost use Rattle.std.specs.Io.KnownBytes.{Appends};
 ghost use Rattle.nd_io.specs.Answers.{TellsUpTo, Passes, IsMalformed};
-ghost use Rattle.nd_io.specs.Counts.{HasRisen, HasGrownBy};
-ghost use Rattle.nd_io.specs.Lines.{lines_of};
+ghost use Rattle.nd_io.specs.Counts.{HasRisen, HasGrownBy, most_reads};
+ghost use Rattle.nd_io.specs.Lines.{lines_of, longest_line};
 ghost use Rattle.nd_io.specs.Run.{Wrote, WroteFrom, WroteFront, Answered};
 ghost use Rattle.nd_io.specs.Written.{AppendsFront};
 
@@ -42,7 +42,7 @@ fn answer_line<L: Answering, W: Output, A: Allocator>(
     text: &mut String<A>,
     writer: &mut W,
 ) -> Result<(), ToolFault>
-    requires { length line.now ≤ 16384 }
+    requires { length line.now ≤ longest_line }
     ensures told { OnOk result (TellsUpTo (L.text_for answering.old) (L.text_for answering.new) line.now (W.contents writer.old) (W.contents writer.new) (string_bytes text.old) (string_bytes text.new)) }
     ensures passed { OnOk result (Passes (L.malformed_from answering.old) (L.malformed_from answering.new) line.now) }
     ensures numbered { (n : ℕ) → IsErrOf result (ToolFault.Line n) → n ≡ number }
@@ -76,7 +76,7 @@ fn answer_last<L: Answering, W: Output, A: Allocator>(
     text: &mut String<A>,
     writer: &mut W,
 ) -> Result<(), ToolFault>
-    requires short { length line.now ≤ 16384 }
+    requires short { length line.now ≤ longest_line }
     requires last { 0 < length line.now → lines_of line.now ≡ line.now ∷ [] }
     requires empty { string_bytes text.old ≡ [] }
     ensures ok { OnOk result (WroteFrom (L.text_for answering.old) (L.malformed_from answering.old) number line.now (W.contents writer.old) (W.contents writer.new) None) }
@@ -105,7 +105,7 @@ pub fn run_lines<R: Input, W: Output, L: Answering, A: Allocator + Clone>(
     ensures ok { OnOk result (Wrote (L.text_for answering.old) (L.malformed_from answering.old) (R.remaining reader.old) (W.contents writer.old) (W.contents writer.new) None) }
     ensures line { (n : ℕ) → IsErrOf result (ToolFault.Line n) → Wrote (L.text_for answering.old) (L.malformed_from answering.old) (R.remaining reader.old) (W.contents writer.old) (W.contents writer.new) (Some n) }
     ensures front { OnErr result (WroteFront (L.text_for answering.old) (R.remaining reader.old) (W.contents writer.old) (W.contents writer.new)) }
-    ensures read_failed { IsErrOf result ToolFault.Read → HasRisen (R.failed reader.old) (R.failed reader.new) ⊎ HasGrownBy (2 ^ 40) (R.given reader.old) (R.given reader.new) }
+    ensures read_failed { IsErrOf result ToolFault.Read → HasRisen (R.failed reader.old) (R.failed reader.new) ⊎ HasGrownBy most_reads (R.given reader.old) (R.given reader.new) }
     // Where a read fails, the answers to all lines that were read before it are written.
     ensures answered { IsErrOf result ToolFault.Read → Answered (L.text_for answering.old) (L.malformed_from answering.old) (R.remaining reader.old) (R.remaining reader.new) (W.contents writer.old) (W.contents writer.new) }
     ensures write_failed { IsErrOf result ToolFault.Write → HasRisen (W.failed writer.old) (W.failed writer.new) }

@@ -38,8 +38,8 @@ waits_at : (key : ℕ) (s : Story) (o : Option Node) → o ≡ node_of key s →
 waits_at key s None is = sym (none_waits s (node_absent key s (sym is)))
 waits_at key s (Some n) is = let known = node_present key s n (sym is) in node_waits key s n known.0 known.1
 
-pub waits_by_rows : (key : ℕ) (old : List Node) (history : List Row) → Stands old history → waiting_at (node_in key old) ≡ waits_of (story key history)
-waits_by_rows key old history s = waits_at key (story key history) (node_in key old) (s.each key)
+pub waits_by_history : (key : ℕ) (old : List Node) (history : List Row) → Stands old history → waiting_at (node_in key old) ≡ waits_of (story key history)
+waits_by_history key old history s = waits_at key (story key history) (node_in key old) (s.each key)
 
 -- what is shown
 state_is : (t : ℕ) (mac : Option ℕ) (w : Option Word) (u : Option Use) (r : Option Resolution) (ws : List (List ℕ)) → state_in (stage_by mac w u r ws) t ≡ state_by mac w u t
@@ -66,12 +66,12 @@ seen_told key t s (Some n) is =
     let known = node_present key s n (sym is) in
     ap (λ (m : Node). Some (seen t m)) known.1 ∙ the_seen key t s known.0
 
-pub seen_by_rows : (key t : ℕ) (nodes : List Node) (history : List Row) → Stands nodes history → option_map (seen t) (node_in key nodes) ≡ seen_of key (story key history) t
-seen_by_rows key t nodes history s = seen_told key t (story key history) (node_in key nodes) (s.each key)
+pub seen_by_history : (key t : ℕ) (nodes : List Node) (history : List Row) → Stands nodes history → option_map (seen t) (node_in key nodes) ≡ seen_of key (story key history) t
+seen_by_history key t nodes history s = seen_told key t (story key history) (node_in key nodes) (s.each key)
 
 pub lists_all : (t : ℕ) (nodes : List Node) (history : List Row) (shown : List Seen) → shown ≡ map (seen t) nodes → Stands nodes history → Lists history t shown
 lists_all t nodes history shown is s = rw is (record {
-  each = λ key. at_key-map address seen_key (seen t) (λ n. refl) key nodes ∙ seen_by_rows key t nodes history s;
+  each = λ key. at_key-map address seen_key (seen t) (λ n. refl) key nodes ∙ seen_by_history key t nodes history s;
   order = Rises-map address seen_key (seen t) (λ n. refl) nodes s.order;
 })
 

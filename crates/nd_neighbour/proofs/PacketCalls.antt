@@ -110,5 +110,5 @@ sending_told key packet s (Some n) is =
     ap (λ (m : Node). sending_to m.stage packet) known.1
     ∙ (sending_by_stage packet (mac_of s) (word_of s) (use_of s) (resolution_of s) (waiting_of s) ∙ ap (λ b. sending_by b (mac_of s) (waiting_of s) packet) (sym known.0))
 
-pub sending_by_rows : (key : ℕ) (packet : List ℕ) (old : List Node) (history : List Row) → Stands old history → sending_in (node_in key old) packet ≡ sending_of_story (story key history) packet
-sending_by_rows key packet old history s = sending_told key packet (story key history) (node_in key old) (s.each key)
+pub sending_by_history : (key : ℕ) (packet : List ℕ) (old : List Node) (history : List Row) → Stands old history → sending_in (node_in key old) packet ≡ sending_of_story (story key history) packet
+sending_by_history key packet old history s = sending_told key packet (story key history) (node_in key old) (s.each key)

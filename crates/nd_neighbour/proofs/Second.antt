@@ -357,8 +357,8 @@ one_made limit now history a b true p q = one_place limit now history a b p q
 one_made limit now history a b false p q = p ∙ sym q
 
 module _ (limit now key : ℕ) (ns : List Node) (history : List Row) (s : Stands ns history) where
-  first_by_rows : has_first limit now key ns ≡ true → WouldBeFull limit now key history → ⊥
-  first_by_rows h full = first_has limit now key ns h ((full_by_history limit now key ns history s).1 full)
+  first_by_history : has_first limit now key ns ≡ true → WouldBeFull limit now key history → ⊥
+  first_by_history h full = first_has limit now key ns h ((full_by_history limit now key ns history s).1 full)
 
   -- the rows of a packet for the first, and the list that stands for them
   module _ (retrans : ℕ) (packet : List ℕ) (h : has_first limit now key ns ≡ true) where
@@ -386,16 +386,16 @@ module _ (limit now key : ℕ) (ns : List Node) (history : List Row) (s : Stands
     | inr e ↦ absurd (room.first ((full_by_history limit now key ns history s).0 (first_full limit now key ns e)))
   ]
 
-  pub room_by_rows : (second : Option ℕ) → (has_room limit now key second ns ≡ true) ↔ HasRoom limit now key second history
-  room_by_rows None = (
-    (λ h. record { first = first_by_rows h; both = tt }),
+  pub room_by_history : (second : Option ℕ) → (has_room limit now key second ns ≡ true) ↔ HasRoom limit now key second history
+  room_by_history None = (
+    (λ h. record { first = first_by_history h; both = tt }),
     (λ room. first_back None room),
   )
-  room_by_rows (Some next) = (
+  room_by_history (Some next) = (
     (λ h.
         let first = and_left (has_first limit now key ns) _ h in
         record {
-          first = first_by_rows first;
+          first = first_by_history first;
           both = λ retrans packet made prepares. second_on retrans packet first next made (and_right (has_first limit now key ns) _ h) prepares;
         }),
     (λ room. let first = first_back (Some next) room in and_both (has_first limit now key ns) _ first (second_back 0 [] first next room)),

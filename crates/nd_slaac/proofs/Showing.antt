@@ -19,13 +19,13 @@ seen_by : (key t : ℕ) (o : Option Forming) (c w : Bool) (sent : ℕ) (p v : Op
 seen_by key t None c w sent p v = refl
 seen_by key t (Some f) c w sent p v = rw (state_is f c w sent t p) refl
 
-seen_by_rows : (key t : ℕ) (xs : List Address) (history : List Row) → Stands xs history → option_map (seen t) (address_in key xs) ≡ seen_of key (story key history) t
-seen_by_rows key t xs history s =
+seen_by_history : (key t : ℕ) (xs : List Address) (history : List Row) → Stands xs history → option_map (seen t) (address_in key xs) ≡ seen_of key (story key history) t
+seen_by_history key t xs history s =
     let st = story key history in
     ap (option_map (seen t)) (s.each key) ∙ seen_by key t (forming_of st) (has_conflict st) (was_assigned st) (sent_of st) (preferred_end st) (valid_end st)
 
 pub lists_all : (t : ℕ) (xs : List Address) (history : List Row) (shown : List Seen) → shown ≡ map (seen t) xs → Stands xs history → Lists history t shown
 lists_all t xs history shown is s = rw is (record {
-  each = λ key. at_key-map key_of seen_key (seen t) (λ a. refl) key xs ∙ seen_by_rows key t xs history s;
+  each = λ key. at_key-map key_of seen_key (seen t) (λ a. refl) key xs ∙ seen_by_history key t xs history s;
   order = Rises-map key_of seen_key (seen t) (λ a. refl) xs s.order;
 })

@@ -1,7 +1,7 @@
 //! Doing what is asked.
 
 ghost use Rattle.std.specs.Prelude.{◌≢◌, ◌^◌, ◌⊎◌, ℕ, OnOk, OnErr, IsErrOf, Some, None, Err};
-ghost use Rattle.nd_io.specs.Counts.{HasRisen, HasGrownBy};
+ghost use Rattle.nd_io.specs.Counts.{HasRisen, HasGrownBy, most_reads};
 ghost use Rattle.nd_io.specs.Run.{Wrote, WroteFront, Answered};
 ghost use Rattle.ndpctl.specs.Run.{text_asked, malformed_asked};
 
@@ -22,7 +22,7 @@ pub fn run<R: Input, W: Output, A: Allocator + Clone>(
     ensures ok { OnOk result (Wrote (text_asked asked) (malformed_asked asked) (R.remaining reader.old) (W.contents writer.old) (W.contents writer.new) None) }
     ensures line { (n : ℕ) → IsErrOf result (ToolFault.Line n) → Wrote (text_asked asked) (malformed_asked asked) (R.remaining reader.old) (W.contents writer.old) (W.contents writer.new) (Some n) }
     ensures front { OnErr result (WroteFront (text_asked asked) (R.remaining reader.old) (W.contents writer.old) (W.contents writer.new)) }
-    ensures read_failed { IsErrOf result ToolFault.Read → HasRisen (R.failed reader.old) (R.failed reader.new) ⊎ HasGrownBy (2 ^ 40) (R.given reader.old) (R.given reader.new) }
+    ensures read_failed { IsErrOf result ToolFault.Read → HasRisen (R.failed reader.old) (R.failed reader.new) ⊎ HasGrownBy most_reads (R.given reader.old) (R.given reader.new) }
     ensures answered { IsErrOf result ToolFault.Read → Answered (text_asked asked) (malformed_asked asked) (R.remaining reader.old) (R.remaining reader.new) (W.contents writer.old) (W.contents writer.new) }
     ensures write_failed { IsErrOf result ToolFault.Write → HasRisen (W.failed writer.old) (W.failed writer.new) }
     ensures never_wire { result ≢ Err ToolFault.Wire }

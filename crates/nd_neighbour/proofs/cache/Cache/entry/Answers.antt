@@ -3,7 +3,7 @@ use Rattle.std.specs.Option.{option_map}
 use Rattle.nd_addr.specs.Number.{number_of}
 use Rattle.nd_neighbour.specs.Table.{Table, node_in}
 use Rattle.nd_neighbour.specs.Shown.{seen}
-use Rattle.nd_neighbour.proofs.Forgetting.{seen_by_rows}
+use Rattle.nd_neighbour.proofs.Forgetting.{seen_by_history}
 use Rattle.nd_neighbour.proofs.cache.Cache.entry.Goals as goal
 
 pub returns-clause-value : goal.returns-clause-value
@@ -15,4 +15,4 @@ pub returns-clause-seen : goal.returns-clause-seen
 returns-clause-seen g c = λ history s.
     let key = number_of c.args.addr.0 in
     c.show.ensures ∙ (ap (λ l. option_map (seen c.args.now) (node_in key l)) c.deref.ensures.value ∙ (ap (λ (t : Table). option_map (seen c.args.now) (node_in key t.nodes)) c.self.view_is
-    ∙ seen_by_rows key c.args.now c.args.self.now.nodes history s))
+    ∙ seen_by_history key c.args.now c.args.self.now.nodes history s))

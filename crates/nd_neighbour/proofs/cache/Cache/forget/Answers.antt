@@ -3,7 +3,7 @@ use Rattle.nd_addr.specs.Number.{number_of}
 use Rattle.nd_neighbour.specs.History.{Removed}
 use Rattle.nd_neighbour.specs.Table.{Table, node_in}
 use Rattle.nd_neighbour.specs.Removal.{Removes, waiting_at}
-use Rattle.nd_neighbour.proofs.Forgetting.{removed_gains, waits_by_rows}
+use Rattle.nd_neighbour.proofs.Forgetting.{removed_gains, waits_by_history}
 use Rattle.nd_neighbour.proofs.cache.Cache.forget.Goals as goal
 
 pub returns-clause-stands : goal.returns-clause-stands
@@ -16,7 +16,7 @@ pub returns-clause-packets : goal.returns-clause-packets
 returns-clause-packets g c = λ history s.
     let key = number_of c.args.addr.0 in
     subst (λ (t : Table). c.remove.result ≡ waiting_at (node_in key t.nodes)) c.self.view_is c.remove.ensures.packets
-    ∙ waits_by_rows key c.args.self.now.nodes history s
+    ∙ waits_by_history key c.args.self.now.nodes history s
 
 pub returns-clause-value : goal.returns-clause-value
 returns-clause-value g c =

@@ -5,7 +5,7 @@ use Rattle.nd_addr.specs.Number.{number_of}
 use Rattle.nd_neighbour.specs.Entry.{Node}
 use Rattle.nd_neighbour.specs.Table.{Table}
 use Rattle.nd_neighbour.specs.Room.{HasRoom, has_room}
-use Rattle.nd_neighbour.proofs.Second.{room_by_rows}
+use Rattle.nd_neighbour.proofs.Second.{room_by_history}
 use Rattle.nd_neighbour.proofs.cache.Cache.room.Goals as goal
 
 pub returns-clause-history : goal.returns-clause-history
@@ -16,4 +16,4 @@ returns-clause-history g c = λ history s.
     let is : c.has_room.result ≡ has_room table.limit c.args.now key then' table.nodes = c.has_room.ensures
     ∙ (ap (λ (l : List Node). has_room c.self.inside.limit c.args.now key then' l) c.deref.ensures.value
     ∙ ap (λ (t : Table). has_room t.limit c.args.now key then' t.nodes) c.self.view_is) in
-    subst (λ (b : Bool). (b ≡ true) ↔ HasRoom table.limit c.args.now key then' history) (sym is) (room_by_rows table.limit c.args.now key table.nodes history s then')
+    subst (λ (b : Bool). (b ≡ true) ↔ HasRoom table.limit c.args.now key then' history) (sym is) (room_by_history table.limit c.args.now key table.nodes history s then')

@@ -7,7 +7,7 @@ use Rattle.nd_neighbour.specs.Place.{Gives}
 use Rattle.nd_neighbour.specs.Sending.{used, sending_in}
 use Rattle.nd_neighbour.specs.View.{sending_of}
 use Rattle.nd_neighbour.proofs.Finds.{was_there, not_there, no_rings}
-use Rattle.nd_neighbour.proofs.PacketCalls.{takes_packet, sending_by_rows}
+use Rattle.nd_neighbour.proofs.PacketCalls.{takes_packet, sending_by_history}
 use Rattle.nd_neighbour.proofs.Second.{leaves_room}
 use Rattle.nd_neighbour.proofs.cache.Cache.used.Goals as goal
 
@@ -29,7 +29,7 @@ pub returns-then-holds-clause-sending : goal.returns-then-holds-clause-sending
 returns-then-holds-clause-sending g c = λ history s.
     let key = number_of c.args.addr.0 in
     subst (λ (t : Table). sending_of c.pass.result ≡ sending_in (node_in key t.nodes) c.args.packet) c.self.view_is c.pass.ensures.sending
-    ∙ sending_by_rows key c.args.packet c.args.self.now.nodes history s
+    ∙ sending_by_history key c.args.packet c.args.self.now.nodes history s
 
 pub returns-in-Err-clause-memory : goal.returns-in-Err-clause-memory
 returns-in-Err-clause-memory g c = λ _.
@@ -58,7 +58,7 @@ returns-clause-sending g c = λ history s.
     let key = number_of c.args.addr.0 in
     let old = c.args.self.now.nodes in
     let none : node_in key old ≡ None = not_there c.args.self.now.limit c.args.now key old c.deref.result.now c.holds.result (c.deref.ensures.value ∙ ap (λ (t : Table). t.nodes) c.self.view_is) c.holds.ensures c.if-holds.false in
-    sym (ap (λ (o : Option Node). sending_in o c.args.packet) none) ∙ sending_by_rows key c.args.packet old history s
+    sym (ap (λ (o : Option Node). sending_in o c.args.packet) none) ∙ sending_by_history key c.args.packet old history s
 
 pub returns-then-holds-clause-leaves : goal.returns-then-holds-clause-leaves
 returns-then-holds-clause-leaves g c =
