@@ -12,7 +12,7 @@ use std::alloc::{AllocError, Allocator};
 pub const ETHERNET_IPV6: u16 = 0x86dd;
 
 /// How many bytes an Ethernet header has, which is where the packet begins (RFC 2464, section 3).
-const ETHERNET_HEADER_LENGTH: usize = 14;
+pub const ETHERNET_HEADER_LENGTH: usize = 14;
 
 /// Where the destination, the source and the type stand in it.
 const DESTINATION_AT: usize = 0;

@@ -11,6 +11,10 @@ const SOLICITATION: &str =
     "02000000009902000000000286dd6000000000203afffe80000000000000000000fffe000002\
     fe80000000000000000000fffe00009987007beb00000000fe80000000000000000000fffe0000990101020000000002";
 
+/// A packet for that sender, without a payload.
+const PACKET: &str = "00000000000002000000009986dd6000000000003b40fe80000000000000000000fffe000099\
+    fe80000000000000000000fffe000002";
+
 fn main(rt: HostRuntime) -> anyhow::Result<()> {
     let frame = hex::decode(rt.alloc(), SOLICITATION)?;
     let times = Times {
@@ -28,7 +32,9 @@ fn main(rt: HostRuntime) -> anyhow::Result<()> {
                     mark: None,
                 };
                 let _ = cache.heard(0, given, times);
-                let _ = cache.used(0, heard.source, Packet(Vec::new(rt.alloc())), times);
+                if let Some(packet) = Packet::new(hex::decode(rt.alloc(), PACKET)?) {
+                    let _ = cache.used(0, heard.source, packet, times);
+                }
             }
         }
     }

@@ -1,7 +1,7 @@
 use crate::refusing::each_is_refused_once;
 use linked_list_allocator::LocalHeap;
 use nd_addr::{Addr, Mac};
-use nd_slaac::{Addresses, State};
+use nd_slaac::{AddressRoom, Addresses, State};
 use std::process::Abort;
 use std::test::*;
 
@@ -10,15 +10,16 @@ const MAC: Mac = Mac([0x34, 0x56, 0x78, 0x9a, 0xbc, 0xde]);
 /// The calls that take memory, in the order in which a run makes them.
 #[derive(Clone, Copy, Debug, PartialEq, Eq)]
 enum Call {
-    Start,
+    Room,
     Rows,
 }
 
 /// The addresses of an interface that starts: the first call for which there is no memory.
 fn run(rt: &impl Abort, heap: &LocalHeap) -> Option<Call> {
-    let Ok(mut addresses) = Addresses::start(heap, 0, MAC, 0, 1000) else {
-        return Some(Call::Start);
+    let Ok(room) = AddressRoom::new(heap) else {
+        return Some(Call::Room);
     };
+    let mut addresses = Addresses::start(room, 0, MAC, 0, 1000);
     let addr = Addr([
         0xfe, 0x80, 0, 0, 0, 0, 0, 0, 0x36, 0x56, 0x78, 0xff, 0xfe, 0x9a, 0xbc, 0xde,
     ]);

@@ -2,7 +2,6 @@ use crate::refusing::each_is_refused_once;
 use linked_list_allocator::LocalHeap;
 use nd_addr::{Addr, Mac};
 use nd_neighbour::{Cache, CacheRefusal, News, Packet, Reachability, Times, Use};
-use std::alloc::AllocError;
 use std::process::Abort;
 use std::test::*;
 
@@ -37,11 +36,11 @@ fn given(n: u8) -> News {
     }
 }
 
-/// A packet of one byte.
-fn packet(heap: &LocalHeap, byte: u8) -> Result<Packet<&LocalHeap>, AllocError> {
-    let mut bytes = Vec::with_capacity(heap, 1)?;
-    bytes.push(byte)?;
-    Ok(Packet(bytes))
+/// An Ethernet header, all of whose bytes are this one, if there is memory for it.
+fn packet(heap: &LocalHeap, byte: u8) -> Option<Packet<&LocalHeap>> {
+    let mut frame = Vec::with_capacity(heap, 14).ok()?;
+    frame.extend_from_slice(&[byte; 14]).ok()?;
+    Packet::new(frame)
 }
 
 fn state(cache: &Cache<&LocalHeap>, n: u8) -> Option<Reachability> {
@@ -69,7 +68,7 @@ fn run(rt: &impl Abort, heap: &LocalHeap) -> Option<Call> {
         return Some(Call::New);
     };
     assert!(rt; cache.heard(0, given(1), TIMES).is_ok());
-    let Ok(first) = packet(heap, 7) else {
+    let Some(first) = packet(heap, 7) else {
         return Some(Call::Frame);
     };
     match cache.used(0, addr(2), first, TIMES) {
@@ -87,7 +86,7 @@ fn run(rt: &impl Abort, heap: &LocalHeap) -> Option<Call> {
         Err((refusal, back)) => {
             // The frame comes back, and the cache is as it was.
             assert!(rt; refusal == CacheRefusal::Memory);
-            assert!(rt; back.0.first() == Some(&7));
+            assert!(rt; back.as_bytes().first() == Some(&7));
             assert!(rt; has_one(&cache));
             return Some(Call::Used);
         }

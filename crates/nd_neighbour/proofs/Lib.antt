@@ -14,5 +14,6 @@ pub mod PacketCalls
 pub mod Forgetting
 pub mod Overdue
 pub mod Pushing
+pub mod Releasing
 pub mod Unique
 pub mod Second

@@ -1,6 +1,7 @@
 -- The resolution of a neighbour whose link-layer address isn't known (RFC 4861, section 7.2.2).
 use Rattle.std.specs.Prelude.{ℕ, ◌-◌, ◌+◌, Option, Some, None, [], ◌∷◌, List, ◌++◌, ◌*◌, false}
 use Rattle.circular_buffer.specs.Buffer.{keep_last}
+use Rattle.nd_waiting.specs.Waiting.{max_waiting}
 use Rattle.nd_neighbour.specs.History.{Asked, Solicited, Story, Waits}
 use Rattle.nd_neighbour.specs.Entry.{Node, Resolving}
 
@@ -11,10 +12,6 @@ max_multicast_solicit = 3
 -- how many follow the first
 abbrev pub max_more : ℕ
 max_more = max_multicast_solicit - 1
-
--- how many packets wait for one neighbour. Our choice: RFC 4861, section 7.2.2, asks for one at least.
-abbrev pub max_waiting : ℕ
-max_waiting = 3
 
 -- a resolution: its moment, the RetransTimer in force then, and how many solicitations were sent after the first
 pub record Resolution : Type 0 where

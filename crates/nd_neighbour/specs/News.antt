@@ -2,6 +2,7 @@
 use Rattle.std.specs.Prelude.{ℕ, Bool, true, false, List, ◌∷◌, if◌then◌else◌, [], is_some, ◌&&◌, not, ◌≡◌, Option, Some, None}
 use Rattle.std.specs.Option.{option_map}
 use Rattle.nd_addr.specs.Number.{number_of}
+use Rattle.nd_addr.specs.declared.mac.Mac.{Mac}
 use Rattle.nd_table.specs.History.{GainsRowsMakingPlace}
 use Rattle.nd_neighbour.specs.declared.news.News.{News}
 use Rattle.nd_neighbour.specs.declared.news.News.TheVariants as news
@@ -23,6 +24,12 @@ abbrev pub news_row : News → Times → RowKind
 news_row (news.Given addr mac mark) times = Given (number_of mac.0) mark
 news_row (news.Advert addr flags mac) times = Advertised flags (option_map (λ m. number_of m.0) mac) times.reachable
 news_row (news.Marked addr router) times = Marked router
+
+-- the link-layer address that they give
+abbrev pub mac_given : News → Option Mac
+mac_given (news.Given addr mac mark) = Some mac
+mac_given (news.Advert addr flags mac) = mac
+mac_given (news.Marked addr router) = None
 
 -- only an address that is given makes a neighbour enter
 abbrev pub lets_enter : News → Bool

@@ -25,7 +25,7 @@ pub enum Due<A: Allocator> {
     Aged(Addr),
 }
 
-impl<A: Allocator + Clone> Cache<A> {
+impl<A: Allocator> Cache<A> {
     ghost use Rattle.nd_neighbour.specs.History.{Row};
     ghost use Rattle.nd_neighbour.specs.Table.{GainsRow, Stands};
     ghost use Rattle.nd_neighbour.specs.Due.{FirstDue, NextDue, NoneBefore, due_row, next_in, turns_left};

@@ -1,8 +1,14 @@
 //! Laws of the definitions, each the contract of a function that does nothing.
 
-ghost use Rattle.std.specs.Prelude.{◌≡◌, ◌≤◌, ◌↔◌, ◌++◌, ◌∷◌, [], ℕ, Bool, true, List, Option, None, length, nat_lt, slice_get, if◌then◌else◌};
-ghost use Rattle.std.specs.Option.{option_to_list};
+ghost use Rattle.std.specs.Prelude.{◌⊎◌, ◌≡◌, ◌≤◌, ◌↔◌, ◌++◌, ◌∷◌, [], ℕ, Bool, true, List, Option, None, length, nat_lt, slice_get, if◌then◌else◌};
+ghost use Rattle.std.specs.Option.{option_map, option_to_list};
 ghost use Rattle.circular_buffer.specs.Buffer.{keep_last};
+ghost use Rattle.nd_addr.specs.Number.{number_of};
+ghost use Rattle.nd_waiting.specs.Waiting.{max_waiting};
+ghost use Rattle.nd_neighbour.specs.declared.news.News.{News};
+ghost use Rattle.nd_neighbour.specs.declared.news.Times.{Times};
+ghost use Rattle.nd_neighbour.specs.News.{mac_given, news_row, released_by};
+ghost use Rattle.nd_neighbour.specs.Story.{mac_of};
 ghost use Rattle.nd_neighbour.specs.History.{Row, RowKind, Story, Waits};
 ghost use Rattle.nd_neighbour.specs.Room.{has_room};
 ghost use Rattle.nd_neighbour.specs.Entry.{Node};
@@ -44,7 +50,14 @@ pub fn full_by_history()
 /// At most three packets wait, and no packet is lost, doubled or moved where one more comes: those that waited and the
 /// new one are the one that has to make place, if one has, and those that wait then.
 pub fn no_packet_is_lost()
-    ensures three { (s : Story) → length (waiting_of s) ≤ 3 }
-    ensures history { (s : Story) (at : ℕ) (packet : List ℕ) → waiting_of s ++ packet ∷ [] ≡ option_to_list (if nat_lt (length (waiting_of s)) 3 then None else slice_get (waiting_of s ++ packet ∷ []) 0) ++ waiting_of ((at, Waits packet) ∷ s) }
-    ensures kept { (waiting : List (List ℕ)) (packet : List ℕ) → length waiting ≤ 3 → waiting ++ packet ∷ [] ≡ option_to_list (if nat_lt (length waiting) 3 then None else slice_get (waiting ++ packet ∷ []) 0) ++ keep_last 3 (waiting ++ packet ∷ []) }
+    ensures three { (s : Story) → length (waiting_of s) ≤ max_waiting }
+    ensures history { (s : Story) (at : ℕ) (packet : List ℕ) → waiting_of s ++ packet ∷ [] ≡ option_to_list (if nat_lt (length (waiting_of s)) max_waiting then None else slice_get (waiting_of s ++ packet ∷ []) 0) ++ waiting_of ((at, Waits packet) ∷ s) }
+    ensures kept { (waiting : List (List ℕ)) (packet : List ℕ) → length waiting ≤ max_waiting → waiting ++ packet ∷ [] ≡ option_to_list (if nat_lt (length waiting) max_waiting then None else slice_get (waiting ++ packet ∷ []) 0) ++ keep_last max_waiting (waiting ++ packet ∷ []) }
+{}
+
+/// What news release are at most three packets, and they go to the address that the news give: where any are released, that is the one
+/// that is known afterwards.
+pub fn released_to_the_given_address()
+    ensures few { (now : ℕ) (news : News) (times : Times) (s : Story) → length (released_by now (news_row news times) s) ≤ max_waiting }
+    ensures given { (now : ℕ) (news : News) (times : Times) (s : Story) → (released_by now (news_row news times) s ≡ []) ⊎ (mac_of ((now, news_row news times) ∷ s) ≡ option_map (λ mac. number_of mac.0) (mac_given news)) }
 {}

@@ -1,4 +1,5 @@
-ghost use Rattle.std.specs.Prelude.{IfErr, IfOk, IsErr, OnErr, OnOk, [], false, is_some, not, true, vec_capacity, vec_len, ◌&&◌, ◌<◌, ◌^◌, ◌↔◌, ◌≡◌, length, ◌≤◌};
+ghost use Rattle.std.specs.Prelude.{IfErr, IfOk, IfSome, IsErr, OnErr, OnOk, [], false, is_some, not, true, vec_capacity, vec_len, ◌&&◌, ◌<◌, ◌^◌, ◌↔◌, ◌≡◌, length, ◌≤◌};
+ghost use Rattle.nd_addr.specs.Bytes.{AreBytes};
 ghost use Rattle.nd_addr.specs.Number.{number_of};
 ghost use Rattle.nd_neighbour.specs.Entry.{with_mark};
 ghost use Rattle.nd_neighbour.specs.Table.{node_in, Alters};
@@ -48,6 +49,26 @@ pub enum News {
     },
 }
 
+impl News {
+    ghost use Rattle.nd_neighbour.specs.News.{mac_given};
+
+    /// The link-layer address that the message gives, if it does. What `heard` releases goes there.
+    pub fn mac(&self) -> Option<Mac>
+        ensures value { result ≡ mac_given self.now }
+        ensures bytes { IfSome result (λ mac. AreBytes 6 mac.0) }
+    {
+        let given = match self {
+            News::Given { mac, .. } => Some(*mac),
+            News::Advert { mac, .. } => *mac,
+            News::Marked { .. } => None,
+        };
+        if let Some(mac) = &given {
+            mac.as_bytes();
+        }
+        given
+    }
+}
+
 /// The times in force when a call is made (RFC 4861, section 6.3.2).
 #[derive(Clone, Copy, Debug, PartialEq, Eq)]
 pub struct Times {
@@ -88,7 +109,7 @@ impl<A: Allocator> Touched<A> {
     }
 }
 
-impl<A: Allocator + Clone> Cache<A> {
+impl<A: Allocator> Cache<A> {
     ghost use Rattle.nd_neighbour.specs.Removal.{waiting_at};
     ghost use Rattle.nd_neighbour.specs.Table.{node_in};
     ghost use Rattle.nd_neighbour.specs.Place.{NoPlace};

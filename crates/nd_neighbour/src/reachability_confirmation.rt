@@ -9,7 +9,7 @@ use nd_addr::Addr;
 use nd_table::find;
 use std::alloc::Allocator;
 
-impl<A: Allocator + Clone> Cache<A> {
+impl<A: Allocator> Cache<A> {
     ghost use Rattle.nd_neighbour.specs.History.{Confirmed};
     ghost use Rattle.nd_neighbour.specs.Table.{GainsRow};
 

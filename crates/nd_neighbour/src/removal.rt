@@ -1,5 +1,6 @@
 ghost use Rattle.std.specs.Prelude.{IfOk, List, OnErr, OnOk, [], length, vec_capacity, vec_len, ℕ, ◌++◌, ◌+◌, ◌≡◌, ◌≤◌};
 ghost use Rattle.nd_addr.specs.Number.{number_of};
+ghost use Rattle.nd_waiting.specs.Waiting.{max_waiting};
 ghost use Rattle.nd_neighbour.specs.Table.{node_in};
 ghost use Rattle.nd_neighbour.specs.Removal.{Removes, all_waiting, waiting_at};
 
@@ -10,11 +11,11 @@ use nd_table::find;
 use nd_waiting::{Packet, Packets};
 use std::alloc::{AllocError, Allocator};
 
-impl<A: Allocator + Clone> Cache<A> {
+impl<A: Allocator> Cache<A> {
     ghost use Rattle.nd_neighbour.specs.History.{Forgot, Removed, Row, story};
     ghost use Rattle.nd_neighbour.specs.Story.{waits_of};
     ghost use Rattle.nd_neighbour.specs.Table.{GainsRow, Stands, node_in};
-    ghost use Rattle.nd_neighbour.specs.Removal.{all_waiting, cleared, waiting_at};
+    ghost use Rattle.nd_neighbour.specs.Removal.{all_waiting, waiting_at};
 
     /// A neighbour is forgotten, if it is there. What waited for it is handed out.
     pub fn forget(&mut self, addr: Addr) -> Packets<A>
@@ -25,19 +26,6 @@ impl<A: Allocator + Clone> Cache<A> {
         ensures rings { self.new.rings ≡ self.old.rings }
     {
         remove(&mut self.entries, addr)
-    }
-
-    /// All neighbours are forgotten. What waited is handed out, in the order of the addresses, the oldest first. Where
-    /// memory for the list of packets is refused, none is forgotten.
-    pub fn clear(&mut self) -> Result<Vec<Packet<A>, A>, AllocError>
-        ensures stands { OnOk result ((at : ℕ) (history : List Row) → Stands self.old.nodes history → Stands self.new.nodes (cleared at self.old.nodes history)) }
-        ensures none { OnOk result (self.new.nodes ≡ []) }
-        ensures packets { IfOk result (λ packets. packets.items ≡ all_waiting self.old.nodes) }
-        ensures same { OnErr result (self.new ≡ self.old) }
-        ensures limit { self.new.limit ≡ self.old.limit }
-        ensures rings { self.new.rings ≡ self.old.rings }
-    {
-        take_all(&mut self.entries)
     }
 
     /// How many packets wait for a neighbour, at most three: so many places a caller needs for what `heard`, `turn` or `forget` hands
@@ -54,6 +42,25 @@ impl<A: Allocator + Clone> Cache<A> {
         ensures { result ≡ length (all_waiting self.now.nodes) }
     {
         count_waiting(&self.entries)
+    }
+}
+
+impl<A: Allocator + Clone> Cache<A> {
+    ghost use Rattle.nd_neighbour.specs.History.{Row};
+    ghost use Rattle.nd_neighbour.specs.Table.{Stands};
+    ghost use Rattle.nd_neighbour.specs.Removal.{all_waiting, cleared};
+
+    /// All neighbours are forgotten. What waited is handed out, in the order of the addresses, the oldest first. Where
+    /// memory for the list of packets is refused, none is forgotten.
+    pub fn clear(&mut self) -> Result<Vec<Packet<A>, A>, AllocError>
+        ensures stands { OnOk result ((at : ℕ) (history : List Row) → Stands self.old.nodes history → Stands self.new.nodes (cleared at self.old.nodes history)) }
+        ensures none { OnOk result (self.new.nodes ≡ []) }
+        ensures packets { IfOk result (λ packets. packets.items ≡ all_waiting self.old.nodes) }
+        ensures same { OnErr result (self.new ≡ self.old) }
+        ensures limit { self.new.limit ≡ self.old.limit }
+        ensures rings { self.new.rings ≡ self.old.rings }
+    {
+        take_all(&mut self.entries)
     }
 }
 
@@ -139,7 +146,7 @@ impl<A: Allocator> Entry<A> {
     /// How many packets wait.
     pub(crate) fn waiting(&self) -> usize
         ensures value { result ≡ length (waiting_in self.now.stage) }
-        ensures few { result ≤ 3 }
+        ensures few { result ≤ max_waiting }
     {
         match &self.stage {
             Stage::Resolving { waiting, .. } => waiting.len(),

@@ -13,7 +13,7 @@ use nd_addr::Addr;
 use nd_table::{Addressed, compare, holds};
 use std::alloc::Allocator;
 
-impl<A: Allocator + Clone> Cache<A> {
+impl<A: Allocator> Cache<A> {
     ghost use Rattle.nd_neighbour.specs.History.{Row};
     ghost use Rattle.nd_neighbour.specs.Table.{Stands};
     ghost use Rattle.nd_neighbour.specs.Room.{HasRoom};

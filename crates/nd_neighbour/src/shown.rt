@@ -37,10 +37,10 @@ pub enum Reachability {
     Probe,
 }
 
-impl<A: Allocator + Clone> Cache<A> {
+impl<A: Allocator> Cache<A> {
     ghost use Rattle.nd_neighbour.specs.History.{Row, story};
     ghost use Rattle.nd_neighbour.specs.Table.{Stands, node_in};
-    ghost use Rattle.nd_neighbour.specs.Shown.{Lists, seen, seen_of};
+    ghost use Rattle.nd_neighbour.specs.Shown.{seen, seen_of};
     ghost use Rattle.nd_neighbour.specs.View.{seen_in};
 
     /// A neighbour at a moment, if there is an entry for it (RFC 4861, sections 5.1 and 7.3.2).
@@ -50,6 +50,13 @@ impl<A: Allocator + Clone> Cache<A> {
     {
         show(&self.entries, now, addr)
     }
+}
+
+impl<A: Allocator + Clone> Cache<A> {
+    ghost use Rattle.nd_neighbour.specs.History.{Row};
+    ghost use Rattle.nd_neighbour.specs.Table.{Stands};
+    ghost use Rattle.nd_neighbour.specs.Shown.{Lists, seen};
+    ghost use Rattle.nd_neighbour.specs.View.{seen_in};
 
     /// All neighbours at a moment, in the order of their addresses (RFC 4861, sections 5.1 and 7.3.2). An error comes
     /// where memory for the list is refused.

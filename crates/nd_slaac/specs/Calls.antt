@@ -10,11 +10,12 @@ use Rattle.nd_slaac.specs.declared.prefix_option.Taken.{Taken}
 use Rattle.nd_slaac.specs.declared.prefix_option.Taken.TheVariants.{Formed, Renewed, Ignored}
 use Rattle.nd_slaac.specs.declared.prefix_option.Full.{Full}
 use Rattle.nd_slaac.specs.History as kinds
-use Rattle.nd_slaac.specs.History.{Row, Lifetimes, RowKind}
+use Rattle.nd_slaac.specs.History.{Row, Lifetimes, RowKind, story}
+use Rattle.nd_slaac.specs.State.{is_known}
 use Rattle.nd_table.specs.Ends.{end_time}
 use Rattle.nd_slaac.specs.TwoHours.{renewed}
 use Rattle.nd_slaac.specs.Address.{Address}
-use Rattle.nd_slaac.specs.Table.{key_of, address_in, GainsRow}
+use Rattle.nd_slaac.specs.Table.{key_of, address_in, GainsRow, Stands}
 use Rattle.nd_slaac.specs.Room.{max_addresses}
 use Rattle.nd_slaac.specs.PrefixOption.{is_taken, named_by, lifetimes_of}
 
@@ -64,6 +65,12 @@ taken_by false valid count = if valid == 0 then Ok Ignored else if nat_lt count 
 -- what becomes of an option, where its address is known or not and so many are
 abbrev pub taken_of : PrefixInfo → Bool → ℕ → Result Taken Full
 taken_of info known count = if is_taken info then taken_by known info.valid_lifetime count else Ok Ignored
+
+-- the same, asked of what happened: of the addresses that the history knows
+pub record TakenBy (mac : Mac) (history : List Row) (info : PrefixInfo) (result : Result Taken Full) : Type 0 where
+  pub known : List Address
+  pub those : Stands known history
+  pub taken_is : result ≡ taken_of info (is_known (story (named_by mac info) history)) (length known)
 
 -- the row that comes of an option, and none where it is ignored or refused
 abbrev pub row_taken : ℕ → Mac → PrefixInfo → ℕ → ℕ → Result Taken Full → Option Row

@@ -1,4 +1,5 @@
-ghost use Rattle.std.specs.Prelude.{◌≡◌, ◌<◌, ◌^◌, [], ◌∷◌, IfOk, None};
+ghost use Rattle.std.specs.Prelude.{◌≡◌, ◌≤◌, ◌<◌, ◌^◌, [], ◌∷◌, None, vec_capacity};
+ghost use Rattle.nd_slaac.specs.Room.{max_addresses};
 
 use crate::entry::Entry;
 use crate::link_local::link_local;
@@ -8,6 +9,23 @@ use std::marker::Model;
 
 /// How many addresses there may be, the link-local one included (our choice).
 pub const MAX_ADDRESSES: usize = 64;
+
+/// Room for the addresses of an interface, taken before it starts.
+#[derive(Drop)]
+pub struct AddressRoom<A: Allocator> {
+    entries: Vec<Entry, A>,
+    ghost empty: { entries.items ≡ [] },
+    ghost room: { max_addresses ≤ vec_capacity entries },
+}
+
+impl<A: Allocator> AddressRoom<A> {
+    /// Room for 64 addresses, which is all that an interface ever takes. The error is want of memory.
+    pub fn new(alloc: A) -> Result<Self, AllocError> {
+        Ok(AddressRoom {
+            entries: Vec::with_capacity(alloc, MAX_ADDRESSES)?,
+        })
+    }
+}
 
 /// The addresses of an interface (RFC 4862, section 5): each is formed, tried for, and then assigned until its valid
 /// lifetime ends.
@@ -30,22 +48,22 @@ impl<A: Allocator> Model for Addresses<A> {
     ghost invariant = { λ a. (vec_len a.entries ≤ max_addresses) × (max_addresses ≤ vec_capacity a.entries) };
 }
 
-impl<A: Allocator + Clone> Addresses<A> {
+impl<A: Allocator> Addresses<A> {
     ghost use Rattle.nd_slaac.specs.History.{Formed};
     ghost use Rattle.nd_slaac.specs.Table.{Stands};
     ghost use Rattle.nd_slaac.specs.PrefixOption.{link_local_of};
     ghost use Rattle.nd_slaac.specs.Calls.{formed};
 
     /// The addresses of an interface that starts: its link-local address, whose first solicitation waits for a delay
-    /// (RFC 4862, sections 5.3 and 5.4.2). Moment, delay and RetransTimer are in milliseconds. All room is reserved here; the error is
-    /// want of memory.
-    pub fn start(alloc: A, now: u64, mac: Mac, delay: u32, retrans: u32) -> Result<Self, AllocError>
+    /// (RFC 4862, sections 5.3 and 5.4.2). Moment, delay and RetransTimer are in milliseconds. The room was taken before, so this takes
+    /// no memory, and a delay that was drawn for it is never lost.
+    pub fn start(room: AddressRoom<A>, now: u64, mac: Mac, delay: u32, retrans: u32) -> Self
         requires { now < 2 ^ 62 }
-        ensures first { IfOk result (λ table. table ≡ record { mac = mac; addresses = formed (link_local_of mac) now delay retrans None ∷ [] }) }
-        ensures stands { IfOk result (λ table. Stands table.addresses ((now, link_local_of mac, Formed delay retrans None) ∷ [])) }
+        ensures first { result ≡ record { mac = mac; addresses = formed (link_local_of mac) now delay retrans None ∷ [] } }
+        ensures stands { Stands result.addresses ((now, link_local_of mac, Formed delay retrans None) ∷ []) }
     {
-        let mut entries = Vec::with_capacity(alloc, MAX_ADDRESSES)?;
+        let mut entries = room.entries;
         entries.push_reserved(Entry::link_local(link_local(mac), now, delay, retrans));
-        Ok(Addresses { mac, entries })
+        Addresses { mac, entries }
     }
 }

@@ -21,7 +21,7 @@ pub enum Due {
     Assign(Addr),
 }
 
-impl<A: Allocator + Clone> Addresses<A> {
+impl<A: Allocator> Addresses<A> {
     ghost use Rattle.nd_slaac.specs.History.{Row};
     ghost use Rattle.nd_slaac.specs.Table.{Stands, GainsRow};
     ghost use Rattle.nd_slaac.specs.Due.{FirstDue, NextDue, due_row};

@@ -9,7 +9,7 @@ use nd_addr::Addr;
 use nd_table::find;
 use std::alloc::Allocator;
 
-impl<A: Allocator + Clone> Addresses<A> {
+impl<A: Allocator> Addresses<A> {
     ghost use Rattle.nd_slaac.specs.History.{Row, story, Conflict};
     ghost use Rattle.nd_slaac.specs.State.{is_tentative};
     ghost use Rattle.nd_slaac.specs.Table.{address_in, Stands, GainsRow};

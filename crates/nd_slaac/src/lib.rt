@@ -14,7 +14,7 @@ mod stage;
 mod state;
 mod two_hours;
 
-pub use addresses::{Addresses, MAX_ADDRESSES};
+pub use addresses::{AddressRoom, Addresses, MAX_ADDRESSES};
 pub use due::Due;
 pub use prefix_option::{Full, Taken};
 pub use shown::OwnAddress;

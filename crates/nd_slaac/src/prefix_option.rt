@@ -28,13 +28,13 @@ pub enum Taken {
 #[derive(Clone, Copy, Debug, PartialEq, Eq)]
 pub struct Full;
 
-impl<A: Allocator + Clone> Addresses<A> {
+impl<A: Allocator> Addresses<A> {
     ghost use Rattle.nd_slaac.specs.History.{Row, story};
     ghost use Rattle.nd_slaac.specs.State.{is_known};
     ghost use Rattle.nd_slaac.specs.Table.{address_in, Stands};
     ghost use Rattle.nd_slaac.specs.PrefixOption.{named_by};
     ghost use Rattle.nd_slaac.specs.Room.{fits_in};
-    ghost use Rattle.nd_slaac.specs.Calls.{keys_in, taken_of, row_taken, GainsRowIfAny};
+    ghost use Rattle.nd_slaac.specs.Calls.{keys_in, taken_of, row_taken, GainsRowIfAny, TakenBy};
     ghost use Rattle.nd_slaac.specs.MayCome.{MayCome};
 
     /// A prefix option of a Router Advertisement is heard (RFC 4862, section 5.5.3): it forms an address, whose first solicitation
@@ -51,7 +51,8 @@ impl<A: Allocator + Clone> Addresses<A> {
         requires moment { now < 2 ^ 62 }
 
         ensures value { result ≡ taken_of info.now (is_some (address_in (named_by self.old.mac info.now) self.old.addresses)) (length self.old.addresses) }
-        ensures by_history { (history : List Row) → Stands self.old.addresses history → result ≡ taken_of info.now (is_known (story (named_by self.old.mac info.now) history)) (length self.old.addresses) }
+        ensures story { (history : List Row) → Stands self.old.addresses history → result ≡ taken_of info.now (is_known (story (named_by self.old.mac info.now) history)) (length self.old.addresses) }
+        ensures by_history { (history : List Row) → Stands self.old.addresses history → TakenBy self.old.mac history info.now result }
         ensures gains { GainsRowIfAny (row_taken now self.old.mac info.now delay retrans result) self.old.addresses self.new.addresses }
         ensures comes { (history : List Row) → Stands self.old.addresses history → 0 < retrans → IfSome (row_taken now self.old.mac info.now delay retrans result) (λ row. MayCome row history) }
         ensures mac { self.new.mac ≡ self.old.mac }

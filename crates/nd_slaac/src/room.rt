@@ -14,7 +14,7 @@ use nd_decode::{OptionRef, Options, PrefixInfo};
 use nd_table::{compare, find};
 use std::alloc::Allocator;
 
-impl<A: Allocator + Clone> Addresses<A> {
+impl<A: Allocator> Addresses<A> {
     ghost use Rattle.nd_slaac.specs.PrefixOption.{prefixes_in};
     ghost use Rattle.nd_slaac.specs.Room.{would_form, fits_in, FitsBy};
     ghost use Rattle.nd_slaac.specs.History.{Row, story};

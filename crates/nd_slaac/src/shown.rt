@@ -23,12 +23,11 @@ pub struct OwnAddress {
     pub valid_left: Option<u64>,
 }
 
-impl<A: Allocator + Clone> Addresses<A> {
+impl<A: Allocator> Addresses<A> {
     ghost use Rattle.nd_slaac.specs.History.{Row, story};
     ghost use Rattle.nd_slaac.specs.State.{state_of};
     ghost use Rattle.nd_slaac.specs.Table.{Stands, address_in};
-    ghost use Rattle.nd_slaac.specs.Shown.{state_at, seen, Lists};
-    ghost use Rattle.nd_slaac.specs.View.{seen_in};
+    ghost use Rattle.nd_slaac.specs.Shown.{state_at};
 
     /// The state of an address at a moment, in milliseconds, if it is known (RFC 4862, section 2).
     pub fn state(&self, now: u64, addr: Addr) -> Option<State>
@@ -37,6 +36,13 @@ impl<A: Allocator + Clone> Addresses<A> {
     {
         show(&self.entries, now, addr)
     }
+}
+
+impl<A: Allocator + Clone> Addresses<A> {
+    ghost use Rattle.nd_slaac.specs.History.{Row};
+    ghost use Rattle.nd_slaac.specs.Table.{Stands};
+    ghost use Rattle.nd_slaac.specs.Shown.{seen, Lists};
+    ghost use Rattle.nd_slaac.specs.View.{seen_in};
 
     /// All addresses at a moment, in milliseconds, in the order of their numbers. The error is want of memory.
     pub fn rows(&self, now: u64) -> Result<Vec<OwnAddress, A>, AllocError>

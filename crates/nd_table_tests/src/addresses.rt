@@ -95,7 +95,7 @@ fn turn_before(rt: &impl Abort, addresses: &mut Addresses<Global>, now: u64) -> 
 
 /// The addresses of an interface whose link-local one was assigned at 1000.
 fn started(rt: &impl Abort, alloc: Global) -> Result<Addresses<Global>, Fail> {
-    let mut addresses = Addresses::start(alloc, 0, MAC, 0, 1000)?;
+    let mut addresses = Addresses::start(AddressRoom::new(alloc)?, 0, MAC, 0, 1000);
     assert_eq!(rt; addresses.state(0, LINK_LOCAL), Some(State::Tentative));
     assert_eq!(rt;
         turn_at(rt, &mut addresses, 0),
@@ -219,7 +219,7 @@ fn a_conflict_makes_a_tentative_address_a_duplicate(rt: HostRuntime) -> Result<(
 
 #[test]
 fn a_link_local_duplicate_has_no_end(rt: HostRuntime) -> Result<(), Fail> {
-    let mut addresses = Addresses::start(rt.alloc(), 0, MAC, 0, 1000)?;
+    let mut addresses = Addresses::start(AddressRoom::new(rt.alloc())?, 0, MAC, 0, 1000);
     assert_eq!(rt;
         turn_at(&rt, &mut addresses, 0),
         Some(Due::Solicit(LINK_LOCAL))
@@ -239,7 +239,7 @@ fn a_link_local_duplicate_has_no_end(rt: HostRuntime) -> Result<(), Fail> {
 
 #[test]
 fn the_first_solicitation_waits_for_the_delay(rt: HostRuntime) -> Result<(), Fail> {
-    let mut addresses = Addresses::start(rt.alloc(), 100, MAC, 1000, 400)?;
+    let mut addresses = Addresses::start(AddressRoom::new(rt.alloc())?, 100, MAC, 1000, 400);
     assert_eq!(rt;
         turn_at(&rt, &mut addresses, 1100),
         Some(Due::Solicit(LINK_LOCAL))

@@ -32,8 +32,11 @@ fn addr(n: u16) -> Addr {
     Addr([0xfe, 0x80, 0, 0, 0, 0, 0, 0, 0, 0, 0, 0, 0, 0, high, low])
 }
 
+/// An Ethernet header, all of whose bytes are this one.
 fn packet(rt: &HostRuntime, byte: u8) -> Result<Packet<Global>, Fail> {
-    Ok(Packet(vec![in rt.alloc(); byte]?))
+    let mut frame = Vec::with_capacity(rt.alloc(), 14)?;
+    frame.extend_from_slice(&[byte; 14])?;
+    Ok(Packet::new(frame).ok_or("too short")?)
 }
 
 fn tell(due: Option<Due<Global>>) -> Told {
@@ -60,7 +63,7 @@ fn turn_at(rt: &impl Abort, cache: &mut Cache<Global>, now: u64) -> Told
 /// The first byte of the oldest packet, or 0.
 fn first_byte(packets: &mut Packets<Global>) -> u8 {
     match packets.take() {
-        Some(packet) => packet.0.first().copied().unwrap_or(0),
+        Some(packet) => packet.as_bytes().first().copied().unwrap_or(0),
         None => 0,
     }
 }
@@ -92,7 +95,7 @@ fn sent_to(sent: Result<Use<Global>, (CacheRefusal, Packet<Global>)>) -> Option<
 
 /// The first byte of a packet, or 0.
 fn byte_of(packet: &Packet<Global>) -> u8 {
-    packet.0.first().copied().unwrap_or(0)
+    packet.as_bytes().first().copied().unwrap_or(0)
 }
 
 /// Why a packet is refused, and its first byte.
@@ -536,11 +539,12 @@ fn five_hundred_and_eleven_in_use_leave_room_for_one(rt: HostRuntime) -> Result<
     Ok(())
 }
 
-/// A packet of two bytes, which are this number.
+/// A packet whose last two bytes are this number.
 fn numbered(rt: &HostRuntime, n: u16) -> Result<Packet<Global>, Fail> {
-    let mut bytes = Vec::new(rt.alloc());
-    bytes.extend_from_slice(&n.to_be_bytes())?;
-    Ok(Packet(bytes))
+    let mut frame = Vec::new(rt.alloc());
+    frame.extend_from_slice(&[0; 14])?;
+    frame.extend_from_slice(&n.to_be_bytes())?;
+    Ok(Packet::new(frame).ok_or("too short")?)
 }
 
 #[test]
@@ -561,7 +565,7 @@ fn five_hundred_and_twelve_neighbours_are_shown_and_cleared(rt: HostRuntime) -> 
     assert_eq!(rt; n, 512);
     let mut n = 0u16;
     for packet in &cache.clear()? {
-        assert!(rt; packet.0.as_slice() == n.to_be_bytes().as_slice());
+        assert!(rt; packet.as_bytes().ends_with(&n.to_be_bytes()));
         n = n.saturating_add(1);
     }
     assert_eq!(rt; n, 512);

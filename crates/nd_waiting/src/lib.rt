@@ -9,7 +9,7 @@ mod waiting;
 pub use packet::Packet;
 pub use packets::Packets;
 pub use ring::Ring;
-pub use waiting::Waiting;
+pub use waiting::{MAX_WAITING, Waiting};
 
 #[cfg(test)]
 mod tests;

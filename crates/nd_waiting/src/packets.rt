@@ -1,4 +1,5 @@
-ghost use Rattle.std.specs.Prelude.{◌≡◌, ◌==◌, [], length, drop, slice_get};
+ghost use Rattle.std.specs.Prelude.{◌≡◌, ◌==◌, ◌≤◌, [], length, drop, slice_get};
+ghost use Rattle.nd_waiting.specs.Waiting.{max_waiting};
 
 use crate::packet::Packet;
 use crate::waiting::Waiting;
@@ -47,9 +48,10 @@ impl<A: Allocator> Packets<A> {
         }
     }
 
-    /// How many there are.
+    /// How many there are, at most three.
     pub fn len(&self) -> usize
-        ensures { result ≡ length self.now }
+        ensures value { result ≡ length self.now }
+        ensures few { length self.now ≤ max_waiting }
     {
         match &self.waiting {
             Some(waiting) => waiting.len(),

@@ -1,16 +1,17 @@
 use super::*;
-use std::alloc::{AllocError, Global};
+use nd_addr::Mac;
+use std::alloc::Global;
 use std::test::*;
 
-/// A packet of one byte.
-fn packet(alloc: Global, byte: u8) -> Result<Packet<Global>, AllocError> {
-    let mut bytes = Vec::with_capacity(alloc, 1)?;
-    bytes.push(byte)?;
-    Ok(Packet(bytes))
+/// The least packet, an Ethernet header all of whose bytes are this one.
+fn packet(alloc: Global, byte: u8) -> Result<Packet<Global>, Fail> {
+    let mut frame = Vec::with_capacity(alloc, 14)?;
+    frame.extend_from_slice(&[byte; 14])?;
+    Ok(Packet::new(frame).ok_or("too short")?)
 }
 
 fn byte_of(packet: Option<Packet<Global>>) -> Option<u8> {
-    packet.and_then(|packet| packet.0.first().copied())
+    packet.and_then(|packet| packet.as_bytes().first().copied())
 }
 
 #[test]
@@ -37,5 +38,20 @@ fn room_is_asked_for_once(rt: HostRuntime) -> Result<(), Fail> {
     assert_eq!(rt; byte_of(waiting.take()), None);
     let none: Packets<Global> = Packets::none();
     assert!(rt; none.is_empty());
+    Ok(())
+}
+
+#[test]
+fn a_packet_has_an_ethernet_header_and_can_be_addressed(rt: HostRuntime) -> Result<(), Fail> {
+    let short = Vec::with_capacity(rt.alloc(), 13)?;
+    assert!(rt; Packet::new(short).is_none());
+    let packet = packet(rt.alloc(), 7)?;
+    assert_eq!(rt; packet.as_bytes(), [7; 14].as_slice());
+    let addressed = packet.addressed(Mac([2, 0, 0, 0, 0, 1]));
+    assert_eq!(rt;
+        addressed.as_bytes(),
+        [2, 0, 0, 0, 0, 1, 7, 7, 7, 7, 7, 7, 7, 7].as_slice()
+    );
+    assert_eq!(rt; addressed.into_frame().len(), 14);
     Ok(())
 }

@@ -1,14 +1,15 @@
 ghost use Rattle.std.specs.Prelude.{◌≡◌, ◌++◌, ◌∷◌, [], IfOk, ◌≤◌, length, drop, slice_get, if◌then◌else◌, nat_lt};
 ghost use Rattle.std.specs.Option.{option_to_list};
 ghost use Rattle.circular_buffer.specs.Buffer.{keep_last};
+ghost use Rattle.nd_waiting.specs.Waiting.{max_waiting};
 
 use crate::packet::Packet;
 use circular_buffer::HeapCircularBuffer;
 use std::alloc::{AllocError, Allocator};
 use std::marker::Model;
 
-/// How many packets wait for one address at most (RFC 4861, section 7.2.2, asks for at least one).
-const MAX_WAITING: usize = 3;
+/// How many packets wait for one address at most. Our choice: RFC 4861, section 7.2.2, asks for at least one.
+pub const MAX_WAITING: usize = 3;
 
 /// Packets that wait for an address, the oldest first.
 #[derive(Drop)]
@@ -18,12 +19,13 @@ pub struct Waiting<A: Allocator> {
 
 impl<A: Allocator> Model for Waiting<A> {
     ghost use Rattle.std.specs.Prelude.{List, ℕ, ◌≡◌};
+    ghost use Rattle.nd_waiting.specs.Waiting.{max_waiting};
 
     ghost Value = { List (List ℕ) };
 
     ghost view = { λ w. w.ring.items };
 
-    ghost invariant = { λ w. w.ring.capacity ≡ 3 };
+    ghost invariant = { λ w. w.ring.capacity ≡ max_waiting };
 }
 
 impl<A: Allocator> Waiting<A> {
@@ -38,8 +40,8 @@ impl<A: Allocator> Waiting<A> {
 
     /// Puts a packet last. A fourth packet takes the place of the oldest, which is handed back.
     pub fn put(&mut self, packet: Packet<A>) -> Option<Packet<A>>
-        ensures last { self.new ≡ keep_last 3 (self.old ++ packet ∷ []) }
-        ensures replaced { result ≡ (if nat_lt (length self.old) 3 then None else slice_get (self.old ++ packet ∷ []) 0) }
+        ensures last { self.new ≡ keep_last max_waiting (self.old ++ packet ∷ []) }
+        ensures replaced { result ≡ (if nat_lt (length self.old) max_waiting then None else slice_get (self.old ++ packet ∷ []) 0) }
     {
         self.ring.push_back(packet)
     }
@@ -55,7 +57,7 @@ impl<A: Allocator> Waiting<A> {
     /// How many wait.
     pub fn len(&self) -> usize
         ensures value { result ≡ length self.now }
-        ensures few { result ≤ 3 }
+        ensures few { result ≤ max_waiting }
     {
         self.ring.len()
     }

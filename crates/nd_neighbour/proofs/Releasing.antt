@@ -1,0 +1,51 @@
+-- What news release: how many packets, and where they go to.
+use Rattle.std.proofs.Common.{◌≡◌, ℕ, ◌≤◌, Bool, true, false, List, [], ◌∷◌, length, Option, Some, None, refl, arith, ◌⊎◌, inl, inr}
+use Rattle.std.specs.Prelude.{is_some, if◌then◌else◌}
+use Rattle.std.specs.Option.{option_map}
+use Rattle.nd_addr.specs.Number.{number_of}
+use Rattle.nd_waiting.specs.Waiting.{max_waiting}
+use Rattle.nd_neighbour.specs.declared.news.News.{News}
+use Rattle.nd_neighbour.specs.declared.news.News.TheVariants as news
+use Rattle.nd_neighbour.specs.declared.news.Times.{Times}
+use Rattle.nd_neighbour.specs.History.{Story}
+use Rattle.nd_neighbour.specs.NeighborAdvertisement.{taken}
+use Rattle.nd_neighbour.specs.AddressResolution.{waiting_of}
+use Rattle.nd_neighbour.specs.Story.{is_present, mac_of, waits_by, waits_of}
+use Rattle.nd_neighbour.specs.News.{mac_given, news_row, released_by}
+use Rattle.nd_neighbour.proofs.LastThree.{three_wait}
+
+few_by : (present : Bool) (known : Option ℕ) (waiting : List (List ℕ)) → length waiting ≤ max_waiting → length (if present then waits_by known waiting else []) ≤ max_waiting
+few_by true None waiting h = h
+few_by true (Some mac) waiting h = omega arith
+few_by false known waiting h = omega arith
+
+few_if : (b : Bool) (packets : List (List ℕ)) → length packets ≤ max_waiting → length (if b then packets else []) ≤ max_waiting
+few_if true packets h = h
+few_if false packets h = omega arith
+
+pub few_released : (now : ℕ) (n : News) (times : Times) (s : Story) → length (released_by now (news_row n times) s) ≤ max_waiting
+few_released now n times s = few_if (is_some (mac_of ((now, news_row n times) ∷ s))) (waits_of s) (few_by (is_present s) (mac_of s) (waiting_of s) (three_wait s))
+
+-- nothing is released, or the address that is known afterwards is the given one
+abbrev Goes : Option ℕ → Option ℕ → List (List ℕ) → Type 0
+Goes after given waits = ((if is_some after then waits else []) ≡ []) ⊎ (after ≡ given)
+
+by_advert : (present overrides : Bool) (mac : ℕ) (known : Option ℕ) (waiting : List (List ℕ)) → Goes (if present then taken overrides (Some mac) known else None) (Some mac) (if present then waits_by known waiting else [])
+by_advert true overrides mac None waiting = inr refl
+by_advert true overrides mac (Some k) waiting = inl refl
+by_advert false overrides mac known waiting = inl refl
+
+by_silence : (present : Bool) (known : Option ℕ) (waiting : List (List ℕ)) → Goes known None (if present then waits_by known waiting else [])
+by_silence present None waiting = inl refl
+by_silence true (Some mac) waiting = inl refl
+by_silence false (Some mac) waiting = inl refl
+
+by_silent_advert : (present overrides : Bool) (known : Option ℕ) (waiting : List (List ℕ)) → Goes (if present then taken overrides None known else None) None (if present then waits_by known waiting else [])
+by_silent_advert true overrides known waiting = by_silence true known waiting
+by_silent_advert false overrides known waiting = inl refl
+
+pub released_to_given : (now : ℕ) (n : News) (times : Times) (s : Story) → (released_by now (news_row n times) s ≡ []) ⊎ (mac_of ((now, news_row n times) ∷ s) ≡ option_map (λ mac. number_of mac.0) (mac_given n))
+released_to_given now (news.Given addr mac mark) times s = inr refl
+released_to_given now (news.Advert addr flags (Some mac)) times s = by_advert (is_present s) flags.overrides (number_of mac.0) (mac_of s) (waiting_of s)
+released_to_given now (news.Advert addr flags None) times s = by_silent_advert (is_present s) flags.overrides (mac_of s) (waiting_of s)
+released_to_given now (news.Marked addr router) times s = by_silence (is_present s) (mac_of s) (waiting_of s)
