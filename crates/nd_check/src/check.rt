@@ -6,10 +6,9 @@ ghost use Rattle.nd_check.specs.Check.{answer_to};
 
 use crate::telling::tell_line;
 use nd_io::answering::Unanswered;
-use nd_io::each::{AnsweringEach, Each};
+use nd_io::each::{AnsweringEach, run_each};
 use nd_io::input::Input;
 use nd_io::output::Output;
-use nd_io::run::run_lines;
 use nd_io::tool_fault::ToolFault;
 use std::alloc::Allocator;
 
@@ -64,6 +63,5 @@ pub fn run_check<R: Input, W: Output, A: Allocator + Clone>(
     ensures never_wire { result ≢ Err ToolFault.Wire }
 {
     let frame = [0; LONGEST_FRAME];
-    let mut each = Each::new(Check { frame });
-    run_lines(alloc, reader, writer, &mut each)
+    run_each(alloc, reader, writer, Check { frame })
 }

@@ -1,39 +1,39 @@
 -- What was written so far, what waits in the text, and what is unread, are the whole.
-use Rattle.std.proofs.Common.{◌≡◌, ◌<◌, ◌+◌, ℕ, List, [], ◌∷◌, ◌++◌, length, take, drop, Option, Some, None, Ok, Err, refl, sym, ap, ◌∙◌, append_assoc, append-nil}
+use Rattle.std.proofs.Common.{◌≡◌, ◌<◌, ◌+◌, ℕ, List, [], ◌∷◌, ◌++◌, length, take, drop, Option, Some, None, Ok, Err, refl, sym, ap, subst, ◌∙◌, append_assoc, append-nil}
+use Rattle.std.proofs.Math.Path.{subst₂}
 use Rattle.std.specs.Prelude.{⊤, Result, OnErr}
 use Rattle.std.specs.Io.KnownBytes.{Appends, Keeps, IsAtEnd, prepend_known}
 use Rattle.nd_io.specs.Ahead.{IsWholeLine}
-use Rattle.nd_io.specs.Answers.{TextFor, MalformedFrom, Tells, TellsUpTo, Passes, IsMalformed}
-use Rattle.nd_io.specs.Lines.{lines_of, ended, HasLongLine}
-use Rattle.nd_io.specs.Run.{Wrote, WroteFront, Answered}
+use Rattle.nd_io.specs.Answers.{Texts, Tells, TellsUpTo, EndsWell, IsMalformed}
+use Rattle.nd_io.specs.Lines.{lines_of, ended, HasLongLine, longest_line}
+use Rattle.nd_io.specs.Told.{TellsLines, TellsFirst, TellsAll, TellsFront, TellsAsRead}
 use Rattle.nd_io.specs.Written.{AppendsFront}
 use Rattle.nd_io.proofs.LinesLemmas.{line_first, cut_on}
 use Rattle.nd_io.proofs.WrittenLemmas.{Appends-both, Appends-nothing, AppendsFront-more, AppendsFront-after, AppendsFront-nothing}
 
 -- some lines were taken, and what was written and what waits are their text; the next line has the number n
-pub record IsAlong (text text' : TextFor) (malformed malformed' : MalformedFrom) (all hand rest : List ℕ) (old new : Option (List ℕ)) (waiting : List ℕ) (n : ℕ) : Type 0 where
+pub record IsAlong (texts texts' : Texts) (all hand rest : List ℕ) (old new : Option (List ℕ)) (waiting : List ℕ) (n : ℕ) : Type 0 where
   pub lines : List (List ℕ)
   pub done : List ℕ
   pub written : Appends old new done
   pub read : all ≡ ended lines ++ (hand ++ rest)
   pub each : (more : List ℕ) → lines_of (ended lines ++ more) ≡ lines ++ lines_of more
-  pub told : (more : List (List ℕ)) → text (lines ++ more) ≡ done ++ (waiting ++ text' more)
-  pub numbered : (more : List (List ℕ)) → malformed 1 (lines ++ more) ≡ malformed' n more
+  pub told : (more : List (List ℕ)) (text : List ℕ) (found : Option ℕ) → texts' n more text found → texts 1 (lines ++ more) (done ++ (waiting ++ text)) found
 
 -- the same where the bytes are known
-abbrev pub IsAlongIn : TextFor → TextFor → MalformedFrom → MalformedFrom → Option (List ℕ) → List ℕ → Option (List ℕ) → Option (List ℕ) → Option (List ℕ) → List ℕ → ℕ → Type 0
-IsAlongIn text text' malformed malformed' None hand rest old new waiting n = ⊤
-IsAlongIn text text' malformed malformed' (Some all) hand None old new waiting n = ⊥
-IsAlongIn text text' malformed malformed' (Some all) hand (Some rest) old new waiting n = IsAlong text text' malformed malformed' all hand rest old new waiting n
+abbrev pub IsAlongIn : Texts → Texts → Option (List ℕ) → List ℕ → Option (List ℕ) → Option (List ℕ) → Option (List ℕ) → List ℕ → ℕ → Type 0
+IsAlongIn texts texts' None hand rest old new waiting n = ⊤
+IsAlongIn texts texts' (Some all) hand None old new waiting n = ⊥
+IsAlongIn texts texts' (Some all) hand (Some rest) old new waiting n = IsAlong texts texts' all hand rest old new waiting n
 
 -- the same as a record, so that its terms are found from it
-pub record Along (text text' : TextFor) (malformed malformed' : MalformedFrom) (all : Option (List ℕ)) (hand : List ℕ) (rest old new : Option (List ℕ)) (waiting : List ℕ) (n : ℕ) : Type 0 where
-  pub state : IsAlongIn text text' malformed malformed' all hand rest old new waiting n
+pub record Along (texts texts' : Texts) (all : Option (List ℕ)) (hand : List ℕ) (rest old new : Option (List ℕ)) (waiting : List ℕ) (n : ℕ) : Type 0 where
+  pub state : IsAlongIn texts texts' all hand rest old new waiting n
 
-pub Along-start : (text : TextFor) (malformed : MalformedFrom) (all old : Option (List ℕ)) (hand waiting : List ℕ) → hand ≡ [] → waiting ≡ [] → Along text text malformed malformed all hand all old old waiting 1
-Along-start text malformed None old hand waiting none empty = record { state = tt }
-Along-start text malformed (Some xs) old hand waiting none empty = rw (none, empty) (record {
-  state = record { lines = []; done = []; written = Appends-nothing old; read = refl; each = λ more. refl; told = λ more. refl; numbered = λ more. refl };
+pub Along-start : (texts : Texts) (all old : Option (List ℕ)) (hand waiting : List ℕ) → hand ≡ [] → waiting ≡ [] → Along texts texts all hand all old old waiting 1
+Along-start texts None old hand waiting none empty = record { state = tt }
+Along-start texts (Some xs) old hand waiting none empty = rw (none, empty) (record {
+  state = record { lines = []; done = []; written = Appends-nothing old; read = refl; each = λ more. refl; told = λ more text found given. given };
 })
 
 -- one more line, and what comes behind it
@@ -43,10 +43,10 @@ ended_then (first ∷ lines) line rest =
     append_assoc first (10 ∷ ended (lines ++ line ∷ [])) rest ∙ (ap (λ (l : List ℕ). first ++ (10 ∷ l)) (ended_then lines line rest) ∙ sym (append_assoc first (10 ∷ ended lines) (line ++ (10 ∷ rest))))
 
 -- a line was answered and taken
-pub Along-answered : (text text' text'' : TextFor) (malformed malformed' malformed'' : MalformedFrom) (all : Option (List ℕ)) (hand hand' : List ℕ) (rest old mid new : Option (List ℕ)) (waiting waiting' : List ℕ) (n count : ℕ) → Along text text' malformed malformed' all hand rest old mid waiting n → IsWholeLine hand count → TellsUpTo text' text'' (take count hand) mid new waiting waiting' → Passes malformed' malformed'' (take count hand) → hand' ≡ drop (count + 1) hand → Along text text'' malformed malformed'' all hand' rest old new waiting' (n + 1)
-Along-answered text text' text'' malformed malformed' malformed'' None hand hand' rest old mid new waiting waiting' n count along whole told passed taken = record { state = tt }
-Along-answered text text' text'' malformed malformed' malformed'' (Some xs) hand hand' None old mid new waiting waiting' n count along whole told passed taken = absurd along.state
-Along-answered text text' text'' malformed malformed' malformed'' (Some xs) hand hand' (Some ys) old mid new waiting waiting' n count along whole told passed taken =
+pub Along-answered : (texts texts' texts'' : Texts) (all : Option (List ℕ)) (hand hand' : List ℕ) (rest old mid new : Option (List ℕ)) (waiting waiting' : List ℕ) (n count : ℕ) → Along texts texts' all hand rest old mid waiting n → IsWholeLine hand count → TellsUpTo texts' texts'' (take count hand) mid new waiting waiting' → hand' ≡ drop (count + 1) hand → Along texts texts'' all hand' rest old new waiting' (n + 1)
+Along-answered texts texts' texts'' None hand hand' rest old mid new waiting waiting' n count along whole told taken = record { state = tt }
+Along-answered texts texts' texts'' (Some xs) hand hand' None old mid new waiting waiting' n count along whole told taken = absurd along.state
+Along-answered texts texts' texts'' (Some xs) hand hand' (Some ys) old mid new waiting waiting' n count along whole told taken =
     let a = along.state in
     let line : List ℕ = take count hand in
     let answer = told.0 in
@@ -59,8 +59,9 @@ Along-answered text text' text'' malformed malformed' malformed'' (Some xs) hand
         written = Appends-both old mid new a.done out (a.done ++ out) a.written told.1.2 refl;
         read = a.read ∙ (ap (λ (l : List ℕ). ended a.lines ++ l) cut ∙ sym (ended_then a.lines line (hand' ++ ys)));
         each = λ more. ap lines_of (ended_then a.lines line more) ∙ (a.each (line ++ (10 ∷ more)) ∙ (ap (λ (l : List (List ℕ)). a.lines ++ l) (whole.one more) ∙ sym (append_assoc a.lines (line ∷ []) (lines_of more))));
-        told = λ more. ap text (append_assoc a.lines (line ∷ []) more) ∙ (a.told (line ∷ more) ∙ (ap (λ (l : List ℕ). a.done ++ (waiting ++ l)) (told.2 more) ∙ moved a.done out answer (text'' more) told.1.1));
-        numbered = λ more. ap (malformed 1) (append_assoc a.lines (line ∷ []) more) ∙ (a.numbered (line ∷ more) ∙ passed n more);
+        told = λ more text found given. subst₂ (λ (ls : List (List ℕ)) (t : List ℕ). texts 1 ls t found)
+            (sym (append_assoc a.lines (line ∷ []) more)) (moved a.done out answer text told.1.1)
+            (a.told (line ∷ more) (answer ++ text) found (told.2 n more text found given));
       };
     }
   where
@@ -68,9 +69,28 @@ Along-answered text text' text'' malformed malformed' malformed'' (Some xs) hand
     moved done out answer later is =
         ap (λ (l : List ℕ). done ++ l) (sym (append_assoc waiting answer later) ∙ (ap (λ (l : List ℕ). l ++ later) is ∙ append_assoc out waiting' later)) ∙ sym (append_assoc done out (waiting' ++ later))
 
-module _ (text text' : TextFor) (malformed malformed' : MalformedFrom) where
+after_waiting : (done waiting waiting' text : List ℕ) → waiting' ≡ [] → done ++ (waiting ++ text) ≡ (done ++ waiting) ++ (waiting' ++ text)
+after_waiting done waiting waiting' text empty = rw empty (sym (append_assoc done waiting text))
+
+-- a beginning of what waits is one with the text of no line
+pub TellsFirst-waiting : (texts : Texts) (n : ℕ) (lines : List (List ℕ)) (waiting : List ℕ) (old new : Option (List ℕ)) → EndsWell texts → AppendsFront old new waiting → TellsFirst texts n lines waiting old new
+TellsFirst-waiting texts n lines waiting old new ends front =
+    record { first = []; later = lines; lines_are = refl; text = []; is_theirs = ends n; written = AppendsFront-more old new waiting [] front }
+
+-- the first few of some lines are the first few of more
+TellsFirst-more : (texts : Texts) (n : ℕ) (lines more all : List (List ℕ)) (waiting : List ℕ) (old new : Option (List ℕ)) → all ≡ lines ++ more → TellsFirst texts n lines waiting old new → TellsFirst texts n all waiting old new
+TellsFirst-more texts n lines more all waiting old new is front = record {
+  first = front.first;
+  later = front.later ++ more;
+  lines_are = is ∙ (ap (λ (l : List (List ℕ)). l ++ more) front.lines_are ∙ append_assoc front.first front.later more);
+  text = front.text;
+  is_theirs = front.is_theirs;
+  written = front.written;
+}
+
+module _ (texts texts' : Texts) where
   -- what waited was written
-  pub Along-written : (all : Option (List ℕ)) (hand : List ℕ) (rest old mid new : Option (List ℕ)) (waiting waiting' : List ℕ) (n : ℕ) → Along text text' malformed malformed' all hand rest old mid waiting n → Appends mid new waiting → waiting' ≡ [] → Along text text' malformed malformed' all hand rest old new waiting' n
+  pub Along-written : (all : Option (List ℕ)) (hand : List ℕ) (rest old mid new : Option (List ℕ)) (waiting waiting' : List ℕ) (n : ℕ) → Along texts texts' all hand rest old mid waiting n → Appends mid new waiting → waiting' ≡ [] → Along texts texts' all hand rest old new waiting' n
   Along-written None hand rest old mid new waiting waiting' n along written empty = record { state = tt }
   Along-written (Some xs) hand None old mid new waiting waiting' n along written empty = absurd along.state
   Along-written (Some xs) hand (Some ys) old mid new waiting waiting' n along written empty =
@@ -82,110 +102,141 @@ module _ (text text' : TextFor) (malformed malformed' : MalformedFrom) where
           written = Appends-both old mid new a.done waiting (a.done ++ waiting) a.written written refl;
           read = a.read;
           each = a.each;
-          told = λ more. rw empty (a.told more ∙ sym (append_assoc a.done waiting (text' more)));
-          numbered = a.numbered;
+          told = λ more text found given. subst (λ (t : List ℕ). texts 1 (a.lines ++ more) t found) (after_waiting a.done waiting waiting' text empty) (a.told more text found given);
         };
       }
 
   -- reading ahead changes nothing that is unread
-  pub Along-kept : (all : Option (List ℕ)) (hand hand' : List ℕ) (rest rest' old new : Option (List ℕ)) (waiting : List ℕ) (n : ℕ) → Along text text' malformed malformed' all hand rest old new waiting n → Keeps (prepend_known hand rest) (prepend_known hand' rest') → Along text text' malformed malformed' all hand' rest' old new waiting n
+  pub Along-kept : (all : Option (List ℕ)) (hand hand' : List ℕ) (rest rest' old new : Option (List ℕ)) (waiting : List ℕ) (n : ℕ) → Along texts texts' all hand rest old new waiting n → Keeps (prepend_known hand rest) (prepend_known hand' rest') → Along texts texts' all hand' rest' old new waiting n
   Along-kept None hand hand' rest rest' old new waiting n along kept = record { state = tt }
   Along-kept (Some xs) hand hand' None rest' old new waiting n along kept = absurd along.state
   Along-kept (Some xs) hand hand' (Some ys) None old new waiting n along kept = absurd kept
   Along-kept (Some xs) hand hand' (Some ys) (Some zs) old new waiting n along kept =
       let a = along.state in
       record {
-        state = record { lines = a.lines; done = a.done; written = a.written; read = a.read ∙ ap (λ (l : List ℕ). ended a.lines ++ l) (sym kept); each = a.each; told = a.told; numbered = a.numbered };
+        state = record { lines = a.lines; done = a.done; written = a.written; read = a.read ∙ ap (λ (l : List ℕ). ended a.lines ++ l) (sym kept); each = a.each; told = a.told };
       }
 
   -- where a read fails once what waited is written, all that was read is answered
-  pub Along-answered_as_read : (all : Option (List ℕ)) (hand : List ℕ) (rest rest' old new : Option (List ℕ)) (waiting : List ℕ) (n : ℕ) → Along text text' malformed malformed' all hand rest old new waiting n → waiting ≡ [] → (0 < length hand → lines_of hand ≡ hand ∷ []) → Keeps rest rest' → text' [] ≡ [] → malformed' n [] ≡ None → Answered text malformed all rest' old new
-  Along-answered_as_read None hand rest rest' old new waiting n along empty one kept no_text none = tt
-  Along-answered_as_read (Some xs) hand None rest' old new waiting n along empty one kept no_text none = absurd along.state
-  Along-answered_as_read (Some xs) hand (Some ys) None old new waiting n along empty one kept no_text none = absurd kept
-  Along-answered_as_read (Some xs) hand (Some ys) (Some zs) old new waiting n along empty one kept no_text none =
+  pub Along-answered_as_read : (all : Option (List ℕ)) (hand : List ℕ) (rest rest' old new : Option (List ℕ)) (waiting : List ℕ) (n : ℕ) → Along texts texts' all hand rest old new waiting n → waiting ≡ [] → (0 < length hand → lines_of hand ≡ hand ∷ []) → Keeps rest rest' → EndsWell texts' → TellsAsRead texts all rest' old new
+  Along-answered_as_read None hand rest rest' old new waiting n along empty one kept ends = tt
+  Along-answered_as_read (Some xs) hand None rest' old new waiting n along empty one kept ends = absurd along.state
+  Along-answered_as_read (Some xs) hand (Some ys) None old new waiting n along empty one kept ends = absurd kept
+  Along-answered_as_read (Some xs) hand (Some ys) (Some zs) old new waiting n along empty one kept ends =
       let a = along.state in
-      let nothing : a.done ++ (waiting ++ text' []) ≡ a.done = rw (empty, no_text) (append-nil a.done) in
-      let all_of : text a.lines ≡ a.done = ap text (sym (append-nil a.lines)) ∙ (a.told [] ∙ nothing) in
       record {
         lines = a.lines;
         beginning = hand;
         input_is = a.read ∙ ap (λ (l : List ℕ). ended a.lines ++ (hand ++ l)) (sym kept);
         lines_are = ap lines_of (sym (append-nil (ended a.lines))) ∙ (a.each [] ∙ append-nil a.lines);
         beginning_is = one;
-        written = rw all_of a.written;
-        none_malformed = ap (malformed 1) (sym (append-nil a.lines)) ∙ (a.numbered [] ∙ none);
+        told = record {
+          text = a.done;
+          is_theirs = subst₂ (λ (ls : List (List ℕ)) (t : List ℕ). texts 1 ls t None) (append-nil a.lines) (rw empty (append-nil a.done)) (a.told [] [] None (ends n));
+          written = a.written;
+        };
       }
 
-  told_all : (xs hand ys : List ℕ) (old new : Option (List ℕ)) (waiting : List ℕ) (n : ℕ) (a : IsAlong text text' malformed malformed' xs hand ys old new waiting n) → text (lines_of xs) ≡ a.done ++ (waiting ++ text' (lines_of (hand ++ ys)))
-  told_all xs hand ys old new waiting n a = ap text (ap lines_of a.read ∙ a.each (hand ++ ys)) ∙ a.told (lines_of (hand ++ ys))
-
-  numbered_all : (xs hand ys : List ℕ) (old new : Option (List ℕ)) (waiting : List ℕ) (n : ℕ) → IsAlong text text' malformed malformed' xs hand ys old new waiting n → malformed 1 (lines_of xs) ≡ malformed' n (lines_of (hand ++ ys))
-  numbered_all xs hand ys old new waiting n a = ap (malformed 1) (ap lines_of a.read ∙ a.each (hand ++ ys)) ∙ a.numbered (lines_of (hand ++ ys))
+  -- a text of the lines that are left goes on with what was told
+  told_all : (xs hand ys : List ℕ) (old new : Option (List ℕ)) (waiting : List ℕ) (n : ℕ) (a : IsAlong texts texts' xs hand ys old new waiting n) (text : List ℕ) (found : Option ℕ) → texts' n (lines_of (hand ++ ys)) text found → texts 1 (lines_of xs) (a.done ++ (waiting ++ text)) found
+  told_all xs hand ys old new waiting n a text found given =
+      subst (λ (ls : List (List ℕ)). texts 1 ls (a.done ++ (waiting ++ text)) found) (sym (ap lines_of a.read ∙ a.each (hand ++ ys))) (a.told (lines_of (hand ++ ys)) text found given)
 
   -- a malformed line that comes next ends the run once what waited is written
-  stops : (xs hand ys : List ℕ) (old mid new : Option (List ℕ)) (waiting : List ℕ) (n : ℕ) (line : List ℕ) (lines : List (List ℕ)) → IsAlong text text' malformed malformed' xs hand ys old mid waiting n → lines_of (hand ++ ys) ≡ line ∷ lines → IsMalformed text' malformed' line → Appends mid new waiting → Wrote text malformed (Some xs) old new (Some n)
-  stops xs hand ys old mid new waiting n line lines a found bad written =
-      let nothing : text' (lines_of (hand ++ ys)) ≡ [] = ap text' found ∙ bad.0 lines in
-      let all_of : a.done ++ waiting ≡ text (lines_of xs) =
-      sym (told_all xs hand ys old mid waiting n a ∙ ap (λ (l : List ℕ). a.done ++ l) (ap (λ (l : List ℕ). waiting ++ l) nothing ∙ append-nil waiting)) in
-      (Appends-both old mid new a.done waiting (text (lines_of xs)) a.written written all_of, numbered_all xs hand ys old mid waiting n a ∙ (ap (malformed' n) found ∙ bad.1 n lines))
+  stops : (xs hand ys : List ℕ) (old mid new : Option (List ℕ)) (waiting : List ℕ) (n : ℕ) (line : List ℕ) (lines : List (List ℕ)) → IsAlong texts texts' xs hand ys old mid waiting n → lines_of (hand ++ ys) ≡ line ∷ lines → IsMalformed texts' line → Appends mid new waiting → TellsAll texts (Some xs) old new (Some n)
+  stops xs hand ys old mid new waiting n line lines a found bad written = record {
+    text = a.done ++ (waiting ++ []);
+    is_theirs = told_all xs hand ys old mid waiting n a [] (Some n) (subst (λ (ls : List (List ℕ)). texts' n ls [] (Some n)) (sym found) (bad n lines));
+    written = Appends-both old mid new a.done waiting (a.done ++ (waiting ++ [])) a.written written (ap (λ (l : List ℕ). a.done ++ l) (sym (append-nil waiting)));
+  }
 
-  pub Along-long : (all : Option (List ℕ)) (hand : List ℕ) (rest old mid new : Option (List ℕ)) (waiting : List ℕ) (n : ℕ) → Along text text' malformed malformed' all hand rest old mid waiting n → ((more : List ℕ) → HasLongLine (hand ++ more)) → ((line : List ℕ) → 16384 < length line → IsMalformed text' malformed' line) → Appends mid new waiting → Wrote text malformed all old new (Some n)
+  pub Along-long : (all : Option (List ℕ)) (hand : List ℕ) (rest old mid new : Option (List ℕ)) (waiting : List ℕ) (n : ℕ) → Along texts texts' all hand rest old mid waiting n → ((more : List ℕ) → HasLongLine (hand ++ more)) → ((line : List ℕ) → longest_line < length line → IsMalformed texts' line) → Appends mid new waiting → TellsAll texts all old new (Some n)
   Along-long None hand rest old mid new waiting n along long law written = tt
   Along-long (Some xs) hand None old mid new waiting n along long law written = absurd along.state
   Along-long (Some xs) hand (Some ys) old mid new waiting n along long law written =
       let found = long ys in
       stops xs hand ys old mid new waiting n found.0 found.1 along.state found.2 (law found.0 found.3) written
 
-  pub Along-malformed : (all : Option (List ℕ)) (hand : List ℕ) (rest old mid new : Option (List ℕ)) (waiting : List ℕ) (n count : ℕ) → Along text text' malformed malformed' all hand rest old mid waiting n → IsWholeLine hand count → IsMalformed text' malformed' (take count hand) → Appends mid new waiting → Wrote text malformed all old new (Some n)
+  pub Along-malformed : (all : Option (List ℕ)) (hand : List ℕ) (rest old mid new : Option (List ℕ)) (waiting : List ℕ) (n count : ℕ) → Along texts texts' all hand rest old mid waiting n → IsWholeLine hand count → IsMalformed texts' (take count hand) → Appends mid new waiting → TellsAll texts all old new (Some n)
   Along-malformed None hand rest old mid new waiting n count along whole bad written = tt
   Along-malformed (Some xs) hand None old mid new waiting n count along whole bad written = absurd along.state
   Along-malformed (Some xs) hand (Some ys) old mid new waiting n count along whole bad written =
       stops xs hand ys old mid new waiting n (take count hand) _ along.state (line_first hand ys count whole) bad written
 
   -- a beginning of what is left is one of the whole
-  Along-front : (xs hand ys : List ℕ) (old mid new : Option (List ℕ)) (waiting : List ℕ) (n : ℕ) → Along text text' malformed malformed' (Some xs) hand (Some ys) old mid waiting n → AppendsFront mid new (waiting ++ text' (lines_of (hand ++ ys))) → AppendsFront old new (text (lines_of xs))
-  Along-front xs hand ys old mid new waiting n along front =
-      AppendsFront-after old mid new (text (lines_of xs)) (waiting ++ text' (lines_of (hand ++ ys))) (along.state.done, told_all xs hand ys old mid waiting n along.state, along.state.written) front
+  Along-front : (xs hand ys : List ℕ) (old mid new : Option (List ℕ)) (waiting : List ℕ) (n : ℕ) → IsAlong texts texts' xs hand ys old mid waiting n → TellsFirst texts' n (lines_of (hand ++ ys)) waiting mid new → TellsFront texts (Some xs) old new
+  Along-front xs hand ys old mid new waiting n a front = record {
+    first = a.lines ++ front.first;
+    later = front.later;
+    lines_are = ap lines_of a.read ∙ (a.each (hand ++ ys) ∙ (ap (λ (l : List (List ℕ)). a.lines ++ l) front.lines_are ∙ sym (append_assoc a.lines front.first front.later)));
+    text = a.done ++ (waiting ++ front.text);
+    is_theirs = a.told front.first front.text None front.is_theirs;
+    written = AppendsFront-after old mid new (a.done ++ (waiting ++ front.text)) (waiting ++ front.text) (a.done, refl, a.written) front.written;
+  }
 
-  pub Along-waiting_front : (all : Option (List ℕ)) (hand : List ℕ) (rest old mid new : Option (List ℕ)) (waiting : List ℕ) (n : ℕ) → Along text text' malformed malformed' all hand rest old mid waiting n → AppendsFront mid new waiting → WroteFront text all old new
-  Along-waiting_front None hand rest old mid new waiting n along front = tt
-  Along-waiting_front (Some xs) hand None old mid new waiting n along front = absurd along.state
-  Along-waiting_front (Some xs) hand (Some ys) old mid new waiting n along front =
-      Along-front xs hand ys old mid new waiting n along (AppendsFront-more mid new waiting (text' (lines_of (hand ++ ys))) front)
+  pub Along-waiting_front : (all : Option (List ℕ)) (hand : List ℕ) (rest old mid new : Option (List ℕ)) (waiting : List ℕ) (n : ℕ) → Along texts texts' all hand rest old mid waiting n → EndsWell texts' → AppendsFront mid new waiting → TellsFront texts all old new
+  Along-waiting_front None hand rest old mid new waiting n along ends front = tt
+  Along-waiting_front (Some xs) hand None old mid new waiting n along ends front = absurd along.state
+  Along-waiting_front (Some xs) hand (Some ys) old mid new waiting n along ends front =
+      Along-front xs hand ys old mid new waiting n along.state (TellsFirst-waiting texts' n (lines_of (hand ++ ys)) waiting mid new ends front)
 
-  pub Along-line_front : (all : Option (List ℕ)) (hand : List ℕ) (rest old mid new : Option (List ℕ)) (waiting : List ℕ) (n count : ℕ) → Along text text' malformed malformed' all hand rest old mid waiting n → IsWholeLine hand count → ((lines : List (List ℕ)) → AppendsFront mid new (waiting ++ text' (take count hand ∷ lines))) → WroteFront text all old new
+  pub Along-line_front : (all : Option (List ℕ)) (hand : List ℕ) (rest old mid new : Option (List ℕ)) (waiting : List ℕ) (n count : ℕ) → Along texts texts' all hand rest old mid waiting n → IsWholeLine hand count → TellsFirst texts' n (take count hand ∷ []) waiting mid new → TellsFront texts all old new
   Along-line_front None hand rest old mid new waiting n count along whole front = tt
   Along-line_front (Some xs) hand None old mid new waiting n count along whole front = absurd along.state
   Along-line_front (Some xs) hand (Some ys) old mid new waiting n count along whole front =
-      let first = line_first hand ys count whole in
-      Along-front xs hand ys old mid new waiting n along (rw first (front (lines_of (drop (count + 1) hand ++ ys))))
+      Along-front xs hand ys old mid new waiting n along.state (TellsFirst-more texts' n (take count hand ∷ []) _ _ waiting mid new (line_first hand ys count whole) front)
 
-  pub Along-end_front : (all : Option (List ℕ)) (hand : List ℕ) (rest old mid new : Option (List ℕ)) (waiting : List ℕ) (n : ℕ) → Along text text' malformed malformed' all hand rest old mid waiting n → waiting ≡ [] → IsAtEnd rest → AppendsFront mid new (text' (lines_of hand)) → WroteFront text all old new
+  pub Along-end_front : (all : Option (List ℕ)) (hand : List ℕ) (rest old mid new : Option (List ℕ)) (waiting : List ℕ) (n : ℕ) → Along texts texts' all hand rest old mid waiting n → waiting ≡ [] → IsAtEnd rest → TellsFirst texts' n (lines_of hand) [] mid new → TellsFront texts all old new
   Along-end_front None hand rest old mid new waiting n along empty ended front = tt
   Along-end_front (Some xs) hand None old mid new waiting n along empty ended front = absurd along.state
   Along-end_front (Some xs) hand (Some ys) old mid new waiting n along empty ended front =
       let last : hand ++ ys ≡ hand = ap (λ (l : List ℕ). hand ++ l) ended ∙ append-nil hand in
-      Along-front xs hand ys old mid new waiting n along (rw (empty, last) front)
+      Along-front xs hand ys old mid new waiting n along.state (rw (empty, last) front)
 
-pub WroteFront-nothing : (text : TextFor) (all old : Option (List ℕ)) → WroteFront text all old old
-WroteFront-nothing text None old = tt
-WroteFront-nothing text (Some xs) old = AppendsFront-nothing old (text (lines_of xs))
+  -- the text of the last line completes the whole
+  pub Along-end : (all : Option (List ℕ)) (hand : List ℕ) (rest old mid new : Option (List ℕ)) (waiting : List ℕ) (n : ℕ) (found : Option ℕ) → Along texts texts' all hand rest old mid waiting n → waiting ≡ [] → IsAtEnd rest → TellsLines texts' n (lines_of hand) mid new found → TellsAll texts all old new found
+  Along-end None hand rest old mid new waiting n found along empty ended told = tt
+  Along-end (Some xs) hand None old mid new waiting n found along empty ended told = absurd along.state
+  Along-end (Some xs) hand (Some ys) old mid new waiting n found along empty ended told =
+      let a = along.state in
+      let last : hand ≡ hand ++ ys = sym (ap (λ (l : List ℕ). hand ++ l) ended ∙ append-nil hand) in
+      record {
+        text = a.done ++ (waiting ++ told.text);
+        is_theirs = told_all xs hand ys old mid waiting n a told.text found (subst (λ (l : List ℕ). texts' n (lines_of l) told.text found) last told.is_theirs);
+        written = Appends-both old mid new a.done told.text (a.done ++ (waiting ++ told.text)) a.written told.written (rw empty refl);
+      }
 
--- a beginning of a text with the answer to a line is one of the text with the answers to all lines
-pub AppendsFront-told : (text text' : TextFor) (line old_text new_text : List ℕ) (old new : Option (List ℕ)) → Tells text text' line old_text new_text → AppendsFront old new new_text → (lines : List (List ℕ)) → AppendsFront old new (old_text ++ text (line ∷ lines))
-AppendsFront-told text text' line old_text new_text old new told front lines =
-    let whole : old_text ++ text (line ∷ lines) ≡ new_text ++ text' lines =
-    ap (λ (l : List ℕ). old_text ++ l) (told.2 lines) ∙ (sym (append_assoc old_text told.0 (text' lines)) ∙ ap (λ (l : List ℕ). l ++ text' lines) (sym told.1)) in
-    rw whole (AppendsFront-more old new new_text (text' lines) front)
+pub TellsFront-nothing : (texts : Texts) (all old : Option (List ℕ)) → EndsWell texts → TellsFront texts all old old
+TellsFront-nothing texts None old ends = tt
+TellsFront-nothing texts (Some xs) old ends = TellsFirst-waiting texts 1 (lines_of xs) [] old old ends (AppendsFront-nothing old [])
+
+-- a beginning of a text with the answer to a line
+pub TellsFirst-told : (texts texts' : Texts) (n : ℕ) (line old_text new_text : List ℕ) (old new : Option (List ℕ)) → EndsWell texts' → Tells texts texts' line old_text new_text → AppendsFront old new new_text → TellsFirst texts n (line ∷ []) old_text old new
+TellsFirst-told texts texts' n line old_text new_text old new ends told front = record {
+  first = line ∷ [];
+  later = [];
+  lines_are = refl;
+  text = told.0 ++ [];
+  is_theirs = told.2 n [] [] None (ends (n + 1));
+  written =
+      let whole : new_text ≡ old_text ++ (told.0 ++ []) = told.1 ∙ ap (λ (l : List ℕ). old_text ++ l) (sym (append-nil told.0)) in
+      subst (AppendsFront old new) whole front;
+}
 
 -- the same for the answer to one last line
-pub AppendsFront-last : (text text' : TextFor) (line : List ℕ) (old mid new : Option (List ℕ)) (before after : List ℕ) → before ≡ [] → TellsUpTo text text' line old mid before after → AppendsFront mid new after → AppendsFront old new (text (line ∷ []))
-AppendsFront-last text text' line old mid new before after empty told front =
-    let written : AppendsFront old new told.0 = AppendsFront-after old mid new told.0 after (rw empty at told.1) front in
-    let answer = told.2 [] in
-    rw answer (AppendsFront-more old new told.0 (text' []) written)
+pub TellsFirst-last : (texts texts' : Texts) (n : ℕ) (line : List ℕ) (old mid new : Option (List ℕ)) (before after : List ℕ) → EndsWell texts' → before ≡ [] → TellsUpTo texts texts' line old mid before after → AppendsFront mid new after → TellsFirst texts n (line ∷ []) [] old new
+TellsFirst-last texts texts' n line old mid new before after ends empty told front =
+    TellsFirst-told texts texts' n line [] told.0 old new ends (told.0, refl, told.2) (AppendsFront-after old mid new told.0 after (rw empty at told.1) front)
+
+-- the answer to one last line is its text
+pub TellsLines-last : (texts texts' : Texts) (n : ℕ) (line : List ℕ) (old mid new : Option (List ℕ)) (before after : List ℕ) → EndsWell texts' → before ≡ [] → TellsUpTo texts texts' line old mid before after → Appends mid new after → TellsLines texts n (line ∷ []) old new None
+TellsLines-last texts texts' n line old mid new before after ends empty told written = record {
+  text = told.0 ++ [];
+  is_theirs = told.2 n [] [] None (ends (n + 1));
+  written =
+      let front = rw empty at told.1 in
+      Appends-both old mid new front.0 after (told.0 ++ []) front.2 written (sym front.1 ∙ sym (append-nil told.0));
+}
 
 -- what follows from a fact of an error
 pub OnErr-map : {T E : Type 0} (r : Result T E) (P Q : Type 0) → (P → Q) → OnErr r P → OnErr r Q

@@ -2,7 +2,7 @@
 
 ghost use Rattle.nd_io.specs.Lines.{longest_line};
 ghost use Rattle.std.specs.Prelude.{◌≡◌, ◌≤◌, ◌<◌, ◌++◌, ◌∷◌, ℕ, List, Option, [], Some, None, length, string_bytes, OnOk, IsErrOf};
-ghost use Rattle.nd_io.specs.Answers.{Tells, Passes, IsMalformed};
+ghost use Rattle.nd_io.specs.Answers.{Tells, EndsWell, IsMalformed};
 
 use std::alloc::Allocator;
 
@@ -20,25 +20,20 @@ pub enum Unanswered {
 
 /// What answers lines, one after the other. It may hold what earlier lines told it.
 pub trait Answering {
-    /// The text for some lines from here on: nothing from the first malformed one on.
-    ghost text_for: { Self → List (List ℕ) → List ℕ };
-
-    /// The number of the first malformed one of some lines from here on, where the first has the given number.
-    ghost malformed_from: { Self → ℕ → List (List ℕ) → Option ℕ };
+    /// Which text some lines may have from here on, where the first has the given number: nothing is told from the
+    /// first malformed one on, whose number comes last.
+    ghost texts: { Self → ℕ → List (List ℕ) → List ℕ → Option ℕ → Type 0 };
 
     /// Appends the answer to one line, which comes without its line feed.
     fn answer<A: Allocator>(&mut self, line: &[u8], text: &mut String<A>) -> Result<(), Unanswered>
         requires { length line.now ≤ longest_line }
-        ensures answered { OnOk result (Tells (text_for self.old) (text_for self.new) line.now (string_bytes text.old) (string_bytes text.new)) }
-        ensures passed { OnOk result (Passes (malformed_from self.old) (malformed_from self.new) line.now) }
-        ensures malformed { IsErrOf result Unanswered.Malformed → IsMalformed (text_for self.old) (malformed_from self.old) line.now }
+        ensures answered { OnOk result (Tells (texts self.old) (texts self.new) line.now (string_bytes text.old) (string_bytes text.new)) }
+        ensures malformed { IsErrOf result Unanswered.Malformed → IsMalformed (texts self.old) line.now }
         ensures text_kept { IsErrOf result Unanswered.Malformed → string_bytes text.new ≡ string_bytes text.old };
 
-    /// No line has no text, and none of no lines is malformed.
-    ghost no_lines: { (answering : Self) → text_for answering [] ≡ [] };
-
-    ghost none_malformed: { (answering : Self) (n : ℕ) → malformed_from answering n [] ≡ None };
+    /// No line has no text.
+    ghost no_lines: { (answering : Self) → EndsWell (texts answering) };
 
     /// A line that is too long is malformed.
-    ghost too_long: { (answering : Self) (line : List ℕ) → longest_line < length line → IsMalformed (text_for answering) (malformed_from answering) line };
+    ghost too_long: { (answering : Self) (line : List ℕ) → longest_line < length line → IsMalformed (texts answering) line };
 }

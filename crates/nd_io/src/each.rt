@@ -1,11 +1,18 @@
 //! Answers that depend on one line alone.
 
 ghost use Rattle.nd_io.specs.Lines.{longest_line};
-ghost use Rattle.std.specs.Prelude.{◌≡◌, ◌≤◌, ◌++◌, ℕ, List, Option, None, length, string_bytes, OnOk, IsErrOf, IsSomeAnd, refl};
+ghost use Rattle.std.specs.Prelude.{◌≡◌, ◌≢◌, ◌≤◌, ◌^◌, ◌++◌, ◌⊎◌, ℕ, List, Option, None, Some, Err, length, string_bytes, OnOk, OnErr, IsErrOf, IsSomeAnd, refl};
+ghost use Rattle.nd_io.specs.Answers.{Only};
+ghost use Rattle.nd_io.specs.Counts.{HasRisen, HasGrownBy, most_reads};
 ghost use Rattle.nd_io.specs.Each.{text_of_each, malformed_of_each};
 ghost use Rattle.nd_io.specs.EachLaws.{each_too_long};
+ghost use Rattle.nd_io.specs.Run.{Wrote, WroteFront, Answered};
 
 use crate::answering::{Answering, Unanswered};
+use crate::input::Input;
+use crate::output::Output;
+use crate::run::run_lines;
+use crate::tool_fault::ToolFault;
 use std::alloc::Allocator;
 
 /// What answers each line by itself. It may hold room to work in, on which no answer depends.
@@ -43,13 +50,9 @@ impl<T: AnsweringEach> Each<T> {
 }
 
 impl<T: AnsweringEach> Answering for Each<T> {
-    ghost text_for = { λ _. text_of_each T.answer_to };
+    ghost texts = { λ _. Only (text_of_each T.answer_to) (malformed_of_each T.answer_to) };
 
-    ghost malformed_from = { λ _. malformed_of_each T.answer_to };
-
-    ghost no_lines = { λ _. refl };
-
-    ghost none_malformed = { λ _ _. refl };
+    ghost no_lines = { λ _ _. (refl, refl) };
 
     ghost too_long = { λ _ line long. each_too_long T.answer_to line long };
 
@@ -60,4 +63,24 @@ impl<T: AnsweringEach> Answering for Each<T> {
     ) -> Result<(), Unanswered> {
         self.answering.answer_each(line, text)
     }
+}
+
+/// Answers each line of the reader by itself into the writer, up to the first malformed one, as `run_lines` does.
+pub fn run_each<R: Input, W: Output, T: AnsweringEach + Drop, A: Allocator + Clone>(
+    alloc: A,
+    reader: &mut R,
+    writer: &mut W,
+    answering: T,
+) -> Result<(), ToolFault>
+    ensures ok { OnOk result (Wrote (text_of_each T.answer_to) (malformed_of_each T.answer_to) (R.remaining reader.old) (W.contents writer.old) (W.contents writer.new) None) }
+    ensures line { (n : ℕ) → IsErrOf result (ToolFault.Line n) → Wrote (text_of_each T.answer_to) (malformed_of_each T.answer_to) (R.remaining reader.old) (W.contents writer.old) (W.contents writer.new) (Some n) }
+    ensures front { OnErr result (WroteFront (text_of_each T.answer_to) (R.remaining reader.old) (W.contents writer.old) (W.contents writer.new)) }
+    ensures read_failed { IsErrOf result ToolFault.Read → HasRisen (R.failed reader.old) (R.failed reader.new) ⊎ HasGrownBy most_reads (R.given reader.old) (R.given reader.new) }
+    // Where a read fails, the answers to all lines that were read before it are written.
+    ensures answered { IsErrOf result ToolFault.Read → Answered (text_of_each T.answer_to) (malformed_of_each T.answer_to) (R.remaining reader.old) (R.remaining reader.new) (W.contents writer.old) (W.contents writer.new) }
+    ensures write_failed { IsErrOf result ToolFault.Write → HasRisen (W.failed writer.old) (W.failed writer.new) }
+    ensures never_wire { result ≢ Err ToolFault.Wire }
+{
+    let mut each = Each::new(answering);
+    run_lines(alloc, reader, writer, &mut each)
 }
