@@ -1,5 +1,5 @@
 -- An IPv6 header and its payload (RFC 8200, section 3).
-use Rattle.std.specs.Prelude.{ℕ, ◌+◌, ◌*◌, ◌/◌, ◌%◌, ◌^◌, List, [], ◌∷◌, ◌++◌, length, drop, Result, Ok, Err, slice_index, slice_range, nat_lt, ◌==◌, if◌then◌else◌}
+use Rattle.std.specs.Prelude.{◌≡◌, ℕ, ◌+◌, ◌*◌, ◌/◌, ◌%◌, ◌^◌, ◌<◌, List, [], ◌∷◌, ◌++◌, length, drop, Result, Ok, Err, slice_index, slice_range, nat_lt, ◌==◌, if◌then◌else◌}
 use Rattle.byteorder.specs.Endian.{big_number, big_bytes}
 use Rattle.nd_addr.specs.declared.why.Why.{Why}
 use Rattle.nd_addr.specs.declared.why.Why.TheVariants.{HeaderShort, Version, PayloadShort}
@@ -9,6 +9,13 @@ use Rattle.nd_addr.specs.declared.ip6.Ip6Ref.{Ip6Ref}
 -- the next header of ICMPv6 (RFC 4443, section 1)
 abbrev pub next_header_icmpv6 : ℕ
 next_header_icmpv6 = 58
+
+-- a header that its bytes hold: a byte of traffic class, 20 bits of flow label, two addresses
+pub record FitsHeader (header : Ip6) : Type 0 where
+  pub traffic_class : header.traffic_class < 256
+  pub flow_label : header.flow_label < 2 ^ 20
+  pub source : length header.source.0 ≡ 16
+  pub destination : length header.destination.0 ≡ 16
 
 -- a packet without where its payload lies
 pub record PacketParts : Type 0 where
