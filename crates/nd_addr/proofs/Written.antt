@@ -1,13 +1,13 @@
 -- Frames and packets that are written read back as what was written.
-use Rattle.std.proofs.Common.{◌≡◌, ℕ, ◌+◌, ◌-◌, ◌*◌, ◌/◌, ◌%◌, ◌^◌, ◌<◌, ◌≤◌, false, ltb, List, [], ◌∷◌, ◌++◌, length, take, drop, slice_range, Ok, refl, ap, ◌∙◌, arith, append_assoc}
+use Rattle.std.proofs.Common.{◌≡◌, ℕ, ◌+◌, ◌-◌, ◌*◌, ◌/◌, ◌%◌, ◌^◌, ◌<◌, ◌≤◌, false, ltb, List, [], ◌∷◌, ◌++◌, length, take, drop, slice_range, Ok, refl, sym, ap, ◌∙◌, arith, append_assoc}
 use Rattle.std.proofs.lemmas.Bool.{eq-eqb, le-ltb}
 use Rattle.std.proofs.lemmas.List.{length-append, take_at, drop_at}
 use Rattle.byteorder.specs.Endian.{big_bytes, big_number}
 use Rattle.byteorder.specs.Numbers.{big_number-reads_back}
 use Rattle.nd_addr.specs.declared.mac.Mac.{Mac}
 use Rattle.nd_addr.specs.declared.ip6.Ip6.{Ip6}
-use Rattle.nd_addr.specs.Frame.{FrameParts, frame_of, written_frame}
-use Rattle.nd_addr.specs.Ip6.{FitsHeader, PacketParts, header_of, payload_length_of, packet_of, written_packet}
+use Rattle.nd_addr.specs.Frame.{FrameParts, frame_of, written_headers, written_frame}
+use Rattle.nd_addr.specs.Ip6.{FitsHeader, PacketParts, header_of, payload_length_of, packet_of, written_header, written_packet}
 
 -- ---- the frame
 
@@ -119,3 +119,13 @@ packet_back header payload padding h short =
     let e2 = eq-eqb _ _ p.version in
     let e3 : ltb (length packet) (40 + payload_length_of packet) ≡ false = le-ltb _ _ (omega (arith, p.long, p.told)) in
     rw (e1, e2, e3) (ap Ok (same_packet _ header _ payload p.header_is p.payload_is))
+
+-- ---- the headers
+
+pub headers_first : (to from : Mac) (header : Ip6) (payload : List ℕ) → written_frame to from header payload ≡ written_headers to from header (length payload) ++ payload
+headers_first to from header payload = sym (append_assoc (to.0 ++ from.0 ++ (0x86 ∷ 0xdd ∷ [])) (written_header header (length payload)) payload)
+
+pub length-headers : (to from : Mac) (header : Ip6) (len : ℕ) → length to.0 ≡ 6 → length from.0 ≡ 6 → FitsHeader header → length (written_headers to from header len) ≡ 54
+length-headers to from header len t f h =
+    let front : List ℕ = to.0 ++ from.0 ++ (0x86 ∷ 0xdd ∷ []) in
+    omega (arith, h.source, h.destination, length-append front (written_header header len), length-append (to.0 ++ from.0) (0x86 ∷ 0xdd ∷ []), length-append to.0 from.0, length-append header.source.0 header.destination.0)

@@ -4,7 +4,7 @@ ghost use Rattle.std.specs.Prelude.{◌≡◌, ◌↔◌, ◌<◌, ◌≤◌, �
 ghost use Rattle.std.specs.Ordering.{nat_cmp};
 ghost use Rattle.nd_addr.specs.Bytes.{AreBytes};
 ghost use Rattle.nd_addr.specs.declared.ip6.Ip6.{Ip6};
-ghost use Rattle.nd_addr.specs.Frame.{frame_of, written_frame};
+ghost use Rattle.nd_addr.specs.Frame.{frame_of, headers_length, written_headers, written_frame};
 ghost use Rattle.nd_addr.specs.Ip6.{FitsHeader, packet_of, written_packet};
 ghost use Rattle.nd_addr.specs.Kind.{multicast_prefix, link_local_address, unspecified_address, loopback_address, all_nodes_address, all_routers_address};
 ghost use Rattle.nd_addr.specs.Number.{number_of, addr_at, mac_at, Holds, holds};
@@ -52,4 +52,10 @@ pub fn written_reads_back()
     // The same whatever padding follows the packet.
     ensures packet { (header : Ip6) (payload padding : List ℕ) → FitsHeader header → length payload ≤ 65535
         → packet_of (written_packet header payload ++ padding) ≡ Ok (record { header = header; payload = payload }) }
+{}
+
+/// A frame is what stands in front of its payload, which is of one length, and the payload.
+pub fn headers_come_first()
+    ensures frame { (destination source : Mac) (header : Ip6) (payload : List ℕ) → written_frame destination source header payload ≡ written_headers destination source header (length payload) ++ payload }
+    ensures len { (destination source : Mac) (header : Ip6) (len : ℕ) → length destination.0 ≡ 6 → length source.0 ≡ 6 → FitsHeader header → length (written_headers destination source header len) ≡ headers_length }
 {}
