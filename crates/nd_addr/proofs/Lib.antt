@@ -1,6 +1,9 @@
+pub mod ByteLists
 pub mod Folding
 pub mod Masking
 pub mod Numbers
+pub mod Numbered
+pub mod Written
 pub mod GroupBytes
 pub mod MacTexts
 pub mod PrefixTexts

@@ -6,7 +6,7 @@ use Rattle.nd_addr.specs.declared.why.Why.TheVariants.{FrameShort, NotIpv6}
 use Rattle.nd_addr.specs.declared.frame.FrameRef.{FrameRef}
 use Rattle.nd_addr.specs.declared.mac.Mac.{Mac}
 use Rattle.nd_addr.specs.declared.ip6.Ip6.{Ip6}
-use Rattle.nd_addr.specs.Ip6.{written_packet}
+use Rattle.nd_addr.specs.Ip6.{written_header, written_packet}
 
 -- a frame without where its bytes lie
 pub record FrameParts : Type 0 where
@@ -26,6 +26,14 @@ frame_of bytes =
       source = record { 0 = slice_range bytes 6 12 };
       rest = drop 14 bytes;
     }) else Err NotIpv6
+
+-- how many bytes stand in front of the payload: the fields, and the header (RFC 2464, section 3; RFC 8200, section 3)
+abbrev pub headers_length : ℕ
+headers_length = 54
+
+-- the fields one after the other, and the header of a packet with a payload of this length
+abbrev pub written_headers : Mac → Mac → Ip6 → ℕ → List ℕ
+written_headers destination source header len = destination.0 ++ source.0 ++ (0x86 ∷ 0xdd ∷ []) ++ written_header header len
 
 -- the fields one after the other, and the packet
 abbrev pub written_frame : Mac → Mac → Ip6 → List ℕ → List ℕ

@@ -1,5 +1,5 @@
 -- An IPv6 header and its payload (RFC 8200, section 3).
-use Rattle.std.specs.Prelude.{ℕ, ◌+◌, ◌*◌, ◌/◌, ◌%◌, ◌^◌, List, [], ◌∷◌, ◌++◌, length, drop, Result, Ok, Err, slice_index, slice_range, nat_lt, ◌==◌, if◌then◌else◌}
+use Rattle.std.specs.Prelude.{◌≡◌, ℕ, ◌+◌, ◌*◌, ◌/◌, ◌%◌, ◌^◌, ◌<◌, List, [], ◌∷◌, ◌++◌, length, drop, Result, Ok, Err, slice_index, slice_range, nat_lt, ◌==◌, if◌then◌else◌}
 use Rattle.byteorder.specs.Endian.{big_number, big_bytes}
 use Rattle.nd_addr.specs.declared.why.Why.{Why}
 use Rattle.nd_addr.specs.declared.why.Why.TheVariants.{HeaderShort, Version, PayloadShort}
@@ -9,6 +9,13 @@ use Rattle.nd_addr.specs.declared.ip6.Ip6Ref.{Ip6Ref}
 -- the next header of ICMPv6 (RFC 4443, section 1)
 abbrev pub next_header_icmpv6 : ℕ
 next_header_icmpv6 = 58
+
+-- a header that its bytes hold: a byte of traffic class, 20 bits of flow label, two addresses
+pub record FitsHeader (header : Ip6) : Type 0 where
+  pub traffic_class : header.traffic_class < 256
+  pub flow_label : header.flow_label < 2 ^ 20
+  pub source : length header.source.0 ≡ 16
+  pub destination : length header.destination.0 ≡ 16
 
 -- a packet without where its payload lies
 pub record PacketParts : Type 0 where
@@ -33,17 +40,25 @@ header_of bytes = record {
 abbrev pub payload_length_of : List ℕ → ℕ
 payload_length_of bytes = big_number 2 (drop 4 bytes)
 
+-- as many bytes behind the header as it tells
+abbrev pub payload_of : List ℕ → List ℕ
+payload_of bytes = slice_range bytes 40 (40 + payload_length_of bytes)
+
 -- the header at its place, and as many bytes behind it as it tells; what follows is padding
 abbrev pub packet_of : List ℕ → Result PacketParts Why
 packet_of bytes =
     if nat_lt (length bytes) 40 then Err HeaderShort else
     if big_number 4 bytes / 2 ^ 28 == 6 then
     (if nat_lt (length bytes) (40 + payload_length_of bytes) then Err PayloadShort else
-    Ok (record { header = header_of bytes; payload = slice_range bytes 40 (40 + payload_length_of bytes) }))
+    Ok (record { header = header_of bytes; payload = payload_of bytes }))
     else Err Version
 
--- version 6, class and flow label in the first four bytes, then the other fields in their order
+-- version 6, class and flow label in the first four bytes, then the other fields in their order; the length is the payload's
+abbrev pub written_header : Ip6 → ℕ → List ℕ
+written_header header len =
+    big_bytes 4 (6 * 2 ^ 28 + header.traffic_class * 2 ^ 20 + header.flow_label % 2 ^ 20) ++ big_bytes 2 len
+    ++ (header.next_header ∷ header.hop_limit ∷ []) ++ header.source.0 ++ header.destination.0
+
+-- the header, and the payload behind it
 abbrev pub written_packet : Ip6 → List ℕ → List ℕ
-written_packet header payload =
-    big_bytes 4 (6 * 2 ^ 28 + header.traffic_class * 2 ^ 20 + header.flow_label % 2 ^ 20) ++ big_bytes 2 (length payload)
-    ++ (header.next_header ∷ header.hop_limit ∷ []) ++ header.source.0 ++ header.destination.0 ++ payload
+written_packet header payload = written_header header (length payload) ++ payload

@@ -26,6 +26,14 @@ unspecified_address = replicate 16 0
 abbrev pub loopback_address : List ℕ
 loopback_address = replicate 15 0 ++ 1 ∷ []
 
+-- ff02::1, all nodes of the link (RFC 4291, section 2.7.1)
+abbrev pub all_nodes_address : List ℕ
+all_nodes_address = 0xff ∷ 2 ∷ replicate 13 0 ++ 1 ∷ []
+
+-- ff02::2, all routers of the link (RFC 4291, section 2.7.1)
+abbrev pub all_routers_address : List ℕ
+all_routers_address = 0xff ∷ 2 ∷ replicate 13 0 ++ 2 ∷ []
+
 -- ff02::1:ff00:0/104, and the low 24 bits of the address (RFC 4291, section 2.7.1)
 abbrev pub solicited_node_of : List ℕ → List ℕ
 solicited_node_of address =

@@ -9,3 +9,5 @@ pub mod Text
 pub mod Number
 pub mod Kind
 pub mod Spelling
+pub mod Room
+pub mod Places

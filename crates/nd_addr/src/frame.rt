@@ -1,9 +1,11 @@
 ghost use Rattle.std.specs.Prelude.{◌≡◌, ◌≤◌, IfOk, length};
 ghost use Rattle.nd_addr.specs.Given.{Gives};
-ghost use Rattle.nd_addr.specs.Frame.{frame_of, frame_parts, written_frame};
+ghost use Rattle.nd_addr.specs.Frame.{frame_of, frame_parts, headers_length, written_headers, written_frame};
+ghost use Rattle.nd_addr.specs.Room.{HasRoom, Puts};
 
-use crate::ip6::{IPV6_HEADER_LENGTH, Ip6, push_packet};
+use crate::ip6::{IPV6_HEADER_LENGTH, Ip6, put_header};
 use crate::mac::Mac;
+use crate::room::put_bytes;
 use crate::why::Why;
 use byteorder::{BigEndian, ByteOrder};
 use std::alloc::{AllocError, Allocator};
@@ -13,6 +15,9 @@ pub const ETHERNET_IPV6: u16 = 0x86dd;
 
 /// How many bytes an Ethernet header has, which is where the packet begins (RFC 2464, section 3).
 pub const ETHERNET_HEADER_LENGTH: usize = 14;
+
+/// How many bytes stand in front of the payload of a packet: the Ethernet fields, and the header.
+pub const HEADERS_LENGTH: usize = ETHERNET_HEADER_LENGTH + IPV6_HEADER_LENGTH;
 
 /// Where the destination, the source and the type stand in it.
 const DESTINATION_AT: usize = 0;
@@ -56,6 +61,24 @@ impl Frame {
     }
 }
 
+/// Puts what stands in front of a payload of this length at the end, where there is room for `HEADERS_LENGTH` bytes more: the three
+/// Ethernet fields, and the header. It takes no memory.
+pub fn put_headers<A: Allocator>(
+    out: &mut Vec<u8, A>,
+    destination: Mac,
+    source: Mac,
+    header: &Ip6,
+    length: u16,
+)
+    requires { HasRoom out.old headers_length }
+    ensures { Puts out.old out.new (written_headers destination source header.now length) }
+{
+    put_bytes(out, &destination.0);
+    put_bytes(out, &source.0);
+    put_bytes(out, &ETHERNET_IPV6.to_be_bytes());
+    put_header(out, header, length);
+}
+
 /// The frame of a packet: the three Ethernet fields, the header with the payload's length, the payload.
 /// The error is want of memory.
 pub fn write_frame<A: Allocator>(
@@ -68,13 +91,14 @@ pub fn write_frame<A: Allocator>(
     requires { length payload.now ≤ 65535 }
     ensures { IfOk result (λ frame. frame.items ≡ written_frame destination source header.now payload.now) }
 {
-    let mut frame = Vec::with_capacity(
-        alloc,
-        ETHERNET_HEADER_LENGTH + IPV6_HEADER_LENGTH + payload.len(),
-    )?;
-    frame.extend_from_slice(&destination.0)?;
-    frame.extend_from_slice(&source.0)?;
-    frame.extend_from_slice(&ETHERNET_IPV6.to_be_bytes())?;
-    push_packet(&mut frame, header, payload)?;
+    let mut frame = Vec::with_capacity(alloc, HEADERS_LENGTH + payload.len())?;
+    put_headers(
+        &mut frame,
+        destination,
+        source,
+        header,
+        payload.len() as u16,
+    );
+    put_bytes(&mut frame, payload);
     Ok(frame)
 }

@@ -1,11 +1,12 @@
-ghost use Rattle.std.specs.Prelude.{◌≡◌, ◌≤◌, ◌++◌, OnOk, length};
 ghost use Rattle.nd_addr.specs.Given.{Gives};
-ghost use Rattle.nd_addr.specs.Ip6.{packet_of, packet_parts, written_packet};
+ghost use Rattle.nd_addr.specs.Ip6.{packet_of, packet_parts, written_header};
+ghost use Rattle.nd_addr.specs.Room.{HasRoom, Puts};
 
 use crate::addr::Addr;
+use crate::room::put_bytes;
 use crate::why::Why;
 use byteorder::{BigEndian, ByteOrder};
-use std::alloc::{AllocError, Allocator};
+use std::alloc::Allocator;
 
 /// The next header of ICMPv6 (RFC 4443, section 1), which is also the last byte of its pseudo-header (RFC 8200, section 8.1).
 pub const NEXT_HEADER_ICMPV6: u8 = 58;
@@ -85,22 +86,19 @@ impl Ip6 {
     }
 }
 
-/// Writes a packet at the end: its header with the payload's length, and its payload.
-pub(crate) fn push_packet<A: Allocator>(
-    out: &mut Vec<u8, A>,
-    header: &Ip6,
-    payload: &[u8],
-) -> Result<(), AllocError>
-    requires { length payload.now ≤ 65535 }
-    ensures { OnOk result (out.new.items ≡ out.old.items ++ written_packet header.now payload.now) }
+/// Puts the header of a packet with a payload of this length at the end.
+pub(crate) fn put_header<A: Allocator>(out: &mut Vec<u8, A>, header: &Ip6, length: u16)
+    requires { HasRoom out.old 40 }
+    ensures { Puts out.old out.new (written_header header.now length) }
 {
     let class = header.traffic_class as u32;
     let first = VERSION * (1 << 28) + class * (1 << 20) + header.flow_label % (1 << 20);
     let [a, b, c, d] = first.to_be_bytes();
-    let [e, f] = (payload.len() as u16).to_be_bytes();
-    out.extend_from_slice(&[a, b, c, d, e, f, header.next_header, header.hop_limit])?;
-    out.extend_from_slice(&header.source.0)?;
-    out.extend_from_slice(&header.destination.0)?;
-    out.extend_from_slice(payload)?;
-    Ok(())
+    let [e, f] = length.to_be_bytes();
+    put_bytes(
+        out,
+        &[a, b, c, d, e, f, header.next_header, header.hop_limit],
+    );
+    put_bytes(out, header.source.as_bytes());
+    put_bytes(out, header.destination.as_bytes());
 }

@@ -18,6 +18,12 @@ impl Addr {
     /// The address of the link-local prefix, fe80:: (RFC 4291, section 2.5.6).
     pub const LINK_LOCAL: Addr = Addr([0xfe, 0x80, 0, 0, 0, 0, 0, 0, 0, 0, 0, 0, 0, 0, 0, 0]);
 
+    /// All nodes of the link, `ff02::1` (RFC 4291, section 2.7.1).
+    pub const ALL_NODES: Addr = Addr([0xff, 2, 0, 0, 0, 0, 0, 0, 0, 0, 0, 0, 0, 0, 0, 1]);
+
+    /// All routers of the link, `ff02::2` (RFC 4291, section 2.7.1).
+    pub const ALL_ROUTERS: Addr = Addr([0xff, 2, 0, 0, 0, 0, 0, 0, 0, 0, 0, 0, 0, 0, 0, 2]);
+
     /// Whether it is a multicast address, in ff00::/8 (RFC 4291, section 2.7).
     pub fn is_multicast(&self) -> bool
         ensures says { IsTrue result ↔ Holds multicast_prefix self.now.0 }

@@ -15,17 +15,22 @@ mod parse_mac;
 mod parse_prefix;
 mod prefix;
 mod role;
+mod room;
 mod text;
 mod why;
 
 pub use addr::Addr;
 pub use checksum::{SUM_AT, sum_for, sum_is_good};
-pub use frame::{ETHERNET_HEADER_LENGTH, ETHERNET_IPV6, Frame, FrameRef, write_frame};
+pub use frame::{
+    ETHERNET_HEADER_LENGTH, ETHERNET_IPV6, Frame, FrameRef, HEADERS_LENGTH, put_headers,
+    write_frame,
+};
 pub use ip6::{Ip6, Ip6Ref, NEXT_HEADER_ICMPV6};
 pub use mac::Mac;
 pub use parse::TextFault;
 pub use prefix::Prefix;
 pub use role::Role;
+pub use room::put_bytes;
 pub use why::Why;
 
 #[cfg(test)]

@@ -332,7 +332,9 @@ fn kinds_of_address_are_told(rt: HostRuntime) -> Result<(), Fail> {
     assert!(rt; at("::").is_unspecified());
     assert!(rt; at("::1").is_loopback());
     assert!(rt; !at("::1").is_unspecified());
-    assert!(rt; at("ff02::1").is_multicast());
+    assert_eq!(rt; at("ff02::1"), Addr::ALL_NODES);
+    assert_eq!(rt; at("ff02::2"), Addr::ALL_ROUTERS);
+    assert!(rt; Addr::ALL_NODES.is_multicast());
     assert!(rt; !at("fe80::1").is_multicast());
     assert!(rt; at("febf::1").is_link_local());
     assert!(rt; !at("fec0::1").is_link_local());

@@ -9,7 +9,7 @@ use Rattle.nd_decode.specs.Servers.{IsServer, SpellsServers, is_server}
 use Rattle.nd_decode.proofs.Addresses.{server_tests}
 use Rattle.nd_decode.specs.Option.{rdnss, IsPiece, IsServersRow, Says}
 use Rattle.nd_message.specs.Rdnss.{rdnss_piece, FitsServer, FitsRdnss}
-use Rattle.nd_message.proofs.Bytes.{AreSmall, AreSmall-from, AreSmall-append, IsBytes-drop, IsBytes-left, IsBytes-right, small_four}
+use Rattle.nd_addr.proofs.ByteLists.{AreSmall, AreSmall-from, AreSmall-append, IsBytes-drop, IsBytes-left, IsBytes-right, small_four}
 
 abbrev addresses : List Addr → List ℕ
 addresses servers = flat_map (λ (s : Addr). s.0) servers

@@ -16,7 +16,7 @@ use Rattle.nd_decode.specs.Message.{Parts, Spells, HasKnownKind, HasBody, HasFie
 use Rattle.nd_message.specs.Spelling.{flags_of, three_flags_of, other_piece, piece_of, fields_of, spelling}
 use Rattle.nd_message.specs.WellFormed.{IsWellFormed}
 use Rattle.nd_message.specs.Fitting.{IsOther, FitsRedirected, FitsPrefix, FitsOption, FitsRouterAdvertisement, FitsBody, FitsBehind}
-use Rattle.nd_message.proofs.Bytes.{AreSmall, IsBytes-from, AreSmall-from, AreSmall-append, IsBytes-drop, IsBytes-left, IsBytes-right, small_four, small_two, AreBytes-part}
+use Rattle.nd_addr.proofs.ByteLists.{AreSmall, IsBytes-from, AreSmall-from, AreSmall-append, IsBytes-drop, IsBytes-left, IsBytes-right, small_four, small_two, AreBytes-part}
 use Rattle.nd_decode.proofs.Says.{known_says}
 use Rattle.nd_message.proofs.DnsServers.{rdnss_small, rdnss_fits}
 use Rattle.nd_message.proofs.SearchNames.{dnssl_small, dnssl_fits}
@@ -208,7 +208,7 @@ spelled_known bytes m s = by_body m.body s.body
     by_body (bodies.Na n) h = made 136 h.0 (omega arith) (omega arith) (omega arith)
     by_body (bodies.Redirect r) h = made 137 h.0 (omega arith) (omega arith) (omega arith)
 
-length-fields_of : (x : ℕ) (b : Body) → length (fields_of x b) ≡ length (fields_of 0 b)
+pub length-fields_of : (x : ℕ) (b : Body) → length (fields_of x b) ≡ length (fields_of 0 b)
 length-fields_of x bodies.Rs = refl
 length-fields_of x (bodies.Ra r) = refl
 length-fields_of x (bodies.Ns n) = refl

@@ -2,7 +2,7 @@
 use Rattle.std.proofs.Common.{◌≡◌, ℕ, ◌+◌, ◌/◌, ◌%◌, ◌<◌, ◌≤◌, ◌↔◌, false, ltb, List, [], ◌∷◌, ◌++◌, length, take, drop, map, get_or, set, refl, sym, ap, subst, ◌∙◌, arith}
 use Rattle.std.specs.List.{flat_map}
 use Rattle.std.proofs.lemmas.Bool.{le-ltb}
-use Rattle.std.proofs.lemmas.List.{drop_more, drop_all, append-nil, length-append}
+use Rattle.std.proofs.lemmas.List.{drop_more, drop_all, length-append}
 use Rattle.byteorder.specs.Endian.{big_bytes}
 use Rattle.nd_addr.specs.Checksum.{with_sum}
 use Rattle.nd_message.specs.declared.opt.Opt.{Opt}
@@ -10,22 +10,19 @@ use Rattle.nd_decode.specs.declared.body.Body.{Body}
 use Rattle.nd_decode.specs.declared.body.Body.TheVariants as bodies
 use Rattle.nd_decode.specs.Option.{Said, slla, tlla, prefix, redirected, mtu, rdnss, dnssl, other}
 use Rattle.nd_decode.specs.Message.{Parts}
-use Rattle.nd_message.specs.Owned.{said}
-use Rattle.nd_message.specs.Spelling.{piece_of, fields_of, spelling}
+use Rattle.nd_message.specs.Owned.{said, whole_of}
+use Rattle.nd_message.specs.Spelling.{piece_of, fields_of, spelling, written_length}
 use Rattle.nd_message.specs.Fitting.{FitsOption, FitsBehind}
 use Rattle.nd_message.proofs.DnsServers.{length-rdnss}
 use Rattle.nd_message.proofs.SearchNames.{length-dnssl}
 
 -- the next that is left, seen by a view
-pub next_seen : {X Y : Type 0} (view : X → Y) (items xs : List X) (i : ℕ) (x : X) → xs ≡ items → i < length xs → x ≡ get_or xs i x → map view (drop i items) ≡ view x ∷ map view (drop (i + 1) items)
-next_seen {X} view items xs i x e lt is =
-    let here : x ≡ get_or items i x = rw e at is in
-    let le : i < length items = rw e at lt in
-    ap (map view) (drop_more items i x le) ∙ ap (λ (o : X). view o ∷ map view (drop (i + 1) items)) (sym here)
+pub next_seen : {X Y : Type 0} (view : X → Y) (items : List X) (i : ℕ) (x : X) → i < length items → x ≡ get_or items i x → map view (drop i items) ≡ view x ∷ map view (drop (i + 1) items)
+next_seen {X} view items i x lt is = ap (map view) (drop_more items i x lt) ∙ ap (λ (o : X). view o ∷ map view (drop (i + 1) items)) (sym is)
 
 -- it fits, where all that is left does
-pub next_fits : {A : Type 0} (len : ℕ) (items xs : List (Opt A)) (i : ℕ) (x : Opt A) → xs ≡ items → i < length xs → x ≡ get_or xs i x → FitsBehind len (map said (drop i items)) → FitsBehind len (said x ∷ map said (drop (i + 1) items))
-next_fits len items xs i x e lt is h = subst (λ (os : List Said). FitsBehind len os) (next_seen said items xs i x e lt is) h
+pub next_fits : {A : Type 0} (len : ℕ) (items : List (Opt A)) (i : ℕ) (x : Opt A) → i < length items → x ≡ get_or items i x → FitsBehind len (map said (drop i items)) → FitsBehind len (said x ∷ map said (drop (i + 1) items))
+next_fits len items i x lt is h = subst (λ (os : List Said). FitsBehind len os) (next_seen said items i x lt is) h
 
 -- what fits behind more bytes, fits behind fewer with the piece of those between
 fits_step : (len more : ℕ) (o : Said) (os : List Said) → FitsOption o → more ≡ length (piece_of o) → FitsBehind (len + more) os ↔ FitsBehind len (o ∷ os)
@@ -35,17 +32,17 @@ fits_step len more o os f e =
       λ h. record { each = h.each.1; most = omega (arith, h.most, e, all) },
     )
 
-pub next_behind : {A : Type 0} (len more : ℕ) (items xs : List (Opt A)) (i : ℕ) (x : Opt A) → xs ≡ items → i < length xs → x ≡ get_or xs i x → FitsOption (said x) → more ≡ length (piece_of (said x))
+pub next_behind : {A : Type 0} (len more : ℕ) (items : List (Opt A)) (i : ℕ) (x : Opt A) → i < length items → x ≡ get_or items i x → FitsOption (said x) → more ≡ length (piece_of (said x))
     → FitsBehind (len + more) (map said (drop (i + 1) items)) ↔ FitsBehind len (map said (drop i items))
-next_behind len more items xs i x e lt is f m =
-    subst (λ (os : List Said). FitsBehind (len + more) (map said (drop (i + 1) items)) ↔ FitsBehind len os) (sym (next_seen said items xs i x e lt is)) (fits_step len more (said x) (map said (drop (i + 1) items)) f m)
+next_behind len more items i x lt is f m =
+    subst (λ (os : List Said). FitsBehind (len + more) (map said (drop (i + 1) items)) ↔ FitsBehind len os) (sym (next_seen said items i x lt is)) (fits_step len more (said x) (map said (drop (i + 1) items)) f m)
 
 -- the next piece is what the length lacks less
-pub next_left : {A : Type 0} (len more : ℕ) (items xs : List (Opt A)) (i : ℕ) (x : Opt A) → xs ≡ items → i < length xs → x ≡ get_or xs i x → more ≡ length (piece_of (said x))
+pub next_left : {A : Type 0} (len more : ℕ) (items : List (Opt A)) (i : ℕ) (x : Opt A) → i < length items → x ≡ get_or items i x → more ≡ length (piece_of (said x))
     → len + more + length (flat_map piece_of (map said (drop (i + 1) items))) ≡ len + length (flat_map piece_of (map said (drop i items)))
-next_left len more items xs i x e lt is m =
+next_left len more items i x lt is m =
     let all = length-append (piece_of (said x)) (flat_map piece_of (map said (drop (i + 1) items))) in
-    rw (next_seen said items xs i x e lt is) (omega (arith, all, m))
+    rw (next_seen said items i x lt is) (omega (arith, all, m))
 
 -- a piece has at most 255 units of 8 bytes
 pub piece_short : (o : Said) (more : ℕ) → FitsOption o → more ≡ length (piece_of o) → more ≤ 2040
@@ -63,33 +60,25 @@ pub over : (len more : ℕ) (o : Said) (os : List Said) → FitsBehind len (o �
 over len more o os h e lt = omega (arith, h.most, e, lt, length-append (piece_of o) (flat_map piece_of os))
 
 -- no options fit behind at most 65535 bytes
-pub fits_none : {A : Type 0} (len : ℕ) (items xs : List (Opt A)) (i : ℕ) → xs ≡ items → length xs ≤ i → len ≤ 65535 → FitsBehind len (map said (drop i items))
-fits_none len items xs i e le small =
-    let past : length items ≤ i = rw e at le in
-    rw (drop_all i items past) (record { each = tt; most = omega arith })
+pub fits_none : {A : Type 0} (len : ℕ) (items : List (Opt A)) (i : ℕ) → length items ≤ i → len ≤ 65535 → FitsBehind len (map said (drop i items))
+fits_none len items i past small = rw (drop_all i items past) (record { each = tt; most = omega arith })
 
 -- with nothing left, the length is that of the spelling
-pub whole_length : {A : Type 0} (len : ℕ) (body : Body) (items xs : List (Opt A)) (i : ℕ) → xs ≡ items → length xs ≤ i
-    → len + length (flat_map piece_of (map said (drop i items))) ≡ length (fields_of 0 body) + length (flat_map piece_of (map said items)) → len ≡ length (spelling 0 (record { body = body; options = map said items }))
+pub whole_length : {A : Type 0} (len : ℕ) (body : Body) (items : List (Opt A)) (i : ℕ) → length items ≤ i
+    → len + length (flat_map piece_of (map said (drop i items))) ≡ length (fields_of 0 body) + length (flat_map piece_of (map said items)) → len ≡ written_length (whole_of body items)
 unfolding spelling
-whole_length len body items xs i e le h =
-    let past : length items ≤ i = rw e at le in
+whole_length len body items i past h =
     let nothing : length (flat_map piece_of (map said (drop i items))) ≡ 0 = rw (drop_all i items past) refl in
     omega (arith, h, nothing, length-append (fields_of 0 body) (flat_map piece_of (map said items)))
 
--- with only the fields written, the pieces of all options are what is left
-pub begin_writing : (empty out : List ℕ) (m : Parts) → empty ≡ [] → out ≡ empty ++ fields_of 0 m.body → out ++ flat_map piece_of m.options ≡ spelling 0 m
-unfolding spelling
-begin_writing empty out m e h =
-    let fields : out ≡ fields_of 0 m.body = h ∙ ap (λ (x : List ℕ). x ++ fields_of 0 m.body) e in
-    ap (λ (x : List ℕ). x ++ flat_map piece_of m.options) fields
+-- where the options end, none is left
+pub none_left : {A : Type 0} (items : List (Opt A)) (i : ℕ) → length items ≤ i → flat_map piece_of (map said (drop i items)) ≡ []
+none_left items i past = rw (drop_all i items past) refl
 
--- with nothing left, all is written
-pub end_writing : {A : Type 0} (out s : List ℕ) (items xs : List (Opt A)) (i : ℕ) → xs ≡ items → length xs ≤ i → out ++ flat_map piece_of (map said (drop i items)) ≡ s → out ≡ s
-end_writing out s items xs i e le h =
-    let past : length items ≤ i = rw e at le in
-    let nothing : flat_map piece_of (map said (drop i items)) ≡ [] = rw (drop_all i items past) refl in
-    sym (append-nil out) ∙ ap (λ (t : List ℕ). out ++ t) (sym nothing) ∙ h
+-- with the fields put, the pieces of all options are what is left
+pub fields_first : (m : Parts) → spelling 0 m ≡ fields_of 0 m.body ++ flat_map piece_of m.options
+unfolding spelling
+fields_first m = refl
 
 long_fields : (b : Body) (rest : List ℕ) → 4 ≤ length (fields_of 0 b ++ rest)
 long_fields bodies.Rs rest = omega arith
@@ -103,7 +92,7 @@ unfolding spelling
 long_spelling m = long_fields m.body (flat_map piece_of m.options)
 
 -- the sum put into a spelling makes the spelling with it
-spelling_with : (x : ℕ) (m : Parts) → with_sum (big_bytes 2 x) (spelling 0 m) ≡ spelling x m
+pub spelling_with : (x : ℕ) (m : Parts) → with_sum (big_bytes 2 x) (spelling 0 m) ≡ spelling x m
 unfolding spelling with_sum
 spelling_with x m =
     let long : ltb (length (fields_of 0 m.body ++ flat_map piece_of m.options)) 4 ≡ false = le-ltb _ _ (long_fields m.body (flat_map piece_of m.options)) in
@@ -130,7 +119,3 @@ pub sum_put_number : (bytes : List ℕ) (x : ℕ) → x < 65536 → 4 ≤ length
 sum_put_number bytes x small h =
     let high : x / 256 ≡ x / 256 % 256 = omega arith in
     ap (λ (k : ℕ). set (set bytes 2 k) 3 (x % 256)) high ∙ sum_put bytes (x / 256 % 256) (x % 256) h
-
--- the whole encoding
-pub encoded : (out new : List ℕ) (m : Parts) (x y : ℕ) → out ≡ spelling 0 m → new ≡ with_sum (big_bytes 2 x) out → x ≡ y → new ≡ spelling y m
-encoded out new m x y e h k = h ∙ ap (with_sum (big_bytes 2 x)) e ∙ spelling_with x m ∙ ap (λ (n : ℕ). spelling n m) k

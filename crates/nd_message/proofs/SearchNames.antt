@@ -11,7 +11,7 @@ use Rattle.nd_search_list.specs.Names.{SpellsBefore, SpellsNames}
 use Rattle.nd_search_list.proofs.Lowering.{name_lowered, lowered_is_name, spelled_low}
 use Rattle.nd_decode.specs.Option.{dnssl, IsPiece, IsNamesRow, Says}
 use Rattle.nd_message.specs.Dnssl.{ended, names_data, missing, dnssl_piece, FitNames, FitsDnssl}
-use Rattle.nd_message.proofs.Bytes.{AreSmall, AreSmall-append, IsBytes-drop, small_four}
+use Rattle.nd_addr.proofs.ByteLists.{AreSmall, AreSmall-append, IsBytes-drop, small_four}
 
 length-ended : (name : List ℕ) → length (ended name) ≡ length name + 1
 length-ended name = length-append name (0 ∷ [])

@@ -4,6 +4,7 @@ use Rattle.nd_message.specs.declared.name.Name.{Name}
 use Rattle.nd_message.specs.declared.opt.Opt.{Opt}
 use Rattle.nd_message.specs.declared.opt.Opt.TheVariants as opts
 use Rattle.nd_message.specs.declared.message.Message.{Message}
+use Rattle.nd_decode.specs.declared.body.Body.{Body}
 use Rattle.nd_decode.specs.Option.{Said, slla, tlla, prefix, redirected, mtu, rdnss, dnssl, other}
 use Rattle.nd_decode.specs.Message.{Parts}
 
@@ -22,6 +23,10 @@ said (opts.Rdnss lifetime servers) = rdnss lifetime servers.items
 said (opts.Dnssl lifetime names) = dnssl lifetime (map labels_of names.items)
 said (opts.Other kind rest) = other kind rest.items
 
+-- fields and options, the options without their allocator
+abbrev pub whole_of : {A : Type 0} → Body → List (Opt A) → Parts
+whole_of body options = record { body = body; options = map said options }
+
 -- a message without its allocator
 abbrev pub whole : {A : Type 0} → Message A → Parts
-whole m = record { body = m.body; options = map said m.options.items }
+whole m = whole_of m.body m.options.items

@@ -55,6 +55,10 @@ fields_of sum (bodies.Redirect r) = 137 ∷ 0 ∷ big_bytes 2 sum ++ (0 ∷ 0 �
 unfoldable pub spelling : ℕ → Parts → List ℕ
 spelling sum m = fields_of sum m.body ++ flat_map piece_of m.options
 
+-- how many bytes are written of the message, whatever its checksum
+abbrev pub written_length : Parts → ℕ
+written_length m = length (spelling 0 m)
+
 -- the message with its checksum, from a source to a destination (RFC 4443, section 2.3)
 abbrev pub written_message : Addr → Addr → Parts → List ℕ
 written_message source destination m = spelling (sum_to_write source.0 destination.0 (spelling 0 m)) m

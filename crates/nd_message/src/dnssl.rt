@@ -1,12 +1,14 @@
-ghost use Rattle.std.specs.Prelude.{◌≡◌, ◌++◌, ◌<◌, ◌≤◌, OnOk, length, map, replicate};
+ghost use Rattle.std.specs.Prelude.{◌≡◌, ◌<◌, ◌≤◌, length, map, replicate};
 ghost use Rattle.std.specs.Option.{SomeIff};
+ghost use Rattle.nd_addr.specs.Room.{HasRoom, Puts};
 ghost use Rattle.nd_message.specs.Owned.{labels_of};
-ghost use Rattle.nd_message.specs.Dnssl.{missing, names_data, dnssl_piece, FitNames, FitsDnssl};
+ghost use Rattle.nd_message.specs.Dnssl.{ended, missing, names_data, dnssl_piece, FitNames, FitsDnssl};
 
 use crate::name::Name;
+use nd_addr::put_bytes;
 use nd_decode::{LONGEST_OPTION, OPTION_DATA_AT, OPTION_DNS_SEARCH_LIST};
 use nd_search_list::is_name;
-use std::alloc::{AllocError, Allocator};
+use std::alloc::Allocator;
 
 /// How many bytes of names a DNS Search List has at most (RFC 4861, section 4.6).
 const LONGEST_NAMES: usize = LONGEST_OPTION - OPTION_DATA_AT;
@@ -46,43 +48,49 @@ fn names_length<A: Allocator>(names: &[Name<A>]) -> Option<usize>
 }
 
 /// Writes the piece of a DNS Search List at the end (RFC 8106, section 5.2).
-pub(crate) fn push_dnssl<A: Allocator, B: Allocator>(
+pub(crate) fn put_dnssl<A: Allocator, B: Allocator>(
     lifetime: u32,
     names: &[Name<A>],
     out: &mut Vec<u8, B>,
-) -> Result<(), AllocError>
-    requires { FitsDnssl lifetime (map labels_of names.now) }
-    ensures { OnOk result (out.new.items ≡ out.old.items ++ dnssl_piece lifetime (map labels_of names.now)) }
+)
+    requires fits { FitsDnssl lifetime (map labels_of names.now) }
+    requires room { HasRoom out.old (length (dnssl_piece lifetime (map labels_of names.now))) }
+    ensures { Puts out.old out.new (dnssl_piece lifetime (map labels_of names.now)) }
 {
     let length = names_length(names).unwrap_or(0);
     let padding = missing(length);
     let units = ((8 + length + padding) / 8) as u8;
     let [a, b, c, d] = lifetime.to_be_bytes();
-    out.extend_from_slice(&[OPTION_DNS_SEARCH_LIST, units, 0, 0, a, b, c, d])?;
-    push_names(names, out)?;
-    push_zeros(padding, out)
+    put_bytes(out, &[OPTION_DNS_SEARCH_LIST, units, 0, 0, a, b, c, d]);
+    put_names(names, out);
+    put_zeros(padding, out);
 }
 
 /// Writes names at the end, each with the zero byte that ends it.
-fn push_names<A: Allocator, B: Allocator>(
-    names: &[Name<A>],
-    out: &mut Vec<u8, B>,
-) -> Result<(), AllocError>
-    ensures { OnOk result (out.new.items ≡ out.old.items ++ names_data (map labels_of names.now)) }
+fn put_names<A: Allocator, B: Allocator>(names: &[Name<A>], out: &mut Vec<u8, B>)
+    requires { HasRoom out.old (length (names_data (map labels_of names.now))) }
+    ensures { Puts out.old out.new (names_data (map labels_of names.now)) }
 {
     for name in names {
-        out.extend_from_slice(&name.0)?;
-        out.push(0)?;
+        put_name(name, out);
     }
-    Ok(())
+}
+
+/// Writes a name at the end, with the zero byte that ends it.
+fn put_name<A: Allocator, B: Allocator>(name: &Name<A>, out: &mut Vec<u8, B>)
+    requires { HasRoom out.old (length (ended (labels_of name.now))) }
+    ensures { Puts out.old out.new (ended (labels_of name.now)) }
+{
+    put_bytes(out, &name.0);
+    put_bytes(out, &[0]);
 }
 
 /// Writes at most 8 zeros at the end.
-fn push_zeros<A: Allocator>(count: usize, out: &mut Vec<u8, A>) -> Result<(), AllocError>
-    requires { count ≤ 8 }
-    ensures { OnOk result (out.new.items ≡ out.old.items ++ replicate count 0) }
+fn put_zeros<A: Allocator>(count: usize, out: &mut Vec<u8, A>)
+    requires fits { count ≤ 8 }
+    requires room { HasRoom out.old count }
+    ensures { Puts out.old out.new (replicate count 0) }
 {
     let zeros = [0u8; 8];
-    out.extend_from_slice(&zeros[..count])?;
-    Ok(())
+    put_bytes(out, &zeros[..count]);
 }

@@ -1,45 +1,70 @@
-ghost use Rattle.std.specs.Prelude.{◌≡◌, ◌≤◌, IfOk, length};
-ghost use Rattle.byteorder.specs.Endian.{big_bytes};
-ghost use Rattle.nd_addr.specs.Checksum.{IsGoodSum, with_sum};
+ghost use Rattle.std.specs.Prelude.{◌≡◌, ◌≤◌, ◌+◌, ◌/◌, ◌%◌, IfOk, length, slice_set, vec_len, vec_capacity};
+ghost use Rattle.nd_addr.specs.Checksum.{IsGoodSum};
+ghost use Rattle.nd_addr.specs.Room.{HasRoom, Puts};
 ghost use Rattle.nd_decode.specs.Message.{Spells, HasKnownKind};
 ghost use Rattle.nd_decode.specs.Decoding.{decode_of};
-ghost use Rattle.nd_message.specs.Owned.{whole};
-ghost use Rattle.nd_message.specs.Spelling.{spelling, written_message};
+ghost use Rattle.nd_message.specs.Owned.{whole, whole_of};
+ghost use Rattle.nd_message.specs.Spelling.{spelling, written_length, written_message};
 ghost use Rattle.nd_message.specs.WellFormed.{IsWellFormed};
 
-use crate::fields::push_fields;
+use crate::fields::put_fields;
+use crate::length::written_length;
 use crate::message::Message;
+use crate::opt::Opt;
 use nd_addr::{Addr, SUM_AT, sum_for};
+use nd_decode::Body;
 use std::alloc::{AllocError, Allocator};
 
-/// The message with a sum of 0.
-fn without_sum<A: Allocator, B: Allocator>(
-    alloc: A,
-    message: &Message<B>,
-) -> Result<Vec<u8, A>, AllocError>
-    requires { IsWellFormed (whole message.now) }
-    ensures { IfOk result (λ v. v.items ≡ spelling 0 (whole message.now)) }
+/// Writes a message with a sum of 0 at the end.
+fn put_without_sum<A: Allocator, B: Allocator>(
+    out: &mut Vec<u8, A>,
+    body: &Body,
+    options: &[Opt<B>],
+)
+    requires formed { IsWellFormed (whole_of body.now options.now) }
+    requires room { HasRoom out.old (written_length (whole_of body.now options.now)) }
+    ensures { Puts out.old out.new (spelling 0 (whole_of body.now options.now)) }
 {
-    let mut out = Vec::with_capacity(alloc, message.spelling_length().unwrap_or(0))?;
-    push_fields(&message.body, &mut out)?;
-    for option in &message.options {
-        option.push(&mut out)?;
+    put_fields(body, out);
+    for option in options {
+        option.put(out);
     }
-    Ok(out)
 }
 
-/// Writes a number into the sum field.
-fn put_sum<A: Allocator>(out: &mut Vec<u8, A>, sum: u16)
-    requires { 4 ≤ length out.old.items }
-    ensures { out.new.items ≡ with_sum (big_bytes 2 sum) out.old.items }
+/// Writes a number into the sum field of the message that begins at a place.
+fn put_sum<A: Allocator>(out: &mut Vec<u8, A>, start: usize, sum: u16)
+    requires { start + 4 ≤ length out.old.items }
+    ensures items { out.new.items ≡ slice_set (slice_set out.old.items (start + 2) (sum / 256)) (start + 2 + 1) (sum % 256) }
+    ensures len { vec_len out.new ≡ vec_len out.old }
+    ensures capacity { vec_capacity out.new ≡ vec_capacity out.old }
 {
-    out[SUM_AT] = (sum / 256) as u8;
-    out[SUM_AT + 1] = (sum % 256) as u8;
+    let place = start + SUM_AT;
+    out[place] = (sum / 256) as u8;
+    out[place + 1] = (sum % 256) as u8;
 }
 
-/// The bytes of a message from a source to a destination (RFC 4861, section 4). All that its readers ignore is 0, and the
-/// checksum is that of RFC 4443, section 2.3. The error is want of memory, and there is no other: whether a message has a spelling
-/// is `Message::is_well_formed`'s.
+/// Writes a message of these fields and options, from a source to a destination, at the end, where there is room for it (RFC 4861,
+/// section 4): as many bytes as `written_length` says. All that its readers ignore is 0, and the checksum is that of RFC 4443,
+/// section 2.3. It takes no memory.
+pub fn put_message<A: Allocator, B: Allocator>(
+    out: &mut Vec<u8, A>,
+    body: &Body,
+    options: &[Opt<B>],
+    source: Addr,
+    destination: Addr,
+)
+    requires formed { IsWellFormed (whole_of body.now options.now) }
+    requires room { HasRoom out.old (written_length (whole_of body.now options.now)) }
+    ensures { Puts out.old out.new (written_message source destination (whole_of body.now options.now)) }
+{
+    let start = out.len();
+    put_without_sum(out, body, options);
+    let sum = sum_for(source, destination, &out[start..]);
+    put_sum(out, start, sum);
+}
+
+/// The bytes of a message from a source to a destination (RFC 4861, section 4), as `put_message` writes them. The error is want of
+/// memory, and there is no other: whether a message has a spelling is `Message::is_well_formed`'s.
 pub fn encode<A: Allocator, B: Allocator>(
     alloc: A,
     message: &Message<B>,
@@ -55,8 +80,17 @@ pub fn encode<A: Allocator, B: Allocator>(
     ensures known { IfOk result (λ v. HasKnownKind v.items) }
     ensures read { IfOk result (λ v. decode_of v.items ≡ Ok (whole message.now)) }
 {
-    let mut out = without_sum(alloc, message)?;
-    let sum = sum_for(source, destination, &out);
-    put_sum(&mut out, sum);
+    let length = match written_length(&message.body, &message.options) {
+        Some(length) => length,
+        None => unreachable!(),
+    };
+    let mut out = Vec::with_capacity(alloc, length)?;
+    put_message(
+        &mut out,
+        &message.body,
+        &message.options,
+        source,
+        destination,
+    );
     Ok(out)
 }

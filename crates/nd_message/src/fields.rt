@@ -1,16 +1,17 @@
-ghost use Rattle.std.specs.Prelude.{◌≡◌, ◌++◌, OnOk, length};
+ghost use Rattle.std.specs.Prelude.{◌≡◌, length};
+ghost use Rattle.nd_addr.specs.Room.{HasRoom, Puts};
 ghost use Rattle.nd_message.specs.Fitting.{FitsBody};
 ghost use Rattle.nd_message.specs.Spelling.{fields_of};
 
-use crate::neighbor_advertisement::push_neighbor_advertisement;
-use crate::neighbor_solicitation::push_neighbor_solicitation;
-use crate::redirect::push_redirect;
-use crate::router_advertisement::{push_router_advertisement, router_advertisement_length};
-use crate::router_solicitation::push_router_solicitation;
+use crate::neighbor_advertisement::put_neighbor_advertisement;
+use crate::neighbor_solicitation::put_neighbor_solicitation;
+use crate::redirect::put_redirect;
+use crate::router_advertisement::{put_router_advertisement, router_advertisement_length};
+use crate::router_solicitation::put_router_solicitation;
 use nd_decode::{
     Body, NeighborAdvertisement, NeighborSolicitation, ROUTER_SOLICITATION_LENGTH, Redirect,
 };
-use std::alloc::{AllocError, Allocator};
+use std::alloc::Allocator;
 
 /// How many bytes the fields of a body have. They hold each value that it can have.
 pub(crate) fn fields_length(body: &Body) -> usize
@@ -31,14 +32,15 @@ pub(crate) fn fields_length(body: &Body) -> usize
 }
 
 /// Writes the fields of a body at the end, with a sum of 0.
-pub(crate) fn push_fields<A: Allocator>(body: &Body, out: &mut Vec<u8, A>) -> Result<(), AllocError>
-    ensures { OnOk result (out.new.items ≡ out.old.items ++ fields_of 0 body.now) }
+pub(crate) fn put_fields<A: Allocator>(body: &Body, out: &mut Vec<u8, A>)
+    requires { HasRoom out.old (length (fields_of 0 body.now)) }
+    ensures { Puts out.old out.new (fields_of 0 body.now) }
 {
     match body {
-        Body::Rs => push_router_solicitation(out),
-        Body::Ra(ra) => push_router_advertisement(ra, out),
-        Body::Ns(ns) => push_neighbor_solicitation(ns, out),
-        Body::Na(na) => push_neighbor_advertisement(na, out),
-        Body::Redirect(redirect) => push_redirect(redirect, out),
+        Body::Rs => put_router_solicitation(out),
+        Body::Ra(ra) => put_router_advertisement(ra, out),
+        Body::Ns(ns) => put_neighbor_solicitation(ns, out),
+        Body::Na(na) => put_neighbor_advertisement(na, out),
+        Body::Redirect(redirect) => put_redirect(redirect, out),
     }
 }

@@ -6,6 +6,8 @@ mod dnssl;
 mod encoding;
 mod fields;
 mod flags;
+pub mod laws;
+mod length;
 mod link_layer_address;
 mod message;
 mod mtu;
@@ -21,7 +23,8 @@ mod redirected;
 mod router_advertisement;
 mod router_solicitation;
 
-pub use encoding::encode;
+pub use encoding::{encode, put_message};
+pub use length::written_length;
 pub use message::Message;
 pub use name::Name;
 pub use nd_decode::{

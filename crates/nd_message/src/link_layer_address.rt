@@ -1,18 +1,15 @@
-ghost use Rattle.std.specs.Prelude.{◌≡◌, ◌∷◌, ◌++◌, OnOk};
+ghost use Rattle.std.specs.Prelude.{◌∷◌, length};
+ghost use Rattle.nd_addr.specs.Room.{HasRoom, Puts};
 
-use nd_addr::Mac;
+use nd_addr::{Mac, put_bytes};
 use nd_decode::LINK_LAYER_ADDRESS_UNITS;
-use std::alloc::{AllocError, Allocator};
+use std::alloc::Allocator;
 
 /// Writes the piece of a Source or Target Link-Layer Address at the end (RFC 4861, section 4.6.1).
-pub(crate) fn push_link_layer_address<A: Allocator>(
-    kind: u8,
-    mac: &Mac,
-    out: &mut Vec<u8, A>,
-) -> Result<(), AllocError>
-    ensures { OnOk result (out.new.items ≡ out.old.items ++ kind ∷ 1 ∷ mac.now.0) }
+pub(crate) fn put_link_layer_address<A: Allocator>(kind: u8, mac: &Mac, out: &mut Vec<u8, A>)
+    requires { HasRoom out.old (length (kind ∷ 1 ∷ mac.now.0)) }
+    ensures { Puts out.old out.new (kind ∷ 1 ∷ mac.now.0) }
 {
-    out.extend_from_slice(&[kind, LINK_LAYER_ADDRESS_UNITS])?;
-    out.extend_from_slice(&mac.0)?;
-    Ok(())
+    put_bytes(out, &[kind, LINK_LAYER_ADDRESS_UNITS]);
+    put_bytes(out, &mac.0);
 }

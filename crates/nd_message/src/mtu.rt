@@ -1,9 +1,11 @@
-ghost use Rattle.std.specs.Prelude.{◌≡◌, ◌++◌, ◌^◌, ◌<◌, OnOk, length};
+ghost use Rattle.std.specs.Prelude.{◌≡◌, ◌^◌, ◌<◌, length};
+ghost use Rattle.nd_addr.specs.Room.{HasRoom, Puts};
 ghost use Rattle.nd_decode.specs.Option.{mtu};
 ghost use Rattle.nd_message.specs.Spelling.{piece_of};
 
+use nd_addr::put_bytes;
 use nd_decode::{MTU_UNITS, OPTION_MTU};
-use std::alloc::{AllocError, Allocator};
+use std::alloc::Allocator;
 
 /// How many bytes an MTU has. They hold each number that it can be.
 pub(crate) fn mtu_length(number: u32) -> usize
@@ -15,10 +17,10 @@ pub(crate) fn mtu_length(number: u32) -> usize
 }
 
 /// Writes the piece of an MTU at the end (RFC 4861, section 4.6.4).
-pub(crate) fn push_mtu<A: Allocator>(number: u32, out: &mut Vec<u8, A>) -> Result<(), AllocError>
-    ensures { OnOk result (out.new.items ≡ out.old.items ++ piece_of (mtu number)) }
+pub(crate) fn put_mtu<A: Allocator>(number: u32, out: &mut Vec<u8, A>)
+    requires { HasRoom out.old (length (piece_of (mtu number))) }
+    ensures { Puts out.old out.new (piece_of (mtu number)) }
 {
     let [a, b, c, d] = number.to_be_bytes();
-    out.extend_from_slice(&[OPTION_MTU, MTU_UNITS, 0, 0, a, b, c, d])?;
-    Ok(())
+    put_bytes(out, &[OPTION_MTU, MTU_UNITS, 0, 0, a, b, c, d]);
 }

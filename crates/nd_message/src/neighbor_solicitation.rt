@@ -1,18 +1,20 @@
-ghost use Rattle.std.specs.Prelude.{◌≡◌, ◌++◌, OnOk};
+ghost use Rattle.std.specs.Prelude.{length};
+ghost use Rattle.nd_addr.specs.Room.{HasRoom, Puts};
 ghost use Rattle.nd_decode.specs.declared.body.Body.TheVariants as bodies;
 ghost use Rattle.nd_message.specs.Spelling.{fields_of};
 
+use nd_addr::put_bytes;
 use nd_decode::{ICMPV6_NEIGHBOR_SOLICITATION, NeighborSolicitation};
-use std::alloc::{AllocError, Allocator};
+use std::alloc::Allocator;
 
 /// Writes the fields of a Neighbor Solicitation at the end (RFC 4861, section 4.3).
-pub(crate) fn push_neighbor_solicitation<A: Allocator>(
+pub(crate) fn put_neighbor_solicitation<A: Allocator>(
     ns: &NeighborSolicitation,
     out: &mut Vec<u8, A>,
-) -> Result<(), AllocError>
-    ensures { OnOk result (out.new.items ≡ out.old.items ++ fields_of 0 (bodies.Ns ns.now)) }
+)
+    requires { HasRoom out.old (length (fields_of 0 (bodies.Ns ns.now))) }
+    ensures { Puts out.old out.new (fields_of 0 (bodies.Ns ns.now)) }
 {
-    out.extend_from_slice(&[ICMPV6_NEIGHBOR_SOLICITATION, 0, 0, 0, 0, 0, 0, 0])?;
-    out.extend_from_slice(&ns.target.0)?;
-    Ok(())
+    put_bytes(out, &[ICMPV6_NEIGHBOR_SOLICITATION, 0, 0, 0, 0, 0, 0, 0]);
+    put_bytes(out, &ns.target.0);
 }

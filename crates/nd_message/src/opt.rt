@@ -1,20 +1,21 @@
-ghost use Rattle.std.specs.Prelude.{◌≡◌, ◌++◌, OnOk, length};
+ghost use Rattle.std.specs.Prelude.{length};
 ghost use Rattle.std.specs.Option.{SomeIff};
+ghost use Rattle.nd_addr.specs.Room.{HasRoom, Puts};
 ghost use Rattle.nd_message.specs.Owned.{said};
 ghost use Rattle.nd_message.specs.Spelling.{piece_of};
 ghost use Rattle.nd_message.specs.Fitting.{FitsOption};
 
-use crate::dnssl::{dnssl_length, push_dnssl};
-use crate::link_layer_address::push_link_layer_address;
-use crate::mtu::{mtu_length, push_mtu};
+use crate::dnssl::{dnssl_length, put_dnssl};
+use crate::link_layer_address::put_link_layer_address;
+use crate::mtu::{mtu_length, put_mtu};
 use crate::name::Name;
-use crate::other::{is_other, push_other};
-use crate::prefix_information::{prefix_length, push_prefix};
-use crate::rdnss::{push_rdnss, rdnss_length};
-use crate::redirected::{push_redirected, redirected_length};
+use crate::other::{is_other, put_other};
+use crate::prefix_information::{prefix_length, put_prefix};
+use crate::rdnss::{put_rdnss, rdnss_length};
+use crate::redirected::{put_redirected, redirected_length};
 use nd_addr::{Addr, Mac};
 use nd_decode::{OPTION_SOURCE_LINK_LAYER_ADDRESS, OPTION_TARGET_LINK_LAYER_ADDRESS, PrefixInfo};
-use std::alloc::{AllocError, Allocator};
+use std::alloc::Allocator;
 
 /// An option that owns its bytes (RFC 4861, section 4.6; RFC 8106, section 5).
 #[derive(Debug, Drop)]
@@ -66,23 +67,20 @@ impl<A: Allocator> Opt<A> {
     }
 
     /// Writes its piece at the end.
-    pub(crate) fn push<B: Allocator>(&self, out: &mut Vec<u8, B>) -> Result<(), AllocError>
-        requires { FitsOption (said self.now) }
-        ensures { OnOk result (out.new.items ≡ out.old.items ++ piece_of (said self.now)) }
+    pub(crate) fn put<B: Allocator>(&self, out: &mut Vec<u8, B>)
+        requires fits { FitsOption (said self.now) }
+        requires room { HasRoom out.old (length (piece_of (said self.now))) }
+        ensures { Puts out.old out.new (piece_of (said self.now)) }
     {
         match self {
-            Opt::Slla(mac) => {
-                push_link_layer_address(OPTION_SOURCE_LINK_LAYER_ADDRESS, mac, out)
-            }
-            Opt::Tlla(mac) => {
-                push_link_layer_address(OPTION_TARGET_LINK_LAYER_ADDRESS, mac, out)
-            }
-            Opt::Prefix(info) => push_prefix(info, out),
-            Opt::Redirected(packet) => push_redirected(packet, out),
-            Opt::Mtu(mtu) => push_mtu(*mtu, out),
-            Opt::Rdnss { lifetime, servers } => push_rdnss(*lifetime, servers, out),
-            Opt::Dnssl { lifetime, names } => push_dnssl(*lifetime, names, out),
-            Opt::Other(kind, rest) => push_other(*kind, rest, out),
+            Opt::Slla(mac) => { put_link_layer_address(OPTION_SOURCE_LINK_LAYER_ADDRESS, mac, out) }
+            Opt::Tlla(mac) => { put_link_layer_address(OPTION_TARGET_LINK_LAYER_ADDRESS, mac, out) }
+            Opt::Prefix(info) => put_prefix(info, out),
+            Opt::Redirected(packet) => put_redirected(packet, out),
+            Opt::Mtu(mtu) => put_mtu(*mtu, out),
+            Opt::Rdnss { lifetime, servers } => put_rdnss(*lifetime, servers, out),
+            Opt::Dnssl { lifetime, names } => put_dnssl(*lifetime, names, out),
+            Opt::Other(kind, rest) => put_other(*kind, rest, out),
         }
     }
 }

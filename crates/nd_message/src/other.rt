@@ -1,9 +1,11 @@
-ghost use Rattle.std.specs.Prelude.{◌≡◌, ◌↔◌, ◌%◌, ◌≤◌, ◌++◌, IsTrue, OnOk, length};
+ghost use Rattle.std.specs.Prelude.{◌≡◌, ◌↔◌, ◌%◌, ◌≤◌, IsTrue, length};
 ghost use Rattle.std.specs.Option.{is_some};
+ghost use Rattle.nd_addr.specs.Room.{HasRoom, Puts};
 ghost use Rattle.nd_decode.specs.Option.{other, known_of};
 ghost use Rattle.nd_message.specs.Spelling.{other_piece};
 ghost use Rattle.nd_message.specs.Fitting.{FitsOption};
 
+use nd_addr::put_bytes;
 use nd_decode::{
     LEAST_NAMES_UNITS, LEAST_SERVERS_UNITS, LINK_LAYER_ADDRESS_UNITS, LONGEST_OPTION, MTU_UNITS,
     OPTION_DNS_SEARCH_LIST, OPTION_MTU, OPTION_PREFIX_INFORMATION, OPTION_RECURSIVE_DNS_SERVER,
@@ -11,7 +13,7 @@ use nd_decode::{
     PrefixInfo, Servers,
 };
 use nd_search_list::Names;
-use std::alloc::{AllocError, Allocator};
+use std::alloc::Allocator;
 
 /// Whether a piece of this type and with these bytes behind its length is whole and reads as no known option.
 pub(crate) fn is_other(kind: u8, rest: &[u8]) -> bool
@@ -51,15 +53,11 @@ fn is_known(kind: u8, rest: &[u8]) -> bool
 }
 
 /// Writes the piece of any other option at the end (RFC 4861, section 4.6).
-pub(crate) fn push_other<A: Allocator>(
-    kind: u8,
-    rest: &[u8],
-    out: &mut Vec<u8, A>,
-) -> Result<(), AllocError>
-    requires { length rest.now ≤ 2038 }
-    ensures { OnOk result (out.new.items ≡ out.old.items ++ other_piece kind rest.now) }
+pub(crate) fn put_other<A: Allocator>(kind: u8, rest: &[u8], out: &mut Vec<u8, A>)
+    requires fits { length rest.now ≤ 2038 }
+    requires room { HasRoom out.old (length (other_piece kind rest.now)) }
+    ensures { Puts out.old out.new (other_piece kind rest.now) }
 {
-    out.extend_from_slice(&[kind, ((rest.len() + 2) / 8) as u8])?;
-    out.extend_from_slice(rest)?;
-    Ok(())
+    put_bytes(out, &[kind, ((rest.len() + 2) / 8) as u8]);
+    put_bytes(out, rest);
 }

@@ -1,10 +1,12 @@
-ghost use Rattle.std.specs.Prelude.{◌≡◌, ◌++◌, OnOk, length};
+ghost use Rattle.std.specs.Prelude.{◌≡◌, length};
+ghost use Rattle.nd_addr.specs.Room.{HasRoom, Puts};
 ghost use Rattle.nd_message.specs.Spelling.{prefix_piece};
 ghost use Rattle.nd_message.specs.Fitting.{FitsPrefix};
 
 use crate::flags::flag;
+use nd_addr::put_bytes;
 use nd_decode::{OPTION_PREFIX_INFORMATION, PrefixInfo};
-use std::alloc::{AllocError, Allocator};
+use std::alloc::Allocator;
 
 /// How many bytes a Prefix Information has. They hold each value that it can have.
 pub(crate) fn prefix_length(info: &PrefixInfo) -> usize
@@ -22,11 +24,9 @@ pub(crate) fn prefix_length(info: &PrefixInfo) -> usize
 }
 
 /// Writes the piece of a Prefix Information at the end (RFC 4861, section 4.6.2).
-pub(crate) fn push_prefix<A: Allocator>(
-    info: &PrefixInfo,
-    out: &mut Vec<u8, A>,
-) -> Result<(), AllocError>
-    ensures { OnOk result (out.new.items ≡ out.old.items ++ prefix_piece info.now) }
+pub(crate) fn put_prefix<A: Allocator>(info: &PrefixInfo, out: &mut Vec<u8, A>)
+    requires { HasRoom out.old (length (prefix_piece info.now)) }
+    ensures { Puts out.old out.new (prefix_piece info.now) }
 {
     let kind = OPTION_PREFIX_INFORMATION;
     let length = info.prefix.length();
@@ -35,9 +35,11 @@ pub(crate) fn push_prefix<A: Allocator>(
     let units = PrefixInfo::UNITS;
     let [a, b, c, d] = info.valid_lifetime.to_be_bytes();
     let [e, f, g, h] = info.preferred_lifetime.to_be_bytes();
-    out.extend_from_slice(&[
-        kind, units, length, flags, a, b, c, d, e, f, g, h, 0, 0, 0, 0,
-    ])?;
-    out.extend_from_slice(&info.prefix.address().0)?;
-    Ok(())
+    put_bytes(
+        out,
+        &[
+            kind, units, length, flags, a, b, c, d, e, f, g, h, 0, 0, 0, 0,
+        ],
+    );
+    put_bytes(out, &info.prefix.address().0);
 }

@@ -1,11 +1,12 @@
-ghost use Rattle.std.specs.Prelude.{◌≡◌, ◌↔◌, ◌++◌, IsTrue, OnOk, length};
+ghost use Rattle.std.specs.Prelude.{◌↔◌, IsTrue, length};
 ghost use Rattle.std.specs.List.{flat_map, AllByRecursion};
 ghost use Rattle.std.specs.Option.{SomeIff};
+ghost use Rattle.nd_addr.specs.Room.{HasRoom, Puts};
 ghost use Rattle.nd_message.specs.Rdnss.{rdnss_piece, FitsServer, FitsRdnss};
 
-use nd_addr::Addr;
+use nd_addr::{Addr, put_bytes};
 use nd_decode::{LONGEST_OPTION, OPTION_DATA_AT, OPTION_RECURSIVE_DNS_SERVER, is_server};
-use std::alloc::{AllocError, Allocator};
+use std::alloc::Allocator;
 
 /// How many servers an option has at most: of its bytes each server has 16 (RFC 4861, section 4.6; RFC 8106, section 5.1).
 const MOST_SERVERS: usize = (LONGEST_OPTION - OPTION_DATA_AT) / 16;
@@ -37,26 +38,23 @@ fn are_servers(servers: &[Addr]) -> bool
 }
 
 /// Writes the piece of a Recursive DNS Server at the end (RFC 8106, section 5.1).
-pub(crate) fn push_rdnss<A: Allocator>(
-    lifetime: u32,
-    servers: &[Addr],
-    out: &mut Vec<u8, A>,
-) -> Result<(), AllocError>
-    requires { FitsRdnss lifetime servers.now }
-    ensures { OnOk result (out.new.items ≡ out.old.items ++ rdnss_piece lifetime servers.now) }
+pub(crate) fn put_rdnss<A: Allocator>(lifetime: u32, servers: &[Addr], out: &mut Vec<u8, A>)
+    requires fits { FitsRdnss lifetime servers.now }
+    requires room { HasRoom out.old (length (rdnss_piece lifetime servers.now)) }
+    ensures { Puts out.old out.new (rdnss_piece lifetime servers.now) }
 {
     let units = (1 + 2 * servers.len()) as u8;
     let [a, b, c, d] = lifetime.to_be_bytes();
-    out.extend_from_slice(&[OPTION_RECURSIVE_DNS_SERVER, units, 0, 0, a, b, c, d])?;
-    push_servers(servers, out)
+    put_bytes(out, &[OPTION_RECURSIVE_DNS_SERVER, units, 0, 0, a, b, c, d]);
+    put_servers(servers, out)
 }
 
 /// Writes addresses at the end, one behind the other.
-fn push_servers<A: Allocator>(servers: &[Addr], out: &mut Vec<u8, A>) -> Result<(), AllocError>
-    ensures { OnOk result (out.new.items ≡ out.old.items ++ flat_map (λ s. s.0) servers.now) }
+fn put_servers<A: Allocator>(servers: &[Addr], out: &mut Vec<u8, A>)
+    requires { HasRoom out.old (length (flat_map (λ s. s.0) servers.now)) }
+    ensures { Puts out.old out.new (flat_map (λ s. s.0) servers.now) }
 {
     for server in servers {
-        out.extend_from_slice(&server.0)?;
+        put_bytes(out, &server.0);
     }
-    Ok(())
 }

@@ -1,11 +1,13 @@
-ghost use Rattle.std.specs.Prelude.{◌≡◌, ◌++◌, OnOk, length};
+ghost use Rattle.std.specs.Prelude.{length};
 ghost use Rattle.std.specs.Option.{SomeIff};
+ghost use Rattle.nd_addr.specs.Room.{HasRoom, Puts};
 ghost use Rattle.nd_decode.specs.Option.{redirected};
 ghost use Rattle.nd_message.specs.Spelling.{piece_of};
 ghost use Rattle.nd_message.specs.Fitting.{FitsRedirected};
 
+use nd_addr::put_bytes;
 use nd_decode::{LONGEST_OPTION, OPTION_DATA_AT, OPTION_REDIRECTED_HEADER};
-use std::alloc::{AllocError, Allocator};
+use std::alloc::Allocator;
 
 /// How many bytes of a packet a Redirected Header has at most (RFC 4861, section 4.6).
 const LONGEST_REDIRECTED: usize = LONGEST_OPTION - OPTION_DATA_AT;
@@ -21,15 +23,12 @@ pub(crate) fn redirected_length(packet: &[u8]) -> Option<usize>
 }
 
 /// Writes the piece of a Redirected Header at the end (RFC 4861, section 4.6.3).
-pub(crate) fn push_redirected<A: Allocator>(
-    packet: &[u8],
-    out: &mut Vec<u8, A>,
-) -> Result<(), AllocError>
-    requires { FitsRedirected packet.now }
-    ensures { OnOk result (out.new.items ≡ out.old.items ++ piece_of (redirected packet.now)) }
+pub(crate) fn put_redirected<A: Allocator>(packet: &[u8], out: &mut Vec<u8, A>)
+    requires fits { FitsRedirected packet.now }
+    requires room { HasRoom out.old (length (piece_of (redirected packet.now))) }
+    ensures { Puts out.old out.new (piece_of (redirected packet.now)) }
 {
     let units = ((packet.len() + 8) / 8) as u8;
-    out.extend_from_slice(&[OPTION_REDIRECTED_HEADER, units, 0, 0, 0, 0, 0, 0])?;
-    out.extend_from_slice(packet)?;
-    Ok(())
+    put_bytes(out, &[OPTION_REDIRECTED_HEADER, units, 0, 0, 0, 0, 0, 0]);
+    put_bytes(out, packet);
 }

@@ -1,11 +1,13 @@
-ghost use Rattle.std.specs.Prelude.{◌≡◌, ◌++◌, OnOk, length};
+ghost use Rattle.std.specs.Prelude.{◌≡◌, length};
+ghost use Rattle.nd_addr.specs.Room.{HasRoom, Puts};
 ghost use Rattle.nd_decode.specs.declared.body.Body.TheVariants as bodies;
 ghost use Rattle.nd_message.specs.Fitting.{FitsRouterAdvertisement};
 ghost use Rattle.nd_message.specs.Spelling.{fields_of};
 
 use crate::flags::flag;
+use nd_addr::put_bytes;
 use nd_decode::{ICMPV6_ROUTER_ADVERTISEMENT, RouterAdvertisement};
-use std::alloc::{AllocError, Allocator};
+use std::alloc::Allocator;
 
 /// How many bytes the fields of a Router Advertisement have. They hold each value that it can have.
 pub(crate) fn router_advertisement_length(ra: &RouterAdvertisement) -> usize
@@ -24,11 +26,9 @@ pub(crate) fn router_advertisement_length(ra: &RouterAdvertisement) -> usize
 }
 
 /// Writes the fields of a Router Advertisement at the end (RFC 4861, section 4.2).
-pub(crate) fn push_router_advertisement<A: Allocator>(
-    ra: &RouterAdvertisement,
-    out: &mut Vec<u8, A>,
-) -> Result<(), AllocError>
-    ensures { OnOk result (out.new.items ≡ out.old.items ++ fields_of 0 (bodies.Ra ra.now)) }
+pub(crate) fn put_router_advertisement<A: Allocator>(ra: &RouterAdvertisement, out: &mut Vec<u8, A>)
+    requires { HasRoom out.old (length (fields_of 0 (bodies.Ra ra.now))) }
+    ensures { Puts out.old out.new (fields_of 0 (bodies.Ra ra.now)) }
 {
     let kind = ICMPV6_ROUTER_ADVERTISEMENT;
     let limit = ra.hop_limit;
@@ -37,6 +37,8 @@ pub(crate) fn push_router_advertisement<A: Allocator>(
     let [a, b] = ra.router_lifetime.to_be_bytes();
     let [c, d, e, f] = ra.reachable_time.to_be_bytes();
     let [g, h, i, j] = ra.retrans_timer.to_be_bytes();
-    out.extend_from_slice(&[kind, 0, 0, 0, limit, flags, a, b, c, d, e, f, g, h, i, j])?;
-    Ok(())
+    put_bytes(
+        out,
+        &[kind, 0, 0, 0, limit, flags, a, b, c, d, e, f, g, h, i, j],
+    );
 }

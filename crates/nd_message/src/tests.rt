@@ -78,12 +78,6 @@ const SERVER: Addr = Addr([
     0x20, 0x01, 0x0d, 0xb8, 0, 0, 0, 0, 0, 0, 0, 0, 0, 0, 0, 0x53,
 ]);
 
-/// ff02::2
-const ALL_ROUTERS: Addr = Addr([0xff, 0x02, 0, 0, 0, 0, 0, 0, 0, 0, 0, 0, 0, 0, 0, 0x02]);
-
-/// ::
-const UNSPECIFIED: Addr = Addr([0; 16]);
-
 /// ff02::1:ff9a:bcde
 const SOLICITED_NODE: Addr = Addr([
     0xff, 0x02, 0, 0, 0, 0, 0, 0, 0, 0, 0, 0x01, 0xff, 0x9a, 0xbc, 0xde,
@@ -93,9 +87,6 @@ const SOLICITED_NODE: Addr = Addr([
 const ROUTER: Addr = Addr([
     0xfe, 0x80, 0, 0, 0, 0, 0, 0, 0, 0, 0, 0xff, 0xfe, 0, 0, 0x01,
 ]);
-
-/// ff02::1
-const ALL_NODES: Addr = Addr([0xff, 0x02, 0, 0, 0, 0, 0, 0, 0, 0, 0, 0, 0, 0, 0, 0x01]);
 
 /// fe80::3656:78ff:fe9a:bcde
 const TARGET: Addr = Addr([
@@ -121,8 +112,27 @@ fn writes_solicitation(rt: HostRuntime) -> Result<(), Fail> {
         options: Vec::new(rt.alloc()),
     };
     assert!(rt; message.is_well_formed());
-    let bytes = encode(rt.alloc(), &message, UNSPECIFIED, SOLICITED_NODE)?;
+    let bytes = encode(rt.alloc(), &message, Addr::UNSPECIFIED, SOLICITED_NODE)?;
     assert_eq!(rt; bytes.as_slice(), &SOLICITATION[..]);
+    Ok(())
+}
+
+/// A message is put behind what stands there, in room that was made before.
+#[test]
+fn puts_a_message_behind_other_bytes(rt: HostRuntime) -> Result<(), Fail> {
+    let body = Body::Ns(NeighborSolicitation { target: TARGET });
+    let options: Vec<Opt<Global>> = Vec::new(rt.alloc());
+    let Some(length) = written_length(&body, &options) else {
+        return Err("a length")?;
+    };
+    assert_eq!(rt; length, 24);
+    let mut out = Vec::new(rt.alloc());
+    out.extend_from_slice(&[1, 2, 3])?;
+    out.reserve(length)?;
+    put_message(&mut out, &body, &options, Addr::UNSPECIFIED, SOLICITED_NODE);
+    assert_eq!(rt; out.len(), 27);
+    assert_eq!(rt; out.get(..3).ok_or("what stood there")?, &[1, 2, 3][..]);
+    assert_eq!(rt; out.get(3..).ok_or("the message")?, &SOLICITATION[..]);
     Ok(())
 }
 
@@ -143,7 +153,7 @@ fn writes_advertisement(rt: HostRuntime) -> Result<(), Fail> {
         options,
     };
     assert!(rt; message.is_well_formed());
-    let bytes = encode(rt.alloc(), &message, ROUTER, ALL_NODES)?;
+    let bytes = encode(rt.alloc(), &message, ROUTER, Addr::ALL_NODES)?;
     assert_eq!(rt; bytes.as_slice(), &ADVERTISEMENT[..]);
     Ok(())
 }
@@ -171,7 +181,7 @@ fn writes_router_solicitation(rt: HostRuntime) -> Result<(), Fail> {
     let mac = Mac([0x34, 0x56, 0x78, 0x9a, 0xbc, 0xde]);
     let message = message_with(&rt, Body::Rs, Opt::Slla(mac))?;
     assert!(rt; message.is_well_formed());
-    let bytes = encode(rt.alloc(), &message, TARGET, ALL_ROUTERS)?;
+    let bytes = encode(rt.alloc(), &message, TARGET, Addr::ALL_ROUTERS)?;
     assert_eq!(rt; bytes.as_slice(), &ROUTER_SOLICITATION[..]);
     let read = decode(&bytes).ok().ok_or("message")?;
     assert_eq!(rt; read.body, Body::Rs);
@@ -203,7 +213,7 @@ fn writes_neighbor_advertisements(rt: HostRuntime) -> Result<(), Fail> {
     let mac = Mac([0x34, 0x56, 0x78, 0x9a, 0xbc, 0xde]);
     let message = message_with(&rt, body, Opt::Tlla(mac))?;
     assert!(rt; message.is_well_formed());
-    let bytes = encode(rt.alloc(), &message, TARGET, ALL_NODES)?;
+    let bytes = encode(rt.alloc(), &message, TARGET, Addr::ALL_NODES)?;
     assert_eq!(rt; bytes.as_slice(), &ADVERTISEMENT_UNSOLICITED[..]);
     assert_eq!(rt; decode(&bytes).ok().ok_or("message")?.body, body);
     Ok(())
@@ -260,7 +270,7 @@ fn writes_mtu_servers_and_names(rt: HostRuntime) -> Result<(), Fail> {
     names.push(Name(owned(&rt, b"\x01a\x07example")?))?;
     message.options.push(Opt::Dnssl { lifetime, names })?;
     assert!(rt; message.is_well_formed());
-    let bytes = encode(rt.alloc(), &message, ROUTER, ALL_NODES)?;
+    let bytes = encode(rt.alloc(), &message, ROUTER, Addr::ALL_NODES)?;
     // Letters are written small. So the sum is less by what the letter is more: 0x61 in place of 0x41.
     let mut small = ADVERTISEMENT_WITH_NAMES;
     small[57] = 0x61;
@@ -303,13 +313,13 @@ fn writes_the_least_padding(rt: HostRuntime) -> Result<(), Fail> {
     // Eight bytes of names need none.
     let message = advertisement_of_names(&rt, &[b"\x06abcdef"])?;
     assert!(rt; message.is_well_formed());
-    let bytes = encode(rt.alloc(), &message, ROUTER, ALL_NODES)?;
+    let bytes = encode(rt.alloc(), &message, ROUTER, Addr::ALL_NODES)?;
     let written = bytes.get(16..).ok_or("option")?;
     assert_eq!(rt; written, &b"\x1f\x02\0\0\0\0\x07\x08\x06abcdef\0"[..]);
     // Nine need seven.
     let message = advertisement_of_names(&rt, &[b"\x01a\x01b", b"\x02cd"])?;
     assert!(rt; message.is_well_formed());
-    let bytes = encode(rt.alloc(), &message, ROUTER, ALL_NODES)?;
+    let bytes = encode(rt.alloc(), &message, ROUTER, Addr::ALL_NODES)?;
     let written = bytes.get(16..).ok_or("option")?;
     let expected = b"\x1f\x03\0\0\0\0\x07\x08\x01a\x01b\0\x02cd\0\0\0\0\0\0\0\0";
     assert_eq!(rt; written, &expected[..]);
@@ -349,8 +359,8 @@ fn tells_well_formed_servers(rt: HostRuntime) -> Result<(), Fail> {
     assert!(rt; serves(&rt, SERVER, 1)?);
     assert!(rt; serves(&rt, SERVER, 127)?);
     assert!(rt; !serves(&rt, SERVER, 128)?);
-    assert!(rt; !serves(&rt, ALL_NODES, 1)?);
-    assert!(rt; !serves(&rt, UNSPECIFIED, 1)?);
+    assert!(rt; !serves(&rt, Addr::ALL_NODES, 1)?);
+    assert!(rt; !serves(&rt, Addr::UNSPECIFIED, 1)?);
     assert!(rt; !serves(&rt, Addr::LOOPBACK, 1)?);
     Ok(())
 }
@@ -454,7 +464,7 @@ fn reads_what_it_wrote(rt: HostRuntime) -> Result<(), Fail> {
     });
     let message = Message { body, options };
     assert!(rt; message.is_well_formed());
-    let bytes = encode(rt.alloc(), &message, ROUTER, ALL_NODES)?;
+    let bytes = encode(rt.alloc(), &message, ROUTER, Addr::ALL_NODES)?;
     let read = decode(&bytes).ok().ok_or("message")?;
     assert_eq!(rt; read.body, body);
     let mut left = read.options;
@@ -532,7 +542,7 @@ fn writes_the_longest_message(rt: HostRuntime) -> Result<(), Fail> {
     let body = Body::Ra(BODY);
     let message = Message { body, options };
     assert!(rt; message.is_well_formed());
-    let bytes = encode(rt.alloc(), &message, ROUTER, ALL_NODES)?;
+    let bytes = encode(rt.alloc(), &message, ROUTER, Addr::ALL_NODES)?;
     assert_eq!(rt; bytes.len(), 65528);
     let fields = bytes.get(..16).ok_or("fields")?;
     let spelled = [134, 0, 0x4e, 0x9a, 64, 0, 7, 8, 0, 0, 0, 0, 0, 0, 0, 0];

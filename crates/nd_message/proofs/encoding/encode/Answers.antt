@@ -1,33 +1,38 @@
-use Rattle.std.proofs.Common.{arith, ap, ◌∙◌, ◌≤◌, subst, sym, length, List, ℕ}
-use Rattle.byteorder.specs.Endian.{big_bytes}
-use Rattle.nd_addr.specs.Checksum.{sum_to_write, with_sum, IsGoodSum}
-use Rattle.nd_message.specs.Owned.{whole}
+use Rattle.std.proofs.Common.{arith, ap, ◌∙◌, ◌++◌, subst, sym, length, List, ℕ}
+use Rattle.nd_addr.specs.Checksum.{IsGoodSum}
+use Rattle.nd_decode.specs.Message.{Spells}
 use Rattle.nd_decode.proofs.Deciding.{decode_spelled}
-use Rattle.nd_message.proofs.Formed.{spelled_as, spelled_known, short_spelling}
-use Rattle.nd_message.proofs.Looping.{long_spelling, encoded}
+use Rattle.nd_message.specs.Owned.{whole, whole_of}
+use Rattle.nd_message.specs.Spelling.{written_message}
+use Rattle.nd_message.proofs.Formed.{spelled_known}
+use Rattle.nd_message.proofs.Written.{message_good, message_spelled, message_short}
 use Rattle.nd_message.proofs.encoding.encode.Goals as goal
-
-pub put_sum-requires : goal.put_sum-requires
-put_sum-requires g c = omega (arith, ap length c.in_ok-out.ensures, long_spelling (whole c.args.message.now))
 
 pub returns-clause-exact : goal.returns-clause-exact
 returns-clause-exact g c =
-    encoded c.in_ok-out.out.items c.put_sum.new.out.items (whole c.args.message.now) c.sum_for-sum.result _ c.in_ok-out.ensures c.put_sum.ensures (c.sum_for-sum.ensures.exact ∙ ap (sum_to_write c.args.source.0 c.args.destination.0) (c.deref.ensures.value ∙ c.in_ok-out.ensures))
+    let s = c.args.source in
+    let d = c.args.destination in
+    let body = c.args.message.now.body in
+    c.put_message.ensures.0
+    ∙ ap (λ (bytes : List ℕ). bytes ++ written_message s d (whole_of body c.deref-2.result.now)) c.in_ok-out.ensures.items
+    ∙ ap (λ options. written_message s d (whole_of body options)) c.deref-2.ensures.value
 
 pub returns-clause-spelled : goal.returns-clause-spelled
-returns-clause-spelled g c = spelled_as (whole c.args.message.now) c.put_sum.new.out.items _ c.requires (returns-clause-exact g c)
+returns-clause-spelled g c =
+    let m = whole c.args.message.now in
+    subst (λ (bytes : List ℕ). Spells bytes m) (sym (returns-clause-exact g c)) (message_spelled c.args.source c.args.destination m c.requires)
 
 pub returns-clause-good : goal.returns-clause-good
 returns-clause-good g c =
-    let long : 4 ≤ length c.deref.result.now = omega (arith, ap length c.in_ok-out.ensures, ap length c.deref.ensures.value, long_spelling (whole c.args.message.now)) in
-    let same = ap (with_sum (big_bytes 2 c.sum_for-sum.result)) c.deref.ensures.value ∙ sym {A = List ℕ} c.put_sum.ensures in
-    subst (λ (bs : List ℕ). IsGoodSum c.args.source.0 c.args.destination.0 bs) same (c.sum_for-sum.ensures.good long)
+    let s = c.args.source in
+    let d = c.args.destination in
+    subst (λ (bytes : List ℕ). IsGoodSum s.0 d.0 bytes) (sym (returns-clause-exact g c)) (message_good s d (whole c.args.message.now) (omega arith) (omega arith))
 
 pub returns-clause-short : goal.returns-clause-short
-returns-clause-short g c = short_spelling (whole c.args.message.now) c.put_sum.new.out.items _ c.requires (returns-clause-exact g c)
+returns-clause-short g c = omega (arith, ap length (returns-clause-exact g c), message_short c.args.source c.args.destination (whole c.args.message.now) c.requires)
 
 pub returns-clause-known : goal.returns-clause-known
-returns-clause-known g c = spelled_known c.put_sum.new.out.items (whole c.args.message.now) (returns-clause-spelled g c)
+returns-clause-known g c = spelled_known c.put_message.new.out.items (whole c.args.message.now) (returns-clause-spelled g c)
 
 pub returns-clause-read : goal.returns-clause-read
-returns-clause-read g c = decode_spelled c.put_sum.new.out.items (whole c.args.message.now) (returns-clause-spelled g c)
+returns-clause-read g c = decode_spelled c.put_message.new.out.items (whole c.args.message.now) (returns-clause-spelled g c)

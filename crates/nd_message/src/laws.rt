@@ -1,0 +1,23 @@
+//! Laws of the definitions, each the contract of a function that does nothing.
+
+ghost use Rattle.std.specs.Prelude.{◌≡◌, ◌≤◌, ◌↔◌, length};
+ghost use Rattle.nd_addr.specs.Checksum.{IsGoodSum};
+ghost use Rattle.nd_addr.specs.declared.addr.Addr.{Addr};
+ghost use Rattle.nd_decode.specs.Message.{Parts, Spells};
+ghost use Rattle.nd_message.specs.Fitting.{FitsBody, FitsBehind};
+ghost use Rattle.nd_message.specs.Spelling.{fields_of, written_length, written_message};
+ghost use Rattle.nd_message.specs.WellFormed.{IsWellFormed};
+
+/// What is written of a message has a good checksum. Where the message is well formed, it spells the message and fits into a
+/// packet. Its length is that of the message, whatever the addresses.
+pub fn written_as_meant()
+    ensures good { (source destination : Addr) (message : Parts) → length source.0 ≡ 16 → length destination.0 ≡ 16 → IsGoodSum source.0 destination.0 (written_message source destination message) }
+    ensures spelled { (source destination : Addr) (message : Parts) → IsWellFormed message → Spells (written_message source destination message) message }
+    ensures short { (source destination : Addr) (message : Parts) → IsWellFormed message → length (written_message source destination message) ≤ 65535 }
+    ensures len { (source destination : Addr) (message : Parts) → length (written_message source destination message) ≡ written_length message }
+{}
+
+/// A message is well formed exactly where its fields and its options keep to what each of them has to, and are short enough together.
+pub fn well_formed_by_parts()
+    ensures { (message : Parts) → IsWellFormed message ↔ (FitsBody message.body × FitsBehind (length (fields_of 0 message.body)) message.options) }
+{}

@@ -1,0 +1,31 @@
+ghost use Rattle.std.specs.Prelude.{◌≤◌, IfSome};
+ghost use Rattle.std.specs.Option.{SomeIff};
+ghost use Rattle.nd_message.specs.Owned.{whole_of};
+ghost use Rattle.nd_message.specs.Spelling.{written_length};
+ghost use Rattle.nd_message.specs.WellFormed.{IsWellFormed};
+
+use crate::fields::fields_length;
+use crate::opt::Opt;
+use nd_decode::Body;
+use std::alloc::Allocator;
+
+/// How many bytes a message has at most: what the payload length of an IPv6 header can say (RFC 8200, section 3).
+const LONGEST_PAYLOAD: usize = 65535;
+
+/// How many bytes are written of a message of these fields and options, which is the room that `put_message` needs. There are
+/// none where no list of at most 65535 bytes spells it: where the options are too long, where an `Other` reads as one of the known
+/// options, and where its piece would be no multiple of 8 bytes.
+pub fn written_length<A: Allocator>(body: &Body, options: &[Opt<A>]) -> Option<usize>
+    ensures len { SomeIff result (IsWellFormed (whole_of body.now options.now)) (written_length (whole_of body.now options.now)) }
+    ensures short { IfSome result (λ len. len ≤ 65535) }
+{
+    let mut length = fields_length(body);
+    for option in options {
+        let more = option.piece_length()?;
+        length += more;
+        if length > LONGEST_PAYLOAD {
+            return None;
+        }
+    }
+    Some(length)
+}
