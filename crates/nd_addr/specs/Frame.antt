@@ -27,6 +27,10 @@ frame_of bytes =
       rest = drop 14 bytes;
     }) else Err NotIpv6
 
+-- the MTU of Ethernet, in bytes (RFC 2464, section 2)
+abbrev pub ethernet_mtu : ℕ
+ethernet_mtu = 1500
+
 -- how many bytes stand in front of the payload: the fields, and the header (RFC 2464, section 3; RFC 8200, section 3)
 abbrev pub headers_length : ℕ
 headers_length = 54

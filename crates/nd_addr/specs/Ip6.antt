@@ -10,6 +10,10 @@ use Rattle.nd_addr.specs.declared.ip6.Ip6Ref.{Ip6Ref}
 abbrev pub next_header_icmpv6 : ℕ
 next_header_icmpv6 = 58
 
+-- the least MTU of a link, in bytes (RFC 8200, section 5)
+abbrev pub least_mtu : ℕ
+least_mtu = 1280
+
 -- a header that its bytes hold: a byte of traffic class, 20 bits of flow label, two addresses
 pub record FitsHeader (header : Ip6) : Type 0 where
   pub traffic_class : header.traffic_class < 256

@@ -16,6 +16,9 @@ pub const ETHERNET_IPV6: u16 = 0x86dd;
 /// How many bytes an Ethernet header has, which is where the packet begins (RFC 2464, section 3).
 pub const ETHERNET_HEADER_LENGTH: usize = 14;
 
+/// The MTU of Ethernet, in bytes (RFC 2464, section 2).
+pub const ETHERNET_MTU: u32 = 1500;
+
 /// How many bytes stand in front of the payload of a packet: the Ethernet fields, and the header.
 pub const HEADERS_LENGTH: usize = ETHERNET_HEADER_LENGTH + IPV6_HEADER_LENGTH;
 

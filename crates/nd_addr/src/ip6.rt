@@ -11,6 +11,9 @@ use std::alloc::Allocator;
 /// The next header of ICMPv6 (RFC 4443, section 1), which is also the last byte of its pseudo-header (RFC 8200, section 8.1).
 pub const NEXT_HEADER_ICMPV6: u8 = 58;
 
+/// The least MTU of a link, in bytes (RFC 8200, section 5).
+pub const LEAST_MTU: u32 = 1280;
+
 /// How many bytes an IPv6 header has, which is where the payload begins (RFC 8200, section 3).
 pub(crate) const IPV6_HEADER_LENGTH: usize = 40;
 

@@ -22,10 +22,10 @@ mod why;
 pub use addr::Addr;
 pub use checksum::{SUM_AT, sum_for, sum_is_good};
 pub use frame::{
-    ETHERNET_HEADER_LENGTH, ETHERNET_IPV6, Frame, FrameRef, HEADERS_LENGTH, put_headers,
-    write_frame,
+    ETHERNET_HEADER_LENGTH, ETHERNET_IPV6, ETHERNET_MTU, Frame, FrameRef, HEADERS_LENGTH,
+    put_headers, write_frame,
 };
-pub use ip6::{Ip6, Ip6Ref, NEXT_HEADER_ICMPV6};
+pub use ip6::{Ip6, Ip6Ref, LEAST_MTU, NEXT_HEADER_ICMPV6};
 pub use mac::Mac;
 pub use parse::TextFault;
 pub use prefix::Prefix;

@@ -1,6 +1,8 @@
 -- What the Router Advertisements that were heard say of the link, the newest first (RFC 4861, section 6.3.4). Nothing here has a
 -- state: each question looks back.
 use Rattle.std.specs.Prelude.{ℕ, ◌+◌, Bool, false, ◌&&◌, ◌==◌, nat_le, if◌then◌else◌, List, [], ◌∷◌, Option, Some, None}
+use Rattle.nd_addr.specs.Frame.{ethernet_mtu}
+use Rattle.nd_addr.specs.Ip6.{least_mtu}
 use Rattle.nd_decode.specs.declared.router_advertisement.RouterAdvertisement.{RouterAdvertisement}
 use Rattle.nd_decode.specs.Option.{Said, slla, tlla, prefix, redirected, mtu, rdnss, dnssl, other}
 
@@ -24,14 +26,6 @@ first_mtu (other _ _ ∷ options) = first_mtu options
 -- CurHopLimit until one is told: the number of the registry of IP parameters (RFC 4861, section 6.3.2)
 abbrev pub default_hop_limit : ℕ
 default_hop_limit = 64
-
--- LinkMTU of Ethernet, in bytes, which is also the greatest one (RFC 2464, section 2)
-abbrev pub ethernet_mtu : ℕ
-ethernet_mtu = 1500
-
--- the least MTU of a link, in bytes (RFC 8200, section 5)
-abbrev pub least_mtu : ℕ
-least_mtu = 1280
 
 -- BaseReachableTime and RetransTimer until they are told, in milliseconds (RFC 4861, section 10)
 abbrev pub reachable_time : ℕ

@@ -1,17 +1,13 @@
 ghost use Rattle.std.specs.Prelude.{◌≡◌, ◌^◌, ◌<◌, ◌∷◌, [], false};
-ghost use Rattle.nd_params.specs.History.{Drew, default_hop_limit, ethernet_mtu, reachable_time, retrans_timer};
+ghost use Rattle.nd_params.specs.History.{Drew, default_hop_limit, reachable_time, retrans_timer};
+ghost use Rattle.nd_addr.specs.Frame.{ethernet_mtu};
 ghost use Rattle.nd_params.specs.Params.{Values, Stands};
 
+use nd_addr::ETHERNET_MTU;
 use std::marker::Model;
 
 /// CurHopLimit until a router tells one (RFC 4861, section 6.3.2; the number is that of the registry of IP parameters).
 const DEFAULT_HOP_LIMIT: u8 = 64;
-
-/// LinkMTU of Ethernet, in bytes, which is also the greatest one (RFC 2464, section 2).
-pub(crate) const ETHERNET_MTU: u32 = 1500;
-
-/// The least MTU of a link, in bytes (RFC 8200, section 5).
-pub(crate) const LEAST_MTU: u32 = 1280;
 
 /// BaseReachableTime until a router tells one, in milliseconds (RFC 4861, section 10).
 const REACHABLE_TIME: u32 = 30_000;

@@ -4,7 +4,8 @@ ghost use Rattle.nd_decode.specs.Pieces.{options_left};
 ghost use Rattle.nd_params.specs.History.{Row, Heard, first_mtu, valid_mtu_or, base_of, then_heard};
 ghost use Rattle.nd_params.specs.Params.{Stands, GainsRows, redraws};
 
-use crate::params::{ETHERNET_MTU, LEAST_MTU, Params};
+use crate::params::Params;
+use nd_addr::{ETHERNET_MTU, LEAST_MTU};
 use nd_decode::{OptionRef, Options, RouterAdvertisement};
 
 impl Params {
