@@ -1,0 +1,6 @@
+pub mod Config
+pub mod Offer
+pub mod History
+pub mod Advertising
+pub mod Table
+pub mod Calls

@@ -1,0 +1,150 @@
+ghost use Rattle.std.specs.Prelude.{◌≡◌, ◌<◌, ◌^◌, List, Some, true, is_some, None, []};
+ghost use Rattle.nd_advertiser.specs.Calls.{has_sent, settings_in, wants_draw, next};
+
+use crate::advertising::Advertising;
+use crate::config::Config;
+use std::marker::Model;
+
+/// Whether and when a router advertises itself and its link (RFC 4861, section 6.2). Moments and times are in milliseconds.
+#[derive(Drop)]
+pub struct Advertiser {
+    /// When its link-local address was assigned.
+    assigned: Option<u64>,
+    /// When it sent its last advertisement.
+    last: Option<u64>,
+    advertising: Option<Advertising>,
+}
+
+impl Model for Advertiser {
+    ghost use Rattle.std.specs.Prelude.{◌<◌, ◌^◌, IfSome};
+    ghost use Rattle.nd_advertiser.specs.Table.{Table};
+
+    ghost Value = { Table };
+
+    ghost view = { λ a. record { assigned = a.assigned; last = a.last; advertising = a.advertising } };
+
+    ghost invariant = { λ a. IfSome a.last (λ at. at < 2 ^ 62) };
+}
+
+impl Advertiser {
+    ghost use Rattle.nd_advertiser.specs.History.{Advertises, Assigned, Ceased, Row, Sent, Solicited};
+    ghost use Rattle.nd_advertiser.specs.Advertising.{advertised_by, is_on, next_of, tells_its_end, wants_draw_of};
+    ghost use Rattle.nd_advertiser.specs.Table.{GainsRow, Stands};
+
+    /// An interface that doesn't advertise (RFC 4861, section 6.2.1, AdvSendAdvertisements).
+    pub fn new() -> Self
+        ensures empty { result ≡ record { assigned = None; last = None; advertising = None } }
+        ensures stands { Stands result [] }
+    {
+        Advertiser {
+            assigned: None,
+            last: None,
+            advertising: None,
+        }
+    }
+
+    /// It is to advertise with this configuration (RFC 4861, section 6.2.2). Where it does already, only what it advertises changes, and
+    /// the range of what is drawn from now on.
+    pub fn begin(&mut self, now: u64, config: Config)
+        requires { now < 2 ^ 62 }
+        ensures stands { GainsRow self.old self.new (Advertises now config) }
+    {
+        match &mut self.advertising {
+            Some(advertising) => advertising.configure(now, config),
+            None => self.advertising = Some(Advertising::begin(now, config)),
+        }
+    }
+
+    /// Its link-local address was assigned, from which it advertises (RFC 4861, section 4.2).
+    pub fn assigned(&mut self, now: u64)
+        requires { now < 2 ^ 62 }
+        ensures stands { GainsRow self.old self.new (Assigned now) }
+    {
+        self.assigned = Some(now);
+    }
+
+    /// Whether it is an advertising interface.
+    pub fn is_on(&self) -> bool
+        ensures value { result ≡ is_some self.now.advertising }
+        ensures by_history { (history : List Row) → Stands self.now history → result ≡ is_on history }
+    {
+        self.advertising.is_some()
+    }
+
+    /// What it advertises, if it does. Its `interval` is the range of the next draw.
+    pub fn config(&self) -> Option<Config>
+        ensures value { result ≡ settings_in self.now.advertising }
+        ensures by_history { (history : List Row) → Stands self.now history → result ≡ advertised_by history }
+    {
+        match &self.advertising {
+            Some(advertising) => Some(advertising.config),
+            None => None,
+        }
+    }
+
+    /// Whether a Router Solicitation that comes now has to be planned for with a draw: whether an advertisement was sent since it became an
+    /// advertising interface, and no answer is planned since the last one (RFC 4861, section 6.2.6).
+    pub fn wants_draw(&self) -> bool
+        ensures value { result ≡ wants_draw self.now.advertising }
+        ensures by_history { (history : List Row) → Stands self.now history → result ≡ wants_draw_of history }
+    {
+        match &self.advertising {
+            Some(advertising) => advertising.wants_draw(),
+            None => false,
+        }
+    }
+
+    /// A Router Solicitation is heard that has to be planned for, with the delay that was drawn for it, 0 to 500 ms (RFC 4861, sections
+    /// 6.2.6 and 10, MAX_RA_DELAY_TIME).
+    pub fn heard_rs(&mut self, now: u64, delay: u32)
+        requires moment { now < 2 ^ 62 }
+        requires wants { wants_draw self.old.advertising ≡ true }
+        ensures stands { GainsRow self.old self.new (Solicited now delay) }
+    {
+        if let Some(advertising) = &mut self.advertising {
+            advertising.plan(self.last, now, delay);
+        }
+    }
+
+    /// When the next advertisement is due, if one is.
+    pub fn next_due(&self) -> Option<u64>
+        ensures value { result ≡ next self.now.assigned self.now.last self.now.advertising }
+        ensures due { (history : List Row) → Stands self.now history → result ≡ next_of history }
+    {
+        match &self.advertising {
+            Some(advertising) => advertising.next(self.assigned, self.last),
+            None => None,
+        }
+    }
+
+    /// An advertisement that is due is sent, with the time until the next one, which was drawn in `interval` (RFC 4861, section 6.2.4).
+    pub fn turn(&mut self, now: u64, interval: u32)
+        requires moment { now < 2 ^ 62 }
+        requires due { next self.old.assigned self.old.last self.old.advertising ≡ Some now }
+        ensures stands { GainsRow self.old self.new (Sent now interval) }
+    {
+        if let Some(advertising) = &mut self.advertising {
+            advertising.send(now, interval);
+        }
+        self.last = Some(now);
+    }
+
+    /// It ceases to advertise (RFC 4861, section 6.2.5). Where it has sent an advertisement since it became an advertising interface, it
+    /// answers true: a last one is to be sent now, with a router lifetime of 0.
+    pub fn stop(&mut self, now: u64) -> bool
+        requires { now < 2 ^ 62 }
+        ensures value { result ≡ has_sent self.old.advertising }
+        ensures by_history { (history : List Row) → Stands self.old history → result ≡ tells_its_end history }
+        ensures stands { GainsRow self.old self.new (Ceased now) }
+    {
+        let tells = match &self.advertising {
+            Some(advertising) => advertising.sent != 0,
+            None => false,
+        };
+        if tells {
+            self.last = Some(now);
+        }
+        self.advertising = None;
+        tells
+    }
+}

@@ -1,0 +1,150 @@
+ghost use Rattle.std.specs.Prelude.{◌≡◌, ◌*◌, None};
+ghost use Rattle.nd_advertiser.specs.Config.{Settings, config_fault, is_from, is_max_interval, is_min_interval, is_mtu, is_router_lifetime, unless};
+
+use crate::config_fault::ConfigFault;
+use nd_addr::{ETHERNET_MTU, LEAST_MTU};
+use nd_decode::RouterAdvertisement;
+use std::marker::Model;
+
+/// MaxRtrAdvInterval at least and at most, in seconds (RFC 4861, section 6.2.1).
+const LEAST_MAX_INTERVAL: u16 = 4;
+
+const GREATEST_MAX_INTERVAL: u16 = 1800;
+
+/// MinRtrAdvInterval at least, in seconds (RFC 4861, section 6.2.1).
+const LEAST_MIN_INTERVAL: u16 = 3;
+
+/// AdvDefaultLifetime at most, in seconds (RFC 4861, section 6.2.1).
+const GREATEST_LIFETIME: u16 = 9000;
+
+/// AdvReachableTime at most, in milliseconds: an hour (RFC 4861, section 6.2.1).
+const GREATEST_REACHABLE_TIME: u32 = 3_600_000;
+
+/// The flags of a Router Advertisement (RFC 4861, section 4.2).
+#[derive(Clone, Copy, Debug, PartialEq, Eq)]
+pub struct ConfigFlags {
+    /// AdvManagedFlag: addresses are to be had by DHCPv6.
+    pub managed: bool,
+    /// AdvOtherConfigFlag: other configuration is to be had by DHCPv6.
+    pub other: bool,
+}
+
+/// What a router is configured to advertise of itself and of its link (RFC 4861, section 6.2.1). It breaks none of that section's rules.
+#[derive(Clone, Copy, Debug, PartialEq, Eq)]
+pub struct Config {
+    min_interval: u16,
+    max_interval: u16,
+    fields: RouterAdvertisement,
+    mtu: u32,
+}
+
+impl Model for Config {
+    ghost use Rattle.std.specs.Prelude.{None, ◌≡◌};
+    ghost use Rattle.nd_advertiser.specs.Config.{Settings, config_fault};
+
+    ghost Value = { Settings };
+
+    ghost view = { λ c. record { min_interval = c.min_interval; max_interval = c.max_interval; fields = c.fields; mtu = c.mtu } };
+
+    ghost invariant = { λ c. config_fault (record { min_interval = c.min_interval; max_interval = c.max_interval; fields = c.fields; mtu = c.mtu }) ≡ None };
+
+    ghost inverse = { λ s. record { min_interval = s.min_interval; max_interval = s.max_interval; fields = s.fields; mtu = s.mtu } };
+}
+
+impl Config {
+    /// Such a configuration: MinRtrAdvInterval, MaxRtrAdvInterval and AdvDefaultLifetime in seconds, AdvCurHopLimit, the flags,
+    /// AdvReachableTime and AdvRetransTimer in milliseconds, and AdvLinkMTU in bytes, 0 standing for none.
+    ///
+    /// The error is the first rule that is broken: `Max`, `Min`, `Lifetime`, `Reachable` or `Mtu`.
+    pub fn new(
+        min_interval: u16,
+        max_interval: u16,
+        lifetime: u16,
+        hop_limit: u8,
+        flags: ConfigFlags,
+        reachable_time: u32,
+        retrans_timer: u32,
+        mtu: u32,
+    ) -> Result<Config, ConfigFault>
+        ensures { let settings : Settings = record { min_interval = min_interval; max_interval = max_interval; fields = record { hop_limit = hop_limit; managed = flags.managed; other = flags.other; router_lifetime = lifetime; reachable_time = reachable_time; retrans_timer = retrans_timer }; mtu = mtu } in
+            result ≡ unless (config_fault settings) settings }
+    {
+        if !is_max_interval(max_interval) {
+            return Err(ConfigFault::Max);
+        }
+        if !is_min_interval(min_interval, max_interval) {
+            return Err(ConfigFault::Min);
+        }
+        if !is_router_lifetime(max_interval, lifetime) {
+            return Err(ConfigFault::Lifetime);
+        }
+        if reachable_time > GREATEST_REACHABLE_TIME {
+            return Err(ConfigFault::Reachable);
+        }
+        if !is_mtu(mtu) {
+            return Err(ConfigFault::Mtu);
+        }
+        Ok(Config {
+            min_interval,
+            max_interval,
+            fields: RouterAdvertisement {
+                hop_limit,
+                managed: flags.managed,
+                other: flags.other,
+                router_lifetime: lifetime,
+                reachable_time,
+                retrans_timer,
+            },
+            mtu,
+        })
+    }
+
+    /// The least and the greatest time between two advertisements, in milliseconds (RFC 4861, section 6.2.4).
+    pub fn interval(&self) -> (u64, u64)
+        ensures { result ≡ (1000 * self.now.min_interval, 1000 * self.now.max_interval) }
+    {
+        (
+            1000 * u64::from(self.min_interval),
+            1000 * u64::from(self.max_interval),
+        )
+    }
+
+    /// The fields of the advertisements.
+    pub fn fields(&self) -> RouterAdvertisement
+        ensures value { result ≡ self.now.fields }
+        ensures right { config_fault self.now ≡ None }
+    {
+        self.fields
+    }
+
+    /// AdvLinkMTU, in bytes; 0 where the advertisements have no MTU option.
+    pub fn mtu(&self) -> u32
+        ensures { result ≡ self.now.mtu }
+    {
+        self.mtu
+    }
+}
+
+fn is_max_interval(max: u16) -> bool
+    ensures { result ≡ is_max_interval max }
+{
+    max >= LEAST_MAX_INTERVAL && max <= GREATEST_MAX_INTERVAL
+}
+
+fn is_min_interval(min: u16, max: u16) -> bool
+    ensures { result ≡ is_min_interval min max }
+{
+    min >= LEAST_MIN_INTERVAL && 4 * u32::from(min) <= 3 * u32::from(max)
+}
+
+fn is_router_lifetime(max: u16, lifetime: u16) -> bool
+    ensures { result ≡ is_router_lifetime max lifetime }
+{
+    lifetime == 0 || (lifetime >= max && lifetime <= GREATEST_LIFETIME)
+}
+
+fn is_mtu(mtu: u32) -> bool
+    ensures { result ≡ is_mtu mtu }
+{
+    mtu == 0 || (mtu >= LEAST_MTU && mtu <= ETHERNET_MTU)
+}

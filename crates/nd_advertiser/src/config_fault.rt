@@ -1,0 +1,19 @@
+/// Why a configuration or an offer isn't taken: the rule of RFC 4861, section 6.2.1, that it breaks. The numbers are our choice, and the
+/// order in which they are looked at.
+#[derive(Clone, Copy, Debug, PartialEq, Eq)]
+pub enum ConfigFault {
+    /// MaxRtrAdvInterval is below 4 or above 1800 seconds.
+    Max = 1,
+    /// MinRtrAdvInterval is below 3 seconds or above three quarters of MaxRtrAdvInterval.
+    Min = 2,
+    /// AdvDefaultLifetime is neither 0 nor between MaxRtrAdvInterval and 9000 seconds.
+    Lifetime = 3,
+    /// AdvReachableTime is above 3,600,000 milliseconds.
+    Reachable = 4,
+    /// AdvLinkMTU is neither 0 nor between 1280 and 1500 bytes (RFC 8200, section 5; RFC 2464, section 2).
+    Mtu = 5,
+    /// AdvPreferredLifetime is above AdvValidLifetime.
+    Preferred = 6,
+    /// The prefix is link-local, which section 6.2.1 forbids, or multicast, which is our choice.
+    Prefix = 7,
+}

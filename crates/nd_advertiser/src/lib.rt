@@ -1,0 +1,17 @@
+//! What a router advertises (RFC 4861, section 6.2).
+#![tactic(auto)]
+
+mod advertiser;
+mod advertising;
+mod config;
+mod config_fault;
+pub mod laws;
+mod offer;
+
+pub use advertiser::Advertiser;
+pub use config::{Config, ConfigFlags};
+pub use config_fault::ConfigFault;
+pub use offer::{Offer, OfferFlags};
+
+#[cfg(test)]
+mod tests;

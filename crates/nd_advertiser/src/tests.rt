@@ -1,0 +1,232 @@
+ghost use Rattle.std.specs.Prelude.{◌<◌, ◌^◌};
+
+use super::*;
+use nd_addr::{Addr, Prefix};
+use std::process::Abort;
+use std::test::*;
+
+const NO_FLAGS: ConfigFlags = ConfigFlags {
+    managed: false,
+    other: false,
+};
+
+const FLAGS: OfferFlags = OfferFlags {
+    on_link: true,
+    autonomous: true,
+};
+
+/// A configuration by its intervals and its lifetime, in seconds.
+fn timed(min: u16, max: u16, lifetime: u16) -> Result<Config, ConfigFault> {
+    Config::new(min, max, lifetime, 64, NO_FLAGS, 0, 0, 0)
+}
+
+/// By its ReachableTime in milliseconds and its MTU in bytes.
+fn measured(reachable_time: u32, mtu: u32) -> Result<Config, ConfigFault> {
+    Config::new(200, 600, 1800, 64, NO_FLAGS, reachable_time, 0, mtu)
+}
+
+#[test]
+fn a_configuration_breaks_no_rule_at_its_edges(rt: HostRuntime) -> Result<(), Fail> {
+    assert_eq!(rt; timed(3, 3, 1800).err(), Some(ConfigFault::Max));
+    assert!(rt; timed(3, 4, 1800).is_ok());
+    assert!(rt; timed(3, 1800, 1800).is_ok());
+    assert_eq!(rt; timed(3, 1801, 1801).err(), Some(ConfigFault::Max));
+    assert_eq!(rt; timed(2, 600, 1800).err(), Some(ConfigFault::Min));
+    // Three quarters of the greatest interval.
+    assert!(rt; timed(450, 600, 1800).is_ok());
+    assert_eq!(rt; timed(451, 600, 1800).err(), Some(ConfigFault::Min));
+    assert!(rt; timed(200, 600, 0).is_ok());
+    assert_eq!(rt; timed(200, 600, 599).err(), Some(ConfigFault::Lifetime));
+    assert!(rt; timed(200, 600, 600).is_ok());
+    assert!(rt; timed(200, 600, 9000).is_ok());
+    assert_eq!(rt; timed(200, 600, 9001).err(), Some(ConfigFault::Lifetime));
+    assert!(rt; measured(3_600_000, 0).is_ok());
+    assert_eq!(rt; measured(3_600_001, 0).err(), Some(ConfigFault::Reachable));
+    assert_eq!(rt; measured(0, 1279).err(), Some(ConfigFault::Mtu));
+    assert!(rt; measured(0, 1280).is_ok());
+    assert!(rt; measured(0, 1500).is_ok());
+    assert_eq!(rt; measured(0, 1501).err(), Some(ConfigFault::Mtu));
+    Ok(())
+}
+
+#[test]
+fn the_first_rule_that_is_broken_is_told(rt: HostRuntime) -> Result<(), Fail> {
+    // Each breaks one rule less than the one before.
+    let broken = |min, max, lifetime, reachable_time| {
+        Config::new(min, max, lifetime, 64, NO_FLAGS, reachable_time, 0, 1).err()
+    };
+    assert_eq!(rt; broken(2, 3, 9001, 3_600_001), Some(ConfigFault::Max));
+    assert_eq!(rt; broken(2, 600, 9001, 3_600_001), Some(ConfigFault::Min));
+    assert_eq!(rt;
+        broken(200, 600, 9001, 3_600_001),
+        Some(ConfigFault::Lifetime)
+    );
+    assert_eq!(rt;
+        broken(200, 600, 1800, 3_600_001),
+        Some(ConfigFault::Reachable)
+    );
+    assert_eq!(rt; broken(200, 600, 1800, 0), Some(ConfigFault::Mtu));
+    assert_eq!(rt; ConfigFault::Max as u8, 1);
+    assert_eq!(rt; ConfigFault::Prefix as u8, 7);
+    Ok(())
+}
+
+#[test]
+fn a_configuration_says_what_is_advertised(rt: HostRuntime) -> Result<(), Fail> {
+    let flags = ConfigFlags {
+        managed: true,
+        other: false,
+    };
+    let Ok(config) = Config::new(200, 600, 1800, 64, flags, 30_000, 1_000, 1400) else {
+        return Err(Fail::new("not taken"));
+    };
+    assert_eq!(rt; config.interval(), (200_000, 600_000));
+    assert_eq!(rt; config.mtu(), 1400);
+    let fields = config.fields();
+    assert_eq!(rt; fields.hop_limit, 64);
+    assert!(rt; fields.managed && !fields.other);
+    assert_eq!(rt; fields.router_lifetime, 1800);
+    assert_eq!(rt; fields.reachable_time, 30_000);
+    assert_eq!(rt; fields.retrans_timer, 1_000);
+    Ok(())
+}
+
+/// The prefix of so many bits of an address that begins with these two bytes.
+fn prefix(first: u8, second: u8, length: u8) -> Option<Prefix> {
+    Prefix::new(
+        Addr([first, second, 0, 0, 0, 0, 0, 0, 0, 0, 0, 0, 0, 0, 0, 0]),
+        length,
+    )
+}
+
+/// The fault of an offer of such a prefix.
+fn fault(first: u8, second: u8, length: u8, valid: u32, preferred: u32) -> Option<ConfigFault> {
+    Offer::new(prefix(first, second, length)?, valid, preferred, FLAGS).err()
+}
+
+#[test]
+fn an_offer_breaks_no_rule(rt: HostRuntime) -> Result<(), Fail> {
+    assert_eq!(rt; fault(0x20, 1, 64, 10, 10), None);
+    assert_eq!(rt; fault(0x20, 1, 64, 10, 11), Some(ConfigFault::Preferred));
+    // The first rule that is broken is told.
+    assert_eq!(rt; fault(0xff, 2, 64, 10, 11), Some(ConfigFault::Preferred));
+    assert_eq!(rt; fault(0xff, 2, 64, 10, 10), Some(ConfigFault::Prefix));
+    assert_eq!(rt; fault(0xfe, 0x80, 64, 10, 10), Some(ConfigFault::Prefix));
+    // A prefix is judged with zeros past its length: fe80::/8 is fe00::/8, and ff00::/0 is ::/0.
+    assert_eq!(rt; fault(0xfe, 0x80, 9, 10, 10), Some(ConfigFault::Prefix));
+    assert_eq!(rt; fault(0xfe, 0x80, 8, 10, 10), None);
+    assert_eq!(rt; fault(0xff, 2, 0, 10, 10), None);
+    let Some(Ok(offer)) = prefix(0x20, 1, 64).map(|prefix| Offer::new(
+        prefix, 2_592_000, 604_800, FLAGS,
+    )) else {
+        return Err(Fail::new("not taken"));
+    };
+    let info = offer.info();
+    assert!(rt; info.on_link && info.autonomous);
+    assert_eq!(rt; info.valid_lifetime, 2_592_000);
+    assert_eq!(rt; info.preferred_lifetime, 604_800);
+    assert_eq!(rt; info.prefix.length(), 64);
+    Ok(())
+}
+
+/// A router that has advertised with these intervals in seconds since it began.
+fn began(min: u16, max: u16, now: u64) -> Result<Advertiser, ConfigFault>
+    requires { now < 2 ^ 62 }
+{
+    let mut advertiser = Advertiser::new();
+    advertiser.assigned(1000);
+    advertiser.begin(now, timed(min, max, 1800)?);
+    Ok(advertiser)
+}
+
+/// The next advertisement is due at this moment, and is sent.
+fn send(rt: &impl Abort, advertiser: &mut Advertiser, now: u64, interval: u32)
+    requires { now < 2 ^ 62 }
+{
+    let next = advertiser.next_due();
+    assert_eq!(rt; next, Some(now));
+    if let Some(next) = next
+        && next < 1 << 62
+    {
+        advertiser.turn(next, interval);
+    }
+}
+
+/// A solicitation is heard. It answers whether a delay was drawn for it.
+fn solicit(advertiser: &mut Advertiser, now: u64, delay: u32) -> bool
+    requires { now < 2 ^ 62 }
+{
+    if !advertiser.wants_draw() {
+        return false;
+    }
+    advertiser.heard_rs(now, delay);
+    true
+}
+
+#[test]
+fn a_solicitation_is_answered_three_seconds_after_the_last_advertisement(
+    rt: HostRuntime,
+) -> Result<(), Fail> {
+    let mut advertiser = began(200, 600, 2000)?;
+    // Before the first advertisement none is planned for.
+    assert!(rt; !solicit(&mut advertiser, 2000, 200));
+    send(&rt, &mut advertiser, 2000, 200_000);
+    // It is cut to 16 seconds, since it is one of the first three.
+    assert_eq!(rt; advertiser.next_due(), Some(18_000));
+    assert!(rt; solicit(&mut advertiser, 3000, 200));
+    // The first one alone counts.
+    assert!(rt; !solicit(&mut advertiser, 3001, 0));
+    send(&rt, &mut advertiser, 5200, 200_000);
+    assert!(rt; advertiser.stop(6000));
+    assert!(rt; !advertiser.is_on());
+    assert_eq!(rt; advertiser.next_due(), None);
+    assert!(rt; !advertiser.stop(6001));
+    // The last advertisement counts for the three seconds, and the first three begin anew.
+    advertiser.begin(6500, timed(200, 600, 1800)?);
+    send(&rt, &mut advertiser, 9000, 200_000);
+    assert_eq!(rt; advertiser.next_due(), Some(25_000));
+    // Three seconds after it the delay alone counts.
+    assert!(rt; solicit(&mut advertiser, 12_000, 500));
+    assert_eq!(rt; advertiser.next_due(), Some(12_500));
+    Ok(())
+}
+
+#[test]
+fn what_is_planned_comes_before_a_later_answer(rt: HostRuntime) -> Result<(), Fail> {
+    let mut advertiser = began(3, 4, 2000)?;
+    send(&rt, &mut advertiser, 2000, 3000);
+    assert!(rt; solicit(&mut advertiser, 3000, 500));
+    send(&rt, &mut advertiser, 5000, 3000);
+    send(&rt, &mut advertiser, 8000, 3000);
+    Ok(())
+}
+
+#[test]
+fn the_fourth_interval_is_as_it_was_drawn(rt: HostRuntime) -> Result<(), Fail> {
+    let mut advertiser = began(200, 600, 2000)?;
+    send(&rt, &mut advertiser, 2000, 600_000);
+    send(&rt, &mut advertiser, 18_000, 600_000);
+    // Another configuration restarts neither the count nor a date.
+    advertiser.begin(20_000, timed(3, 4, 1800)?);
+    send(&rt, &mut advertiser, 34_000, 600_000);
+    send(&rt, &mut advertiser, 50_000, 600_000);
+    assert_eq!(rt; advertiser.next_due(), Some(650_000));
+    Ok(())
+}
+
+#[test]
+fn the_first_advertisement_waits_for_the_address(rt: HostRuntime) -> Result<(), Fail> {
+    let mut advertiser = Advertiser::new();
+    assert_eq!(rt; advertiser.next_due(), None);
+    advertiser.begin(200, timed(200, 600, 1800)?);
+    assert!(rt; advertiser.is_on());
+    let interval = advertiser.config().map(|config| config.interval());
+    assert_eq!(rt; interval, Some((200_000, 600_000)));
+    assert_eq!(rt; advertiser.next_due(), None);
+    // Nothing was sent, so no last one is.
+    assert!(rt; !advertiser.stop(300));
+    advertiser.begin(400, timed(200, 600, 1800)?);
+    advertiser.assigned(1200);
+    assert_eq!(rt; advertiser.next_due(), Some(1200));
+    Ok(())
+}
