@@ -1,5 +1,13 @@
 -- Names that are copied in front of those that are still to be.
-use Rattle.std.proofs.Common.{◌≡◌, ℕ, Bool, true, false, cond, List, [], ◌∷◌, ◌++◌, ◌∙◌, ap, append_assoc}
+use Rattle.std.proofs.Common.{◌≡◌, ◌≤◌, ℕ, ◌+◌, Bool, true, false, cond, eqb, List, [], ◌∷◌, ◌++◌, length, take, drop, refl, sym, ◌∙◌, ap, append_assoc}
+use Rattle.std.specs.Prelude.{◌&&◌, ◌||◌, not, is_some, nat_lt}
+use Rattle.std.proofs.lemmas.Bool.{leb-true, true≢false}
+use Rattle.nd_lifetime.specs.declared.lasting.Lasting.{Lasting}
+use Rattle.nd_lifetime.specs.Listing.{announced, behind, end_in, entered, enters, fits, open_at}
+use Rattle.nd_lifetime.specs.Same.{bytes_tell}
+use Rattle.nd_lifetime.proofs.Behind.{entered_more}
+use Rattle.nd_lifetime.proofs.Steps.{announced_length}
+use Rattle.nd_dns.specs.Names.{same_name}
 
 pub one_more : (copied more rest all : List (List ℕ)) (name : List ℕ) (enters : Bool) → copied ++ cond enters (name ∷ rest) rest ≡ all → more ≡ cond enters (copied ++ name ∷ []) copied → more ++ rest ≡ all
 one_more copied more rest all name true h is = ap (λ (xs : List (List ℕ)). xs ++ rest) is ∙ (append_assoc copied (name ∷ []) rest ∙ h)
@@ -8,3 +16,35 @@ one_more copied more rest all name false h is = ap (λ (xs : List (List ℕ)). x
 -- what is taken of the copies is the name that enters, and the others are left
 pub next_left : (left more rest : List (List ℕ)) (name : List ℕ) → left ≡ name ∷ rest → left ≡ name ∷ more → more ≡ rest
 next_left left more rest name h k = cc
+
+-- the copies so far, the next name if it enters, and those of the later ones that enter are all that enter
+pub with_next : (now i : ℕ) (name : List ℕ) (w : ℕ) (all rest left : List (List ℕ × ℕ)) (es : List (Lasting (List ℕ))) (copied : List (List ℕ)) → rest ≡ (name, w) ∷ left → rest ≡ drop i all
+    → copied ++ entered same_name now rest (behind same_name now (take i all) es) ≡ entered same_name now all es
+    → copied ++ cond (not (eqb w 0) && not (is_some (end_in same_name name (behind same_name now (take i all) es)))) (name ∷ entered same_name now left (behind same_name now (take (i + 1) all) es)) (entered same_name now left (behind same_name now (take (i + 1) all) es)) ≡ entered same_name now all es
+with_next now i name w all rest left es copied is at total =
+    ap (λ (xs : List (List ℕ)). copied ++ xs) (sym (entered_more same_name bytes_tell now i name w all left es (sym at ∙ is)))
+    ∙ (ap (λ (l : List (List ℕ × ℕ)). copied ++ entered same_name now l (behind same_name now (take i all) es)) (sym is) ∙ total)
+
+-- a name enters behind the copies, so something does
+pub some_enters : (copied rest all : List (List ℕ)) (name : List ℕ) (enters : Bool) → enters ≡ true → copied ++ cond enters (name ∷ rest) rest ≡ all → all ≡ [] → ⊥
+some_enters copied rest all name false is total none = absurd (true≢false (sym is))
+some_enters [] rest all name true is total none = let e : name ∷ rest ≡ [] = total ∙ none in absurd (cc)
+some_enters (x ∷ copied) rest all name true is total none = let e : (x ∷ copied) ++ name ∷ rest ≡ [] = total ∙ none in absurd (cc)
+
+none_entered : (enters : Bool) (name : List ℕ) (rest : List (List ℕ)) → cond enters (name ∷ rest) rest ≡ [] → (enters ≡ false) × (rest ≡ [])
+none_entered true name rest none = absurd (cc)
+none_entered false name rest none = (refl, none)
+
+stays_within : (zero stands fewer : Bool) → (not zero && not stands) ≡ false → (zero || (stands || fewer)) ≡ true
+stays_within true stands fewer none = refl
+stays_within false true fewer none = refl
+stays_within false false fewer none = absurd (true≢false none)
+
+-- where no name enters there is room
+pub fits_unentered : (limit now : ℕ) (more : List (List ℕ × ℕ)) (es : List (Lasting (List ℕ))) → length es ≤ limit → entered same_name now more es ≡ [] → fits same_name limit now more es ≡ true
+fits_unentered limit now [] es few none = refl
+fits_unentered limit now ((name, w) ∷ more) es few none =
+    let next = announced same_name now name w es in
+    let parts = none_entered (enters same_name now name w es) name (entered same_name now more next) none in
+    let room = announced_length same_name bytes_tell now name w limit es few ∙ stays_within (eqb w 0) (is_some (end_in same_name name (open_at now es))) (nat_lt (length (open_at now es)) limit) parts.0 in
+    ap (λ b. b && fits same_name limit now more next) room ∙ fits_unentered limit now more next (leb-true _ _ room) parts.1

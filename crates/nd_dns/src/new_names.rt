@@ -1,42 +1,69 @@
-ghost use Rattle.std.specs.Prelude.{◌≡◌, ◌<◌, ◌^◌, IfOk, length, ◌≤◌, true, vec_len, vec_capacity};
+ghost use Rattle.std.specs.Prelude.{◌≡◌, ◌<◌, ◌^◌, [], IfOk, IsOk, length, ◌≤◌, true, vec_len, vec_capacity};
 ghost use Rattle.nd_lifetime.specs.Listing.{entered, fits, announced_all};
 ghost use Rattle.nd_dns.specs.Names.{same_name, names_to_come};
 
 use crate::announced_names::AnnouncedNames;
 use crate::search_name::SearchName;
+use nd_decode::NameRef;
 use nd_lifetime::{Lasting, announce, enters, enters_behind};
 use std::alloc::{AllocError, Allocator};
+use std::collections::VecDeque;
 use std::marker::Model;
 
 /// The search names that a Router Advertisement adds, in the order in which they enter.
 #[derive(Drop)]
 pub struct NewNames<A: Allocator> {
-    names: Vec<SearchName<A>, A>,
+    /// Made when a name enters: where none does, nothing is asked of the allocator.
+    names: Option<VecDeque<SearchName<A>, A>>,
 }
 
 impl<A: Allocator> Model for NewNames<A> {
-    ghost use Rattle.std.specs.Prelude.{ℕ, List};
+    ghost use Rattle.std.specs.Prelude.{ℕ, List, []};
+    ghost use Rattle.std.specs.Option.{option_map, unwrap_or};
 
     ghost Value = { List (List ℕ) };
 
-    ghost view = { λ n. n.names.items };
+    ghost view = { λ n. unwrap_or (option_map (λ names. names.items) n.names) [] };
 }
 
 impl<A: Allocator> NewNames<A> {
-    ghost use Rattle.std.specs.Prelude.{◌≡◌};
+    ghost use Rattle.std.specs.Prelude.{◌≡◌, ◌∷◌, [], MatchOption};
 
-    /// These names.
-    pub(crate) fn of(names: Vec<SearchName<A>, A>) -> Self
-        ensures { result ≡ names.items }
+    /// None.
+    pub(crate) fn none() -> Self
+        ensures { result ≡ [] }
     {
-        NewNames { names }
+        NewNames { names: None }
     }
 
-    /// The names themselves.
-    pub(crate) fn into_names(self) -> Vec<SearchName<A>, A>
-        ensures { result.items ≡ self }
+    /// The first of those that are left.
+    pub(crate) fn next(&mut self) -> Option<SearchName<A>>
+        ensures { MatchOption result (self.old ≡ []) (λ name. self.old ≡ name ∷ self.new) }
     {
-        self.names
+        match &mut self.names {
+            Some(names) => names.pop_front(),
+            None => None,
+        }
+    }
+}
+
+impl<A: Allocator + Clone> NewNames<A> {
+    ghost use Rattle.std.specs.Prelude.{◌≡◌, ◌++◌, ◌∷◌, [], OnOk};
+    ghost use Rattle.nd_search_list.specs.NameRef.{name_of};
+
+    /// A copy of one more, behind the others. The error is want of memory.
+    pub(crate) fn add(&mut self, alloc: &A, name: &NameRef<'_>) -> Result<(), AllocError>
+        ensures { OnOk result (self.new ≡ self.old ++ name_of name.now ∷ []) }
+    {
+        let copy = SearchName::copied(alloc.clone()?, name)?;
+        if let Some(names) = &mut self.names {
+            names.push_back(copy)?;
+            return Ok(());
+        }
+        let mut names = VecDeque::new(alloc.clone()?);
+        names.push_back(copy)?;
+        self.names = Some(names);
+        Ok(())
     }
 }
 
@@ -46,17 +73,17 @@ pub(crate) fn copies<A: Allocator + Clone>(
     entries: &[Lasting<SearchName<A>>],
     now: u64,
     announced: AnnouncedNames<'_>,
-) -> Result<Vec<SearchName<A>, A>, AllocError>
+) -> Result<NewNames<A>, AllocError>
     requires { length (names_to_come announced) < 2 ^ 64 }
-    ensures { IfOk result (λ v. v.items ≡ entered same_name now (names_to_come announced.entry) entries.now) }
+    ensures value { IfOk result (λ names. names ≡ entered same_name now (names_to_come announced.entry) entries.now) }
+    ensures quiet { entered same_name now (names_to_come announced.entry) entries.now ≡ [] → IsOk result }
 {
-    let mut copies = Vec::new(alloc.clone()?);
+    let mut copies = NewNames::none();
     let mut rest = announced;
     let mut taken = 0;
     while let Some((name, lifetime)) = rest.next_name() {
         if enters_behind(entries, now, announced, taken, &name, lifetime) {
-            let copy = SearchName::copied(alloc.clone()?, &name)?;
-            copies.push(copy)?;
+            copies.add(alloc, &name)?;
         }
         taken += 1;
     }
@@ -69,19 +96,19 @@ pub(crate) fn announce_names<A: Allocator>(
     limit: usize,
     now: u64,
     announced: AnnouncedNames<'_>,
-    copies: Vec<SearchName<A>, A>,
+    copies: NewNames<A>,
 )
     requires moment { now < 2 ^ 62 }
     requires fits { fits same_name limit now (names_to_come announced) entries.old.items ≡ true }
     requires few { vec_len entries.old ≤ limit }
     requires room { limit ≤ vec_capacity entries.old }
-    requires copied { copies.items ≡ entered same_name now (names_to_come announced) entries.old.items }
+    requires copied { copies ≡ entered same_name now (names_to_come announced) entries.old.items }
     ensures items { entries.new.items ≡ announced_all same_name now (names_to_come announced.entry) entries.old.items }
     ensures few { vec_len entries.new ≤ limit }
     ensures capacity { vec_capacity entries.new ≡ vec_capacity entries.old }
 {
     let mut rest = announced;
-    let mut copies = copies.into_iter();
+    let mut copies = copies;
     while let Some((name, lifetime)) = rest.next_name() {
         let key = if enters(entries, now, &name, lifetime) {
             copies.next()

@@ -1,4 +1,4 @@
-ghost use Rattle.std.specs.Prelude.{◌≡◌, ◌≤◌, ◌<◌, ◌^◌, ◌↔◌, ℕ, List, IfOk, IfErr, OnOk, OnErr, IsErr, false, ◌&&◌, ◌⊎◌, if◌then◌else◌};
+ghost use Rattle.std.specs.Prelude.{◌≡◌, ◌≤◌, ◌<◌, ◌^◌, ◌↔◌, ℕ, List, [], IfOk, IfErr, OnOk, OnErr, IsErr, IsOk, true, false, ◌&&◌, ◌⊎◌, if◌then◌else◌};
 ghost use Rattle.std.specs.Result.{IsErrAnd};
 ghost use Rattle.nd_addr.specs.declared.addr.Addr.{Addr};
 ghost use Rattle.nd_decode.specs.Pieces.{options_left};
@@ -37,25 +37,30 @@ impl<A: Allocator + Clone> Dns<A> {
         ensures value { result ≡ fits same_name max_names now (names_told (options_left options.entry)) self.now.names }
         ensures by_history { (servers : List (Row Addr)) (history : List (Row (List ℕ))) (es : List (Lasting (List ℕ))) → Stands self.now servers history → last_moment history ≤ now → Lists same_name history now es
             → result ≡ fits same_name max_names now (names_told (options_left options.entry)) es }
+        ensures quiet { new_names now (options_left options.entry) self.now ≡ [] → result ≡ true }
     {
         let told = AnnouncedNames::new(options);
         fits_all(&self.names, MAX_NAMES, now, told)
     }
 
     /// Copies the search names that they add, each as often as it enters: the one thing for which hearing them takes memory. The errors
-    /// are that there is no room for the names that they tell, before anything is copied, and want of memory.
+    /// are that there is no room for the names that they tell, before anything is copied, and want of memory. Where they add none it
+    /// takes no memory.
     pub fn names(&self, now: u64, options: Options<'_>) -> Result<NewNames<A>, TableRefusal>
         ensures value { IfOk result (λ names. names ≡ new_names now (options_left options.entry) self.now) }
 
         // There is no room exactly where the names, taken in order, are too many at some point.
         ensures full { IsErrAnd result (λ refusal. refusal ≡ TableRefusal.Full Limit.Names) ↔ (fits same_name max_names now (names_told (options_left options.entry)) self.now.names ≡ false) }
         ensures refusal { IfErr result (λ refusal. (refusal ≡ TableRefusal.Full Limit.Names) ⊎ (refusal ≡ TableRefusal.Memory)) }
+
+        // Where no name is added nothing refuses, whatever memory there is.
+        ensures quiet { new_names now (options_left options.entry) self.now ≡ [] → IsOk result }
     {
         if !self.fits_names(now, options) {
             return Err(TableRefusal::Full(Limit::Names));
         }
         match copies(&self.alloc, &self.names, now, AnnouncedNames::new(options)) {
-            Ok(names) => Ok(NewNames::of(names)),
+            Ok(names) => Ok(names),
             Err(_) => Err(TableRefusal::Memory),
         }
     }
@@ -90,7 +95,6 @@ impl<A: Allocator + Clone> Dns<A> {
         let told_servers = AnnouncedServers::new(options);
         announce_all(&mut self.servers, MAX_SERVERS, now, told_servers);
         let told_names = AnnouncedNames::new(options);
-        let names = names.into_names();
         announce_names(&mut self.names, MAX_NAMES, now, told_names, names);
         Ok(())
     }

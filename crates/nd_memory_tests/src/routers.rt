@@ -17,7 +17,7 @@ enum Call {
 
 /// A list of one router: the first call for which there is no memory.
 fn run(rt: &impl Abort, heap: &LocalHeap) -> Option<Call> {
-    let Ok(mut routers) = Routers::new(heap) else {
+    let Ok(mut routers) = Routers::new(heap, 16) else {
         return Some(Call::NewRouters);
     };
     let Ok(prefixes) = Prefixes::new(heap) else {

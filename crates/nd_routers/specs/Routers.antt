@@ -8,12 +8,14 @@ use Rattle.nd_lifetime.specs.Listing.{StandsUntilTold}
 use Rattle.nd_routers.specs.History.{RouterRow, LeftList, announcements}
 use Rattle.nd_routers.specs.DefaultRouterSelection.{Failures}
 
--- how many default routers there may be (our choice)
+-- the most that a table of routers may have room for (our choice)
 abbrev pub max_routers : ℕ
 max_routers = 16
 
--- the routers with their ends, in the order in which they came, and those of them that failed, in the order of their last failures
+-- How many routers the table has room for; the routers with their ends, in the order in which they came; and those of them that failed,
+-- in the order of their last failures.
 pub record Table : Type 0 where
+  pub limit : ℕ
   pub entries : List (Lasting ℕ)
   pub failed : List ℕ
 

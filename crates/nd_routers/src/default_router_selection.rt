@@ -5,7 +5,7 @@ ghost use Rattle.std.specs.Option.{option_map};
 ghost use Rattle.nd_lifetime.specs.History.{stands};
 
 use crate::router::Router;
-use crate::routers::{MAX_ROUTERS, Routers};
+use crate::routers::Routers;
 use nd_addr::Addr;
 use nd_lifetime::{has, stands};
 use nd_table::compare;
@@ -29,13 +29,14 @@ impl<A: Allocator + Clone> Routers<A> {
     pub fn failed(&mut self, source: Addr)
         ensures stands { (at : ℕ) → GainsRow self.old self.new (Failed at (number_of source.0)) }
         ensures entries { self.new.entries ≡ self.old.entries }
+        ensures limit { self.new.limit ≡ self.old.limit }
     {
         if !has(&self.entries, &source) {
             return;
         }
         forget(&mut self.failed, source);
         // The others that failed are in the list too, so there is room.
-        if self.failed.len() < MAX_ROUTERS {
+        if self.failed.len() < self.limit {
             self.failed.push_reserved(Router::of(source));
         }
     }

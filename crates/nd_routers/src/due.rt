@@ -37,6 +37,7 @@ impl<A: Allocator + Clone> Routers<A> {
         ensures due { (history : List RouterRow) → Stands self.old history → FirstDue history now (option_map (λ a. number_of a.0) result) }
         ensures gains { IfSome result (λ a. GainsRow self.old self.new (LeftList now (number_of a.0))) }
         ensures fewer { IfSome result (λ _. length self.new.entries < length self.old.entries) }
+        ensures limit { self.new.limit ≡ self.old.limit }
         ensures same { IfNone result (self.new ≡ self.old) }
         ensures none { IfNone result (next_end self.old.entries ≢ Some now) }
         ensures later { NoneBefore self.new.entries now }
@@ -54,6 +55,7 @@ impl<A: Allocator + Clone> Routers<A> {
         ensures by_history { (history : List RouterRow) → Stands self.old history → result ≡ is_some (end_of same (number_of source.0) (announcements history)) }
         ensures listed { result ≡ is_some (end_in same (number_of source.0) self.old.entries) }
         ensures settled { (now : ℕ) → IsSettled self.old.entries now → IsSettled self.new.entries now }
+        ensures limit { self.new.limit ≡ self.old.limit }
     {
         let listed = has(&self.entries, &source);
         remove(&mut self.entries, &source);

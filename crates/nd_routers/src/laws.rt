@@ -11,12 +11,12 @@ ghost use Rattle.nd_routers.specs.Routers.{Table, same, Stands};
 ghost use Rattle.nd_routers.specs.DefaultRouterSelection.{Failures};
 ghost use Rattle.nd_routers.specs.Due.{FirstDue};
 
-/// What happened gives one list of routers and one of prefixes at each moment, one table of routers, one order of failures, and one
-/// router that leaves first.
+/// What happened gives one list of routers and one of prefixes at each moment, one table of routers whatever its limit, one order of
+/// failures, and one router that leaves first.
 pub fn one_answer()
     ensures list { (history : List (Row ℕ)) (moment : ℕ) (a b : List (Lasting ℕ)) → Lists same history moment a → Lists same history moment b → a ≡ b }
     ensures prefixes { (history : List (Row PrefixValue)) (moment : ℕ) (a b : List (Lasting PrefixValue)) → Lists same_prefix history moment a → Lists same_prefix history moment b → a ≡ b }
-    ensures table { (history : List RouterRow) (a b : Table) → Stands a history → Stands b history → a ≡ b }
+    ensures table { (history : List RouterRow) (a b : Table) → Stands a history → Stands b history → (a.entries ≡ b.entries) × (a.failed ≡ b.failed) }
     ensures failures { (history : List RouterRow) (a b : List ℕ) → Failures history a → Failures history b → a ≡ b }
     ensures due { (history : List RouterRow) (moment : ℕ) (a b : Option ℕ) → FirstDue history moment a → FirstDue history moment b → a ≡ b }
 {}

@@ -19,4 +19,4 @@ pub use nd_params::{Params, reachable_range};
 pub use prefixes::Prefixes;
 pub use router::Router;
 pub use router_advertisement::Change;
-pub use routers::Routers;
+pub use routers::{MAX_ROUTERS, Routers};

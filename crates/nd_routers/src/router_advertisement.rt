@@ -4,11 +4,11 @@ ghost use Rattle.nd_addr.specs.Number.{number_of};
 ghost use Rattle.nd_lifetime.specs.History.{stands};
 ghost use Rattle.nd_lifetime.specs.Listing.{fits, Lists};
 ghost use Rattle.nd_lifetime.specs.declared.lasting.Lasting.{Lasting};
-ghost use Rattle.nd_routers.specs.Routers.{max_routers, same};
+ghost use Rattle.nd_routers.specs.Routers.{same};
 
 use crate::default_router_selection::forget;
 use crate::router::Router;
-use crate::routers::{MAX_ROUTERS, Routers};
+use crate::routers::Routers;
 use nd_addr::Addr;
 use nd_lifetime::{Lasting, Limit, TableRefusal, announce, count, has, stands};
 use std::alloc::Allocator;
@@ -28,17 +28,17 @@ pub enum Change {
 
 impl<A: Allocator + Clone> Routers<A> {
     ghost use Rattle.nd_routers.specs.History.{RouterRow, Heard, announcements};
-    ghost use Rattle.nd_routers.specs.Routers.{max_routers, same, Stands, GainsRow, IsSettled};
+    ghost use Rattle.nd_routers.specs.Routers.{same, Stands, GainsRow, IsSettled};
     ghost use Rattle.nd_routers.specs.RouterAdvertisement.{change_of};
 
     /// Whether there is room for a router that announces itself at a moment in milliseconds, for a lifetime in seconds: where it is so,
     /// `heard_ra` isn't refused. It takes no memory.
     pub fn fits(&self, now: u64, source: Addr, lifetime: u16) -> bool
-        ensures value { result ≡ fits same max_routers now ((number_of source.0, lifetime) ∷ []) self.now.entries }
+        ensures value { result ≡ fits same self.now.limit now ((number_of source.0, lifetime) ∷ []) self.now.entries }
         ensures by_history { (history : List RouterRow) (es : List (Lasting ℕ)) → Stands self.now history → Lists same (announcements history) now es
-            → result ≡ fits same max_routers now ((number_of source.0, lifetime) ∷ []) es }
+            → result ≡ fits same self.now.limit now ((number_of source.0, lifetime) ∷ []) es }
     {
-        fits_one(&self.entries, now, source, lifetime)
+        fits_one(&self.entries, self.limit, now, source, lifetime)
     }
 
     /// A router is heard that announces itself, at a moment in milliseconds, for a lifetime in seconds (RFC 4861, section 6.3.4): it
@@ -56,11 +56,12 @@ impl<A: Allocator + Clone> Routers<A> {
 
         ensures stands { OnOk result (GainsRow self.old self.new (Heard now (number_of source.0) lifetime)) }
         ensures settled { IsSettled self.new.entries now }
+        ensures limit { self.new.limit ≡ self.old.limit }
         ensures change { IfOk result (λ change. (history : List RouterRow) → Stands self.old history
             → change ≡ change_of (stands same (number_of source.0) (announcements history) now) (stands same (number_of source.0) (announcements (Heard now (number_of source.0) lifetime ∷ history)) now)) }
 
         // It is refused exactly where the router is one too many.
-        ensures full { IsErr result ↔ (fits same max_routers now ((number_of source.0, lifetime) ∷ []) self.old.entries ≡ false) }
+        ensures full { IsErr result ↔ (fits same self.old.limit now ((number_of source.0, lifetime) ∷ []) self.old.entries ≡ false) }
         ensures refusal { IfErr result (λ refusal. refusal ≡ TableRefusal.Full Limit.Routers) }
         ensures same { OnErr result (self.new ≡ self.old) }
     {
@@ -84,14 +85,20 @@ impl<A: Allocator + Clone> Routers<A> {
 }
 
 /// Whether there is room for a router that announces itself.
-fn fits_one(entries: &[Lasting<Router>], now: u64, source: Addr, lifetime: u16) -> bool
-    requires { length entries.now ≤ max_routers }
-    ensures { result ≡ fits same max_routers now ((number_of source.0, lifetime) ∷ []) entries.now }
+fn fits_one(
+    entries: &[Lasting<Router>],
+    limit: usize,
+    now: u64,
+    source: Addr,
+    lifetime: u16,
+) -> bool
+    requires { length entries.now ≤ limit }
+    ensures { result ≡ fits same limit now ((number_of source.0, lifetime) ∷ []) entries.now }
 {
     if stands(entries, now, &source) {
         return true;
     }
-    lifetime == 0 || count(entries, now) < MAX_ROUTERS
+    lifetime == 0 || count(entries, now) < limit
 }
 
 /// What changes where a router was listed before or not, and is then or not.

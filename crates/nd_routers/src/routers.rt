@@ -10,8 +10,8 @@ use nd_lifetime::{Lasting, Standing, stands};
 use std::alloc::{AllocError, Allocator};
 use std::marker::Model;
 
-/// How many default routers there may be (our choice).
-pub(crate) const MAX_ROUTERS: usize = 16;
+/// The most default routers that a list may have room for (our choice).
+pub const MAX_ROUTERS: usize = 16;
 
 /// The default routers, in the order in which they came (RFC 4861, section 5.1).
 #[derive(Drop)]
@@ -19,6 +19,7 @@ pub struct Routers<A: Allocator> {
     pub(crate) entries: Vec<Lasting<Router>, A>,
     /// Those that failed, by their last failures, the oldest first.
     pub(crate) failed: Vec<Router, A>,
+    pub(crate) limit: usize,
 }
 
 impl<A: Allocator> Model for Routers<A> {
@@ -28,23 +29,28 @@ impl<A: Allocator> Model for Routers<A> {
 
     ghost Value = { Table };
 
-    ghost view = { λ r. record { entries = r.entries.items; failed = r.failed.items } };
+    ghost view = { λ r. record { limit = r.limit; entries = r.entries.items; failed = r.failed.items } };
 
-    ghost invariant = { λ r. (vec_len r.entries ≤ max_routers) × (max_routers ≤ vec_capacity r.entries) × (vec_len r.failed ≤ max_routers) × (max_routers ≤ vec_capacity r.failed) };
+    ghost invariant = { λ r. (r.limit ≤ max_routers) × (vec_len r.entries ≤ r.limit) × (r.limit ≤ vec_capacity r.entries) × (vec_len r.failed ≤ r.limit) × (r.limit ≤ vec_capacity r.failed) };
 }
 
 impl<A: Allocator + Clone> Routers<A> {
     ghost use Rattle.nd_routers.specs.History.{RouterRow, announcements};
     ghost use Rattle.nd_routers.specs.Routers.{max_routers, same, Stands, then_left, keys};
 
-    /// No routers, with room for 16. All of it is reserved here; the error is want of memory.
-    pub fn new(alloc: A) -> Result<Self, AllocError>
-        ensures empty { IfOk result (λ routers. routers ≡ record { entries = []; failed = [] }) }
+    /// No routers, with room for so many, at most 16. All of it is reserved here; the error is want of memory.
+    pub fn new(alloc: A, limit: usize) -> Result<Self, AllocError>
+        requires { limit ≤ max_routers }
+        ensures empty { IfOk result (λ routers. routers ≡ record { limit = limit; entries = []; failed = [] }) }
         ensures stands { IfOk result (λ routers. Stands routers []) }
     {
-        let entries = Vec::with_capacity(alloc.clone()?, MAX_ROUTERS)?;
-        let failed = Vec::with_capacity(alloc, MAX_ROUTERS)?;
-        Ok(Routers { entries, failed })
+        let entries = Vec::with_capacity(alloc.clone()?, limit)?;
+        let failed = Vec::with_capacity(alloc, limit)?;
+        Ok(Routers {
+            entries,
+            failed,
+            limit,
+        })
     }
 
     /// Whether a router is in the list at a moment, in milliseconds.
@@ -68,7 +74,7 @@ impl<A: Allocator + Clone> Routers<A> {
     pub fn clear(&mut self) -> Result<Vec<Addr, A>, AllocError>
         ensures routers { IfOk result (λ routers. map (λ a. number_of a.0) routers.items ≡ keys self.old.entries) }
         ensures stands { OnOk result ((at : ℕ) (history : List RouterRow) → Stands self.old history → Stands self.new (then_left at (keys self.old.entries) history)) }
-        ensures none { OnOk result (self.new ≡ record { entries = []; failed = [] }) }
+        ensures none { OnOk result (self.new ≡ record { limit = self.old.limit; entries = []; failed = [] }) }
         ensures same { OnErr result (self.new ≡ self.old) }
     {
         let routers = addresses(&self.entries)?;
@@ -80,7 +86,8 @@ impl<A: Allocator + Clone> Routers<A> {
     /// How many routers there are whose end hasn't been told.
     pub fn len(&self) -> usize
         ensures value { result ≡ length self.now.entries }
-        ensures few { result ≤ max_routers }
+        ensures few { result ≤ self.now.limit }
+        ensures most { result ≤ max_routers }
     {
         self.entries.len()
     }

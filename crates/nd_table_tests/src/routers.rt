@@ -53,7 +53,7 @@ fn listed(rt: &impl Abort, routers: &Routers<Global>, now: u64, wanted: &[(Addr,
 
 #[test]
 fn keeps_the_order_of_coming(rt: HostRuntime) -> Result<(), Fail> {
-    let mut routers = Routers::new(rt.alloc())?;
+    let mut routers = Routers::new(rt.alloc(), 16)?;
     assert!(rt; hear(&mut routers, 1_000, addr(2), 1_800) == Some(Ok(Change::Entered)));
     assert!(rt; hear(&mut routers, 2_000, addr(1), 1_800) == Some(Ok(Change::Entered)));
     // A refreshed one keeps its place, with another end.
@@ -80,7 +80,7 @@ fn keeps_the_order_of_coming(rt: HostRuntime) -> Result<(), Fail> {
 
 #[test]
 fn ends_to_the_millisecond(rt: HostRuntime) -> Result<(), Fail> {
-    let mut routers = Routers::new(rt.alloc())?;
+    let mut routers = Routers::new(rt.alloc(), 16)?;
     assert!(rt; hear(&mut routers, 1_200, addr(2), 1_800) == Some(Ok(Change::Entered)));
     assert!(rt; hear(&mut routers, 1_200, addr(1), 1_800) == Some(Ok(Change::Entered)));
     assert!(rt; routers.holds(1_801_199, addr(2)));
@@ -96,7 +96,7 @@ fn ends_to_the_millisecond(rt: HostRuntime) -> Result<(), Fail> {
 
 #[test]
 fn has_room_for_sixteen(rt: HostRuntime) -> Result<(), Fail> {
-    let mut routers = Routers::new(rt.alloc())?;
+    let mut routers = Routers::new(rt.alloc(), 16)?;
     for n in 0..16u8 {
         assert!(rt; routers.fits(1_000, addr(n), 1_800));
         assert!(rt; hear(&mut routers, 1_000, addr(n), 1_800) == Some(Ok(Change::Entered)));
@@ -116,6 +116,30 @@ fn has_room_for_sixteen(rt: HostRuntime) -> Result<(), Fail> {
     Ok(())
 }
 
+#[test]
+fn has_room_for_as_many_as_it_was_made_for(rt: HostRuntime) -> Result<(), Fail> {
+    let mut routers = Routers::new(rt.alloc(), 2)?;
+    for n in 0..2u8 {
+        assert!(rt; routers.fits(1_000, addr(n), 1_800));
+        assert!(rt; hear(&mut routers, 1_000, addr(n), 1_800) == Some(Ok(Change::Entered)));
+        routers.failed(addr(n));
+    }
+    assert!(rt; !routers.fits(1_000, addr(2), 1_800));
+    assert!(rt;
+        hear(&mut routers, 1_000, addr(2), 1_800) == Some(Err(TableRefusal::Full(Limit::Routers)))
+    );
+    assert!(rt; failed_at(&routers, 1) == Some(1));
+    assert!(rt; routers.ended(addr(0)));
+    assert!(rt; hear(&mut routers, 1_000, addr(2), 1_800) == Some(Ok(Change::Entered)));
+    assert_eq!(rt; routers.len(), 2);
+    // One with room for none takes none.
+    let mut none = Routers::new(rt.alloc(), 0)?;
+    assert!(rt;
+        hear(&mut none, 1_000, addr(1), 1_800) == Some(Err(TableRefusal::Full(Limit::Routers)))
+    );
+    Ok(())
+}
+
 /// The place of the i-th router among those that failed.
 fn failed_at(routers: &Routers<Global>, i: usize) -> Option<u64> {
     match routers.at(i) {
@@ -126,7 +150,7 @@ fn failed_at(routers: &Routers<Global>, i: usize) -> Option<u64> {
 
 #[test]
 fn orders_failures_by_the_last_one(rt: HostRuntime) -> Result<(), Fail> {
-    let mut routers = Routers::new(rt.alloc())?;
+    let mut routers = Routers::new(rt.alloc(), 16)?;
     for n in 0..3u8 {
         assert!(rt; hear(&mut routers, 1_000, addr(n), 1_800) == Some(Ok(Change::Entered)));
     }
@@ -173,7 +197,7 @@ fn orders_failures_by_the_last_one(rt: HostRuntime) -> Result<(), Fail> {
 
 #[test]
 fn clears_in_the_order_of_the_list(rt: HostRuntime) -> Result<(), Fail> {
-    let mut routers = Routers::new(rt.alloc())?;
+    let mut routers = Routers::new(rt.alloc(), 16)?;
     assert!(rt; hear(&mut routers, 1_000, addr(2), 1_800) == Some(Ok(Change::Entered)));
     assert!(rt; hear(&mut routers, 1_000, addr(1), 1_800) == Some(Ok(Change::Entered)));
     routers.failed(addr(1));
@@ -194,7 +218,7 @@ fn clears_in_the_order_of_the_list(rt: HostRuntime) -> Result<(), Fail> {
 
 #[test]
 fn sixteen_routers_are_shown_and_cleared_in_order(rt: HostRuntime) -> Result<(), Fail> {
-    let mut routers = Routers::new(rt.alloc())?;
+    let mut routers = Routers::new(rt.alloc(), 16)?;
     // They come in another order than that of their addresses.
     for n in (0..16u8).rev() {
         assert!(rt; hear(&mut routers, 1_000, addr(n), 1_800) == Some(Ok(Change::Entered)));
@@ -438,7 +462,7 @@ const EVERY_OPTION: [u8; 136] = [
 fn takes_every_kind_of_option(rt: HostRuntime) -> Result<(), Fail> {
     let message = advertisement(&EVERY_OPTION).ok_or("message")?;
     let mut params = Params::new(0, 15_000);
-    let mut routers = Routers::new(rt.alloc())?;
+    let mut routers = Routers::new(rt.alloc(), 16)?;
     let mut prefixes = Prefixes::new(rt.alloc())?;
     match message.body {
         Body::Ra(ra) => {

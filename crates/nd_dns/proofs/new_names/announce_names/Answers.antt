@@ -1,7 +1,6 @@
 use Rattle.std.proofs.Common.{◌≡◌, ◌∙◌, ap, sym, arith, cond, List, ◌∷◌, ℕ, length}
 use Rattle.std.specs.Prelude.{nat_le}
 use Rattle.std.proofs.lemmas.Bool.{and_parts, leb-true}
-use Rattle.std.specs.Vec.Iter.{into_iter_items}
 use Rattle.nd_search_list.specs.NameRef.{name_of}
 use Rattle.nd_lifetime.specs.Listing.{fits, announced, announced_all, entered, enters}
 use Rattle.nd_dns.specs.Names.{same_name, names_to_come}
@@ -18,7 +17,7 @@ loop-name-preserved g c =
     let next = announced same_name now named w es in
     let fit = and_parts (nat_le (length next) c.args.limit) (fits same_name c.args.limit now left next) (ap (λ (l : List (List ℕ × ℕ)). fits same_name c.args.limit now l es) (sym c.in-Some.ensures) ∙ c.loop-name.invariant.1) in
     let entering : c.enters.result ≡ enters same_name now named w es = c.enters.ensures ∙ ap (λ xs. enters same_name now named w xs) c.deref.ensures.value in
-    let from : into_iter_items c.loop-name.copies ≡ cond (enters same_name now named w es) (named ∷ entered same_name now left next) (entered same_name now left next) =
+    let from : c.loop-name.copies ≡ cond (enters same_name now named w es) (named ∷ entered same_name now left next) (entered same_name now left next) =
     c.loop-name.invariant.4 ∙ ap (λ (l : List (List ℕ × ℕ)). entered same_name now l es) c.in-Some.ensures in
     let items = c.announce.ensures.items in (
       ap (λ xs. announced_all same_name now left xs) items ∙ (ap (λ (l : List (List ℕ × ℕ)). announced_all same_name now l es) (sym c.in-Some.ensures) ∙ c.loop-name.invariant.0),

@@ -1,6 +1,5 @@
 use Rattle.std.proofs.Common.{◌≡◌, ◌≤◌, true, length}
 use Rattle.std.specs.Prelude.{vec_len, vec_capacity}
-use Rattle.std.specs.Vec.Iter.{into_iter_items}
 use Rattle.nd_lifetime.specs.Listing.{announced_all, fits, entered}
 use Rattle.nd_dns.specs.Names.{same_name, names_to_come}
 use Rattle.nd_dns.proofs.new_names.announce_names.Given as goal
@@ -11,7 +10,7 @@ invariant-loop-name g l =
     (announced_all same_name l.now (names_to_come l.rest) l.entries.items ≡ announced_all same_name l.now (names_to_come l.initial.rest) l.initial.entries.items)
     × (fits same_name l.limit l.now (names_to_come l.rest) l.entries.items ≡ true)
     × (vec_len l.entries ≤ l.limit) × (vec_capacity l.entries ≡ vec_capacity l.initial.entries)
-    × (into_iter_items l.copies ≡ entered same_name l.now (names_to_come l.rest) l.entries.items)
+    × (l.copies ≡ entered same_name l.now (names_to_come l.rest) l.entries.items)
 
 abbrev pub decreases-loop-name : goal.decreases-loop-name
 decreases-loop-name g l = length (names_to_come l.rest)

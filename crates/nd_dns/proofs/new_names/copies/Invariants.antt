@@ -6,7 +6,7 @@ use Rattle.nd_dns.proofs.new_names.copies.Given as goal
 -- the copies so far and what is left enters are all, and what is left
 abbrev pub invariant-loop-name : goal.invariant-loop-name
 invariant-loop-name g l =
-    (l.copies.items ++ entered same_name l.now (names_to_come l.rest) (behind same_name l.now (take l.taken (names_to_come l.announced)) l.entries) ≡ entered same_name l.now (names_to_come l.announced) l.entries)
+    (l.copies ++ entered same_name l.now (names_to_come l.rest) (behind same_name l.now (take l.taken (names_to_come l.announced)) l.entries) ≡ entered same_name l.now (names_to_come l.announced) l.entries)
     × (names_to_come l.rest ≡ drop l.taken (names_to_come l.announced))
 
 abbrev pub decreases-loop-name : goal.decreases-loop-name

@@ -1,4 +1,4 @@
-use Rattle.std.proofs.Common.{◌∙◌, sym, ap, arith, length, List, ℕ}
+use Rattle.std.proofs.Common.{◌≤◌, ◌∙◌, sym, ap, arith, length, List, ℕ}
 use Rattle.nd_decode.specs.Pieces.{options_left}
 use Rattle.nd_lifetime.specs.Listing.{fits}
 use Rattle.nd_lifetime.specs.Same.{bytes_tell}
@@ -6,6 +6,7 @@ use Rattle.nd_lifetime.proofs.Behind.{fits_open}
 use Rattle.nd_lifetime.proofs.Unique.{one_listing}
 use Rattle.nd_dns.specs.Dns.{Table}
 use Rattle.nd_dns.specs.Names.{same_name, names_told}
+use Rattle.nd_dns.proofs.Adding.{fits_unentered}
 use Rattle.nd_dns.proofs.Few.{few_names}
 use Rattle.nd_dns.proofs.dns.Dns.fits_names.Goals as goal
 
@@ -22,3 +23,14 @@ returns-clause-by_history g c = λ servers history es s le l.
     ∙ (ap (λ xs. fits same_name 32 now told xs) (c.deref.ensures.value ∙ ap (λ (h : Table). h.names) c.self.view_is)
     ∙ (sym (fits_open same_name bytes_tell 32 now told c.args.self.now.names)
     ∙ ap (λ xs. fits same_name 32 now told xs) (one_listing same_name bytes_tell history now _ _ (s.names_stand.lists now le) l))))
+
+pub returns-clause-quiet : goal.returns-clause-quiet
+returns-clause-quiet g c = λ none.
+    let now = c.args.now in
+    let told = names_told (options_left c.args.options) in
+    let items = ap (λ (h : Table). length h.names) c.self.view_is in
+    let few : length c.args.self.now.names ≤ 32 = omega (arith, items, ap length c.deref.ensures.value, c.deref.ensures.len, c.self.invariant.3) in
+    c.fits_all.ensures
+    ∙ (ap (λ (t : List (List ℕ × ℕ)). fits same_name 32 now t c.deref.result.now) c.new-told.ensures
+    ∙ (ap (λ xs. fits same_name 32 now told xs) (c.deref.ensures.value ∙ ap (λ (h : Table). h.names) c.self.view_is)
+    ∙ fits_unentered 32 now told c.args.self.now.names few none))

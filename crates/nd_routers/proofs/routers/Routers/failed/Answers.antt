@@ -14,9 +14,9 @@ returns-then-not-has-clause-stands g c = λ at.
     let listed : c.has.result ≡ is_some (end_in same key c.args.self.now.entries) = c.has.ensures ∙ (ap (λ es. is_some (end_in same key es)) c.deref.ensures.value ∙ ap (λ t. is_some (end_in same key t.entries)) c.self.view_is) in
     gains_no_failure c.args.self.now _ at key (sym listed ∙ grind (arith, c.if-not-has.true, c.if-not-has.ensures)) refl
 
-pub returns-then-len-lt-MAX_ROUTERS-clause-stands :
-    goal.returns-then-len-lt-MAX_ROUTERS-clause-stands
-returns-then-len-lt-MAX_ROUTERS-clause-stands g c = λ at. record {
+pub returns-then-len-self-clause-stands :
+    goal.returns-then-len-self-clause-stands
+returns-then-len-self-clause-stands g c = λ at. record {
   stands = λ history s.
       let key = number_of c.args.source.0 in
       let listed : c.has.result ≡ is_some (end_in same key c.args.self.now.entries) = c.has.ensures ∙ (ap (λ es. is_some (end_in same key es)) c.deref.ensures.value ∙ ap (λ t. is_some (end_in same key t.entries)) c.self.view_is) in
@@ -25,9 +25,9 @@ returns-then-len-lt-MAX_ROUTERS-clause-stands g c = λ at. record {
       (c.push_reserved.ensures.items ∙ (ap (λ k. c.forget.new.failed.items ++ k ∷ []) c.of.ensures ∙ (ap (λ ks. ks ++ key ∷ []) c.forget.ensures.items ∙ ap (λ t. others key t.failed ++ key ∷ []) c.self.view_is)));
 }
 
-pub returns-else-len-lt-MAX_ROUTERS-clause-stands :
-    goal.returns-else-len-lt-MAX_ROUTERS-clause-stands
-returns-else-len-lt-MAX_ROUTERS-clause-stands g c = λ at. record {
+pub returns-else-len-self-clause-stands :
+    goal.returns-else-len-self-clause-stands
+returns-else-len-self-clause-stands g c = λ at. record {
   stands = λ history s.
       let key = number_of c.args.source.0 in
       let listed : c.has.result ≡ is_some (end_in same key c.args.self.now.entries) = c.has.ensures ∙ (ap (λ es. is_some (end_in same key es)) c.deref.ensures.value ∙ ap (λ t. is_some (end_in same key t.entries)) c.self.view_is) in
@@ -35,5 +35,5 @@ returns-else-len-lt-MAX_ROUTERS-clause-stands g c = λ at. record {
       let same_length = ap (λ t. length t.entries) c.self.view_is in
       let items = ap length c.deref.ensures.value in
       let left : c.forget.new.failed.items ≡ others key c.args.self.now.failed = c.forget.ensures.items ∙ ap (λ t. others key t.failed) c.self.view_is in
-      absurd (omega (arith, room, same_length, items, c.deref.ensures.len, c.self.invariant.0, ap length left, c.len.ensures, c.if-len-lt-MAX_ROUTERS.false, c.forget.new.failed.ok.0));
+      absurd (omega (arith, room, same_length, items, c.deref.ensures.len, c.self.invariant.0, ap length left, c.len.ensures, c.if-len-self.false, c.forget.new.failed.ok.0));
 }

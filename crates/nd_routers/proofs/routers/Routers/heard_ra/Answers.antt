@@ -31,7 +31,7 @@ returns-clause-stands g c =
 pub returns-then-lifetime-eq0-clause-stands : goal.returns-then-lifetime-eq0-clause-stands
 returns-then-lifetime-eq0-clause-stands g c =
     let key = number_of c.args.source.0 in
-    subst (λ (w : ℕ). GainsRow c.args.self.now (record { entries = c.announce.new.entries.items; failed = c.forget.new.failed.items }) (Heard c.args.now key w)) (sym c.if-lifetime-eq0.true)
+    subst (λ (w : ℕ). GainsRow c.args.self.now (record { limit = c.self.inside.limit; entries = c.announce.new.entries.items; failed = c.forget.new.failed.items }) (Heard c.args.now key w)) (sym c.if-lifetime-eq0.true)
     (gains_removed c.args.self.now _ c.args.now key c.requires.settled
     (c.announce.ensures.items ∙ (ap (λ w. announced same c.args.now key w c.self.inside.entries.items) (c.from.ensures ∙ c.if-lifetime-eq0.true) ∙ ap (λ t. announced same c.args.now key 0 t.entries) c.self.view_is))
     (c.forget.ensures.items ∙ ap (λ t. others key t.failed) c.self.view_is))
