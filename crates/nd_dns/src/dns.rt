@@ -44,7 +44,6 @@ impl<A: Allocator> Model for Dns<A> {
 
 impl<A: Allocator + Clone> Dns<A> {
     ghost use Rattle.nd_dns.specs.Dns.{Stands};
-    ghost use Rattle.nd_dns.specs.Names.{same_name};
 
     /// Nothing heard, with room for 32 servers and for 32 names. All of it is reserved here; the error is want of memory.
     pub fn new(alloc: A) -> Result<Self, AllocError>
@@ -59,6 +58,11 @@ impl<A: Allocator + Clone> Dns<A> {
             names,
         })
     }
+}
+
+impl<A: Allocator> Dns<A> {
+    ghost use Rattle.nd_dns.specs.Dns.{Stands};
+    ghost use Rattle.nd_dns.specs.Names.{same_name};
 
     /// The servers that stand at a moment, with their ends, both in milliseconds, in the order in which they came.
     pub fn servers(&self, now: u64) -> Standing<'_, Addr>

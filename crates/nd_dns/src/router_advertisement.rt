@@ -16,7 +16,7 @@ use nd_decode::Options;
 use nd_lifetime::{Lasting, Limit, TableRefusal, announce_all, fits_all};
 use std::alloc::Allocator;
 
-impl<A: Allocator + Clone> Dns<A> {
+impl<A: Allocator> Dns<A> {
     ghost use Rattle.nd_dns.specs.Dns.{max_servers, max_names, Stands, after, new_names};
     ghost use Rattle.nd_dns.specs.Servers.{servers_told};
     ghost use Rattle.nd_dns.specs.Names.{same_name, names_told};
@@ -41,28 +41,6 @@ impl<A: Allocator + Clone> Dns<A> {
     {
         let told = AnnouncedNames::new(options);
         fits_all(&self.names, MAX_NAMES, now, told)
-    }
-
-    /// Copies the search names that they add, each as often as it enters: the one thing for which hearing them takes memory. The errors
-    /// are that there is no room for the names that they tell, before anything is copied, and want of memory. Where they add none it
-    /// takes no memory.
-    pub fn names(&self, now: u64, options: Options<'_>) -> Result<NewNames<A>, TableRefusal>
-        ensures value { IfOk result (λ names. names ≡ new_names now (options_left options.entry) self.now) }
-
-        // There is no room exactly where the names, taken in order, are too many at some point.
-        ensures full { IsErrAnd result (λ refusal. refusal ≡ TableRefusal.Full Limit.Names) ↔ (fits same_name max_names now (names_told (options_left options.entry)) self.now.names ≡ false) }
-        ensures refusal { IfErr result (λ refusal. (refusal ≡ TableRefusal.Full Limit.Names) ⊎ (refusal ≡ TableRefusal.Memory)) }
-
-        // Where no name is added nothing refuses, whatever memory there is.
-        ensures quiet { new_names now (options_left options.entry) self.now ≡ [] → IsOk result }
-    {
-        if !self.fits_names(now, options) {
-            return Err(TableRefusal::Full(Limit::Names));
-        }
-        match copies(&self.alloc, &self.names, now, AnnouncedNames::new(options)) {
-            Ok(names) => Ok(names),
-            Err(_) => Err(TableRefusal::Memory),
-        }
     }
 
     /// The options of a Router Advertisement are heard at a moment in milliseconds, in order, with the names that they add (RFC 8106,
@@ -97,5 +75,32 @@ impl<A: Allocator + Clone> Dns<A> {
         let told_names = AnnouncedNames::new(options);
         announce_names(&mut self.names, MAX_NAMES, now, told_names, names);
         Ok(())
+    }
+}
+
+impl<A: Allocator + Clone> Dns<A> {
+    ghost use Rattle.nd_dns.specs.Dns.{max_names, new_names};
+    ghost use Rattle.nd_dns.specs.Names.{same_name, names_told};
+
+    /// Copies the search names that they add, each as often as it enters: the one thing for which hearing them takes memory. The errors
+    /// are that there is no room for the names that they tell, before anything is copied, and want of memory. Where they add none it
+    /// takes no memory.
+    pub fn names(&self, now: u64, options: Options<'_>) -> Result<NewNames<A>, TableRefusal>
+        ensures value { IfOk result (λ names. names ≡ new_names now (options_left options.entry) self.now) }
+
+        // There is no room exactly where the names, taken in order, are too many at some point.
+        ensures full { IsErrAnd result (λ refusal. refusal ≡ TableRefusal.Full Limit.Names) ↔ (fits same_name max_names now (names_told (options_left options.entry)) self.now.names ≡ false) }
+        ensures refusal { IfErr result (λ refusal. (refusal ≡ TableRefusal.Full Limit.Names) ⊎ (refusal ≡ TableRefusal.Memory)) }
+
+        // Where no name is added nothing refuses, whatever memory there is.
+        ensures quiet { new_names now (options_left options.entry) self.now ≡ [] → IsOk result }
+    {
+        if !self.fits_names(now, options) {
+            return Err(TableRefusal::Full(Limit::Names));
+        }
+        match copies(&self.alloc, &self.names, now, AnnouncedNames::new(options)) {
+            Ok(names) => Ok(names),
+            Err(_) => Err(TableRefusal::Memory),
+        }
     }
 }

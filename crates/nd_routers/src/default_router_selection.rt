@@ -19,7 +19,7 @@ pub struct Listed {
     pub failed: Option<u64>,
 }
 
-impl<A: Allocator + Clone> Routers<A> {
+impl<A: Allocator> Routers<A> {
     ghost use Rattle.nd_routers.specs.History.{RouterRow, Failed};
     ghost use Rattle.nd_routers.specs.Routers.{Stands, GainsRow, keys};
     ghost use Rattle.nd_routers.specs.DefaultRouterSelection.{place_among, FailsAt};

@@ -14,7 +14,7 @@ use nd_lifetime::{Lasting, has, remove, stands};
 use nd_table::{compare, is_at, next_date};
 use std::alloc::Allocator;
 
-impl<A: Allocator + Clone> Routers<A> {
+impl<A: Allocator> Routers<A> {
     ghost use Rattle.nd_routers.specs.History.{RouterRow, LeftList, announcements};
     ghost use Rattle.nd_routers.specs.Routers.{same, Stands, GainsRow, next_end, IsSettled, NoneBefore};
     ghost use Rattle.nd_routers.specs.Due.{FirstDue, NextDue};

@@ -15,7 +15,7 @@ use nd_lifetime::{Lasting, Standing};
 use nd_table::lesser;
 use std::alloc::Allocator;
 
-impl<A: Allocator + Clone> Prefixes<A> {
+impl<A: Allocator> Prefixes<A> {
     ghost use Rattle.nd_routers.specs.OnLink.{least_end, is_held};
 
     /// Whether an address is on the link at a moment, in milliseconds: in a prefix that stands, or in fe80::/64 (RFC 4861, section 5.2).

@@ -13,7 +13,7 @@ use nd_decode::{OptionRef, Options, PrefixInfo};
 use nd_lifetime::{Announces, Limit, TableRefusal, announce_all, fits_all};
 use std::alloc::Allocator;
 
-impl<A: Allocator + Clone> Prefixes<A> {
+impl<A: Allocator> Prefixes<A> {
     ghost use Rattle.nd_routers.specs.PrefixOptions.{prefixes_in};
 
     /// Whether there is room for what the options of a Router Advertisement announce at a moment in milliseconds, taken in order: where it

@@ -36,7 +36,7 @@ impl<A: Allocator> Model for Prefixes<A> {
     ghost invariant = { λ p. (vec_len p.entries ≤ max_prefixes) × (max_prefixes ≤ vec_capacity p.entries) × Distinct same_prefix p.entries.items };
 }
 
-impl<A: Allocator + Clone> Prefixes<A> {
+impl<A: Allocator> Prefixes<A> {
     /// No prefixes, with room for 64. All of it is reserved here; the error is want of memory.
     pub fn new(alloc: A) -> Result<Self, AllocError>
         ensures empty { IfOk result (λ prefixes. prefixes ≡ []) }

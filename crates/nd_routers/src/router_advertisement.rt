@@ -26,7 +26,7 @@ pub enum Change {
     Nothing,
 }
 
-impl<A: Allocator + Clone> Routers<A> {
+impl<A: Allocator> Routers<A> {
     ghost use Rattle.nd_routers.specs.History.{RouterRow, Heard, announcements};
     ghost use Rattle.nd_routers.specs.Routers.{same, Stands, GainsRow, IsSettled};
     ghost use Rattle.nd_routers.specs.RouterAdvertisement.{change_of};

@@ -35,8 +35,8 @@ impl<A: Allocator> Model for Routers<A> {
 }
 
 impl<A: Allocator + Clone> Routers<A> {
-    ghost use Rattle.nd_routers.specs.History.{RouterRow, announcements};
-    ghost use Rattle.nd_routers.specs.Routers.{max_routers, same, Stands, then_left, keys};
+    ghost use Rattle.nd_routers.specs.History.{RouterRow};
+    ghost use Rattle.nd_routers.specs.Routers.{max_routers, Stands, then_left, keys};
 
     /// No routers, with room for so many, at most 16. All of it is reserved here; the error is want of memory.
     pub fn new(alloc: A, limit: usize) -> Result<Self, AllocError>
@@ -53,6 +53,25 @@ impl<A: Allocator + Clone> Routers<A> {
         })
     }
 
+    /// All routers leave the list. They are handed out in the order in which they came. The error is want of memory, and then none has
+    /// left.
+    pub fn clear(&mut self) -> Result<Vec<Addr, A>, AllocError>
+        ensures routers { IfOk result (λ routers. map (λ a. number_of a.0) routers.items ≡ keys self.old.entries) }
+        ensures stands { OnOk result ((at : ℕ) (history : List RouterRow) → Stands self.old history → Stands self.new (then_left at (keys self.old.entries) history)) }
+        ensures none { OnOk result (self.new ≡ record { limit = self.old.limit; entries = []; failed = [] }) }
+        ensures same { OnErr result (self.new ≡ self.old) }
+    {
+        let routers = addresses(&self.entries)?;
+        self.entries.clear();
+        self.failed.clear();
+        Ok(routers)
+    }
+}
+
+impl<A: Allocator> Routers<A> {
+    ghost use Rattle.nd_routers.specs.History.{RouterRow, announcements};
+    ghost use Rattle.nd_routers.specs.Routers.{max_routers, same, Stands};
+
     /// Whether a router is in the list at a moment, in milliseconds.
     pub fn holds(&self, now: u64, source: Addr) -> bool
         ensures value { result ≡ is_some (end_in same (number_of source.0) (open_at now self.now.entries)) }
@@ -67,20 +86,6 @@ impl<A: Allocator + Clone> Routers<A> {
         ensures lists { (history : List RouterRow) → Stands self.now history → Lists same (announcements history) now (standing_left result) }
     {
         Standing::new(&self.entries, now)
-    }
-
-    /// All routers leave the list. They are handed out in the order in which they came. The error is want of memory, and then none has
-    /// left.
-    pub fn clear(&mut self) -> Result<Vec<Addr, A>, AllocError>
-        ensures routers { IfOk result (λ routers. map (λ a. number_of a.0) routers.items ≡ keys self.old.entries) }
-        ensures stands { OnOk result ((at : ℕ) (history : List RouterRow) → Stands self.old history → Stands self.new (then_left at (keys self.old.entries) history)) }
-        ensures none { OnOk result (self.new ≡ record { limit = self.old.limit; entries = []; failed = [] }) }
-        ensures same { OnErr result (self.new ≡ self.old) }
-    {
-        let routers = addresses(&self.entries)?;
-        self.entries.clear();
-        self.failed.clear();
-        Ok(routers)
     }
 
     /// How many routers there are whose end hasn't been told.
