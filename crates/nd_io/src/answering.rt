@@ -1,7 +1,7 @@
 //! What answers lines, one after the other.
 
 ghost use Rattle.nd_io.specs.Lines.{longest_line};
-ghost use Rattle.std.specs.Prelude.{◌≡◌, ◌≤◌, ◌<◌, ◌++◌, ◌∷◌, ℕ, List, Option, [], Some, None, length, string_bytes, OnOk, IsErrOf};
+ghost use Rattle.std.specs.Prelude.{◌≡◌, ◌≤◌, ◌<◌, ℕ, List, Option, length, string_bytes, OnOk, IsErrOf};
 ghost use Rattle.nd_io.specs.Answers.{Tells, EndsWell, IsMalformed};
 
 use std::alloc::Allocator;
@@ -31,7 +31,7 @@ pub trait Answering {
         ensures malformed { IsErrOf result Unanswered.Malformed → IsMalformed (texts self.old) line.now }
         ensures text_kept { IsErrOf result Unanswered.Malformed → string_bytes text.new ≡ string_bytes text.old };
 
-    /// No line has no text.
+    /// No lines have the empty text, and none of them is malformed.
     ghost no_lines: { (answering : Self) → EndsWell (texts answering) };
 
     /// A line that is too long is malformed.

@@ -1,7 +1,7 @@
 //! Answers that depend on one line alone.
 
 ghost use Rattle.nd_io.specs.Lines.{longest_line};
-ghost use Rattle.std.specs.Prelude.{◌≡◌, ◌≢◌, ◌≤◌, ◌^◌, ◌++◌, ◌⊎◌, ℕ, List, Option, None, Some, Err, length, string_bytes, OnOk, OnErr, IsErrOf, IsSomeAnd, refl};
+ghost use Rattle.std.specs.Prelude.{◌≡◌, ◌≢◌, ◌≤◌, ◌++◌, ◌⊎◌, ℕ, List, Option, None, Some, Err, length, string_bytes, OnOk, OnErr, IsErrOf, IsSomeAnd, refl};
 ghost use Rattle.nd_io.specs.Answers.{Only};
 ghost use Rattle.nd_io.specs.Counts.{HasRisen, HasGrownBy, most_reads};
 ghost use Rattle.nd_io.specs.Each.{text_of_each, malformed_of_each};

@@ -1,6 +1,6 @@
 //! The run over all lines of an input.
 
-ghost use Rattle.std.specs.Prelude.{◌≡◌, ◌≢◌, ◌≤◌, ◌<◌, ◌^◌, ◌∷◌, ◌⊎◌, ℕ, [], None, Some, Err, length, string_bytes, OnOk, OnErr, IsErrOf};
+ghost use Rattle.std.specs.Prelude.{◌≡◌, ◌≢◌, ◌≤◌, ◌<◌, ◌∷◌, ◌⊎◌, ℕ, [], None, Some, Err, length, string_bytes, OnOk, OnErr, IsErrOf};
 ghost use Rattle.nd_io.specs.Counts.{HasRisen, HasGrownBy, most_reads};
 ghost use Rattle.nd_io.specs.Lines.{lines_of, longest_line};
 ghost use Rattle.nd_io.specs.Told.{TellsLines, TellsFirst, TellsAll, TellsFront, TellsAsRead};
