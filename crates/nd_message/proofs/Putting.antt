@@ -31,3 +31,9 @@ pub ends : {A : Type 0} (old now : Vec ℕ A) (left all : List ℕ) → left ≡
 ends old now left all none h =
     let items : now.items ≡ old.items ++ all = sym (append-nil now.items) ∙ ap (λ (xs : List ℕ). now.items ++ xs) (sym none) ∙ h.items in
     (items, omega (arith, h.len, ap length none), h.capacity)
+
+-- two, one behind the other
+pub puts_both : {A : Type 0} (old now new : Vec ℕ A) (first second : List ℕ) → Puts old now first → Puts now new second → Puts old new (first ++ second)
+puts_both old now new first second p q =
+    let items : new.items ≡ old.items ++ (first ++ second) = q.0 ∙ ap (λ (xs : List ℕ). xs ++ second) p.0 ∙ append_assoc old.items first second in
+    (items, omega (arith, p.1, q.1, length-append first second), omega (arith, p.2, q.2))
