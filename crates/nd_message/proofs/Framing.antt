@@ -1,6 +1,7 @@
 -- The frame of a message is its headers and the message, and carries it.
-use Rattle.std.proofs.Common.{◌≡◌, ℕ, List, [], ◌++◌, length, sym, ap, subst, ◌∙◌, arith}
-use Rattle.std.proofs.lemmas.List.{append-nil}
+use Rattle.std.proofs.Common.{◌≡◌, ℕ, List, [], ◌++◌, length, sym, ap, subst, ◌∙◌, arith, ◌∷◌, drop, append_assoc, ◌+◌}
+use Rattle.std.proofs.lemmas.List.{append-nil, length-append, length-drop, drop_at, drop-drop}
+use Rattle.byteorder.specs.Endian.{big_number}
 use Rattle.nd_addr.specs.declared.addr.Addr.{Addr}
 use Rattle.nd_addr.specs.declared.mac.Mac.{Mac}
 use Rattle.nd_addr.specs.declared.ip6.Ip6.{Ip6}
@@ -49,3 +50,29 @@ unfolding message_frame
 frame_carries to from source destination m t f s d w =
     let h = framed to.0 from.0 (written_packet (message_header source destination) (written_message source destination m)) t f in
     record { ethernet = h.long; ipv6 = h.ipv6; packet = subst (λ (packet : List ℕ). HoldsMessage packet source destination m) (sym h.behind) (packet_holds source destination m s d w) }
+
+-- ---- another Ethernet destination
+
+-- what stands behind the destination of a frame
+behind_destination : (to from packet : List ℕ) → to ++ from ++ (0x86 ∷ 0xdd ∷ []) ++ packet ≡ to ++ (from ++ (0x86 ∷ 0xdd ∷ packet))
+behind_destination to from packet = append_assoc (to ++ from) (0x86 ∷ 0xdd ∷ []) packet ∙ append_assoc to from (0x86 ∷ 0xdd ∷ packet)
+
+pub readdressed : (to any from : Mac) (source destination : Addr) (m : Parts) → length any.0 ≡ 6
+    → to.0 ++ drop 6 (message_frame any from source destination m) ≡ message_frame to from source destination m
+unfolding message_frame
+readdressed to any from source destination m a =
+    let packet = written_packet (message_header source destination) (written_message source destination m) in
+    ap (λ (xs : List ℕ). to.0 ++ drop 6 xs) (behind_destination any.0 from.0 packet)
+    ∙ ap (λ (xs : List ℕ). to.0 ++ xs) (drop_at any.0 (from.0 ++ (0x86 ∷ 0xdd ∷ packet)) 6 a)
+    ∙ sym (behind_destination to.0 from.0 packet)
+
+-- what stands further behind stays
+behind_same : (n : ℕ) (to frame : List ℕ) → length to ≡ 6 → drop (6 + n) (to ++ drop 6 frame) ≡ drop (6 + n) frame
+behind_same n to frame t = sym (drop-drop n 6 (to ++ drop 6 frame)) ∙ ap (drop n) (drop_at to (drop 6 frame) 6 t) ∙ drop-drop n 6 frame
+
+pub readdressed_carries : (to : Mac) (frame : List ℕ) (source destination : Addr) (m : Parts) → length to.0 ≡ 6 → Carries frame source destination m → Carries (to.0 ++ drop 6 frame) source destination m
+readdressed_carries to frame source destination m t h = record {
+  ethernet = omega (arith, t, h.ethernet, length-append to.0 (drop 6 frame), length-drop 6 frame);
+  ipv6 = ap (big_number 2) (behind_same 6 to.0 frame t) ∙ h.ipv6;
+  packet = subst (λ (packet : List ℕ). HoldsMessage packet source destination m) (sym (behind_same 8 to.0 frame t)) h.packet;
+}
