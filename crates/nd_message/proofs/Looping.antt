@@ -71,10 +71,6 @@ whole_length len body items i past h =
     let nothing : length (flat_map piece_of (map said (drop i items))) ≡ 0 = rw (drop_all i items past) refl in
     omega (arith, h, nothing, length-append (fields_of 0 body) (flat_map piece_of (map said items)))
 
--- where the options end, none is left
-pub none_left : {A : Type 0} (items : List (Opt A)) (i : ℕ) → length items ≤ i → flat_map piece_of (map said (drop i items)) ≡ []
-none_left items i past = rw (drop_all i items past) refl
-
 -- with the fields put, the pieces of all options are what is left
 pub fields_first : (m : Parts) → spelling 0 m ≡ fields_of 0 m.body ++ flat_map piece_of m.options
 unfolding spelling
