@@ -5,3 +5,4 @@ pub mod Options
 pub mod MessageType
 pub mod Message
 pub mod Decoding
+pub mod Carried

@@ -22,6 +22,9 @@ pub const ICMPV6_NEIGHBOR_ADVERTISEMENT: u8 = 136;
 /// The ICMPv6 type of a Redirect (RFC 4861, section 4.5).
 pub const ICMPV6_REDIRECT: u8 = 137;
 
+/// The hop limit of every message of Neighbor Discovery: no router can have sent it on (RFC 4861, section 3.1).
+pub const HOP_LIMIT: u8 = 255;
+
 /// How many bytes a Router Solicitation has in front of its options (RFC 4861, section 4.1). It has no fields.
 pub const ROUTER_SOLICITATION_LENGTH: usize = 8;
 

@@ -12,7 +12,7 @@ use Rattle.nd_decode.specs.declared.body.Body.{Body}
 use Rattle.nd_decode.specs.declared.body.Body.TheVariants as bodies
 use Rattle.nd_decode.specs.Option.{Said, slla, tlla, prefix, redirected, mtu, rdnss, dnssl, other, IsPiece, SaysKnown, Says, known_of, mac_of, prefix_of}
 use Rattle.nd_decode.specs.Options.{SpellsOptions}
-use Rattle.nd_decode.specs.Message.{Parts, Spells, HasKnownKind, HasBody, HasFields, behind_fields, least_length, router_advertisement_of}
+use Rattle.nd_decode.specs.Message.{Parts, Spells, HasBody, HasFields, behind_fields, least_length, router_advertisement_of}
 use Rattle.nd_message.specs.Spelling.{flags_of, three_flags_of, other_piece, piece_of, fields_of, spelling}
 use Rattle.nd_message.specs.WellFormed.{IsWellFormed}
 use Rattle.nd_message.specs.Fitting.{IsOther, FitsRedirected, FitsPrefix, FitsOption, FitsRouterAdvertisement, FitsBody, FitsBehind}
@@ -191,22 +191,6 @@ fits_of m w =
 -- bytes that are the spelling of a well-formed message spell it, whatever the sum
 pub spelled_as : (m : Parts) (bytes : List ℕ) (x : ℕ) → IsWellFormed m → bytes ≡ spelling x m → Spells bytes m
 spelled_as m bytes x w e = let f = fits_of m w in subst (λ (bs : List ℕ). Spells bs m) (sym e) (spelling_spells x m f.body f.behind.each)
-
--- what spells a message begins with a known type
-pub spelled_known : (bytes : List ℕ) (m : Parts) → Spells bytes m → HasKnownKind bytes
-spelled_known bytes m s = by_body m.body s.body
-  where
-    made : (kind : ℕ) → slice_index bytes 0 ≡ kind → 8 ≤ least_length kind → 133 ≤ kind → kind ≤ 137 → HasKnownKind bytes
-    made kind e some least most =
-        let long : least_length kind ≤ length bytes = subst (λ (k : ℕ). least_length k ≤ length bytes) e s.fields.long in
-        record { some = omega (arith, long, some); least = rw e least; most = rw e most }
-
-    by_body : (b : Body) → HasBody bytes b → HasKnownKind bytes
-    by_body bodies.Rs h = made 133 h (omega arith) (omega arith) (omega arith)
-    by_body (bodies.Ra r) h = made 134 h.0 (omega arith) (omega arith) (omega arith)
-    by_body (bodies.Ns n) h = made 135 h.0 (omega arith) (omega arith) (omega arith)
-    by_body (bodies.Na n) h = made 136 h.0 (omega arith) (omega arith) (omega arith)
-    by_body (bodies.Redirect r) h = made 137 h.0 (omega arith) (omega arith) (omega arith)
 
 pub length-fields_of : (x : ℕ) (b : Body) → length (fields_of x b) ≡ length (fields_of 0 b)
 length-fields_of x bodies.Rs = refl

@@ -5,3 +5,4 @@ pub mod Formed
 pub mod Looping
 pub mod Putting
 pub mod Written
+pub mod Framing

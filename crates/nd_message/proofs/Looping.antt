@@ -38,11 +38,11 @@ next_behind len more items i x lt is f m =
     subst (λ (os : List Said). FitsBehind (len + more) (map said (drop (i + 1) items)) ↔ FitsBehind len os) (sym (next_seen said items i x lt is)) (fits_step len more (said x) (map said (drop (i + 1) items)) f m)
 
 -- the next piece is what the length lacks less
-pub next_left : {A : Type 0} (len more : ℕ) (items : List (Opt A)) (i : ℕ) (x : Opt A) → i < length items → x ≡ get_or items i x → more ≡ length (piece_of (said x))
-    → len + more + length (flat_map piece_of (map said (drop (i + 1) items))) ≡ len + length (flat_map piece_of (map said (drop i items)))
-next_left len more items i x lt is m =
-    let all = length-append (piece_of (said x)) (flat_map piece_of (map said (drop (i + 1) items))) in
-    rw (next_seen said items i x lt is) (omega (arith, all, m))
+pub next_left : {A : Type 0} (len more total : ℕ) (items : List (Opt A)) (i : ℕ) (x : Opt A) → i < length items → x ≡ get_or items i x → more ≡ length (piece_of (said x))
+    → len + length (flat_map piece_of (map said (drop i items))) ≡ total → len + more + length (flat_map piece_of (map said (drop (i + 1) items))) ≡ total
+next_left len more total items i x lt is m h =
+    let pieces = ap (λ (os : List Said). length (flat_map piece_of os)) (next_seen said items i x lt is) in
+    omega (arith, h, m, pieces, length-append (piece_of (said x)) (flat_map piece_of (map said (drop (i + 1) items))))
 
 -- a piece has at most 255 units of 8 bytes
 pub piece_short : (o : Said) (more : ℕ) → FitsOption o → more ≡ length (piece_of o) → more ≤ 2040
@@ -70,10 +70,6 @@ unfolding spelling
 whole_length len body items i past h =
     let nothing : length (flat_map piece_of (map said (drop i items))) ≡ 0 = rw (drop_all i items past) refl in
     omega (arith, h, nothing, length-append (fields_of 0 body) (flat_map piece_of (map said items)))
-
--- where the options end, none is left
-pub none_left : {A : Type 0} (items : List (Opt A)) (i : ℕ) → length items ≤ i → flat_map piece_of (map said (drop i items)) ≡ []
-none_left items i past = rw (drop_all i items past) refl
 
 -- with the fields put, the pieces of all options are what is left
 pub fields_first : (m : Parts) → spelling 0 m ≡ fields_of 0 m.body ++ flat_map piece_of m.options

@@ -1,7 +1,7 @@
 -- Pieces that are put one behind the other, into room for all of them.
-use Rattle.std.proofs.Common.{◌≡◌, ℕ, ◌+◌, ◌≤◌, List, [], ◌++◌, length, vec_len, vec_capacity, refl, sym, ap, ◌∙◌, arith, append_assoc}
+use Rattle.std.proofs.Common.{◌≡◌, ℕ, ◌+◌, ◌≤◌, List, ◌++◌, length, vec_len, vec_capacity, refl, ap, ◌∙◌, arith, append_assoc}
 use Rattle.std.specs.declared.vec.Vec.{Vec}
-use Rattle.std.proofs.lemmas.List.{length-append, append-nil}
+use Rattle.std.proofs.lemmas.List.{length-append}
 use Rattle.nd_addr.specs.Room.{HasRoom, Puts}
 
 -- so many were put that those that are left make up all, and no room was given up
@@ -26,8 +26,8 @@ goes_on old now new piece left all h p = record {
   capacity = omega (arith, p.2, h.capacity);
 }
 
--- none is left
-pub ends : {A : Type 0} (old now : Vec ℕ A) (left all : List ℕ) → left ≡ [] → IsPutting old now left all → Puts old now all
-ends old now left all none h =
-    let items : now.items ≡ old.items ++ all = sym (append-nil now.items) ∙ ap (λ (xs : List ℕ). now.items ++ xs) (sym none) ∙ h.items in
-    (items, omega (arith, h.len, ap length none), h.capacity)
+-- two, one behind the other
+pub puts_both : {A : Type 0} (old now new : Vec ℕ A) (first second : List ℕ) → Puts old now first → Puts now new second → Puts old new (first ++ second)
+puts_both old now new first second p q =
+    let items : new.items ≡ old.items ++ (first ++ second) = q.0 ∙ ap (λ (xs : List ℕ). xs ++ second) p.0 ∙ append_assoc old.items first second in
+    (items, omega (arith, p.1, q.1, length-append first second), omega (arith, p.2, q.2))

@@ -4,8 +4,10 @@ pub use Rattle.nd_decode.specs.Pieces
 pub use Rattle.nd_decode.specs.Options
 pub use Rattle.nd_decode.specs.Message
 pub use Rattle.nd_decode.specs.Decoding
+pub use Rattle.nd_decode.specs.Carried
 pub mod Owned
 pub mod Spelling
+pub mod Frame
 pub mod WellFormed
 pub mod Fitting
 pub mod Rdnss

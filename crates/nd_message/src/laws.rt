@@ -1,10 +1,13 @@
 //! Laws of the definitions, each the contract of a function that does nothing.
 
-ghost use Rattle.std.specs.Prelude.{◌≡◌, ◌≤◌, ◌↔◌, length};
+ghost use Rattle.std.specs.Prelude.{◌≡◌, ◌≤◌, ◌↔◌, ◌++◌, ℕ, List, length, drop};
 ghost use Rattle.nd_addr.specs.Checksum.{IsGoodSum};
 ghost use Rattle.nd_addr.specs.declared.addr.Addr.{Addr};
+ghost use Rattle.nd_addr.specs.declared.mac.Mac.{Mac};
 ghost use Rattle.nd_decode.specs.Message.{Parts, Spells};
+ghost use Rattle.nd_decode.specs.Carried.{Carries};
 ghost use Rattle.nd_message.specs.Fitting.{FitsBody, FitsBehind};
+ghost use Rattle.nd_message.specs.Frame.{message_frame};
 ghost use Rattle.nd_message.specs.Spelling.{fields_of, written_length, written_message};
 ghost use Rattle.nd_message.specs.WellFormed.{IsWellFormed};
 
@@ -20,4 +23,18 @@ pub fn written_as_meant()
 /// A message is well formed exactly where its fields and its options keep to what each of them has to, and are short enough together.
 pub fn well_formed_by_parts()
     ensures { (message : Parts) → IsWellFormed message ↔ (FitsBody message.body × FitsBehind (length (fields_of 0 message.body)) message.options) }
+{}
+
+/// The frame of a well-formed message carries it, from its source to its destination.
+pub fn written_frame_carries()
+    ensures { (to from : Mac) (source destination : Addr) (message : Parts) → length to.0 ≡ 6 → length from.0 ≡ 6 → length source.0 ≡ 16 → length destination.0 ≡ 16
+        → IsWellFormed message → Carries (message_frame to from source destination message) source destination message }
+{}
+
+/// A frame whose Ethernet destination is set anew is the frame to that address, and carries the same message.
+pub fn readdressed_frame_carries_the_same()
+    ensures frame { (to any from : Mac) (source destination : Addr) (message : Parts) → length any.0 ≡ 6
+        → to.0 ++ drop 6 (message_frame any from source destination message) ≡ message_frame to from source destination message }
+    ensures carried { (to : Mac) (frame : List ℕ) (source destination : Addr) (message : Parts) → length to.0 ≡ 6
+        → Carries frame source destination message → Carries (to.0 ++ drop 6 frame) source destination message }
 {}

@@ -6,6 +6,7 @@ mod dnssl;
 mod encoding;
 mod fields;
 mod flags;
+mod frame;
 pub mod laws;
 mod length;
 mod link_layer_address;
@@ -24,11 +25,12 @@ mod router_advertisement;
 mod router_solicitation;
 
 pub use encoding::{encode, put_message};
+pub use frame::put_frame;
 pub use length::written_length;
 pub use message::Message;
 pub use name::Name;
 pub use nd_decode::{
-    Body, ICMPV6_NEIGHBOR_ADVERTISEMENT, ICMPV6_NEIGHBOR_SOLICITATION, ICMPV6_REDIRECT,
+    Body, HOP_LIMIT, ICMPV6_NEIGHBOR_ADVERTISEMENT, ICMPV6_NEIGHBOR_SOLICITATION, ICMPV6_REDIRECT,
     ICMPV6_ROUTER_ADVERTISEMENT, ICMPV6_ROUTER_SOLICITATION, MessageRef, MessageType, NameRef,
     Names, NeighborAdvertisement, NeighborSolicitation, OPTION_DNS_SEARCH_LIST, OPTION_MTU,
     OPTION_PREFIX_INFORMATION, OPTION_RECURSIVE_DNS_SERVER, OPTION_REDIRECTED_HEADER,

@@ -1,5 +1,5 @@
 use super::*;
-use nd_addr::{Addr, Mac, Prefix};
+use nd_addr::{Addr, HEADERS_LENGTH, Mac, Prefix};
 use std::alloc::Global;
 use std::test::*;
 
@@ -133,6 +133,38 @@ fn puts_a_message_behind_other_bytes(rt: HostRuntime) -> Result<(), Fail> {
     assert_eq!(rt; out.len(), 27);
     assert_eq!(rt; out.get(..3).ok_or("what stood there")?, &[1, 2, 3][..]);
     assert_eq!(rt; out.get(3..).ok_or("the message")?, &SOLICITATION[..]);
+    Ok(())
+}
+
+/// What stands in front of that solicitation in its frame: to 33:33:ff:9a:bc:de from 34:56:78:9a:bc:de, and to ff02::1:ff9a:bcde
+/// from ::.
+const SOLICITATION_HEADERS: [u8; 54] = [
+    0x33, 0x33, 0xff, 0x9a, 0xbc, 0xde, 0x34, 0x56, 0x78, 0x9a, 0xbc, 0xde, 0x86, 0xdd, 0x60, 0x00,
+    0x00, 0x00, 0x00, 0x18, 0x3a, 0xff, 0x00, 0x00, 0x00, 0x00, 0x00, 0x00, 0x00, 0x00, 0x00, 0x00,
+    0x00, 0x00, 0x00, 0x00, 0x00, 0x00, 0xff, 0x02, 0x00, 0x00, 0x00, 0x00, 0x00, 0x00, 0x00, 0x00,
+    0x00, 0x01, 0xff, 0x9a, 0xbc, 0xde,
+];
+
+#[test]
+fn puts_a_frame(rt: HostRuntime) -> Result<(), Fail> {
+    let body = Body::Ns(NeighborSolicitation { target: TARGET });
+    let options: Vec<Opt<Global>> = Vec::new(rt.alloc());
+    let Some(length) = written_length(&body, &options) else {
+        return Err("a length")?;
+    };
+    let mut out = Vec::with_capacity(rt.alloc(), HEADERS_LENGTH + length)?;
+    put_frame(
+        &mut out,
+        Mac::multicast(SOLICITED_NODE),
+        Mac([0x34, 0x56, 0x78, 0x9a, 0xbc, 0xde]),
+        Addr::UNSPECIFIED,
+        SOLICITED_NODE,
+        &body,
+        &options,
+    );
+    assert_eq!(rt; out.len(), 78);
+    assert_eq!(rt; out.get(..54).ok_or("headers")?, &SOLICITATION_HEADERS[..]);
+    assert_eq!(rt; out.get(54..).ok_or("message")?, &SOLICITATION[..]);
     Ok(())
 }
 

@@ -12,9 +12,9 @@ use Rattle.nd_decode.specs.declared.body.Body.TheVariants as bodies
 use Rattle.nd_decode.specs.Message.{Parts, Spells, IsRefused}
 use Rattle.nd_decode.specs.Decoding.{decode_of}
 use Rattle.nd_decode.proofs.Deciding.{IsDecided, spells, refuses, decides, decode_spelled, decode_refused}
-use Rattle.nd_validity.specs.Places.{header_in, payload_in, parts_in, IsMessage}
+use Rattle.nd_addr.specs.Places.{header_in, payload_in, parts_in}
 use Rattle.nd_validity.specs.Validity.{has_fault, faults, fault_of, is_not_for}
-use Rattle.nd_validity.specs.Reasons.{IsMisspelled, IsFaulty, IsNotFor, IsReason, order, IsFirstOf, NoneOf}
+use Rattle.nd_validity.specs.Reasons.{IsMessage, IsMisspelled, IsFaulty, IsNotFor, IsReason, order, IsFirstOf, NoneOf}
 use Rattle.nd_validity.specs.Hearing.{Outcome, valid, other, dropped, Hears, is_message, has_good_sum, unless, outcome_of_message, outcome_of_packet, hearing_in_some_role, taken_by, hearing_of, HearsInSomeRole}
 use Rattle.nd_validity.proofs.Order.{first_one, first_not_none, first_of_all, first_front, first_back, none_joined, AreTested, first_tested, none_tested}
 use Rattle.nd_validity.proofs.Frames.{frame_reasons, IsFramed, no_packet, packet, framed, message_is, is_tested}
@@ -33,7 +33,7 @@ good_sum_is s d message e =
     let t = and_parts (ltb 0 (total s.0 d.0 message)) (eqb (total s.0 d.0 message % 65535) 0) e in
     (ltb-true _ _ t.0, eqb-true _ _ t.1)
 
-sum_tested : (s d : Addr) (message : List ℕ) → IsGoodSum s.0 d.0 message → has_good_sum s d message ≡ true
+pub sum_tested : (s d : Addr) (message : List ℕ) → IsGoodSum s.0 d.0 message → has_good_sum s d message ≡ true
 sum_tested s d message h = and_from (ltb 0 (total s.0 d.0 message)) (eqb (total s.0 d.0 message % 65535) 0) (lt-ltb _ _ h.0) (eq-eqb _ _ h.1)
 
 -- ---- which reason it is that the bytes spell no message

@@ -10,8 +10,8 @@ use Rattle.nd_addr.specs.Ip6.{packet_of, payload_length_of}
 use Rattle.nd_decode.specs.declared.message_type.MessageType.{MessageType}
 use Rattle.nd_decode.specs.MessageType.{type_number, IsOfType}
 use Rattle.nd_decode.proofs.Types.{none_known, type_known}
-use Rattle.nd_validity.specs.Places.{packet_in, parts_in, IsMessage}
-use Rattle.nd_validity.specs.Reasons.{IsReason, IsFirstOf, NoneOf}
+use Rattle.nd_addr.specs.Places.{packet_in, parts_in}
+use Rattle.nd_validity.specs.Reasons.{IsMessage, IsReason, IsFirstOf, NoneOf}
 use Rattle.nd_validity.specs.Hearing.{Outcome, dropped, outcome_of_packet, outcome_in_frame, hearing_in_some_role, is_message}
 
 -- the reasons of frames and packets

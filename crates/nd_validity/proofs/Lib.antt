@@ -1,3 +1,4 @@
 pub mod Order
 pub mod Frames
 pub mod Deciding
+pub mod Carried

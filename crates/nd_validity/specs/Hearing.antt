@@ -8,13 +8,14 @@ use Rattle.nd_addr.specs.declared.why.Why.TheVariants.{HopLimit, Sum, NotForUs}
 use Rattle.nd_addr.specs.Frame.{FrameParts, frame_of}
 use Rattle.nd_addr.specs.Ip6.{PacketParts, next_header_icmpv6, packet_parts, packet_of}
 use Rattle.nd_addr.specs.Checksum.{total}
+use Rattle.nd_addr.specs.Places.{header_in, payload_in, parts_in}
 use Rattle.nd_decode.specs.Message.{Parts, parts, Spells}
 use Rattle.nd_decode.specs.Decoding.{decode_of}
+use Rattle.nd_decode.specs.Carried.{message_hop_limit}
 use Rattle.nd_validity.specs.declared.hearing.Hearing.{Hearing}
 use Rattle.nd_validity.specs.declared.hearing.Hearing.TheVariants as hearings
-use Rattle.nd_validity.specs.Places.{header_in, payload_in, parts_in, IsMessage}
 use Rattle.nd_validity.specs.Validity.{fault_of, is_not_for}
-use Rattle.nd_validity.specs.Reasons.{IsReason, order, IsFirstOf, NoneOf}
+use Rattle.nd_validity.specs.Reasons.{IsMessage, IsReason, order, IsFirstOf, NoneOf}
 
 -- what is heard, without where its bytes lie
 pub data Outcome : Type 0 where
@@ -65,7 +66,7 @@ outcome_of_message header (Ok message) = unless (fault_of header.source header.d
 abbrev pub outcome_of_packet : PacketParts → Outcome
 outcome_of_packet packet =
     if is_message packet.header packet.payload then
-    (if nat_eq packet.header.hop_limit 255 then
+    (if nat_eq packet.header.hop_limit message_hop_limit then
     (if has_good_sum packet.header.source packet.header.destination packet.payload then outcome_of_message packet.header (decode_of packet.payload) else dropped Sum)
     else dropped HopLimit)
     else other packet

@@ -1,4 +1,3 @@
-pub mod Places
 pub mod Validity
 pub mod Reasons
 pub mod Hearing

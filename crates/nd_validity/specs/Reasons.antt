@@ -5,11 +5,18 @@ use Rattle.byteorder.specs.Endian.{big_number}
 use Rattle.nd_addr.specs.declared.role.Role.{Role}
 use Rattle.nd_addr.specs.declared.why.Why.{Why}
 use Rattle.nd_addr.specs.declared.why.Why.TheVariants.{FrameShort, NotIpv6, HeaderShort, Version, PayloadShort, Code, Length, OptionZero, OptionOver, HopLimit, Sum, Source, Target, UnspecifiedSlla, NotSolicitedNode, SolicitedMulticast, RedirectTarget, RedirectDestination, NotForUs, NotFirstHop}
-use Rattle.nd_addr.specs.Ip6.{payload_length_of}
+use Rattle.nd_addr.specs.declared.ip6.Ip6.{Ip6}
+use Rattle.nd_addr.specs.Ip6.{next_header_icmpv6, payload_length_of}
+use Rattle.nd_addr.specs.Places.{packet_in, header_in, payload_in}
 use Rattle.nd_addr.specs.Checksum.{IsGoodSum}
-use Rattle.nd_decode.specs.Message.{Parts, Spells, IsRefused}
-use Rattle.nd_validity.specs.Places.{packet_in, header_in, payload_in, IsMessage}
+use Rattle.nd_decode.specs.Message.{Parts, Spells, HasKnownKind, IsRefused}
+use Rattle.nd_decode.specs.Carried.{message_hop_limit}
 use Rattle.nd_validity.specs.Validity.{has_fault, is_not_for}
+
+-- the payload is a message of Neighbor Discovery: ICMPv6, whose type is 133 to 137 (RFC 4861, section 4)
+pub record IsMessage (header : Ip6) (payload : List ℕ) : Type 0 where
+  pub icmpv6 : header.next_header ≡ next_header_icmpv6
+  pub kind : HasKnownKind payload
 
 -- the frame is a message, whose bytes spell no message, for this reason (RFC 4861, section 4)
 abbrev pub IsMisspelled : List ℕ → Why → Type 0
@@ -38,7 +45,7 @@ IsReason frame role Version = big_number 4 (packet_in frame) / 2 ^ 28 ≢ 6
 -- fewer bytes than the payload length says (RFC 8200, section 3)
 IsReason frame role PayloadShort = length (packet_in frame) < 40 + payload_length_of (packet_in frame)
 -- a hop limit other than 255: a router may have sent it on (RFC 4861, sections 6.1, 7.1 and 8.1)
-IsReason frame role HopLimit = IsMessage (header_in frame) (payload_in frame) × ((header_in frame).hop_limit ≢ 255)
+IsReason frame role HopLimit = IsMessage (header_in frame) (payload_in frame) × ((header_in frame).hop_limit ≢ message_hop_limit)
 -- a bad checksum (RFC 4443, section 2.3)
 IsReason frame role Sum = IsMessage (header_in frame) (payload_in frame)
     × (IsGoodSum (header_in frame).source.0 (header_in frame).destination.0 (payload_in frame) → ⊥)

@@ -4,10 +4,7 @@ ghost use Rattle.nd_validity.specs.Hearing.{Outcome, outcome, Hears, HearsInSome
 
 use crate::validity::{fault, is_not_for};
 use nd_addr::{Addr, Frame, Ip6, Ip6Ref, NEXT_HEADER_ICMPV6, Role, Why, sum_is_good};
-use nd_decode::{MessageRef, MessageType, decode_as};
-
-/// The hop limit of every message of Neighbor Discovery: no router can have sent it on (RFC 4861, section 3.1).
-const HOP_LIMIT: u8 = 255;
+use nd_decode::{HOP_LIMIT, MessageRef, MessageType, decode_as};
 
 /// A valid message, with the addresses of its packet.
 #[derive(Clone, Copy, Debug)]

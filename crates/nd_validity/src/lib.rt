@@ -3,6 +3,7 @@
 #![tactic(auto)]
 
 mod hearing;
+pub mod laws;
 mod validity;
 
 pub use hearing::{Heard, Hearing, hear, hear_in_some_role};

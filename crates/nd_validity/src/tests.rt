@@ -64,9 +64,6 @@ const ROUTER: Addr = Addr([
     0xfe, 0x80, 0, 0, 0, 0, 0, 0, 0, 0, 0, 0xff, 0xfe, 0, 0, 0x01,
 ]);
 
-/// ff02::1
-const ALL_NODES: Addr = Addr([0xff, 0x02, 0, 0, 0, 0, 0, 0, 0, 0, 0, 0, 0, 0, 0, 0x01]);
-
 /// The reason to drop a frame, if it is dropped.
 fn dropped(frame: &[u8], role: Role) -> Option<Why> {
     match hear(frame, role) {
@@ -82,7 +79,7 @@ fn hears_an_advertisement_at_a_host(rt: HostRuntime) -> Result<(), Fail> {
         _ => return Err("valid")?,
     };
     assert_eq!(rt; heard.source, ROUTER);
-    assert_eq!(rt; heard.destination, ALL_NODES);
+    assert_eq!(rt; heard.destination, Addr::ALL_NODES);
     assert!(rt; matches!(heard.message.body, Body::Ra(ra) if ra.router_lifetime == 1800));
     Ok(())
 }

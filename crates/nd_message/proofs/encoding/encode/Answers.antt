@@ -1,10 +1,10 @@
 use Rattle.std.proofs.Common.{arith, ap, ◌∙◌, ◌++◌, subst, sym, length, List, ℕ}
 use Rattle.nd_addr.specs.Checksum.{IsGoodSum}
 use Rattle.nd_decode.specs.Message.{Spells}
+use Rattle.nd_decode.proofs.Types.{spelled_known}
 use Rattle.nd_decode.proofs.Deciding.{decode_spelled}
 use Rattle.nd_message.specs.Owned.{whole, whole_of}
 use Rattle.nd_message.specs.Spelling.{written_message}
-use Rattle.nd_message.proofs.Formed.{spelled_known}
 use Rattle.nd_message.proofs.Written.{message_good, message_spelled, message_short}
 use Rattle.nd_message.proofs.encoding.encode.Goals as goal
 

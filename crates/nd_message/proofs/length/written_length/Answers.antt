@@ -1,4 +1,4 @@
-use Rattle.std.proofs.Common.{◌∙◌, arith}
+use Rattle.std.proofs.Common.{arith}
 use Rattle.nd_message.specs.Owned.{said, whole_of}
 use Rattle.nd_message.proofs.Formed.{formed, fits_of}
 use Rattle.nd_message.proofs.Looping.{next_fits, next_behind, next_left, piece_short, over, fits_none, whole_length}
@@ -16,12 +16,11 @@ loop-option-preserved g c =
     let len = c.loop-option.length in
     let more = c.in_ok-more.more in
     let at = c.loop-option.option-index in
-    let behind = next_behind len more items at c.option-item.result c.loop-option-test.true c.option-item.is c.in_ok-more.ensures.0 c.in_ok-more.ensures.1 in
-    let left = next_left len more items at c.option-item.result c.loop-option-test.true c.option-item.is c.in_ok-more.ensures.1 in (
+    let behind = next_behind len more items at c.option-item.result c.loop-option-test.true c.option-item.is c.in_ok-more.ensures.0 c.in_ok-more.ensures.1 in (
       c.if-length-gt-LONGEST_PAYLOAD.false,
       (λ h. c.loop-option.invariant.1.0 (behind.0 h), λ h. behind.1 (c.loop-option.invariant.1.1 h)),
       c.loop-option.invariant.2,
-      left ∙ c.loop-option.invariant.3,
+      next_left len more _ items at c.option-item.result c.loop-option-test.true c.option-item.is c.in_ok-more.ensures.1 c.loop-option.invariant.3,
     )
 
 pub returns-in_err-more-clause-len : goal.returns-in_err-more-clause-len
