@@ -1,0 +1,12 @@
+use Rattle.std.proofs.Common.{◌∙◌, ap, Some, map}
+use Rattle.nd_addr.specs.Number.{number_of}
+use Rattle.nd_nexthop.specs.Choice.{ended}
+use Rattle.nd_nexthop.proofs.Steps.{gains_gone}
+use Rattle.nd_nexthop.proofs.choice.Choice.target_gone.Goals as goal
+
+pub returns : goal.returns
+returns g c = record {
+  stands = λ at.
+      gains_gone c.args.self.now _ at (number_of c.args.target.0)
+      (ap (λ r. r.entries) c.end_each.ensures ∙ ap (map (ended (Some (number_of c.args.target.0)))) c.self.view_is);
+}

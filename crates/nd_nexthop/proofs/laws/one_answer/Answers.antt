@@ -1,0 +1,16 @@
+use Rattle.std.proofs.Common.{◌∙◌, sym, ap}
+use Rattle.nd_nexthop.specs.Choice.{target_in}
+use Rattle.nd_nexthop.proofs.Places.{look_remembered, look_redirects, few_redirects}
+use Rattle.nd_nexthop.proofs.laws.one_answer.Goals as goal
+
+pub returns-clause-table : goal.returns-clause-table
+returns-clause-table c = λ history a b s t. s.entries_are ∙ sym t.entries_are
+
+pub returns-clause-found : goal.returns-clause-found
+returns-clause-found c = λ history entries key s. ap (target_in key) s.entries_are ∙ look_remembered key history
+
+pub returns-clause-list : goal.returns-clause-list
+returns-clause-list c = λ history key. look_redirects key history
+
+pub returns-clause-few : goal.returns-clause-few
+returns-clause-few c = few_redirects

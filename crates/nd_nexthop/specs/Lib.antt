@@ -1,0 +1,5 @@
+pub mod Choice
+pub mod DefaultRouter
+pub mod History
+pub mod Left
+pub mod NextHop

@@ -1,0 +1,81 @@
+ghost use Rattle.std.specs.Prelude.{◌≡◌, ℕ, map, option_map, slice_get};
+ghost use Rattle.lru.specs.LruCache.{lru_cache};
+ghost use Rattle.nd_addr.specs.Number.{number_of};
+ghost use Rattle.nd_nexthop.specs.Choice.{ended, ended_at, turned};
+
+use crate::choice::Choice;
+use crate::target::Target;
+use lru::{DefaultHasher, LruCache};
+use nd_addr::Addr;
+use std::alloc::Allocator;
+
+impl<A: Allocator + Clone> Choice<A> {
+    ghost use Rattle.nd_nexthop.specs.History.{TargetGone, Cleared};
+    ghost use Rattle.nd_nexthop.specs.Choice.{GainsRow};
+
+    /// The redirects to an address end, since it can't be reached (RFC 4861, section 7.3.3) or is no router any more (section 6.3.5).
+    /// It takes no memory.
+    pub fn target_gone(&mut self, target: Addr)
+        ensures stands { (at : ℕ) → GainsRow self.old self.new (TargetGone at (number_of target.0)) }
+    {
+        end_each(&mut self.redirects, Some(target));
+    }
+
+    /// All redirects end. It takes no memory.
+    pub fn clear(&mut self)
+        ensures stands { (at : ℕ) → GainsRow self.old self.new (Cleared at) }
+    {
+        end_each(&mut self.redirects, None);
+    }
+}
+
+/// The redirects to this address end, or all where there is none. Each keeps its place: one after the other goes behind all others,
+/// and so they stand in their order again.
+fn end_each<A: Allocator>(
+    redirects: &mut LruCache<u128, Target, DefaultHasher, A>,
+    gone: Option<Addr>,
+)
+    ensures { redirects.new ≡ lru_cache (map (ended (option_map (λ a. number_of a.0) gone)) redirects.old.entries) redirects.old.cap }
+{
+    let mut left = redirects.len();
+    while left > 0 {
+        end_first(redirects, gone);
+        left -= 1;
+    }
+}
+
+/// The first redirect goes behind the others. It ends where it is to this address, or in any case where there is none.
+fn end_first<A: Allocator>(
+    redirects: &mut LruCache<u128, Target, DefaultHasher, A>,
+    gone: Option<Addr>,
+)
+    ensures { redirects.new ≡ lru_cache (turned (option_map (λ a. number_of a.0) gone) redirects.old.entries) redirects.old.cap }
+{
+    if let Some(destination) = first(redirects) {
+        end_at(redirects, destination, gone);
+        redirects.demote(&destination);
+    }
+}
+
+/// The destination of the first redirect.
+fn first<A: Allocator>(redirects: &LruCache<u128, Target, DefaultHasher, A>) -> Option<u128>
+    ensures { result ≡ option_map (λ e. e.0) (slice_get redirects.now.entries 0) }
+{
+    match redirects.peek_mru() {
+        Some((destination, _)) => Some(*destination),
+        None => None,
+    }
+}
+
+/// The redirect of a destination ends where it is to this address, or in any case where there is none. It keeps its place.
+fn end_at<A: Allocator>(
+    redirects: &mut LruCache<u128, Target, DefaultHasher, A>,
+    destination: u128,
+    gone: Option<Addr>,
+)
+    ensures { redirects.new ≡ lru_cache (ended_at (option_map (λ a. number_of a.0) gone) destination redirects.old.entries) redirects.old.cap }
+{
+    if let Some(target) = redirects.peek_mut(&destination) {
+        target.end(gone);
+    }
+}

@@ -1,0 +1,23 @@
+//! Laws of the definitions, each the contract of a function that does nothing.
+
+ghost use Rattle.std.specs.Prelude.{◌≡◌, ◌≤◌, ◌∷◌, ◌++◌, ℕ, true, None, Some, nat_eq, List, Option, length};
+ghost use Rattle.std.specs.Map.{lookup};
+ghost use Rattle.nd_nexthop.specs.History.{RedirectRow, kept, redirects, max_redirects};
+ghost use Rattle.nd_nexthop.specs.Choice.{Stands, target_in};
+ghost use Rattle.nd_nexthop.specs.DefaultRouter.{DefaultRouter, first_usable, chosen_router, AllLater, NoneBefore};
+
+/// What happened gives one table, in which a look-up finds the kept redirect of each destination; and one list, which has the kept
+/// redirect of each destination, and 64 at most.
+pub fn one_answer()
+    ensures table { (history : List RedirectRow) (a b : List (ℕ × Option ℕ)) → Stands a history → Stands b history → a ≡ b }
+    ensures found { (history : List RedirectRow) (entries : List (ℕ × Option ℕ)) (key : ℕ) → Stands entries history → target_in key entries ≡ kept key history }
+    ensures list { (history : List RedirectRow) (key : ℕ) → lookup (nat_eq key) (redirects history) ≡ kept key history }
+    ensures few { (history : List RedirectRow) → length (redirects history) ≤ max_redirects }
+{}
+
+/// The default router that is chosen is the first of the list that is usable; where none is, the first one of those that failed least
+/// recently (RFC 4861, section 6.3.6).
+pub fn one_router()
+    ensures usable { (before behind : List DefaultRouter) (r : DefaultRouter) → first_usable before ≡ None → r.usable ≡ true → chosen_router (before ++ r ∷ behind) ≡ Some r.key }
+    ensures least_recent { (before behind : List DefaultRouter) (r : DefaultRouter) → first_usable (before ++ r ∷ behind) ≡ None → AllLater r before → NoneBefore r behind → chosen_router (before ++ r ∷ behind) ≡ Some r.key }
+{}

@@ -1,0 +1,22 @@
+//! Next-hop determination of a host (RFC 4861, sections 5.2 and 6.3.6), and the redirects that it keeps for it (section 8.3).
+#![tactic(auto)]
+
+mod choice;
+mod default_router;
+mod end_of_redirects;
+mod kept_redirects;
+pub mod laws;
+mod next_hop;
+mod number;
+mod redirect;
+mod target;
+mod view;
+
+pub use choice::Choice;
+pub use default_router::Candidate;
+pub use kept_redirects::{KeptRedirects, Redirect};
+pub use next_hop::Hop;
+pub use view::View;
+
+#[cfg(test)]
+mod tests;

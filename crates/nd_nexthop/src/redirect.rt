@@ -1,0 +1,27 @@
+ghost use Rattle.std.specs.Prelude.{◌≡◌, ℕ, OnOk, OnErr, IsOk, IsSome, nat_eq};
+ghost use Rattle.std.specs.Map.{lookup};
+ghost use Rattle.nd_addr.specs.Number.{number_of};
+
+use crate::choice::Choice;
+use crate::number::to_number;
+use crate::target::Target;
+use nd_addr::Addr;
+use std::alloc::{AllocError, Allocator};
+
+impl<A: Allocator + Clone> Choice<A> {
+    ghost use Rattle.nd_nexthop.specs.History.{Redirected};
+    ghost use Rattle.nd_nexthop.specs.Choice.{GainsRow};
+
+    /// A Redirect tells the better first hop of a destination, its target (RFC 4861, section 8.3). Where 64 other destinations were
+    /// redirected since the last one of a destination, that one is forgotten. The error is want of memory, and then nothing has
+    /// changed.
+    pub fn redirected(&mut self, destination: Addr, target: Addr) -> Result<(), AllocError>
+        ensures stands { OnOk result ((at : ℕ) → GainsRow self.old self.new (Redirected at (number_of destination.0) (number_of target.0))) }
+        ensures same { OnErr result (self.new ≡ self.old) }
+        ensures known { IsSome (lookup (nat_eq (number_of destination.0)) self.old) → IsOk result }
+    {
+        self.redirects
+            .put(to_number(destination), Target::of(target))?;
+        Ok(())
+    }
+}

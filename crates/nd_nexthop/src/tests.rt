@@ -1,0 +1,246 @@
+ghost use Rattle.std.specs.Prelude.{◌≡◌};
+ghost use Rattle.nd_addr.specs.Number.{holds};
+
+use crate::*;
+use nd_addr::{Addr, Prefix};
+use std::alloc::Global;
+use std::process::Abort;
+use std::test::*;
+
+/// fe80::n.
+fn link_local(n: u8) -> Addr {
+    Addr([0xfe, 0x80, 0, 0, 0, 0, 0, 0, 0, 0, 0, 0, 0, 0, 0, n])
+}
+
+/// 2001:db8:net::n.
+fn global(net: u8, n: u8) -> Addr {
+    Addr([0x20, 0x01, 0x0d, 0xb8, 0, net, 0, 0, 0, 0, 0, 0, 0, 0, 0, n])
+}
+
+/// A node with one own address, one prefix on its link, and some default routers.
+#[derive(Clone, Copy, Debug)]
+struct Node<'a> {
+    own: Addr,
+    prefix: Prefix,
+    routers: &'a [Candidate],
+}
+
+impl View for Node<'_> {
+    ghost use Rattle.std.specs.Prelude.{map, bytes_eq};
+    ghost use Rattle.nd_addr.specs.Number.{holds};
+    ghost use Rattle.nd_nexthop.specs.DefaultRouter.{router_of};
+
+    ghost own = { λ n address. bytes_eq address n.own.0 };
+
+    ghost linked = { λ n address. holds n.prefix address };
+
+    ghost candidates = { λ n. map router_of n.routers.now };
+
+    fn is_own(&self, addr: Addr) -> bool {
+        addr == self.own
+    }
+
+    fn on_link(&self, addr: Addr) -> bool {
+        is_in(&self.prefix, addr)
+    }
+
+    fn routers(&self) -> usize {
+        self.routers.len()
+    }
+
+    fn router(&self, i: usize) -> Option<Candidate> {
+        self.routers.get(i).copied()
+    }
+}
+
+fn is_in(prefix: &Prefix, addr: Addr) -> bool
+    ensures { result ≡ holds prefix.now addr.0 }
+{
+    prefix.holds(addr)
+}
+
+/// The node fe80::1 on the link of 2001:db8::/64.
+fn make_node(routers: &[Candidate]) -> Option<Node<'_>> {
+    Some(Node {
+        own: link_local(1),
+        prefix: Prefix::new(global(0, 0), 64)?,
+        routers,
+    })
+}
+
+fn usable(n: u8, failed: Option<u64>) -> Candidate {
+    Candidate {
+        addr: link_local(n),
+        usable: true,
+        failed,
+    }
+}
+
+fn unusable(n: u8, failed: Option<u64>) -> Candidate {
+    Candidate {
+        addr: link_local(n),
+        usable: false,
+        failed,
+    }
+}
+
+/// The kept redirects are these, the newest first.
+fn keeps(rt: &impl Abort, choice: &Choice<Global>, wanted: &[(Addr, Addr)]) {
+    let mut rest = wanted;
+    for redirect in choice.rows() {
+        match rest {
+            [(destination, target), more @ ..] => {
+                assert!(rt; redirect.destination == *destination);
+                assert!(rt; redirect.target == *target);
+                rest = more;
+            }
+            [] => assert!(rt; false),
+        }
+    }
+    assert!(rt; rest.is_empty());
+}
+
+#[test]
+fn goes_by_the_order_of_5_2(rt: HostRuntime) -> Result<(), Fail> {
+    let multicast = Addr([0xff, 2, 0, 0, 0, 0, 0, 0, 0, 0, 0, 0, 0, 0, 0, 1]);
+    let routers = [usable(9, None)];
+    let mut choice = Choice::new(rt.alloc())?;
+    // Redirects off the link and on it, to the destination itself, and where none is asked for.
+    choice.redirected(global(1, 5), link_local(2))?;
+    choice.redirected(global(0, 6), link_local(3))?;
+    choice.redirected(global(1, 7), global(1, 7))?;
+    choice.redirected(multicast, link_local(4))?;
+    choice.redirected(link_local(1), link_local(4))?;
+    let table = [
+        (Addr::UNSPECIFIED, Hop::NoRoute),
+        (Addr::LOOPBACK, Hop::NoRoute),
+        (link_local(1), Hop::NoRoute),
+        (multicast, Hop::Direct),
+        (global(1, 5), Hop::Via(link_local(2))),
+        (global(0, 6), Hop::Via(link_local(3))),
+        (global(1, 7), Hop::Direct),
+        (global(0, 8), Hop::Direct),
+        (global(1, 8), Hop::Via(link_local(9))),
+    ];
+    if let Some(view) = make_node(&routers) {
+        for (destination, hop) in &table {
+            assert!(rt; choice.next_hop(*destination, &view) == *hop);
+        }
+    }
+    // Without routers the last one has no route; all else is as before.
+    let none: [Candidate; 0] = [];
+    if let Some(view) = make_node(&none) {
+        assert!(rt; choice.next_hop(global(1, 8), &view) == Hop::NoRoute);
+        assert!(rt; choice.next_hop(global(0, 8), &view) == Hop::Direct);
+        assert!(rt; choice.next_hop(global(1, 5), &view) == Hop::Via(link_local(2)));
+    }
+    Ok(())
+}
+
+/// The hop to an address off the link.
+fn off_link(routers: &[Candidate], choice: &mut Choice<Global>) -> Option<Hop> {
+    match make_node(routers) {
+        Some(view) => Some(choice.next_hop(global(9, 9), &view)),
+        None => None,
+    }
+}
+
+fn via(n: u8) -> Option<Hop> {
+    Some(Hop::Via(link_local(n)))
+}
+
+#[test]
+fn chooses_a_router(rt: HostRuntime) -> Result<(), Fail> {
+    let mut choice = Choice::new(rt.alloc())?;
+    // The first that is usable, whatever failed.
+    let routers = [unusable(2, None), usable(3, Some(1)), usable(4, None)];
+    assert!(rt; off_link(&routers, &mut choice) == via(3));
+    // None is usable: one that never failed, and the first of those.
+    let routers = [unusable(2, Some(0)), unusable(3, None), unusable(4, None)];
+    assert!(rt; off_link(&routers, &mut choice) == via(3));
+    let routers = [unusable(2, None), unusable(3, None)];
+    assert!(rt; off_link(&routers, &mut choice) == via(2));
+    // All failed: the one that did least recently.
+    let routers = [
+        unusable(2, Some(2)),
+        unusable(3, Some(0)),
+        unusable(4, Some(1)),
+    ];
+    assert!(rt; off_link(&routers, &mut choice) == via(3));
+    Ok(())
+}
+
+/// How many redirects are kept.
+fn count(choice: &Choice<Global>) -> u8 {
+    let mut n = 0u8;
+    for _ in choice.rows() {
+        n = n.saturating_add(1);
+    }
+    n
+}
+
+#[test]
+fn keeps_64_redirects(rt: HostRuntime) -> Result<(), Fail> {
+    let none: [Candidate; 0] = [];
+    let mut choice = Choice::new(rt.alloc())?;
+    for n in 0..64u8 {
+        choice.redirected(global(1, n), link_local(n))?;
+    }
+    let Some(view) = make_node(&none) else {
+        return Ok(());
+    };
+    // An ended one keeps its place.
+    choice.target_gone(link_local(2));
+    assert!(rt; choice.next_hop(global(1, 2), &view) == Hop::NoRoute);
+    assert_eq!(rt; count(&choice), 63);
+    // Asking changes no order: the first goes where a 65th comes.
+    assert!(rt; choice.next_hop(global(1, 0), &view) == Hop::Via(link_local(0)));
+    choice.redirected(global(1, 64), link_local(64))?;
+    assert!(rt; choice.next_hop(global(1, 0), &view) == Hop::NoRoute);
+    assert!(rt; choice.next_hop(global(1, 1), &view) == Hop::Via(link_local(1)));
+    assert_eq!(rt; count(&choice), 63);
+    // One that is redirected again is the newest, and pushes none out.
+    choice.redirected(global(1, 1), link_local(99))?;
+    assert!(rt; choice.next_hop(global(1, 1), &view) == Hop::Via(link_local(99)));
+    assert_eq!(rt; count(&choice), 63);
+    // The next one pushes out the one that ended, the next again one that is kept.
+    choice.redirected(global(1, 65), link_local(65))?;
+    assert_eq!(rt; count(&choice), 64);
+    choice.redirected(global(1, 66), link_local(66))?;
+    assert_eq!(rt; count(&choice), 64);
+    assert!(rt; choice.next_hop(global(1, 3), &view) == Hop::NoRoute);
+    assert!(rt; choice.next_hop(global(1, 4), &view) == Hop::Via(link_local(4)));
+    Ok(())
+}
+
+#[test]
+fn shows_the_newest_first(rt: HostRuntime) -> Result<(), Fail> {
+    let mut choice = Choice::new(rt.alloc())?;
+    keeps(&rt, &choice, &[]);
+    choice.redirected(global(1, 1), link_local(2))?;
+    choice.redirected(global(1, 2), link_local(3))?;
+    choice.redirected(global(1, 3), link_local(2))?;
+    choice.redirected(global(1, 1), link_local(4))?;
+    keeps(
+        &rt,
+        &choice,
+        &[
+            (global(1, 1), link_local(4)),
+            (global(1, 3), link_local(2)),
+            (global(1, 2), link_local(3)),
+        ],
+    );
+    // All redirects to a target end with it, and the others keep their order.
+    choice.redirected(global(1, 4), link_local(2))?;
+    choice.target_gone(link_local(2));
+    keeps(
+        &rt,
+        &choice,
+        &[(global(1, 1), link_local(4)), (global(1, 2), link_local(3))],
+    );
+    choice.clear();
+    keeps(&rt, &choice, &[]);
+    choice.redirected(global(1, 2), link_local(3))?;
+    keeps(&rt, &choice, &[(global(1, 2), link_local(3))]);
+    Ok(())
+}
