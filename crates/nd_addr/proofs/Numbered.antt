@@ -18,7 +18,7 @@ powers (suc n) =
     let more : 256 ^ suc n ≡ 256 ^ n * 256 = ap (λ (k : ℕ). 256 ^ k) (let e : suc n ≡ n + 1 = omega arith in e) ∙ pow-add 256 n 1 in
     two ∙ ap (λ (k : ℕ). k * 256) (powers n) ∙ sym more
 
-number_from : (bytes : List ℕ) → number_of bytes ≡ big_from 0 (length bytes) bytes
+pub number_from : (bytes : List ℕ) → number_of bytes ≡ big_from 0 (length bytes) bytes
 number_from [] = refl
 number_from (b ∷ bytes) =
     ap (λ (k : ℕ). b * k + number_of bytes) (powers (length bytes))

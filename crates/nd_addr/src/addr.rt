@@ -1,7 +1,9 @@
 ghost use Rattle.std.specs.Prelude.{◌≡◌, ◌≤◌, ◌+◌, length, slice_range};
 ghost use Rattle.nd_addr.specs.Bytes.{AreBytes};
+ghost use Rattle.nd_addr.specs.Number.{addr_at, number_of};
 
 use crate::bytes::known;
+use byteorder::{BigEndian, ByteOrder};
 
 /// An IPv6 address, by its 16 bytes in network order (RFC 4291, section 2).
 ///
@@ -26,5 +28,22 @@ impl Addr {
         let mut address = [0; 16];
         address.copy_from_slice(&bytes[place..place + 16]);
         Addr(address)
+    }
+
+    /// The 128-bit number that it is.
+    pub fn to_bits(self) -> u128
+        ensures { result ≡ number_of self.0 }
+    {
+        BigEndian::read_u128(self.as_bytes())
+    }
+
+    /// The address of a 128-bit number.
+    pub fn from_bits(bits: u128) -> Addr
+        ensures value { result ≡ addr_at bits }
+        ensures number { number_of result.0 ≡ bits }
+    {
+        let mut bytes = [0; 16];
+        BigEndian::write_u128(&mut bytes, bits);
+        Addr(bytes)
     }
 }

@@ -1,5 +1,4 @@
 pub mod Keys
-pub mod Numbers
 pub mod Places
 pub mod Rounds
 pub mod Routers

@@ -1,4 +1,3 @@
-use crate::number::to_address;
 use crate::target::Target;
 use lru::Iter;
 use nd_addr::Addr;
@@ -44,7 +43,7 @@ impl Iterator for KeptRedirects<'_> {
         while let Some((destination, target)) = self.rest.next() {
             if let Some(target) = target.addr() {
                 return Some(Redirect {
-                    destination: to_address(*destination),
+                    destination: Addr::from_bits(*destination),
                     target,
                 });
             }

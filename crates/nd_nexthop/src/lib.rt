@@ -7,7 +7,6 @@ mod end_of_redirects;
 mod kept_redirects;
 pub mod laws;
 mod next_hop;
-mod number;
 mod redirect;
 mod target;
 mod view;

@@ -6,7 +6,6 @@ ghost use Rattle.nd_nexthop.specs.History.{RedirectRow, kept};
 
 use crate::choice::Choice;
 use crate::default_router::chosen_router;
-use crate::number::to_number;
 use crate::view::View;
 use nd_addr::Addr;
 use nd_table::compare;
@@ -39,7 +38,7 @@ impl<A: Allocator + Clone> Choice<A> {
     fn target(&self, destination: Addr) -> Option<Addr>
         ensures { option_map (λ a. number_of a.0) result ≡ target_in (number_of destination.0) self.now }
     {
-        match self.redirects.peek(&to_number(destination)) {
+        match self.redirects.peek(&destination.to_bits()) {
             Some(target) => target.addr(),
             None => None,
         }

@@ -3,7 +3,6 @@ ghost use Rattle.std.specs.Map.{lookup};
 ghost use Rattle.nd_addr.specs.Number.{number_of};
 
 use crate::choice::Choice;
-use crate::number::to_number;
 use crate::target::Target;
 use nd_addr::Addr;
 use std::alloc::{AllocError, Allocator};
@@ -21,7 +20,7 @@ impl<A: Allocator + Clone> Choice<A> {
         ensures known { IsSome (lookup (nat_eq (number_of destination.0)) self.old) → IsOk result }
     {
         self.redirects
-            .put(to_number(destination), Target::of(target))?;
+            .put(destination.to_bits(), Target::of(target))?;
         Ok(())
     }
 }
