@@ -44,6 +44,10 @@ impl<A: Allocator + Clone> Choice<A> {
             redirects: LruCache::new(alloc, limit)?,
         })
     }
+}
+
+impl<A: Allocator> Choice<A> {
+    ghost use Rattle.nd_nexthop.specs.Choice.{Stands};
 
     /// The kept redirects, the newest first.
     pub fn rows(&self) -> KeptRedirects<'_>

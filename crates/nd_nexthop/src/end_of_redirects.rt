@@ -9,7 +9,7 @@ use lru::{DefaultHasher, LruCache};
 use nd_addr::Addr;
 use std::alloc::Allocator;
 
-impl<A: Allocator + Clone> Choice<A> {
+impl<A: Allocator> Choice<A> {
     ghost use Rattle.nd_nexthop.specs.History.{TargetGone, Cleared};
     ghost use Rattle.nd_nexthop.specs.Choice.{GainsRow};
 

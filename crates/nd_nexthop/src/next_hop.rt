@@ -22,7 +22,7 @@ pub enum Hop {
     NoRoute,
 }
 
-impl<A: Allocator + Clone> Choice<A> {
+impl<A: Allocator> Choice<A> {
     ghost use Rattle.nd_nexthop.specs.Choice.{Stands, target_in};
 
     /// The next hop of a packet (RFC 4861, section 5.2). It takes no memory.
