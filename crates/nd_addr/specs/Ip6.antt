@@ -14,6 +14,10 @@ next_header_icmpv6 = 58
 abbrev pub least_mtu : ℕ
 least_mtu = 1280
 
+-- how many bytes an IPv6 header has
+abbrev pub ipv6_header_length : ℕ
+ipv6_header_length = 40
+
 -- a header that its bytes hold: a byte of traffic class, 20 bits of flow label, two addresses
 pub record FitsHeader (header : Ip6) : Type 0 where
   pub traffic_class : header.traffic_class < 256
@@ -46,14 +50,14 @@ payload_length_of bytes = big_number 2 (drop 4 bytes)
 
 -- as many bytes behind the header as it tells
 abbrev pub payload_of : List ℕ → List ℕ
-payload_of bytes = slice_range bytes 40 (40 + payload_length_of bytes)
+payload_of bytes = slice_range bytes ipv6_header_length (ipv6_header_length + payload_length_of bytes)
 
 -- the header at its place, and as many bytes behind it as it tells; what follows is padding
 abbrev pub packet_of : List ℕ → Result PacketParts Why
 packet_of bytes =
-    if nat_lt (length bytes) 40 then Err HeaderShort else
+    if nat_lt (length bytes) ipv6_header_length then Err HeaderShort else
     if big_number 4 bytes / 2 ^ 28 == 6 then
-    (if nat_lt (length bytes) (40 + payload_length_of bytes) then Err PayloadShort else
+    (if nat_lt (length bytes) (ipv6_header_length + payload_length_of bytes) then Err PayloadShort else
     Ok (record { header = header_of bytes; payload = payload_of bytes }))
     else Err Version
 

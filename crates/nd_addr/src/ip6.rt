@@ -1,5 +1,5 @@
 ghost use Rattle.nd_addr.specs.Given.{Gives};
-ghost use Rattle.nd_addr.specs.Ip6.{packet_of, packet_parts, written_header};
+ghost use Rattle.nd_addr.specs.Ip6.{ipv6_header_length, packet_of, packet_parts, written_header};
 ghost use Rattle.nd_addr.specs.Room.{HasRoom, Puts};
 
 use crate::addr::Addr;
@@ -91,7 +91,7 @@ impl Ip6 {
 
 /// Puts the header of a packet with a payload of this length at the end.
 pub(crate) fn put_header<A: Allocator>(out: &mut Vec<u8, A>, header: &Ip6, length: u16)
-    requires { HasRoom out.old 40 }
+    requires { HasRoom out.old ipv6_header_length }
     ensures { Puts out.old out.new (written_header header.now length) }
 {
     let class = header.traffic_class as u32;

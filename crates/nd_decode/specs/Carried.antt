@@ -2,7 +2,8 @@
 use Rattle.std.specs.Prelude.{◌≡◌, ◌≤◌, ◌+◌, ◌/◌, ◌^◌, ℕ, List, length, drop}
 use Rattle.byteorder.specs.Endian.{big_number}
 use Rattle.nd_addr.specs.declared.addr.Addr.{Addr}
-use Rattle.nd_addr.specs.Ip6.{next_header_icmpv6, header_of, payload_length_of, payload_of}
+use Rattle.nd_addr.specs.Frame.{ethernet_header_length}
+use Rattle.nd_addr.specs.Ip6.{ipv6_header_length, next_header_icmpv6, header_of, payload_length_of, payload_of}
 use Rattle.nd_addr.specs.Checksum.{IsGoodSum}
 use Rattle.nd_addr.specs.Places.{packet_in}
 use Rattle.nd_decode.specs.Message.{Parts, Spells}
@@ -14,9 +15,9 @@ message_hop_limit = 255
 -- The bytes begin with a whole IPv6 packet (RFC 8200, section 3) from the source to the destination, with this hop limit, whose
 -- payload is ICMPv6, has a good checksum and spells the message.
 pub record HoldsMessage (packet : List ℕ) (source destination : Addr) (message : Parts) : Type 0 where
-  pub header : 40 ≤ length packet
+  pub header : ipv6_header_length ≤ length packet
   pub version : big_number 4 packet / 2 ^ 28 ≡ 6
-  pub whole : 40 + payload_length_of packet ≤ length packet
+  pub whole : ipv6_header_length + payload_length_of packet ≤ length packet
   pub source_is : (header_of packet).source ≡ source
   pub destination_is : (header_of packet).destination ≡ destination
   pub hop_limit : (header_of packet).hop_limit ≡ message_hop_limit
@@ -26,6 +27,6 @@ pub record HoldsMessage (packet : List ℕ) (source destination : Addr) (message
 
 -- an Ethernet frame of such a packet (RFC 2464, section 3), to whomever and from whomever
 pub record Carries (frame : List ℕ) (source destination : Addr) (message : Parts) : Type 0 where
-  pub ethernet : 14 ≤ length frame
+  pub ethernet : ethernet_header_length ≤ length frame
   pub ipv6 : big_number 2 (drop 12 frame) ≡ 0x86dd
   pub packet : HoldsMessage (packet_in frame) source destination message

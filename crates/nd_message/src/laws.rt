@@ -1,7 +1,8 @@
 //! Laws of the definitions, each the contract of a function that does nothing.
 
-ghost use Rattle.std.specs.Prelude.{◌≡◌, ◌≤◌, ◌↔◌, ◌++◌, ℕ, List, length, drop};
+ghost use Rattle.std.specs.Prelude.{◌≡◌, ◌≤◌, ◌↔◌, ℕ, List, length};
 ghost use Rattle.nd_addr.specs.Checksum.{IsGoodSum};
+ghost use Rattle.nd_addr.specs.Frame.{addressed};
 ghost use Rattle.nd_addr.specs.declared.addr.Addr.{Addr};
 ghost use Rattle.nd_addr.specs.declared.mac.Mac.{Mac};
 ghost use Rattle.nd_decode.specs.Message.{Parts, Spells};
@@ -34,7 +35,7 @@ pub fn written_frame_carries()
 /// A frame whose Ethernet destination is set anew is the frame to that address, and carries the same message.
 pub fn readdressed_frame_carries_the_same()
     ensures frame { (to any from : Mac) (source destination : Addr) (message : Parts) → length any.0 ≡ 6
-        → to.0 ++ drop 6 (message_frame any from source destination message) ≡ message_frame to from source destination message }
+        → addressed to (message_frame any from source destination message) ≡ message_frame to from source destination message }
     ensures carried { (to : Mac) (frame : List ℕ) (source destination : Addr) (message : Parts) → length to.0 ≡ 6
-        → Carries frame source destination message → Carries (to.0 ++ drop 6 frame) source destination message }
+        → Carries frame source destination message → Carries (addressed to frame) source destination message }
 {}

@@ -1,5 +1,6 @@
 ghost use Rattle.std.specs.Prelude.{◌≡◌, ◌≤◌, length};
-ghost use Rattle.nd_waiting.specs.Packet.{addressed, ethernet_header_length, packet_of};
+ghost use Rattle.nd_addr.specs.Frame.{addressed, ethernet_header_length};
+ghost use Rattle.nd_waiting.specs.Packet.{packet_of};
 
 use nd_addr::{ETHERNET_HEADER_LENGTH, Mac};
 use std::alloc::Allocator;
@@ -15,7 +16,7 @@ pub struct Packet<A: Allocator> {
 impl<A: Allocator> Model for Packet<A> {
     ghost use Rattle.std.specs.Prelude.{List, ℕ, ◌≤◌};
     ghost use Rattle.std.specs.Vec.{vec_len};
-    ghost use Rattle.nd_waiting.specs.Packet.{ethernet_header_length};
+    ghost use Rattle.nd_addr.specs.Frame.{ethernet_header_length};
 
     ghost Value = { List ℕ };
 
