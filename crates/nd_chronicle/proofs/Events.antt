@@ -1,0 +1,185 @@
+-- An event adds one thing, and a history has one chronicle.
+use Rattle.std.proofs.Common.{◌≡◌, ℕ, Bool, true, false, List, [], ◌∷◌, ◌++◌, Option, Some, None, sym, ◌∙◌, ap, subst}
+use Rattle.std.specs.Prelude.{MatchBool, map, bytes_eq, nat_lt}
+use Rattle.std.specs.Option.{option_map}
+use Rattle.nd_addr.specs.declared.addr.Addr.{Addr}
+use Rattle.nd_addr.specs.Kind.{multicast_prefix, unspecified_address}
+use Rattle.nd_addr.specs.Number.{number_of, holds}
+use Rattle.nd_decode.specs.Message.{Parts}
+use Rattle.nd_decode.specs.declared.body.Body.{Body}
+use Rattle.nd_decode.specs.declared.body.Body.TheVariants as bodies
+use Rattle.nd_lifetime.specs.Same.{same_addr, addrs_tell, same_prefix, prefixes_tell, bytes_tell}
+use Rattle.nd_lifetime.proofs.Unique.{one_listing}
+use Rattle.nd_table.proofs.Unique.{one_list}
+use Rattle.nd_validity.specs.Hearing.{Outcome, valid, other, dropped}
+use Rattle.nd_neighbour.specs.History.{RowKind}
+use Rattle.nd_neighbour.specs.Shown as neighbours
+use Rattle.nd_neighbour.proofs.Unique as neighbour_proofs
+use Rattle.nd_nexthop.specs.NextHop.{NextHop, direct, via, no_route}
+use Rattle.nd_slaac.specs.Shown as addresses
+use Rattle.nd_slaac.specs.PrefixOption.{prefixes_in}
+use Rattle.nd_slaac.proofs.Unique.{one_fit}
+use Rattle.nd_dns.specs.Names.{same_name}
+use Rattle.nd_chronicle.specs.Start.{Start}
+use Rattle.nd_chronicle.specs.Happening.{Chronicle, Heard, ClearedRedirects, Shown, Limit, Refusal, Full, Passed, TooLate, last_moment}
+use Rattle.nd_chronicle.specs.Histories.{neighbour_history, prefix_history, address_history, server_history, name_history}
+use Rattle.nd_chronicle.specs.Message.{said, PlaceFor, releasing}
+use Rattle.nd_chronicle.specs.RouterAdvertisement.{then_advertised}
+use Rattle.nd_chronicle.specs.NeighborSolicitation as asked
+use Rattle.nd_chronicle.specs.NeighborSolicitation.{is_router, ThenSolicited, then_tried}
+use Rattle.nd_chronicle.specs.Frames.{answer_frame}
+use Rattle.nd_chronicle.specs.Packet.{Goes}
+use Rattle.nd_chronicle.specs.NeighborAdvertisement.{then_neighbor_advertised}
+use Rattle.nd_chronicle.specs.Full.{needs, Placed, no_place, Fills}
+use Rattle.nd_chronicle.specs.Shown as tables
+use Rattle.nd_chronicle.specs.Shown.{Table, AreRows, neighbour_row, router_row, prefix_row, address_row, server_row, search_row}
+use Rattle.nd_chronicle.specs.Event as events
+use Rattle.nd_chronicle.specs.Event.{Event, Clearable, MessageAdds, UnlessRefused, OutcomeAdds, FrameAdds, PacketAdds, GoesIfPlaced, SendAdds, refusal_of_packet, ClearAdds, clearing, all_leaving, EventAdds}
+use Rattle.nd_chronicle.specs.History.{Walk, Follows, Runs}
+use Rattle.nd_chronicle.proofs.Places.{one_place, one_has_place, one_goes}
+use Rattle.nd_chronicle.proofs.Hops.{one_router_list, one_next_hop, one_heard}
+use Rattle.nd_chronicle.proofs.Dues.{one_walk}
+
+-- by a test, or by a refusal
+by_test : (t : Bool) {A B A' B' : Type 0} {X : Type 0} → (A → A' → X) → (B → B' → X) → MatchBool t A B → MatchBool t A' B' → X
+by_test true f g a b = f a b
+by_test false f g a b = g a b
+
+module _ (start : Start) (c : Chronicle) (now : ℕ) where
+  unless_refused : (r : Option Refusal) (A : Chronicle → Type 0) (d e : Chronicle) → (A d → A e → d ≡ e) → UnlessRefused start now r A c d → UnlessRefused start now r A c e → d ≡ e
+  unless_refused None A d e one h k = one h k
+  unless_refused (Some refusal) A d e one h k = h ∙ sym k
+
+  one_place_for : (news : Option (ℕ × RowKind)) (d e : Chronicle) → PlaceFor start c now news d → PlaceFor start c now news e → d ≡ e
+  one_place_for None d e h k = h ∙ sym k
+  one_place_for (Some news) d e h k = one_place start c now news.0 _ d e h k
+
+  one_placed : (need : Option (ℕ × Bool)) (a b : Bool) → Placed start c now need a → Placed start c now need b → a ≡ b
+  one_placed None a b h k = h ∙ sym k
+  one_placed (Some need) a b h k = one_has_place start c now need.0 need.1 a b h k
+
+  one_full : (source : Addr) (message : Parts) (body : Body) (a b : Option Limit) → Fills start c now source message body a → Fills start c now source message body b → a ≡ b
+  one_full source message (bodies.Ra ra) a b h k =
+      let e1 = one_placed (needs c source message message.body) h.neighbours k.neighbours h.placed k.placed in
+      let e2 = one_router_list c now h.routers k.routers h.those_routers k.those_routers in
+      let e3 = one_listing same_prefix prefixes_tell (prefix_history c) now h.prefixes k.prefixes h.those_prefixes k.those_prefixes in
+      let e4 = one_fit start.mac (address_history c) (prefixes_in message.options) h.forms k.forms h.those_addresses k.those_addresses in
+      let e5 = one_listing same_addr addrs_tell (server_history c) now h.servers k.servers h.those_servers k.those_servers in
+      let e6 = one_listing same_name bytes_tell (name_history c) now h.names k.names h.those_names k.those_names in
+      let f = h.first in
+      let g = k.first in
+      cc
+  one_full source message bodies.Rs a b h k = h.first ∙ ap no_place (one_placed (needs c source message message.body) h.neighbours k.neighbours h.placed k.placed) ∙ sym k.first
+  one_full source message (bodies.Ns ns) a b h k = h.first ∙ ap no_place (one_placed (needs c source message message.body) h.neighbours k.neighbours h.placed k.placed) ∙ sym k.first
+  one_full source message (bodies.Na na) a b h k = h.first ∙ ap no_place (one_placed (needs c source message message.body) h.neighbours k.neighbours h.placed k.placed) ∙ sym k.first
+  one_full source message (bodies.Redirect r) a b h k = h.first ∙ ap no_place (one_placed (needs c source message message.body) h.neighbours k.neighbours h.placed k.placed) ∙ sym k.first
+
+  module _ (source destination : Addr) (message : Parts) where
+    abbrev answering : Addr → Chronicle → Chronicle → Type 0
+    answering target placed d =
+        Goes start (releasing now (said c source message) (neighbour_history placed) ((now, Heard source destination message) ∷ placed)) now
+        (number_of source.0) (answer_frame (is_router start.role) start.mac target source) d
+
+    one_answer : (target : Addr) (d e : Chronicle) → asked.Answers start now source destination target message c d → asked.Answers start now source destination target message c e → d ≡ e
+    one_answer target d e h k =
+        let same : h.placed ≡ k.placed = one_place_for (said c source message) h.placed k.placed h.place k.place in
+        one_goes start (releasing now (said c source message) (neighbour_history k.placed) ((now, Heard source destination message) ∷ k.placed)) now (number_of source.0)
+        (answer_frame (is_router start.role) start.mac target source) d e
+        (subst (λ (x : Chronicle). answering target x d) same h.answer) k.answer
+
+    -- behind the place for a neighbour a function says the rest
+    one_behind : (then' : Chronicle → Chronicle) (d e : Chronicle)
+        → ((placed : Chronicle) × PlaceFor start c now (said c source message) placed × (d ≡ then' placed))
+        → ((placed : Chronicle) × PlaceFor start c now (said c source message) placed × (e ≡ then' placed)) → d ≡ e
+    one_behind then' d e h k = h.2 ∙ ap then' (one_place_for (said c source message) h.0 k.0 h.1 k.1) ∙ sym k.2
+
+    one_message : (body : Body) (d e : Chronicle) → MessageAdds start now source destination message body c d → MessageAdds start now source destination message body c e → d ≡ e
+    one_message (bodies.Ns ns) d e h k = by_test (bytes_eq source.0 unspecified_address) (λ x y. x ∙ sym y) (one_answer ns.target d e) h k
+    one_message (bodies.Ra ra) d e h k = one_behind (λ placed. then_advertised start now source destination ra message placed) d e h k
+    one_message (bodies.Na na) d e h k = one_behind (λ placed. then_neighbor_advertised now source destination na.target message placed) d e h k
+    one_message bodies.Rs d e h k =
+        one_behind (λ placed. releasing now (said c source message) (neighbour_history placed) ((now, Heard source destination message) ∷ placed)) d e h k
+    one_message (bodies.Redirect r) d e h k =
+        one_behind (λ placed. releasing now (said c source message) (neighbour_history placed) ((now, Heard source destination message) ∷ placed)) d e h k
+
+  one_outcome : (frame : List ℕ) (o : Outcome) (d e : Chronicle) → OutcomeAdds start now frame o c d → OutcomeAdds start now frame o c e → d ≡ e
+  one_outcome frame (dropped why) d e h k = h ∙ sym k
+  one_outcome frame (other packet) d e h k = h ∙ sym k
+  one_outcome frame (valid source destination message) d e h k =
+      let same : h.0 ≡ k.0 = one_full source message message.body h.0 k.0 h.1 k.1 in
+      unless_refused (option_map Full k.0) (MessageAdds start now source destination message message.body c) d e (one_message source destination message message.body d e)
+      (subst (λ (full : Option Limit). UnlessRefused start now (option_map Full full) (MessageAdds start now source destination message message.body c) c d) same h.2) k.2
+
+  one_frame : (frame : List ℕ) (d e : Chronicle) → FrameAdds start now frame c d → FrameAdds start now frame c e → d ≡ e
+  one_frame frame d e h k =
+      one_outcome frame k.outcome d e
+      (subst (λ (o : Outcome). OutcomeAdds start now frame o c d) (one_heard c now start frame h.outcome k.outcome h.heard k.heard) h.adds) k.adds
+
+  one_if_placed : (key : ℕ) (packet : List ℕ) (d e : Chronicle) → GoesIfPlaced start now key packet c d → GoesIfPlaced start now key packet c e → d ≡ e
+  one_if_placed key packet d e h k =
+      let same : h.0 ≡ k.0 = one_has_place start c now key true h.0 k.0 h.1 k.1 in
+      unless_refused (option_map Full (no_place k.0)) (Goes start c now key packet) d e (one_goes start c now key packet d e)
+      (subst (λ (place : Bool). UnlessRefused start now (option_map Full (no_place place)) (Goes start c now key packet) c d) same h.2) k.2
+
+  module _ (source destination : Addr) (next_header : ℕ) (payload : List ℕ) where
+    one_packet : (next : NextHop) (d e : Chronicle) → PacketAdds start now next source destination next_header payload c d → PacketAdds start now next source destination next_header payload c e → d ≡ e
+    one_packet no_route d e h k = h ∙ sym k
+    one_packet direct d e h k = by_test (holds multicast_prefix destination.0) (λ x y. x ∙ sym y) (one_if_placed _ _ d e) h k
+    one_packet (via key) d e h k = one_if_placed key _ d e h k
+
+    one_send : (d e : Chronicle) → SendAdds start now source destination next_header payload c d → SendAdds start now source destination next_header payload c e → d ≡ e
+    one_send d e h k = unless_refused (refusal_of_packet start now source payload c) _ d e
+        (λ x y. one_packet y.0 d e (subst (λ (next : NextHop). PacketAdds start now next source destination next_header payload c d) (one_next_hop c now destination x.0 y.0 x.1 y.1) x.2) y.2) h k
+
+  one_clear : (table : Clearable) (d e : Chronicle) → ClearAdds start now table c d → ClearAdds start now table c e → d ≡ e
+  one_clear events.ClearNeighbours d e h k = h.2 ∙ ap (λ nodes. clearing start now nodes c) (neighbour_proofs.one_table (neighbour_history c) h.0 k.0 h.1 k.1) ∙ sym k.2
+  one_clear events.ClearRouters d e h k = h.2 ∙ ap (λ es. (now, ClearedRedirects) ∷ all_leaving start now es c) (one_router_list c now h.0 k.0 h.1 k.1) ∙ sym k.2
+  one_clear events.ClearPrefixes d e h k = h ∙ sym k
+  one_clear events.ClearRedirects d e h k = h ∙ sym k
+  one_clear events.ClearDns d e h k = h ∙ sym k
+
+  pub one_rows : (table : Table) (a b : List (List ℕ)) → AreRows start c now table a → AreRows start c now table b → a ≡ b
+  one_rows tables.NeighbourTable a b h k =
+      h.2 ∙ ap (map neighbour_row) (one_list neighbours.seen_key h.0 k.0 h.1.order k.1.order (λ key. h.1.each key ∙ sym (k.1.each key))) ∙ sym k.2
+  one_rows tables.RouterTable a b h k = h.2 ∙ ap (map (router_row now)) (one_router_list c now h.0 k.0 h.1 k.1) ∙ sym k.2
+  one_rows tables.PrefixTable a b h k = h.2 ∙ ap (map (prefix_row now)) (one_listing same_prefix prefixes_tell (prefix_history c) now h.0 k.0 h.1 k.1) ∙ sym k.2
+  one_rows tables.AddressTable a b h k =
+      h.2 ∙ ap (map address_row) (one_list addresses.seen_key h.0 k.0 h.1.order k.1.order (λ key. h.1.each key ∙ sym (k.1.each key))) ∙ sym k.2
+  one_rows tables.DnsTable a b h k =
+      h.4
+      ∙ ap (λ servers. map (server_row now) servers ++ map (search_row now) h.2) (one_listing same_addr addrs_tell (server_history c) now h.0 k.0 h.1 k.1)
+      ∙ ap (λ names. map (server_row now) k.0 ++ map (search_row now) names) (one_listing same_name bytes_tell (name_history c) now h.2 k.2 h.3 k.3)
+      ∙ sym k.4
+  one_rows tables.RedirectTable a b h k = h ∙ sym k
+  one_rows tables.ParameterTable a b h k = h ∙ sym k
+  one_rows tables.AdvertiseTable a b h k = h ∙ sym k
+  one_rows tables.RouteTable a b h k = h ∙ sym k
+
+  one_event : (event : Event) (d e : Chronicle) → EventAdds start now event c d → EventAdds start now event c e → d ≡ e
+  one_event events.Passes d e h k = h ∙ sym k
+  one_event (events.Receives frame) d e h k = one_frame frame d e h k
+  one_event (events.Sends source destination next_header payload) d e h k = one_send source destination next_header payload d e h k
+  one_event (events.Confirms neighbour) d e h k = h ∙ sym k
+  one_event (events.Forgets neighbour) d e h k = h ∙ sym k
+  one_event (events.Clears table) d e h k = one_clear table d e h k
+  one_event (events.Shows table) d e h k = h.2 ∙ ap (λ rows. (now, Shown rows) ∷ c) (one_rows table h.0 k.0 h.1 k.1) ∙ sym k.2
+  one_event events.IsOfRouters d e h k = h ∙ sym k
+
+module _ (start : Start) where
+  one_walked : (c : Chronicle) (now : ℕ) (event : Event) (d e : Chronicle)
+      → ((x : Chronicle) × Walk start c (last_moment start.at c) now x × EventAdds start now event ((now, Passed) ∷ x) d)
+      → ((x : Chronicle) × Walk start c (last_moment start.at c) now x × EventAdds start now event ((now, Passed) ∷ x) e) → d ≡ e
+  one_walked c now event d e h k =
+      let same : h.0 ≡ k.0 = one_walk start h.1 k.1 in
+      one_event start ((now, Passed) ∷ k.0) now event d e (subst (λ (x : Chronicle). EventAdds start now event ((now, Passed) ∷ x) d) same h.2) k.2
+
+  one_following : (c : Chronicle) (now : ℕ) (event : Event) (d e : Chronicle) → Follows start c now event d → Follows start c now event e → d ≡ e
+  one_following c now event d e h k =
+      by_test (nat_lt now (last_moment start.at c)) (λ (x : d ≡ (now, TooLate (last_moment start.at c)) ∷ c) (y : e ≡ (now, TooLate (last_moment start.at c)) ∷ c). x ∙ sym y)
+      (one_walked c now event d e) h k
+
+  pub one_run : (history : List (ℕ × Event)) (c d e : Chronicle) → Runs start c history d → Runs start c history e → d ≡ e
+  one_run [] c d e h k = h ∙ sym k
+  one_run (event ∷ history) c d e h k =
+      let same : h.0 ≡ k.0 = one_following c event.0 event.1 h.0 k.0 h.1 k.1 in
+      one_run history k.0 d e (subst (λ (x : Chronicle). Runs start x history d) same h.2) k.2

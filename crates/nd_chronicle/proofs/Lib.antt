@@ -1,0 +1,5 @@
+pub mod Places
+pub mod Hops
+pub mod Dues
+pub mod Events
+pub mod Growth

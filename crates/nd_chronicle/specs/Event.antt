@@ -1,0 +1,172 @@
+-- What an event adds to a chronicle: a frame, a packet to be sent, a command. The milliseconds up to it have passed.
+use Rattle.std.specs.Prelude.{◌≡◌, ℕ, ◌+◌, nat_lt, Bool, true, if◌then◌else◌, MatchBool, List, [], ◌∷◌, length, take, Option, Some, None}
+use Rattle.std.specs.Option.{option_map}
+use Rattle.nd_addr.specs.declared.addr.Addr.{Addr}
+use Rattle.nd_addr.specs.declared.mac.Mac.{Mac}
+use Rattle.nd_addr.specs.Frame.{written_frame}
+use Rattle.nd_addr.specs.Ip6.{ipv6_header_length, payload_length_of}
+use Rattle.nd_addr.specs.Kind.{multicast_prefix}
+use Rattle.nd_addr.specs.Number.{number_of, holds}
+use Rattle.nd_addr.specs.Places.{packet_in}
+use Rattle.nd_decode.specs.Message.{Parts}
+use Rattle.nd_decode.specs.declared.body.Body.{Body}
+use Rattle.nd_decode.specs.declared.body.Body.TheVariants as bodies
+use Rattle.nd_lifetime.specs.declared.lasting.Lasting.{Lasting}
+use Rattle.nd_lifetime.specs.Listing.{Lists}
+use Rattle.nd_validity.specs.Hearing.{Outcome, valid, other, dropped}
+use Rattle.nd_neighbour.specs.Entry.{Node, waiting_in}
+use Rattle.nd_neighbour.specs.History as neighbours
+use Rattle.nd_neighbour.specs.History.{story}
+use Rattle.nd_neighbour.specs.Story.{waits_of}
+use Rattle.nd_neighbour.specs.Table as cache
+use Rattle.nd_nexthop.specs.NextHop.{NextHop, direct, via, no_route}
+use Rattle.nd_routers.specs.History.{announcements}
+use Rattle.nd_routers.specs.Routers.{same}
+use Rattle.nd_chronicle.specs.Start.{Start}
+use Rattle.nd_chronicle.specs.Happening.{Chronicle, Heard, Dropped, Up, Neighbour, LeftRouter, ClearedPrefixes, ClearedRedirects, ClearedDns, Sent, Lost, Refused, Shown, Limit, Refusal, WrongRole, Disabled, NotOurs, TooLong, Full, Routeless, Forgotten}
+use Rattle.nd_chronicle.specs.Histories.{neighbour_history, router_history}
+use Rattle.nd_chronicle.specs.InForce.{hop_limit, link_mtu, reachable_time}
+use Rattle.nd_chronicle.specs.OwnAddress.{is_assigned, is_disabled}
+use Rattle.nd_chronicle.specs.Frames.{multicast_mac, open_mac}
+use Rattle.nd_chronicle.specs.Packet.{losing, Goes, HasPlace}
+use Rattle.nd_chronicle.specs.NextHop.{IsNextHop}
+use Rattle.nd_chronicle.specs.Hearing.{IsHeard}
+use Rattle.nd_chronicle.specs.Message.{said, PlaceFor, releasing}
+use Rattle.nd_chronicle.specs.RouterAdvertisement.{then_advertised}
+use Rattle.nd_chronicle.specs.NeighborSolicitation.{ThenSolicited}
+use Rattle.nd_chronicle.specs.NeighborAdvertisement.{then_neighbor_advertised}
+use Rattle.nd_chronicle.specs.Full.{Fills, no_place}
+use Rattle.nd_chronicle.specs.Shown.{Table, AreRows}
+
+-- the tables that a command clears
+pub data Clearable : Type 0 where
+  ClearNeighbours : Clearable
+  ClearRouters : Clearable
+  ClearPrefixes : Clearable
+  ClearRedirects : Clearable
+  ClearDns : Clearable
+
+pub data Event : Type 0 where
+  -- time passes
+  Passes : Event
+  -- a frame comes
+  Receives : (frame : List ℕ) → Event
+  -- a packet is to be sent
+  Sends : (source destination : Addr) (next_header : ℕ) (payload : List ℕ) → Event
+  -- an upper layer confirms that a neighbour is reached (RFC 4861, section 7.3.1)
+  Confirms : (neighbour : Addr) → Event
+  -- a neighbour is to be forgotten
+  Forgets : (neighbour : Addr) → Event
+  Clears : (table : Clearable) → Event
+  Shows : (table : Table) → Event
+  -- a command that a host doesn't have
+  IsOfRouters : Event
+
+module _ (start : Start) (now : ℕ) where
+  -- ---- a frame comes
+
+  -- what a message adds that is for this node and for which all tables have room
+  abbrev pub MessageAdds : Addr → Addr → Parts → Body → Chronicle → Chronicle → Type 0
+  MessageAdds source destination message (bodies.Ns ns) c d = ThenSolicited start now source destination ns.target message c d
+  MessageAdds source destination message (bodies.Ra ra) c d =
+      (placed : Chronicle) × PlaceFor start c now (said c source message) placed × (d ≡ then_advertised start now source destination ra message placed)
+  MessageAdds source destination message (bodies.Na na) c d =
+      (placed : Chronicle) × PlaceFor start c now (said c source message) placed × (d ≡ then_neighbor_advertised now source destination na.target message placed)
+  MessageAdds source destination message _ c d =
+      (placed : Chronicle) × PlaceFor start c now (said c source message) placed
+      × (d ≡ releasing now (said c source message) (neighbour_history placed) ((now, Heard source destination message) ∷ placed))
+
+  -- what is refused adds its refusal alone
+  abbrev pub UnlessRefused : Option Refusal → (Chronicle → Type 0) → Chronicle → Chronicle → Type 0
+  UnlessRefused None Adds c d = Adds d
+  UnlessRefused (Some refusal) Adds c d = d ≡ (now, Refused refusal) ∷ c
+
+  -- so is what would fill a table
+  abbrev pub UnlessFull : Option Limit → (Chronicle → Type 0) → Chronicle → Chronicle → Type 0
+  UnlessFull full Adds c d = UnlessRefused (option_map Full full) Adds c d
+
+  abbrev pub OutcomeAdds : List ℕ → Outcome → Chronicle → Chronicle → Type 0
+  OutcomeAdds frame (dropped why) c d = d ≡ (now, Dropped why) ∷ c
+  OutcomeAdds frame (other packet) c d = d ≡ (now, Up (take (ipv6_header_length + payload_length_of (packet_in frame)) (packet_in frame))) ∷ c
+  OutcomeAdds frame (valid source destination message) c d =
+      (full : Option Limit) × Fills start c now source message message.body full × UnlessFull full (MessageAdds source destination message message.body c) c d
+
+  pub record FrameAdds (frame : List ℕ) (c d : Chronicle) : Type 0 where
+    pub outcome : Outcome
+    pub heard : IsHeard start c now frame outcome
+    pub adds : OutcomeAdds frame outcome c d
+
+  -- ---- a packet is to be sent (RFC 4861, section 5.2)
+
+  abbrev pub packet_frame : Mac → Addr → Addr → ℕ → List ℕ → Chronicle → List ℕ
+  packet_frame to source destination next_header payload c = written_frame to start.mac (record {
+    traffic_class = 0;
+    flow_label = 0;
+    next_header = next_header;
+    hop_limit = hop_limit c;
+    source = source;
+    destination = destination;
+  }) payload
+
+  -- to a neighbour, if that has place
+  abbrev pub GoesIfPlaced : ℕ → List ℕ → Chronicle → Chronicle → Type 0
+  GoesIfPlaced key packet c d = (place : Bool) × HasPlace start c now key true place × UnlessFull (no_place place) (Goes start c now key packet) c d
+
+  -- what goes to a multicast address goes out at once (RFC 2464, section 7)
+  abbrev pub PacketAdds : NextHop → Addr → Addr → ℕ → List ℕ → Chronicle → Chronicle → Type 0
+  PacketAdds no_route source destination next_header payload c d =
+      d ≡ (now, Lost Routeless (packet_frame open_mac source destination next_header payload c)) ∷ c
+  PacketAdds direct source destination next_header payload c d =
+      MatchBool (holds multicast_prefix destination.0)
+      (d ≡ (now, Sent (packet_frame (multicast_mac destination) source destination next_header payload c)) ∷ c)
+      (GoesIfPlaced (number_of destination.0) (packet_frame open_mac source destination next_header payload c) c d)
+  PacketAdds (via key) source destination next_header payload c d =
+      GoesIfPlaced key (packet_frame open_mac source destination next_header payload c) c d
+
+  -- why it isn't sent at all, the first that holds
+  abbrev pub refusal_of_packet : Addr → List ℕ → Chronicle → Option Refusal
+  refusal_of_packet source payload c =
+      if is_disabled start c then Some Disabled else
+      if is_assigned c source.0 then
+      (if nat_lt (link_mtu c) (ipv6_header_length + length payload) then Some TooLong else None)
+      else Some (NotOurs source)
+
+  abbrev pub SendAdds : Addr → Addr → ℕ → List ℕ → Chronicle → Chronicle → Type 0
+  SendAdds source destination next_header payload c d = UnlessRefused (refusal_of_packet source payload c)
+      (λ e. (next : NextHop) × IsNextHop c now destination next × PacketAdds next source destination next_header payload c e) c d
+
+  -- ---- commands
+
+  -- the packets that wait for a neighbour that is forgotten are lost
+  abbrev pub forgetting : ℕ → Chronicle → Chronicle
+  forgetting key c = losing now Forgotten (waits_of (story key (neighbour_history c))) ((now, Neighbour key (neighbours.Forgot neighbours.Removed)) ∷ c)
+
+  -- the same of all, in the order of their addresses
+  abbrev pub clearing : List Node → Chronicle → Chronicle
+  clearing [] c = c
+  clearing (n ∷ nodes) c = clearing nodes (losing now Forgotten (waiting_in n.stage) ((now, Neighbour n.key (neighbours.Forgot neighbours.Cleared)) ∷ c))
+
+  -- the routers leave in the order of their list
+  abbrev pub all_leaving : List (Lasting ℕ) → Chronicle → Chronicle
+  all_leaving [] c = c
+  all_leaving (e ∷ entries) c = all_leaving entries ((now, LeftRouter e.key) ∷ c)
+
+  abbrev pub ClearAdds : Clearable → Chronicle → Chronicle → Type 0
+  ClearAdds ClearNeighbours c d = (nodes : List Node) × cache.Stands nodes (neighbour_history c) × (d ≡ clearing nodes c)
+  ClearAdds ClearRouters c d =
+      (entries : List (Lasting ℕ)) × Lists same (announcements (router_history c)) now entries × (d ≡ (now, ClearedRedirects) ∷ all_leaving entries c)
+  ClearAdds ClearPrefixes c d = d ≡ (now, ClearedPrefixes) ∷ c
+  ClearAdds ClearRedirects c d = d ≡ (now, ClearedRedirects) ∷ c
+  ClearAdds ClearDns c d = d ≡ (now, ClearedDns) ∷ c
+
+  -- ---- the event
+
+  abbrev pub EventAdds : Event → Chronicle → Chronicle → Type 0
+  EventAdds Passes c d = d ≡ c
+  EventAdds (Receives frame) c d = FrameAdds frame c d
+  EventAdds (Sends source destination next_header payload) c d = SendAdds source destination next_header payload c d
+  EventAdds (Confirms neighbour) c d = d ≡ (now, Neighbour (number_of neighbour.0) (neighbours.Confirmed (reachable_time c))) ∷ c
+  EventAdds (Forgets neighbour) c d = d ≡ forgetting (number_of neighbour.0) c
+  EventAdds (Clears table) c d = ClearAdds table c d
+  EventAdds (Shows table) c d = (rows : List (List ℕ)) × AreRows start c now table rows × (d ≡ (now, Shown rows) ∷ c)
+  EventAdds IsOfRouters c d = d ≡ (now, Refused WrongRole) ∷ c

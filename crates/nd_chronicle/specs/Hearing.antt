@@ -1,0 +1,98 @@
+-- What a node hears in a frame: what the frame says by itself, unless it is not for this node, or a Redirect that does not come from the
+-- current first hop (RFC 4861, sections 7.2.3, 7.2.5, 8.1 and RFC 4862, section 5.4).
+use Rattle.std.specs.Prelude.{◌≡◌, ◌≢◌, ℕ, Bool, true, false, ◌&&◌, ◌||◌, ◌⊎◌, bytes_eq, List}
+use Rattle.nd_addr.specs.declared.addr.Addr.{Addr}
+use Rattle.nd_addr.specs.declared.role.Role.TheVariants.{Router}
+use Rattle.nd_addr.specs.declared.why.Why.{Why}
+use Rattle.nd_addr.specs.declared.why.Why.TheVariants.{NotForUs, NotFirstHop}
+use Rattle.nd_addr.specs.Ip6.{PacketParts}
+use Rattle.nd_addr.specs.Kind.{unspecified_address, all_nodes_address, all_routers_address, solicited_node_of}
+use Rattle.nd_addr.specs.Number.{addr_at, number_of}
+use Rattle.nd_decode.specs.Message.{Parts}
+use Rattle.nd_decode.specs.declared.body.Body.{Body}
+use Rattle.nd_decode.specs.declared.body.Body.TheVariants as bodies
+use Rattle.nd_validity.specs.Hearing.{Outcome, valid, other, dropped, Hears}
+use Rattle.nd_nexthop.specs.NextHop.{NextHop, via}
+use Rattle.nd_chronicle.specs.Start.{Start, link_local}
+use Rattle.nd_chronicle.specs.Happening.{Chronicle}
+use Rattle.nd_chronicle.specs.NextHop.{IsNextHop}
+use Rattle.nd_chronicle.specs.OwnAddress.{is_tentative, is_assigned, is_own, is_up}
+
+-- ---- to whom it goes
+
+-- an address that counts, or its solicited-node address
+pub record IsCounted (counts : List ℕ → Bool) (destination : Addr) : Type 0 where
+  pub key : ℕ
+  pub counted : counts (addr_at key).0 ≡ true
+  pub to : (destination.0 ≡ (addr_at key).0) ⊎ (destination.0 ≡ solicited_node_of (addr_at key).0)
+
+-- all nodes, at a router all routers, and each address that counts with its solicited-node address (RFC 4291, section 2.8)
+abbrev pub IsOurs : Start → (List ℕ → Bool) → Addr → Type 0
+IsOurs start counts destination =
+    (destination.0 ≡ all_nodes_address) ⊎ (((start.role ≡ Router) × (destination.0 ≡ all_routers_address)) ⊎ IsCounted counts destination)
+
+-- ---- of what it speaks
+
+-- another node has the address, or tries for it: an advertisement for it, or a solicitation for it from :: (RFC 4862, sections 5.4.3 and
+-- 5.4.4)
+abbrev pub conflicts_with : List ℕ → Addr → Body → Bool
+conflicts_with address source (bodies.Ns ns) = bytes_eq ns.target.0 address && bytes_eq source.0 unspecified_address
+conflicts_with address source (bodies.Na na) = bytes_eq na.target.0 address
+conflicts_with address source _ = false
+
+-- "Otherwise, if the Target Address is tentative, the Neighbor Solicitation should be processed as described in [ADDRCONF]": a tentative
+-- address is not answered for, so that only a conflict is heard; no other node's address is (RFC 4861, section 7.2.3)
+abbrev pub takes_target : Chronicle → Addr → Body → Bool
+takes_target c source (bodies.Ns ns) = is_assigned c ns.target.0 || (is_tentative c ns.target.0 && bytes_eq source.0 unspecified_address)
+takes_target c source _ = true
+
+-- Before its link-local address is assigned a node hears only what makes that a duplicate; where it is a duplicate, nothing (our choice:
+-- a node has to have a link-local address).
+abbrev pub is_awake : Start → Chronicle → Addr → Body → Bool
+is_awake start c source body =
+    is_up start c || (is_tentative c (link_local start).0 && conflicts_with (link_local start).0 source body)
+
+-- the message is for this node
+pub record IsForUs (start : Start) (c : Chronicle) (source destination : Addr) (message : Parts) : Type 0 where
+  pub destination_is : IsOurs start (is_own c) destination
+  pub target : takes_target c source message.body ≡ true
+  pub awake : is_awake start c source message.body ≡ true
+
+-- the packet is for this node: for an address that is assigned
+pub record IsPacketForUs (start : Start) (c : Chronicle) (packet : PacketParts) : Type 0 where
+  pub destination_is : IsOurs start (is_assigned c) packet.header.destination
+  pub up : is_up start c ≡ true
+
+-- ---- from whom a Redirect comes
+
+-- "The IP source address of the Redirect is the same as the current first-hop router for the specified ICMP Destination Address."
+-- (section 8.1)
+abbrev pub FromFirstHop : Chronicle → ℕ → Addr → Body → Type 0
+FromFirstHop c now source (bodies.Redirect r) = IsNextHop c now r.destination (via (number_of source.0))
+FromFirstHop c now source _ = Unit {0}
+
+-- it is a Redirect, and comes from another node
+abbrev pub NotFromFirstHop : Chronicle → ℕ → Addr → Body → Type 0
+NotFromFirstHop c now source (bodies.Redirect r) = (next : NextHop) × IsNextHop c now r.destination next × (next ≢ via (number_of source.0))
+NotFromFirstHop c now source _ = ⊥
+
+-- ---- what is heard
+
+-- What this node makes of what the frame says by itself: a reason stays; a message is heard that is for it and comes from where it has to;
+-- another packet that is for it is heard.
+pub data Judges (start : Start) (c : Chronicle) (now : ℕ) : Outcome → Outcome → Type 0 where
+  IsDropped : {why : Why} → Judges start c now (dropped why) (dropped why)
+  IsTaken : {source destination : Addr} {message : Parts} → IsForUs start c source destination message → FromFirstHop c now source message.body
+      → Judges start c now (valid source destination message) (valid source destination message)
+  IsStrange : {source destination : Addr} {message : Parts} → (IsForUs start c source destination message → ⊥)
+      → Judges start c now (valid source destination message) (dropped NotForUs)
+  IsMisdirected : {source destination : Addr} {message : Parts} → IsForUs start c source destination message → NotFromFirstHop c now source message.body
+      → Judges start c now (valid source destination message) (dropped NotFirstHop)
+  IsPacket : {packet : PacketParts} → IsPacketForUs start c packet → Judges start c now (other packet) (other packet)
+  IsStrangePacket : {packet : PacketParts} → (IsPacketForUs start c packet → ⊥) → Judges start c now (other packet) (dropped NotForUs)
+
+-- this is heard in the frame
+pub record IsHeard (start : Start) (c : Chronicle) (now : ℕ) (frame : List ℕ) (heard : Outcome) : Type 0 where
+  pub outcome : Outcome
+  pub by_frame : Hears frame start.role outcome
+  pub by_node : Judges start c now outcome heard

@@ -1,0 +1,41 @@
+-- What a Neighbor Solicitation for an own address adds (RFC 4861, sections 7.2.3 and 7.2.4; RFC 4862, section 5.4.3).
+use Rattle.std.specs.Prelude.{◌≡◌, ℕ, Bool, true, false, if◌then◌else◌, bytes_eq, MatchBool, ◌∷◌}
+use Rattle.nd_addr.specs.declared.addr.Addr.{Addr}
+use Rattle.nd_addr.specs.declared.role.Role.{Role}
+use Rattle.nd_addr.specs.declared.role.Role.TheVariants.{Host, Router}
+use Rattle.nd_addr.specs.Kind.{unspecified_address}
+use Rattle.nd_addr.specs.Number.{number_of}
+use Rattle.nd_decode.specs.Message.{Parts}
+use Rattle.nd_slaac.specs.History as addresses
+use Rattle.nd_chronicle.specs.Start.{Start}
+use Rattle.nd_chronicle.specs.Happening.{Chronicle, Heard, Address, Sent}
+use Rattle.nd_chronicle.specs.Histories.{neighbour_history}
+use Rattle.nd_chronicle.specs.OwnAddress.{is_assigned}
+use Rattle.nd_chronicle.specs.Frames.{defence_frame, answer_frame}
+use Rattle.nd_chronicle.specs.Packet.{Goes}
+use Rattle.nd_chronicle.specs.Message.{said, PlaceFor, releasing}
+
+-- the flag R of what it sends: "If the node is a router, it MUST set the Router flag to one; otherwise, it MUST set the flag to zero."
+abbrev pub is_router : Role → Bool
+is_router Router = true
+is_router Host = false
+
+module _ (start : Start) (at : ℕ) where
+  -- From ::, another node tries the address: if it is assigned here, all nodes are told so; if it is tentative, it is a duplicate.
+  abbrev pub then_tried : Addr → Chronicle → Chronicle
+  then_tried target c =
+      if is_assigned c target.0 then (at, Sent (defence_frame (is_router start.role) start.mac target)) ∷ c
+      else (at, Address (number_of target.0) addresses.Conflict) ∷ c
+
+  -- From an address, it is answered to the asker as any packet goes there, behind what the solicitation says of the asker.
+  pub record Answers (source destination target : Addr) (message : Parts) (c d : Chronicle) : Type 0 where
+    pub placed : Chronicle
+    pub place : PlaceFor start c at (said c source message) placed
+    pub answer : Goes start (releasing at (said c source message) (neighbour_history placed) ((at, Heard source destination message) ∷ placed)) at
+        (number_of source.0) (answer_frame (is_router start.role) start.mac target source) d
+
+  abbrev pub ThenSolicited : Addr → Addr → Addr → Parts → Chronicle → Chronicle → Type 0
+  ThenSolicited source destination target message c d =
+      MatchBool (bytes_eq source.0 unspecified_address)
+      (d ≡ then_tried target ((at, Heard source destination message) ∷ c))
+      (Answers source destination target message c d)

@@ -1,0 +1,58 @@
+-- A packet goes to a neighbour (RFC 4861, sections 7.2.2 and 7.3.3).
+use Rattle.std.specs.Prelude.{◌≡◌, ℕ, Bool, true, false, MatchBool, List, [], ◌∷◌, Option, Some, None}
+use Rattle.std.specs.Option.{option_to_list}
+use Rattle.nd_addr.specs.Frame.{addressed}
+use Rattle.nd_addr.specs.Number.{addr_at, mac_at}
+use Rattle.nd_neighbour.specs.History as neighbours
+use Rattle.nd_neighbour.specs.History.{story}
+use Rattle.nd_neighbour.specs.Place.{Prepares, WouldBeFull, pushing}
+use Rattle.nd_neighbour.specs.Sending.{Sending, Sends, Queues, sending_of_story}
+use Rattle.nd_chronicle.specs.Start.{Start, link_local}
+use Rattle.nd_chronicle.specs.Happening.{Chronicle, Neighbour, Sent, Lost, Loss, Replaced}
+use Rattle.nd_chronicle.specs.Histories.{neighbour_history}
+use Rattle.nd_chronicle.specs.InForce.{retrans_timer}
+use Rattle.nd_chronicle.specs.Frames.{resolution_frame}
+
+-- packets are lost, in their order
+abbrev pub losing : ℕ → Loss → List (List ℕ) → Chronicle → Chronicle
+losing at why [] c = c
+losing at why (packet ∷ packets) c = losing at why packets ((at, Lost why packet) ∷ c)
+
+-- packets are sent to a link-layer address, in their order
+abbrev pub sending : ℕ → ℕ → List (List ℕ) → Chronicle → Chronicle
+sending at mac [] c = c
+sending at mac (packet ∷ packets) c = sending at mac packets ((at, Sent (addressed (mac_at mac) packet)) ∷ c)
+
+-- a neighbour goes, so that another one has place
+abbrev pub with_pushed : ℕ → Option ℕ → Chronicle → Chronicle
+with_pushed at None c = c
+with_pushed at (Some key) c = (at, Neighbour key (neighbours.Forgot neighbours.PushedOut)) ∷ c
+
+-- what makes place for a neighbour that may have to enter
+pub record MakesPlace (start : Start) (c : Chronicle) (at key : ℕ) (enters : Bool) (d : Chronicle) : Type 0 where
+  pub pushed : Option ℕ
+  pub place : Prepares start.limits.neighbours at enters key (neighbour_history c) (pushing at pushed (neighbour_history c))
+  pub with_it : d ≡ with_pushed at pushed c
+
+-- whether there is place for it: there isn't where it would be full
+abbrev pub HasPlace : Start → Chronicle → ℕ → ℕ → Bool → Bool → Type 0
+HasPlace start c at key enters place =
+    MatchBool place (enters ≡ true → WouldBeFull start.limits.neighbours at key (neighbour_history c) → ⊥)
+    ((enters ≡ true) × WouldBeFull start.limits.neighbours at key (neighbour_history c))
+
+-- what becomes of the packet: one for a neighbour whose link-layer address is known is sent, and uses the neighbour; the first one for
+-- another neighbour begins its resolution, and each waits, where a fourth one takes the place of the oldest
+abbrev pub then_packet : Start → ℕ → ℕ → ℕ → List ℕ → Sending → Chronicle → Chronicle
+then_packet start at key retrans packet (Sends mac sent) c =
+    (at, Neighbour key (neighbours.Used retrans)) ∷ (at, Sent (addressed (mac_at mac) sent)) ∷ c
+then_packet start at key retrans packet (Queues true replaced) c =
+    (at, Neighbour key (neighbours.Waits packet)) ∷ (at, Sent (resolution_frame start.mac (link_local start) (addr_at key)))
+    ∷ (at, Neighbour key (neighbours.Asked retrans)) ∷ c
+then_packet start at key retrans packet (Queues false replaced) c =
+    losing at Replaced (option_to_list replaced) ((at, Neighbour key (neighbours.Waits packet)) ∷ c)
+
+-- What a packet to a neighbour adds, with the RetransTimer in force: the neighbour has place, and the packet is sent or waits.
+pub record Goes (start : Start) (c : Chronicle) (at key : ℕ) (packet : List ℕ) (d : Chronicle) : Type 0 where
+  pub placed : Chronicle
+  pub place : MakesPlace start c at key true placed
+  pub goes : d ≡ then_packet start at key (retrans_timer c) packet (sending_of_story (story key (neighbour_history c)) packet) placed

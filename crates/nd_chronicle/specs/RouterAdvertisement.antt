@@ -1,0 +1,70 @@
+-- What a Router Advertisement adds, in the order in which it is taken (RFC 4861, section 6.3.4; RFC 4862, section 5.5.3): the parameters,
+-- what it says of its sender, the list of routers, and its prefix options, each for the link and then for the addresses.
+use Rattle.std.specs.Prelude.{ℕ, Bool, true, false, ◌&&◌, ◌==◌, if◌then◌else◌, List, [], ◌∷◌, Some}
+use Rattle.nd_addr.specs.declared.addr.Addr.{Addr}
+use Rattle.nd_addr.specs.Kind.{multicast_prefix}
+use Rattle.nd_addr.specs.Number.{number_of, holds}
+use Rattle.nd_decode.specs.Message.{Parts}
+use Rattle.nd_decode.specs.declared.prefix_info.PrefixInfo.{PrefixInfo}
+use Rattle.nd_decode.specs.declared.router_advertisement.RouterAdvertisement.{RouterAdvertisement}
+use Rattle.nd_lifetime.specs.History.{stands}
+use Rattle.nd_params.specs.Params.{redraws}
+use Rattle.nd_routers.specs.History.{announcements}
+use Rattle.nd_routers.specs.Routers.{same}
+use Rattle.nd_slaac.specs.History as addresses
+use Rattle.nd_slaac.specs.History.{Lifetimes}
+use Rattle.nd_slaac.specs.PrefixOption.{is_taken, named_by, lifetimes_of, prefixes_in}
+use Rattle.nd_slaac.specs.State.{is_known}
+use Rattle.nd_chronicle.specs.Start.{Start}
+use Rattle.nd_chronicle.specs.Happening.{Chronicle, Drew, ForReachableTime, ForDelay, Address, Heard}
+use Rattle.nd_chronicle.specs.Histories.{neighbour_history, router_history}
+use Rattle.nd_chronicle.specs.InForce.{base_reachable_time, retrans_timer}
+use Rattle.nd_chronicle.specs.Generator.{stream_left, reachable_drawn, delay_drawn}
+use Rattle.nd_chronicle.specs.OwnAddress.{story_of}
+use Rattle.nd_chronicle.specs.Message.{said, releasing, leaving}
+
+module _ (start : Start) (at : ℕ) where
+  -- "a new random value is calculated" where the base changes (section 6.3.4)
+  abbrev pub redrawing : ℕ → Bool → Chronicle → Chronicle
+  redrawing base true c = (at, Drew ForReachableTime (reachable_drawn base (stream_left start c))) ∷ c
+  redrawing base false c = c
+
+  -- the first solicitation for an address is delayed where the advertisement went to all (RFC 4862, section 5.4.2)
+  abbrev pub delay_for : Bool → Chronicle → ℕ
+  delay_for true c = delay_drawn (stream_left start c)
+  delay_for false c = 0
+
+  abbrev pub with_delay : Bool → Chronicle → Chronicle
+  with_delay true c = (at, Drew ForDelay (delay_drawn (stream_left start c))) ∷ c
+  with_delay false c = c
+
+  -- an address is formed, with the RetransTimer in force
+  abbrev pub forming : Bool → ℕ → Lifetimes → Chronicle → Chronicle
+  forming to_all key lifetimes c =
+      (at, Address key (addresses.Formed (delay_for to_all c) (retrans_timer c) (Some lifetimes))) ∷ with_delay to_all c
+
+  -- a prefix option that is taken renews the address that it names, or forms it unless its valid lifetime is 0
+  abbrev pub naming : Bool → Bool → PrefixInfo → Chronicle → Chronicle
+  naming to_all true info c = (at, Address (named_by start.mac info) (addresses.Announced (lifetimes_of info))) ∷ c
+  naming to_all false info c = if info.valid_lifetime == 0 then c else forming to_all (named_by start.mac info) (lifetimes_of info) c
+
+  abbrev pub then_option : Bool → PrefixInfo → Chronicle → Chronicle
+  then_option to_all info c =
+      if is_taken info then naming to_all (is_known (story_of c (named_by start.mac info))) info c else c
+
+  -- the options in their order
+  abbrev pub then_options : Bool → List PrefixInfo → Chronicle → Chronicle
+  then_options to_all [] c = c
+  then_options to_all (info ∷ infos) c = then_options to_all infos (then_option to_all info c)
+
+  -- "If the received Router Lifetime value is zero, immediately time-out the entry": a router that stands in the list
+  abbrev pub times_out : Chronicle → Addr → RouterAdvertisement → Bool
+  times_out c source ra = (ra.router_lifetime == 0) && stands same (number_of source.0) (announcements (router_history c)) at
+
+  abbrev pub then_advertised : Addr → Addr → RouterAdvertisement → Parts → Chronicle → Chronicle
+  then_advertised source destination ra message c =
+      then_options (holds multicast_prefix destination.0) (prefixes_in message.options)
+      (leaving at (times_out c source ra) (number_of source.0)
+      (releasing at (said c source message) (neighbour_history c)
+      (redrawing ra.reachable_time (redraws (base_reachable_time c) ra.reachable_time)
+      ((at, Heard source destination message) ∷ c))))

@@ -1,0 +1,123 @@
+-- What is shown of each table, row by row (the texts are this project's own).
+use Rattle.std.specs.Prelude.{◌≡◌, ℕ, Bool, true, false, ◌++◌, List, [], ◌∷◌, map, codes, Option, Some, None}
+use Rattle.std.specs.Fmt.{decimal}
+use Rattle.nd_addr.specs.declared.addr.Addr.{Addr}
+use Rattle.nd_addr.specs.Number.{addr_at, mac_at}
+use Rattle.nd_addr.specs.Prefix.{PrefixValue}
+use Rattle.nd_addr.specs.Text.{address_text, mac_text, prefix_text}
+use Rattle.nd_search_list.specs.Text.{name_text}
+use Rattle.nd_lifetime.specs.declared.lasting.Lasting.{Lasting}
+use Rattle.nd_lifetime.specs.Listing.{Lists}
+use Rattle.nd_lifetime.specs.Same.{same_addr, same_prefix}
+use Rattle.nd_params.specs.History.{managed_of, other_of}
+use Rattle.nd_neighbour.specs.declared.shown.Reachability.{Reachability}
+use Rattle.nd_neighbour.specs.declared.shown.Reachability.TheVariants.{Incomplete, Reachable, Stale, Delay, Probe}
+use Rattle.nd_neighbour.specs.Shown as neighbours
+use Rattle.nd_routers.specs.History.{announcements}
+use Rattle.nd_routers.specs.Routers.{same}
+use Rattle.nd_slaac.specs.declared.state.State.{State}
+use Rattle.nd_slaac.specs.declared.state.State.TheVariants.{Tentative, Preferred, Deprecated, Duplicate}
+use Rattle.nd_slaac.specs.Shown as addresses
+use Rattle.nd_slaac.specs.Shown.{rest_until}
+use Rattle.nd_dns.specs.Names.{same_name}
+use Rattle.nd_nexthop.specs.History.{redirects}
+use Rattle.nd_chronicle.specs.Start.{Start}
+use Rattle.nd_chronicle.specs.Happening.{Chronicle}
+use Rattle.nd_chronicle.specs.Histories.{parameter_history, neighbour_history, router_history, prefix_history, address_history, server_history, name_history, redirect_history}
+use Rattle.nd_chronicle.specs.InForce.{hop_limit, link_mtu, base_reachable_time, reachable_time, retrans_timer}
+
+-- the tables that a command shows
+pub data Table : Type 0 where
+  NeighbourTable : Table
+  RouterTable : Table
+  PrefixTable : Table
+  AddressTable : Table
+  DnsTable : Table
+  RedirectTable : Table
+  ParameterTable : Table
+  AdvertiseTable : Table
+  RouteTable : Table
+
+-- the address of a number
+abbrev pub key_text : ℕ → List ℕ
+key_text key = address_text (addr_at key).0
+
+-- what is left of a lifetime, in milliseconds, or `inf`
+abbrev pub left_text : Option ℕ → List ℕ
+left_text None = codes "inf"
+left_text (Some left) = decimal left
+
+abbrev pub mac_or_none_text : Option ℕ → List ℕ
+mac_or_none_text None = codes "-"
+mac_or_none_text (Some mac) = mac_text (mac_at mac).0
+
+abbrev pub reachability_text : Reachability → List ℕ
+reachability_text Incomplete = codes "incomplete"
+reachability_text Reachable = codes "reachable"
+reachability_text Stale = codes "stale"
+reachability_text Delay = codes "delay"
+reachability_text Probe = codes "probe"
+
+abbrev pub router_or_host_text : Bool → List ℕ
+router_or_host_text true = codes "router"
+router_or_host_text false = codes "host"
+
+abbrev pub state_text : State → List ℕ
+state_text Tentative = codes "tentative"
+state_text Preferred = codes "preferred"
+state_text Deprecated = codes "deprecated"
+state_text Duplicate = codes "duplicate"
+
+abbrev pub flag_text : Bool → List ℕ
+flag_text true = codes "1"
+flag_text false = codes "0"
+
+abbrev pub neighbour_row : neighbours.Seen → List ℕ
+neighbour_row n =
+    codes "neighbour " ++ key_text n.key ++ codes " " ++ mac_or_none_text n.mac ++ codes " " ++ reachability_text n.state ++ codes " " ++ router_or_host_text n.router
+
+abbrev pub router_row : ℕ → Lasting ℕ → List ℕ
+router_row now e = codes "router " ++ key_text e.key ++ codes " " ++ left_text (rest_until now e.end)
+
+abbrev pub prefix_row : ℕ → Lasting PrefixValue → List ℕ
+prefix_row now e = codes "prefix " ++ prefix_text e.key ++ codes " " ++ left_text (rest_until now e.end)
+
+abbrev pub address_row : addresses.Seen → List ℕ
+address_row a =
+    codes "address " ++ key_text a.key ++ codes " " ++ state_text a.state ++ codes " " ++ left_text a.preferred_left ++ codes " " ++ left_text a.valid_left
+
+abbrev pub server_row : ℕ → Lasting Addr → List ℕ
+server_row now e = codes "server " ++ address_text e.key.0 ++ codes " " ++ left_text (rest_until now e.end)
+
+abbrev pub search_row : ℕ → Lasting (List ℕ) → List ℕ
+search_row now e = codes "search " ++ name_text e.key ++ codes " " ++ left_text (rest_until now e.end)
+
+-- a destination and its target
+abbrev pub redirect_row : ℕ × ℕ → List ℕ
+redirect_row redirect = codes "redirect " ++ key_text redirect.0 ++ codes " " ++ key_text redirect.1
+
+abbrev pub times_text : Chronicle → List ℕ
+times_text c = codes " reachable " ++ decimal (base_reachable_time c) ++ codes " " ++ decimal (reachable_time c) ++ codes " retrans " ++ decimal (retrans_timer c)
+
+abbrev pub parameter_row : Chronicle → List ℕ
+parameter_row c =
+    codes "params hop " ++ decimal (hop_limit c) ++ codes " mtu " ++ decimal (link_mtu c) ++ times_text c
+    ++ codes " managed " ++ flag_text (managed_of (parameter_history c)) ++ codes " other " ++ flag_text (other_of (parameter_history c))
+
+-- These are the rows of the table at the moment: neighbours and addresses by their numbers, routers, prefixes, servers and names in the
+-- order in which they came, redirects the newest first. What only a router has is empty at a host.
+abbrev pub AreRows : Start → Chronicle → ℕ → Table → List (List ℕ) → Type 0
+AreRows start c now NeighbourTable rows = (seen : List neighbours.Seen) × neighbours.Lists (neighbour_history c) now seen × (rows ≡ map neighbour_row seen)
+AreRows start c now RouterTable rows =
+    (entries : List (Lasting ℕ)) × Lists same (announcements (router_history c)) now entries × (rows ≡ map (router_row now) entries)
+AreRows start c now PrefixTable rows =
+    (entries : List (Lasting PrefixValue)) × Lists same_prefix (prefix_history c) now entries × (rows ≡ map (prefix_row now) entries)
+AreRows start c now AddressTable rows = (seen : List addresses.Seen) × addresses.Lists (address_history c) now seen × (rows ≡ map address_row seen)
+AreRows start c now DnsTable rows =
+    (servers : List (Lasting Addr)) × Lists same_addr (server_history c) now servers
+    × (names : List (Lasting (List ℕ))) × Lists same_name (name_history c) now names
+    × (rows ≡ map (server_row now) servers ++ map (search_row now) names)
+AreRows start c now RedirectTable rows = rows ≡ map redirect_row (redirects (redirect_history c))
+AreRows start c now ParameterTable rows = rows ≡ parameter_row c ∷ []
+AreRows start c now AdvertiseTable rows = rows ≡ []
+AreRows start c now RouteTable rows = rows ≡ []

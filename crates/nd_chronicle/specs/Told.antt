@@ -1,0 +1,91 @@
+-- The text of a chronicle: what is told of each row, and nothing of what has no text (the texts are this project's own).
+use Rattle.std.specs.Prelude.{ℕ, List, [], ◌∷◌, ◌++◌, length, codes}
+use Rattle.std.specs.Fmt.{decimal}
+use Rattle.std.specs.List.{flat_map}
+use Rattle.nd_addr.specs.Ip6.{header_of}
+use Rattle.nd_addr.specs.Places.{packet_in}
+use Rattle.nd_addr.specs.Text.{address_text}
+use Rattle.nd_addr.specs.Why as reasons
+use Rattle.nd_decode.specs.declared.body.Body.{Body}
+use Rattle.nd_decode.specs.declared.body.Body.TheVariants as bodies
+use Rattle.nd_text.specs.Digits.{hex_text}
+use Rattle.nd_neighbour.specs.History as neighbours
+use Rattle.nd_slaac.specs.History as addresses
+use Rattle.nd_chronicle.specs.Happening.{Happening, Passed, Drew, Heard, Dropped, Up, Neighbour, Address, LeftRouter, ClearedPrefixes, ClearedRedirects, ClearedDns, SolicitedRouters, Sent, Lost, Refused, Shown, TooLate, Chronicle, Loss, Unreachable, Replaced, Forgotten, Routeless, Limit, Neighbours, Routers, Prefixes, Addresses, Servers, Names, Refusal, WrongRole, Disabled, NotOurs, TooLong, Full}
+use Rattle.nd_chronicle.specs.Shown.{key_text}
+
+abbrev pub kind_text : Body → List ℕ
+kind_text bodies.Rs = codes "rs"
+kind_text (bodies.Ra ra) = codes "ra"
+kind_text (bodies.Ns ns) = codes "ns"
+kind_text (bodies.Na na) = codes "na"
+kind_text (bodies.Redirect r) = codes "redirect"
+
+abbrev pub loss_text : Loss → List ℕ
+loss_text Unreachable = codes "unreachable"
+loss_text Replaced = codes "replaced"
+loss_text Forgotten = codes "forgotten"
+loss_text Routeless = codes "no-route"
+
+abbrev pub limit_text : Limit → List ℕ
+limit_text Neighbours = codes "neighbours"
+limit_text Routers = codes "routers"
+limit_text Prefixes = codes "prefixes"
+limit_text Addresses = codes "addresses"
+limit_text Servers = codes "servers"
+limit_text Names = codes "names"
+
+abbrev pub refusal_text : Refusal → List ℕ
+refusal_text WrongRole = codes "wrong-role"
+refusal_text Disabled = codes "disabled"
+refusal_text (NotOurs source) = codes "not-ours " ++ address_text source.0
+refusal_text TooLong = codes "too-long"
+refusal_text (Full limit) = codes "full " ++ limit_text limit
+
+-- the source and the destination of a packet, by its header
+abbrev pub way_text : List ℕ → List ℕ
+way_text frame =
+    address_text (header_of (packet_in frame)).source.0 ++ codes " " ++ address_text (header_of (packet_in frame)).destination.0
+
+abbrev pub told_of_neighbour : ℕ → neighbours.RowKind → List (List ℕ)
+told_of_neighbour key (neighbours.Forgot neighbours.Failed) = (codes "failed " ++ key_text key) ∷ []
+told_of_neighbour key _ = []
+
+abbrev pub told_of_address : ℕ → addresses.RowKind → List (List ℕ)
+told_of_address key addresses.Conflict = (codes "duplicate " ++ key_text key) ∷ []
+told_of_address key addresses.Assigned = (codes "assigned " ++ key_text key) ∷ []
+told_of_address key addresses.Ended = (codes "ended address " ++ key_text key) ∷ []
+told_of_address key _ = []
+
+-- what is told of what happened: texts without their moment
+abbrev pub told_of : Happening → List (List ℕ)
+told_of Passed = []
+told_of (Drew what value) = []
+told_of (Heard source destination message) = (codes "heard " ++ kind_text message.body) ∷ []
+told_of (Dropped why) = (codes "drop " ++ decimal (reasons.number_of why) ++ codes " " ++ reasons.name_of why) ∷ []
+told_of (Up packet) = (codes "up " ++ hex_text packet) ∷ []
+told_of (Neighbour key kind) = told_of_neighbour key kind
+told_of (Address key kind) = told_of_address key kind
+told_of (LeftRouter key) = (codes "ended router " ++ key_text key) ∷ []
+told_of ClearedPrefixes = []
+told_of ClearedRedirects = []
+told_of ClearedDns = []
+told_of SolicitedRouters = []
+told_of (Sent frame) = (codes "tx " ++ hex_text frame) ∷ []
+told_of (Lost why packet) = (codes "lost " ++ loss_text why ++ codes " " ++ way_text packet) ∷ []
+told_of (Refused refusal) = (codes "refused " ++ refusal_text refusal) ∷ []
+told_of (Shown rows) = rows ++ (codes "end " ++ decimal (length rows)) ∷ []
+told_of (TooLate last) = (codes "refused past " ++ decimal last) ∷ []
+
+-- a line: the moment, the text, and a line feed
+abbrev pub line_at : ℕ → List ℕ → List ℕ
+line_at at told = decimal at ++ codes " " ++ told ++ 10 ∷ []
+
+-- the lines of one row
+abbrev pub lines_of : ℕ × Happening → List ℕ
+lines_of row = flat_map (line_at row.0) (told_of row.1)
+
+-- the text of it all, the oldest row first
+abbrev pub text : Chronicle → List ℕ
+text [] = []
+text (row ∷ c) = text c ++ lines_of row
