@@ -6,6 +6,7 @@ pub mod Histories
 pub mod InForce
 pub mod OwnAddress
 pub mod Frames
+pub mod Meaning
 pub mod Packet
 pub mod NextHop
 pub mod Hearing
