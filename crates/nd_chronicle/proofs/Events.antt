@@ -27,7 +27,7 @@ use Rattle.nd_chronicle.specs.Message.{said, PlaceFor, releasing}
 use Rattle.nd_chronicle.specs.RouterAdvertisement.{then_advertised}
 use Rattle.nd_chronicle.specs.NeighborSolicitation as asked
 use Rattle.nd_chronicle.specs.NeighborSolicitation.{is_router, ThenSolicited, then_tried}
-use Rattle.nd_chronicle.specs.Frames.{answer_frame}
+use Rattle.nd_frames.specs.Frames.{answer_frame}
 use Rattle.nd_chronicle.specs.Packet.{Goes}
 use Rattle.nd_chronicle.specs.NeighborAdvertisement.{then_neighbor_advertised}
 use Rattle.nd_chronicle.specs.Full.{needs, Placed, no_place, Fills}

@@ -3,4 +3,3 @@ pub mod Hops
 pub mod Dues
 pub mod Events
 pub mod Growth
-pub mod Meant

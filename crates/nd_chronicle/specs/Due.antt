@@ -15,7 +15,7 @@ use Rattle.nd_chronicle.specs.Happening.{Chronicle, Drew, ForReachableTime, Neig
 use Rattle.nd_chronicle.specs.Histories.{parameter_history, neighbour_history, router_history, address_history}
 use Rattle.nd_chronicle.specs.InForce.{base_reachable_time, next_redraw}
 use Rattle.nd_chronicle.specs.Generator.{stream_left, reachable_drawn}
-use Rattle.nd_chronicle.specs.Frames.{detection_frame, resolution_frame, probe_frame, router_solicitation_frame}
+use Rattle.nd_frames.specs.Frames.{detection_frame, resolution_frame, probe_frame, router_solicitation_frame}
 use Rattle.nd_chronicle.specs.Packet.{losing}
 
 -- ---- Router Solicitations (RFC 4861, section 6.3.7)

@@ -27,7 +27,7 @@ use Rattle.nd_chronicle.specs.Happening.{Chronicle, Heard, Dropped, Up, Neighbou
 use Rattle.nd_chronicle.specs.Histories.{neighbour_history, router_history}
 use Rattle.nd_chronicle.specs.InForce.{hop_limit, link_mtu, reachable_time}
 use Rattle.nd_chronicle.specs.OwnAddress.{is_assigned, is_disabled}
-use Rattle.nd_chronicle.specs.Frames.{multicast_mac, open_mac}
+use Rattle.nd_frames.specs.Frames.{multicast_mac, open_mac}
 use Rattle.nd_chronicle.specs.Packet.{losing, Goes, HasPlace}
 use Rattle.nd_chronicle.specs.NextHop.{IsNextHop}
 use Rattle.nd_chronicle.specs.Hearing.{IsHeard}

@@ -5,8 +5,6 @@ pub mod LinkLayerAddress
 pub mod Histories
 pub mod InForce
 pub mod OwnAddress
-pub mod Frames
-pub mod Meaning
 pub mod Packet
 pub mod NextHop
 pub mod Hearing

@@ -1,8 +1,7 @@
 -- Frames that are sent carry their messages, and are heard as they are meant.
-use Rattle.std.proofs.Common.{◌≡◌, ℕ, Bool, true, false, ◌&&◌, List, [], ◌∷◌, None, refl, sym, ap, subst, ◌∙◌, arith}
+use Rattle.std.proofs.Common.{◌≡◌, ℕ, Bool, true, false, ◌&&◌, List, [], ◌∷◌, None, refl, sym, ap, subst, ◌∙◌}
 use Rattle.std.specs.Prelude.{bytes_eq}
 use Rattle.std.specs.List.{list_any}
-use Rattle.std.proofs.lemmas.List.{length-append}
 use Rattle.std.proofs.lemmas.Slice.Eq.{bytes_eq-Decides}
 use Rattle.nd_addr.specs.Bytes.{AreBytes}
 use Rattle.nd_addr.specs.Frame.{addressed}
@@ -15,30 +14,13 @@ use Rattle.nd_decode.specs.Carried.{Carries}
 use Rattle.nd_decode.specs.Option.{Said, slla}
 use Rattle.nd_decode.specs.declared.body.Body.{Body}
 use Rattle.nd_decode.specs.declared.body.Body.TheVariants as bodies
-use Rattle.nd_message.specs.WellFormed.{IsWellFormed}
-use Rattle.nd_message.proofs.Formed.{formed}
 use Rattle.nd_message.proofs.Framing.{frame_carries, readdressed_carries}
 use Rattle.nd_validity.specs.Hearing.{valid, Hears}
 use Rattle.nd_validity.specs.Validity.{is_slla, is_solicited_node, fault_of, is_not_for}
 use Rattle.nd_validity.proofs.Carried.{heard}
-use Rattle.nd_chronicle.specs.Frames.{unspecified, all_nodes, all_routers, solicited_node, open_mac, detection_frame, solicitation, resolution_frame, probe_frame, router_solicitation_frame, advertisement, defence_frame, answer_frame}
-use Rattle.nd_chronicle.specs.Meaning.{IsUnicast, IsDetection, IsDefence}
-
--- ---- the messages have a spelling
-
-bare_formed : (target : Addr) → AreBytes 16 target.0 → IsWellFormed (record { body = bodies.Ns (record { target = target }); options = [] })
-bare_formed target h = formed (record { body = bodies.Ns (record { target = target }); options = [] }) h (record { each = tt; most = omega (arith, h.len_is) })
-
-solicitation_formed : (mac : Mac) (target : Addr) → AreBytes 6 mac.0 → AreBytes 16 target.0 → IsWellFormed (solicitation mac target)
-solicitation_formed mac target m h = formed (solicitation mac target) h (record { each = (m, tt); most = omega (arith, h.len_is, m.len_is, length-append mac.0 []) })
-
-router_solicitation_formed : (mac : Mac) → AreBytes 6 mac.0 → IsWellFormed (record { body = bodies.Rs; options = slla mac ∷ [] })
-router_solicitation_formed mac m =
-    formed (record { body = bodies.Rs; options = slla mac ∷ [] }) tt (record { each = (m, tt); most = omega (arith, m.len_is, length-append mac.0 []) })
-
-advertisement_formed : (router solicited : Bool) (mac : Mac) (target : Addr) → AreBytes 6 mac.0 → AreBytes 16 target.0 → IsWellFormed (advertisement router solicited mac target)
-advertisement_formed router solicited mac target m h =
-    formed (advertisement router solicited mac target) h (record { each = (m, tt); most = omega (arith, h.len_is, m.len_is, length-append mac.0 []) })
+use Rattle.nd_frames.specs.Frames.{unspecified, all_nodes, all_routers, solicited_node, open_mac, detection_frame, solicitation, resolution_frame, probe_frame, router_solicitation_frame, advertisement, defence_frame, answer_frame}
+use Rattle.nd_frames.proofs.Formed.{bare_formed, solicitation_formed, router_solicitation_formed, advertisement_formed}
+use Rattle.nd_frames.specs.Meaning.{IsUnicast, IsDetection, IsDefence}
 
 -- ---- what is sent
 

@@ -1,5 +1,5 @@
-use Rattle.nd_chronicle.proofs.Meant.{detection_sent, defence_sent, resolution_carries, probe_carries, router_solicitation_carries, answer_carries}
-use Rattle.nd_chronicle.proofs.laws.sent_as_meant.Goals as goal
+use Rattle.nd_frames.proofs.Meant.{detection_sent, defence_sent, resolution_carries, probe_carries, router_solicitation_carries, answer_carries}
+use Rattle.nd_frames.proofs.laws.sent_as_meant.Goals as goal
 
 pub returns-clause-detection : goal.returns-clause-detection
 returns-clause-detection c = λ mac address m h. detection_sent mac m address h

@@ -1,5 +1,5 @@
-use Rattle.nd_chronicle.proofs.Meant.{detection_heard, defence_heard}
-use Rattle.nd_chronicle.proofs.laws.heard_as_meant.Goals as goal
+use Rattle.nd_frames.proofs.Meant.{detection_heard, defence_heard}
+use Rattle.nd_frames.proofs.laws.heard_as_meant.Goals as goal
 
 pub returns-clause-detection : goal.returns-clause-detection
 returns-clause-detection c = λ frame address role unicast d. detection_heard frame address role unicast d

@@ -8,6 +8,10 @@ use Rattle.nd_decode.specs.Option.{slla, tlla}
 use Rattle.nd_decode.specs.declared.body.Body.TheVariants as bodies
 use Rattle.nd_message.specs.Frame.{message_frame}
 
+-- how many bytes the longest of these messages has: a target, and one link-layer address (RFC 4861, sections 4.3 and 4.4)
+abbrev pub longest_message : ℕ
+longest_message = 32
+
 abbrev pub unspecified : Addr
 unspecified = record { 0 = unspecified_address }
 

@@ -8,7 +8,7 @@ use Rattle.nd_decode.specs.Carried.{Carries}
 use Rattle.nd_decode.specs.Message.{Parts}
 use Rattle.nd_decode.specs.declared.body.Body.TheVariants as bodies
 use Rattle.nd_validity.specs.Validity.{is_slla}
-use Rattle.nd_chronicle.specs.Frames.{unspecified, all_nodes, solicited_node}
+use Rattle.nd_frames.specs.Frames.{unspecified, all_nodes, solicited_node}
 
 -- the address is no multicast address
 abbrev pub IsUnicast : Addr → Type 0
