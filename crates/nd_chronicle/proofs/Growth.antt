@@ -44,124 +44,149 @@ use Rattle.nd_chronicle.specs.Growth.{Grows}
 use Rattle.nd_chronicle.specs.History.{Walk, over, adds, passes, Runs}
 use Rattle.nd_chronicle.specs.Told.{text, lines_of}
 
-pub stays : (c : Chronicle) → Grows c c
-stays c = record { newer = []; all = refl }
+-- all rows are of this moment
+abbrev pub AllAt : ℕ → Chronicle → Type 0
+AllAt at [] = Unit {0}
+AllAt at (row ∷ c) = (row.0 ≡ at) × AllAt at c
 
--- one that is grown grows by one row
-pub grows_by : {c d : Chronicle} (row : ℕ × Happening) → Grows c d → Grows c (row ∷ d)
-grows_by row g = record { newer = row ∷ g.newer; all = ap (λ (x : Chronicle). row ∷ x) g.all }
+all_on : (at : ℕ) (newer c : Chronicle) → AllAt at newer → AllAt at c → AllAt at (newer ++ c)
+all_on at [] c a b = b
+all_on at (row ∷ newer) c a b = (a.0, all_on at newer c a.1 b)
 
-pub grows_on : {c d e : Chronicle} → Grows c d → Grows d e → Grows c e
-grows_on {c = c} g h = record { newer = h.newer ++ g.newer; all = h.all ∙ ap (λ (x : Chronicle). h.newer ++ x) g.all ∙ sym (append_assoc h.newer g.newer c) }
+-- the chronicle grows by rows of one moment
+pub record GrowsAt (at : ℕ) (c d : Chronicle) : Type 0 where
+  pub newer : Chronicle
+  pub all : d ≡ newer ++ c
+  pub each : AllAt at newer
 
-pub grows_to : {c d e : Chronicle} → Grows c d → e ≡ d → Grows c e
-grows_to {c = c} g same = subst (λ (x : Chronicle). Grows c x) (sym same) g
+stays : (at : ℕ) (c : Chronicle) → GrowsAt at c c
+stays at c = record { newer = []; all = refl; each = tt }
+
+grows_by : {at : ℕ} {c d : Chronicle} (what : Happening) → GrowsAt at c d → GrowsAt at c ((at, what) ∷ d)
+grows_by {at = at} what g = record { newer = (at, what) ∷ g.newer; all = ap (λ (x : Chronicle). (at, what) ∷ x) g.all; each = (refl, g.each) }
+
+grows_on : {at : ℕ} {c d e : Chronicle} → GrowsAt at c d → GrowsAt at d e → GrowsAt at c e
+grows_on {at = at} {c = c} g h = record {
+  newer = h.newer ++ g.newer;
+  all = h.all ∙ ap (λ (x : Chronicle). h.newer ++ x) g.all ∙ sym (append_assoc h.newer g.newer c);
+  each = all_on at h.newer g.newer h.each g.each;
+}
+
+grows_to : {at : ℕ} {c d e : Chronicle} → GrowsAt at c d → e ≡ d → GrowsAt at c e
+grows_to {at = at} {c = c} g same = subst (λ (x : Chronicle). GrowsAt at c x) (sym same) g
+
+-- whatever the moments are
+pub grows : {at : ℕ} {c d : Chronicle} → GrowsAt at c d → Grows c d
+grows g = record { newer = g.newer; all = g.all }
+
+pub grows_further : {c d e : Chronicle} → Grows c d → Grows d e → Grows c e
+grows_further {c = c} g h = record { newer = h.newer ++ g.newer; all = h.all ∙ ap (λ (x : Chronicle). h.newer ++ x) g.all ∙ sym (append_assoc h.newer g.newer c) }
 
 module _ (at : ℕ) {c : Chronicle} where
-  losing_grows : (why : Loss) (packets : List (List ℕ)) (d : Chronicle) → Grows c d → Grows c (losing at why packets d)
+  losing_grows : (why : Loss) (packets : List (List ℕ)) (d : Chronicle) → GrowsAt at c d → GrowsAt at c (losing at why packets d)
   losing_grows why [] d g = g
   losing_grows why (packet ∷ packets) d g = losing_grows why packets _ (grows_by _ g)
 
-  sending_grows : (mac : ℕ) (packets : List (List ℕ)) (d : Chronicle) → Grows c d → Grows c (sending at mac packets d)
+  sending_grows : (mac : ℕ) (packets : List (List ℕ)) (d : Chronicle) → GrowsAt at c d → GrowsAt at c (sending at mac packets d)
   sending_grows mac [] d g = g
   sending_grows mac (packet ∷ packets) d g = sending_grows mac packets _ (grows_by _ g)
 
-  pushed_grows : (pushed : Option ℕ) (d : Chronicle) → Grows c d → Grows c (with_pushed at pushed d)
+  pushed_grows : (pushed : Option ℕ) (d : Chronicle) → GrowsAt at c d → GrowsAt at c (with_pushed at pushed d)
   pushed_grows None d g = g
   pushed_grows (Some key) d g = grows_by _ g
 
-  known_grows : (mac : Option ℕ) (packets : List (List ℕ)) (d : Chronicle) → Grows c d → Grows c (sending_if_known at mac packets d)
+  known_grows : (mac : Option ℕ) (packets : List (List ℕ)) (d : Chronicle) → GrowsAt at c d → GrowsAt at c (sending_if_known at mac packets d)
   known_grows None packets d g = g
   known_grows (Some mac) packets d g = sending_grows mac packets d g
 
-  releasing_grows : (news : Option (ℕ × RowKind)) (history : List neighbours.Row) (d : Chronicle) → Grows c d → Grows c (releasing at news history d)
+  releasing_grows : (news : Option (ℕ × RowKind)) (history : List neighbours.Row) (d : Chronicle) → GrowsAt at c d → GrowsAt at c (releasing at news history d)
   releasing_grows None history d g = g
   releasing_grows (Some news) history d g = known_grows (mac_of ((at, news.1) ∷ story news.0 history)) (released_by at news.1 (story news.0 history)) d g
 
-  leaving_grows : (leaves : Bool) (key : ℕ) (d : Chronicle) → Grows c d → Grows c (leaving at leaves key d)
+  leaving_grows : (leaves : Bool) (key : ℕ) (d : Chronicle) → GrowsAt at c d → GrowsAt at c (leaving at leaves key d)
   leaving_grows true key d g = grows_by _ g
   leaving_grows false key d g = g
 
-  conflicting_grows : (tentative : Bool) (key : ℕ) (d : Chronicle) → Grows c d → Grows c (conflicting at tentative key d)
+  conflicting_grows : (tentative : Bool) (key : ℕ) (d : Chronicle) → GrowsAt at c d → GrowsAt at c (conflicting at tentative key d)
   conflicting_grows true key d g = grows_by _ g
   conflicting_grows false key d g = g
 
   module _ (start : Start) where
-    packet_grows : (key retrans : ℕ) (packet : List ℕ) (s : Sending) (d : Chronicle) → Grows c d → Grows c (then_packet start at key retrans packet s d)
+    packet_grows : (key retrans : ℕ) (packet : List ℕ) (s : Sending) (d : Chronicle) → GrowsAt at c d → GrowsAt at c (then_packet start at key retrans packet s d)
     packet_grows key retrans packet (Sends mac sent) d g = grows_by _ (grows_by _ g)
     packet_grows key retrans packet (Queues true replaced) d g = grows_by _ (grows_by _ (grows_by _ g))
     packet_grows key retrans packet (Queues false replaced) d g = losing_grows _ (option_to_list replaced) _ (grows_by _ g)
 
-    redrawing_grows : (base : ℕ) (draws : Bool) (d : Chronicle) → Grows c d → Grows c (redrawing start at base draws d)
+    redrawing_grows : (base : ℕ) (draws : Bool) (d : Chronicle) → GrowsAt at c d → GrowsAt at c (redrawing start at base draws d)
     redrawing_grows base true d g = grows_by _ g
     redrawing_grows base false d g = g
 
-    delay_grows : (to_all : Bool) (d : Chronicle) → Grows c d → Grows c (with_delay start at to_all d)
+    delay_grows : (to_all : Bool) (d : Chronicle) → GrowsAt at c d → GrowsAt at c (with_delay start at to_all d)
     delay_grows true d g = grows_by _ g
     delay_grows false d g = g
 
-    forming_grows : (to_all : Bool) (key : ℕ) (lifetimes : Lifetimes) (d : Chronicle) → Grows c d → Grows c (forming start at to_all key lifetimes d)
+    forming_grows : (to_all : Bool) (key : ℕ) (lifetimes : Lifetimes) (d : Chronicle) → GrowsAt at c d → GrowsAt at c (forming start at to_all key lifetimes d)
     forming_grows to_all key lifetimes d g = grows_by _ (delay_grows to_all d g)
 
-    if_grows : (t : Bool) (d e : Chronicle) → Grows c d → Grows c e → Grows c (cond t d e)
+    if_grows : (t : Bool) (d e : Chronicle) → GrowsAt at c d → GrowsAt at c e → GrowsAt at c (cond t d e)
     if_grows true d e g h = g
     if_grows false d e g h = h
 
-    naming_grows : (to_all known : Bool) (info : PrefixInfo) (d : Chronicle) → Grows c d → Grows c (naming start at to_all known info d)
+    naming_grows : (to_all known : Bool) (info : PrefixInfo) (d : Chronicle) → GrowsAt at c d → GrowsAt at c (naming start at to_all known info d)
     naming_grows to_all true info d g = grows_by _ g
     naming_grows to_all false info d g = if_grows (info.valid_lifetime == 0) d _ g (forming_grows to_all _ _ d g)
 
-    options_grow : (to_all : Bool) (infos : List PrefixInfo) (d : Chronicle) → Grows c d → Grows c (then_options start at to_all infos d)
+    options_grow : (to_all : Bool) (infos : List PrefixInfo) (d : Chronicle) → GrowsAt at c d → GrowsAt at c (then_options start at to_all infos d)
     options_grow to_all [] d g = g
     options_grow to_all (info ∷ infos) d g =
         options_grow to_all infos (then_option start at to_all info d) (if_grows (is_taken info) _ d (naming_grows to_all (is_known (story_of d (named_by start.mac info))) info d g) g)
 
-    tried_grows : (target : Addr) (d : Chronicle) → Grows c d → Grows c (then_tried start at target d)
+    tried_grows : (target : Addr) (d : Chronicle) → GrowsAt at c d → GrowsAt at c (then_tried start at target d)
     tried_grows target d g = if_grows (is_assigned d target.0) _ _ (grows_by _ g) (grows_by _ g)
 
-    address_grows : (falls : addresses_due.Falls) (d : Chronicle) → Grows c d → Grows c (then_address start at falls d)
+    address_grows : (falls : addresses_due.Falls) (d : Chronicle) → GrowsAt at c d → GrowsAt at c (then_address start at falls d)
     address_grows (addresses_due.Ends key) d g = grows_by _ g
     address_grows (addresses_due.Solicits key) d g = grows_by _ (grows_by _ g)
     address_grows (addresses_due.Assigns key) d g = grows_by _ g
 
-    neighbour_grows : (falls : neighbours_due.Falls) (d : Chronicle) → Grows c d → Grows c (then_neighbour start at falls d)
+    neighbour_grows : (falls : neighbours_due.Falls) (d : Chronicle) → GrowsAt at c d → GrowsAt at c (then_neighbour start at falls d)
     neighbour_grows (neighbours_due.Multicasts key) d g = grows_by _ (grows_by _ g)
     neighbour_grows (neighbours_due.Unicasts key mac) d g = grows_by _ (grows_by _ g)
     neighbour_grows (neighbours_due.Fails key packets) d g = losing_grows _ packets _ (grows_by _ g)
     neighbour_grows (neighbours_due.Ages key) d g = grows_by _ g
 
-    pub comes_grows : (what : What) (d : Chronicle) → Grows c d → Grows c (comes start at what d)
+    pub comes_grows : (what : What) (d : Chronicle) → GrowsAt at c d → GrowsAt at c (comes start at what d)
     comes_grows (RouterEnds key) d g = grows_by _ g
     comes_grows (AddressFalls falls) d g = address_grows falls d g
     comes_grows (NeighbourFalls falls) d g = neighbour_grows falls d g
     comes_grows RoutersSolicited d g = grows_by _ (grows_by _ g)
     comes_grows Redraws d g = grows_by _ g
 
-    clearing_grows : (nodes : List Node) (d : Chronicle) → Grows c d → Grows c (clearing start at nodes d)
+    clearing_grows : (nodes : List Node) (d : Chronicle) → GrowsAt at c d → GrowsAt at c (clearing start at nodes d)
     clearing_grows [] d g = g
     clearing_grows (n ∷ nodes) d g = clearing_grows nodes _ (losing_grows _ (waiting_in n.stage) _ (grows_by _ g))
 
-    all_leaving_grows : (entries : List (Lasting ℕ)) (d : Chronicle) → Grows c d → Grows c (all_leaving start at entries d)
+    all_leaving_grows : (entries : List (Lasting ℕ)) (d : Chronicle) → GrowsAt at c d → GrowsAt at c (all_leaving start at entries d)
     all_leaving_grows [] d g = g
     all_leaving_grows (e ∷ entries) d g = all_leaving_grows entries _ (grows_by _ g)
 
-place_grows : (start : Start) (c : Chronicle) (at key : ℕ) (enters : Bool) (d : Chronicle) → MakesPlace start c at key enters d → Grows c d
-place_grows start c at key enters d m = grows_to (pushed_grows at m.pushed c (stays c)) m.with_it
+place_grows : (start : Start) (c : Chronicle) (at key : ℕ) (enters : Bool) (d : Chronicle) → MakesPlace start c at key enters d → GrowsAt at c d
+place_grows start c at key enters d m = grows_to (pushed_grows at m.pushed c (stays at c)) m.with_it
 
-place_for_grows : (start : Start) (c : Chronicle) (at : ℕ) (news : Option (ℕ × RowKind)) (d : Chronicle) → PlaceFor start c at news d → Grows c d
-place_for_grows start c at None d m = grows_to (stays c) m
+place_for_grows : (start : Start) (c : Chronicle) (at : ℕ) (news : Option (ℕ × RowKind)) (d : Chronicle) → PlaceFor start c at news d → GrowsAt at c d
+place_for_grows start c at None d m = grows_to (stays at c) m
 place_for_grows start c at (Some news) d m = place_grows start c at news.0 _ d m
 
-goes_grows : (start : Start) (c : Chronicle) (at key : ℕ) (packet : List ℕ) (d : Chronicle) → Goes start c at key packet d → Grows c d
+goes_grows : (start : Start) (c : Chronicle) (at key : ℕ) (packet : List ℕ) (d : Chronicle) → Goes start c at key packet d → GrowsAt at c d
 goes_grows start c at key packet d g = grows_to (packet_grows at start key _ packet _ g.placed (place_grows start c at key true g.placed g.place)) g.goes
 
 module _ (start : Start) (now : ℕ) (c : Chronicle) where
-  refused_grows : (r : Option Refusal) (A : Chronicle → Type 0) (d : Chronicle) → (A d → Grows c d) → UnlessRefused start now r A c d → Grows c d
+  refused_grows : (r : Option Refusal) (A : Chronicle → Type 0) (d : Chronicle) → (A d → GrowsAt now c d) → UnlessRefused start now r A c d → GrowsAt now c d
   refused_grows None A d g h = g h
-  refused_grows (Some refusal) A d g h = grows_to (grows_by _ (stays c)) h
+  refused_grows (Some refusal) A d g h = grows_to (grows_by _ (stays now c)) h
 
   module _ (source destination : Addr) (message : Parts) where
-    advertised_grows : (ra : RouterAdvertisement) (d : Chronicle) → Grows c d → Grows c (then_advertised start now source destination ra message d)
+    advertised_grows : (ra : RouterAdvertisement) (d : Chronicle) → GrowsAt now c d → GrowsAt now c (then_advertised start now source destination ra message d)
     advertised_grows ra d g =
         options_grow now start (holds multicast_prefix destination.0) (prefixes_in message.options) _
         (leaving_grows now (times_out start now d source ra) (number_of source.0) _
@@ -169,25 +194,25 @@ module _ (start : Start) (now : ℕ) (c : Chronicle) where
         (redrawing_grows now start ra.reachable_time (redraws (base_reachable_time d) ra.reachable_time) _
         (grows_by _ g))))
 
-    neighbor_advertised_grows : (target : Addr) (d : Chronicle) → Grows c d → Grows c (then_neighbor_advertised now source destination target message d)
+    neighbor_advertised_grows : (target : Addr) (d : Chronicle) → GrowsAt now c d → GrowsAt now c (then_neighbor_advertised now source destination target message d)
     neighbor_advertised_grows target d g =
         leaving_grows now (ends_in_list now d (said d source message)) (number_of target.0) _
         (releasing_grows now (said d source message) (neighbour_history d) _
         (conflicting_grows now (is_tentative d target.0) (number_of target.0) _
         (grows_by _ g)))
 
-    answer_grows : (target : Addr) (d : Chronicle) → asked.Answers start now source destination target message c d → Grows c d
+    answer_grows : (target : Addr) (d : Chronicle) → asked.Answers start now source destination target message c d → GrowsAt now c d
     answer_grows target d h =
         grows_on
         (releasing_grows now (said c source message) (neighbour_history h.placed) ((now, Heard source destination message) ∷ h.placed) (grows_by _ (place_for_grows start c now (said c source message) h.placed h.place)))
         (goes_grows start _ now _ _ d h.answer)
 
     solicited_grows : (t : Bool) (target : Addr) (d : Chronicle)
-        → MatchBool t (d ≡ then_tried start now target ((now, Heard source destination message) ∷ c)) (asked.Answers start now source destination target message c d) → Grows c d
-    solicited_grows true target d h = grows_to (tried_grows now start target _ (grows_by (now, Heard source destination message) (stays c))) h
+        → MatchBool t (d ≡ then_tried start now target ((now, Heard source destination message) ∷ c)) (asked.Answers start now source destination target message c d) → GrowsAt now c d
+    solicited_grows true target d h = grows_to (tried_grows now start target _ (grows_by (Heard source destination message) (stays now c))) h
     solicited_grows false target d h = answer_grows target d h
 
-    message_grows : (body : Body) (d : Chronicle) → MessageAdds start now source destination message body c d → Grows c d
+    message_grows : (body : Body) (d : Chronicle) → MessageAdds start now source destination message body c d → GrowsAt now c d
     message_grows (bodies.Ns ns) d h = solicited_grows (bytes_eq source.0 unspecified_address) ns.target d h
     message_grows (bodies.Ra ra) d h = grows_to (advertised_grows ra h.0 (place_for_grows start c now (said c source message) h.0 h.1)) h.2
     message_grows (bodies.Na na) d h = grows_to (neighbor_advertised_grows na.target h.0 (place_for_grows start c now (said c source message) h.0 h.1)) h.2
@@ -196,64 +221,64 @@ module _ (start : Start) (now : ℕ) (c : Chronicle) where
     message_grows (bodies.Redirect r) d h =
         grows_to (releasing_grows now (said c source message) (neighbour_history h.0) _ (grows_by _ (place_for_grows start c now (said c source message) h.0 h.1))) h.2
 
-  outcome_grows : (frame : List ℕ) (o : Outcome) (d : Chronicle) → OutcomeAdds start now frame o c d → Grows c d
-  outcome_grows frame (dropped why) d h = grows_to (grows_by _ (stays c)) h
-  outcome_grows frame (other packet) d h = grows_to (grows_by _ (stays c)) h
+  outcome_grows : (frame : List ℕ) (o : Outcome) (d : Chronicle) → OutcomeAdds start now frame o c d → GrowsAt now c d
+  outcome_grows frame (dropped why) d h = grows_to (grows_by _ (stays now c)) h
+  outcome_grows frame (other packet) d h = grows_to (grows_by _ (stays now c)) h
   outcome_grows frame (valid source destination message) d h =
       refused_grows (option_map Full h.0) (MessageAdds start now source destination message message.body c) d (message_grows source destination message message.body d) h.2
 
-  placed_grows : (key : ℕ) (packet : List ℕ) (d : Chronicle) → GoesIfPlaced start now key packet c d → Grows c d
+  placed_grows : (key : ℕ) (packet : List ℕ) (d : Chronicle) → GoesIfPlaced start now key packet c d → GrowsAt now c d
   placed_grows key packet d h = refused_grows _ (Goes start c now key packet) d (goes_grows start c now key packet d) h.2
 
   module _ (source destination : Addr) (next_header : ℕ) (payload : List ℕ) where
-    direct_grows : (t : Bool) (row : ℕ × Happening) (key : ℕ) (packet : List ℕ) (d : Chronicle)
-        → MatchBool t (d ≡ row ∷ c) (GoesIfPlaced start now key packet c d) → Grows c d
-    direct_grows true row key packet d h = grows_to (grows_by row (stays c)) h
-    direct_grows false row key packet d h = placed_grows key packet d h
+    direct_grows : (t : Bool) (what : Happening) (key : ℕ) (packet : List ℕ) (d : Chronicle)
+        → MatchBool t (d ≡ (now, what) ∷ c) (GoesIfPlaced start now key packet c d) → GrowsAt now c d
+    direct_grows true what key packet d h = grows_to (grows_by what (stays now c)) h
+    direct_grows false what key packet d h = placed_grows key packet d h
 
-    next_grows : (next : NextHop) (d : Chronicle) → PacketAdds start now next source destination next_header payload c d → Grows c d
-    next_grows no_route d h = grows_to (grows_by _ (stays c)) h
+    next_grows : (next : NextHop) (d : Chronicle) → PacketAdds start now next source destination next_header payload c d → GrowsAt now c d
+    next_grows no_route d h = grows_to (grows_by _ (stays now c)) h
     next_grows direct d h = direct_grows (holds multicast_prefix destination.0) _ _ _ d h
     next_grows (via key) d h = placed_grows key _ d h
 
-    send_grows : (d : Chronicle) → SendAdds start now source destination next_header payload c d → Grows c d
+    send_grows : (d : Chronicle) → SendAdds start now source destination next_header payload c d → GrowsAt now c d
     send_grows d h = refused_grows (refusal_of_packet start now source payload c) _ d (λ x. next_grows x.0 d x.2) h
 
-  clear_grows : (table : Clearable) (d : Chronicle) → ClearAdds start now table c d → Grows c d
-  clear_grows events.ClearNeighbours d h = grows_to (clearing_grows now start h.0 c (stays c)) h.2
-  clear_grows events.ClearRouters d h = grows_to (grows_by _ (all_leaving_grows now start h.0 c (stays c))) h.2
-  clear_grows events.ClearPrefixes d h = grows_to (grows_by _ (stays c)) h
-  clear_grows events.ClearRedirects d h = grows_to (grows_by _ (stays c)) h
-  clear_grows events.ClearDns d h = grows_to (grows_by _ (stays c)) h
+  clear_grows : (table : Clearable) (d : Chronicle) → ClearAdds start now table c d → GrowsAt now c d
+  clear_grows events.ClearNeighbours d h = grows_to (clearing_grows now start h.0 c (stays now c)) h.2
+  clear_grows events.ClearRouters d h = grows_to (grows_by _ (all_leaving_grows now start h.0 c (stays now c))) h.2
+  clear_grows events.ClearPrefixes d h = grows_to (grows_by _ (stays now c)) h
+  clear_grows events.ClearRedirects d h = grows_to (grows_by _ (stays now c)) h
+  clear_grows events.ClearDns d h = grows_to (grows_by _ (stays now c)) h
 
-  event_grows : (event : Event) (d : Chronicle) → EventAdds start now event c d → Grows c d
-  event_grows events.Passes d h = grows_to (stays c) h
+  pub event_grows : (event : Event) (d : Chronicle) → EventAdds start now event c d → GrowsAt now c d
+  event_grows events.Passes d h = grows_to (stays now c) h
   event_grows (events.Receives frame) d h = outcome_grows frame h.outcome d h.adds
   event_grows (events.Sends source destination next_header payload) d h = send_grows source destination next_header payload d h
-  event_grows (events.Confirms neighbour) d h = grows_to (grows_by _ (stays c)) h
+  event_grows (events.Confirms neighbour) d h = grows_to (grows_by _ (stays now c)) h
   event_grows (events.Forgets neighbour) d h =
       grows_to (losing_grows now Forgotten (waits_of (story (number_of neighbour.0) (neighbour_history c))) _
-      (grows_by (now, Neighbour (number_of neighbour.0) (neighbours.Forgot neighbours.Removed)) (stays c))) h
+      (grows_by (Neighbour (number_of neighbour.0) (neighbours.Forgot neighbours.Removed)) (stays now c))) h
   event_grows (events.Clears table) d h = clear_grows table d h
-  event_grows (events.Shows table) d h = grows_to (grows_by _ (stays c)) h.2
-  event_grows events.IsOfRouters d h = grows_to (grows_by _ (stays c)) h
+  event_grows (events.Shows table) d h = grows_to (grows_by _ (stays now c)) h.2
+  event_grows events.IsOfRouters d h = grows_to (grows_by _ (stays now c)) h
 
 module _ (start : Start) where
   walk_grows : {c d : Chronicle} {m n : ℕ} → Walk start c m n d → Grows c d
-  walk_grows {c = c} (over lt) = stays c
-  walk_grows {c = c} {m = m} (adds what le due w) = grows_on (comes_grows m start what c (stays c)) (walk_grows w)
+  walk_grows {c = c} {m = m} (over lt) = grows (stays m c)
+  walk_grows {c = c} {m = m} (adds what le due w) = grows_further (grows (comes_grows m start what c (stays m c))) (walk_grows w)
   walk_grows (passes le due w) = walk_grows w
 
-  follows_grows : (t : Bool) (c : Chronicle) (now : ℕ) (row : ℕ × Happening) (event : Event) (d : Chronicle) (last : ℕ)
-      → MatchBool t (d ≡ row ∷ c) ((e : Chronicle) × Walk start c last now e × EventAdds start now event ((now, Passed) ∷ e) d) → Grows c d
-  follows_grows true c now row event d last h = grows_to (grows_by row (stays c)) h
-  follows_grows false c now row event d last h =
-      grows_on (grows_by _ (walk_grows h.1)) (event_grows start now ((now, Passed) ∷ h.0) event d h.2)
+  follows_grows : (t : Bool) (c : Chronicle) (now : ℕ) (what : Happening) (event : Event) (d : Chronicle) (last : ℕ)
+      → MatchBool t (d ≡ (now, what) ∷ c) ((e : Chronicle) × Walk start c last now e × EventAdds start now event ((now, Passed) ∷ e) d) → Grows c d
+  follows_grows true c now what event d last h = grows (grows_to (grows_by what (stays now c)) h)
+  follows_grows false c now what event d last h =
+      grows_further (walk_grows h.1) (grows (grows_on (grows_by Passed (stays now h.0)) (event_grows start now ((now, Passed) ∷ h.0) event d h.2)))
 
   pub runs_grows : (history : List (ℕ × Event)) (c d : Chronicle) → Runs start c history d → Grows c d
-  runs_grows [] c d h = grows_to (stays c) h
+  runs_grows [] c d h = grows (grows_to (stays 0 c) h)
   runs_grows (event ∷ history) c d h =
-      grows_on (follows_grows (nat_lt event.0 (last_moment start.at c)) c event.0 _ event.1 h.0 (last_moment start.at c) h.1) (runs_grows history h.0 d h.2)
+      grows_further (follows_grows (nat_lt event.0 (last_moment start.at c)) c event.0 _ event.1 h.0 (last_moment start.at c) h.1) (runs_grows history h.0 d h.2)
 
 -- what is told of more is told behind
 pub text_grows : (newer c : Chronicle) → text (newer ++ c) ≡ text c ++ text newer
