@@ -3,3 +3,4 @@ pub mod Hops
 pub mod Dues
 pub mod Events
 pub mod Growth
+pub mod Tried
