@@ -4,3 +4,4 @@ pub mod Dues
 pub mod Events
 pub mod Growth
 pub mod Tried
+pub mod Idle

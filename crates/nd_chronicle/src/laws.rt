@@ -1,6 +1,6 @@
 //! Laws of the definitions, each the contract of a function that does nothing.
 
-ghost use Rattle.std.specs.Prelude.{◌≡◌, ◌++◌, ℕ, List, true};
+ghost use Rattle.std.specs.Prelude.{◌≡◌, ◌<◌, ◌≤◌, ◌+◌, ◌++◌, ℕ, List, None, true};
 ghost use Rattle.nd_slaac.specs.MayCome.{Held};
 ghost use Rattle.nd_slaac.specs.State.{is_assigned};
 ghost use Rattle.nd_chronicle.specs.Start.{Start};
@@ -8,8 +8,9 @@ ghost use Rattle.nd_chronicle.specs.Happening.{Chronicle};
 ghost use Rattle.nd_chronicle.specs.Histories.{address_history};
 ghost use Rattle.nd_chronicle.specs.OwnAddress.{story_of};
 ghost use Rattle.nd_chronicle.specs.Event.{Event};
+ghost use Rattle.nd_chronicle.specs.Due.{Due};
 ghost use Rattle.nd_chronicle.specs.Growth.{Grows};
-ghost use Rattle.nd_chronicle.specs.History.{IsChronicle, Runs};
+ghost use Rattle.nd_chronicle.specs.History.{IsChronicle, Runs, Walk};
 ghost use Rattle.nd_chronicle.specs.Told.{text};
 
 /// A history has one chronicle.
@@ -27,4 +28,10 @@ pub fn only_grows()
 /// place up to its assignment, and was assigned one RetransTimer after the last solicitation for it, that in force when it was formed.
 pub fn none_untried()
     ensures { (start : Start) (events : List (ℕ × Event)) (c : Chronicle) (key : ℕ) → IsChronicle start events c → is_assigned (story_of c key) ≡ true → Held key (address_history c) }
+{}
+
+/// Milliseconds in which nothing is due add nothing: who knows the moment before which nothing is due may go there at once.
+pub fn idle_time_passes()
+    ensures { (start : Start) (c d : Chronicle) (next end : ℕ) → ((moment : ℕ) → moment < next → Due start c moment None) → (moment : ℕ) → moment ≤ next → next ≤ end + 1
+        → Walk start c next end d → Walk start c moment end d }
 {}
