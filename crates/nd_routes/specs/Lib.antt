@@ -1,0 +1,4 @@
+pub mod History
+pub mod KeptRoutes
+pub mod Routes
+pub mod Table
