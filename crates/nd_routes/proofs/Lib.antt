@@ -1,4 +1,4 @@
 pub mod Entries
 pub mod Longest
 pub mod Prefixes
-pub mod Puts
+pub mod Steps

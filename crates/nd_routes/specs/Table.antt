@@ -3,19 +3,14 @@ use Rattle.std.specs.Prelude.{◌≡◌, ℕ, List, ◌∷◌, [], Option, Some,
 use Rattle.nd_addr.specs.Prefix.{PrefixValue}
 use Rattle.nd_table.specs.History as growing
 use Rattle.nd_routes.specs.declared.route.Route.{Route}
-use Rattle.nd_routes.specs.History.{Row, RoutePut, RedirectMade}
+use Rattle.nd_routes.specs.History.{Row}
+use Rattle.nd_routes.specs.Redirect.{last_redirect}
 use Rattle.nd_routes.specs.Routes.{routes}
 
 -- the routes, and when the last Redirect was made
 pub record Table : Type 0 where
   pub entries : List (PrefixValue × Route)
   pub redirected : Option ℕ
-
--- when the last Redirect was made
-abbrev pub last_redirect : List Row → Option ℕ
-last_redirect [] = None
-last_redirect (RoutePut prefix route ∷ history) = last_redirect history
-last_redirect (RedirectMade at ∷ history) = Some at
 
 pub record Stands (table : Table) (history : List Row) : Type 0 where
   pub entries_are : table.entries ≡ routes history

@@ -28,7 +28,7 @@ type Entries<A> = IndexMap<Prefix, Route, BuildHasherDefault<FoldHasher>, A>;
 #[derive(Drop)]
 pub struct Routes<A: Allocator> {
     routes: Entries<A>,
-    redirected: Option<u64>,
+    pub(crate) redirected: Option<u64>,
 }
 
 impl<A: Allocator> Model for Routes<A> {

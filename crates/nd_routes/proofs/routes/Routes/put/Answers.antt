@@ -1,7 +1,7 @@
 use Rattle.std.proofs.Common.{◌≡◌, ◌≤◌, ◌+◌, Bool, false, refl, sym, ◌∙◌, ap, subst, arith, is_some, if◌then◌else◌}
 use Rattle.indexmap.specs.IndexMap.{get, index_map_len, insert_entry, spare}
 use Rattle.nd_routes.specs.Routes.{is_same, max_routes}
-use Rattle.nd_routes.proofs.Puts.{gains_put}
+use Rattle.nd_routes.proofs.Steps.{gains_put}
 use Rattle.nd_routes.proofs.routes.Routes.put.Goals as goal
 
 pub returns-then-replace-clause-stands : goal.returns-then-replace-clause-stands

@@ -1,11 +1,11 @@
--- What a route that is put does to the routes.
-use Rattle.std.proofs.Common.{◌≡◌, Bool, true, false, List, [], ◌∷◌, ◌++◌, Option, Some, None, refl, sym, ◌∙◌, ap, inl, inr}
+-- What one more happening does to the routes.
+use Rattle.std.proofs.Common.{◌≡◌, ℕ, Bool, true, false, List, [], ◌∷◌, ◌++◌, Option, Some, None, refl, sym, ◌∙◌, ap, inl, inr}
 use Rattle.std.specs.Prelude.{◌||◌, is_some, option_map, option_to_list}
 use Rattle.std.proofs.lemmas.Bool.{cond-true, cond-false, cases_Bool, or_parts, false≢true}
 use Rattle.indexmap.specs.IndexMap.{insert_entry}
 use Rattle.nd_addr.specs.Prefix.{PrefixValue}
 use Rattle.nd_routes.specs.declared.route.Route.{Route}
-use Rattle.nd_routes.specs.History.{Row, RoutePut}
+use Rattle.nd_routes.specs.History.{Row, RoutePut, RedirectMade}
 use Rattle.nd_routes.specs.Routes.{is_same, prefixes, route_of, routes, with_routes}
 use Rattle.nd_routes.specs.Table.{GainsRow, Table}
 use Rattle.nd_routes.proofs.Prefixes.{AreApart, apart, has, known, same_is, same_self}
@@ -88,5 +88,18 @@ gains_put old new q r entries redirected = record {
   stands = λ history s. record {
     entries_are = entries ∙ (ap (λ es. insert_entry is_same es q r) s.entries_are ∙ sym (routes_put q r history));
     redirected_is = redirected ∙ s.redirected_is;
+  };
+}
+
+-- a Redirect leaves the routes
+with_routes_stay : (at : ℕ) (history : List Row) (ps : List PrefixValue) → with_routes ps (RedirectMade at ∷ history) ≡ with_routes ps history
+with_routes_stay at history [] = refl
+with_routes_stay at history (p ∷ ps) = ap (entered p (route_of p history)) (with_routes_stay at history ps)
+
+pub gains_made : (old new : Table) (at : ℕ) → new.entries ≡ old.entries → new.redirected ≡ Some at → GainsRow old new (RedirectMade at)
+gains_made old new at entries redirected = record {
+  stands = λ history s. record {
+    entries_are = entries ∙ (s.entries_are ∙ sym (with_routes_stay at history (prefixes history)));
+    redirected_is = redirected;
   };
 }
