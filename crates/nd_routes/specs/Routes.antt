@@ -1,5 +1,5 @@
 -- The static routes of a router, and the longest one to an address.
-use Rattle.std.specs.Prelude.{ℕ, ◌==◌, nat_lt, Bool, true, ◌&&◌, ◌||◌, if◌then◌else◌, List, [], ◌∷◌, ◌++◌, length, Option, Some, None, is_some, option_map, option_to_list, bytes_eq}
+use Rattle.std.specs.Prelude.{◌≡◌, false, ℕ, ◌<◌, ◌≤◌, ◌==◌, nat_lt, Bool, true, ◌&&◌, ◌||◌, if◌then◌else◌, List, [], ◌∷◌, ◌++◌, length, Option, Some, None, is_some, option_map, option_to_list, bytes_eq}
 use Rattle.std.specs.Map.{lookup}
 use Rattle.nd_addr.specs.Number.{holds}
 use Rattle.nd_addr.specs.Prefix.{PrefixValue}
@@ -62,3 +62,18 @@ longest address (e ∷ es) = if holds e.0 address then Some (longer e (longest a
 -- where it leads
 abbrev pub route_to : List ℕ → List (PrefixValue × Route) → Option Route
 route_to address es = option_map (λ e. e.1) (longest address es)
+
+-- none of the routes holds the address
+abbrev pub NoneHolds : List ℕ → List (PrefixValue × Route) → Type 0
+NoneHolds address [] = Unit {0}
+NoneHolds address (e ∷ es) = (holds e.0 address ≡ false) × NoneHolds address es
+
+-- those that hold it have fewer bits than so many
+abbrev pub AllShorter : List ℕ → ℕ → List (PrefixValue × Route) → Type 0
+AllShorter address bits [] = Unit {0}
+AllShorter address bits (e ∷ es) = (holds e.0 address ≡ true → e.0.length < bits) × AllShorter address bits es
+
+-- those that hold it have no more bits than so many
+abbrev pub NoneLonger : List ℕ → ℕ → List (PrefixValue × Route) → Type 0
+NoneLonger address bits [] = Unit {0}
+NoneLonger address bits (e ∷ es) = (holds e.0 address ≡ true → e.0.length ≤ bits) × NoneLonger address bits es

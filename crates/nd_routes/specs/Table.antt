@@ -1,5 +1,5 @@
 -- What a table of routes is to the history that it stands for.
-use Rattle.std.specs.Prelude.{◌≡◌, ℕ, List, ◌∷◌, [], Option, Some, None}
+use Rattle.std.specs.Prelude.{◌≡◌, ℕ, List, Option}
 use Rattle.nd_addr.specs.Prefix.{PrefixValue}
 use Rattle.nd_table.specs.History as growing
 use Rattle.nd_routes.specs.declared.route.Route.{Route}

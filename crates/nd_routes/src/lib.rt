@@ -3,6 +3,7 @@
 
 mod forward;
 mod kept_routes;
+pub mod laws;
 mod next_hop;
 mod redirect;
 mod route;

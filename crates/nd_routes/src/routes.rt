@@ -1,9 +1,9 @@
-ghost use Rattle.std.specs.Prelude.{◌≡◌, ◌+◌, ◌&&◌, length, true, false, List, [], None, IfOk, OnOk, OnErr, is_ok};
+ghost use Rattle.std.specs.Prelude.{◌≡◌, ◌≤◌, ◌&&◌, length, true, false, List, [], None, IfOk, OnOk, OnErr, is_ok};
 ghost use Rattle.nd_routes.specs.History.{Row, RoutePut};
 ghost use Rattle.nd_routes.specs.KeptRoutes.{routes_left};
 ghost use Rattle.indexmap.specs.IndexMap.{insert_entry, spare};
 ghost use Rattle.nd_addr.specs.Number.{holds};
-ghost use Rattle.nd_routes.specs.Routes.{exceeds, fits, has_route, is_same, route_to, routes};
+ghost use Rattle.nd_routes.specs.Routes.{exceeds, fits, has_route, is_same, max_routes, route_to, routes};
 ghost use Rattle.nd_routes.specs.Table.{GainsRow, Stands};
 
 use crate::kept_routes::KeptRoutes;
@@ -42,7 +42,7 @@ impl<A: Allocator> Model for Routes<A> {
 
     ghost view = { λ r. record { entries = r.routes.entries; redirected = r.redirected } };
 
-    ghost invariant = { λ r. max_routes ≤ length r.routes.entries + spare r.routes };
+    ghost invariant = { λ r. (length r.routes.entries ≤ max_routes) × (max_routes ≤ length r.routes.entries + spare r.routes) };
 }
 
 impl<A: Allocator + Copy> Routes<A> {
@@ -82,13 +82,14 @@ impl<A: Allocator> Routes<A> {
     /// The routes, in the order in which their prefixes came.
     pub fn rows(&self) -> KeptRoutes<'_>
         ensures value { routes_left result ≡ self.now.entries }
+        ensures few { length (routes_left result) ≤ max_routes }
         ensures by_history { (history : List Row) → Stands self.now history → routes_left result ≡ routes history }
     {
         KeptRoutes::new(self.routes.iter())
     }
 
-    #[tactic(auto, using(crate::proofs::Longest::found_all))]
     /// The route to an address: of those whose prefixes hold it that with the longest prefix.
+    #[tactic(auto, using(crate::proofs::Longest::found_all))]
     pub fn look(&self, destination: Addr) -> Option<Route>
         ensures value { result ≡ route_to destination.0 self.now.entries }
         ensures by_history { (history : List Row) → Stands self.now history → result ≡ route_to destination.0 (routes history) }
@@ -110,7 +111,8 @@ impl<A: Allocator> Routes<A> {
 fn replace<A: Allocator>(entries: &mut Entries<A>, prefix: Prefix, route: Route) -> bool
     ensures found { result ≡ has_route prefix entries.old.entries }
     ensures entries { result ≡ true → entries.new.entries ≡ insert_entry is_same entries.old.entries prefix route }
-    ensures room { result ≡ true → length entries.new.entries + spare entries.new ≡ length entries.old.entries + spare entries.old }
+    ensures len { result ≡ true → length entries.new.entries ≡ length entries.old.entries }
+    ensures room { result ≡ true → spare entries.new ≡ spare entries.old }
     ensures same { result ≡ false → entries.new ≡ entries.old }
 {
     match entries.get_index_of(&prefix) {

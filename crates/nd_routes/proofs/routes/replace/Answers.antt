@@ -1,5 +1,3 @@
-use Rattle.std.proofs.Common.{ℕ, ◌+◌, ap}
-use Rattle.indexmap.specs.IndexMap.{spare}
 use Rattle.indexmap.specs.Layout.{length-set_value_at}
 use Rattle.nd_routes.proofs.Entries.{set_there}
 use Rattle.nd_routes.proofs.routes.replace.Goals as goal
@@ -9,6 +7,6 @@ pub returns-in-Some-get_index_mut-clause-entries :
 returns-in-Some-get_index_mut-clause-entries g c = λ _.
     set_there c.args.prefix c.args.route c.args.entries.now.entries c.in-Some.i c.in-Some.ensures.index
 
-pub returns-in-Some-get_index_mut-clause-room : goal.returns-in-Some-get_index_mut-clause-room
-returns-in-Some-get_index_mut-clause-room g c = λ _.
-    ap (λ (n : ℕ). n + spare c.args.entries.now) (length-set_value_at c.args.entries.now.entries c.in-Some.i c.args.route)
+pub returns-in-Some-get_index_mut-clause-len : goal.returns-in-Some-get_index_mut-clause-len
+returns-in-Some-get_index_mut-clause-len g c = λ _.
+    length-set_value_at c.args.entries.now.entries c.in-Some.i c.args.route

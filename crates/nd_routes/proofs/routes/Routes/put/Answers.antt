@@ -18,8 +18,8 @@ invariant_of-self-2 g c =
     let more : index_map_len c.insert.new.self ≡ index_map_len c.replace.new.entries + 1 =
     c.in-Ok.ensures.len ∙ ap (λ (b : Bool). index_map_len c.replace.new.entries + (if b then 0 else 1)) absent in
     let room : max_routes ≤ index_map_len c.replace.new.entries + spare c.replace.new.entries =
-    subst (λ m. max_routes ≤ index_map_len m + spare m) (sym before) c.self.invariant in
-    omega (arith, more, room, c.in-Ok.ensures.spare)
+    subst (λ m. max_routes ≤ index_map_len m + spare m) (sym before) c.self.invariant.1 in
+    (omega (arith, more, c.if-len-ge-MAX_ROUTES.false, c.len.ensures.len), omega (arith, more, room, c.in-Ok.ensures.spare))
 
 pub returns-clause-stands : goal.returns-clause-stands
 returns-clause-stands g c =
