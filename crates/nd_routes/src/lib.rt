@@ -1,0 +1,18 @@
+//! Where a router sends packets: its static routes, its next hops, and when it sends a Redirect (RFC 4861, sections 5.2 and 8.2).
+#![tactic(auto)]
+
+mod forward;
+mod kept_routes;
+pub mod laws;
+mod next_hop;
+mod redirect;
+mod route;
+mod routes;
+
+pub use forward::{Fate, may_be_forwarded};
+pub use kept_routes::{KeptRoute, KeptRoutes};
+pub use route::Route;
+pub use routes::{Full, Routes};
+
+#[cfg(test)]
+mod tests;

@@ -1,0 +1,10 @@
+use nd_addr::Addr;
+
+/// Where packets go that have a static route.
+#[derive(Clone, Copy, Debug, PartialEq, Eq)]
+pub enum Route {
+    /// To their destination, which is on the link.
+    Direct,
+    /// To the router of this address, which is on the link.
+    Via(Addr),
+}
