@@ -7,11 +7,15 @@ mod config;
 mod config_fault;
 pub mod laws;
 mod offer;
+mod offer_rows;
+mod offers;
 
 pub use advertiser::Advertiser;
 pub use config::{Config, ConfigFlags};
 pub use config_fault::ConfigFault;
 pub use offer::{Offer, OfferFlags};
+pub use offer_rows::OfferRows;
+pub use offers::Full;
 
 #[cfg(test)]
 mod tests;
