@@ -1,4 +1,5 @@
-ghost use Rattle.std.specs.Prelude.{◌≡◌, ◌<◌, ◌^◌, List, Some, true, is_some, None, [], IfOk, OnOk, OnErr};
+ghost use Rattle.std.specs.Prelude.{◌≡◌, ◌<◌, ◌^◌, List, Some, true, is_some, None, [], IfOk, OnOk, OnErr, option_map};
+ghost use Rattle.nd_advertiser.specs.Config.{interval_range};
 ghost use Rattle.nd_advertiser.specs.Calls.{has_sent, settings_in, wants_draw, next, prefixes_in};
 
 use crate::advertising::Advertising;
@@ -51,7 +52,7 @@ impl<A: Allocator + Copy> Advertiser<A> {
 
 impl<A: Allocator> Advertiser<A> {
     ghost use Rattle.nd_advertiser.specs.History.{Advertises, Assigned, Ceased, Offered, Row, Sent, Solicited};
-    ghost use Rattle.nd_advertiser.specs.Advertising.{advertised_by, is_on, next_of, tells_its_end, wants_draw_of};
+    ghost use Rattle.nd_advertiser.specs.Advertising.{advertised_by, interval_of, is_on, next_of, tells_its_end, wants_draw_of};
     ghost use Rattle.nd_advertiser.specs.Offers.{answer_to, offers_of, prefixes};
     ghost use Rattle.nd_advertiser.specs.Table.{GainsRow, Stands};
 
@@ -102,13 +103,25 @@ impl<A: Allocator> Advertiser<A> {
         self.advertising.is_some()
     }
 
-    /// What it advertises, if it does. Its `interval` is the range of the next draw.
+    /// What it advertises, if it does.
     pub fn config(&self) -> Option<Config>
         ensures value { result ≡ settings_in self.now.advertising }
         ensures by_history { (history : List Row) → Stands self.now history → result ≡ advertised_by history }
     {
         match &self.advertising {
             Some(advertising) => Some(advertising.config),
+            None => None,
+        }
+    }
+
+    /// The least and the greatest time, in milliseconds, that may be drawn for the next advertisement, where it advertises (RFC 4861,
+    /// section 6.2.4).
+    pub fn interval(&self) -> Option<(u64, u64)>
+        ensures value { result ≡ option_map interval_range (settings_in self.now.advertising) }
+        ensures by_history { (history : List Row) → Stands self.now history → result ≡ interval_of history }
+    {
+        match &self.advertising {
+            Some(advertising) => Some(advertising.config.interval()),
             None => None,
         }
     }

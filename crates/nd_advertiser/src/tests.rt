@@ -224,10 +224,10 @@ fn the_fourth_interval_is_as_it_was_drawn(rt: HostRuntime) -> Result<(), Fail> {
 fn the_first_advertisement_waits_for_the_address(rt: HostRuntime) -> Result<(), Fail> {
     let mut advertiser = Advertiser::new(rt.alloc())?;
     assert_eq!(rt; advertiser.next_due(), None);
+    assert_eq!(rt; advertiser.interval(), None);
     advertiser.begin(200, timed(200, 600, 1800)?);
     assert!(rt; advertiser.is_on());
-    let interval = advertiser.config().map(|config| config.interval());
-    assert_eq!(rt; interval, Some((200_000, 600_000)));
+    assert_eq!(rt; advertiser.interval(), Some((200_000, 600_000)));
     assert_eq!(rt; advertiser.next_due(), None);
     // Nothing was sent, so no last one is.
     assert!(rt; !advertiser.stop(300));
