@@ -5,3 +5,4 @@ pub mod Offers
 pub mod Advertising
 pub mod Table
 pub mod Calls
+pub mod Contents

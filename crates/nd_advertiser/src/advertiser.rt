@@ -1,4 +1,4 @@
-ghost use Rattle.std.specs.Prelude.{◌≡◌, ◌<◌, ◌^◌, List, Some, true, is_some, None, [], IfOk, OnOk, OnErr, option_map};
+ghost use Rattle.std.specs.Prelude.{◌≡◌, ◌<◌, ◌≤◌, ◌^◌, List, length, Some, true, is_some, None, [], IfOk, OnOk, OnErr, option_map};
 ghost use Rattle.nd_advertiser.specs.Config.{interval_range};
 ghost use Rattle.nd_advertiser.specs.Calls.{has_sent, settings_in, wants_draw, next, prefixes_in};
 
@@ -53,7 +53,7 @@ impl<A: Allocator + Copy> Advertiser<A> {
 impl<A: Allocator> Advertiser<A> {
     ghost use Rattle.nd_advertiser.specs.History.{Advertises, Assigned, Ceased, Offered, Row, Sent, Solicited};
     ghost use Rattle.nd_advertiser.specs.Advertising.{advertised_by, interval_of, is_on, next_of, tells_its_end, wants_draw_of};
-    ghost use Rattle.nd_advertiser.specs.Offers.{answer_to, offers_of, prefixes};
+    ghost use Rattle.nd_advertiser.specs.Offers.{answer_to, max_offers, offers_of, prefixes};
     ghost use Rattle.nd_advertiser.specs.Table.{GainsRow, Stands};
 
     /// A prefix is to be advertised so (RFC 4861, section 6.2.1, AdvPrefixList): a new one behind the others, one that is there in its
@@ -71,6 +71,7 @@ impl<A: Allocator> Advertiser<A> {
     pub fn rows(&self) -> OfferRows<'_>
         ensures value { result ≡ self.now.offers }
         ensures by_history { (history : List Row) → Stands self.now history → result ≡ offers_of history }
+        ensures few { length result ≤ max_offers }
     {
         self.offers.rows()
     }

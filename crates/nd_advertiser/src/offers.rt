@@ -1,5 +1,5 @@
-ghost use Rattle.std.specs.Prelude.{◌≡◌, ◌≤◌, [], IfOk, OnOk, OnErr};
-ghost use Rattle.nd_advertiser.specs.Offers.{answer_to};
+ghost use Rattle.std.specs.Prelude.{◌≡◌, ◌≤◌, [], length, IfOk, OnOk, OnErr};
+ghost use Rattle.nd_advertiser.specs.Offers.{answer_to, max_offers};
 ghost use Rattle.nd_advertiser.specs.Calls.{prefixes_in, with_offer};
 
 use crate::offer::Offer;
@@ -11,7 +11,7 @@ use std::hash::{BuildHasherDefault, FoldHasher};
 use std::marker::Model;
 
 /// How many prefixes are advertised at most (our choice).
-const MAX_OFFERS: usize = 16;
+pub(crate) const MAX_OFFERS: usize = 16;
 
 /// There is no room: it would be one prefix too many. Nothing has changed then.
 #[derive(Clone, Copy, Debug, PartialEq, Eq)]
@@ -34,8 +34,8 @@ impl<A: Allocator> Model for Offers<A> {
 
     ghost view = { λ o. map (λ e. e.1) o.entries.entries };
 
-    // Each stands under its prefix, and there is room for all that may come.
-    ghost invariant = { λ o. AllByRecursion (λ e. e.0 ≡ e.1.prefix) o.entries.entries × (max_offers ≤ length o.entries.entries + spare o.entries) };
+    // Each stands under its prefix, they are no more than 16, and there is room for as many.
+    ghost invariant = { λ o. AllByRecursion (λ e. e.0 ≡ e.1.prefix) o.entries.entries × (length o.entries.entries ≤ max_offers) × (max_offers ≤ length o.entries.entries + spare o.entries) };
 }
 
 impl<A: Allocator + Copy> Offers<A> {
@@ -76,7 +76,8 @@ impl<A: Allocator> Offers<A> {
 
     /// The offers, in their order.
     pub(crate) fn rows(&self) -> OfferRows<'_>
-        ensures { result ≡ self.now }
+        ensures value { result ≡ self.now }
+        ensures few { length result ≤ max_offers }
     {
         OfferRows::new(self.entries.values())
     }

@@ -14,7 +14,7 @@ invariant_of-self g c =
     let es = c.self.inside.entries.entries in
     let w = c.get_mut.follows.holds c.args.offer in
     let at = w.0 ∙ ap (λ (i : PrefixInfo). set_value (is_same i.prefix) es c.args.offer) c.info-prefix.ensures.value in
-    (subst IsKeyed (sym at) (set_keyed c.args.offer es c.self.invariant.0), omega (arith, w.2, w.6, c.self.invariant.1))
+    (subst IsKeyed (sym at) (set_keyed c.args.offer es c.self.invariant.0), omega (arith, w.2, c.self.invariant.1), omega (arith, w.2, w.6, c.self.invariant.2))
 
 pub returns-in-Some-clause-value : goal.returns-in-Some-clause-value
 returns-in-Some-clause-value g c =
@@ -60,7 +60,8 @@ invariant_of-self-2 g c =
     in
     let more = c.in-Ok.ensures.len ∙ ap (λ b. hash_map_len c.get_mut.follows.lender-at-none + (if b then 0 else 1)) lacks in (
       subst IsKeyed (sym at) (put_keyed offer es c.self.invariant.0),
-      omega (arith, more, ap hash_map_len none, ap spare none, c.in-Ok.ensures.spare, c.self.invariant.1),
+      omega (arith, more, ap hash_map_len none, c.len.ensures.len, c.if-len-ge-MAX_OFFERS.false),
+      omega (arith, more, ap hash_map_len none, ap spare none, c.in-Ok.ensures.spare, c.self.invariant.2),
     )
 
 pub returns-clause-value : goal.returns-clause-value
