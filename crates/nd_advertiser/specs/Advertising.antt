@@ -1,7 +1,7 @@
 -- When advertisements are sent (RFC 4861, sections 6.2.2, 6.2.4, 6.2.5 and 6.2.6). Each question looks back over what happened.
-use Rattle.std.specs.Prelude.{ℕ, ◌+◌, min, max, Bool, true, false, ◌&&◌, not, ◌==◌, nat_lt, is_some, is_none, if◌then◌else◌, List, [], ◌∷◌, Option, Some, None}
+use Rattle.std.specs.Prelude.{ℕ, ◌+◌, min, max, Bool, true, false, ◌&&◌, not, ◌==◌, nat_lt, is_some, is_none, if◌then◌else◌, List, [], ◌∷◌, Option, Some, None, option_map}
 use Rattle.nd_table.specs.Due.{lesser}
-use Rattle.nd_advertiser.specs.Config.{Settings}
+use Rattle.nd_advertiser.specs.Config.{Settings, interval_range}
 use Rattle.nd_advertiser.specs.History.{Row, Advertises, Assigned, Solicited, Sent, Ceased}
 
 -- MIN_DELAY_BETWEEN_RAS: the time between two advertisements to all nodes (section 10)
@@ -32,6 +32,10 @@ settings_of (_ ∷ history) = settings_of history
 -- what it advertises, where it does
 abbrev pub advertised_by : List Row → Option Settings
 advertised_by history = if is_on history then settings_of history else None
+
+-- the range of the next draw, where it advertises (section 6.2.4)
+abbrev pub interval_of : List Row → Option (ℕ × ℕ)
+interval_of history = option_map interval_range (advertised_by history)
 
 -- when it became an advertising interface: when it was first to advertise since it last ceased
 abbrev pub began_of : List Row → Option ℕ

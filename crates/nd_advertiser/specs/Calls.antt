@@ -1,7 +1,10 @@
 -- What each call makes of what an interface is advertising.
-use Rattle.std.specs.Prelude.{ℕ, ◌+◌, min, Bool, false, ◌&&◌, not, ◌==◌, is_some, is_none, Option, Some, None, if◌then◌else◌}
+use Rattle.std.specs.Prelude.{ℕ, ◌+◌, min, Bool, false, ◌&&◌, not, ◌==◌, is_some, is_none, List, [], ◌∷◌, map, Option, Some, None, if◌then◌else◌}
+use Rattle.nd_addr.specs.Prefix.{PrefixValue}
+use Rattle.nd_decode.specs.declared.prefix_info.PrefixInfo.{PrefixInfo}
 use Rattle.nd_advertiser.specs.Config.{Settings}
 use Rattle.nd_advertiser.specs.Advertising.{answer_date, first_date, interval_after, max_initial_rtr_advertisements, next_date}
+use Rattle.nd_advertiser.specs.Offers.{is_same}
 use Rattle.nd_advertiser.specs.Table.{Advertising}
 
 -- it is to advertise
@@ -39,3 +42,12 @@ wants_draw (Some a) = not (a.sent == 0) && is_none a.answer
 abbrev pub next : Option ℕ → Option ℕ → Option Advertising → Option ℕ
 next assigned last None = None
 next assigned last (Some a) = next_date (first_date a.began assigned last) a.planned a.answer
+
+-- the prefixes of the offers
+abbrev pub prefixes_in : List PrefixInfo → List PrefixValue
+prefixes_in offers = map (λ info. info.prefix) offers
+
+-- a prefix is offered
+abbrev pub with_offer : PrefixInfo → List PrefixInfo → List PrefixInfo
+with_offer info [] = info ∷ []
+with_offer info (o ∷ os) = if is_same info.prefix o.prefix then info ∷ os else o ∷ with_offer info os

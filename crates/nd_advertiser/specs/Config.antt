@@ -56,6 +56,14 @@ is_reachable_time time = nat_le time greatest_reachable_time
 abbrev pub is_mtu : ℕ → Bool
 is_mtu mtu = (mtu == 0) || is_from least_mtu ethernet_mtu mtu
 
+-- the milliseconds of a second
+abbrev pub milliseconds : ℕ → ℕ
+milliseconds seconds = 1000 * seconds
+
+-- the time until the next advertisement lies between MinRtrAdvInterval and MaxRtrAdvInterval, in milliseconds (sections 6.2.1 and 6.2.4)
+abbrev pub interval_range : Settings → ℕ × ℕ
+interval_range s = (milliseconds s.min_interval, milliseconds s.max_interval)
+
 -- the first of these rules that the settings break
 abbrev pub config_fault : Settings → Option ConfigFault
 config_fault s =

@@ -1,5 +1,6 @@
 -- What happened to a router's advertising (RFC 4861, section 6.2), the newest first. Moments and times are in milliseconds.
 use Rattle.std.specs.Prelude.{ℕ}
+use Rattle.nd_decode.specs.declared.prefix_info.PrefixInfo.{PrefixInfo}
 use Rattle.nd_advertiser.specs.Config.{Settings}
 
 pub data Row : Type 0 where
@@ -13,3 +14,5 @@ pub data Row : Type 0 where
   Sent : (at interval : ℕ) → Row
   -- the interface ceases to advertise (section 6.2.5)
   Ceased : (at : ℕ) → Row
+  -- a prefix is to be advertised so, a new one or one that is there (section 6.2.1, AdvPrefixList)
+  Offered : (info : PrefixInfo) → Row

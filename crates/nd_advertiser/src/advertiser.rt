@@ -1,46 +1,79 @@
-ghost use Rattle.std.specs.Prelude.{◌≡◌, ◌<◌, ◌^◌, List, Some, true, is_some, None, []};
-ghost use Rattle.nd_advertiser.specs.Calls.{has_sent, settings_in, wants_draw, next};
+ghost use Rattle.std.specs.Prelude.{◌≡◌, ◌<◌, ◌≤◌, ◌^◌, List, length, Some, true, is_some, None, [], IfOk, OnOk, OnErr, option_map};
+ghost use Rattle.nd_advertiser.specs.Config.{interval_range};
+ghost use Rattle.nd_advertiser.specs.Calls.{has_sent, settings_in, wants_draw, next, prefixes_in};
 
 use crate::advertising::Advertising;
 use crate::config::Config;
+use crate::offer::Offer;
+use crate::offer_rows::OfferRows;
+use crate::offers::{Full, Offers};
+use std::alloc::{AllocError, Allocator};
 use std::marker::Model;
 
 /// Whether and when a router advertises itself and its link (RFC 4861, section 6.2). Moments and times are in milliseconds.
 #[derive(Drop)]
-pub struct Advertiser {
+pub struct Advertiser<A: Allocator> {
     /// When its link-local address was assigned.
     assigned: Option<u64>,
     /// When it sent its last advertisement.
     last: Option<u64>,
     advertising: Option<Advertising>,
+    offers: Offers<A>,
 }
 
-impl Model for Advertiser {
+impl<A: Allocator> Model for Advertiser<A> {
     ghost use Rattle.std.specs.Prelude.{◌<◌, ◌^◌, IfSome};
     ghost use Rattle.nd_advertiser.specs.Table.{Table};
 
     ghost Value = { Table };
 
-    ghost view = { λ a. record { assigned = a.assigned; last = a.last; advertising = a.advertising } };
+    ghost view = { λ a. record { assigned = a.assigned; last = a.last; advertising = a.advertising; offers = a.offers } };
 
     ghost invariant = { λ a. IfSome a.last (λ at. at < 2 ^ 62) };
 }
 
-impl Advertiser {
-    ghost use Rattle.nd_advertiser.specs.History.{Advertises, Assigned, Ceased, Row, Sent, Solicited};
-    ghost use Rattle.nd_advertiser.specs.Advertising.{advertised_by, is_on, next_of, tells_its_end, wants_draw_of};
-    ghost use Rattle.nd_advertiser.specs.Table.{GainsRow, Stands};
+impl<A: Allocator + Copy> Advertiser<A> {
+    ghost use Rattle.nd_advertiser.specs.Table.{Stands};
 
-    /// An interface that doesn't advertise (RFC 4861, section 6.2.1, AdvSendAdvertisements).
-    pub fn new() -> Self
-        ensures empty { result ≡ record { assigned = None; last = None; advertising = None } }
-        ensures stands { Stands result [] }
+    /// An interface that doesn't advertise (RFC 4861, section 6.2.1, AdvSendAdvertisements), and has no prefixes to advertise yet, with
+    /// room for 16. The error is want of memory.
+    pub fn new(alloc: A) -> Result<Self, AllocError>
+        ensures empty { IfOk result (λ advertiser. advertiser ≡ record { assigned = None; last = None; advertising = None; offers = [] }) }
+        ensures stands { IfOk result (λ advertiser. Stands advertiser []) }
     {
-        Advertiser {
+        Ok(Advertiser {
             assigned: None,
             last: None,
             advertising: None,
-        }
+            offers: Offers::new(alloc)?,
+        })
+    }
+}
+
+impl<A: Allocator> Advertiser<A> {
+    ghost use Rattle.nd_advertiser.specs.History.{Advertises, Assigned, Ceased, Offered, Row, Sent, Solicited};
+    ghost use Rattle.nd_advertiser.specs.Advertising.{advertised_by, interval_of, is_on, next_of, tells_its_end, wants_draw_of};
+    ghost use Rattle.nd_advertiser.specs.Offers.{answer_to, max_offers, offers_of, prefixes};
+    ghost use Rattle.nd_advertiser.specs.Table.{GainsRow, Stands};
+
+    /// A prefix is to be advertised so (RFC 4861, section 6.2.1, AdvPrefixList): a new one behind the others, one that is there in its
+    /// place. `Full` comes where it would be the 17th. It takes no memory.
+    pub fn put(&mut self, offer: Offer) -> Result<(), Full>
+        ensures value { result ≡ answer_to offer.prefix (prefixes_in self.old.offers) }
+        ensures by_history { (history : List Row) → Stands self.old history → result ≡ answer_to offer.prefix (prefixes history) }
+        ensures stands { OnOk result (GainsRow self.old self.new (Offered offer)) }
+        ensures same { OnErr result (self.new ≡ self.old) }
+    {
+        self.offers.put(offer)
+    }
+
+    /// The offers, in the order in which their prefixes came.
+    pub fn rows(&self) -> OfferRows<'_>
+        ensures value { result ≡ self.now.offers }
+        ensures by_history { (history : List Row) → Stands self.now history → result ≡ offers_of history }
+        ensures few { length result ≤ max_offers }
+    {
+        self.offers.rows()
     }
 
     /// It is to advertise with this configuration (RFC 4861, section 6.2.2). Where it does already, only what it advertises changes, and
@@ -71,13 +104,25 @@ impl Advertiser {
         self.advertising.is_some()
     }
 
-    /// What it advertises, if it does. Its `interval` is the range of the next draw.
+    /// What it advertises, if it does.
     pub fn config(&self) -> Option<Config>
         ensures value { result ≡ settings_in self.now.advertising }
         ensures by_history { (history : List Row) → Stands self.now history → result ≡ advertised_by history }
     {
         match &self.advertising {
             Some(advertising) => Some(advertising.config),
+            None => None,
+        }
+    }
+
+    /// The least and the greatest time, in milliseconds, that may be drawn for the next advertisement, where it advertises (RFC 4861,
+    /// section 6.2.4).
+    pub fn interval(&self) -> Option<(u64, u64)>
+        ensures value { result ≡ option_map interval_range (settings_in self.now.advertising) }
+        ensures by_history { (history : List Row) → Stands self.now history → result ≡ interval_of history }
+    {
+        match &self.advertising {
+            Some(advertising) => Some(advertising.config.interval()),
             None => None,
         }
     }

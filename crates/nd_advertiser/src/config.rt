@@ -1,5 +1,5 @@
-ghost use Rattle.std.specs.Prelude.{◌≡◌, ◌*◌, None};
-ghost use Rattle.nd_advertiser.specs.Config.{Settings, config_fault, is_from, is_max_interval, is_min_interval, is_mtu, is_router_lifetime, unless};
+ghost use Rattle.std.specs.Prelude.{◌≡◌, None};
+ghost use Rattle.nd_advertiser.specs.Config.{Settings, config_fault, interval_range, is_max_interval, is_min_interval, is_mtu, is_router_lifetime, milliseconds, unless};
 
 use crate::config_fault::ConfigFault;
 use nd_addr::{ETHERNET_MTU, LEAST_MTU};
@@ -13,6 +13,8 @@ const GREATEST_MAX_INTERVAL: u16 = 1800;
 
 /// MinRtrAdvInterval at least, in seconds (RFC 4861, section 6.2.1).
 const LEAST_MIN_INTERVAL: u16 = 3;
+
+const MILLISECONDS_PER_SECOND: u64 = 1000;
 
 /// AdvDefaultLifetime at most, in seconds (RFC 4861, section 6.2.1).
 const GREATEST_LIFETIME: u16 = 9000;
@@ -101,11 +103,11 @@ impl Config {
 
     /// The least and the greatest time between two advertisements, in milliseconds (RFC 4861, section 6.2.4).
     pub fn interval(&self) -> (u64, u64)
-        ensures { result ≡ (1000 * self.now.min_interval, 1000 * self.now.max_interval) }
+        ensures { result ≡ interval_range self.now }
     {
         (
-            1000 * u64::from(self.min_interval),
-            1000 * u64::from(self.max_interval),
+            milliseconds(self.min_interval),
+            milliseconds(self.max_interval),
         )
     }
 
@@ -123,6 +125,13 @@ impl Config {
     {
         self.mtu
     }
+}
+
+/// The milliseconds of so many seconds.
+fn milliseconds(seconds: u16) -> u64
+    ensures { result ≡ milliseconds seconds }
+{
+    MILLISECONDS_PER_SECOND * u64::from(seconds)
 }
 
 fn is_max_interval(max: u16) -> bool

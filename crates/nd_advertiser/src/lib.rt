@@ -5,13 +5,19 @@ mod advertiser;
 mod advertising;
 mod config;
 mod config_fault;
+mod contents;
 pub mod laws;
 mod offer;
+mod offer_rows;
+mod offers;
 
 pub use advertiser::Advertiser;
 pub use config::{Config, ConfigFlags};
 pub use config_fault::ConfigFault;
+pub use contents::MAX_CONTENTS_LENGTH;
 pub use offer::{Offer, OfferFlags};
+pub use offer_rows::OfferRows;
+pub use offers::Full;
 
 #[cfg(test)]
 mod tests;

@@ -1,7 +1,13 @@
-ghost use Rattle.std.specs.Prelude.{◌<◌, ◌^◌};
+ghost use Rattle.std.specs.Prelude.{◌<◌, ◌≤◌, ◌^◌};
+ghost use Rattle.nd_message.specs.Owned.{whole};
+ghost use Rattle.nd_message.specs.Spelling.{written_length};
+ghost use Rattle.nd_message.specs.WellFormed.{IsWellFormed};
+ghost use Rattle.nd_advertiser.specs.Contents.{max_contents_length};
 
 use super::*;
-use nd_addr::{Addr, Prefix};
+use nd_addr::{Addr, HEADERS_LENGTH, Mac, Prefix};
+use nd_message::{Message, put_frame};
+use std::alloc::Global;
 use std::process::Abort;
 use std::test::*;
 
@@ -129,18 +135,20 @@ fn an_offer_breaks_no_rule(rt: HostRuntime) -> Result<(), Fail> {
     Ok(())
 }
 
-/// A router that has advertised with these intervals in seconds since it began.
-fn began(min: u16, max: u16, now: u64) -> Result<Advertiser, ConfigFault>
+/// A router whose address was assigned is to advertise with these intervals in seconds.
+fn begin(advertiser: &mut Advertiser<Global>, min: u16, max: u16, now: u64) -> bool
     requires { now < 2 ^ 62 }
 {
-    let mut advertiser = Advertiser::new();
+    let Ok(config) = timed(min, max, 1800) else {
+        return false;
+    };
     advertiser.assigned(1000);
-    advertiser.begin(now, timed(min, max, 1800)?);
-    Ok(advertiser)
+    advertiser.begin(now, config);
+    true
 }
 
 /// The next advertisement is due at this moment, and is sent.
-fn send(rt: &impl Abort, advertiser: &mut Advertiser, now: u64, interval: u32)
+fn send(rt: &impl Abort, advertiser: &mut Advertiser<Global>, now: u64, interval: u32)
     requires { now < 2 ^ 62 }
 {
     let next = advertiser.next_due();
@@ -153,7 +161,7 @@ fn send(rt: &impl Abort, advertiser: &mut Advertiser, now: u64, interval: u32)
 }
 
 /// A solicitation is heard. It answers whether a delay was drawn for it.
-fn solicit(advertiser: &mut Advertiser, now: u64, delay: u32) -> bool
+fn solicit(advertiser: &mut Advertiser<Global>, now: u64, delay: u32) -> bool
     requires { now < 2 ^ 62 }
 {
     if !advertiser.wants_draw() {
@@ -167,7 +175,8 @@ fn solicit(advertiser: &mut Advertiser, now: u64, delay: u32) -> bool
 fn a_solicitation_is_answered_three_seconds_after_the_last_advertisement(
     rt: HostRuntime,
 ) -> Result<(), Fail> {
-    let mut advertiser = began(200, 600, 2000)?;
+    let mut advertiser = Advertiser::new(rt.alloc())?;
+    assert!(rt; begin(&mut advertiser, 200, 600, 2000));
     // Before the first advertisement none is planned for.
     assert!(rt; !solicit(&mut advertiser, 2000, 200));
     send(&rt, &mut advertiser, 2000, 200_000);
@@ -193,7 +202,8 @@ fn a_solicitation_is_answered_three_seconds_after_the_last_advertisement(
 
 #[test]
 fn what_is_planned_comes_before_a_later_answer(rt: HostRuntime) -> Result<(), Fail> {
-    let mut advertiser = began(3, 4, 2000)?;
+    let mut advertiser = Advertiser::new(rt.alloc())?;
+    assert!(rt; begin(&mut advertiser, 3, 4, 2000));
     send(&rt, &mut advertiser, 2000, 3000);
     assert!(rt; solicit(&mut advertiser, 3000, 500));
     send(&rt, &mut advertiser, 5000, 3000);
@@ -203,7 +213,8 @@ fn what_is_planned_comes_before_a_later_answer(rt: HostRuntime) -> Result<(), Fa
 
 #[test]
 fn the_fourth_interval_is_as_it_was_drawn(rt: HostRuntime) -> Result<(), Fail> {
-    let mut advertiser = began(200, 600, 2000)?;
+    let mut advertiser = Advertiser::new(rt.alloc())?;
+    assert!(rt; begin(&mut advertiser, 200, 600, 2000));
     send(&rt, &mut advertiser, 2000, 600_000);
     send(&rt, &mut advertiser, 18_000, 600_000);
     // Another configuration restarts neither the count nor a date.
@@ -216,17 +227,147 @@ fn the_fourth_interval_is_as_it_was_drawn(rt: HostRuntime) -> Result<(), Fail> {
 
 #[test]
 fn the_first_advertisement_waits_for_the_address(rt: HostRuntime) -> Result<(), Fail> {
-    let mut advertiser = Advertiser::new();
+    let mut advertiser = Advertiser::new(rt.alloc())?;
     assert_eq!(rt; advertiser.next_due(), None);
+    assert_eq!(rt; advertiser.interval(), None);
     advertiser.begin(200, timed(200, 600, 1800)?);
     assert!(rt; advertiser.is_on());
-    let interval = advertiser.config().map(|config| config.interval());
-    assert_eq!(rt; interval, Some((200_000, 600_000)));
+    assert_eq!(rt; advertiser.interval(), Some((200_000, 600_000)));
     assert_eq!(rt; advertiser.next_due(), None);
     // Nothing was sent, so no last one is.
     assert!(rt; !advertiser.stop(300));
     advertiser.begin(400, timed(200, 600, 1800)?);
     advertiser.assigned(1200);
     assert_eq!(rt; advertiser.next_due(), Some(1200));
+    Ok(())
+}
+
+/// The offer of the prefix that begins with these two bytes.
+fn offer(first: u8, second: u8, length: u8, valid: u32) -> Option<Offer> {
+    Offer::new(prefix(first, second, length)?, valid, 10, FLAGS).ok()
+}
+
+/// A prefix is offered. There is no answer where it is no offer.
+fn put(
+    advertiser: &mut Advertiser<Global>,
+    second: u8,
+    length: u8,
+    valid: u32,
+) -> Option<Result<(), Full>> {
+    Some(advertiser.put(offer(0x20, second, length, valid)?))
+}
+
+/// The offers are these, each by its prefix's second byte and its lifetime.
+fn offers(rt: &impl Abort, advertiser: &Advertiser<Global>, wanted: &[(u8, u32)]) {
+    let mut rest = wanted;
+    for offer in advertiser.rows() {
+        let info = offer.info();
+        match rest {
+            [(second, valid), more @ ..] => {
+                assert_eq!(rt; info.prefix.address().0[1], *second);
+                assert_eq!(rt; info.valid_lifetime, *valid);
+                rest = more;
+            }
+            [] => assert!(rt; false),
+        }
+    }
+    assert!(rt; rest.is_empty());
+}
+
+#[test]
+fn a_prefix_that_is_there_is_replaced_in_its_place(rt: HostRuntime) -> Result<(), Fail> {
+    let mut advertiser = Advertiser::new(rt.alloc())?;
+    offers(&rt, &advertiser, &[]);
+    assert_eq!(rt; put(&mut advertiser, 3, 64, 100), Some(Ok(())));
+    assert_eq!(rt; put(&mut advertiser, 1, 64, 100), Some(Ok(())));
+    assert_eq!(rt; put(&mut advertiser, 2, 64, 100), Some(Ok(())));
+    assert_eq!(rt; put(&mut advertiser, 1, 64, 200), Some(Ok(())));
+    offers(&rt, &advertiser, &[(3, 100), (1, 200), (2, 100)]);
+    // Another length is another prefix.
+    assert_eq!(rt; put(&mut advertiser, 3, 48, 300), Some(Ok(())));
+    offers(&rt, &advertiser, &[(3, 100), (1, 200), (2, 100), (3, 300)]);
+    Ok(())
+}
+
+#[test]
+fn sixteen_prefixes_are_advertised(rt: HostRuntime) -> Result<(), Fail> {
+    let mut advertiser = Advertiser::new(rt.alloc())?;
+    for second in 0..16u8 {
+        assert_eq!(rt; put(&mut advertiser, second, 64, 100), Some(Ok(())));
+    }
+    assert_eq!(rt; put(&mut advertiser, 16, 64, 100), Some(Err(Full)));
+    // One that is there finds its place.
+    assert_eq!(rt; put(&mut advertiser, 0, 64, 200), Some(Ok(())));
+    assert_eq!(rt; put(&mut advertiser, 15, 64, 200), Some(Ok(())));
+    assert_eq!(rt; put(&mut advertiser, 17, 64, 100), Some(Err(Full)));
+    let mut count = 0u8;
+    for offer in advertiser.rows() {
+        let second = offer.info().prefix.address().0[1];
+        assert_eq!(rt; second, count);
+        let valid = if second == 0 || second == 15 {
+            200
+        } else {
+            100
+        };
+        assert_eq!(rt; offer.info().valid_lifetime, valid);
+        count = count.saturating_add(1);
+    }
+    assert_eq!(rt; count, 16);
+    Ok(())
+}
+
+/// An advertisement of fe80::ff:fe00:1 with a router lifetime of 1800 seconds, and no MTU and no prefix.
+const ADVERTISEMENT: [u8; 78] = [
+    0x33, 0x33, 0x00, 0x00, 0x00, 0x01, 0x02, 0x00, 0x00, 0x00, 0x00, 0x01, 0x86, 0xdd, 0x60, 0x00,
+    0x00, 0x00, 0x00, 0x18, 0x3a, 0xff, 0xfe, 0x80, 0x00, 0x00, 0x00, 0x00, 0x00, 0x00, 0x00, 0x00,
+    0x00, 0xff, 0xfe, 0x00, 0x00, 0x01, 0xff, 0x02, 0x00, 0x00, 0x00, 0x00, 0x00, 0x00, 0x00, 0x00,
+    0x00, 0x00, 0x00, 0x00, 0x00, 0x01, 0x86, 0x00, 0x33, 0x1d, 0x40, 0x00, 0x07, 0x08, 0x00, 0x00,
+    0x00, 0x00, 0x00, 0x00, 0x00, 0x00, 0x01, 0x01, 0x02, 0x00, 0x00, 0x00, 0x00, 0x01,
+];
+
+/// The last one, with a router lifetime of 0.
+const LAST_ADVERTISEMENT: [u8; 78] = [
+    0x33, 0x33, 0x00, 0x00, 0x00, 0x01, 0x02, 0x00, 0x00, 0x00, 0x00, 0x01, 0x86, 0xdd, 0x60, 0x00,
+    0x00, 0x00, 0x00, 0x18, 0x3a, 0xff, 0xfe, 0x80, 0x00, 0x00, 0x00, 0x00, 0x00, 0x00, 0x00, 0x00,
+    0x00, 0xff, 0xfe, 0x00, 0x00, 0x01, 0xff, 0x02, 0x00, 0x00, 0x00, 0x00, 0x00, 0x00, 0x00, 0x00,
+    0x00, 0x00, 0x00, 0x00, 0x00, 0x01, 0x86, 0x00, 0x3a, 0x25, 0x40, 0x00, 0x00, 0x00, 0x00, 0x00,
+    0x00, 0x00, 0x00, 0x00, 0x00, 0x00, 0x01, 0x01, 0x02, 0x00, 0x00, 0x00, 0x00, 0x01,
+];
+
+/// The frame of an advertisement to all nodes.
+fn frame(rt: &HostRuntime, message: &Message<Global>) -> Result<Vec<u8, Global>, Fail>
+    requires formed { IsWellFormed (whole message.now) }
+    requires short { written_length (whole message.now) ≤ max_contents_length }
+{
+    let all_nodes = Addr([0xff, 2, 0, 0, 0, 0, 0, 0, 0, 0, 0, 0, 0, 0, 0, 1]);
+    let router = Addr([0xfe, 0x80, 0, 0, 0, 0, 0, 0, 0, 0, 0, 0xff, 0xfe, 0, 0, 1]);
+    let mut out = Vec::with_capacity(rt.alloc(), HEADERS_LENGTH + MAX_CONTENTS_LENGTH)?;
+    put_frame(
+        &mut out,
+        Mac::multicast(all_nodes),
+        MAC,
+        router,
+        all_nodes,
+        &message.body,
+        &message.options,
+    );
+    Ok(out)
+}
+
+const MAC: Mac = Mac([2, 0, 0, 0, 0, 1]);
+
+#[test]
+fn advertisements_are_written_as_frames(rt: HostRuntime) -> Result<(), Fail> {
+    let mut advertiser = Advertiser::new(rt.alloc())?;
+    assert!(rt; advertiser.contents(rt.alloc(), MAC)?.is_none());
+    assert!(rt; begin(&mut advertiser, 200, 600, 2000));
+    match advertiser.contents(rt.alloc(), MAC)? {
+        Some(message) => assert_eq!(rt; frame(&rt, &message)?.as_slice(), &ADVERTISEMENT[..]),
+        None => assert!(rt; false),
+    }
+    match advertiser.last_contents(rt.alloc(), MAC)? {
+        Some(message) => assert_eq!(rt; frame(&rt, &message)?.as_slice(), &LAST_ADVERTISEMENT[..]),
+        None => assert!(rt; false),
+    }
     Ok(())
 }

@@ -1,0 +1,4 @@
+pub mod Offering
+pub mod Keyed
+pub mod OptionList
+pub mod ByRows

@@ -1,0 +1,12 @@
+use Rattle.std.proofs.Common.{rules, ◌≡◌, Some, ◌∙◌}
+use Rattle.std.specs.Prelude.{option_map}
+use Rattle.nd_message.specs.Owned.{whole}
+use Rattle.nd_advertiser.specs.Calls.{settings_in}
+use Rattle.nd_advertiser.specs.Contents.{last_contents}
+use Rattle.nd_advertiser.proofs.ByRows.{last_contents_are}
+use Rattle.nd_advertiser.proofs.advertiser.Advertiser.last_contents.Goals as goal
+
+pub returns-clause-by_history : goal.returns-clause-by_history
+returns-clause-by_history g c = λ history s.
+    let value : Some (whole c.advertisement.result) ≡ option_map (last_contents c.args.mac c.args.self.now.offers) (settings_in c.args.self.now.advertising) = search rules in
+    value ∙ last_contents_are c.args.mac c.args.self.now history s

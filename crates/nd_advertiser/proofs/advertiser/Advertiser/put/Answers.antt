@@ -1,0 +1,18 @@
+use Rattle.std.proofs.Common.{◌≡◌, refl, sym, ◌∙◌, ap, subst}
+use Rattle.std.specs.Prelude.{OnOk}
+use Rattle.nd_advertiser.specs.History.{Offered}
+use Rattle.nd_advertiser.specs.Offers.{answer_to}
+use Rattle.nd_advertiser.specs.Calls.{prefixes_in}
+use Rattle.nd_advertiser.specs.Table.{Table, GainsRow}
+use Rattle.nd_advertiser.proofs.Offering.{prefixes_are, gains}
+use Rattle.nd_advertiser.proofs.advertiser.Advertiser.put.Goals as goal
+
+pub returns-clause-by_history : goal.returns-clause-by_history
+returns-clause-by_history g c = λ history s.
+    c.put.ensures.value ∙ ap (λ ps. answer_to c.args.offer.prefix ps) (ap (λ (t : Table). prefixes_in t.offers) c.self.view_is ∙ (ap prefixes_in s.offers ∙ prefixes_are history))
+
+pub returns-clause-stands : goal.returns-clause-stands
+returns-clause-stands g c =
+    let new : Table = record { assigned = c.self.inside.assigned; last = c.self.inside.last; advertising = c.self.inside.advertising; offers = c.put.new.self } in
+    let old : Table = record { assigned = c.self.inside.assigned; last = c.self.inside.last; advertising = c.self.inside.advertising; offers = c.self.inside.offers } in
+    subst (λ (t : Table). OnOk c.put.result (GainsRow t new (Offered c.args.offer))) c.self.view_is (gains c.put.result old new c.args.offer refl refl refl c.put.ensures.put)

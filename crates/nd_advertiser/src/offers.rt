@@ -1,0 +1,84 @@
+ghost use Rattle.std.specs.Prelude.{◌≡◌, ◌≤◌, [], length, IfOk, OnOk, OnErr};
+ghost use Rattle.nd_advertiser.specs.Offers.{answer_to, max_offers};
+ghost use Rattle.nd_advertiser.specs.Calls.{prefixes_in, with_offer};
+
+use crate::offer::Offer;
+use crate::offer_rows::OfferRows;
+use indexmap::IndexMap;
+use nd_addr::Prefix;
+use std::alloc::{AllocError, Allocator};
+use std::hash::{BuildHasherDefault, FoldHasher};
+use std::marker::Model;
+
+/// How many prefixes are advertised at most (our choice).
+pub(crate) const MAX_OFFERS: usize = 16;
+
+/// There is no room: it would be one prefix too many. Nothing has changed then.
+#[derive(Clone, Copy, Debug, PartialEq, Eq)]
+pub struct Full;
+
+/// The prefixes that a router advertises (RFC 4861, section 6.2.1, AdvPrefixList), in the order in which they came.
+#[derive(Drop)]
+pub(crate) struct Offers<A: Allocator> {
+    entries: IndexMap<Prefix, Offer, BuildHasherDefault<FoldHasher>, A>,
+}
+
+impl<A: Allocator> Model for Offers<A> {
+    ghost use Rattle.std.specs.Prelude.{◌≡◌, ◌≤◌, ◌+◌, List, length, map};
+    ghost use Rattle.std.specs.List.{AllByRecursion};
+    ghost use Rattle.indexmap.specs.IndexMap.{spare};
+    ghost use Rattle.nd_decode.specs.declared.prefix_info.PrefixInfo.{PrefixInfo};
+    ghost use Rattle.nd_advertiser.specs.Offers.{max_offers};
+
+    ghost Value = { List PrefixInfo };
+
+    ghost view = { λ o. map (λ e. e.1) o.entries.entries };
+
+    // Each stands under its prefix, they are no more than 16, and there is room for as many.
+    ghost invariant = { λ o. AllByRecursion (λ e. e.0 ≡ e.1.prefix) o.entries.entries × (length o.entries.entries ≤ max_offers) × (max_offers ≤ length o.entries.entries + spare o.entries) };
+}
+
+impl<A: Allocator + Copy> Offers<A> {
+    /// None, with room for 16. The error is want of memory.
+    pub(crate) fn new(alloc: A) -> Result<Self, AllocError>
+        ensures { IfOk result (λ offers. offers ≡ []) }
+    {
+        Ok(Offers {
+            entries: IndexMap::with_capacity_and_hasher(
+                alloc,
+                MAX_OFFERS,
+                BuildHasherDefault::new(),
+            )?,
+        })
+    }
+}
+
+impl<A: Allocator> Offers<A> {
+    /// A prefix is offered: a new one goes behind the others, one that is there is replaced in its place.
+    pub(crate) fn put(&mut self, offer: Offer) -> Result<(), Full>
+        ensures value { result ≡ answer_to offer.prefix (prefixes_in self.old) }
+        ensures put { OnOk result (self.new ≡ with_offer offer self.old) }
+        ensures same { OnErr result (self.new ≡ self.old) }
+    {
+        let prefix = offer.info().prefix;
+        if let Some(there) = self.entries.get_mut(&prefix) {
+            *there = offer;
+            return Ok(());
+        }
+        if self.entries.len() >= MAX_OFFERS {
+            return Err(Full);
+        }
+        match self.entries.insert(prefix, offer) {
+            Ok(_) => Ok(()),
+            Err(_) => unreachable!(),
+        }
+    }
+
+    /// The offers, in their order.
+    pub(crate) fn rows(&self) -> OfferRows<'_>
+        ensures value { result ≡ self.now }
+        ensures few { length result ≤ max_offers }
+    {
+        OfferRows::new(self.entries.values())
+    }
+}
