@@ -40,11 +40,11 @@ heard_router [] = false
 heard_router (parameters.Heard ra options ∷ history) = not (ra.router_lifetime == 0) || heard_router history
 heard_router (parameters.Drew at value ∷ history) = heard_router history
 
--- when the address was assigned, if it was
-abbrev pub assigned_at : address_rows.Story → Option ℕ
-assigned_at [] = None
-assigned_at ((at, address_rows.Assigned) ∷ s) = Some at
-assigned_at ((at, _) ∷ s) = assigned_at s
+-- when the address was last assigned, if it was
+abbrev pub assigned_at : ℕ → List address_rows.Row → Option ℕ
+assigned_at key [] = None
+assigned_at key ((at, k, address_rows.Assigned) ∷ history) = if k == key then Some at else assigned_at key history
+assigned_at key ((at, k, _) ∷ history) = assigned_at key history
 
 abbrev pub is_host : Role → Bool
 is_host Host = true
@@ -54,7 +54,7 @@ is_host Router = false
 abbrev pub router_solicitation_date : Start → Chronicle → Option ℕ
 router_solicitation_date start c =
     if is_host start.role && nat_lt (solicited_routers c) max_rtr_solicitations && not (heard_router (parameter_history c))
-    then option_map (λ at. at + solicited_routers c * rtr_solicitation_interval) (assigned_at (address_rows.story (link_local_key start) (address_history c)))
+    then option_map (λ at. at + solicited_routers c * rtr_solicitation_interval) (assigned_at (link_local_key start) (address_history c))
     else None
 
 -- ---- the passes

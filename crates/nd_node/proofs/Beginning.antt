@@ -1,0 +1,74 @@
+-- A node that starts stands for the beginning.
+use Rattle.std.proofs.Common.{◌≡◌, ℕ, [], ◌∷◌, None, false, ap, arith}
+use Rattle.rand_core.specs.Stream.{Stream}
+use Rattle.nd_addr.specs.declared.role.Role.{Role}
+use Rattle.nd_addr.specs.declared.role.Role.TheVariants.{Host, Router}
+use Rattle.nd_table.specs.Due.{NotBefore}
+use Rattle.nd_lifetime.specs.Listing as lists
+use Rattle.nd_lifetime.specs.Same.{same_prefix}
+use Rattle.nd_neighbour.specs.Table as neighbours
+use Rattle.nd_slaac.specs.Table as addresses
+use Rattle.nd_slaac.specs.Calls.{formed}
+use Rattle.nd_routers.specs.Routers as routers
+use Rattle.nd_params.specs.Params as parameters
+use Rattle.nd_dns.specs.Dns as dns
+use Rattle.nd_nexthop.specs.Choice as choice
+use Rattle.nd_chronicle.specs.Start.{Start, link_local_key}
+use Rattle.nd_chronicle.specs.Histories.{parameter_history, address_history}
+use Rattle.nd_chronicle.specs.Generator.{stream_left}
+use Rattle.nd_chronicle.specs.History.{beginning}
+use Rattle.nd_node.specs.declared.node.Node.{Node}
+use Rattle.nd_node.specs.RouterSolicitations.{Solicitations, next_solicitation}
+use Rattle.nd_node.specs.Node.{Stands}
+use Rattle.nd_node.proofs.Turns.{all_later}
+
+abbrev none_sent : Solicitations
+none_sent = record { assigned = None; sent = 0; heard = false }
+
+none_is_due : (role : Role) (now : ℕ) → NotBefore now (next_solicitation role none_sent)
+none_is_due Host now = tt
+none_is_due Router now = tt
+
+-- the values of a node that starts
+pub record Starts {R A : Type 0} (stream : R → Stream) (start : Start) (node : Node R A) : Type 0 where
+  pub role : node.role ≡ start.role
+  pub mac : node.mac ≡ start.mac
+  pub last : node.last ≡ start.at
+  pub drawn_at : node.params.drawn_at ≡ start.at
+  pub address_mac : node.addresses.mac ≡ start.mac
+  pub delay : ℕ
+  pub retrans : ℕ
+  pub formed : node.addresses.addresses ≡ formed (link_local_key start) start.at delay retrans None ∷ []
+  pub routers : node.routers ≡ record { limit = start.limits.routers; entries = []; failed = [] }
+  pub neighbours : node.neighbours ≡ record { limit = start.limits.neighbours; nodes = []; rings = 0 }
+  pub solicitations : node.solicitations ≡ none_sent
+
+pub stands_beginning : {R A : Type 0} (stream : R → Stream) (start : Start) (node : Node R A) → Starts stream start node
+    → parameters.Stands node.params (parameter_history (beginning start)) → routers.Stands node.routers [] → lists.Stands same_prefix node.prefixes []
+    → addresses.Stands node.addresses.addresses (address_history (beginning start)) → neighbours.Stands node.neighbours.nodes [] → dns.Stands node.dns [] [] → choice.Stands node.choice []
+    → stream node.generator ≡ stream_left start (beginning start) → Stands stream start node (beginning start)
+stands_beginning stream start node v params routers' prefixes addresses' neighbours' dns' redirects generator = record {
+  role = v.role;
+  mac = v.mac;
+  address_mac = v.address_mac;
+  neighbour_limit = ap (λ (t : neighbours.Table). t.limit) v.neighbours;
+  router_limit = ap (λ (t : routers.Table). t.limit) v.routers;
+  params = params;
+  routers = routers';
+  prefixes = prefixes;
+  addresses = addresses';
+  neighbours = neighbours';
+  dns = dns';
+  redirects = redirects;
+  solicitations = record {
+    assigned = ap (λ (s : Solicitations). s.assigned) v.solicitations;
+    sent = ap (λ (s : Solicitations). s.sent) v.solicitations;
+    heard = ap (λ (s : Solicitations). s.heard) v.solicitations;
+  };
+  generator = generator;
+  last = v.last;
+  prefixes_by_then = omega arith;
+  servers_by_then = omega arith;
+  names_by_then = omega arith;
+  in_time = all_later node start.at (rw v.routers tt) (rw v.formed (omega arith)) (rw v.neighbours tt) (rw v.solicitations (none_is_due node.role start.at)) (omega (arith, v.drawn_at));
+}

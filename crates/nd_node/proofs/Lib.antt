@@ -1,0 +1,4 @@
+pub mod Moments
+pub mod Quiet
+pub mod Turns
+pub mod Beginning

@@ -1,0 +1,91 @@
+-- The earliest of some moments, and what isn't due before it.
+use Rattle.std.proofs.Common.{◌≡◌, ℕ, ◌<◌, ◌≤◌, List, Option, Some, None, ap, arith, ⊎_elim}
+use Rattle.std.proofs.lemmas.Bool.{cases_lt}
+use Rattle.nd_table.specs.Due.{NotBefore}
+use Rattle.nd_neighbour.specs.History as neighbours
+use Rattle.nd_neighbour.specs.Due as neighbours_due
+use Rattle.nd_slaac.specs.History as addresses
+use Rattle.nd_slaac.specs.Due as addresses_due
+use Rattle.nd_routers.specs.History as routers
+use Rattle.nd_routers.specs.Due as routers_due
+use Rattle.nd_node.specs.Moments.{earlier}
+use Rattle.nd_node.specs.Node.{earliest}
+
+pub earlier_from : (now : ℕ) (o : Option ℕ) (n : ℕ) → NotBefore now o → now ≤ n → now ≤ earlier o n
+earlier_from now None n h k = k
+earlier_from now (Some m) n h k = omega arith
+
+pub earlier_first : (now : ℕ) (o : Option ℕ) (n : ℕ) → now ≤ earlier o n → NotBefore now o
+earlier_first now None n h = tt
+earlier_first now (Some m) n h = omega arith
+
+pub earlier_second : (now : ℕ) (o : Option ℕ) (n : ℕ) → now ≤ earlier o n → now ≤ n
+earlier_second now None n h = h
+earlier_second now (Some m) n h = omega arith
+
+-- where the first isn't now, the second is
+pub earlier_at : (now : ℕ) (o : Option ℕ) (n : ℕ) → now ≡ earlier o n → (o ≡ Some now → ⊥) → now ≡ n
+earlier_at now None n is none = is
+earlier_at now (Some m) n is none = ⊎_elim (λ lt. absurd (none (ap Some (omega arith)))) (λ ge. omega arith) (cases_lt m n)
+
+-- what isn't due before the next date isn't due at an earlier moment
+pub no_router : (history : List routers.RouterRow) (o : Option ℕ) (n moment : ℕ) → routers_due.NextDue history o → moment < earlier o n → routers_due.FirstDue history moment None
+no_router history None n moment due lt = λ key is. due moment key is
+no_router history (Some m) n moment due lt = λ key is. absurd (omega (arith, due.1 moment key is))
+
+pub no_address : (history : List addresses.Row) (o : Option ℕ) (n moment : ℕ) → addresses_due.NextDue history o → moment < earlier o n → addresses_due.FirstDue history moment None
+no_address history None n moment due lt = λ falls is. due moment falls is
+no_address history (Some m) n moment due lt = λ falls is. absurd (omega (arith, due.1 moment falls is))
+
+pub no_neighbour : (history : List neighbours.Row) (o : Option ℕ) (n moment : ℕ) → neighbours_due.NextDue history o → moment < earlier o n → neighbours_due.FirstDue history moment None
+no_neighbour history None n moment due lt = λ key is. due moment key is
+no_neighbour history (Some m) n moment due lt = λ key is. absurd (omega (arith, due.1 moment key is))
+
+pub none_at : (moment : ℕ) (o : Option ℕ) (n : ℕ) → moment < earlier o n → o ≡ Some moment → ⊥
+none_at moment None n h is = absurd_none is
+  where
+    absurd_none : None ≡ Some moment → ⊥
+    absurd_none e = cc
+none_at moment (Some m) n h is = let e : m ≡ moment = cc in omega arith
+
+pub before_second : (moment : ℕ) (o : Option ℕ) (n : ℕ) → moment < earlier o n → moment < n
+before_second moment None n h = h
+before_second moment (Some m) n h = omega arith
+
+module _ (now : ℕ) (r a n s : Option ℕ) (d : ℕ) where
+  pub none_before : NotBefore now r → NotBefore now a → NotBefore now n → NotBefore now s → now ≤ d → now ≤ earliest r a n s d
+  none_before hr ha hn hs hd =
+      earlier_from now r (earlier a (earlier n (earlier s d))) hr (earlier_from now a (earlier n (earlier s d)) ha (earlier_from now n (earlier s d) hn (earlier_from now s d hs hd)))
+
+  module _ (h : now ≤ earliest r a n s d) where
+    after_routers : now ≤ earlier a (earlier n (earlier s d))
+    after_routers = earlier_second now r (earlier a (earlier n (earlier s d))) h
+
+    after_addresses : now ≤ earlier n (earlier s d)
+    after_addresses = earlier_second now a (earlier n (earlier s d)) after_routers
+
+    after_neighbours : now ≤ earlier s d
+    after_neighbours = earlier_second now n (earlier s d) after_addresses
+
+    pub before_routers : NotBefore now r
+    before_routers = earlier_first now r (earlier a (earlier n (earlier s d))) h
+
+    pub before_addresses : NotBefore now a
+    before_addresses = earlier_first now a (earlier n (earlier s d)) after_routers
+
+    pub before_neighbours : NotBefore now n
+    before_neighbours = earlier_first now n (earlier s d) after_addresses
+
+    pub before_solicitation : NotBefore now s
+    before_solicitation = earlier_first now s d after_neighbours
+
+    pub before_redraw : now ≤ d
+    before_redraw = earlier_second now s d after_neighbours
+
+  -- where no table has something due now, a Router Solicitation or the redraw is
+  pub at_solicitation : now ≡ earliest r a n s d → (r ≡ Some now → ⊥) → (a ≡ Some now → ⊥) → (n ≡ Some now → ⊥) → now ≡ earlier s d
+  at_solicitation is hr ha hn =
+      earlier_at now n (earlier s d) (earlier_at now a (earlier n (earlier s d)) (earlier_at now r (earlier a (earlier n (earlier s d))) is hr) ha) hn
+
+  pub at_redraw : now ≡ earliest r a n s d → (r ≡ Some now → ⊥) → (a ≡ Some now → ⊥) → (n ≡ Some now → ⊥) → (s ≡ Some now → ⊥) → now ≡ d
+  at_redraw is hr ha hn hs = earlier_at now s d (at_solicitation is hr ha hn) hs

@@ -1,0 +1,311 @@
+-- What a turn does to the chronicle that a node stands for.
+use Rattle.std.proofs.Common.{◌≡◌, ℕ, ◌+◌, ◌*◌, ◌<◌, ◌≤◌, Bool, true, false, List, ◌∷◌, Option, Some, None, refl, sym, ◌∙◌, ap, subst, arith}
+use Rattle.std.specs.Prelude.{◌==◌, ◌≢◌, nat_lt, not, ◌&&◌, if◌then◌else◌}
+use Rattle.rand_core.specs.Stream.{Stream, next_u32}
+use Rattle.std.specs.Option.{option_map}
+use Rattle.nd_addr.specs.declared.role.Role.{Role}
+use Rattle.nd_addr.specs.declared.role.Role.TheVariants.{Host, Router}
+use Rattle.nd_table.specs.Due.{NotBefore}
+use Rattle.nd_neighbour.specs.History as neighbour_rows
+use Rattle.nd_neighbour.specs.Table as neighbours
+use Rattle.nd_neighbour.specs.Due as neighbours_due
+use Rattle.nd_slaac.specs.History as address_rows
+use Rattle.nd_slaac.specs.Table as addresses
+use Rattle.nd_slaac.specs.Due as addresses_due
+use Rattle.nd_slaac.specs.Dates as address_dates
+use Rattle.nd_routers.specs.History as router_rows
+use Rattle.nd_routers.specs.Due as routers_due
+use Rattle.nd_routers.specs.Routers as routers
+use Rattle.nd_params.specs.History as parameter_rows
+use Rattle.nd_params.specs.History.{redraw_after}
+use Rattle.nd_params.specs.Params as parameters
+use Rattle.nd_nexthop.specs.History as redirect_rows
+use Rattle.nd_nexthop.specs.Choice as choice
+use Rattle.nd_chronicle.specs.Start.{Start, link_local_key}
+use Rattle.nd_chronicle.specs.Happening.{Chronicle, Neighbour, Address, LeftRouter, SolicitedRouters, Unreachable, last_moment}
+use Rattle.nd_chronicle.specs.Histories.{parameter_history, neighbour_history, router_history, prefix_history, address_history, server_history, name_history, redirect_history, then_failed, then_target}
+use Rattle.nd_chronicle.specs.InForce.{next_redraw}
+use Rattle.nd_chronicle.specs.Generator.{stream_left, reachable_drawn}
+use Rattle.nd_chronicle.specs.Due.{RouterEnds, AddressFalls, NeighbourFalls, RoutersSolicited, Redraws, comes, max_rtr_solicitations, router_solicitation_date, rtr_solicitation_interval, is_host, solicited_routers, assigned_at}
+use Rattle.nd_node.specs.declared.node.Node.{Node}
+use Rattle.nd_node.specs.Moments.{earlier}
+use Rattle.nd_node.specs.RouterSolicitations as solicitations
+use Rattle.nd_node.specs.RouterSolicitations.{Solicitations, next_solicitation, after_address}
+use Rattle.nd_node.specs.LostHop.{Notes, with_failure, with_lost_target}
+use Rattle.nd_node.specs.Node.{Stands, NextDue, next_of}
+use Rattle.nd_node.proofs.Moments.{no_router, no_address, no_neighbour, none_at, before_second, none_before, before_routers, before_addresses, before_neighbours, before_solicitation, before_redraw, at_redraw}
+use Rattle.nd_node.proofs.Quiet.{sent_is_quiet, losing_is_quiet, stands_quiet}
+
+-- ---- the dates of a node
+
+module _ {R A : Type 0} (node : Node R A) (now : ℕ) where
+  -- nothing is due at a node before the moment
+  pub all_later : routers.NoneBefore node.routers.entries now → address_dates.NoneBefore node.addresses.addresses now → neighbours_due.NoneBefore node.neighbours.nodes now
+      → NotBefore now (next_solicitation node.role node.solicitations) → now ≤ node.params.drawn_at + redraw_after → now ≤ next_of node
+  all_later r a n s d =
+      none_before now (routers.next_end node.routers.entries) (address_dates.next_in node.addresses.addresses) (neighbours_due.next_in node.neighbours.nodes)
+      (next_solicitation node.role node.solicitations) (node.params.drawn_at + redraw_after) r a n s d
+
+-- the dates of a node at which something is due, or of which nothing was due before
+module _ {R A : Type 0} (node : Node R A) (now : ℕ) (h : now ≤ next_of node) where
+  pub routers_before : routers.NoneBefore node.routers.entries now
+  routers_before = before_routers now (routers.next_end node.routers.entries) (address_dates.next_in node.addresses.addresses) (neighbours_due.next_in node.neighbours.nodes) (next_solicitation node.role node.solicitations) (node.params.drawn_at + redraw_after) h
+
+  pub addresses_before : address_dates.NoneBefore node.addresses.addresses now
+  addresses_before = before_addresses now (routers.next_end node.routers.entries) (address_dates.next_in node.addresses.addresses) (neighbours_due.next_in node.neighbours.nodes) (next_solicitation node.role node.solicitations) (node.params.drawn_at + redraw_after) h
+
+  pub neighbours_before : neighbours_due.NoneBefore node.neighbours.nodes now
+  neighbours_before = before_neighbours now (routers.next_end node.routers.entries) (address_dates.next_in node.addresses.addresses) (neighbours_due.next_in node.neighbours.nodes) (next_solicitation node.role node.solicitations) (node.params.drawn_at + redraw_after) h
+
+  pub solicitation_before : NotBefore now (next_solicitation node.role node.solicitations)
+  solicitation_before = before_solicitation now (routers.next_end node.routers.entries) (address_dates.next_in node.addresses.addresses) (neighbours_due.next_in node.neighbours.nodes) (next_solicitation node.role node.solicitations) (node.params.drawn_at + redraw_after) h
+
+  pub redraw_before : now ≤ node.params.drawn_at + redraw_after
+  redraw_before = before_redraw now (routers.next_end node.routers.entries) (address_dates.next_in node.addresses.addresses) (neighbours_due.next_in node.neighbours.nodes) (next_solicitation node.role node.solicitations) (node.params.drawn_at + redraw_after) h
+
+-- ---- Router Solicitations
+
+-- the date of the next one is that of the chronicle
+abbrev date_by : Role → Option ℕ → ℕ → Bool → Option ℕ
+date_by role assigned sent heard = next_solicitation role (record { assigned = assigned; sent = sent; heard = heard })
+
+pub solicitation_date : {R A : Type 0} (stream : R → Stream) (start : Start) (node : Node R A) (c : Chronicle) → Stands stream start node c → next_solicitation node.role node.solicitations ≡ router_solicitation_date start c
+solicitation_date stream start node c s =
+    ap (λ r. date_by r node.solicitations.assigned node.solicitations.sent node.solicitations.heard) s.role
+    ∙ (ap (λ a. date_by start.role a node.solicitations.sent node.solicitations.heard) s.solicitations.assigned
+    ∙ (ap (λ n. date_by start.role (assigned_at (link_local_key start) (address_history c)) n node.solicitations.heard) s.solicitations.sent
+    ∙ ap (λ h. date_by start.role (assigned_at (link_local_key start) (address_history c)) (solicited_routers c) h) s.solicitations.heard))
+
+-- the one after it comes later
+pub solicited_later : (role : Role) (s : Solicitations) (now : ℕ) → next_solicitation role s ≡ Some now → NotBefore now (next_solicitation role (record s { sent = s.sent + 1 }))
+solicited_later Router s now e = tt
+solicited_later Host s now e = by_date s.assigned (nat_lt s.sent max_rtr_solicitations && not s.heard) (nat_lt (s.sent + 1) max_rtr_solicitations && not s.heard) e
+  where
+    by_date : (assigned : Option ℕ) (this next : Bool)
+        → (if this then option_map (λ at. at + s.sent * rtr_solicitation_interval) assigned else None) ≡ Some now
+        → NotBefore now (if next then option_map (λ at. at + (s.sent + 1) * rtr_solicitation_interval) assigned else None)
+    by_date assigned this false e = tt
+    by_date assigned false true e = let no : ⊥ = cc in absurd no
+    by_date None true true e = let no : ⊥ = cc in absurd no
+    by_date (Some at) true true e = let d : at + s.sent * rtr_solicitation_interval ≡ now = cc in omega (arith, d)
+
+-- what falls due for an address makes none due in the past
+pub addressed_later : (role : Role) (link_local now : ℕ) (falls : addresses_due.Falls) (s : Solicitations) → NotBefore now (next_solicitation role s) → NotBefore now (next_solicitation role (after_address link_local now falls s))
+addressed_later role link_local now (addresses_due.Ends key) s h = h
+addressed_later role link_local now (addresses_due.Solicits key) s h = h
+addressed_later role link_local now (addresses_due.Assigns key) s h = either (key == link_local)
+  where
+    from_now : (due : Bool) → NotBefore now (if due then Some (now + s.sent * rtr_solicitation_interval) else None)
+    from_now false = tt
+    from_now true = omega arith
+
+    either : (b : Bool) → NotBefore now (next_solicitation role (if b then record s { assigned = Some now } else s))
+    either true = from_now (is_host role && nat_lt s.sent max_rtr_solicitations && not s.heard)
+    either false = h
+
+-- and is kept as the chronicle has it
+pub addressed_stands : (start : Start) (at : ℕ) (falls : addresses_due.Falls) (s : Solicitations) (c : Chronicle) → solicitations.Stands start s c
+    → solicitations.Stands start (after_address (link_local_key start) at falls s) ((at, Address (addresses_due.key_in falls) (addresses_due.happens falls)) ∷ c)
+addressed_stands start at (addresses_due.Ends key) s c h = record { assigned = h.assigned; sent = h.sent; heard = h.heard }
+addressed_stands start at (addresses_due.Solicits key) s c h = record { assigned = h.assigned; sent = h.sent; heard = h.heard }
+addressed_stands start at (addresses_due.Assigns key) s c h = either (key == link_local_key start) refl
+  where
+    either : (b : Bool) → key == link_local_key start ≡ b
+        → solicitations.Stands start (if b then record s { assigned = Some at } else s) ((at, Address key address_rows.Assigned) ∷ c)
+    either true e = record { assigned = cc; sent = h.sent; heard = h.heard }
+    either false e = record { assigned = cc; sent = h.sent; heard = h.heard }
+
+-- ---- a row
+
+-- what no turn changes
+pub record Turns {R A : Type 0} (old new : Node R A) (at : ℕ) : Type 0 where
+  pub role : new.role ≡ old.role
+  pub mac : new.mac ≡ old.mac
+  pub prefixes : new.prefixes ≡ old.prefixes
+  pub dns : new.dns ≡ old.dns
+  pub address_mac : new.addresses.mac ≡ old.addresses.mac
+  pub neighbour_limit : new.neighbours.limit ≡ old.neighbours.limit
+  pub router_limit : new.routers.limit ≡ old.routers.limit
+  pub last : new.last ≡ at
+
+module _ {R A : Type 0} (stream : R → Stream) (start : Start) (old new : Node R A) (c : Chronicle) (now : ℕ) (s : Stands stream start old c) (is : now ≡ next_of old) (turns : Turns old new now) where
+  not_past : now ≤ next_of old
+  not_past = omega (arith, is)
+
+  came : last_moment start.at c ≤ now
+  came = omega (arith, is, s.in_time)
+
+  -- the tables stand for one more row that tells nothing of prefixes, servers and names
+  then_row : (d : Chronicle) → last_moment start.at d ≡ now → prefix_history d ≡ prefix_history c → server_history d ≡ server_history c → name_history d ≡ name_history c
+      → parameters.Stands new.params (parameter_history d) → routers.Stands new.routers (router_history d) → addresses.Stands new.addresses.addresses (address_history d)
+      → neighbours.Stands new.neighbours.nodes (neighbour_history d) → choice.Stands new.choice (redirect_history d) → solicitations.Stands start new.solicitations d
+      → stream new.generator ≡ stream_left start d → now ≤ next_of new → Stands stream start new d
+  then_row d at p v n params routers' addresses' neighbours' redirects' solicitations' generator' later = record {
+    role = turns.role ∙ s.role;
+    mac = turns.mac ∙ s.mac;
+    address_mac = turns.address_mac ∙ s.address_mac;
+    neighbour_limit = turns.neighbour_limit ∙ s.neighbour_limit;
+    router_limit = turns.router_limit ∙ s.router_limit;
+    params = params;
+    routers = routers';
+    prefixes = rw (turns.prefixes, p) s.prefixes;
+    addresses = addresses';
+    neighbours = neighbours';
+    dns = rw (turns.dns, v, n) s.dns;
+    redirects = redirects';
+    solicitations = solicitations';
+    generator = generator';
+    last = turns.last ∙ sym at;
+    prefixes_by_then = rw (p, at) (omega (arith, s.prefixes_by_then, came));
+    servers_by_then = rw (v, at) (omega (arith, s.servers_by_then, came));
+    names_by_then = rw (n, at) (omega (arith, s.names_by_then, came));
+    in_time = rw at later;
+  }
+
+  -- a router's lifetime ended
+  pub router_ended : (key : ℕ) → routers.GainsRow old.routers new.routers (router_rows.LeftList now key) → routers.NoneBefore new.routers.entries now
+      → choice.GainsRow old.choice new.choice (redirect_rows.TargetGone now key)
+      → new.addresses ≡ old.addresses → new.neighbours ≡ old.neighbours → new.params ≡ old.params → new.solicitations ≡ old.solicitations → stream new.generator ≡ stream old.generator
+      → Stands stream start new (comes start now (RouterEnds key) c)
+  router_ended key gains later redirects' addresses' neighbours' params' solicitations' generator =
+      then_row ((now, LeftRouter key) ∷ c) refl refl refl refl
+      (rw params' s.params)
+      (gains.stands (router_history c) s.routers)
+      (rw addresses' s.addresses)
+      (rw neighbours' s.neighbours)
+      (redirects'.stands (redirect_history c) s.redirects)
+      (rw solicitations' (record { assigned = s.solicitations.assigned; sent = s.solicitations.sent; heard = s.solicitations.heard }))
+      (generator ∙ s.generator)
+      (all_later new now later (rw addresses' (addresses_before old now not_past)) (rw neighbours' (neighbours_before old now not_past)) (rw (turns.role, solicitations') (solicitation_before old now not_past)) (rw params' (redraw_before old now not_past)))
+
+  -- an own address ended, or its detection took a step
+  address_row : (falls : addresses_due.Falls) → new.routers ≡ old.routers → new.choice ≡ old.choice
+      → addresses.GainsRow old.addresses.addresses new.addresses.addresses (addresses_due.due_row now falls) → address_dates.NoneBefore new.addresses.addresses now
+      → new.neighbours ≡ old.neighbours → new.params ≡ old.params → new.solicitations ≡ after_address (link_local_key start) now falls old.solicitations → stream new.generator ≡ stream old.generator
+      → Stands stream start new ((now, Address (addresses_due.key_in falls) (addresses_due.happens falls)) ∷ c)
+  address_row falls routers' choice' gains later neighbours' params' solicitations' generator =
+      then_row ((now, Address (addresses_due.key_in falls) (addresses_due.happens falls)) ∷ c) refl refl refl refl
+      (rw params' s.params)
+      (rw routers' s.routers)
+      (gains.stands (address_history c) s.addresses)
+      (rw neighbours' s.neighbours)
+      (rw choice' s.redirects)
+      (rw solicitations' (addressed_stands start now falls old.solicitations c s.solicitations))
+      (generator ∙ s.generator)
+      (all_later new now (rw routers' (routers_before old now not_past)) later (rw neighbours' (neighbours_before old now not_past))
+      (rw (turns.role, solicitations') (addressed_later old.role (link_local_key start) now falls old.solicitations (solicitation_before old now not_past))) (rw params' (redraw_before old now not_past)))
+
+  pub address_fell : (falls : addresses_due.Falls) → new.routers ≡ old.routers → new.choice ≡ old.choice
+      → addresses.GainsRow old.addresses.addresses new.addresses.addresses (addresses_due.due_row now falls) → address_dates.NoneBefore new.addresses.addresses now
+      → new.neighbours ≡ old.neighbours → new.params ≡ old.params → new.solicitations ≡ after_address (link_local_key start) now falls old.solicitations → stream new.generator ≡ stream old.generator
+      → Stands stream start new (comes start now (AddressFalls falls) c)
+  address_fell (addresses_due.Ends key) r ch g l n p sol gen = address_row (addresses_due.Ends key) r ch g l n p sol gen
+  address_fell (addresses_due.Solicits key) r ch g l n p sol gen =
+      stands_quiet stream start new _ _ (sent_is_quiet now _ _ (λ at. refl)) (address_row (addresses_due.Solicits key) r ch g l n p sol gen)
+  address_fell (addresses_due.Assigns key) r ch g l n p sol gen = address_row (addresses_due.Assigns key) r ch g l n p sol gen
+
+  -- a row of a neighbour
+  neighbour_row : (key : ℕ) (kind : neighbour_rows.RowKind) (mid : routers.Table) → mid.entries ≡ old.routers.entries → new.routers.entries ≡ mid.entries
+      → routers.Stands new.routers (then_failed now key kind (router_history c)) → choice.Stands new.choice (then_target now key kind (redirect_history c))
+      → neighbours.GainsRow old.neighbours.nodes new.neighbours.nodes (now, key, kind) → neighbours_due.NoneBefore new.neighbours.nodes now
+      → new.addresses ≡ old.addresses → new.params ≡ old.params → new.solicitations ≡ old.solicitations → stream new.generator ≡ stream old.generator
+      → Stands stream start new ((now, Neighbour key kind) ∷ c)
+  neighbour_row key kind mid mid_is entries routers' redirects' gains later addresses' params' solicitations' generator =
+      then_row ((now, Neighbour key kind) ∷ c) refl refl refl refl
+      (rw params' s.params)
+      routers'
+      (rw addresses' s.addresses)
+      (gains.stands (neighbour_history c) s.neighbours)
+      redirects'
+      (rw solicitations' (record { assigned = s.solicitations.assigned; sent = s.solicitations.sent; heard = s.solicitations.heard }))
+      (generator ∙ s.generator)
+      (all_later new now (rw (entries, mid_is) (routers_before old now not_past)) (rw addresses' (addresses_before old now not_past)) later
+      (rw (turns.role, solicitations') (solicitation_before old now not_past)) (rw params' (redraw_before old now not_past)))
+
+  -- a neighbour is asked once more, or is gone
+  pub neighbour_fell : (falls : neighbours_due.Falls) (mid : routers.Table) (kept : List (ℕ × Option ℕ)) → mid ≡ old.routers → kept ≡ old.choice → Notes now falls mid new.routers kept new.choice → new.routers.entries ≡ mid.entries
+      → new.addresses ≡ old.addresses → neighbours.GainsRow old.neighbours.nodes new.neighbours.nodes (neighbours_due.due_row now falls) → neighbours_due.NoneBefore new.neighbours.nodes now
+      → new.params ≡ old.params → new.solicitations ≡ old.solicitations → stream new.generator ≡ stream old.generator
+      → Stands stream start new (comes start now (NeighbourFalls falls) c)
+  neighbour_fell falls mid kept mid_is kept_is notes entries addresses' gains later params' solicitations' generator = by_kind falls gains (notes.routers (router_history c) (rw mid_is s.routers)) (notes.redirects (redirect_history c) (rw kept_is s.redirects))
+    where
+      by_kind : (falls : neighbours_due.Falls) → neighbours.GainsRow old.neighbours.nodes new.neighbours.nodes (neighbours_due.due_row now falls)
+          → routers.Stands new.routers (with_failure now falls (router_history c)) → choice.Stands new.choice (with_lost_target now falls (redirect_history c))
+          → Stands stream start new (comes start now (NeighbourFalls falls) c)
+      by_kind (neighbours_due.Multicasts key) g r t =
+          stands_quiet stream start new _ _ (sent_is_quiet now _ _ (λ at. refl)) (neighbour_row key neighbour_rows.Solicited mid (ap (λ (x : routers.Table). x.entries) mid_is) entries r t g later addresses' params' solicitations' generator)
+      by_kind (neighbours_due.Unicasts key mac) g r t =
+          stands_quiet stream start new _ _ (sent_is_quiet now _ _ (λ at. refl)) (neighbour_row key neighbour_rows.Probed mid (ap (λ (x : routers.Table). x.entries) mid_is) entries r t g later addresses' params' solicitations' generator)
+      by_kind (neighbours_due.Fails key packets) g r t =
+          stands_quiet stream start new _ _ (losing_is_quiet now Unreachable packets _ (λ at. refl)) (neighbour_row key (neighbour_rows.Forgot neighbour_rows.Failed) mid (ap (λ (x : routers.Table). x.entries) mid_is) entries r t g later addresses' params' solicitations' generator)
+      by_kind (neighbours_due.Ages key) g r t = neighbour_row key (neighbour_rows.Forgot neighbour_rows.Aged) mid (ap (λ (x : routers.Table). x.entries) mid_is) entries r t g later addresses' params' solicitations' generator
+
+  -- a Router Solicitation is sent
+  pub routers_solicited : next_solicitation old.role old.solicitations ≡ Some now → new.routers ≡ old.routers → new.choice ≡ old.choice → new.addresses ≡ old.addresses → new.neighbours ≡ old.neighbours → new.params ≡ old.params
+      → new.solicitations ≡ record old.solicitations { sent = old.solicitations.sent + 1 } → stream new.generator ≡ stream old.generator
+      → Stands stream start new (comes start now RoutersSolicited c)
+  routers_solicited date routers' choice' addresses' neighbours' params' solicitations' generator =
+      stands_quiet stream start new _ _ (sent_is_quiet now _ _ (λ at. refl))
+      (then_row ((now, SolicitedRouters) ∷ c) refl refl refl refl
+      (rw params' s.params)
+      (rw routers' s.routers)
+      (rw addresses' s.addresses)
+      (rw neighbours' s.neighbours)
+      (rw choice' s.redirects)
+      (rw solicitations' (record { assigned = s.solicitations.assigned; sent = ap (λ n. n + 1) s.solicitations.sent; heard = s.solicitations.heard }))
+      (generator ∙ s.generator)
+      (all_later new now (rw routers' (routers_before old now not_past)) (rw addresses' (addresses_before old now not_past)) (rw neighbours' (neighbours_before old now not_past))
+      (rw (turns.role, solicitations') (solicited_later old.role old.solicitations now date)) (rw params' (redraw_before old now not_past))))
+
+  -- ReachableTime is drawn again
+  pub redrawn : new.routers ≡ old.routers → new.choice ≡ old.choice → new.addresses ≡ old.addresses → new.neighbours ≡ old.neighbours → new.solicitations ≡ old.solicitations
+      → parameters.GainsRows old.params new.params (λ history. parameter_rows.Drew now (reachable_drawn old.params.base_reachable_time (stream old.generator)) ∷ history) → new.params.drawn_at ≡ now
+      → stream new.generator ≡ (next_u32 (stream old.generator)).1
+      → Stands stream start new (comes start now Redraws c)
+  redrawn routers' choice' addresses' neighbours' solicitations' leads drawn_at generator =
+      then_row (comes start now Redraws c) refl refl refl refl
+      (subst (λ (v : ℕ). parameters.Stands new.params (parameter_rows.Drew now v ∷ parameter_history c)) value_is (leads.stands (parameter_history c) s.params))
+      (rw routers' s.routers)
+      (rw addresses' s.addresses)
+      (rw neighbours' s.neighbours)
+      (rw choice' s.redirects)
+      (rw solicitations' (record { assigned = s.solicitations.assigned; sent = s.solicitations.sent; heard = s.solicitations.heard }))
+      (generator ∙ ap (λ (x : Stream). (next_u32 x).1) s.generator)
+      (all_later new now (rw routers' (routers_before old now not_past)) (rw addresses' (addresses_before old now not_past)) (rw neighbours' (neighbours_before old now not_past))
+      (rw (turns.role, solicitations') (solicitation_before old now not_past)) (omega (arith, drawn_at)))
+    where
+      value_is : reachable_drawn old.params.base_reachable_time (stream old.generator) ≡ reachable_drawn (parameter_rows.base_of (parameter_history c)) (stream_left start c)
+      value_is = ap (λ (x : Stream). reachable_drawn old.params.base_reachable_time x) s.generator ∙ ap (λ (b : ℕ). reachable_drawn b (stream_left start c)) s.params.base_reachable_time
+
+-- ---- what is due
+
+module _ {R A : Type 0} (stream : R → Stream) (start : Start) (old : Node R A) (c : Chronicle) (now : ℕ) (s : Stands stream start old c) (is : now ≡ next_of old) where
+  -- where no table has something due now, a Router Solicitation or the redraw is
+  pub redraw_is_due : (routers.next_end old.routers.entries ≡ Some now → ⊥) → (address_dates.next_in old.addresses.addresses ≡ Some now → ⊥) → (neighbours_due.next_in old.neighbours.nodes ≡ Some now → ⊥)
+      → (next_solicitation old.role old.solicitations ≡ Some now → ⊥) → next_redraw c ≡ now
+  redraw_is_due hr ha hn hs =
+      let at = at_redraw now (routers.next_end old.routers.entries) (address_dates.next_in old.addresses.addresses) (neighbours_due.next_in old.neighbours.nodes) (next_solicitation old.role old.solicitations) (old.params.drawn_at + redraw_after) is hr ha hn hs in
+      omega (arith, at, s.params.drawn_at)
+
+-- before the earliest of the dates nothing is due
+pub next_due_at : {R A : Type 0} (stream : R → Stream) (start : Start) (node : Node R A) (c : Chronicle) → Stands stream start node c
+    → (r a n : Option ℕ) → r ≡ routers.next_end node.routers.entries → a ≡ address_dates.next_in node.addresses.addresses → n ≡ neighbours_due.next_in node.neighbours.nodes
+    → routers_due.NextDue (router_history c) r → addresses_due.NextDue (address_history c) a → neighbours_due.NextDue (neighbour_history c) n
+    → (next : ℕ) → next ≡ next_of node → NextDue start c next
+next_due_at stream start node c s r a n r_is a_is n_is r_due a_due n_due next is = record {
+  not_past = rw is s.in_time;
+  nothing_before = λ moment lt.
+      let date = next_solicitation node.role node.solicitations in
+      let redraw = node.params.drawn_at + redraw_after in
+      let lt1 : moment < earlier r (earlier a (earlier n (earlier date redraw))) = rw (r_is, a_is, n_is) (subst (λ (x : ℕ). moment < x) is lt) in
+      let lt2 = before_second moment r (earlier a (earlier n (earlier date redraw))) lt1 in
+      let lt3 = before_second moment a (earlier n (earlier date redraw)) lt2 in
+      let lt4 = before_second moment n (earlier date redraw) lt3 in
+      let lt5 : moment < node.params.drawn_at + redraw_after = before_second moment date redraw lt4 in (
+        no_router (router_history c) r (earlier a (earlier n (earlier date redraw))) moment r_due lt1,
+        no_address (address_history c) a (earlier n (earlier date redraw)) moment a_due lt2,
+        no_neighbour (neighbour_history c) n (earlier date redraw) moment n_due lt3,
+        subst (λ (o : Option ℕ). o ≢ Some moment) (solicitation_date stream start node c s) (none_at moment date redraw lt4),
+        λ at. absurd (omega (arith, lt5, at, s.params.drawn_at)),
+      );
+}

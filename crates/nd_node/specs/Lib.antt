@@ -1,0 +1,5 @@
+pub mod Moments
+pub mod RouterSolicitations
+pub mod LostHop
+pub mod Turned
+pub mod Node

@@ -1,0 +1,132 @@
+ghost use Rattle.std.specs.Prelude.{◌≡◌, ℕ, ◌^◌, ◌<◌, ◌≤◌, ◌↔◌, ◌∷◌, IsTrue, Some};
+ghost use Rattle.rand_core.specs.Stream.{next_u32};
+ghost use Rattle.nd_addr.specs.Number.{number_of};
+ghost use Rattle.nd_params.specs.History.{Drew};
+ghost use Rattle.nd_slaac.specs.View.{falls_of};
+ghost use Rattle.nd_params.specs.Params.{GainsRows};
+ghost use Rattle.nd_chronicle.specs.Generator.{reachable_drawn};
+ghost use Rattle.nd_node.specs.Moments.{earlier};
+ghost use Rattle.nd_node.specs.RouterSolicitations.{after_address};
+
+use crate::draw::reachable_drawn;
+use crate::lost_hop::note;
+use crate::node::Node;
+use crate::router_solicitations::RouterSolicitations;
+use crate::turned::Turned;
+use nd_addr::Addr;
+use nd_params::Params;
+use nd_table::compare;
+use rand_core::Rng;
+use std::alloc::Allocator;
+
+impl<R: Rng + Drop, A: Allocator + Clone> Node<R, A> {
+    ghost use Rattle.nd_chronicle.specs.Start.{Start};
+    ghost use Rattle.nd_chronicle.specs.Happening.{Chronicle};
+    ghost use Rattle.nd_chronicle.specs.Due.{Due, comes};
+    ghost use Rattle.nd_node.specs.Node.{Stands, NextDue, next_of, turns_left};
+    ghost use Rattle.nd_node.specs.Turned.{what_of};
+
+    /// The moment at which something falls due next.
+    pub fn next_due(&self) -> u64
+        ensures value { result ≡ next_of self.now }
+        ensures due { (start : Start) (c : Chronicle) → Stands R.stream start self.now c → NextDue start c result }
+    {
+        let redraw = self.params.next_due();
+        let solicitation = earlier(self.solicitations.next_due(self.role), redraw);
+        let neighbour = earlier(self.neighbours.next_due(), solicitation);
+        let address = earlier(self.addresses.next_due(), neighbour);
+        earlier(self.routers.next_due(), address)
+    }
+
+    /// Whether nothing is due any more up to a moment.
+    pub fn settled(&self, now: u64) -> bool
+        ensures { IsTrue result ↔ (now < next_of self.now) }
+    {
+        now < self.next_due()
+    }
+
+    /// Does what is due first at the moment, which is the next at which something is: the ends of routers, of own addresses, their
+    /// detections, the neighbours, Router Solicitations, a redraw of ReachableTime, each in the order of addresses. It takes no memory.
+    pub(crate) fn turn(&mut self, now: u64) -> Turned<A>
+        requires moment { now < 2 ^ 62 }
+        requires due { now ≡ next_of self.old }
+        ensures due { (start : Start) (c : Chronicle) → Stands R.stream start self.old c → Due start c now (Some (what_of result)) }
+        ensures stands { (start : Start) (c : Chronicle) → Stands R.stream start self.old c → Stands R.stream start self.new (comes start now (what_of result) c) }
+        ensures fewer { (end : ℕ) → now ≤ end → turns_left end self.new < turns_left end self.old }
+    {
+        self.last = now;
+        match self.routers.turn(now) {
+            Some(addr) => {
+                // "all entries in the Destination Cache that use that router" go with it (RFC 4861, section 6.3.5).
+                self.choice.target_gone(addr);
+                return Turned::EndedRouter(addr);
+            }
+            None => {}
+        }
+        match self.addresses.turn(now) {
+            Some(due) => {
+                note_address(
+                    &mut self.solicitations,
+                    self.addresses.link_local(),
+                    now,
+                    due,
+                );
+                return Turned::Address(due);
+            }
+            None => {}
+        }
+        match self.neighbours.turn(now) {
+            Some(due) => {
+                note(&mut self.routers, &mut self.choice, &due);
+                return Turned::Neighbour(due);
+            }
+            None => {}
+        }
+        if self.solicitations.turn(self.role, now) {
+            return Turned::SolicitedRouters;
+        }
+        redraw(&mut self.params, &mut self.generator, now);
+        Turned::Redrawn
+    }
+}
+
+/// The first Router Solicitation comes with the link-local address.
+fn note_address(
+    solicitations: &mut RouterSolicitations,
+    link_local: Addr,
+    now: u64,
+    due: nd_slaac::Due,
+)
+    requires { now < 2 ^ 62 }
+    ensures { solicitations.new ≡ after_address (number_of link_local.0) now (falls_of due) solicitations.old }
+{
+    match due {
+        nd_slaac::Due::Assign(addr) => {
+            if compare(addr, link_local).is_eq() {
+                solicitations.assigned(now);
+            }
+        }
+        nd_slaac::Due::End(_) | nd_slaac::Due::Solicit(_) => {}
+    }
+}
+
+/// ReachableTime is drawn again for the base in force (RFC 4861, section 6.3.4).
+fn redraw<R: Rng>(params: &mut Params, generator: &mut R, now: u64)
+    requires { now < 2 ^ 62 }
+    ensures stands { GainsRows params.old params.new (λ history. Drew now (reachable_drawn params.old.base_reachable_time (R.stream generator.old)) ∷ history) }
+    ensures drawn_at { params.new.drawn_at ≡ now }
+    ensures left { R.stream generator.new ≡ (next_u32 (R.stream generator.old)).1 }
+{
+    let value = reachable_drawn(generator, params.base_reachable_time());
+    params.redrawn(now, value);
+}
+
+/// The earlier of a moment that may be missing and one that is there.
+fn earlier(a: Option<u64>, b: u64) -> u64
+    ensures { result ≡ earlier a b }
+{
+    match a {
+        Some(a) => a.min(b),
+        None => b,
+    }
+}

@@ -1,0 +1,74 @@
+ghost use Rattle.std.specs.Prelude.{◌≡◌, ◌^◌, ◌<◌, IfOk, IfErr};
+
+use crate::draw::{drawn_from, reachable_drawn};
+use crate::room::Room;
+use crate::router_solicitations::RouterSolicitations;
+use nd_addr::{Mac, Role};
+use nd_dns::Dns;
+use nd_neighbour::Cache;
+use nd_nexthop::Choice;
+use nd_params::Params;
+use nd_routers::{Prefixes, Routers};
+use nd_slaac::Addresses;
+use rand_core::Rng;
+use std::alloc::Allocator;
+
+/// BaseReachableTime until a router tells one, in milliseconds (RFC 4861, section 10, REACHABLE_TIME).
+const REACHABLE_TIME: u32 = 30_000;
+
+/// How long the first solicitation for an address waits at most, in milliseconds (RFC 4861, section 10; RFC 4862, section 5.4.2).
+const MAX_RTR_SOLICITATION_DELAY: u64 = 1_000;
+
+/// A host or a router on its link. Each moment that a call takes or answers is in milliseconds, from a beginning that is the caller's.
+#[derive(Drop)]
+pub struct Node<R, A: Allocator> {
+    pub(crate) role: Role,
+    pub(crate) mac: Mac,
+    pub(crate) generator: R,
+    /// The moment up to which time has passed.
+    pub(crate) last: u64,
+    pub(crate) params: Params,
+    pub(crate) routers: Routers<A>,
+    pub(crate) prefixes: Prefixes<A>,
+    pub(crate) addresses: Addresses<A>,
+    pub(crate) neighbours: Cache<A>,
+    pub(crate) dns: Dns<A>,
+    pub(crate) choice: Choice<A>,
+    pub(crate) solicitations: RouterSolicitations,
+}
+
+impl<R: Rng + Drop, A: Allocator + Clone> Node<R, A> {
+    ghost use Rattle.nd_chronicle.specs.History.{beginning};
+    ghost use Rattle.nd_node.specs.Node.{Stands, starting};
+
+    /// A node that starts: it draws its ReachableTime, and then the delay of the first solicitation for its link-local address, which it
+    /// forms (RFC 4861, section 6.3.2; RFC 4862, sections 5.3 and 5.4.2). The error is want of memory: it hands the generator back, of
+    /// which no word was taken.
+    pub fn new(alloc: A, role: Role, mac: Mac, start: u64, mut generator: R) -> Result<Self, R>
+        requires { start < 2 ^ 62 }
+        ensures stands { IfOk result (λ node. let first = starting start role mac (R.stream generator) in Stands R.stream first node (beginning first)) }
+        ensures kept { IfErr result (λ rest. R.stream rest ≡ R.stream generator) }
+    {
+        let Ok(room) = Room::new(alloc) else {
+            return Err(generator);
+        };
+        let reachable = reachable_drawn(&mut generator, REACHABLE_TIME);
+        let delay = drawn_from(&mut generator, 0, MAX_RTR_SOLICITATION_DELAY);
+        let params = Params::new(start, reachable);
+        let retrans = params.retrans_timer();
+        Ok(Node {
+            role,
+            mac,
+            generator,
+            last: start,
+            params,
+            routers: room.routers,
+            prefixes: room.prefixes,
+            addresses: Addresses::start(room.addresses, start, mac, delay as u32, retrans),
+            neighbours: room.neighbours,
+            dns: room.dns,
+            choice: room.choice,
+            solicitations: RouterSolicitations::new(),
+        })
+    }
+}

@@ -1,0 +1,54 @@
+ghost use Rattle.std.specs.Prelude.{◌≡◌, [], IfOk};
+ghost use Rattle.nd_lifetime.specs.Listing as lists;
+ghost use Rattle.nd_lifetime.specs.Same.{same_prefix};
+ghost use Rattle.nd_neighbour.specs.Table as neighbours;
+ghost use Rattle.nd_routers.specs.Routers as routers;
+ghost use Rattle.nd_dns.specs.Dns as dns;
+ghost use Rattle.nd_nexthop.specs.Choice as choice;
+ghost use Rattle.nd_node.specs.Node.{usual_limits};
+
+use nd_dns::Dns;
+use nd_neighbour::Cache;
+use nd_nexthop::Choice;
+use nd_routers::{Prefixes, Routers};
+use nd_slaac::AddressRoom;
+use std::alloc::{AllocError, Allocator};
+
+/// How many neighbours a node knows at most: our choice (RFC 4861, section 5.3, leaves it open).
+const MAX_NEIGHBOURS: usize = 512;
+
+/// How many default routers a node knows at most: our choice (RFC 4861, section 6.3.4, asks for two at least).
+const MAX_ROUTERS: usize = 16;
+
+/// Room for the tables of a node, taken before it starts.
+#[derive(Drop)]
+pub(crate) struct Room<A: Allocator> {
+    pub(crate) routers: Routers<A>,
+    pub(crate) prefixes: Prefixes<A>,
+    pub(crate) addresses: AddressRoom<A>,
+    pub(crate) neighbours: Cache<A>,
+    pub(crate) dns: Dns<A>,
+    pub(crate) choice: Choice<A>,
+}
+
+impl<A: Allocator + Clone> Room<A> {
+    /// Takes the room. The error is want of memory.
+    pub(crate) fn new(alloc: A) -> Result<Self, AllocError>
+        ensures routers { IfOk result (λ room. room.routers ≡ record { limit = usual_limits.routers; entries = []; failed = [] }) }
+        ensures router_history { IfOk result (λ room. routers.Stands room.routers []) }
+        ensures prefixes { IfOk result (λ room. lists.Stands same_prefix room.prefixes []) }
+        ensures neighbours { IfOk result (λ room. room.neighbours ≡ record { limit = usual_limits.neighbours; nodes = []; rings = 0 }) }
+        ensures neighbour_history { IfOk result (λ room. neighbours.Stands room.neighbours.nodes []) }
+        ensures dns { IfOk result (λ room. dns.Stands room.dns [] []) }
+        ensures redirects { IfOk result (λ room. choice.Stands room.choice []) }
+    {
+        Ok(Room {
+            routers: Routers::new(alloc.clone()?, MAX_ROUTERS)?,
+            prefixes: Prefixes::new(alloc.clone()?)?,
+            addresses: AddressRoom::new(alloc.clone()?)?,
+            neighbours: Cache::new(alloc.clone()?, MAX_NEIGHBOURS)?,
+            dns: Dns::new(alloc.clone()?)?,
+            choice: Choice::new(alloc)?,
+        })
+    }
+}
