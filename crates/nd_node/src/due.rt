@@ -47,7 +47,7 @@ impl<R: Rng + Drop, A: Allocator + Clone> Node<R, A> {
 
     /// Does what is due first at the moment, which is the next at which something is: the ends of routers, of own addresses, their
     /// detections, the neighbours, Router Solicitations, a redraw of ReachableTime, each in the order of addresses. It takes no memory.
-    pub(crate) fn turn(&mut self, now: u64) -> Turned<A>
+    pub(crate) fn take_turn(&mut self, now: u64) -> Turned<A>
         requires moment { now < 2 ^ 62 }
         requires due { now ≡ next_of self.old }
         ensures due { (start : Start) (c : Chronicle) → Stands R.stream start self.old c → Due start c now (Some (what_of result)) }

@@ -4,11 +4,16 @@
 
 mod draw;
 mod due;
+mod event;
 mod lost_hop;
 mod node;
 mod room;
 mod router_solicitations;
+mod shown;
+mod time;
+mod told;
 mod turned;
 
+pub use event::{Event, Table};
 pub use node::Node;
 pub use turned::Turned;

@@ -1,0 +1,177 @@
+-- What an event does to the chronicle that a node stands for.
+use Rattle.std.proofs.Common.{◌≡◌, ℕ, suc, ◌<◌, ◌≤◌, Bool, true, false, List, [], ◌∷◌, ◌++◌, append-nil, refl, sym, ◌∙◌, ap, subst, arith}
+use Rattle.std.specs.Prelude.{nat_lt, MatchBool}
+use Rattle.std.proofs.lemmas.Bool.{lt-ltb}
+use Rattle.rand_core.specs.Stream.{Stream}
+use Rattle.nd_chronicle.specs.Start.{Start}
+use Rattle.nd_chronicle.specs.Happening.{Chronicle, Passed, Shown, TooLate, last_moment}
+use Rattle.nd_chronicle.specs.Shown as shown
+use Rattle.nd_chronicle.specs.Shown.{AreRows}
+use Rattle.nd_chronicle.specs.Told.{lines_of, text}
+use Rattle.nd_chronicle.specs.Due.{comes}
+use Rattle.nd_chronicle.specs.Event as events
+use Rattle.nd_chronicle.specs.Event.{EventAdds}
+use Rattle.nd_chronicle.specs.History.{Walk, over, adds, passes}
+use Rattle.nd_out.specs.declared.out.Out.{Out}
+use Rattle.nd_out.specs.Out.{happening}
+use Rattle.nd_node.specs.declared.node.Node.{Node}
+use Rattle.nd_node.specs.Node.{Stands, next_of}
+use Rattle.nd_node.specs.Told.{happenings}
+use Rattle.nd_node.specs.Time.{Leads, Passes}
+use Rattle.nd_node.specs.Event.{AddsEvent, FollowsBy}
+use Rattle.nd_node.proofs.Quiet.{Quiet, stands_quiet}
+use Rattle.nd_node.proofs.Telling.{one, above_silent, handed_out, Tells-then}
+use Rattle.nd_node.proofs.Walks.{last_of}
+
+-- ---- time has passed
+
+-- a node at which nothing is due up to a moment stands for the same with that moment
+pub passed : {R A : Type 0} (stream : R → Stream) (start : Start) (old new : Node R A) (c : Chronicle) (now : ℕ) → Stands stream start old c → last_moment start.at c ≤ now → now < next_of old
+    → new ≡ record old { last = now } → Stands stream start new ((now, Passed) ∷ c)
+passed stream start old new c now s le settled is = rw is (record {
+  role = s.role;
+  mac = s.mac;
+  address_mac = s.address_mac;
+  neighbour_limit = s.neighbour_limit;
+  router_limit = s.router_limit;
+  params = s.params;
+  routers = s.routers;
+  prefixes = s.prefixes;
+  addresses = s.addresses;
+  neighbours = s.neighbours;
+  dns = s.dns;
+  redirects = s.redirects;
+  solicitations = record { assigned = s.solicitations.assigned; sent = s.solicitations.sent; heard = s.solicitations.heard };
+  generator = s.generator;
+  last = refl;
+  prefixes_by_then = omega (arith, s.prefixes_by_then, le);
+  servers_by_then = omega (arith, s.servers_by_then, le);
+  names_by_then = omega (arith, s.names_by_then, le);
+  in_time = omega (arith, settled);
+})
+
+-- ---- what is told alone
+
+shown_is_quiet : (at : ℕ) (rows : List (List ℕ)) (c : Chronicle) → ((start : ℕ) → last_moment start c ≡ at) → Quiet c ((at, Shown rows) ∷ c)
+shown_is_quiet at rows c now = record {
+  parameters = refl;
+  neighbours = refl;
+  routers = refl;
+  prefixes = refl;
+  addresses = refl;
+  servers = refl;
+  names = refl;
+  redirects = refl;
+  solicited = refl;
+  stream = λ start. refl;
+  last = λ start. sym (now start);
+}
+
+too_late_is_quiet : (at last : ℕ) (c : Chronicle) → Quiet c ((at, TooLate last) ∷ c)
+too_late_is_quiet at last c = record {
+  parameters = refl;
+  neighbours = refl;
+  routers = refl;
+  prefixes = refl;
+  addresses = refl;
+  servers = refl;
+  names = refl;
+  redirects = refl;
+  solicited = refl;
+  stream = λ start. refl;
+  last = λ start. refl;
+}
+
+-- one is handed out
+one_more : {A : Type 0} (xs ys : List (ℕ × Out A)) (at : ℕ) (out : Out A) → ys ≡ xs ++ (at, out) ∷ [] → happenings ys ≡ happenings xs ++ (at, happening out) ∷ []
+one_more xs ys at out is = ap happenings is ∙ (sym (append-nil _) ∙ handed_out xs at out [])
+
+-- ---- events
+
+-- only time passes
+pub passing : {R A : Type 0} (stream : R → Stream) (old new : Node R A) (outs : List (ℕ × Out A)) (now : ℕ) → now < next_of old → new ≡ record old { last = now } → AddsEvent stream old new outs outs now events.Passes
+passing stream old new outs now settled is = record {
+  each = λ start c s le. (
+    (now, Passed) ∷ c,
+    refl,
+    passed stream start old new c now s le settled is,
+    record { newer = []; text = refl; outs = sym (append-nil _) },
+  );
+}
+
+-- a table is shown
+pub showing : {R A : Type 0} (stream : R → Stream) (old new : Node R A) (x y : List (ℕ × Out A)) (now : ℕ) (table : shown.Table) (rows : List (List ℕ)) (out : Out A) → happening out ≡ Shown rows
+    → ((start : Start) (c : Chronicle) → Stands stream start old c → last_moment start.at c ≤ now → AreRows start c now table rows)
+    → now < next_of old → new ≡ record old { last = now } → y ≡ x ++ (now, out) ∷ [] → AddsEvent stream old new x y now (events.Shows table)
+showing stream old new x y now table rows out out_is are settled is told = record {
+  each = λ start c s le.
+      let later = passed stream start old new c now s le settled is in (
+        (now, Shown rows) ∷ (now, Passed) ∷ c,
+        (rows, passed_rows start c table (are start c s le), refl),
+        stands_quiet stream start new _ _ (shown_is_quiet now rows _ (λ at. refl)) later,
+        record {
+          newer = (now, Shown rows) ∷ [];
+          text = above_silent (text c) (lines_of (now, Shown rows));
+          outs = one_more x y now out told ∙ ap (λ h. happenings x ++ (now, h) ∷ []) out_is;
+        },
+      );
+}
+  where
+    -- what is shown is the same once time has passed
+    passed_rows : (start : Start) (c : Chronicle) (t : shown.Table) → AreRows start c now t rows → AreRows start ((now, Passed) ∷ c) now t rows
+    passed_rows start c shown.NeighbourTable h = h
+    passed_rows start c shown.RouterTable h = h
+    passed_rows start c shown.PrefixTable h = h
+    passed_rows start c shown.AddressTable h = h
+    passed_rows start c shown.DnsTable h = h
+    passed_rows start c shown.RedirectTable h = h
+    passed_rows start c shown.ParameterTable h = h
+    passed_rows start c shown.AdvertiseTable h = h
+    passed_rows start c shown.RouteTable h = h
+
+-- ---- an event comes
+
+-- the moments of a walk are not above its end
+walk_last : (start : Start) (c d : Chronicle) (moment end : ℕ) → Walk start c moment end d → last_moment start.at c ≤ end → last_moment start.at d ≤ end
+walk_last start c d moment end (over past) le = le
+walk_last start c d moment end (adds what soon due rest) le =
+    walk_last start (comes start moment what c) d moment end rest (rw (last_of start c moment what) soon)
+walk_last start c d moment end (passes soon due rest) le = walk_last start c d (suc moment) end rest le
+
+by_false : (b : Bool) (P Q : Type 0) → b ≡ false → Q → MatchBool b P Q
+by_false b P Q is q = subst (λ (x : Bool). MatchBool x P Q) (sym is) q
+
+by_true : (b : Bool) (P Q : Type 0) → b ≡ true → P → MatchBool b P Q
+by_true b P Q is p = subst (λ (x : Bool). MatchBool x P Q) (sym is) p
+
+-- one that comes too late is told alone
+pub too_late : {R A : Type 0} (stream : R → Stream) (node : Node R A) (x y : List (ℕ × Out A)) (now : ℕ) (event : events.Event) (out : Out A) → happening out ≡ TooLate node.last → now < node.last
+    → y ≡ x ++ (now, out) ∷ [] → Leads stream node node x y (FollowsBy now event)
+too_late stream node x y now event out out_is lt told = record {
+  each = λ start c s.
+      let last = last_moment start.at c in (
+        (now, TooLate last) ∷ c,
+        by_true (nat_lt now last) _ _ (lt-ltb now last (omega (arith, lt, s.last))) refl,
+        stands_quiet stream start node _ _ (too_late_is_quiet now last c) s,
+        record {
+          newer = (now, TooLate last) ∷ [];
+          text = one (text c) (lines_of (now, TooLate last));
+          outs = one_more x y now out told ∙ ap (λ h. happenings x ++ (now, h) ∷ []) (out_is ∙ ap TooLate s.last);
+        },
+      );
+}
+
+-- another one adds what it adds, once all that is due up to it is done
+pub follows : {R A : Type 0} (stream : R → Stream) (old mid new : Node R A) (x y z : List (ℕ × Out A)) (now : ℕ) (event : events.Event) → old.last ≤ now
+    → Leads stream old mid x y (Passes now) → AddsEvent stream mid new y z now event → Leads stream old new x z (FollowsBy now event)
+follows stream old mid new x y z now event le settled added = record {
+  each = λ start c s.
+      let came : last_moment start.at c ≤ now = omega (arith, le, s.last) in
+      let e = settled.each start c s in
+      let d = added.each start e.0 e.2 (walk_last start c e.0 (last_moment start.at c) now e.1 came) in (
+        d.0,
+        by_false (nat_lt now (last_moment start.at c)) _ _ (grind (arith, came)) (e.0, e.1, d.1),
+        d.2,
+        Tells-then c e.0 d.0 x y z e.3 d.3,
+      );
+}

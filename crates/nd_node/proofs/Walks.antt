@@ -1,0 +1,93 @@
+-- The walk over the milliseconds, and the turns that make it.
+use Rattle.std.proofs.Common.{◌≡◌, ℕ, ◌+◌, ◌<◌, ◌≤◌, List, ◌++◌, Some, None, refl, ◌∙◌, ap, subst, arith, ⊎_elim}
+use Rattle.std.proofs.lemmas.Bool.{cases_lt}
+use Rattle.rand_core.specs.Stream.{Stream}
+use Rattle.nd_addr.specs.declared.addr.Addr.{Addr}
+use Rattle.nd_neighbour.specs.Due as neighbours
+use Rattle.nd_slaac.specs.Due as addresses
+use Rattle.nd_chronicle.specs.Start.{Start, link_local}
+use Rattle.nd_chronicle.specs.Happening.{Chronicle, Unreachable, last_moment}
+use Rattle.nd_chronicle.specs.Due.{What, RouterEnds, AddressFalls, NeighbourFalls, RoutersSolicited, Redraws, Due, comes}
+use Rattle.nd_chronicle.specs.History.{Walk, over, adds}
+use Rattle.nd_out.specs.declared.out.Out.{Out}
+use Rattle.nd_node.specs.declared.node.Node.{Node}
+use Rattle.nd_node.specs.Node.{Stands, NextDue}
+use Rattle.nd_node.specs.Told.{told_of, at_moment, happenings}
+use Rattle.nd_node.specs.Time.{Leads, Comes, Passes, Onward}
+use Rattle.nd_node.proofs.Quiet.{losing_is_quiet}
+use Rattle.nd_node.proofs.Telling.{text_of, Tells-same, Tells-then}
+
+-- the newest moment is that of what fell due
+pub last_of : (start : Start) (c : Chronicle) (at : ℕ) (what : What) → last_moment start.at (comes start at what c) ≡ at
+last_of start c at (RouterEnds key) = refl
+last_of start c at (AddressFalls (addresses.Ends key)) = refl
+last_of start c at (AddressFalls (addresses.Solicits key)) = refl
+last_of start c at (AddressFalls (addresses.Assigns key)) = refl
+last_of start c at (NeighbourFalls (neighbours.Multicasts key)) = refl
+last_of start c at (NeighbourFalls (neighbours.Unicasts key mac)) = refl
+last_of start c at (NeighbourFalls (neighbours.Fails key packets)) = (losing_is_quiet at Unreachable packets _ (λ s. refl)).last start.at
+last_of start c at (NeighbourFalls (neighbours.Ages key)) = refl
+last_of start c at RoutersSolicited = refl
+last_of start c at Redraws = refl
+
+-- a turn leads to what comes
+pub turn_leads : {R A : Type 0} (stream : R → Stream) (old new : Node R A) (x y : List (ℕ × Out A)) (now : ℕ) (what : What) (own : Addr)
+    → ((start : Start) (c : Chronicle) → Stands stream start old c → Due start c now (Some what))
+    → ((start : Start) (c : Chronicle) → Stands stream start old c → Stands stream start new (comes start now what c))
+    → ((start : Start) → new.addresses.mac ≡ start.mac → own ≡ link_local start)
+    → happenings y ≡ happenings x ++ at_moment now (told_of new.mac own what) → Leads stream old new x y (Comes now)
+turn_leads stream old new x y now what own due stands own_is told = record {
+  each = λ start c s.
+      let n = stands start c s in (
+        comes start now what c,
+        (what, due start c s, refl),
+        n,
+        record {
+          newer = at_moment now (told_of start.mac (link_local start) what);
+          text = text_of start c now what;
+          outs = told ∙ (ap (λ mac. happenings x ++ at_moment now (told_of mac own what)) n.mac ∙ ap (λ (a : Addr). happenings x ++ at_moment now (told_of start.mac a what)) (own_is start n.address_mac));
+        },
+      );
+}
+
+abbrev Idle : Type 0
+Idle = (start : Start) (c d : Chronicle) (next end : ℕ) → ((moment : ℕ) → moment < next → Due start c moment None) → (moment : ℕ) → moment ≤ next → next ≤ end + 1
+    → Walk start c next end d → Walk start c moment end d
+
+module _ {R A : Type 0} (stream : R → Stream) where
+  pub settle_start : (node : Node R A) (outs : List (ℕ × Out A)) (now : ℕ) → Leads stream node node outs outs (Onward now)
+  settle_start node outs now = record { each = λ start c s. (c, λ e w. w, s, Tells-same c outs) }
+
+  pub settle_more : Idle → (origin old new : Node R A) (x y z : List (ℕ × Out A)) (now next : ℕ)
+      → Leads stream origin old x y (Onward now)
+      → ((start : Start) (c : Chronicle) → Stands stream start old c → NextDue start c next)
+      → Leads stream old new y z (Comes next) → next ≤ now → Leads stream origin new x z (Onward now)
+  settle_more idle origin old new x y z now next sofar due turn le = record {
+    each = λ start c s.
+        let l = sofar.each start c s in
+        let d = l.0 in
+        let n = due start d l.2 in
+        let t = turn.each start d l.2 in (
+          t.0,
+          λ e w. l.1 e (idle start d e next now n.nothing_before (last_moment start.at d) n.not_past (omega (arith, le))
+              (adds t.1.0 le t.1.1 (subst (λ (b : Chronicle). Walk start b next now e) t.1.2 (subst (λ (m : ℕ). Walk start t.0 m now e) (ap (last_moment start.at) t.1.2 ∙ last_of start d next t.1.0) w)))),
+          t.2,
+          Tells-then c d t.0 x y z l.3 t.3,
+        );
+  }
+
+  pub settle_end : Idle → (origin old : Node R A) (x y : List (ℕ × Out A)) (now next : ℕ)
+      → Leads stream origin old x y (Onward now)
+      → ((start : Start) (c : Chronicle) → Stands stream start old c → NextDue start c next)
+      → now < next → Leads stream origin old x y (Passes now)
+  settle_end idle origin old x y now next sofar due lt = record {
+    each = λ start c s.
+        let l = sofar.each start c s in
+        let d = l.0 in
+        let n = due start d l.2 in
+        let rest : Walk start d (last_moment start.at d) now d = ⊎_elim
+        (λ past. over past)
+        (λ before. idle start d d (now + 1) now (λ i h. n.nothing_before i (omega (arith, h, lt))) (last_moment start.at d) (omega (arith, before)) (omega arith) (over (omega arith)))
+        (cases_lt now (last_moment start.at d)) in
+        (d, l.1 d rest, l.2, l.3);
+  }

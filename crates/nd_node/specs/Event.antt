@@ -1,0 +1,41 @@
+-- What an event is to a node.
+use Rattle.std.specs.Prelude.{◌≤◌, ℕ, List, ◌∷◌}
+use Rattle.rand_core.specs.Stream.{Stream}
+use Rattle.nd_chronicle.specs.Start.{Start}
+use Rattle.nd_chronicle.specs.Happening.{Chronicle, Passed, last_moment}
+use Rattle.nd_chronicle.specs.Shown as shown
+use Rattle.nd_chronicle.specs.Event as events
+use Rattle.nd_chronicle.specs.Event.{EventAdds}
+use Rattle.nd_chronicle.specs.History.{Follows}
+use Rattle.nd_out.specs.declared.out.Out.{Out}
+use Rattle.nd_node.specs.declared.node.Node.{Node}
+use Rattle.nd_node.specs.declared.event.Table.{Table}
+use Rattle.nd_node.specs.declared.event.Table.TheVariants.{Neighbours, Routers, Prefixes, Addresses, Dns, Redirects, Params, Advertise, Routes}
+use Rattle.nd_node.specs.declared.event.Event.{Event}
+use Rattle.nd_node.specs.declared.event.Event.TheVariants.{Passes, Shows}
+use Rattle.nd_node.specs.Node.{Stands}
+use Rattle.nd_node.specs.Told.{Tells}
+
+abbrev pub table_of : Table → shown.Table
+table_of Neighbours = shown.NeighbourTable
+table_of Routers = shown.RouterTable
+table_of Prefixes = shown.PrefixTable
+table_of Addresses = shown.AddressTable
+table_of Dns = shown.DnsTable
+table_of Redirects = shown.RedirectTable
+table_of Params = shown.ParameterTable
+table_of Advertise = shown.AdvertiseTable
+table_of Routes = shown.RouteTable
+
+abbrev pub event_of : Event → events.Event
+event_of Passes = events.Passes
+event_of (Shows table) = events.Shows (table_of table)
+
+-- what follows where the event comes
+abbrev pub FollowsBy : ℕ → events.Event → Start → Chronicle → Chronicle → Type 0
+FollowsBy now event start c d = Follows start c now event d
+
+-- From each chronicle of earlier moments that the node stood for, the event leads to one with what it adds, and that is told.
+pub record AddsEvent {R A : Type 0} (stream : R → Stream) (old new : Node R A) (before after : List (ℕ × Out A)) (now : ℕ) (event : events.Event) : Type 0 where
+  pub each : (start : Start) (c : Chronicle) → Stands stream start old c → last_moment start.at c ≤ now
+      → (d : Chronicle) × EventAdds start now event ((now, Passed) ∷ c) d × Stands stream start new d × Tells c d before after

@@ -1,0 +1,95 @@
+ghost use Rattle.std.specs.Prelude.{◌≡◌, ℕ, ◌^◌, ◌<◌, OnOk, OnErr};
+ghost use Rattle.nd_chronicle.specs.Event.{EventAdds};
+ghost use Rattle.nd_chronicle.specs.Happening.{Passed};
+ghost use Rattle.nd_node.specs.Event.{event_of, AddsEvent, FollowsBy};
+ghost use Rattle.nd_node.specs.Time.{Leads, Onward};
+
+use crate::node::Node;
+use nd_out::Out;
+use rand_core::Rng;
+use std::alloc::{AllocError, Allocator};
+
+/// The tables that are shown.
+#[derive(Clone, Copy, Debug, PartialEq, Eq)]
+pub enum Table {
+    /// The neighbours (RFC 4861, section 5.1).
+    Neighbours,
+    /// The default routers (RFC 4861, section 5.1).
+    Routers,
+    /// The prefixes on the link (RFC 4861, section 5.1).
+    Prefixes,
+    /// The own addresses (RFC 4862, section 5).
+    Addresses,
+    /// The DNS servers and search names (RFC 8106, section 6.1).
+    Dns,
+    /// The kept redirects (RFC 4861, section 8.3).
+    Redirects,
+    /// The parameters of the link (RFC 4861, section 6.3.2).
+    Params,
+    /// What a router advertises: nothing at a host.
+    Advertise,
+    /// The static routes of a router: none at a host.
+    Routes,
+}
+
+/// What comes to a node from outside.
+#[derive(Clone, Copy, Debug, PartialEq, Eq)]
+pub enum Event {
+    /// Time passes.
+    Passes,
+    /// A table is shown.
+    Shows(Table),
+}
+
+impl<R: Rng + Drop, A: Allocator + Clone> Node<R, A> {
+    ghost use Rattle.nd_node.specs.Node.{next_of};
+
+    /// An event comes at a moment, in milliseconds. All that is due up to it comes first, its own millisecond included; then it adds what
+    /// it adds. One that comes before the moment up to which time has passed is told alone.
+    ///
+    /// The error is want of memory: then a part of what is due may have been done and told, and the event has added nothing.
+    pub fn event(
+        &mut self,
+        now: u64,
+        event: Event,
+        outs: &mut Vec<(u64, Out<A>), A>,
+    ) -> Result<(), AllocError>
+        requires { now < 2 ^ 62 }
+        ensures follows { OnOk result (Leads R.stream self.old self.new outs.old.items outs.new.items (FollowsBy now (event_of event))) }
+        ensures onward { OnErr result (Leads R.stream self.old self.new outs.old.items outs.new.items (Onward now)) }
+    {
+        if now < self.last {
+            outs.push((now, Out::Past(self.last)))?;
+            return Ok(());
+        }
+        self.settle(now, outs)?;
+        self.add(now, event, outs)
+    }
+
+    /// What an event adds, once all that is due up to it is done. The error is want of memory, and then nothing has changed.
+    fn add(
+        &mut self,
+        now: u64,
+        event: Event,
+        outs: &mut Vec<(u64, Out<A>), A>,
+    ) -> Result<(), AllocError>
+        requires moment { now < 2 ^ 62 }
+        requires settled { now < next_of self.old }
+        ensures adds { OnOk result (AddsEvent R.stream self.old self.new outs.old.items outs.new.items now (event_of event)) }
+        ensures same { OnErr result (self.new ≡ self.old) }
+        ensures told { OnErr result (outs.new.items ≡ outs.old.items) }
+    {
+        match event {
+            Event::Passes => {
+                self.last = now;
+                Ok(())
+            }
+            Event::Shows(table) => {
+                let rows = self.rows(outs.allocator(), now, table)?;
+                outs.push((now, Out::Shown(rows)))?;
+                self.last = now;
+                Ok(())
+            }
+        }
+    }
+}

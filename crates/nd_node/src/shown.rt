@@ -1,0 +1,35 @@
+ghost use Rattle.std.specs.Prelude.{◌≡◌, ◌≤◌, IfOk, map, string_bytes};
+ghost use Rattle.nd_node.specs.Event.{table_of};
+
+use crate::event::Table;
+use crate::node::Node;
+use nd_out::{
+    address_rows, dns_rows, neighbour_rows, parameter_row, prefix_rows, redirect_rows, router_rows,
+};
+use rand_core::Rng;
+use std::alloc::{AllocError, Allocator};
+
+impl<R: Rng + Drop, A: Allocator + Clone> Node<R, A> {
+    ghost use Rattle.nd_chronicle.specs.Start.{Start};
+    ghost use Rattle.nd_chronicle.specs.Happening.{Chronicle, last_moment};
+    ghost use Rattle.nd_chronicle.specs.Shown.{AreRows};
+    ghost use Rattle.nd_node.specs.Node.{Stands};
+
+    /// The rows of a table at a moment, in milliseconds, up to which all that is due is done. What only a router has is empty. The error
+    /// is want of memory.
+    pub fn rows(&self, alloc: &A, now: u64, table: Table) -> Result<Vec<String<A>, A>, AllocError>
+        ensures { IfOk result (λ rows. (start : Start) (c : Chronicle) → Stands R.stream start self.now c → last_moment start.at c ≤ now
+            → AreRows start c now (table_of table) (map string_bytes rows.items)) }
+    {
+        match table {
+            Table::Neighbours => neighbour_rows(alloc, &self.neighbours, now),
+            Table::Routers => router_rows(alloc, &self.routers, now),
+            Table::Prefixes => prefix_rows(alloc, &self.prefixes, now),
+            Table::Addresses => address_rows(alloc, &self.addresses, now),
+            Table::Dns => dns_rows(alloc, &self.dns, now),
+            Table::Redirects => redirect_rows(alloc, &self.choice),
+            Table::Params => parameter_row(alloc, &self.params),
+            Table::Advertise | Table::Routes => Ok(Vec::new(alloc.clone()?)),
+        }
+    }
+}

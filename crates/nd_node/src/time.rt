@@ -1,0 +1,50 @@
+ghost use Rattle.std.specs.Prelude.{◌≡◌, ℕ, ◌^◌, ◌<◌, ◌≤◌, OnOk, OnErr};
+ghost use Rattle.nd_node.specs.Time.{Leads, Comes, Passes, Onward};
+
+use crate::node::Node;
+use crate::told::{MOST_TOLD, link_local, tell};
+use nd_chronicle::laws::idle_time_passes;
+use nd_frames::FrameRoom;
+use nd_out::Out;
+use rand_core::Rng;
+use std::alloc::{AllocError, Allocator};
+
+impl<R: Rng + Drop, A: Allocator + Clone> Node<R, A> {
+    ghost use Rattle.nd_node.specs.Node.{next_of, turns_left};
+
+    /// Does what is due first at the moment, which is the next at which something is, and tells it: the ends of routers, of own addresses,
+    /// their detections, the neighbours, Router Solicitations, a redraw of ReachableTime, each in the order of addresses. The error is
+    /// want of memory, and then nothing has changed.
+    pub fn turn(&mut self, now: u64, outs: &mut Vec<(u64, Out<A>), A>) -> Result<(), AllocError>
+        requires moment { now < 2 ^ 62 }
+        requires due { now ≡ next_of self.old }
+        ensures leads { OnOk result (Leads R.stream self.old self.new outs.old.items outs.new.items (Comes now)) }
+        ensures fewer { OnOk result ((end : ℕ) → now ≤ end → turns_left end self.new < turns_left end self.old) }
+        ensures same { OnErr result (self.new ≡ self.old) }
+        ensures told { OnErr result (outs.new.items ≡ outs.old.items) }
+    {
+        let room = FrameRoom::new(outs.allocator().clone()?)?;
+        outs.reserve(MOST_TOLD)?;
+        let turned = self.take_turn(now);
+        let own = link_local(&self.addresses);
+        tell(outs, now, room, self.mac, own, turned);
+        Ok(())
+    }
+
+    /// Does all that is due up to a moment, and tells it. The error is want of memory, and then the rest can be done later.
+    pub fn settle(&mut self, now: u64, outs: &mut Vec<(u64, Out<A>), A>) -> Result<(), AllocError>
+        requires { now < 2 ^ 62 }
+        ensures onward { Leads R.stream self.old self.new outs.old.items outs.new.items (Onward now) }
+        ensures passes { OnOk result (Leads R.stream self.old self.new outs.old.items outs.new.items (Passes now)) }
+        ensures settled { OnOk result (now < next_of self.new) }
+    {
+        idle_time_passes();
+        loop {
+            let next = self.next_due();
+            if next > now {
+                return Ok(());
+            }
+            self.turn(next, outs)?;
+        }
+    }
+}

@@ -1,0 +1,3 @@
+pub mod Out
+pub mod Row
+pub mod Parameters

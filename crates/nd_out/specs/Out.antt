@@ -1,0 +1,39 @@
+-- What a node tells: what happened, as values of Rust, with their moments, the oldest first, and their text.
+use Rattle.std.specs.Prelude.{ℕ, List, map, string_bytes}
+use Rattle.std.specs.List.{flat_map}
+use Rattle.nd_addr.specs.Number.{number_of}
+use Rattle.nd_slaac.specs.History as addresses
+use Rattle.nd_neighbour.specs.History as neighbours
+use Rattle.nd_out.specs.declared.out.Loss as losses
+use Rattle.nd_out.specs.declared.out.Loss.TheVariants as loss
+use Rattle.nd_out.specs.declared.out.Out.{Out}
+use Rattle.nd_out.specs.declared.out.Out.TheVariants as outs
+use Rattle.nd_chronicle.specs.Happening as happenings
+use Rattle.nd_chronicle.specs.Happening.{Happening}
+use Rattle.nd_chronicle.specs.Told.{lines_of}
+
+-- why a packet was lost
+abbrev pub loss_of : losses.Loss → happenings.Loss
+loss_of loss.Unreachable = happenings.Unreachable
+loss_of loss.Replaced = happenings.Replaced
+loss_of loss.Forgotten = happenings.Forgotten
+loss_of loss.NoRoute = happenings.Routeless
+
+-- what happened
+abbrev pub happening : {A : Type 0} → Out A → Happening
+happening (outs.Frame packet) = happenings.Sent packet
+happening (outs.Assigned addr) = happenings.Address (number_of addr.0) addresses.Assigned
+happening (outs.EndedAddress addr) = happenings.Address (number_of addr.0) addresses.Ended
+happening (outs.EndedRouter addr) = happenings.LeftRouter (number_of addr.0)
+happening (outs.Failed addr) = happenings.Neighbour (number_of addr.0) (neighbours.Forgot neighbours.Failed)
+happening (outs.Lost why packet) = happenings.Lost (loss_of why) packet
+happening (outs.Shown rows) = happenings.Shown (map string_bytes rows.items)
+happening (outs.Past last) = happenings.TooLate last
+
+-- the lines of what happened at a moment
+abbrev pub out_lines : {A : Type 0} → ℕ × Out A → List ℕ
+out_lines out = lines_of (out.0, happening out.1)
+
+-- the text of it all
+abbrev pub told : {A : Type 0} → List (ℕ × Out A) → List ℕ
+told outs = flat_map out_lines outs

@@ -1,0 +1,28 @@
+//! What a node tells: what happened at it as values, their texts, and the rows of its tables.
+#![tactic(auto)]
+
+mod addresses;
+mod dns;
+mod line;
+mod lines;
+mod lost;
+mod neighbours;
+mod out;
+mod parameters;
+mod prefixes;
+mod redirects;
+mod routers;
+mod row;
+
+pub use addresses::address_rows;
+pub use dns::dns_rows;
+pub use lines::write_outs;
+pub use neighbours::neighbour_rows;
+pub use out::{Loss, Out};
+pub use parameters::parameter_row;
+pub use prefixes::prefix_rows;
+pub use redirects::redirect_rows;
+pub use routers::router_rows;
+
+#[cfg(test)]
+mod tests;

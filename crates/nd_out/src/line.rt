@@ -1,0 +1,51 @@
+ghost use Rattle.std.specs.Prelude.{◌≡◌, ◌++◌, OnOk, codes, string_bytes};
+ghost use Rattle.std.specs.Fmt.{decimal};
+ghost use Rattle.nd_addr.specs.Number.{number_of};
+ghost use Rattle.nd_chronicle.specs.Shown.{key_text};
+ghost use Rattle.nd_chronicle.specs.Told.{line_at};
+
+use itoa::Buffer;
+use nd_addr::Addr;
+use std::alloc::{AllocError, Allocator};
+
+/// Writes a number. The error is want of memory.
+pub(crate) fn write_number<A: Allocator>(
+    text: &mut String<A>,
+    number: u64,
+) -> Result<(), AllocError>
+    ensures { OnOk result (string_bytes text.new ≡ string_bytes text.old ++ decimal number) }
+{
+    text.push_str(Buffer::new().format(number))
+}
+
+/// Writes a moment, and a space behind it.
+pub(crate) fn write_moment<A: Allocator>(text: &mut String<A>, at: u64) -> Result<(), AllocError>
+    ensures { OnOk result (string_bytes text.new ≡ string_bytes text.old ++ decimal at ++ codes " ") }
+{
+    write_number(text, at)?;
+    text.push_str(" ")
+}
+
+/// Writes an address, which is told by its number.
+pub(crate) fn write_address<A: Allocator>(
+    text: &mut String<A>,
+    addr: Addr,
+) -> Result<(), AllocError>
+    ensures { OnOk result (string_bytes text.new ≡ string_bytes text.old ++ key_text (number_of addr.0)) }
+{
+    let _bytes = addr.as_bytes();
+    addr.write_text(text)
+}
+
+/// Writes a line: its moment, its text and a line feed.
+pub(crate) fn write_line<A: Allocator>(
+    text: &mut String<A>,
+    at: u64,
+    told: &str,
+) -> Result<(), AllocError>
+    ensures { OnOk result (string_bytes text.new ≡ string_bytes text.old ++ line_at at told.now) }
+{
+    write_moment(text, at)?;
+    text.push_str(told)?;
+    text.push_str("\n")
+}

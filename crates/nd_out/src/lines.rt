@@ -1,0 +1,135 @@
+ghost use Rattle.std.specs.Prelude.{◌≡◌, ◌++◌, ◌≤◌, OnOk, codes, length, string_bytes, map};
+ghost use Rattle.std.specs.List.{flat_map};
+ghost use Rattle.nd_addr.specs.Frame.{ethernet_header_length};
+ghost use Rattle.nd_addr.specs.Number.{number_of};
+ghost use Rattle.nd_text.specs.Digits.{hex_text};
+ghost use Rattle.nd_chronicle.specs.Shown.{key_text};
+ghost use Rattle.std.specs.Fmt.{decimal};
+ghost use Rattle.nd_chronicle.specs.Happening.{Lost, Shown};
+ghost use Rattle.nd_chronicle.specs.Told.{line_at, lines_of};
+ghost use Rattle.nd_out.specs.Out.{loss_of, out_lines, told};
+
+use crate::line::{write_address, write_line, write_moment, write_number};
+use crate::lost::{loss_word, write_way};
+use crate::out::{Loss, Out};
+use nd_addr::Addr;
+use nd_text::write_hex;
+use std::alloc::{AllocError, Allocator};
+
+/// Writes the line of a frame that was sent.
+fn write_sent<A: Allocator>(text: &mut String<A>, at: u64, frame: &[u8]) -> Result<(), AllocError>
+    ensures { OnOk result (string_bytes text.new ≡ string_bytes text.old ++ line_at at (codes "tx " ++ hex_text frame.now)) }
+{
+    write_moment(text, at)?;
+    text.push_str("tx ")?;
+    write_hex(text, frame)?;
+    text.push_str("\n")
+}
+
+/// Writes a line of a word and an address.
+fn write_named<A: Allocator>(
+    text: &mut String<A>,
+    at: u64,
+    word: &str,
+    addr: Addr,
+) -> Result<(), AllocError>
+    ensures { OnOk result (string_bytes text.new ≡ string_bytes text.old ++ line_at at (word.now ++ key_text (number_of addr.0))) }
+{
+    write_moment(text, at)?;
+    text.push_str(word)?;
+    write_address(text, addr)?;
+    text.push_str("\n")
+}
+
+/// Writes a line of a word and a number.
+fn write_counted<A: Allocator>(
+    text: &mut String<A>,
+    at: u64,
+    word: &str,
+    number: u64,
+) -> Result<(), AllocError>
+    ensures { OnOk result (string_bytes text.new ≡ string_bytes text.old ++ line_at at (word.now ++ decimal number)) }
+{
+    write_moment(text, at)?;
+    text.push_str(word)?;
+    write_number(text, number)?;
+    text.push_str("\n")
+}
+
+/// Writes the lines of rows that were shown.
+fn write_each_row<A: Allocator, B: Allocator>(
+    text: &mut String<A>,
+    at: u64,
+    rows: &[String<B>],
+) -> Result<(), AllocError>
+    ensures { OnOk result (string_bytes text.new ≡ string_bytes text.old ++ flat_map (line_at at) (map string_bytes rows.now)) }
+{
+    for row in rows {
+        write_line(text, at, row.as_str())?;
+    }
+    Ok(())
+}
+
+/// Writes rows that were shown, and how many there are.
+fn write_rows<A: Allocator, B: Allocator>(
+    text: &mut String<A>,
+    at: u64,
+    rows: &[String<B>],
+) -> Result<(), AllocError>
+    ensures { OnOk result (string_bytes text.new ≡ string_bytes text.old ++ lines_of (at, Shown (map string_bytes rows.now))) }
+{
+    write_each_row(text, at, rows)?;
+    write_counted(text, at, "end ", rows.len() as u64)
+}
+
+/// Writes the line of a packet that was lost.
+fn write_lost<A: Allocator>(
+    text: &mut String<A>,
+    at: u64,
+    why: Loss,
+    frame: &[u8],
+) -> Result<(), AllocError>
+    requires { ethernet_header_length ≤ length frame.now }
+    ensures { OnOk result (string_bytes text.new ≡ string_bytes text.old ++ lines_of (at, Lost (loss_of why) frame.now)) }
+{
+    write_moment(text, at)?;
+    text.push_str("lost ")?;
+    text.push_str(loss_word(why))?;
+    text.push_str(" ")?;
+    write_way(text, frame)?;
+    text.push_str("\n")
+}
+
+/// Writes the lines of what happened at a moment.
+fn write_out<A: Allocator, B: Allocator>(
+    text: &mut String<A>,
+    at: u64,
+    out: &Out<B>,
+) -> Result<(), AllocError>
+    ensures { OnOk result (string_bytes text.new ≡ string_bytes text.old ++ out_lines (at, out.now)) }
+{
+    match out {
+        Out::Frame(packet) => write_sent(text, at, packet.as_bytes()),
+        Out::Assigned(addr) => write_named(text, at, "assigned ", *addr),
+        Out::EndedAddress(addr) => write_named(text, at, "ended address ", *addr),
+        Out::EndedRouter(addr) => write_named(text, at, "ended router ", *addr),
+        Out::Failed(addr) => write_named(text, at, "failed ", *addr),
+        Out::Lost(why, packet) => write_lost(text, at, *why, packet.as_bytes()),
+        Out::Shown(rows) => write_rows(text, at, rows),
+        Out::Past(last) => write_counted(text, at, "refused past ", *last),
+    }
+}
+
+/// Writes the text of what happened at the end, each with its moment in milliseconds: a line each, and of rows that were shown a line
+/// for each and one for their number. The error is want of memory.
+pub fn write_outs<A: Allocator, B: Allocator>(
+    text: &mut String<A>,
+    outs: &[(u64, Out<B>)],
+) -> Result<(), AllocError>
+    ensures { OnOk result (string_bytes text.new ≡ string_bytes text.old ++ told outs.now) }
+{
+    for (at, out) in outs {
+        write_out(text, *at, out)?;
+    }
+    Ok(())
+}

@@ -1,0 +1,351 @@
+ghost use Rattle.std.specs.Prelude.{◌<◌, ◌^◌};
+
+use super::*;
+use nd_addr::{Addr, Mac, Prefix};
+use nd_decode::{MessageRef, PrefixInfo, decode};
+use nd_dns::Dns;
+use nd_neighbour::{Cache, Flags, News, Times};
+use nd_nexthop::Choice;
+use nd_params::Params;
+use nd_routers::{Prefixes, Routers};
+use nd_slaac::{AddressRoom, Addresses, Due};
+use nd_waiting::Packet;
+use std::alloc::Global;
+use std::process::Abort;
+use std::test::*;
+
+const MAC: Mac = Mac([0x34, 0x56, 0x78, 0x9a, 0xbc, 0xde]);
+
+/// fe80::3656:78ff:fe9a:bcde.
+const LINK_LOCAL: Addr = Addr([
+    0xfe, 0x80, 0, 0, 0, 0, 0, 0, 0x36, 0x56, 0x78, 0xff, 0xfe, 0x9a, 0xbc, 0xde,
+]);
+
+/// fe80::ff:fe00:1.
+const ROUTER: Addr = Addr([0xfe, 0x80, 0, 0, 0, 0, 0, 0, 0, 0, 0, 0xff, 0xfe, 0, 0, 1]);
+
+/// fe80::2.
+const OTHER_ROUTER: Addr = Addr([0xfe, 0x80, 0, 0, 0, 0, 0, 0, 0, 0, 0, 0, 0, 0, 0, 2]);
+
+/// 2001:db8:1::5.
+const REMOTE: Addr = Addr([0x20, 0x01, 0x0d, 0xb8, 0, 1, 0, 0, 0, 0, 0, 0, 0, 0, 0, 5]);
+
+/// 2001:db8::1.
+const ABSENT: Addr = Addr([0x20, 0x01, 0x0d, 0xb8, 0, 0, 0, 0, 0, 0, 0, 0, 0, 0, 0, 1]);
+
+/// A frame from 2001:db8::9 to 2001:db8:1::5, without a payload.
+const DATAGRAM: [u8; 54] = [
+    0x02, 0, 0, 0, 0, 0x01, 0x02, 0, 0, 0, 0, 0x09, 0x86, 0xdd, 0x60, 0, 0, 0, 0, 0, 0x11, 0x40,
+    0x20, 0x01, 0x0d, 0xb8, 0, 0, 0, 0, 0, 0, 0, 0, 0, 0, 0, 9, 0x20, 0x01, 0x0d, 0xb8, 0, 1, 0, 0,
+    0, 0, 0, 0, 0, 0, 0, 5,
+];
+
+/// A Router Advertisement with the prefix 2001:db8::/64, for 2592000 and 604800 seconds.
+const ADVERTISEMENT: [u8; 48] = [
+    0x86, 0, 0xf9, 0xce, 0x40, 0, 0x07, 0x08, 0, 0, 0, 0, 0, 0, 0, 0, 0x03, 0x04, 0x40, 0xc0, 0,
+    0x27, 0x8d, 0, 0, 0x09, 0x3a, 0x80, 0, 0, 0, 0, 0x20, 0x01, 0x0d, 0xb8, 0, 0, 0, 0, 0, 0, 0, 0,
+    0, 0, 0, 0,
+];
+
+/// One with the server 2001:db8::53 and the name a.example, for 1800 seconds each.
+const NAMES: [u8; 64] = [
+    0x86, 0, 0, 0, 0x40, 0, 0, 0, 0, 0, 0, 0, 0, 0, 0, 0, 25, 3, 0, 0, 0, 0, 0x07, 0x08, 0x20,
+    0x01, 0x0d, 0xb8, 0, 0, 0, 0, 0, 0, 0, 0, 0, 0, 0, 0x53, 31, 3, 0, 0, 0, 0, 0x07, 0x08, 1,
+    b'a', 7, b'e', b'x', b'a', b'm', b'p', b'l', b'e', 0, 0, 0, 0, 0, 0,
+];
+
+/// The packet of these bytes.
+fn packet(alloc: Global, bytes: &[u8]) -> Result<Packet<Global>, Fail> {
+    let mut frame = Vec::new(alloc);
+    frame.extend_from_slice(bytes)?;
+    Ok(Packet::new(frame).ok_or("too short")?)
+}
+
+/// What is told of one thing that happened at a moment.
+fn told(alloc: Global, at: u64, out: Out<Global>) -> Result<String, Fail> {
+    let mut text = String::new(alloc);
+    write_outs(&mut text, &[(at, out)])?;
+    Ok(text)
+}
+
+/// The message that some bytes spell.
+fn advertisement(bytes: &[u8]) -> Option<MessageRef<'_>> {
+    if bytes.is_empty() || bytes[0] != 134 {
+        return None;
+    }
+    decode(bytes).ok()
+}
+
+#[test]
+fn addresses_are_told(rt: HostRuntime) -> Result<(), Fail> {
+    let mut text = String::new(rt.alloc());
+    let outs = [
+        (1000, Out::Assigned(LINK_LOCAL)),
+        (6000, Out::Failed(ABSENT)),
+        (1_801_200, Out::EndedRouter(ROUTER)),
+        (2_592_001_200, Out::EndedAddress(LINK_LOCAL)),
+    ];
+    let outs: [(u64, Out<Global>); 4] = outs;
+    write_outs(&mut text, &outs)?;
+    assert_eq!(rt;
+        text.as_str(),
+        "1000 assigned fe80::3656:78ff:fe9a:bcde\n6000 failed 2001:db8::1\n\
+        1801200 ended router fe80::ff:fe00:1\n2592001200 ended address fe80::3656:78ff:fe9a:bcde\n"
+    );
+    Ok(())
+}
+
+#[test]
+fn a_frame_is_told_in_hexadecimal(rt: HostRuntime) -> Result<(), Fail> {
+    let frame = packet(rt.alloc(), &DATAGRAM)?;
+    assert_eq!(rt;
+        told(rt.alloc(), 5000, Out::Frame(frame))?.as_str(),
+        "5000 tx 02000000000102000000000986dd600000000000114020010db800000000000000000000000920010db8000100000000000000000005\n"
+    );
+    Ok(())
+}
+
+#[test]
+fn a_lost_packet_is_told_by_its_addresses(rt: HostRuntime) -> Result<(), Fail> {
+    let frame = packet(rt.alloc(), &DATAGRAM)?;
+    assert_eq!(rt;
+        told(rt.alloc(), 5000, Out::Lost(Loss::Unreachable, frame))?.as_str(),
+        "5000 lost unreachable 2001:db8::9 2001:db8:1::5\n"
+    );
+    let frame = packet(rt.alloc(), &DATAGRAM)?;
+    assert_eq!(rt;
+        told(rt.alloc(), 3000, Out::Lost(Loss::Replaced, frame))?.as_str(),
+        "3000 lost replaced 2001:db8::9 2001:db8:1::5\n"
+    );
+    let frame = packet(rt.alloc(), &DATAGRAM)?;
+    assert_eq!(rt;
+        told(rt.alloc(), 10_000, Out::Lost(Loss::NoRoute, frame))?.as_str(),
+        "10000 lost no-route 2001:db8::9 2001:db8:1::5\n"
+    );
+    // What a short frame lacks of its addresses is zeros.
+    let frame = packet(rt.alloc(), &[0; 14])?;
+    assert_eq!(rt;
+        told(rt.alloc(), 0, Out::Lost(Loss::Forgotten, frame))?.as_str(),
+        "0 lost forgotten :: ::\n"
+    );
+    Ok(())
+}
+
+#[test]
+fn a_late_event_is_told_by_the_last_moment(rt: HostRuntime) -> Result<(), Fail> {
+    assert_eq!(rt;
+        told(rt.alloc(), 9, Out::Past(10))?.as_str(),
+        "9 refused past 10\n"
+    );
+    Ok(())
+}
+
+#[test]
+fn parameters_are_shown(rt: HostRuntime) -> Result<(), Fail> {
+    let alloc = rt.alloc();
+    let rows = parameter_row(&alloc, &Params::new(0, 15_000))?;
+    assert_eq!(rt;
+        told(rt.alloc(), 10, Out::Shown(rows))?.as_str(),
+        "10 params hop 64 mtu 1500 reachable 30000 15000 retrans 1000 managed 0 other 0\n10 end 1\n"
+    );
+    Ok(())
+}
+
+#[test]
+fn addresses_are_shown(rt: HostRuntime) -> Result<(), Fail> {
+    let alloc = rt.alloc();
+    let room = AddressRoom::new(rt.alloc())?;
+    let mut addresses = Addresses::start(room, 0, MAC, 0, 1000);
+    assert!(rt; addresses.conflict(LINK_LOCAL));
+    let rows = address_rows(&alloc, &addresses, 999)?;
+    assert_eq!(rt;
+        told(rt.alloc(), 999, Out::Shown(rows))?.as_str(),
+        "999 address fe80::3656:78ff:fe9a:bcde duplicate inf inf\n999 end 1\n"
+    );
+    Ok(())
+}
+
+#[test]
+fn a_router_is_shown(rt: HostRuntime) -> Result<(), Fail> {
+    let alloc = rt.alloc();
+    let mut routers = Routers::new(rt.alloc(), 16)?;
+    assert!(rt; routers.next_due().is_none());
+    assert!(rt; routers.heard_ra(1200, ROUTER, 1800).is_ok());
+    let rows = router_rows(&alloc, &routers, 2200)?;
+    assert_eq!(rt;
+        told(rt.alloc(), 2200, Out::Shown(rows))?.as_str(),
+        "2200 router fe80::ff:fe00:1 1799000\n2200 end 1\n"
+    );
+    Ok(())
+}
+
+#[test]
+fn a_prefix_is_shown(rt: HostRuntime) -> Result<(), Fail> {
+    let alloc = rt.alloc();
+    let mut prefixes = Prefixes::new(rt.alloc())?;
+    let rows = prefix_rows(&alloc, &prefixes, 1200)?;
+    assert_eq!(rt;
+        told(rt.alloc(), 1200, Out::Shown(rows))?.as_str(),
+        "1200 end 0\n"
+    );
+    let message = advertisement(&ADVERTISEMENT).ok_or("message")?;
+    assert!(rt; prefixes.heard_ra(1200, message.options).is_ok());
+    let rows = prefix_rows(&alloc, &prefixes, 2200)?;
+    assert_eq!(rt;
+        told(rt.alloc(), 2200, Out::Shown(rows))?.as_str(),
+        "2200 prefix 2001:db8::/64 2591999000\n2200 end 1\n"
+    );
+    Ok(())
+}
+
+/// Tells that a router has a link-layer address.
+fn given(addr: Addr, last: u8) -> News {
+    News::Given {
+        addr,
+        mac: Mac([2, 0, 0, 0, 0, last]),
+        mark: Some(true),
+    }
+}
+
+#[test]
+fn neighbours_are_shown(rt: HostRuntime) -> Result<(), Fail> {
+    let alloc = rt.alloc();
+    let mut cache = Cache::new(rt.alloc(), 4)?;
+    let times = Times {
+        retrans: 1000,
+        reachable: 15_000,
+    };
+    assert!(rt; cache.heard(1200, given(ROUTER, 1), times).is_ok());
+    assert!(rt; cache.heard(2300, given(OTHER_ROUTER, 2), times).is_ok());
+    let rows = neighbour_rows(&alloc, &cache, 2300)?;
+    assert_eq!(rt;
+        told(rt.alloc(), 2300, Out::Shown(rows))?.as_str(),
+        "2300 neighbour fe80::2 02:00:00:00:00:02 stale router\n\
+        2300 neighbour fe80::ff:fe00:1 02:00:00:00:00:01 stale router\n2300 end 2\n"
+    );
+    Ok(())
+}
+
+#[test]
+fn a_redirect_is_shown(rt: HostRuntime) -> Result<(), Fail> {
+    let alloc = rt.alloc();
+    let mut choice = Choice::new(rt.alloc())?;
+    choice.redirected(REMOTE, OTHER_ROUTER)?;
+    let rows = redirect_rows(&alloc, &choice)?;
+    assert_eq!(rt;
+        told(rt.alloc(), 2300, Out::Shown(rows))?.as_str(),
+        "2300 redirect 2001:db8:1::5 fe80::2\n2300 end 1\n"
+    );
+    Ok(())
+}
+
+#[test]
+fn a_server_and_a_name_are_shown(rt: HostRuntime) -> Result<(), Fail> {
+    let alloc = rt.alloc();
+    let mut dns = Dns::new(rt.alloc())?;
+    let message = advertisement(&NAMES).ok_or("message")?;
+    let options = message.options;
+    match dns.names(1200, options) {
+        Ok(names) => assert!(rt; dns.heard_ra(1200, options, names).is_ok()),
+        Err(_) => assert!(rt; false),
+    }
+    let rows = dns_rows(&alloc, &dns, 2200)?;
+    assert_eq!(rt;
+        told(rt.alloc(), 2200, Out::Shown(rows))?.as_str(),
+        "2200 server 2001:db8::53 1799000\n2200 search a.example 1799000\n2200 end 2\n"
+    );
+    Ok(())
+}
+
+#[test]
+fn a_confirmed_neighbour_is_shown_until_its_time_has_passed(rt: HostRuntime) -> Result<(), Fail> {
+    let alloc = rt.alloc();
+    let mut cache = Cache::new(rt.alloc(), 4)?;
+    let times = Times {
+        retrans: 1000,
+        reachable: 15_000,
+    };
+    assert!(rt; cache.heard(1200, given(ROUTER, 1), times).is_ok());
+    let advertised = News::Advert {
+        addr: ROUTER,
+        flags: Flags {
+            router: true,
+            solicited: true,
+            overrides: true,
+        },
+        mac: Some(Mac([2, 0, 0, 0, 0, 1])),
+    };
+    assert!(rt; cache.heard(8500, advertised, times).is_ok());
+    let rows = neighbour_rows(&alloc, &cache, 23_499)?;
+    assert_eq!(rt;
+        told(rt.alloc(), 23_499, Out::Shown(rows))?.as_str(),
+        "23499 neighbour fe80::ff:fe00:1 02:00:00:00:00:01 reachable router\n23499 end 1\n"
+    );
+    let rows = neighbour_rows(&alloc, &cache, 23_500)?;
+    assert_eq!(rt;
+        told(rt.alloc(), 23_500, Out::Shown(rows))?.as_str(),
+        "23500 neighbour fe80::ff:fe00:1 02:00:00:00:00:01 stale router\n23500 end 1\n"
+    );
+    Ok(())
+}
+
+#[test]
+fn a_neighbour_without_an_address_is_shown(rt: HostRuntime) -> Result<(), Fail> {
+    let alloc = rt.alloc();
+    let mut cache = Cache::new(rt.alloc(), 4)?;
+    let times = Times {
+        retrans: 1000,
+        reachable: 15_000,
+    };
+    let sent = cache.used(3000, ABSENT, packet(rt.alloc(), &DATAGRAM)?, times);
+    assert!(rt; sent.is_ok());
+    let rows = neighbour_rows(&alloc, &cache, 3000)?;
+    assert_eq!(rt;
+        told(rt.alloc(), 3000, Out::Shown(rows))?.as_str(),
+        "3000 neighbour 2001:db8::1 - incomplete host\n3000 end 1\n"
+    );
+    Ok(())
+}
+
+/// Turns at the moment that is next.
+fn turn_at(rt: &impl Abort, addresses: &mut Addresses<Global>, now: u64) -> Option<Due>
+    requires { now < 2 ^ 62 }
+{
+    match addresses.next_due() {
+        Some(next) => assert!(rt; next == now),
+        None => assert!(rt; false),
+    }
+    addresses.turn(now)
+}
+
+/// The option for 2001:db8::/64, for a month and a week.
+fn month_and_week() -> Option<PrefixInfo> {
+    let first = Addr([0x20, 0x01, 0x0d, 0xb8, 0, 0, 0, 0, 0, 0, 0, 0, 0, 0, 0, 0]);
+    Some(PrefixInfo {
+        prefix: Prefix::new(first, 64)?,
+        on_link: true,
+        autonomous: true,
+        valid_lifetime: 2_592_000,
+        preferred_lifetime: 604_800,
+    })
+}
+
+#[test]
+fn two_addresses_are_shown_in_their_order(rt: HostRuntime) -> Result<(), Fail> {
+    let alloc = rt.alloc();
+    let room = AddressRoom::new(rt.alloc())?;
+    let mut addresses = Addresses::start(room, 0, MAC, 0, 1000);
+    assert!(rt; turn_at(&rt, &mut addresses, 0).is_some());
+    assert!(rt; turn_at(&rt, &mut addresses, 1000).is_some());
+    let info = month_and_week().ok_or("option")?;
+    assert!(rt; addresses.heard_prefix(1200, &info, 0, 1000).is_ok());
+    assert!(rt; turn_at(&rt, &mut addresses, 1200).is_some());
+    assert!(rt; turn_at(&rt, &mut addresses, 2200).is_some());
+    let rows = address_rows(&alloc, &addresses, 2200)?;
+    assert_eq!(rt;
+        told(rt.alloc(), 2200, Out::Shown(rows))?.as_str(),
+        "2200 address 2001:db8::3656:78ff:fe9a:bcde preferred 604799000 2591999000\n\
+        2200 address fe80::3656:78ff:fe9a:bcde preferred inf inf\n2200 end 2\n"
+    );
+    Ok(())
+}
