@@ -11,7 +11,7 @@ use Rattle.nd_io.specs.ToolFault.{status_of}
 use Rattle.nd_io.specs.declared.tool_fault.ToolFault.{ToolFault}
 use Rattle.nd_io.specs.declared.tool_fault.ToolFault.TheVariants as faults
 use Rattle.ndpctl.specs.declared.command_line.Refused.{Refused}
-use Rattle.ndpctl.specs.declared.command_line.Refused.TheVariants.{Told, Memory}
+use Rattle.ndpctl.specs.declared.command_line.Refused.TheVariants.{Told, Mac, Draws, Memory}
 
 -- 0 where it was done
 abbrev pub status_of_done : {D : Type 0} → Result D ToolFault → ℕ
@@ -24,9 +24,11 @@ status_of_words DisplayHelp = 0
 status_of_words DisplayVersion = 0
 status_of_words k = 2
 
--- that of the words, or of want of memory
+-- that of the words, 2 for a bad value, or that of want of memory
 abbrev pub status_of_refused : Refused → ℕ
 status_of_refused (Told error) = status_of_words (kind_of error)
+status_of_refused Mac = 2
+status_of_refused Draws = 2
 status_of_refused Memory = status_of faults.Memory
 
 -- 2 where a word is no UTF-8

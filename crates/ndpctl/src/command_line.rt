@@ -1,18 +1,30 @@
 //! The words of the command line.
 
-ghost use Rattle.std.specs.Prelude.{◌≡◌, ◌∷◌, ℕ, List, [], codes, map, IfOk, IfErr, string_bytes};
-ghost use Rattle.clap.specs.Words.{app_of};
-ghost use Rattle.ndpctl.specs.CommandLine.{the_command, faults_of, Refuses};
+ghost use Rattle.std.specs.Prelude.{◌≡◌, ◌∷◌, ℕ, List, [], codes, map, false, IfOk, IfErr, string_bytes};
+ghost use Rattle.clap.specs.Words.{app_of, found_of, rows_of};
+ghost use Rattle.clap.specs.declared.builder.command.Command.TheViews.{out-Command};
+ghost use Rattle.ndpctl.specs.CommandLine.{RoleNames, the_command, the_run, faults_of, Asks, Refuses};
+ghost use Rattle.ndpctl.specs.CommandLine.{GivesAsked, RefusesGiven};
 
 use clap::error::ErrorKind;
-use clap::{Command, Error};
+use clap::{Arg, ArgMatches, Command, Error};
+use nd_addr::{Mac, Role};
+use nd_script::Source;
 use std::alloc::{AllocError, Global};
 
+/// The roles that a node may have.
+static ROLES: [&str; 1] = ["host"];
+
+/// The source of random words where none is named.
+const DEFAULT_DRAWS: &str = "seed:0";
+
 /// What the words ask for.
-#[derive(Clone, Copy, Debug, PartialEq, Eq)]
+#[derive(Drop)]
 pub enum Asked {
     /// To tell what the frames on standard input are.
     Check,
+    /// To be a node of this role and Ethernet address, whose random words come from this source, on the lines of standard input.
+    Run(Role, Mac, Source),
 }
 
 /// Why nothing is done.
@@ -20,34 +32,86 @@ pub enum Asked {
 pub enum Refused {
     /// The words are wrong, or ask for help: the text to print and the status come with it.
     Told(Error),
+    /// The words are right but for the value of `--mac`, which is no Ethernet address.
+    Mac,
+    /// The words are right but for the value of `--draws`, which names no source.
+    Draws,
     /// Memory was refused.
     Memory,
 }
 
-/// The command with its subcommands.
-fn command<'a>(alloc: Global) -> Result<Command<'a>, AllocError>
-    ensures { IfOk result (λ command. app_of command ≡ the_command) }
+/// The subcommand `run` with its options, where a node has one of these roles.
+fn run_command<'a>(alloc: Global, roles: &'a [&'a str]) -> Result<Command<'a>, AllocError>
+    ensures shape { IfOk result (λ command. app_of command ≡ the_run roles.entry) }
+    ensures local { IfOk result (λ command. (out-Command command).has_globals ≡ false) }
+{
+    let role = Arg::new(alloc, "role")
+        .long("role")
+        .required(true)
+        .value_parser(roles)
+        .help("What the node is");
+    let mac = Arg::new(alloc, "mac")
+        .long("mac")
+        .required(true)
+        .help("Its Ethernet address, as 02:00:00:00:00:01");
+    let draws = Arg::new(alloc, "draws")
+        .long("draws")
+        .default_value(DEFAULT_DRAWS)
+        .help("Where its random words come from: seed:<number> or word:<number>");
+    Command::new(alloc, "run")
+        .about("Answers each line, an event at a moment, with what a node does")
+        .arg(role)?
+        .arg(mac)?
+        .arg(draws)
+}
+
+/// The command with its subcommands, where a node has one of these roles.
+fn command<'a>(alloc: Global, roles: &'a [&'a str]) -> Result<Command<'a>, AllocError>
+    ensures { IfOk result (λ command. app_of command ≡ the_command roles.entry) }
 {
     let check = Command::new(alloc, "check").about(
         "Tells of each line, a frame in hexadecimal, what the frame is",
     );
+    let run = run_command(alloc, roles)?;
     Command::new(alloc, "ndpctl")
         .about("IPv6 Neighbor Discovery on one link")
         .subcommand_required(true)
-        .subcommand(check)
+        .subcommand(check)?
+        .subcommand(run)
+}
+
+/// What the values of the options of `run` ask for. The address is judged before the source.
+fn read_run(given: &ArgMatches<'_>) -> Result<Asked, Refused>
+    ensures right { IfOk result (GivesAsked (rows_of (found_of given.now))) }
+    ensures wrong { IfErr result (RefusesGiven (rows_of (found_of given.now))) }
+{
+    let Some(mac) = given.get_str("mac") else {
+        return Err(Refused::Mac);
+    };
+    let Ok(mac) = Mac::parse(mac.as_bytes()) else {
+        return Err(Refused::Mac);
+    };
+    let Some(draws) = given.get_str("draws") else {
+        return Err(Refused::Draws);
+    };
+    let Some(source) = Source::parse(draws.as_bytes()) else {
+        return Err(Refused::Draws);
+    };
+    Ok(Asked::Run(Role::Host, mac, source))
 }
 
 /// What the words ask for, the first being the program's path.
 ///
-/// They are refused for a fault that `clap` finds in them, or for want of memory.
+/// They are refused for the first of these: a fault that `clap` finds in them, no Ethernet address after `--mac`, no source after
+/// `--draws`; or for want of memory.
 pub fn read_words<'a>(alloc: Global, words: &'a [String]) -> Result<Asked, Refused>
-    ensures right { IfOk result (λ _. faults_of (map (λ word. string_bytes word) words.now) ≡ []) }
-    ensures wrong { IfErr result (λ refused. Refuses (map (λ word. string_bytes word) words.now) refused) }
+    ensures right { IfOk result (Asks (map (λ word. string_bytes word) words.now)) }
+    ensures wrong { IfErr result (Refuses (map (λ word. string_bytes word) words.now)) }
 {
-    let Ok(command) = command(alloc) else {
+    let Ok(command) = command(alloc, ROLES.as_slice()) else {
         return Err(Refused::Memory);
     };
-    let _matches = match command.try_get_matches_from(words) {
+    let matches = match command.try_get_matches_from(words) {
         Ok(matches) => matches,
         Err(error) => {
             if error.kind() == ErrorKind::OutOfMemory {
@@ -56,10 +120,13 @@ pub fn read_words<'a>(alloc: Global, words: &'a [String]) -> Result<Asked, Refus
             return Err(Refused::Told(error));
         }
     };
-    Ok(Asked::Check)
+    match matches.subcommand_matches("run") {
+        Some(given) => read_run(given),
+        None => Ok(Asked::Check),
+    }
 }
 
 /// The one word `check` is right, whatever the program's path is.
 fn check_is_right()
-    ensures { (path : List ℕ) → faults_of (path ∷ codes "check" ∷ []) ≡ [] }
+    ensures { (roles : RoleNames) → (path : List ℕ) → faults_of roles (path ∷ codes "check" ∷ []) ≡ [] }
 {}

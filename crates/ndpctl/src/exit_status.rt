@@ -45,8 +45,18 @@ pub fn fail_on_refused(rt: &HostRuntime, refused: Refused) -> ExitCode
                 _ => ExitCode::from(BAD_COMMAND_LINE),
             }
         }
+        Refused::Mac => fail_on_value(rt, "bad mac"),
+        Refused::Draws => fail_on_value(rt, "bad draws"),
         Refused::Memory => fail(rt, ToolFault::Memory),
     }
+}
+
+/// Tells which value of the command line is bad, and answers its status, 2.
+fn fail_on_value(rt: &HostRuntime, complaint: &str) -> ExitCode
+    ensures { exit_status result ≡ 2 }
+{
+    let _ = eprintln!(rt; "ndpctl: {complaint}");
+    ExitCode::from(BAD_COMMAND_LINE)
 }
 
 /// Tells that the words of the command line can't be read, and answers the status: 2, or that of want of memory.

@@ -1,15 +1,16 @@
 //! Doing what is asked.
 
-ghost use Rattle.std.specs.Prelude.{◌≢◌, ◌^◌, ◌⊎◌, ℕ, OnOk, OnErr, IsErrOf, Some, None, Err};
+ghost use Rattle.std.specs.Prelude.{◌≢◌, ◌⊎◌, ℕ, OnOk, OnErr, IsErrOf, Some, None, Err};
 ghost use Rattle.nd_io.specs.Counts.{HasRisen, HasGrownBy, most_reads};
-ghost use Rattle.nd_io.specs.Run.{Wrote, WroteFront, Answered};
-ghost use Rattle.ndpctl.specs.Run.{text_asked, malformed_asked};
+ghost use Rattle.nd_io.specs.Told.{TellsAll, TellsBeginning, TellsAsRead};
+ghost use Rattle.ndpctl.specs.Run.{texts_asked};
 
 use crate::command_line::Asked;
 use nd_check::run_check;
 use nd_io::input::Input;
 use nd_io::output::Output;
 use nd_io::tool_fault::ToolFault;
+use nd_script::run_script;
 use std::alloc::Allocator;
 
 /// Does what is asked, over a reader and a writer.
@@ -19,15 +20,17 @@ pub fn run<R: Input, W: Output, A: Allocator + Clone>(
     reader: &mut R,
     writer: &mut W,
 ) -> Result<(), ToolFault>
-    ensures ok { OnOk result (Wrote (text_asked asked) (malformed_asked asked) (R.remaining reader.old) (W.contents writer.old) (W.contents writer.new) None) }
-    ensures line { (n : ℕ) → IsErrOf result (ToolFault.Line n) → Wrote (text_asked asked) (malformed_asked asked) (R.remaining reader.old) (W.contents writer.old) (W.contents writer.new) (Some n) }
-    ensures front { OnErr result (WroteFront (text_asked asked) (R.remaining reader.old) (W.contents writer.old) (W.contents writer.new)) }
+    ensures ok { OnOk result (TellsAll (texts_asked asked) (R.remaining reader.old) (W.contents writer.old) (W.contents writer.new) None) }
+    ensures line { (n : ℕ) → IsErrOf result (ToolFault.Line n) → TellsAll (texts_asked asked) (R.remaining reader.old) (W.contents writer.old) (W.contents writer.new) (Some n) }
+    ensures front { OnErr result (TellsBeginning (texts_asked asked) (R.remaining reader.old) (W.contents writer.old) (W.contents writer.new)) }
     ensures read_failed { IsErrOf result ToolFault.Read → HasRisen (R.failed reader.old) (R.failed reader.new) ⊎ HasGrownBy most_reads (R.given reader.old) (R.given reader.new) }
-    ensures answered { IsErrOf result ToolFault.Read → Answered (text_asked asked) (malformed_asked asked) (R.remaining reader.old) (R.remaining reader.new) (W.contents writer.old) (W.contents writer.new) }
+    // Where a read fails, the answers to all lines that were read before it are written.
+    ensures answered { IsErrOf result ToolFault.Read → TellsAsRead (texts_asked asked) (R.remaining reader.old) (R.remaining reader.new) (W.contents writer.old) (W.contents writer.new) }
     ensures write_failed { IsErrOf result ToolFault.Write → HasRisen (W.failed writer.old) (W.failed writer.new) }
     ensures never_wire { result ≢ Err ToolFault.Wire }
 {
     match asked {
         Asked::Check => run_check(alloc, reader, writer),
+        Asked::Run(_, mac, source) => run_script(alloc, reader, writer, mac, source),
     }
 }

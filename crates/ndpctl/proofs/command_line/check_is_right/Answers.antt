@@ -5,4 +5,4 @@ use Rattle.ndpctl.proofs.command_line.check_is_right.Goals as goal
 
 pub returns : goal.returns
 unfolding walk_fault walked defaults_fault
-returns c = λ path. refl
+returns c = λ roles path. refl

@@ -1,0 +1,60 @@
+-- The one way to part a text at its first space.
+use Rattle.std.proofs.Common.{◌≡◌, ℕ, zero, suc, ◌<◌, ◌^◌, List, [], ◌∷◌, ◌++◌, length, take, drop, get_or, refl, sym, ap, subst, ◌∙◌, arith}
+use Rattle.std.specs.Char.{digit_value}
+use Rattle.std.specs.Fmt.{decimal}
+use Rattle.std.specs.Str.Parse.{AllDigits}
+use Rattle.std.proofs.lemmas.Fmt.{decimal_is_IsNumeral}
+use Rattle.nd_script.specs.Words.{HasNoSpace, IsParted}
+
+-- the words behind the first ones
+tail_has_none : (b : ℕ) (word : List ℕ) → HasNoSpace (b ∷ word) → HasNoSpace word
+tail_has_none b word none = λ k lt e. none (suc k) (omega arith) e
+
+parts_are_one : (word rest word' rest' : List ℕ) → HasNoSpace word → HasNoSpace word' → word ++ 32 ∷ rest ≡ word' ++ 32 ∷ rest' → (word ≡ word') × (rest ≡ rest')
+parts_are_one [] rest [] rest' none none' e = (refl, (cc))
+parts_are_one [] rest (b ∷ word') rest' none none' e = let space : b ≡ 32 = cc in absurd (none' 0 (omega arith) space)
+parts_are_one (a ∷ word) rest [] rest' none none' e = let space : a ≡ 32 = cc in absurd (none 0 (omega arith) space)
+parts_are_one (a ∷ word) rest (b ∷ word') rest' none none' e =
+    let first : a ≡ b = cc in
+    let behind : word ++ 32 ∷ rest ≡ word' ++ 32 ∷ rest' = cc in
+    let later = parts_are_one word rest word' rest' (tail_has_none a word none) (tail_has_none b word' none') behind in
+    let words = later.0 in
+    ((cc), later.1)
+
+-- a text is parted in one way
+pub one_parting : (text word rest word' rest' : List ℕ) → IsParted text word rest → IsParted text word' rest' → (word ≡ word') × (rest ≡ rest')
+one_parting text word rest word' rest' p q = parts_are_one word rest word' rest' p.no_space q.no_space (sym p.text_is ∙ q.text_is)
+
+space_at : (word rest : List ℕ) → get_or (word ++ 32 ∷ rest) (length word) 0 ≡ 32
+space_at [] rest = refl
+space_at (b ∷ word) rest = space_at word rest
+
+space_within : (word rest : List ℕ) → length word < length (word ++ 32 ∷ rest)
+space_within [] rest = omega arith
+space_within (b ∷ word) rest = let later = space_within word rest in omega arith
+
+-- and one with no space in none
+pub no_parting : (text word rest : List ℕ) → HasNoSpace text → IsParted text word rest → ⊥
+no_parting text word rest none p =
+    none (length word) (subst (λ (t : List ℕ). length word < length t) (sym p.text_is) (space_within word rest)) (ap (λ (t : List ℕ). get_or t (length word) 0) p.text_is ∙ space_at word rest)
+
+-- what stands before the first space and behind it
+pub parted_at : (i : ℕ) (text : List ℕ) → ((k : ℕ) → k < i → get_or text k 0 ≡ 32 → ⊥) → i < length text → get_or text i 0 ≡ 32 → IsParted text (take i text) (drop (suc i) text)
+parted_at i [] none lt e = absurd (omega arith)
+parted_at zero (b ∷ text) none lt e = record { text_is = ap (λ (c : ℕ). c ∷ text) e; no_space = λ k less f. absurd (omega arith) }
+parted_at (suc i) (b ∷ text) none lt e =
+    let later = parted_at i text (λ k less. none (suc k) (omega arith)) (omega arith) e in
+    record { text_is = ap (λ (t : List ℕ). b ∷ t) later.text_is; no_space = before later.no_space }
+  where
+    before : HasNoSpace (take i text) → HasNoSpace (b ∷ take i text)
+    before rest zero less f = none 0 (omega arith) f
+    before rest (suc k) less f = rest k (omega arith) f
+
+digits_no_space : (text : List ℕ) (k : ℕ) → AllDigits 10 text → k < length text → get_or text k 0 ≡ 32 → ⊥
+digits_no_space [] k h lt e = omega arith
+digits_no_space (b ∷ text) zero h lt e = let big : digit_value 32 < 10 = subst (λ (n : ℕ). digit_value n < 10) e h.0 in omega (arith, big)
+digits_no_space (b ∷ text) (suc k) h lt e = digits_no_space text k h.1 (omega arith) e
+
+-- there is no space in a number
+pub decimal_no_space : (n : ℕ) → n < 2 ^ 64 → HasNoSpace (decimal n)
+decimal_no_space n wide = λ k lt e. digits_no_space (decimal n) k (decimal_is_IsNumeral n wide).0.1 lt e

@@ -1,0 +1,7 @@
+pub mod Words
+pub mod Command
+pub mod Line
+pub mod Source
+pub mod Script
+pub mod ScriptLaws
+pub mod Answer

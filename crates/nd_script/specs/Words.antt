@@ -1,0 +1,11 @@
+-- Words that are parted by exactly one space (the texts are this project's own).
+use Rattle.std.specs.Prelude.{◌≡◌, ◌≢◌, ℕ, ◌<◌, List, ◌∷◌, ◌++◌, length, slice_index}
+
+-- there is no space in the text
+abbrev pub HasNoSpace : List ℕ → Type 0
+HasNoSpace text = (k : ℕ) → k < length text → slice_index text k ≢ 32
+
+-- the text is its first word, one space, and the rest
+pub record IsParted (text word rest : List ℕ) : Type 0 where
+  pub text_is : text ≡ word ++ 32 ∷ rest
+  pub no_space : HasNoSpace word

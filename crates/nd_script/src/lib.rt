@@ -1,0 +1,19 @@
+//! The lines of a script that a node reads, and the sources that its random words come from.
+#![tactic(auto)]
+
+mod command;
+pub mod laws;
+mod line;
+mod number;
+mod run;
+mod script;
+mod source;
+mod words;
+
+pub use command::read_command;
+pub use line::{Line, read_line};
+pub use run::run_script;
+pub use source::Source;
+
+#[cfg(test)]
+mod tests;

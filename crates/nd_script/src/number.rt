@@ -1,0 +1,42 @@
+//! Numbers in decimal digits, with no sign and no leading zero.
+
+ghost use Rattle.std.specs.Prelude.{◌≡◌, ◌↔◌, ◌<◌, ◌^◌, ◌++◌, ℕ, IsTrue, Some, IfSome, decimal};
+
+use itoa::Buffer;
+
+/// The number in some decimal digits, if they are those of one below 2^64. Of other texts nothing is said.
+fn number_in(text: &[u8]) -> Option<u64>
+    ensures { (n : ℕ) → n < 2 ^ 64 → text.now ≡ decimal n → result ≡ Some n }
+{
+    match std::str::from_utf8(text) {
+        Ok(digits) => match digits.parse::<u64>() {
+            Ok(number) => Some(number),
+            Err(_) => None,
+        },
+        Err(_) => None,
+    }
+}
+
+/// Whether a text is what is written for a number: its decimal digits with no leading zero.
+fn is_decimal(text: &[u8], number: u64) -> bool
+    ensures { IsTrue result ↔ (text.now ≡ decimal number) }
+{
+    Buffer::new().format(number).as_bytes() == text
+}
+
+/// The number below 2^64 that a text spells in decimal digits, with no sign and no leading zero.
+pub(crate) fn read_number(text: &[u8]) -> Option<u64>
+    ensures found { IfSome result (λ n. text.now ≡ decimal n) }
+    ensures only { (n : ℕ) → n < 2 ^ 64 → text.now ≡ decimal n → result ≡ Some n }
+{
+    let number = number_in(text)?;
+    is_decimal(text, number).then_some(number)
+}
+
+/// The number below 2^64 that a text spells behind a label.
+pub(crate) fn read_labelled(text: &[u8], label: &[u8]) -> Option<u64>
+    ensures found { IfSome result (λ n. text.now ≡ label.now ++ decimal n) }
+    ensures only { (n : ℕ) → n < 2 ^ 64 → text.now ≡ label.now ++ decimal n → result ≡ Some n }
+{
+    read_number(text.strip_prefix(label)?)
+}

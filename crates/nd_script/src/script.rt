@@ -1,0 +1,75 @@
+//! A node that answers the lines of a script.
+
+ghost use Rattle.std.specs.Prelude.{◌≡◌, ◌++◌, [], OnOk, OnErr, ◌^◌, ◌<◌, ℕ, List, string_bytes};
+ghost use Rattle.nd_chronicle.specs.Start.{Start};
+ghost use Rattle.nd_chronicle.specs.Happening.{Chronicle};
+ghost use Rattle.nd_chronicle.specs.History.{Follows};
+ghost use Rattle.nd_chronicle.specs.Told as chronicle;
+ghost use Rattle.nd_node.specs.Event.{event_of};
+ghost use Rattle.nd_node.specs.Node.{Stands};
+ghost use Rattle.nd_script.specs.Script.{Leads};
+ghost use Rattle.nd_script.specs.ScriptLaws.{no_line, long_line};
+ghost use Rattle.nd_script.specs.Answer.{AnswersEvent};
+
+use crate::line::read_line;
+use nd_io::answering::{Answering, Unanswered};
+use nd_node::{Event, Node};
+use nd_out::{Out, write_outs};
+use rand_core::Rng;
+use std::alloc::{AllocError, Allocator};
+
+/// A node, and room for what it tells of one line.
+#[derive(Drop)]
+pub(crate) struct Script<R, A: Allocator> {
+    node: Node<R, A>,
+    outs: Vec<(u64, Out<A>), A>,
+}
+
+impl<R: Rng + Drop, A: Allocator + Clone> Script<R, A> {
+    /// Nothing was told yet.
+    pub(crate) fn new(alloc: A, node: Node<R, A>) -> Self
+        ensures { result.node ≡ node }
+    {
+        Script {
+            node,
+            outs: Vec::new(alloc),
+        }
+    }
+
+    /// An event comes, and its text goes to the end. The error is want of memory.
+    fn event<B: Allocator>(
+        &mut self,
+        at: u64,
+        event: Event,
+        text: &mut String<B>,
+    ) -> Result<(), AllocError>
+        requires { at < 2 ^ 62 }
+        ensures { OnOk result (AnswersEvent R.stream self.old.node self.new.node at (event_of event) (string_bytes text.old) (string_bytes text.new)) }
+    {
+        self.outs.clear();
+        self.node.event(at, event, &mut self.outs)?;
+        write_outs(text, &self.outs)
+    }
+}
+
+impl<R: Rng + Drop, A: Allocator + Clone> Answering for Script<R, A> {
+    ghost texts = { λ script. Leads R.stream script.node };
+
+    ghost no_lines = { λ script. no_line R.stream script.node };
+
+    ghost too_long = { λ script. long_line R.stream script.node };
+
+    fn answer<B: Allocator>(
+        &mut self,
+        line: &[u8],
+        text: &mut String<B>,
+    ) -> Result<(), Unanswered> {
+        match read_line(line) {
+            Some(read) => match self.event(read.at, read.event, text) {
+                Ok(()) => Ok(()),
+                Err(_) => Err(Unanswered::Memory),
+            },
+            None => Err(Unanswered::Malformed),
+        }
+    }
+}

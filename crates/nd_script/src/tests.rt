@@ -1,0 +1,278 @@
+use super::*;
+use nd_addr::Mac;
+use nd_io::input::Pieces;
+use nd_io::output::Writing;
+use nd_io::tool_fault::ToolFault;
+use nd_node::{Event, Table};
+use rand_core::Rng;
+use std::alloc::Global;
+use std::process::Abort;
+use std::test::*;
+
+fn at(moment: u64) -> Option<Line> {
+    Some(Line {
+        at: moment,
+        event: Event::Passes,
+    })
+}
+
+fn show(moment: u64, table: Table) -> Option<Line> {
+    Some(Line {
+        at: moment,
+        event: Event::Shows(table),
+    })
+}
+
+#[test]
+fn lines_of_settling_are_read(rt: HostRuntime) {
+    assert_eq!(rt; read_line(b"0 at"), at(0));
+    assert_eq!(rt; read_line(b"10 at"), at(10));
+    assert_eq!(rt; read_line(b"2200 at"), at(2200));
+    assert_eq!(rt; read_line(b"1801200 at"), at(1801200));
+}
+
+#[test]
+fn lines_of_each_table_are_read(rt: HostRuntime) {
+    assert_eq!(rt;
+        read_line(b"86401199 show neighbours"),
+        show(86401199, Table::Neighbours)
+    );
+    assert_eq!(rt; read_line(b"2200 show routers"), show(2200, Table::Routers));
+    assert_eq!(rt;
+        read_line(b"1200 show prefixes"),
+        show(1200, Table::Prefixes)
+    );
+    assert_eq!(rt;
+        read_line(b"999 show addresses"),
+        show(999, Table::Addresses)
+    );
+    assert_eq!(rt; read_line(b"1200 show dns"), show(1200, Table::Dns));
+    assert_eq!(rt;
+        read_line(b"2300 show redirects"),
+        show(2300, Table::Redirects)
+    );
+    assert_eq!(rt; read_line(b"10 show params"), show(10, Table::Params));
+    assert_eq!(rt; read_line(b"10 show advertise"), show(10, Table::Advertise));
+    assert_eq!(rt; read_line(b"10 show routes"), show(10, Table::Routes));
+}
+
+#[test]
+fn the_moment_is_below_2_to_the_62(rt: HostRuntime) {
+    assert_eq!(rt;
+        read_line(b"4611686018427387903 at"),
+        at(4611686018427387903)
+    );
+    assert_eq!(rt; read_line(b"4611686018427387904 at"), None);
+    assert_eq!(rt; read_line(b"18446744073709551616 at"), None);
+}
+
+#[test]
+fn words_are_parted_by_one_space(rt: HostRuntime) {
+    assert_eq!(rt; read_line(b"10  at"), None);
+    assert_eq!(rt; read_line(b" 10 at"), None);
+    assert_eq!(rt; read_line(b"10 at "), None);
+    assert_eq!(rt; read_line(b"10 show  params"), None);
+    assert_eq!(rt; read_line(b"10 show params "), None);
+    assert_eq!(rt; read_line(b"10\tat"), None);
+    assert_eq!(rt; read_line(b"10 at\r"), None);
+    assert_eq!(rt; read_line(b"10 show params\r"), None);
+}
+
+#[test]
+fn other_lines_are_malformed(rt: HostRuntime) {
+    assert_eq!(rt; read_line(b""), None);
+    assert_eq!(rt; read_line(b" "), None);
+    assert_eq!(rt; read_line(b"10"), None);
+    assert_eq!(rt; read_line(b"10 "), None);
+    assert_eq!(rt; read_line(b"at"), None);
+    assert_eq!(rt; read_line(b"show params"), None);
+    assert_eq!(rt; read_line(b"10 show"), None);
+    assert_eq!(rt; read_line(b"10 show "), None);
+    assert_eq!(rt; read_line(b"10 show neighbour"), None);
+    assert_eq!(rt; read_line(b"10 show Params"), None);
+    assert_eq!(rt; read_line(b"10 show params dns"), None);
+    assert_eq!(rt; read_line(b"10 At"), None);
+    assert_eq!(rt; read_line(b"10 at now"), None);
+    assert_eq!(rt; read_line(b"10 settle"), None);
+}
+
+#[test]
+fn moments_have_no_sign_and_no_leading_zero(rt: HostRuntime) {
+    assert_eq!(rt; read_line(b"010 at"), None);
+    assert_eq!(rt; read_line(b"00 at"), None);
+    assert_eq!(rt; read_line(b"+10 at"), None);
+    assert_eq!(rt; read_line(b"-10 at"), None);
+    assert_eq!(rt; read_line(b"1a at"), None);
+    assert_eq!(rt; read_line(b"\xff at"), None);
+}
+
+/// The first words of a source, if the text names one.
+fn words(text: &[u8]) -> Option<[u32; 3]> {
+    let mut source = Source::parse(text)?;
+    Some([source.next_u32(), source.next_u32(), source.next_u32()])
+}
+
+#[test]
+fn a_seed_gives_the_words_of_pcg32(rt: HostRuntime) {
+    // The words of a generator written anew in Python, whose first two at seed 0 are those of rand_pcg's own test.
+    assert_eq!(rt;
+        words(b"seed:0"),
+        Some([0x11cd_d903, 0xfc84_3fd7, 0x1408_33d3])
+    );
+    assert_eq!(rt;
+        words(b"seed:1"),
+        Some([0x33a7_0be6, 0x7dbc_f3ee, 0xcadf_4751])
+    );
+    assert_eq!(rt;
+        words(b"seed:18446744073709551615"),
+        Some([0x982f_997e, 0x513d_a686, 0xe017_d20c])
+    );
+}
+
+#[test]
+fn a_word_is_given_each_time(rt: HostRuntime) {
+    assert_eq!(rt; words(b"word:0"), Some([0, 0, 0]));
+    assert_eq!(rt; words(b"word:1001"), Some([1001, 1001, 1001]));
+    assert_eq!(rt;
+        words(b"word:4294967295"),
+        Some([u32::MAX, u32::MAX, u32::MAX])
+    );
+}
+
+#[test]
+fn longer_words_are_of_32_bits(rt: HostRuntime) -> Result<(), Fail> {
+    let Some(mut source) = Source::parse(b"seed:0") else {
+        return Err(Fail::new("no source"));
+    };
+    assert_eq!(rt; source.next_u64(), 18195738587432868099);
+    let Some(mut source) = Source::parse(b"word:258") else {
+        return Err(Fail::new("no source"));
+    };
+    let mut bytes = [0; 6];
+    source.fill_bytes(&mut bytes);
+    assert_eq!(rt; bytes, [2, 1, 0, 0, 2, 1]);
+    Ok(())
+}
+
+#[test]
+fn other_texts_name_no_source(rt: HostRuntime) {
+    assert_eq!(rt; words(b""), None);
+    assert_eq!(rt; words(b"0"), None);
+    assert_eq!(rt; words(b"seed"), None);
+    assert_eq!(rt; words(b"seed:"), None);
+    assert_eq!(rt; words(b"seed:01"), None);
+    assert_eq!(rt; words(b"seed:+1"), None);
+    assert_eq!(rt; words(b"seed:0x10"), None);
+    assert_eq!(rt; words(b"seed:1 "), None);
+    assert_eq!(rt; words(b"Seed:1"), None);
+    assert_eq!(rt; words(b"seed:18446744073709551616"), None);
+    assert_eq!(rt; words(b"word:"), None);
+    assert_eq!(rt; words(b"word:00"), None);
+    assert_eq!(rt; words(b"word:-1"), None);
+    assert_eq!(rt; words(b"word:4294967296"), None);
+}
+
+/// What a host of 34:56:78:9a:bc:de tells whose generator answers 0 to each word, where its script is read in pieces of one byte, and in
+/// long ones.
+fn told(
+    rt: &impl Abort,
+    alloc: Global,
+    script: &[u8],
+    ended: Result<(), ToolFault>,
+    wanted: &str,
+) -> Result<(), Fail> {
+    let mac = Mac([0x34, 0x56, 0x78, 0x9a, 0xbc, 0xde]);
+    for piece in [1, 4096] {
+        let mut reader = Pieces::new(script, piece);
+        let mut writer = Writing::new(Vec::new(alloc));
+        let zeros = Source::Constant(0);
+        let done = run_script(alloc, &mut reader, &mut writer, mac, zeros);
+        assert_eq!(rt; done, ended);
+        assert_eq!(rt; writer.into_inner().as_slice(), wanted.as_bytes());
+    }
+    Ok(())
+}
+
+/// The solicitation that tries the link-local address, and a Router Solicitation, each with its moment.
+const STARTED: &str =
+    "0 tx 3333ff9abcde3456789abcde86dd6000000000183aff00000000000000000000000000000000ff0200000000000000000001ff9abcde870053df00000000fe80000000000000365678fffe9abcde\n";
+
+const ASSIGNED: &str = "1000 assigned fe80::3656:78ff:fe9a:bcde\n";
+
+const SOLICITED: &str =
+    " tx 3333000000023456789abcde86dd6000000000103afffe80000000000000365678fffe9abcdeff0200000000000000000000000000028500a78f0000000001013456789abcde\n";
+
+/// Rows 4 and 5: the start of a host.
+#[test]
+fn a_host_starts(rt: HostRuntime) -> Result<(), Fail> {
+    let started = format!(in rt.alloc();
+        "{STARTED}{ASSIGNED}1000{SOLICITED}5000{SOLICITED}9000{SOLICITED}"
+    )?;
+    told(&rt, rt.alloc(), b"", Ok(()), "")?;
+    told(&rt, rt.alloc(), b"0 at", Ok(()), STARTED)?;
+    told(&rt, rt.alloc(), b"10000 at\n", Ok(()), &started)
+}
+
+/// Row 13, so far: the same bytes with a line for each second.
+#[test]
+fn each_second_tells_the_same(rt: HostRuntime) -> Result<(), Fail> {
+    let started = format!(in rt.alloc();
+        "{STARTED}{ASSIGNED}1000{SOLICITED}5000{SOLICITED}9000{SOLICITED}"
+    )?;
+    let mut script = String::new(rt.alloc());
+    for second in 1..21u64 {
+        script.push_str(&format!(in rt.alloc(); "{}000 at\n", second)?)?;
+    }
+    told(&rt, rt.alloc(), script.as_bytes(), Ok(()), &started)
+}
+
+/// Row 19: a past moment is told alone, and a malformed line ends the run.
+#[test]
+fn past_moments_and_malformed_lines(rt: HostRuntime) -> Result<(), Fail> {
+    let shown = format!(in rt.alloc();
+        "{STARTED}9 refused past 10\n10 params hop 64 mtu 1500 reachable 30000 15000 retrans 1000 managed 0 other 0\n10 end 1\n"
+    )?;
+    told(
+        &rt,
+        rt.alloc(),
+        b"10 at\n9 show params\n10 show params\n",
+        Ok(()),
+        &shown,
+    )?;
+    told(
+        &rt,
+        rt.alloc(),
+        b"10 at\nshow params\n11 at\n",
+        Err(ToolFault::Line(2)),
+        STARTED,
+    )
+}
+
+/// Each table of a host at its start; the link-local address is tentative up to its assignment.
+#[test]
+fn tables_of_a_start(rt: HostRuntime) -> Result<(), Fail> {
+    let shown = format!(in rt.alloc();
+        "{STARTED}999 address fe80::3656:78ff:fe9a:bcde tentative inf inf\n999 end 1\n{ASSIGNED}1000{SOLICITED}1000 address fe80::3656:78ff:fe9a:bcde preferred inf inf\n1000 end 1\n"
+    )?;
+    told(
+        &rt,
+        rt.alloc(),
+        b"999 show addresses\n1000 show addresses\n",
+        Ok(()),
+        &shown,
+    )?;
+    for table in [
+        "neighbours",
+        "routers",
+        "prefixes",
+        "dns",
+        "redirects",
+        "advertise",
+        "routes",
+    ] {
+        let script = format!(in rt.alloc(); "0 show {}\n", table)?;
+        let empty = format!(in rt.alloc(); "{STARTED}0 end 0\n")?;
+        told(&rt, rt.alloc(), script.as_bytes(), Ok(()), &empty)?;
+    }
+    Ok(())
+}

@@ -1,0 +1,42 @@
+-- What the getters of `clap` read of the options of a subcommand.
+use Rattle.std.proofs.Common.{◌≡◌, ◌∙◌, List, [], refl, sym, ap, subst, option_map, Option, Some, None, IsSomeAnd, is_some, true≢false}
+use Rattle.std.specs.Option.{option_map_or}
+use Rattle.clap.specs.Matches.{first_value, subcommand_name_of}
+use Rattle.clap.specs.Simple.{subcommand_rows, subcommand_rows_of}
+use Rattle.clap.specs.Walk.{Row, Text, first_of, rows_of}
+use Rattle.clap.specs.declared.parser.matches.ArgMatches.{ArgMatches}
+use Rattle.clap.specs.declared.parser.matches.ArgMatches.TheViews.{out-ArgMatches, out-SubCommand}
+use Rattle.clap.specs.declared.parser.matches.Found.{Found}
+use Rattle.clap.specs.declared.parser.matches.SubCommand.{SubCommand}
+use Rattle.clap.proofs.WalkLemmas.{first_value-rows}
+use Rattle.std.specs.Borrow.{Bor}
+use Rattle.std.specs.Prelude.{Box}
+
+-- an option without a value, and one with it
+pub none_given : (f : Found) (id : Text) (P : Text → Type 0) → None ≡ first_value f id → IsSomeAnd (first_of id (rows_of f)) P → ⊥
+none_given f id P e h = subst (λ o. IsSomeAnd o P) (sym (e ∙ first_value-rows f id)) h
+
+pub other_given : (f : Found) (id text : Text) (P : Text → Type 0) → Some text ≡ first_value f id → (P text → ⊥) → IsSomeAnd (first_of id (rows_of f)) P → ⊥
+other_given f id text P e not h = not (subst (λ o. IsSomeAnd o P) (sym (e ∙ first_value-rows f id)) h)
+
+pub is_given : (f : Found) (id text : Text) (P : Text → Type 0) → Some text ≡ first_value f id → P text → IsSomeAnd (first_of id (rows_of f)) P
+is_given f id text P e h = subst (λ o. IsSomeAnd o P) (e ∙ first_value-rows f id) h
+
+-- the name of the subcommand, by its rows
+pub name_in_rows : (m : ArgMatches) → subcommand_name_of m ≡ option_map (λ p. p.0) (subcommand_rows_of m)
+name_in_rows m = go (out-ArgMatches m).subcommand
+  where
+    go : {Z : Type 0} (o : Option (Box SubCommand Z))
+        → option_map (λ b. (out-SubCommand (Rattle.std.specs.Box.box_value b)).name.now) o ≡ option_map (λ p. p.0) (subcommand_rows o)
+    go None = refl
+    go (Some b) = refl
+
+pub rows_in : (o : Option (Text × List Row)) (rows : List Row) → option_map (λ p. p.1) o ≡ Some rows → rows ≡ option_map_or (λ p. p.1) o []
+rows_in o rows e = ap (λ q. option_map_or (λ r. r) q []) (sym e) ∙ go o
+  where
+    go : (p : Option (Text × List Row)) → option_map_or (λ r. r) (option_map (λ q. q.1) p) [] ≡ option_map_or (λ q. q.1) p []
+    go None = refl
+    go (Some q) = refl
+
+pub none≢some : {X : Type 0} (x : X) → None ≡ Some x → ⊥
+none≢some x e = true≢false (ap is_some (sym e))
