@@ -202,7 +202,7 @@ const ASSIGNED: &str = "1000 assigned fe80::3656:78ff:fe9a:bcde\n";
 const SOLICITED: &str =
     " tx 3333000000023456789abcde86dd6000000000103afffe80000000000000365678fffe9abcdeff0200000000000000000000000000028500a78f0000000001013456789abcde\n";
 
-/// Rows 4 and 5: the start of a host.
+/// The start of a host: its detection, its assignment, and three Router Solicitations.
 #[test]
 fn a_host_starts(rt: HostRuntime) -> Result<(), Fail> {
     let started = format!(in rt.alloc();
@@ -213,7 +213,7 @@ fn a_host_starts(rt: HostRuntime) -> Result<(), Fail> {
     told(&rt, rt.alloc(), b"10000 at\n", Ok(()), &started)
 }
 
-/// Row 13, so far: the same bytes with a line for each second.
+/// A line for each second tells the same bytes.
 #[test]
 fn each_second_tells_the_same(rt: HostRuntime) -> Result<(), Fail> {
     let started = format!(in rt.alloc();
@@ -226,7 +226,7 @@ fn each_second_tells_the_same(rt: HostRuntime) -> Result<(), Fail> {
     told(&rt, rt.alloc(), script.as_bytes(), Ok(()), &started)
 }
 
-/// Row 19: a past moment is told alone, and a malformed line ends the run.
+/// A past moment is told alone, and a malformed line ends the run.
 #[test]
 fn past_moments_and_malformed_lines(rt: HostRuntime) -> Result<(), Fail> {
     let shown = format!(in rt.alloc();
