@@ -4,5 +4,7 @@ pub mod Turns
 pub mod Beginning
 pub mod Telling
 pub mod Walks
+pub mod Released
+pub mod Saying
 pub mod Steps
 pub mod Rows

@@ -5,4 +5,6 @@ pub mod Turned
 pub mod Node
 pub mod Told
 pub mod Time
+pub mod LinkLayerAddress
+pub mod Hearing
 pub mod Event

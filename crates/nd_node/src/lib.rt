@@ -5,6 +5,7 @@
 mod draw;
 mod due;
 mod event;
+mod link_layer_address;
 mod lost_hop;
 mod node;
 mod room;

@@ -12,6 +12,7 @@ ghost use Rattle.nd_out.specs.Out.{loss_of, out_lines, told};
 use crate::line::{write_address, write_line, write_moment, write_number};
 use crate::lost::{loss_word, write_way};
 use crate::out::{Loss, Out};
+use crate::reasons::{write_dropped, write_heard, write_refused};
 use nd_addr::Addr;
 use nd_text::write_hex;
 use std::alloc::{AllocError, Allocator};
@@ -23,6 +24,16 @@ fn write_sent<A: Allocator>(text: &mut String<A>, at: u64, frame: &[u8]) -> Resu
     write_moment(text, at)?;
     text.push_str("tx ")?;
     write_hex(text, frame)?;
+    text.push_str("\n")
+}
+
+/// Writes the line of a packet that goes to the upper layer.
+fn write_up<A: Allocator>(text: &mut String<A>, at: u64, packet: &[u8]) -> Result<(), AllocError>
+    ensures { OnOk result (string_bytes text.new ≡ string_bytes text.old ++ line_at at (codes "up " ++ hex_text packet.now)) }
+{
+    write_moment(text, at)?;
+    text.push_str("up ")?;
+    write_hex(text, packet)?;
     text.push_str("\n")
 }
 
@@ -110,12 +121,17 @@ fn write_out<A: Allocator, B: Allocator>(
 {
     match out {
         Out::Frame(packet) => write_sent(text, at, packet.as_bytes()),
+        Out::Heard { body, .. } => write_heard(text, at, body),
+        Out::Dropped(why) => write_dropped(text, at, *why),
+        Out::Up(packet) => write_up(text, at, packet),
+        Out::Duplicate(addr) => write_named(text, at, "duplicate ", *addr),
         Out::Assigned(addr) => write_named(text, at, "assigned ", *addr),
         Out::EndedAddress(addr) => write_named(text, at, "ended address ", *addr),
         Out::EndedRouter(addr) => write_named(text, at, "ended router ", *addr),
         Out::Failed(addr) => write_named(text, at, "failed ", *addr),
         Out::Lost(why, packet) => write_lost(text, at, *why, packet.as_bytes()),
         Out::Shown(rows) => write_rows(text, at, rows),
+        Out::Refused(why) => write_refused(text, at, *why),
         Out::Past(last) => write_counted(text, at, "refused past ", *last),
     }
 }

@@ -1,4 +1,5 @@
-use nd_addr::Addr;
+use nd_addr::{Addr, Why};
+use nd_decode::Body;
 use nd_waiting::Packet;
 use std::alloc::Allocator;
 
@@ -15,11 +16,58 @@ pub enum Loss {
     NoRoute,
 }
 
+/// The tables that have a limit, in the order in which they are asked for room.
+#[derive(Clone, Copy, Debug, PartialEq, Eq)]
+pub enum Limit {
+    /// The neighbours (RFC 4861, section 5.1).
+    Neighbours,
+    /// The default routers (RFC 4861, section 5.1).
+    Routers,
+    /// The prefixes on the link (RFC 4861, section 5.1).
+    Prefixes,
+    /// The own addresses (RFC 4862, section 5).
+    Addresses,
+    /// The DNS servers (RFC 8106, section 6.1).
+    Servers,
+    /// The search names (RFC 8106, section 6.1).
+    Names,
+}
+
+/// Why an event was refused.
+#[derive(Clone, Copy, Debug, PartialEq, Eq)]
+pub enum Refusal {
+    /// It is a command of a router, and the node is a host.
+    WrongRole,
+    /// The link-local address of the node is a duplicate (RFC 4862, section 5.4.5).
+    Disabled,
+    /// The source of a packet is no assigned address of the node.
+    NotOurs(Addr),
+    /// A packet is longer than the MTU of the link (RFC 8200, section 5).
+    TooLong,
+    /// A table would pass its limit.
+    Full(Limit),
+}
+
 /// What happened at a node, so far as it is told.
 #[derive(Drop)]
 pub enum Out<A: Allocator> {
     /// A frame was sent.
     Frame(Packet<A>),
+    /// A valid message was heard. Its options aren't told.
+    Heard {
+        /// The source of its packet.
+        source: Addr,
+        /// The destination of its packet.
+        destination: Addr,
+        /// What it says.
+        body: Body,
+    },
+    /// A frame was dropped.
+    Dropped(Why),
+    /// A packet that is no message of Neighbor Discovery goes to the upper layer, from its IPv6 header to the end of its payload.
+    Up(Vec<u8, A>),
+    /// An own address is another node's as well (RFC 4862, section 5.4.5).
+    Duplicate(Addr),
     /// An address was assigned to the interface (RFC 4862, section 5.4).
     Assigned(Addr),
     /// The valid lifetime of an address ended (RFC 4862, section 5.5.4).
@@ -32,6 +80,8 @@ pub enum Out<A: Allocator> {
     Lost(Loss, Packet<A>),
     /// These rows of a table were shown.
     Shown(Vec<String<A>, A>),
+    /// An event was refused.
+    Refused(Refusal),
     /// An event came too late: time had passed up to this moment, in milliseconds.
     Past(u64),
 }
