@@ -14,3 +14,4 @@ pub mod HeardPrefix
 pub mod Histories
 pub mod Overdue
 pub mod Unique
+pub mod Destinations

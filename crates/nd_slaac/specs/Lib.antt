@@ -12,3 +12,4 @@ pub mod Calls
 pub mod Shown
 pub mod View
 pub mod MayCome
+pub mod Destination

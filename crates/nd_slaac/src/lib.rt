@@ -2,6 +2,7 @@
 #![tactic(auto)]
 
 mod addresses;
+mod destination;
 mod due;
 mod duplicate;
 mod entry;
@@ -15,6 +16,7 @@ mod state;
 mod two_hours;
 
 pub use addresses::{AddressRoom, Addresses, MAX_ADDRESSES};
+pub use destination::Counted;
 pub use due::Due;
 pub use prefix_option::{Full, Taken};
 pub use shown::OwnAddress;

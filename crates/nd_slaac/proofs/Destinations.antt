@@ -1,0 +1,158 @@
+-- To which own addresses a packet goes.
+use Rattle.std.proofs.Common.{◌≡◌, ◌↔◌, ◌<◌, ℕ, Bool, true, false, cond, List, [], ◌∷◌, Option, Some, None, inl, inr, refl, sym, ◌∙◌, ap, subst, arith}
+use Rattle.std.specs.Prelude.{◌⊎◌, ◌&&◌, ◌||◌, ◌==◌, not, is_some, bytes_eq}
+use Rattle.std.specs.List.{list_any}
+use Rattle.std.specs.Cmp.Lexicographic.{bytes_decides}
+use Rattle.std.proofs.lemmas.Bool.{and_parts, and_from, eqb-true, eq-eqb}
+use Rattle.nd_table.specs.Keyed.{at_key, Rises}
+use Rattle.nd_table.proofs.Any.{or_either, or_left, or_right}
+use Rattle.nd_table.proofs.Keyed.{key_is, above_in}
+use Rattle.nd_addr.specs.declared.addr.Addr.{Addr}
+use Rattle.nd_addr.specs.Bytes.{AreBytes}
+use Rattle.nd_addr.specs.Kind.{solicited_node_of}
+use Rattle.nd_addr.specs.Number.{addr_at, number_of}
+use Rattle.nd_slaac.specs.declared.destination.Counted.{Counted}
+use Rattle.nd_slaac.specs.declared.destination.Counted.TheVariants.{Own, Assigned}
+use Rattle.nd_slaac.specs.History.{Row, Story, story}
+use Rattle.nd_slaac.specs.State.{Forming, forming_of, has_conflict, was_assigned, sent_of}
+use Rattle.nd_slaac.specs.Ends.{preferred_end, valid_end}
+use Rattle.nd_slaac.specs.Address.{Address, address_by, stage_by}
+use Rattle.nd_slaac.specs.Table.{key_of, address_in, Stands}
+use Rattle.nd_slaac.specs.Destination.{counts, counts_in, counted_in, is_meant, is_to, IsTo}
+
+-- ---- one of the entries
+
+module _ {N : Type 0} (key : N → ℕ) (p : N → Bool) where
+  behind : (k : ℕ) (x n : N) (ns : List N) → key x < k → at_key key k ns ≡ Some n → at_key key k (x ∷ ns) ≡ Some n
+  behind k x n ns lt found = by (key x == k) refl
+    where
+      by : (b : Bool) → key x == k ≡ b → cond b (Some x) (at_key key k ns) ≡ Some n
+      by false e = found
+      by true e = let same : key x ≡ k = grind (arith, e) in absurd (omega (arith, lt, same))
+
+  at_first : (x : N) (ns : List N) → at_key key (key x) (x ∷ ns) ≡ Some x
+  at_first x ns = by (key x == key x) refl
+    where
+      by : (b : Bool) → key x == key x ≡ b → cond b (Some x) (at_key key (key x) ns) ≡ Some x
+      by true e = refl
+      by false e = let no : ⊥ = grind (arith, e) in absurd no
+
+  any_found : (ns : List N) → Rises key ns → list_any p ns ≡ true → (n : N) × (at_key key (key n) ns ≡ Some n) × (p n ≡ true)
+  any_found [] rises e = let no : ⊥ = cc in absurd no
+  any_found (x ∷ ns) rises e = by (λ later. any_found ns rises.1 later) (or_either (p x) (list_any p ns) e)
+    where
+      by : (list_any p ns ≡ true → (n : N) × (at_key key (key n) ns ≡ Some n) × (p n ≡ true)) → (p x ≡ true) ⊎ (list_any p ns ≡ true)
+          → (n : N) × (at_key key (key n) (x ∷ ns) ≡ Some n) × (p n ≡ true)
+      by rest (inl here) = (x, at_first x ns, here)
+      by rest (inr later) = let f = rest later in (f.0, behind (key f.0) x f.0 ns (above_in key (key f.0) (key x) ns f.0 rises.0 f.1) f.1, f.2)
+
+  found_any : (k : ℕ) (ns : List N) (n : N) → at_key key k ns ≡ Some n → p n ≡ true → list_any p ns ≡ true
+  found_any k [] n found holds = let no : ⊥ = cc in absurd no
+  found_any k (x ∷ ns) n found holds = by (λ e. found_any k ns n e holds) (key x == k) found
+    where
+      by : (at_key key k ns ≡ Some n → list_any p ns ≡ true) → (b : Bool) → cond b (Some x) (at_key key k ns) ≡ Some n → list_any p (x ∷ ns) ≡ true
+      by rest true e = let same : x ≡ n = cc in or_left (p x) (list_any p ns) (ap p same ∙ holds)
+      by rest false e = or_right (p x) (list_any p ns) (rest e)
+
+-- ---- by its story
+
+abbrev counts_of : Counted → Bool → Bool → Bool → Bool
+counts_of Own known conflict assigned = (known && not conflict && not assigned) || (known && not conflict && assigned)
+counts_of Assigned known conflict assigned = known && not conflict && assigned
+
+counted_some : (counted : Counted) (f : Forming) (conflict assigned : Bool) (sent : ℕ) → counts_in counted (stage_by f conflict assigned sent) ≡ counts_of counted true conflict assigned
+counted_some Own f true true sent = refl
+counted_some Own f true false sent = refl
+counted_some Own f false true sent = refl
+counted_some Own f false false sent = refl
+counted_some Assigned f true true sent = refl
+counted_some Assigned f true false sent = refl
+counted_some Assigned f false true sent = refl
+counted_some Assigned f false false sent = refl
+
+counted_none : (counted : Counted) (conflict assigned : Bool) → counts_of counted false conflict assigned ≡ false
+counted_none Own conflict assigned = refl
+counted_none Assigned conflict assigned = refl
+
+counted_by : (counted : Counted) (key : ℕ) (f : Option Forming) (conflict assigned : Bool) (sent : ℕ) (p v : Option ℕ) (a : Address) → address_by key f conflict assigned sent p v ≡ Some a
+    → counts_in counted a.stage ≡ counts_of counted (is_some f) conflict assigned
+counted_by counted key None conflict assigned sent p v a e = let no : ⊥ = cc in absurd no
+counted_by counted key (Some f) conflict assigned sent p v a e =
+    let st : a.stage ≡ stage_by f conflict assigned sent = cc in rw st (counted_some counted f conflict assigned sent)
+
+-- an address that counts is kept
+kept_by : (counted : Counted) (key : ℕ) (f : Option Forming) (conflict assigned : Bool) (sent : ℕ) (p v : Option ℕ) → counts_of counted (is_some f) conflict assigned ≡ true
+    → (a : Address) × (address_by key f conflict assigned sent p v ≡ Some a) × (counts_in counted a.stage ≡ true) × (a.key ≡ key)
+kept_by counted key None conflict assigned sent p v h = let no : false ≡ true = sym (counted_none counted conflict assigned) ∙ h in absurd (impossible no)
+  where
+    impossible : false ≡ true → ⊥
+    impossible e = cc
+kept_by counted key (Some f) conflict assigned sent p v h = (_, refl, counted_some counted f conflict assigned sent ∙ h, refl)
+
+counts_is : (counted : Counted) (s : Story) → counts counted s ≡ counts_of counted (is_some (forming_of s)) (has_conflict s) (was_assigned s)
+counts_is Own s = refl
+counts_is Assigned s = refl
+
+counted_of : (counted : Counted) (key : ℕ) (f : Option Forming) (conflict assigned : Bool) (sent : ℕ) (p v : Option ℕ) → counted_in counted (address_by key f conflict assigned sent p v) ≡ counts_of counted (is_some f) conflict assigned
+counted_of counted key None conflict assigned sent p v = sym (counted_none counted conflict assigned)
+counted_of counted key (Some f) conflict assigned sent p v = counted_some counted f conflict assigned sent
+
+pub counted_by_history : (counted : Counted) (key : ℕ) (addresses : List Address) (history : List Row) → Stands addresses history → counted_in counted (address_in key addresses) ≡ counts counted (story key history)
+counted_by_history counted key addresses history s =
+    let st = story key history in
+    ap (λ (a : Option Address). counted_in counted a) (s.each key)
+    ∙ (counted_of counted key (forming_of st) (has_conflict st) (was_assigned st) (sent_of st) (preferred_end st) (valid_end st) ∙ sym (counts_is counted st))
+
+-- ---- a destination
+
+meant : (destination address : Addr) → is_meant destination address ≡ true → (destination.0 ≡ address.0) ⊎ (destination.0 ≡ solicited_node_of address.0)
+meant destination address e = by (or_either (bytes_eq destination.0 address.0) (bytes_eq destination.0 (solicited_node_of address.0)) e)
+  where
+    by : (bytes_eq destination.0 address.0 ≡ true) ⊎ (bytes_eq destination.0 (solicited_node_of address.0) ≡ true) → (destination.0 ≡ address.0) ⊎ (destination.0 ≡ solicited_node_of address.0)
+    by (inl same) = inl ((bytes_decides destination.0 address.0).0 same)
+    by (inr same) = inr ((bytes_decides destination.0 (solicited_node_of address.0)).0 same)
+
+is_meant_by : (destination address : Addr) → (destination.0 ≡ address.0) ⊎ (destination.0 ≡ solicited_node_of address.0) → is_meant destination address ≡ true
+is_meant_by destination address (inl e) = or_left (bytes_eq destination.0 address.0) (bytes_eq destination.0 (solicited_node_of address.0)) ((bytes_decides destination.0 address.0).1 e)
+is_meant_by destination address (inr e) = or_right (bytes_eq destination.0 address.0) (bytes_eq destination.0 (solicited_node_of address.0)) ((bytes_decides destination.0 (solicited_node_of address.0)).1 e)
+
+-- the same of what is kept of an address
+pub is_to_by : (counted : Counted) (destination address : Addr) (a : Address) (result : Bool) → addr_at (number_of address.0) ≡ address → number_of address.0 ≡ a.key → counts_in counted a.stage ≡ true
+    → result ≡ is_meant destination address → result ≡ is_to counted destination a
+is_to_by counted destination address a result told key counted' is =
+    let same : addr_at a.key ≡ address = ap addr_at (sym key) ∙ told in
+    let number : number_of (addr_at a.key).0 ≡ a.key = ap (λ (x : Addr). number_of x.0) same ∙ key in
+    is ∙ sym (ap (λ b. b && (number_of (addr_at a.key).0 == a.key && is_meant destination (addr_at a.key))) counted'
+    ∙ (ap (λ b. b && is_meant destination (addr_at a.key)) (eq-eqb (number_of (addr_at a.key).0) a.key number)
+    ∙ ap (λ (x : Addr). is_meant destination x) same))
+
+module _ (counted : Counted) (destination : Addr) (addresses : List Address) (history : List Row) (s : Stands addresses history)
+    (told : (address : Addr) → AreBytes 16 address.0 → addr_at (number_of address.0) ≡ address) (bytes : (number : ℕ) → AreBytes 16 (addr_at number).0) where
+  pub is_to_one : list_any (is_to counted destination) addresses ≡ true → IsTo counted history destination
+  is_to_one e =
+      let f = any_found key_of (is_to counted destination) addresses s.order e in
+      let n = f.0 in
+      let p = and_parts (counts_in counted n.stage) (number_of (addr_at n.key).0 == n.key && is_meant destination (addr_at n.key)) f.2 in
+      let q = and_parts (number_of (addr_at n.key).0 == n.key) (is_meant destination (addr_at n.key)) p.1 in
+      let number : number_of (addr_at n.key).0 ≡ n.key = eqb-true (number_of (addr_at n.key).0) n.key q.0 in
+      let st = story n.key history in
+      let by : counts counted st ≡ true =
+      counts_is counted st ∙ (sym (counted_by counted n.key (forming_of st) (has_conflict st) (was_assigned st) (sent_of st) (preferred_end st) (valid_end st) n (sym (s.each n.key) ∙ f.1)) ∙ p.0) in
+      record {
+        address = addr_at n.key;
+        bytes = bytes n.key;
+        counting = subst (λ (k : ℕ). counts counted (story k history) ≡ true) (sym number) by;
+        to = meant destination (addr_at n.key) q.1;
+      }
+
+  pub one_is_to : IsTo counted history destination → list_any (is_to counted destination) addresses ≡ true
+  one_is_to to =
+      let key = number_of to.address.0 in
+      let st = story key history in
+      let k = kept_by counted key (forming_of st) (has_conflict st) (was_assigned st) (sent_of st) (preferred_end st) (valid_end st) (sym (counts_is counted st) ∙ to.counting) in
+      let same : addr_at k.0.key ≡ to.address = ap addr_at k.3 ∙ told to.address to.bytes in
+      let number : number_of (addr_at k.0.key).0 ≡ k.0.key = ap (λ (a : Addr). number_of a.0) same ∙ sym k.3 in
+      let means : is_meant destination (addr_at k.0.key) ≡ true = ap (λ (a : Addr). is_meant destination a) same ∙ is_meant_by destination to.address to.to in
+      found_any key_of (is_to counted destination) key addresses k.0 (s.each key ∙ k.1)
+      (and_from (counts_in counted k.0.stage) (number_of (addr_at k.0.key).0 == k.0.key && is_meant destination (addr_at k.0.key)) k.2
+      (and_from (number_of (addr_at k.0.key).0 == k.0.key) (is_meant destination (addr_at k.0.key)) (eq-eqb (number_of (addr_at k.0.key).0) k.0.key number) means))
