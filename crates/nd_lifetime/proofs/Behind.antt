@@ -9,7 +9,7 @@ use Rattle.nd_lifetime.proofs.Finding.{Tells, end_in-renewed, end_in-without, en
 use Rattle.nd_lifetime.proofs.Steps.{AllOpen, AllOpen-open, AllOpen-announced}
 
 module _ {K : Type 0} (same : K → K → Bool) (tells : Tells same) where
-  open_all : (es : List (Lasting K)) (now : ℕ) → AllOpen same tells es now → open_at now es ≡ es
+  pub open_all : (es : List (Lasting K)) (now : ℕ) → AllOpen same tells es now → open_at now es ≡ es
   open_all [] now h = refl
   open_all (e ∷ es) now h = cond-true (is_before now e.end) (e ∷ open_at now es) (open_at now es) h.0 ∙ ap (λ (xs : List (Lasting K)). e ∷ xs) (open_all es now h.1)
 

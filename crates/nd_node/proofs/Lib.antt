@@ -8,3 +8,5 @@ pub mod Released
 pub mod Saying
 pub mod Steps
 pub mod Rows
+pub mod Ours
+pub mod NextHops

@@ -5,6 +5,8 @@ pub mod Turned
 pub mod Node
 pub mod Told
 pub mod Time
+pub mod ForUs
+pub mod FirstHop
 pub mod LinkLayerAddress
 pub mod Hearing
 pub mod Event

@@ -5,6 +5,8 @@
 mod draw;
 mod due;
 mod event;
+mod first_hop;
+mod for_us;
 mod link_layer_address;
 mod lost_hop;
 mod node;

@@ -1,0 +1,115 @@
+-- The next hop by what a node keeps is that of the chronicle.
+use Rattle.std.proofs.Common.{◌≡◌, ◌<◌, ◌≤◌, ℕ, Bool, true, false, List, [], ◌∷◌, map, Option, Some, None, refl, sym, ◌∙◌, ap, arith}
+use Rattle.std.specs.Prelude.{◌||◌, ◌+◌, IsTrue, is_some, if◌then◌else◌, bytes_eq}
+use Rattle.std.proofs.lemmas.Bool.Decides.{eqb_tells}
+use Rattle.std.proofs.lemmas.Bool.{lt-ltb}
+use Rattle.nd_addr.specs.declared.addr.Addr.{Addr}
+use Rattle.nd_addr.specs.Kind.{multicast_prefix, unspecified_address, loopback_address}
+use Rattle.nd_addr.specs.Number.{number_of, holds}
+use Rattle.nd_lifetime.specs.declared.lasting.Lasting.{Lasting}
+use Rattle.nd_lifetime.specs.Listing.{Lists, open_at}
+use Rattle.nd_lifetime.specs.Same.{same_prefix}
+use Rattle.nd_lifetime.proofs.Behind.{open_all}
+use Rattle.nd_lifetime.proofs.Steps.{lists_at}
+use Rattle.nd_neighbour.specs.Entry.{Node, known_mac}
+use Rattle.nd_neighbour.specs.History as neighbour_rows
+use Rattle.nd_neighbour.specs.Story.{is_present, mac_of, stage_by, node_of}
+use Rattle.nd_neighbour.specs.Table as neighbours
+use Rattle.nd_neighbour.specs.Due as neighbour_dates
+use Rattle.nd_slaac.specs.Dates as address_dates
+use Rattle.nd_params.specs.History.{redraw_after}
+use Rattle.nd_routers.specs.History.{announcements}
+use Rattle.nd_routers.specs.OnLink.{is_held}
+use Rattle.nd_routers.specs.DefaultRouterSelection.{place_among}
+use Rattle.nd_routers.specs.Routers as routers
+use Rattle.nd_routers.specs.Routers.{same}
+use Rattle.nd_routers.proofs.Settled.{open_each}
+use Rattle.nd_table.specs.Ends.{is_before}
+use Rattle.nd_nexthop.specs.DefaultRouter.{DefaultRouter}
+use Rattle.nd_nexthop.specs.History.{kept}
+use Rattle.nd_nexthop.specs.NextHop.{NextHop, hop, direct, no_route, unless_redirected, by_router}
+use Rattle.nd_nexthop.specs.DefaultRouter.{chosen_router}
+use Rattle.nd_slaac.specs.declared.destination.Counted.TheVariants.{Own}
+use Rattle.nd_slaac.specs.Destination.{counted_in}
+use Rattle.nd_slaac.specs.Table.{address_in}
+use Rattle.nd_slaac.proofs.Destinations.{counted_by_history}
+use Rattle.rand_core.specs.Stream.{Stream}
+use Rattle.nd_chronicle.specs.Start.{Start}
+use Rattle.nd_chronicle.specs.Happening.{Chronicle, last_moment}
+use Rattle.nd_chronicle.specs.Histories.{neighbour_history, router_history, prefix_history, address_history, redirect_history}
+use Rattle.nd_chronicle.specs.NextHop.{candidate, AreRouters, IsNextHop}
+use Rattle.nd_chronicle.specs.OwnAddress.{is_own}
+use Rattle.nd_node.specs.declared.node.Node as nodes
+use Rattle.nd_node.specs.Moments.{earlier}
+use Rattle.nd_node.specs.RouterSolicitations.{next_solicitation}
+use Rattle.nd_node.specs.FirstHop.{is_resolved, candidate_in, candidates_in}
+use Rattle.nd_node.specs.Node.{Stands, next_of}
+
+-- ---- a router in any state other than INCOMPLETE
+
+absent_unknown : (s : neighbour_rows.Story) → is_present s ≡ false → mac_of s ≡ None
+absent_unknown [] h = refl
+absent_unknown ((at, neighbour_rows.Given mac mark) ∷ s) h = let never : ⊥ = cc in absurd never
+absent_unknown ((at, neighbour_rows.Asked retrans) ∷ s) h = let never : ⊥ = cc in absurd never
+absent_unknown ((at, neighbour_rows.Advertised flags mac reachable) ∷ s) h = rw h refl
+absent_unknown ((at, neighbour_rows.Marked router) ∷ s) h = absent_unknown s h
+absent_unknown ((at, neighbour_rows.Solicited) ∷ s) h = absent_unknown s h
+absent_unknown ((at, neighbour_rows.Waits packet) ∷ s) h = absent_unknown s h
+absent_unknown ((at, neighbour_rows.Used retrans) ∷ s) h = absent_unknown s h
+absent_unknown ((at, neighbour_rows.Probed) ∷ s) h = absent_unknown s h
+absent_unknown ((at, neighbour_rows.Confirmed reachable) ∷ s) h = absent_unknown s h
+absent_unknown ((at, neighbour_rows.Forgot cause) ∷ s) h = absent_unknown s h
+
+resolved_story : (key : ℕ) (s : neighbour_rows.Story) (present : Bool) → is_present s ≡ present → (known : Option ℕ) → mac_of s ≡ known → is_resolved (node_of key s) ≡ is_some (mac_of s)
+resolved_story key s false h known k = rw (h, absent_unknown s h) refl
+resolved_story key s true h None k = rw (h, k) refl
+resolved_story key s true h (Some mac) k = rw (h, k) refl
+
+resolved_by_history : (key : ℕ) (kept : List Node) (history : List neighbour_rows.Row) → neighbours.Stands kept history
+    → is_resolved (neighbours.node_in key kept) ≡ is_some (mac_of (neighbour_rows.story key history))
+resolved_by_history key kept history s =
+    let st = neighbour_rows.story key history in
+    ap is_resolved (s.each key) ∙ resolved_story key st (is_present st) refl (mac_of st) refl
+
+candidates_are : (c : Chronicle) (kept : List Node) (failed : List ℕ) (entries : List (Lasting ℕ)) → neighbours.Stands kept (neighbour_history c)
+    → map (λ key. candidate_in kept failed key) (routers.keys entries) ≡ map (λ (e : Lasting ℕ). candidate c failed e.key) entries
+candidates_are c kept failed [] s = refl
+candidates_are c kept failed (e ∷ entries) s =
+    ap (λ (u : Bool). record { key = e.key; usable = u; failed = place_among e.key failed } ∷ map (λ key. candidate_in kept failed key) (routers.keys entries)) (resolved_by_history e.key kept (neighbour_history c) s)
+    ∙ ap (λ (l : List DefaultRouter). candidate c failed e.key ∷ l) (candidates_are c kept failed entries s)
+
+-- the next hop asks only whether the destination itself is an own address
+hop_by_own : (own own' linked : List ℕ → Bool) (candidates : List DefaultRouter) (redirect : Option ℕ) (address : List ℕ) → own address ≡ own' address
+    → hop own linked candidates redirect address ≡ hop own' linked candidates redirect address
+hop_by_own own own' linked candidates redirect address is =
+    ap (λ (b : Bool). if bytes_eq address unspecified_address || bytes_eq address loopback_address || b then no_route
+    else (if holds multicast_prefix address then direct
+    else unless_redirected redirect (number_of address) (if linked address then direct else by_router (chosen_router candidates)))) is
+
+before_next : (end : Option ℕ) (rest now : ℕ) → now < earlier end rest → IsTrue (is_before now end)
+before_next None rest now lt = refl
+before_next (Some end) rest now lt = lt-ltb now end (omega (arith, lt))
+
+module _ {R A : Type 0} (stream : R → Stream) (start : Start) (node : nodes.Node R A) (c : Chronicle) (now : ℕ) (s : Stands stream start node c) (le : last_moment start.at c ≤ now) (settled : now < next_of node) where
+  -- no router's lifetime has ended
+  open_routers : open_at now node.routers.entries ≡ node.routers.entries
+  open_routers = open_all same eqb_tells node.routers.entries now (open_each node.routers.entries now
+      (before_next (routers.next_end node.routers.entries) (earlier (address_dates.next_in node.addresses.addresses) (earlier (neighbour_dates.next_in node.neighbours.nodes) (earlier (next_solicitation node.role node.solicitations) (node.params.drawn_at + redraw_after)))) now settled))
+
+  pub next_hop_is : (destination : Addr) (next : NextHop)
+      → next ≡ hop (λ (a : List ℕ). counted_in Own (address_in (number_of a) node.addresses.addresses)) (λ (a : List ℕ). is_held a (open_at now node.prefixes)) (candidates_in node.neighbours.nodes node.routers) (kept (number_of destination.0) (redirect_history c)) destination.0
+      → IsNextHop c now destination next
+  next_hop_is destination next is = record {
+    prefixes = open_at now node.prefixes;
+    standing = s.prefixes.lists now (omega (arith, s.prefixes_by_then, le));
+    routers = candidates_in node.neighbours.nodes node.routers;
+    those = record {
+      entries = node.routers.entries;
+      listed = rw (sym open_routers) (lists_at same eqb_tells node.routers.entries (announcements (router_history c)) now s.routers.routers);
+      failed = node.routers.failed;
+      failures = s.routers.failures;
+      routers_are = candidates_are c node.neighbours.nodes node.routers.failed node.routers.entries s.neighbours;
+    };
+    next_is = is ∙ hop_by_own (λ (a : List ℕ). counted_in Own (address_in (number_of a) node.addresses.addresses)) (is_own c) (λ (a : List ℕ). is_held a (open_at now node.prefixes)) (candidates_in node.neighbours.nodes node.routers) (kept (number_of destination.0) (redirect_history c)) destination.0
+        (counted_by_history Own (number_of destination.0) node.addresses.addresses (address_history c) s.addresses);
+  }
