@@ -7,6 +7,9 @@ pub mod Walks
 pub mod Released
 pub mod Saying
 pub mod Steps
+pub mod Beside
+pub mod Standing
+pub mod Advertisements
 pub mod Rows
 pub mod Ours
 pub mod NextHops

@@ -90,11 +90,14 @@ before_next : (end : Option ℕ) (rest now : ℕ) → now < earlier end rest →
 before_next None rest now lt = refl
 before_next (Some end) rest now lt = lt-ltb now end (omega (arith, lt))
 
+-- no router's lifetime has ended at a node at which nothing is due
+pub settled_routers : {R A : Type 0} (node : nodes.Node R A) (now : ℕ) → now < next_of node → routers.IsSettled node.routers.entries now
+settled_routers node now settled =
+    before_next (routers.next_end node.routers.entries) (earlier (address_dates.next_in node.addresses.addresses) (earlier (neighbour_dates.next_in node.neighbours.nodes) (earlier (next_solicitation node.role node.solicitations) (node.params.drawn_at + redraw_after)))) now settled
+
 module _ {R A : Type 0} (stream : R → Stream) (start : Start) (node : nodes.Node R A) (c : Chronicle) (now : ℕ) (s : Stands stream start node c) (le : last_moment start.at c ≤ now) (settled : now < next_of node) where
-  -- no router's lifetime has ended
   open_routers : open_at now node.routers.entries ≡ node.routers.entries
-  open_routers = open_all same eqb_tells node.routers.entries now (open_each node.routers.entries now
-      (before_next (routers.next_end node.routers.entries) (earlier (address_dates.next_in node.addresses.addresses) (earlier (neighbour_dates.next_in node.neighbours.nodes) (earlier (next_solicitation node.role node.solicitations) (node.params.drawn_at + redraw_after)))) now settled))
+  open_routers = open_all same eqb_tells node.routers.entries now (open_each node.routers.entries now (settled_routers node now settled))
 
   pub next_hop_is : (destination : Addr) (next : NextHop)
       → next ≡ hop (λ (a : List ℕ). counted_in Own (address_in (number_of a) node.addresses.addresses)) (λ (a : List ℕ). is_held a (open_at now node.prefixes)) (candidates_in node.neighbours.nodes node.routers) (kept (number_of destination.0) (redirect_history c)) destination.0

@@ -83,7 +83,7 @@ too_late_is_quiet at last c = record {
 }
 
 -- one is handed out
-one_more : {A : Type 0} (xs ys : List (ℕ × Out A)) (at : ℕ) (out : Out A) → ys ≡ xs ++ (at, out) ∷ [] → happenings ys ≡ happenings xs ++ (at, happening out) ∷ []
+pub one_more : {A : Type 0} (xs ys : List (ℕ × Out A)) (at : ℕ) (out : Out A) → ys ≡ xs ++ (at, out) ∷ [] → happenings ys ≡ happenings xs ++ (at, happening out) ∷ []
 one_more xs ys at out is = ap happenings is ∙ (sym (append-nil _) ∙ handed_out xs at out [])
 
 -- ---- events

@@ -8,5 +8,7 @@ pub mod Time
 pub mod ForUs
 pub mod FirstHop
 pub mod LinkLayerAddress
+pub mod DefaultRouter
+pub mod NeighborAdvertisement
 pub mod Hearing
 pub mod Event

@@ -2,12 +2,14 @@
 //! RFC 4862, RFC 8106).
 #![tactic(auto)]
 
+mod default_router;
 mod draw;
 mod due;
 mod event;
 mod first_hop;
 mod for_us;
 mod link_layer_address;
+mod neighbor_advertisement;
 mod lost_hop;
 mod node;
 mod room;

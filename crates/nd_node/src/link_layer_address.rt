@@ -1,11 +1,11 @@
 //! What a message says of a neighbour: its link-layer address, and whether it is a router.
 
-ghost use Rattle.std.specs.Prelude.{◌≡◌, ◌+◌, ◌++◌, ◌≤◌, ◌<◌, ◌^◌, None, Some, length, map, vec_len, vec_capacity};
+ghost use Rattle.std.specs.Prelude.{◌≡◌, ◌+◌, ◌++◌, ◌≤◌, ◌<◌, ◌^◌, None, Some, IfSome, is_some, length, map, true, vec_len, vec_capacity};
 ghost use Rattle.std.specs.Option.{option_map};
 ghost use Rattle.nd_addr.specs.Frame.{addressed};
 ghost use Rattle.nd_addr.specs.Number.{number_of};
 ghost use Rattle.nd_decode.specs.Pieces.{options_left};
-ghost use Rattle.nd_neighbour.specs.News.{news_key};
+ghost use Rattle.nd_neighbour.specs.News.{lets_enter, news_key};
 ghost use Rattle.nd_neighbour.specs.Removal.{waiting_at};
 ghost use Rattle.nd_neighbour.specs.Table.{node_in};
 ghost use Rattle.nd_chronicle.specs.Happening.{Sent};
@@ -121,14 +121,11 @@ pub(crate) fn waiting_for<A: Allocator>(neighbours: &Cache<A>, news: Option<News
 }
 
 /// Packets go to an Ethernet address, the oldest first.
-fn send_each<A: Allocator>(
-    outs: &mut Vec<(u64, Out<A>), A>,
-    at: u64,
-    mac: Mac,
-    packets: Packets<A>,
-)
+fn send_each<A: Allocator>(outs: &mut Vec<(u64, Out<A>), A>, at: u64, mac: Mac, packets: Packets<A>)
     requires { vec_len outs.old + length packets ≤ vec_capacity outs.old }
-    ensures { happenings outs.new.items ≡ happenings outs.old.items ++ at_moment at (map (λ packet. Sent (addressed mac packet)) packets) }
+    ensures told { happenings outs.new.items ≡ happenings outs.old.items ++ at_moment at (map (λ packet. Sent (addressed mac packet)) packets) }
+    ensures len { vec_len outs.new ≤ vec_len outs.old + length packets }
+    ensures capacity { vec_capacity outs.new ≡ vec_capacity outs.old }
 {
     let mut rest = packets;
     while let Some(packet) = rest.take() {
@@ -150,6 +147,9 @@ fn hear_news<A: Allocator>(
     requires place { HasPlace neighbours.old.limit now (Some news) neighbours.old.nodes }
     requires room { vec_len outs.old + waiting_for (Some news) neighbours.old.nodes ≤ vec_capacity outs.old }
     ensures hears { HearsOf neighbours.old.limit now (Some (said_by times news)) neighbours.old.nodes neighbours.new.nodes outs.old.items outs.new.items result }
+    ensures there { lets_enter news ≡ true → is_some (node_in (news_key news) neighbours.new.nodes) ≡ true }
+    ensures len { vec_len outs.new ≤ vec_len outs.old + waiting_for (Some news) neighbours.old.nodes }
+    ensures capacity { vec_capacity outs.new ≡ vec_capacity outs.old }
     ensures limit { neighbours.new.limit ≡ neighbours.old.limit }
     ensures rings { neighbours.new.rings ≡ neighbours.old.rings }
 {
@@ -183,6 +183,15 @@ pub(crate) fn hear_of_neighbour<A: Allocator>(
     requires place { HasPlace neighbours.old.limit now news neighbours.old.nodes }
     requires room { vec_len outs.old + waiting_for news neighbours.old.nodes ≤ vec_capacity outs.old }
     ensures hears { HearsOf neighbours.old.limit now (option_map (said_by times) news) neighbours.old.nodes neighbours.new.nodes outs.old.items outs.new.items result }
+
+    // A neighbour whose address is given is there then, and where nothing is said none is changed.
+    ensures there { IfSome news (λ n. lets_enter n ≡ true → is_some (node_in (news_key n) neighbours.new.nodes) ≡ true) }
+    ensures unsaid { news ≡ None → neighbours.new.nodes ≡ neighbours.old.nodes }
+
+    // What else there was room for still has it.
+    ensures len { vec_len outs.new ≤ vec_len outs.old + waiting_for news neighbours.old.nodes }
+    ensures capacity { vec_capacity outs.new ≡ vec_capacity outs.old }
+
     ensures limit { neighbours.new.limit ≡ neighbours.old.limit }
     ensures rings { neighbours.new.rings ≡ neighbours.old.rings }
 {

@@ -7,6 +7,8 @@ use Rattle.nd_node.proofs.link_layer_address.send_each.Given as goal
 abbrev pub invariant-loop-packet : goal.invariant-loop-packet
 invariant-loop-packet g l = record {
   room : vec_len l.outs + length l.rest ≤ vec_capacity l.outs;
+  len : vec_len l.outs + length l.rest ≤ vec_len l.fn.outs + length l.fn.packets;
+  capacity : vec_capacity l.outs ≡ vec_capacity l.fn.outs;
   told : happenings l.outs.items ++ sent_at l.at l.mac l.rest ≡ happenings l.fn.outs.items ++ sent_at l.fn.at l.fn.mac l.fn.packets;
 }
 

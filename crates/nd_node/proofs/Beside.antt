@@ -1,0 +1,154 @@
+-- Where neighbours and own addresses alone have more rows, the other tables stand for the same.
+use Rattle.std.proofs.Common.{◌≡◌, ℕ, ◌≤◌, ◌∷◌, List, refl, sym, ◌∙◌, ap, arith}
+use Rattle.rand_core.specs.Stream.{Stream}
+use Rattle.nd_neighbour.specs.History.{RowKind}
+use Rattle.nd_neighbour.specs.Table as neighbours
+use Rattle.nd_neighbour.specs.Due as neighbour_dates
+use Rattle.nd_routers.specs.History.{RouterRow}
+use Rattle.nd_nexthop.specs.History.{RedirectRow}
+use Rattle.nd_slaac.specs.Table as addresses
+use Rattle.nd_slaac.specs.Dates as address_dates
+use Rattle.nd_chronicle.specs.Start.{Start, link_local_key}
+use Rattle.nd_chronicle.specs.Happening.{Chronicle, Neighbour, Sent, last_moment}
+use Rattle.nd_chronicle.specs.Histories.{parameter_history, neighbour_history, router_history, prefix_history, address_history, server_history, name_history, redirect_history, then_failed, then_target}
+use Rattle.nd_chronicle.specs.Generator.{stream_left}
+use Rattle.nd_chronicle.specs.Due.{solicited_routers, assigned_at}
+use Rattle.nd_node.specs.declared.node.Node.{Node}
+use Rattle.nd_node.specs.Node.{Stands, next_of}
+use Rattle.nd_node.proofs.Quiet.{Quiet}
+use Rattle.nd_node.proofs.Turns.{all_later, routers_before, addresses_before, neighbours_before, solicitation_before, redraw_before}
+
+-- ---- the chronicle
+
+-- what happened between the two concerns the neighbours and the own addresses alone, assigned none of these, and drew nothing
+pub record Beside (c d : Chronicle) : Type 0 where
+  pub parameters : parameter_history d ≡ parameter_history c
+  pub routers : router_history d ≡ router_history c
+  pub prefixes : prefix_history d ≡ prefix_history c
+  pub servers : server_history d ≡ server_history c
+  pub names : name_history d ≡ name_history c
+  pub redirects : redirect_history d ≡ redirect_history c
+  pub assigned : (key : ℕ) → assigned_at key (address_history d) ≡ assigned_at key (address_history c)
+  pub solicited : solicited_routers d ≡ solicited_routers c
+  pub stream : (start : Start) → stream_left start d ≡ stream_left start c
+
+pub beside_quiet : (c d : Chronicle) → Quiet c d → Beside c d
+beside_quiet c d q = record {
+  parameters = q.parameters;
+  routers = q.routers;
+  prefixes = q.prefixes;
+  servers = q.servers;
+  names = q.names;
+  redirects = q.redirects;
+  assigned = λ key. ap (assigned_at key) q.addresses;
+  solicited = q.solicited;
+  stream = q.stream;
+}
+
+pub beside_then : (c d e : Chronicle) → Beside c d → Beside d e → Beside c e
+beside_then c d e b f = record {
+  parameters = f.parameters ∙ b.parameters;
+  routers = f.routers ∙ b.routers;
+  prefixes = f.prefixes ∙ b.prefixes;
+  servers = f.servers ∙ b.servers;
+  names = f.names ∙ b.names;
+  redirects = f.redirects ∙ b.redirects;
+  assigned = λ key. f.assigned key ∙ b.assigned key;
+  solicited = f.solicited ∙ b.solicited;
+  stream = λ start. f.stream start ∙ b.stream start;
+}
+
+-- a row of a neighbour that is no failure
+pub beside_neighbour : (at key : ℕ) (kind : RowKind) (c : Chronicle)
+    → ((history : List RouterRow) → then_failed at key kind history ≡ history)
+    → ((history : List RedirectRow) → then_target at key kind history ≡ history)
+    → Beside c ((at, Neighbour key kind) ∷ c)
+beside_neighbour at key kind c routers' redirects' = record {
+  parameters = refl;
+  routers = routers' (router_history c);
+  prefixes = refl;
+  servers = refl;
+  names = refl;
+  redirects = redirects' (redirect_history c);
+  assigned = λ k. refl;
+  solicited = refl;
+  stream = λ start. refl;
+}
+
+pub beside_sent : (at : ℕ) (frame : List ℕ) (c : Chronicle) → Beside c ((at, Sent frame) ∷ c)
+beside_sent at frame c = record {
+  parameters = refl;
+  routers = refl;
+  prefixes = refl;
+  servers = refl;
+  names = refl;
+  redirects = refl;
+  assigned = λ k. refl;
+  solicited = refl;
+  stream = λ start. refl;
+}
+
+-- ---- the node
+
+-- a call changed nothing but neighbours, rings and own addresses
+pub record Same {R A : Type 0} (old new : Node R A) : Type 0 where
+  pub role : new.role ≡ old.role
+  pub mac : new.mac ≡ old.mac
+  pub generator : new.generator ≡ old.generator
+  pub last : new.last ≡ old.last
+  pub params : new.params ≡ old.params
+  pub routers : new.routers ≡ old.routers
+  pub prefixes : new.prefixes ≡ old.prefixes
+  pub dns : new.dns ≡ old.dns
+  pub choice : new.choice ≡ old.choice
+  pub solicitations : new.solicitations ≡ old.solicitations
+  pub address_mac : new.addresses.mac ≡ old.addresses.mac
+  pub neighbour_limit : new.neighbours.limit ≡ old.neighbours.limit
+
+module _ {R A : Type 0} (stream : R → Stream) (start : Start) (old new : Node R A) (c d : Chronicle) (now : ℕ)
+    (same : Same old new) (b : Beside c d) (s : Stands stream start old c) (at : last_moment start.at c ≡ now) (end : last_moment start.at d ≡ now) where
+  not_past : now ≤ next_of old
+  not_past = omega (arith, s.in_time, at)
+
+  -- the neighbours and the own addresses stand for their rows, and none is due in the past
+  pub stands_beside : addresses.Stands new.addresses.addresses (address_history d) → address_dates.NoneBefore new.addresses.addresses now
+      → neighbours.Stands new.neighbours.nodes (neighbour_history d) → neighbour_dates.NoneBefore new.neighbours.nodes now
+      → Stands stream start new d
+  stands_beside addresses' later_address neighbours' later_neighbour = record {
+    role = same.role ∙ s.role;
+    mac = same.mac ∙ s.mac;
+    address_mac = same.address_mac ∙ s.address_mac;
+    neighbour_limit = same.neighbour_limit ∙ s.neighbour_limit;
+    router_limit = rw same.routers s.router_limit;
+    params = rw (same.params, b.parameters) s.params;
+    routers = rw (same.routers, b.routers) s.routers;
+    prefixes = rw (same.prefixes, b.prefixes) s.prefixes;
+    addresses = addresses';
+    neighbours = neighbours';
+    dns = rw (same.dns, b.servers, b.names) s.dns;
+    redirects = rw (same.choice, b.redirects) s.redirects;
+    solicitations = rw same.solicitations (record {
+      assigned = s.solicitations.assigned ∙ sym (b.assigned (link_local_key start));
+      sent = s.solicitations.sent ∙ sym b.solicited;
+      heard = rw b.parameters s.solicitations.heard;
+    });
+    generator = ap stream same.generator ∙ (s.generator ∙ sym (b.stream start));
+    last = same.last ∙ (s.last ∙ (at ∙ sym end));
+    prefixes_by_then = rw (b.prefixes, end) (omega (arith, s.prefixes_by_then, at));
+    servers_by_then = rw (b.servers, end) (omega (arith, s.servers_by_then, at));
+    names_by_then = rw (b.names, end) (omega (arith, s.names_by_then, at));
+    in_time = rw end (all_later new now (rw same.routers (routers_before old now not_past)) later_address later_neighbour
+        (rw (same.role, same.solicitations) (solicitation_before old now not_past)) (rw same.params (redraw_before old now not_past)));
+  }
+
+  -- rows of neighbours alone
+  pub stands_neighbours : new.addresses ≡ old.addresses → address_history d ≡ address_history c
+      → neighbours.Stands new.neighbours.nodes (neighbour_history d) → neighbour_dates.NoneBefore new.neighbours.nodes now → Stands stream start new d
+  stands_neighbours is own neighbours' later =
+      stands_beside (rw (is, own) s.addresses) (rw is (addresses_before old now not_past)) neighbours' later
+
+  -- rows of own addresses alone
+  pub stands_addresses : new.neighbours ≡ old.neighbours → neighbour_history d ≡ neighbour_history c
+      → addresses.Stands new.addresses.addresses (address_history d) → address_dates.NoneBefore new.addresses.addresses now → Stands stream start new d
+  stands_addresses is others addresses' later =
+      stands_beside addresses' later (rw (is, others) s.neighbours) (rw is (neighbours_before old now not_past))

@@ -1,0 +1,119 @@
+ghost use Rattle.std.specs.Prelude.{◌≡◌, ◌+◌, ◌<◌, ◌≤◌, ◌^◌, OnOk, OnErr, ℕ, vec_len, vec_capacity};
+ghost use Rattle.nd_addr.specs.Number.{number_of};
+ghost use Rattle.nd_decode.specs.Pieces.{options_left};
+ghost use Rattle.nd_decode.specs.declared.body.Body.TheVariants as bodies;
+ghost use Rattle.nd_routers.specs.Routers.{IsSettled};
+ghost use Rattle.nd_node.specs.Hearing.{AddsMessage};
+ghost use Rattle.nd_node.specs.NeighborAdvertisement.{Conflicts, Leaves};
+
+use crate::link_layer_address::{hear_of_neighbour, news_of, waiting_for};
+use crate::node::Node;
+use nd_addr::Addr;
+use nd_decode::{Body, NeighborAdvertisement, Options};
+use nd_neighbour::Times;
+use nd_nexthop::Choice;
+use nd_out::Out;
+use nd_routers::Routers;
+use nd_slaac::Addresses;
+use rand_core::Rng;
+use std::alloc::{AllocError, Allocator};
+
+/// How many places an advertisement takes beside those of the packets that it releases: one for what is heard, one for a duplicate
+/// address, and one for a router that leaves the list.
+const MOST_ADVERTISED: usize = 3;
+
+/// Another node has an address: it is a duplicate from now on where it is tentative, and that is told (RFC 4862, section 5.4.4).
+fn hear_holder<A: Allocator>(
+    addresses: &mut Addresses<A>,
+    now: u64,
+    target: Addr,
+    outs: &mut Vec<(u64, Out<A>), A>,
+) -> bool
+    requires { vec_len outs.old + 1 ≤ vec_capacity outs.old }
+    ensures conflicts { Conflicts now (number_of target.0) addresses.old.addresses addresses.new.addresses outs.old.items outs.new.items result }
+    ensures mac { addresses.new.mac ≡ addresses.old.mac }
+    ensures len { vec_len outs.new ≤ vec_len outs.old + 1 }
+    ensures capacity { vec_capacity outs.new ≡ vec_capacity outs.old }
+{
+    if addresses.conflict(target) {
+        outs.push_reserved((now, Out::Duplicate(target)));
+        return true;
+    }
+    false
+}
+
+/// A neighbour that is no router any more leaves the list where it stands there, the redirects to it end, and that is told (RFC 4861,
+/// section 7.2.5).
+fn end_router<A: Allocator>(
+    routers: &mut Routers<A>,
+    choice: &mut Choice<A>,
+    now: u64,
+    addr: Addr,
+    ends: bool,
+    outs: &mut Vec<(u64, Out<A>), A>,
+) -> bool
+    requires room { vec_len outs.old + 1 ≤ vec_capacity outs.old }
+    ensures leaves { Leaves now (number_of addr.0) ends routers.old routers.new choice.old choice.new outs.old.items outs.new.items result }
+    ensures settled { (moment : ℕ) → IsSettled routers.old.entries moment → IsSettled routers.new.entries moment }
+    ensures limit { routers.new.limit ≡ routers.old.limit }
+{
+    if !ends {
+        return false;
+    }
+    if !routers.holds(now, addr) {
+        return false;
+    }
+    routers.ended(addr);
+    choice.target_gone(addr);
+    outs.push_reserved((now, Out::EndedRouter(addr)));
+    true
+}
+
+impl<R: Rng + Drop, A: Allocator + Clone> Node<R, A> {
+    ghost use Rattle.nd_node.specs.Node.{next_of};
+
+    /// A Neighbor Advertisement is heard at a moment, in milliseconds: its target is a duplicate if it is a tentative own address, what it
+    /// says of the neighbour is taken and releases what waits, and a router that is none any more leaves the list (RFC 4861, section
+    /// 7.2.5; RFC 4862, section 5.4.4). The error is want of memory, and then nothing has changed.
+    pub(crate) fn hear_neighbor_advertisement(
+        &mut self,
+        now: u64,
+        source: Addr,
+        destination: Addr,
+        na: &NeighborAdvertisement,
+        options: Options<'_>,
+        outs: &mut Vec<(u64, Out<A>), A>,
+    ) -> Result<(), AllocError>
+        requires moment { now < 2 ^ 62 }
+        requires settled { now < next_of self.old }
+        ensures adds { OnOk result (AddsMessage R.stream self.old self.new outs.old.items outs.new.items now source destination (record { body = bodies.Na na.now; options = options_left options.entry })) }
+        ensures keeps { OnErr result (self.new ≡ self.old) }
+        ensures told { OnErr result (outs.new.items ≡ outs.old.items) }
+    {
+        nd_neighbour::laws::none_overdue();
+        nd_neighbour::laws::one_is_pushed_out();
+        nd_slaac::laws::none_overdue();
+        let body = Body::Na(*na);
+        let news = news_of(source, &body, options);
+        let waiting = waiting_for(&self.neighbours, news);
+        let places = waiting.checked_add(MOST_ADVERTISED).ok_or(AllocError)?;
+        outs.reserve(places)?;
+        self.last = now;
+        outs.push_reserved((
+            now,
+            Out::Heard {
+                source,
+                destination,
+                body,
+            },
+        ));
+        hear_holder(&mut self.addresses, now, na.target, outs);
+        let times = Times {
+            retrans: self.params.retrans_timer(),
+            reachable: self.params.reachable_time(),
+        };
+        let ends = hear_of_neighbour(&mut self.neighbours, now, news, times, outs);
+        end_router(&mut self.routers, &mut self.choice, now, na.target, ends, outs);
+        Ok(())
+    }
+}
