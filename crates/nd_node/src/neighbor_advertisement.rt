@@ -113,7 +113,14 @@ impl<R: Rng + Drop, A: Allocator + Clone> Node<R, A> {
             reachable: self.params.reachable_time(),
         };
         let ends = hear_of_neighbour(&mut self.neighbours, now, news, times, outs);
-        end_router(&mut self.routers, &mut self.choice, now, na.target, ends, outs);
+        end_router(
+            &mut self.routers,
+            &mut self.choice,
+            now,
+            na.target,
+            ends,
+            outs,
+        );
         Ok(())
     }
 }

@@ -1,4 +1,4 @@
-ghost use Rattle.std.specs.Prelude.{◌≡◌, ◌≢◌, ◌+◌, ◌<◌, ◌^◌, ℕ, Some, true, false};
+ghost use Rattle.std.specs.Prelude.{◌≡◌, ◌≢◌, ◌+◌, ◌<◌, ◌==◌, ◌||◌, ◌^◌, not, ℕ, Some, true, false};
 ghost use Rattle.nd_node.specs.RouterSolicitations.{next_solicitation};
 ghost use Rattle.nd_chronicle.specs.Due.{max_rtr_solicitations};
 
@@ -72,6 +72,16 @@ impl RouterSolicitations {
         ensures { self.new ≡ record self.old { assigned = Some now } }
     {
         self.assigned = Some(now);
+    }
+
+    /// A Router Advertisement is heard, with a lifetime in seconds: that of a router ends them, and where it is 0 it is none (RFC 4861,
+    /// section 6.3.7).
+    pub(crate) fn heard_router(&mut self, lifetime: u16)
+        ensures { self.new ≡ record self.old { heard = not (lifetime == 0) || self.old.heard } }
+    {
+        if lifetime != 0 {
+            self.heard = true;
+        }
     }
 
     /// Whether one is due at a moment, in milliseconds. One more is sent then.

@@ -1,0 +1,590 @@
+-- What a Router Advertisement does to a node: the one place where its tables meet.
+use Rattle.std.proofs.Common.{◌≡◌, ℕ, ◌+◌, ◌*◌, ◌<◌, ◌≤◌, Bool, true, false, List, [], ◌∷◌, ◌++◌, append-nil, Option, Some, None, refl, sym, ◌∙◌, ap, subst, cond, arith}
+use Rattle.std.specs.Prelude.{◌==◌, ◌&&◌, ◌||◌, ◌↔◌, not, nat_lt, if◌then◌else◌}
+use Rattle.std.specs.Option.{option_map}
+use Rattle.std.specs.List.{flat_map}
+use Rattle.rand_core.specs.Stream.{Stream}
+use Rattle.nd_addr.specs.declared.addr.Addr.{Addr}
+use Rattle.nd_addr.specs.declared.role.Role.{Role}
+use Rattle.nd_addr.specs.declared.role.Role.TheVariants.{Host, Router}
+use Rattle.nd_addr.specs.Kind.{multicast_prefix}
+use Rattle.nd_addr.specs.Number.{number_of, holds}
+use Rattle.nd_addr.specs.Prefix.{PrefixValue}
+use Rattle.nd_decode.specs.Option.{Said}
+use Rattle.nd_decode.specs.declared.prefix_info.PrefixInfo.{PrefixInfo}
+use Rattle.nd_decode.specs.declared.router_advertisement.RouterAdvertisement.{RouterAdvertisement}
+use Rattle.nd_table.specs.Due.{NotBefore}
+use Rattle.nd_table.specs.Ends.{is_before}
+use Rattle.nd_lifetime.specs.History as lifetimes
+use Rattle.nd_lifetime.specs.Listing as lists
+use Rattle.nd_lifetime.specs.Listing.{then_announced}
+use Rattle.nd_lifetime.specs.Same.{same_prefix}
+use Rattle.nd_params.specs.History as parameter_rows
+use Rattle.nd_params.specs.History.{last_draw, redraw_after}
+use Rattle.nd_params.specs.Params as parameters
+use Rattle.nd_params.specs.Params.{redraws}
+use Rattle.nd_neighbour.specs.History as neighbour_rows
+use Rattle.nd_neighbour.specs.Due as neighbour_dates
+use Rattle.nd_neighbour.specs.Table as cache
+use Rattle.nd_routers.specs.History as router_rows
+use Rattle.nd_routers.specs.History.{announcements}
+use Rattle.nd_routers.specs.Routers as router_list
+use Rattle.nd_routers.specs.Routers.{same}
+use Rattle.nd_routers.specs.PrefixOptions as on_link
+use Rattle.nd_slaac.specs.History as address_rows
+use Rattle.nd_slaac.specs.History.{Lifetimes}
+use Rattle.nd_slaac.specs.Due as address_due
+use Rattle.nd_slaac.specs.Dates as address_dates
+use Rattle.nd_slaac.specs.Address.{Address}
+use Rattle.nd_slaac.specs.Table as addresses
+use Rattle.nd_slaac.specs.State.{is_known}
+use Rattle.nd_slaac.specs.PrefixOption.{is_taken, named_by, lifetimes_of, prefixes_in}
+use Rattle.nd_dns.specs.Dns as known
+use Rattle.nd_dns.specs.Names.{names_told}
+use Rattle.nd_dns.specs.Servers.{servers_told}
+use Rattle.nd_nexthop.specs.History as redirect_rows
+use Rattle.nd_nexthop.specs.Choice as choice
+use Rattle.nd_chronicle.specs.Start.{Start, link_local_key}
+use Rattle.nd_chronicle.specs.Happening as happenings
+use Rattle.nd_chronicle.specs.Happening.{Chronicle, Happening, Passed, Heard, last_moment}
+use Rattle.nd_chronicle.specs.Histories.{parameter_history, neighbour_history, router_history, prefix_history, address_history, server_history, name_history, redirect_history, given_or_marked, then_neighbour}
+use Rattle.nd_chronicle.specs.LinkLayerAddress.{first_slla}
+use Rattle.nd_chronicle.specs.InForce.{base_reachable_time}
+use Rattle.nd_chronicle.specs.Generator.{stream_left}
+use Rattle.nd_chronicle.specs.OwnAddress.{story_of}
+use Rattle.nd_chronicle.specs.Due.{solicited_routers, assigned_at, max_rtr_solicitations, rtr_solicitation_interval, is_host}
+use Rattle.nd_chronicle.specs.Due as chronicle_due
+use Rattle.nd_chronicle.specs.Message.{releasing, leaving}
+use Rattle.nd_chronicle.specs.RouterAdvertisement.{redrawing, with_delay, forming, naming, then_option, then_options, times_out}
+use Rattle.nd_chronicle.specs.Told.{lines_of, text}
+use Rattle.nd_out.specs.declared.out.Out.{Out}
+use Rattle.nd_node.specs.declared.node.Node.{Node}
+use Rattle.nd_node.specs.DefaultRouter.{with_left, with_gone}
+use Rattle.nd_node.specs.LinkLayerAddress.{PreparesFor, released_frames, HearsOf}
+use Rattle.nd_node.specs.LinkParameters.{then_parameters, HearsParameters}
+use Rattle.nd_node.specs.Node.{Stands, next_of}
+use Rattle.nd_node.specs.PrefixOptions.{Forms}
+use Rattle.nd_node.specs.RouterAdvertisement.{left_told, advertised, Advertises, TakesAdvertisement}
+use Rattle.nd_node.specs.RouterSolicitations as soliciting
+use Rattle.nd_node.specs.RouterSolicitations.{Solicitations, next_solicitation}
+use Rattle.nd_node.specs.Told.{at_moment, Tells}
+use Rattle.nd_node.specs.Told as told
+use Rattle.nd_node.proofs.Quiet.{Quiet}
+use Rattle.nd_node.proofs.Saying.{OneGoes, OverdueByTable, NoneOverdueStill, Placed, placed_by, none_before_said, releasing_is_quiet, releasing_text, released_kept}
+use Rattle.nd_node.proofs.Telling.{Tells-then}
+use Rattle.nd_node.proofs.Turns.{all_later, addresses_before, neighbours_before, solicitation_before, redraw_before}
+
+-- laws of the own addresses
+abbrev pub AddressesOverdue : Type 0
+AddressesOverdue = (table : List Address) (history : List address_rows.Row) (now : ℕ) → addresses.Stands table history → address_dates.NoneBefore table now ↔ address_due.NoneOverdue history now
+
+abbrev pub AddressesStill : Type 0
+AddressesStill = (history : List address_rows.Row) (now key : ℕ) (kind : address_rows.RowKind) → address_due.NoneOverdue history now → address_due.NoneOverdue ((now, key, kind) ∷ history) now
+
+-- ---- what the prefix options leave as it was
+
+module _ (now : ℕ) (still : AddressesStill) where
+  record Beside (c d : Chronicle) : Type 0 where
+    parameters : parameter_history d ≡ parameter_history c
+    neighbours : neighbour_history d ≡ neighbour_history c
+    routers : router_history d ≡ router_history c
+    prefixes : prefix_history d ≡ prefix_history c
+    servers : server_history d ≡ server_history c
+    names : name_history d ≡ name_history c
+    redirects : redirect_history d ≡ redirect_history c
+    solicited : solicited_routers d ≡ solicited_routers c
+    assigned : (key : ℕ) → assigned_at key (address_history d) ≡ assigned_at key (address_history c)
+    in_time : address_due.NoneOverdue (address_history c) now → address_due.NoneOverdue (address_history d) now
+    last : ((at : ℕ) → last_moment at c ≡ now) → (at : ℕ) → last_moment at d ≡ now
+    text : text d ≡ text c
+
+  beside_same : (c : Chronicle) → Beside c c
+  beside_same c = record {
+    parameters = refl;
+    neighbours = refl;
+    routers = refl;
+    prefixes = refl;
+    servers = refl;
+    names = refl;
+    redirects = refl;
+    solicited = refl;
+    assigned = λ key. refl;
+    in_time = λ h. h;
+    last = λ h. h;
+    text = refl;
+  }
+
+  beside_then : {c d e : Chronicle} → Beside c d → Beside d e → Beside c e
+  beside_then x y = record {
+    parameters = y.parameters ∙ x.parameters;
+    neighbours = y.neighbours ∙ x.neighbours;
+    routers = y.routers ∙ x.routers;
+    prefixes = y.prefixes ∙ x.prefixes;
+    servers = y.servers ∙ x.servers;
+    names = y.names ∙ x.names;
+    redirects = y.redirects ∙ x.redirects;
+    solicited = y.solicited ∙ x.solicited;
+    assigned = λ key. y.assigned key ∙ x.assigned key;
+    in_time = λ h. y.in_time (x.in_time h);
+    last = λ h. y.last (x.last h);
+    text = y.text ∙ x.text;
+  }
+
+  delay_beside : (start : Start) (to_all : Bool) (c : Chronicle) → Beside c (with_delay start now to_all c)
+  delay_beside start true c = record {
+    parameters = refl;
+    neighbours = refl;
+    routers = refl;
+    prefixes = refl;
+    servers = refl;
+    names = refl;
+    redirects = refl;
+    solicited = refl;
+    assigned = λ key. refl;
+    in_time = λ h. h;
+    last = λ h at. refl;
+    text = append-nil (text c);
+  }
+  delay_beside start false c = beside_same c
+
+  formed_beside : (key delay retrans : ℕ) (lifetimes : Option Lifetimes) (c : Chronicle) → Beside c ((now, happenings.Address key (address_rows.Formed delay retrans lifetimes)) ∷ c)
+  formed_beside key delay retrans lifetimes c = record {
+    parameters = refl;
+    neighbours = refl;
+    routers = refl;
+    prefixes = refl;
+    servers = refl;
+    names = refl;
+    redirects = refl;
+    solicited = refl;
+    assigned = λ key. refl;
+    in_time = λ h. still (address_history c) now key (address_rows.Formed delay retrans lifetimes) h;
+    last = λ h at. refl;
+    text = append-nil (text c);
+  }
+
+  announced_beside : (key : ℕ) (lifetimes : Lifetimes) (c : Chronicle) → Beside c ((now, happenings.Address key (address_rows.Announced lifetimes)) ∷ c)
+  announced_beside key lifetimes c = record {
+    parameters = refl;
+    neighbours = refl;
+    routers = refl;
+    prefixes = refl;
+    servers = refl;
+    names = refl;
+    redirects = refl;
+    solicited = refl;
+    assigned = λ key. refl;
+    in_time = λ h. still (address_history c) now key (address_rows.Announced lifetimes) h;
+    last = λ h at. refl;
+    text = append-nil (text c);
+  }
+
+  module _ (start : Start) (to_all : Bool) where
+    forming_beside : (key : ℕ) (lifetimes : Lifetimes) (c : Chronicle) → Beside c (forming start now to_all key lifetimes c)
+    forming_beside key lifetimes c = beside_then (delay_beside start to_all c) (formed_beside key _ _ (Some lifetimes) (with_delay start now to_all c))
+
+    either_beside : (b : Bool) (c d e : Chronicle) → Beside c d → Beside c e → Beside c (cond b d e)
+    either_beside true c d e x y = x
+    either_beside false c d e x y = y
+
+    naming_beside : (known : Bool) (info : PrefixInfo) (c : Chronicle) → Beside c (naming start now to_all known info c)
+    naming_beside true info c = announced_beside (named_by start.mac info) (lifetimes_of info) c
+    naming_beside false info c = either_beside (info.valid_lifetime == 0) c c _ (beside_same c) (forming_beside (named_by start.mac info) (lifetimes_of info) c)
+
+    options_beside : (infos : List PrefixInfo) (c : Chronicle) → Beside c (then_options start now to_all infos c)
+    options_beside [] c = beside_same c
+    options_beside (info ∷ infos) c =
+        let one : Beside c (then_option start now to_all info c) = either_beside (is_taken info) c _ c (naming_beside (is_known (story_of c (named_by start.mac info))) info c) (beside_same c) in
+        beside_then one (options_beside infos (then_option start now to_all info c))
+
+-- ---- the message itself, and the redraw above it
+
+module _ (start : Start) (now : ℕ) (source destination : Addr) (ra : RouterAdvertisement) (options : List Said) where
+  abbrev key : ℕ
+  key = number_of source.0
+
+  -- what it says of its sender
+  abbrev news : Option (ℕ × neighbour_rows.RowKind)
+  news = given_or_marked key (first_slla options) (Some true)
+
+  record Begun (c d : Chronicle) : Type 0 where
+    neighbours : neighbour_history d ≡ then_neighbour now news (neighbour_history c)
+    routers : router_history d ≡ router_rows.Heard now key ra.router_lifetime ∷ router_history c
+    prefixes : prefix_history d ≡ then_announced now (on_link.prefixes_in options) (prefix_history c)
+    addresses : address_history d ≡ address_history c
+    servers : server_history d ≡ then_announced now (servers_told options) (server_history c)
+    names : name_history d ≡ then_announced now (names_told options) (name_history c)
+    redirects : redirect_history d ≡ redirect_history c
+    solicited : solicited_routers d ≡ solicited_routers c
+    last : (at : ℕ) → last_moment at d ≡ now
+    text : text d ≡ text c ++ lines_of (now, Heard source destination (advertised ra options))
+
+  begun_by : (draws : Bool) (c : Chronicle) → Begun c (redrawing start now ra.reachable_time draws ((now, Heard source destination (advertised ra options)) ∷ c))
+  begun_by true c = record {
+    neighbours = refl;
+    routers = refl;
+    prefixes = refl;
+    addresses = refl;
+    servers = refl;
+    names = refl;
+    redirects = refl;
+    solicited = refl;
+    last = λ at. refl;
+    text = append-nil _;
+  }
+  begun_by false c = record {
+    neighbours = refl;
+    routers = refl;
+    prefixes = refl;
+    addresses = refl;
+    servers = refl;
+    names = refl;
+    redirects = refl;
+    solicited = refl;
+    last = λ at. refl;
+    text = refl;
+  }
+
+-- ---- a router that is timed out
+
+module _ (now key : ℕ) where
+  record Leaves (b : Bool) (c d : Chronicle) : Type 0 where
+    parameters : parameter_history d ≡ parameter_history c
+    neighbours : neighbour_history d ≡ neighbour_history c
+    routers : router_history d ≡ with_left now b key (router_history c)
+    prefixes : prefix_history d ≡ prefix_history c
+    addresses : address_history d ≡ address_history c
+    servers : server_history d ≡ server_history c
+    names : name_history d ≡ name_history c
+    redirects : redirect_history d ≡ with_gone now b key (redirect_history c)
+    solicited : solicited_routers d ≡ solicited_routers c
+    stream : (start : Start) → stream_left start d ≡ stream_left start c
+    last : ((at : ℕ) → last_moment at c ≡ now) → (at : ℕ) → last_moment at d ≡ now
+    text : text d ≡ text c ++ flat_map lines_of (at_moment now (left_told b key))
+
+  leaves_by : (b : Bool) (c : Chronicle) → Leaves b c (leaving now b key c)
+  leaves_by true c = record {
+    parameters = refl;
+    neighbours = refl;
+    routers = refl;
+    prefixes = refl;
+    addresses = refl;
+    servers = refl;
+    names = refl;
+    redirects = refl;
+    solicited = refl;
+    stream = λ start. refl;
+    last = λ h at. refl;
+    text = ap (λ (l : List ℕ). text c ++ l) (sym (append-nil _));
+  }
+  leaves_by false c = record {
+    parameters = refl;
+    neighbours = refl;
+    routers = refl;
+    prefixes = refl;
+    addresses = refl;
+    servers = refl;
+    names = refl;
+    redirects = refl;
+    solicited = refl;
+    stream = λ start. refl;
+    last = λ h. h;
+    text = sym (append-nil (text c));
+  }
+
+-- ---- dates
+
+-- where no end has come by the moment, none came before it
+settled_before : (now : ℕ) (next : Option ℕ) → is_before now next ≡ true → NotBefore now next
+settled_before now None h = tt
+settled_before now (Some end) h = grind (arith, h)
+
+-- a redraw comes as late as before, or later
+draw_later : (start : Start) (now : ℕ) (base : ℕ) (draws : Bool) (source destination : Addr) (ra : RouterAdvertisement) (options : List Said) (c : Chronicle) → now ≤ last_draw (parameter_history c) + redraw_after
+    → now ≤ last_draw (parameter_history (redrawing start now base draws ((now, Heard source destination (advertised ra options)) ∷ c))) + redraw_after
+draw_later start now base true source destination ra options c h = omega arith
+draw_later start now base false source destination ra options c h = h
+
+heard_router_by : (start : Start) (now : ℕ) (base : ℕ) (draws : Bool) (source destination : Addr) (ra : RouterAdvertisement) (options : List Said) (c : Chronicle)
+    → chronicle_due.heard_router (parameter_history (redrawing start now base draws ((now, Heard source destination (advertised ra options)) ∷ c))) ≡ (not (ra.router_lifetime == 0) || chronicle_due.heard_router (parameter_history c))
+heard_router_by start now base true source destination ra options c = refl
+heard_router_by start now base false source destination ra options c = refl
+
+-- a router that is heard makes no Router Solicitation due
+heard_later : (role : Role) (now : ℕ) (heard : Bool) (s : Solicitations) → NotBefore now (next_solicitation role s) → NotBefore now (next_solicitation role (record s { heard = heard || s.heard }))
+heard_later Router now heard s h = tt
+heard_later Host now false s h = h
+heard_later Host now true s h = none (nat_lt s.sent max_rtr_solicitations)
+  where
+    none : (few : Bool) → NotBefore now (if few && false then option_map (λ at. at + s.sent * rtr_solicitation_interval) s.assigned else None)
+    none true = tt
+    none false = tt
+
+-- the rows of announcements don't lie behind their moment
+last_announced : {K : Type 0} (now : ℕ) (announced : List (K × ℕ)) (history : List (lifetimes.Row K)) → lifetimes.last_moment history ≤ now → lifetimes.last_moment (then_announced now announced history) ≤ now
+last_announced now [] history le = le
+last_announced now ((key, lifetime) ∷ announced) history le = last_announced now announced (lifetimes.Announced now key lifetime ∷ history) (omega arith)
+
+-- ---- all tables together
+
+-- what the calls do to the tables of a node
+pub record Takes {R A : Type 0} (stream : R → Stream) (old new : Node R A) (before after : List (ℕ × Out A)) (now : ℕ) (source destination : Addr) (ra : RouterAdvertisement) (options : List Said) : Type 0 where
+  pub role : new.role ≡ old.role
+  pub mac : new.mac ≡ old.mac
+  pub last : new.last ≡ now
+  -- what the generator will answer between a redraw and the first delay
+  pub left : Stream
+  pub params : HearsParameters old.params new.params (stream old.generator) left now ra options
+  pub solicitations : new.solicitations ≡ record old.solicitations { heard = not (ra.router_lifetime == 0) || old.solicitations.heard }
+  pub between : List (ℕ × Out A)
+  pub ends : Bool
+  pub neighbours : HearsOf old.neighbours.limit now (given_or_marked (number_of source.0) (first_slla options) (Some true)) old.neighbours.nodes new.neighbours.nodes before between ends
+  pub neighbour_limit : new.neighbours.limit ≡ old.neighbours.limit
+  pub left_list : Bool
+  pub times_out : (history : List router_rows.RouterRow) → router_list.Stands old.routers history → left_list ≡ ((ra.router_lifetime == 0) && lifetimes.stands same (number_of source.0) (announcements history) now)
+  pub routers : (history : List router_rows.RouterRow) → router_list.Stands old.routers history → router_list.Stands new.routers (with_left now left_list (number_of source.0) (router_rows.Heard now (number_of source.0) ra.router_lifetime ∷ history))
+  pub redirects : (history : List redirect_rows.RedirectRow) → choice.Stands old.choice history → choice.Stands new.choice (with_gone now left_list (number_of source.0) history)
+  pub routers_settled : router_list.IsSettled new.routers.entries now
+  pub router_limit : new.routers.limit ≡ old.routers.limit
+  pub left_is_told : told.happenings after ≡ told.happenings between ++ at_moment now (left_told left_list (number_of source.0))
+  pub prefixes : (history : List (lifetimes.Row PrefixValue)) → lifetimes.last_moment history ≤ now → lists.Stands same_prefix old.prefixes history → lists.Stands same_prefix new.prefixes (then_announced now (on_link.prefixes_in options) history)
+  pub retrans : ℕ
+  pub in_force : retrans ≡ new.params.retrans_timer
+  pub to_all : Bool
+  pub goes_to_all : to_all ≡ holds multicast_prefix destination.0
+  pub forms : (start : Start) (c : Chronicle) → Forms start old.addresses left retrans c → Forms start new.addresses (stream new.generator) retrans (then_options start now to_all (prefixes_in options) c)
+  pub dns : (servers : List (lifetimes.Row Addr)) (names : List (lifetimes.Row (List ℕ))) → lifetimes.last_moment servers ≤ now → lifetimes.last_moment names ≤ now → known.Stands old.dns servers names
+      → known.Stands new.dns (then_announced now (servers_told options) servers) (then_announced now (names_told options) names)
+
+-- laws of the tables
+pub record Laws : Type 0 where
+  pub one_goes : OneGoes
+  pub neighbours_overdue : OverdueByTable
+  pub neighbours_still : NoneOverdueStill
+  pub addresses_overdue : AddressesOverdue
+  pub addresses_still : AddressesStill
+
+module _ {R A : Type 0} (stream : R → Stream) (old new : Node R A) (before after : List (ℕ × Out A)) (now : ℕ) (source destination : Addr) (ra : RouterAdvertisement) (options : List Said)
+    (laws : Laws) (settled : now < next_of old) (t : Takes stream old new before after now source destination ra options)
+    (start : Start) (below : Chronicle) (s : Stands stream start old below) (le : last_moment start.at below ≤ now) where
+  abbrev source_key : ℕ
+  source_key = number_of source.0
+
+  abbrev of_sender : Option (ℕ × neighbour_rows.RowKind)
+  of_sender = given_or_marked source_key (first_slla options) (Some true)
+
+  abbrev c : Chronicle
+  c = (now, Passed) ∷ below
+
+  meets : (made : List neighbour_rows.Row) × PreparesFor start.limits.neighbours now of_sender (neighbour_history c) made × cache.Stands new.neighbours.nodes (then_neighbour now of_sender made)
+      × (told.happenings t.between ≡ told.happenings before ++ at_moment now (released_frames now of_sender (neighbour_history c)))
+  meets =
+      let h = t.neighbours.each (neighbour_history c) s.neighbours in
+      (h.0, subst (λ (n : ℕ). PreparesFor n now of_sender (neighbour_history c) h.0) s.neighbour_limit h.1, h.2, h.3)
+
+  place : Placed start c now of_sender meets.0
+  place = placed_by start c now of_sender meets.0 laws.one_goes (λ at. refl) meets.1
+
+  abbrev placed : Chronicle
+  placed = place.placed
+
+  -- the stages of what is added
+  abbrev begun : Chronicle
+  begun = then_parameters start now source destination ra options placed
+
+  abbrev released : Chronicle
+  released = releasing now of_sender (neighbour_history placed) begun
+
+  abbrev leaves : Bool
+  leaves = times_out start now placed source ra
+
+  abbrev left : Chronicle
+  left = leaving now leaves source_key released
+
+  abbrev all : Chronicle
+  all = then_options start now (holds multicast_prefix destination.0) (prefixes_in options) left
+
+  message_adds : Begun start now source destination ra options placed begun
+  message_adds = begun_by start now source destination ra options (redraws (base_reachable_time placed) ra.reachable_time) placed
+
+  frames_add : Quiet begun released
+  frames_add = releasing_is_quiet now of_sender (neighbour_history placed) begun message_adds.last
+
+  leaving_adds : Leaves now source_key leaves released left
+  leaving_adds = leaves_by now source_key leaves released
+
+  options_add : Beside now laws.addresses_still left all
+  options_add = options_beside now laws.addresses_still start (holds multicast_prefix destination.0) (prefixes_in options) left
+
+  released_last : (at : ℕ) → last_moment at released ≡ now
+  released_last at = frames_add.last at ∙ message_adds.last at
+
+  all_last : (at : ℕ) → last_moment at all ≡ now
+  all_last = options_add.last (leaving_adds.last released_last)
+
+  leaves_is : t.left_list ≡ leaves
+  leaves_is = t.times_out (router_history c) s.routers ∙ ap (λ (h : List router_rows.RouterRow). (ra.router_lifetime == 0) && lifetimes.stands same source_key (announcements h) now) (sym place.others.routers)
+
+  -- ---- the parameters and the generator
+
+  params_placed : parameters.Stands old.params (parameter_history placed)
+  params_placed = subst (λ (h : List parameter_rows.Row). parameters.Stands old.params h) (sym place.others.parameters) s.params
+
+  generator_placed : stream old.generator ≡ stream_left start placed
+  generator_placed = s.generator ∙ sym (place.others.stream start)
+
+  params_begun : parameters.Stands new.params (parameter_history begun)
+  params_begun = t.params.params start placed source destination params_placed generator_placed
+
+  parameters_are : parameter_history all ≡ parameter_history begun
+  parameters_are = options_add.parameters ∙ (leaving_adds.parameters ∙ frames_add.parameters)
+
+  -- ---- the addresses
+
+  addresses_are : address_history left ≡ address_history c
+  addresses_are = leaving_adds.addresses ∙ (frames_add.addresses ∙ (message_adds.addresses ∙ place.others.addresses))
+
+  forms_left : Forms start old.addresses t.left t.retrans left
+  forms_left = record {
+    addresses = subst (λ (h : List address_rows.Row). addresses.Stands old.addresses.addresses h) (sym addresses_are) s.addresses;
+    mac = s.address_mac;
+    generator = t.params.generator start placed source destination params_placed generator_placed ∙ sym (leaving_adds.stream start ∙ frames_add.stream start);
+    in_force = t.in_force ∙ (params_begun.retrans_timer ∙ ap (λ (h : List parameter_rows.Row). parameter_rows.retrans_of h) (sym (leaving_adds.parameters ∙ frames_add.parameters)));
+  }
+
+  forms_all : Forms start new.addresses (stream new.generator) t.retrans all
+  forms_all = subst (λ (to_all : Bool). Forms start new.addresses (stream new.generator) t.retrans (then_options start now to_all (prefixes_in options) left)) t.goes_to_all (t.forms start left forms_left)
+
+  -- ---- the other tables
+
+  routers_are : router_history all ≡ with_left now t.left_list source_key (router_rows.Heard now source_key ra.router_lifetime ∷ router_history c)
+  routers_are = options_add.routers ∙ (leaving_adds.routers ∙ (ap (λ (x : Bool). with_left now x source_key (router_history released)) (sym leaves_is)
+      ∙ ap (λ (h : List router_rows.RouterRow). with_left now t.left_list source_key h) (frames_add.routers ∙ (message_adds.routers ∙ ap (λ (h : List router_rows.RouterRow). router_rows.Heard now source_key ra.router_lifetime ∷ h) place.others.routers))))
+
+  redirects_are : redirect_history all ≡ with_gone now t.left_list source_key (redirect_history c)
+  redirects_are = options_add.redirects ∙ (leaving_adds.redirects ∙ (ap (λ (x : Bool). with_gone now x source_key (redirect_history released)) (sym leaves_is)
+      ∙ ap (λ (h : List redirect_rows.RedirectRow). with_gone now t.left_list source_key h) (frames_add.redirects ∙ (message_adds.redirects ∙ place.others.redirects))))
+
+  neighbours_are : neighbour_history all ≡ then_neighbour now of_sender meets.0
+  neighbours_are = options_add.neighbours ∙ (leaving_adds.neighbours ∙ (frames_add.neighbours ∙ (message_adds.neighbours ∙ ap (λ (h : List neighbour_rows.Row). then_neighbour now of_sender h) place.history)))
+
+  prefixes_are : prefix_history all ≡ then_announced now (on_link.prefixes_in options) (prefix_history c)
+  prefixes_are = options_add.prefixes ∙ (leaving_adds.prefixes ∙ (frames_add.prefixes ∙ (message_adds.prefixes ∙ ap (λ (h : List (lifetimes.Row PrefixValue)). then_announced now (on_link.prefixes_in options) h) place.others.prefixes)))
+
+  servers_are : server_history all ≡ then_announced now (servers_told options) (server_history c)
+  servers_are = options_add.servers ∙ (leaving_adds.servers ∙ (frames_add.servers ∙ (message_adds.servers ∙ ap (λ (h : List (lifetimes.Row Addr)). then_announced now (servers_told options) h) place.others.servers)))
+
+  names_are : name_history all ≡ then_announced now (names_told options) (name_history c)
+  names_are = options_add.names ∙ (leaving_adds.names ∙ (frames_add.names ∙ (message_adds.names ∙ ap (λ (h : List (lifetimes.Row (List ℕ))). then_announced now (names_told options) h) place.others.names)))
+
+  prefixes_came : lifetimes.last_moment (prefix_history c) ≤ now
+  prefixes_came = omega (arith, s.prefixes_by_then, le)
+
+  servers_came : lifetimes.last_moment (server_history c) ≤ now
+  servers_came = omega (arith, s.servers_by_then, le)
+
+  names_came : lifetimes.last_moment (name_history c) ≤ now
+  names_came = omega (arith, s.names_by_then, le)
+
+  -- ---- Router Solicitations
+
+  heard_is : chronicle_due.heard_router (parameter_history all) ≡ (not (ra.router_lifetime == 0) || chronicle_due.heard_router (parameter_history c))
+  heard_is = ap (λ (h : List parameter_rows.Row). chronicle_due.heard_router h) parameters_are
+      ∙ (heard_router_by start now ra.reachable_time (redraws (base_reachable_time placed) ra.reachable_time) source destination ra options placed
+      ∙ ap (λ (h : List parameter_rows.Row). not (ra.router_lifetime == 0) || chronicle_due.heard_router h) place.others.parameters)
+
+  solicitations_stand : soliciting.Stands start new.solicitations all
+  solicitations_stand = record {
+    assigned = ap (λ (x : Solicitations). x.assigned) t.solicitations ∙ (s.solicitations.assigned
+        ∙ sym (options_add.assigned (link_local_key start) ∙ ap (λ (h : List address_rows.Row). assigned_at (link_local_key start) h) addresses_are));
+    sent = ap (λ (x : Solicitations). x.sent) t.solicitations ∙ (s.solicitations.sent ∙ sym (options_add.solicited ∙ (leaving_adds.solicited ∙ (frames_add.solicited ∙ (message_adds.solicited ∙ place.others.solicited)))));
+    heard = ap (λ (x : Solicitations). x.heard) t.solicitations ∙ (ap (λ (x : Bool). not (ra.router_lifetime == 0) || x) s.solicitations.heard ∙ sym heard_is);
+  }
+
+  -- ---- nothing is due in the past
+
+  not_past : now ≤ next_of old
+  not_past = omega (arith, settled)
+
+  addresses_in_time : address_dates.NoneBefore new.addresses.addresses now
+  addresses_in_time =
+      (laws.addresses_overdue new.addresses.addresses (address_history all) now forms_all.addresses).1
+      (options_add.in_time (subst (λ (h : List address_rows.Row). address_due.NoneOverdue h now) (sym addresses_are) ((laws.addresses_overdue old.addresses.addresses (address_history c) now s.addresses).0 (addresses_before old now not_past))))
+
+  neighbours_in_time : neighbour_dates.NoneBefore new.neighbours.nodes now
+  neighbours_in_time =
+      none_before_said laws.neighbours_overdue laws.neighbours_still laws.one_goes start.limits.neighbours now of_sender old.neighbours.nodes new.neighbours.nodes (neighbour_history c) meets.0 s.neighbours meets.1 meets.2
+      (neighbours_before old now not_past)
+
+  draws_in_time : now ≤ new.params.drawn_at + redraw_after
+  draws_in_time =
+      let later = draw_later start now ra.reachable_time (redraws (base_reachable_time placed) ra.reachable_time) source destination ra options placed
+      (omega (arith, redraw_before old now not_past, params_placed.drawn_at)) in
+      omega (arith, later, params_begun.drawn_at)
+
+  solicits_in_time : NotBefore now (next_solicitation new.role new.solicitations)
+  solicits_in_time = rw (t.role, t.solicitations) (heard_later old.role now (not (ra.router_lifetime == 0)) old.solicitations (solicitation_before old now not_past))
+
+  in_time : now ≤ next_of new
+  in_time = all_later new now (settled_before now (router_list.next_end new.routers.entries) t.routers_settled) addresses_in_time neighbours_in_time solicits_in_time draws_in_time
+
+  -- ---- what is told
+
+  text_begun : text begun ≡ text ((now, Heard source destination (advertised ra options)) ∷ c)
+  text_begun = message_adds.text ∙ ap (λ (x : List ℕ). x ++ lines_of (now, Heard source destination (advertised ra options))) place.others.text
+
+  tells_released : Tells ((now, Heard source destination (advertised ra options)) ∷ c) released before t.between
+  tells_released = record {
+    newer = at_moment now (released_frames now of_sender (neighbour_history c));
+    text = releasing_text now of_sender (neighbour_history placed) begun
+        ∙ (ap (λ (x : List ℕ). x ++ flat_map lines_of (at_moment now (released_frames now of_sender (neighbour_history placed)))) text_begun
+        ∙ ap (λ (f : List Happening). text ((now, Heard source destination (advertised ra options)) ∷ c) ++ flat_map lines_of (at_moment now f))
+        (ap (λ (h : List neighbour_rows.Row). released_frames now of_sender h) place.history ∙ released_kept start.limits.neighbours now of_sender (neighbour_history c) meets.0 meets.1));
+    outs = meets.3;
+  }
+
+  tells_left : Tells released all t.between after
+  tells_left = record {
+    newer = at_moment now (left_told t.left_list source_key);
+    text = options_add.text ∙ (leaving_adds.text ∙ ap (λ (x : Bool). text released ++ flat_map lines_of (at_moment now (left_told x source_key))) (sym leaves_is));
+    outs = t.left_is_told;
+  }
+
+  -- ---- the node stands for the chronicle with all of it
+
+  stands_all : Stands stream start new all
+  stands_all = record {
+    role = t.role ∙ s.role;
+    mac = t.mac ∙ s.mac;
+    address_mac = forms_all.mac;
+    neighbour_limit = t.neighbour_limit ∙ s.neighbour_limit;
+    router_limit = t.router_limit ∙ s.router_limit;
+    params = subst (λ (h : List parameter_rows.Row). parameters.Stands new.params h) (sym parameters_are) params_begun;
+    routers = subst (λ (h : List router_rows.RouterRow). router_list.Stands new.routers h) (sym routers_are) (t.routers (router_history c) s.routers);
+    prefixes = subst (λ (h : List (lifetimes.Row PrefixValue)). lists.Stands same_prefix new.prefixes h) (sym prefixes_are) (t.prefixes (prefix_history c) prefixes_came s.prefixes);
+    addresses = forms_all.addresses;
+    neighbours = subst (λ (h : List neighbour_rows.Row). cache.Stands new.neighbours.nodes h) (sym neighbours_are) meets.2;
+    dns = subst (λ (h : List (lifetimes.Row Addr)). known.Stands new.dns h (name_history all)) (sym servers_are)
+        (subst (λ (h : List (lifetimes.Row (List ℕ))). known.Stands new.dns (then_announced now (servers_told options) (server_history c)) h) (sym names_are) (t.dns (server_history c) (name_history c) servers_came names_came s.dns));
+    redirects = subst (λ (h : List redirect_rows.RedirectRow). choice.Stands new.choice h) (sym redirects_are) (t.redirects (redirect_history c) s.redirects);
+    solicitations = solicitations_stand;
+    generator = forms_all.generator;
+    last = t.last ∙ sym (all_last start.at);
+    prefixes_by_then = rw (prefixes_are, all_last start.at) (last_announced now (on_link.prefixes_in options) (prefix_history c) prefixes_came);
+    servers_by_then = rw (servers_are, all_last start.at) (last_announced now (servers_told options) (server_history c) servers_came);
+    names_by_then = rw (names_are, all_last start.at) (last_announced now (names_told options) (name_history c) names_came);
+    in_time = rw (all_last start.at) in_time;
+  }
+
+  advertises : Advertises stream new before after now source destination ra options start c
+  advertises = record {
+    placed = placed;
+    place = place.place;
+    stands = stands_all;
+    tells = Tells-then ((now, Heard source destination (advertised ra options)) ∷ c) released all before t.between after tells_released tells_left;
+  }
+
+pub takes_advertisement : {R A : Type 0} (stream : R → Stream) (old new : Node R A) (before after : List (ℕ × Out A)) (now : ℕ) (source destination : Addr) (ra : RouterAdvertisement) (options : List Said)
+    → Laws → now < next_of old → Takes stream old new before after now source destination ra options → TakesAdvertisement stream old new before after now source destination ra options
+takes_advertisement stream old new before after now source destination ra options laws settled t =
+    record { each = λ start below s le. advertises stream old new before after now source destination ra options laws settled t start below s le }

@@ -1,0 +1,37 @@
+use Rattle.std.proofs.Common.{ℕ, List, refl, sym, subst, ◌∙◌}
+use Rattle.std.specs.Option.{option_map}
+use Rattle.nd_addr.specs.Number.{number_of}
+use Rattle.nd_decode.specs.Pieces.{options_left}
+use Rattle.nd_neighbour.specs.declared.news.Times.{Times}
+use Rattle.nd_neighbour.specs.Entry as entries
+use Rattle.nd_node.specs.LinkLayerAddress.{said_by, HearsOf}
+use Rattle.nd_node.proofs.Asking.{answered, of_asker, place_for_news, refused}
+use Rattle.nd_node.proofs.node.Node.hear_asker.Goals as goal
+
+pub returns-then-not-room-clause-adds : goal.returns-then-not-room-clause-adds
+returns-then-not-room-clause-adds g c =
+    refused g.R.Rng.stream c.args.self.now _ c.args.outs.now.items c.push.new.self.items c.args.now c.args.source c.args.destination c.args.ns.now (options_left c.args.options) c.requires.specified c.requires.settled
+    c.full_by_history.ensures (sym c.if-not-room.ensures.value) refl _ refl c.in_ok-push.ensures.items
+
+pub hear_of_neighbour-requires-clause-place : goal.hear_of_neighbour-requires-clause-place
+hear_of_neighbour-requires-clause-place g c =
+    let times : Times = c.times_in_force-times.result in
+    let of = of_asker times c.args.source c.args.ns.now (options_left c.args.options) c.news_of-news.result (c.news_of-news.ensures times) in
+    rw (c.make_room.ensures.limit, c.make_room.ensures.nodes) (place_for_news c.room_is_place.ensures c.args.self.now.neighbours.limit c.args.now (number_of c.args.source.0) c.args.self.now.neighbours.nodes c.news_of-news.result of (sym c.if-not-room.ensures.value))
+
+pub returns-clause-adds : goal.returns-clause-adds
+returns-clause-adds g c =
+    let times : Times = c.times_in_force-times.result in
+    let heard = c.hear_of_neighbour in
+    let before = c.push_reserved.new.self.items in
+    let after = heard.new.outs.items in
+    answered g.R.Rng.stream c.args.self.now (record c.args.self.now { last = c.args.now; neighbours = heard.new.neighbours }) c.args.outs.now.items c.make_room.new.outs.items before after
+    c.args.now c.args.source c.args.destination c.args.ns.now (options_left c.args.options) c.requires.settled times c.news_of-news.result heard.result _
+    c.none_overdue.ensures.still c.none_overdue.ensures.table c.one_is_pushed_out.ensures
+    (record { role = refl; mac = refl; generator = refl; last = refl; params = refl; routers = refl; prefixes = refl; dns = refl; choice = refl; solicitations = refl; address_mac = refl; neighbour_limit = heard.ensures.limit ∙ c.make_room.ensures.limit })
+    refl (c.news_of-news.ensures times) c.times_in_force-times.ensures.reachable
+    (subst (λ (limit : ℕ). HearsOf limit c.args.now (option_map (said_by times) c.news_of-news.result) c.args.self.now.neighbours.nodes heard.new.neighbours.nodes before after heard.result) c.make_room.ensures.limit
+    (subst (λ (nodes : List entries.Node). HearsOf c.make_room.new.neighbours.limit c.args.now (option_map (said_by times) c.news_of-news.result) nodes heard.new.neighbours.nodes before after heard.result) c.make_room.ensures.nodes heard.ensures.hears))
+    c.make_room.ensures.same c.push_reserved.ensures.items refl
+    c.go.new.self c.go.new.outs.items c.requires.specified c.room_is_place.ensures c.full_by_history.ensures (sym c.if-not-room.ensures.value)
+    c.is_router-router.result c.is_router-router.ensures _ c.answer-answer.ensures c.go.ensures

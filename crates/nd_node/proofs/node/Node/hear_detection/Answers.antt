@@ -1,0 +1,20 @@
+use Rattle.std.proofs.Common.{refl, ap}
+use Rattle.nd_chronicle.specs.Happening.{Sent}
+use Rattle.nd_node.proofs.Detections.{defends, duplicates}
+use Rattle.nd_node.proofs.node.Node.hear_detection.Goals as goal
+
+pub returns-then-conflict-clause-adds : goal.returns-then-conflict-clause-adds
+returns-then-conflict-clause-adds g c = λ options.
+    duplicates g.R.Rng.stream c.args.self.now _ c.args.outs.now.items _ _ c.push_reserved-then-conflict.new.self.items c.args.now c.args.source c.args.destination c.args.ns.now options
+    c.requires.unspecified c.requires.settled _ _ refl c.in_ok-reserve.ensures.items c.push_reserved.ensures.items c.push_reserved-then-conflict.ensures.items
+    c.none_overdue.ensures.still c.none_overdue.ensures.table refl
+    (record { role = refl; mac = refl; generator = refl; last = refl; params = refl; routers = refl; prefixes = refl; dns = refl; choice = refl; solicitations = refl; address_mac = c.if-conflict.ensures.mac; neighbour_limit = refl })
+    refl c.if-conflict.ensures.tentative (c.if-conflict.ensures.gains refl c.args.now)
+
+pub returns-clause-adds : goal.returns-clause-adds
+returns-clause-adds g c = λ options.
+    defends g.R.Rng.stream c.args.self.now _ c.args.outs.now.items _ _ c.push_reserved-2.new.self.items c.args.now c.args.source c.args.destination c.args.ns.now options
+    c.requires.unspecified c.requires.settled _ _ refl c.in_ok-reserve.ensures.items c.push_reserved.ensures.items c.push_reserved-2.ensures.items
+    c.is_router-router.result c.is_router-router.ensures (ap Sent c.defence-defence.ensures)
+    (ap (λ a. record c.args.self.now { last = c.args.now; addresses = a }) (c.if-conflict.ensures.same refl))
+    c.if-conflict.ensures.tentative

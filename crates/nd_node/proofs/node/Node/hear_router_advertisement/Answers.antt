@@ -1,0 +1,32 @@
+use Rattle.std.proofs.Common.{refl, ap, subst}
+use Rattle.std.specs.Prelude.{Option}
+use Rattle.std.specs.Option.{option_map}
+use Rattle.nd_decode.specs.Pieces.{options_left}
+use Rattle.nd_out.specs.Out.{limit_of}
+use Rattle.nd_chronicle.specs.Happening.{Limit}
+use Rattle.nd_chronicle.specs.Full.{AdvertisementFills}
+use Rattle.nd_node.specs.RouterAdvertisement.{advertised}
+use Rattle.nd_node.proofs.TakenOrRefused.{sender_placed, refuses, takes}
+use Rattle.nd_node.proofs.node.Node.hear_router_advertisement.Goals as goal
+
+pub returns-in-Some-clause-adds : goal.returns-in-Some-clause-adds
+returns-in-Some-clause-adds g c =
+    let stream = g.R.Rng.stream in
+    let options = options_left c.args.options in
+    refuses stream c.args.now c.args.source c.args.destination c.args.ra.now options c.args.self.now _ c.args.outs.now.items c.push.new.self.items (limit_of c.in-Some.limit) _ refl
+    (λ start c' s le. subst (λ (limit : Option Limit). AdvertisementFills start c' c.args.now c.args.source c.args.ra.now (advertised c.args.ra.now options) limit) (ap (option_map limit_of) c.in-Some.is)
+    (c.first_full.ensures.fills start c' s le (sender_placed stream c.args.now c.args.source c.args.destination c.args.ra.now options c.args.self.now c.news_of-news.result c.has_place-place.result c.news_of-news.ensures c.has_place-place.ensures.placed start c' s)))
+    c.requires.settled refl c.in_ok-push-in-Some.ensures.items
+
+pub take_router_advertisement-requires-clause-place : goal.take_router_advertisement-requires-clause-place
+take_router_advertisement-requires-clause-place g c = c.has_place-place.ensures.room (c.first_full.ensures.room c.in-None.is).neighbours
+
+pub returns-clause-adds : goal.returns-clause-adds
+returns-clause-adds g c =
+    let stream = g.R.Rng.stream in
+    let options = options_left c.args.options in
+    takes stream c.args.now c.args.source c.args.destination c.args.ra.now options c.args.self.now _ c.args.outs.now.items c.reserve.new.self.items c.push_reserved.new.self.items c.take_router_advertisement.new.outs.items c.told.result c.told.ensures
+    (λ start c' s le. subst (λ (limit : Option Limit). AdvertisementFills start c' c.args.now c.args.source c.args.ra.now (advertised c.args.ra.now options) limit) (ap (option_map limit_of) c.in-None.is)
+    (c.first_full.ensures.fills start c' s le (sender_placed stream c.args.now c.args.source c.args.destination c.args.ra.now options c.args.self.now c.news_of-news.result c.has_place-place.result c.news_of-news.ensures c.has_place-place.ensures.placed start c' s)))
+    c.in_ok-reserve.ensures.items c.push_reserved.ensures.items
+    c.take_router_advertisement.ensures

@@ -1,0 +1,45 @@
+use Rattle.std.proofs.Common.{refl, subst}
+use Rattle.std.specs.Prelude.{Option, ℕ}
+use Rattle.nd_neighbour.specs.History.{RowKind}
+use Rattle.nd_decode.specs.Pieces.{options_left}
+use Rattle.nd_node.specs.LinkLayerAddress.{HearsOf}
+use Rattle.nd_node.proofs.Advertised.{takes_advertisement}
+use Rattle.nd_node.proofs.node.Node.take_router_advertisement.Goals as goal
+
+pub returns : goal.returns
+returns g c =
+    takes_advertisement g.R.Rng.stream c.args.self.now _ c.args.outs.now.items _ c.args.now c.args.heard.now.source c.args.heard.now.destination c.args.heard.now.ra (options_left c.args.heard.now.options)
+    (record {
+      one_goes = c.one_is_pushed_out.ensures;
+      neighbours_overdue = c.none_overdue.ensures.table;
+      neighbours_still = c.none_overdue.ensures.still;
+      addresses_overdue = c.none_overdue-2.ensures.table;
+      addresses_still = c.none_overdue-2.ensures.still;
+    })
+    c.requires.settled
+    (record {
+      role = refl;
+      mac = refl;
+      last = refl;
+      left = _;
+      params = c.hear_parameters.ensures;
+      solicitations = c.heard_router.ensures;
+      between = _;
+      ends = _;
+      neighbours = subst (λ (said : Option (ℕ × RowKind)). HearsOf c.args.self.now.neighbours.limit c.args.now said c.args.self.now.neighbours.nodes c.hear_of_neighbour.new.neighbours.nodes c.args.outs.now.items c.hear_of_neighbour.new.outs.items c.hear_of_neighbour.result) (c.requires.news _) c.hear_of_neighbour.ensures.hears;
+      neighbour_limit = c.hear_of_neighbour.ensures.limit;
+      left_list = _;
+      times_out = c.hear_router-times_out.ensures.times_out;
+      routers = c.hear_router-times_out.ensures.routers;
+      redirects = c.hear_router-times_out.ensures.redirects;
+      routers_settled = c.hear_router-times_out.ensures.settled;
+      router_limit = c.hear_router-times_out.ensures.limit;
+      left_is_told = c.tell_left.ensures;
+      prefixes = c.hear_prefixes.ensures;
+      retrans = _;
+      in_force = c.retrans_timer-retrans.ensures.value;
+      to_all = _;
+      goes_to_all = c.is_multicast.ensures.exactly;
+      forms = c.hear_prefix_options.ensures.forms;
+      dns = c.hear_dns.ensures;
+    })

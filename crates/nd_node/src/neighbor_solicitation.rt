@@ -1,0 +1,191 @@
+ghost use Rattle.std.specs.Prelude.{◌≡◌, ◌+◌, ◌<◌, ◌≤◌, ◌^◌, List, None, OnOk, OnErr, bytes_eq, false, true, vec_len, vec_capacity};
+ghost use Rattle.nd_addr.specs.Kind.{unspecified_address};
+ghost use Rattle.nd_addr.specs.Number.{number_of};
+ghost use Rattle.nd_decode.specs.Option.{Said};
+ghost use Rattle.nd_decode.specs.Pieces.{options_left};
+ghost use Rattle.nd_decode.specs.declared.body.Body.TheVariants as bodies;
+ghost use Rattle.nd_neighbour.specs.Table.{node_in};
+ghost use Rattle.nd_chronicle.specs.NeighborSolicitation as solicited;
+ghost use Rattle.nd_node.specs.Hearing.{AddsMessage, Keeps};
+ghost use Rattle.nd_node.specs.LinkLayerAddress.{waiting_for};
+
+use crate::link_layer_address::{hear_of_neighbour, news_of, waiting_for};
+use crate::node::Node;
+use crate::packet::times_in_force;
+use nd_addr::{Addr, Role};
+use nd_decode::{Body, NeighborSolicitation, Options};
+use nd_frames::FrameRoom;
+use nd_neighbour::{Cache, News};
+use nd_out::{Limit, Out, Refusal};
+use rand_core::Rng;
+use std::alloc::{AllocError, Allocator};
+
+/// How many places an answer takes beside those of the packets that wait for the asker: one for what is heard, and one for itself.
+const MOST_ANSWERED: usize = 2;
+
+/// Room for the frames of an answer, taken before anything changes.
+#[derive(Drop)]
+struct AnswerRoom<A: Allocator> {
+    /// For the advertisement.
+    answer: FrameRoom<A>,
+    /// For the solicitation of the asker's link-layer address, where that isn't known.
+    solicitation: FrameRoom<A>,
+}
+
+impl<R: Rng + Drop, A: Allocator + Clone> Node<R, A> {
+    ghost use Rattle.nd_node.specs.Node.{next_of};
+
+    /// A Neighbor Solicitation for an own address is heard at a moment, in milliseconds: from `::` another node tries the address, and
+    /// from an address it is answered (RFC 4861, sections 7.2.3 and 7.2.4; RFC 4862, section 5.4.3). The error is want of memory, and
+    /// then nothing has changed.
+    pub(crate) fn hear_neighbor_solicitation(
+        &mut self,
+        now: u64,
+        source: Addr,
+        destination: Addr,
+        ns: &NeighborSolicitation,
+        options: Options<'_>,
+        outs: &mut Vec<(u64, Out<A>), A>,
+    ) -> Result<(), AllocError>
+        requires moment { now < 2 ^ 62 }
+        requires settled { now < next_of self.old }
+        ensures adds { OnOk result (AddsMessage R.stream self.old self.new outs.old.items outs.new.items now source destination (record { body = bodies.Ns ns.now; options = options_left options.entry })) }
+        ensures keeps { OnErr result (Keeps self.old self.new) }
+        ensures told { OnErr result (outs.new.items ≡ outs.old.items) }
+    {
+        if source.is_unspecified() {
+            return self.hear_detection(now, source, destination, ns, outs);
+        }
+        self.hear_asker(now, source, destination, ns, options, outs)
+    }
+
+    /// A solicitation from `::` for an own address: another node tries it. All nodes are told where it is assigned; where it is
+    /// tentative, it is a duplicate (RFC 4861, section 7.2.4; RFC 4862, section 5.4.3). The error is want of memory, and then
+    /// nothing has changed.
+    fn hear_detection(
+        &mut self,
+        now: u64,
+        source: Addr,
+        destination: Addr,
+        ns: &NeighborSolicitation,
+        outs: &mut Vec<(u64, Out<A>), A>,
+    ) -> Result<(), AllocError>
+        requires moment { now < 2 ^ 62 }
+        requires settled { now < next_of self.old }
+        requires unspecified { bytes_eq source.0 unspecified_address ≡ true }
+        ensures adds { OnOk result ((options : List Said) → AddsMessage R.stream self.old self.new outs.old.items outs.new.items now source destination (record { body = bodies.Ns ns.now; options = options })) }
+        ensures keeps { OnErr result (Keeps self.old self.new) }
+        ensures told { OnErr result (outs.new.items ≡ outs.old.items) }
+    {
+        nd_slaac::laws::none_overdue();
+        let room = FrameRoom::new(outs.allocator().clone()?)?;
+        outs.reserve(MOST_ANSWERED)?;
+        self.last = now;
+        let body = Body::Ns(*ns);
+        outs.push_reserved((
+            now,
+            Out::Heard {
+                source,
+                destination,
+                body,
+            },
+        ));
+        if self.addresses.conflict(ns.target) {
+            outs.push_reserved((now, Out::Duplicate(ns.target)));
+            return Ok(());
+        }
+        let router = is_router(self.role);
+        let defence = room.defence(router, self.mac, ns.target);
+        outs.push_reserved((now, Out::Frame(defence)));
+        Ok(())
+    }
+
+    /// A solicitation from an address for an own one: what it says of the asker is taken, and it is answered as any packet goes to a
+    /// neighbour (RFC 4861, sections 7.2.3 and 7.2.4). It is refused where the asker has no place. The error is want of memory, and
+    /// then nothing has changed.
+    fn hear_asker(
+        &mut self,
+        now: u64,
+        source: Addr,
+        destination: Addr,
+        ns: &NeighborSolicitation,
+        options: Options<'_>,
+        outs: &mut Vec<(u64, Out<A>), A>,
+    ) -> Result<(), AllocError>
+        requires moment { now < 2 ^ 62 }
+        requires settled { now < next_of self.old }
+        requires specified { bytes_eq source.0 unspecified_address ≡ false }
+        ensures adds { OnOk result (AddsMessage R.stream self.old self.new outs.old.items outs.new.items now source destination (record { body = bodies.Ns ns.now; options = options_left options.entry })) }
+        ensures keeps { OnErr result (Keeps self.old self.new) }
+        ensures told { OnErr result (outs.new.items ≡ outs.old.items) }
+    {
+        nd_neighbour::laws::none_overdue();
+        nd_neighbour::laws::one_is_pushed_out();
+        nd_neighbour::laws::room_is_place();
+        nd_neighbour::laws::full_by_history();
+        if !self.neighbours.room(now, source, None) {
+            let full = Out::Refused(Refusal::Full(Limit::Neighbours));
+            outs.push((now, full))?;
+            self.last = now;
+            return Ok(());
+        }
+        let body = Body::Ns(*ns);
+        let news = news_of(source, &body, options);
+        let room = make_room(&mut self.neighbours, now, source, news, outs)?;
+        self.last = now;
+        outs.push_reserved((
+            now,
+            Out::Heard {
+                source,
+                destination,
+                body,
+            },
+        ));
+        let times = times_in_force(&self.params);
+        hear_of_neighbour(&mut self.neighbours, now, news, times, outs);
+        let router = is_router(self.role);
+        let answer = room.answer.answer(router, self.mac, ns.target, source);
+        self.go(now, source, answer, room.solicitation, outs);
+        Ok(())
+    }
+}
+
+/// Makes room for an answer and for all that is told with it: the frames, the places, and a ring for an asker that isn't there and
+/// doesn't give its link-layer address. The error is want of memory.
+fn make_room<A: Allocator + Clone>(
+    neighbours: &mut Cache<A>,
+    now: u64,
+    asker: Addr,
+    news: Option<News>,
+    outs: &mut Vec<(u64, Out<A>), A>,
+) -> Result<AnswerRoom<A>, AllocError>
+    ensures places { OnOk result (vec_len outs.new + waiting_for news neighbours.old.nodes + 2 ≤ vec_capacity outs.new) }
+    ensures ring { OnOk result (news ≡ None → node_in (number_of asker.0) neighbours.old.nodes ≡ None → 0 < neighbours.new.rings) }
+    ensures nodes { neighbours.new.nodes ≡ neighbours.old.nodes }
+    ensures limit { neighbours.new.limit ≡ neighbours.old.limit }
+    ensures same { outs.new.items ≡ outs.old.items }
+{
+    let waiting = waiting_for(neighbours, news);
+    let places = waiting.checked_add(MOST_ANSWERED).ok_or(AllocError)?;
+    let answer = FrameRoom::new(outs.allocator().clone()?)?;
+    let solicitation = FrameRoom::new(outs.allocator().clone()?)?;
+    outs.reserve(places)?;
+    let unknown = news.is_none() && neighbours.entry(now, asker).is_none();
+    if unknown && neighbours.ready(1).is_err() {
+        return Err(AllocError);
+    }
+    Ok(AnswerRoom {
+        answer,
+        solicitation,
+    })
+}
+
+/// The flag R of what a node sends (RFC 4861, section 4.4).
+fn is_router(role: Role) -> bool
+    ensures { result ≡ solicited.is_router role }
+{
+    match role {
+        Role::Router => true,
+        Role::Host => false,
+    }
+}
