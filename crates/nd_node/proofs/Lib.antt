@@ -17,7 +17,8 @@ pub mod NextHops
 pub mod Detections
 pub mod Asking
 pub mod Advertisements
-pub mod Redirecting
+pub mod PlainMessages
+pub mod Judging
 pub mod Forming
 pub mod Measuring
 pub mod Filling

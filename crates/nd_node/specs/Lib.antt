@@ -18,3 +18,4 @@ pub mod Fullness
 pub mod RouterAdvertisement
 pub mod NeighborAdvertisement
 pub mod Event
+pub mod Frame

@@ -85,6 +85,7 @@ impl<R: Rng + Drop, A: Allocator + Clone> Node<R, A> {
         requires settled { now < next_of self.old }
         ensures next { (start : Start) (c : Chronicle) → Stands R.stream start self.old c → last_moment start.at c ≤ now → IsNextHop c now destination (hop_of result) }
         ensures stands { (start : Start) (c : Chronicle) → Stands R.stream start self.old c → Stands R.stream start self.new c }
+        ensures due { next_of self.new ≡ next_of self.old }
     {
         let tables = Tables {
             now,

@@ -8,9 +8,9 @@ ghost use Rattle.nd_node.specs.NeighborAdvertisement.{Conflicts, Leaves};
 
 use crate::link_layer_address::{hear_of_neighbour, news_of, waiting_for};
 use crate::node::Node;
+use crate::packet::times_in_force;
 use nd_addr::Addr;
 use nd_decode::{Body, NeighborAdvertisement, Options};
-use nd_neighbour::Times;
 use nd_nexthop::Choice;
 use nd_out::Out;
 use nd_routers::Routers;
@@ -108,10 +108,7 @@ impl<R: Rng + Drop, A: Allocator + Clone> Node<R, A> {
             },
         ));
         hear_holder(&mut self.addresses, now, na.target, outs);
-        let times = Times {
-            retrans: self.params.retrans_timer(),
-            reachable: self.params.reachable_time(),
-        };
+        let times = times_in_force(&self.params);
         let ends = hear_of_neighbour(&mut self.neighbours, now, news, times, outs);
         end_router(
             &mut self.routers,

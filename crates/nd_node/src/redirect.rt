@@ -5,10 +5,10 @@ ghost use Rattle.nd_node.specs.Hearing.{AddsMessage};
 
 use crate::link_layer_address::{hear_of_neighbour, news_of, waiting_for};
 use crate::node::Node;
+use crate::packet::times_in_force;
 use crate::place::has_place;
 use nd_addr::Addr;
 use nd_decode::{Body, Options, Redirect};
-use nd_neighbour::Times;
 use nd_out::{Limit, Out, Refusal};
 use rand_core::Rng;
 use std::alloc::{AllocError, Allocator};
@@ -61,10 +61,7 @@ impl<R: Rng + Drop, A: Allocator + Clone> Node<R, A> {
                 body,
             },
         ));
-        let times = Times {
-            retrans: self.params.retrans_timer(),
-            reachable: self.params.reachable_time(),
-        };
+        let times = times_in_force(&self.params);
         hear_of_neighbour(&mut self.neighbours, now, news, times, outs);
         Ok(())
     }

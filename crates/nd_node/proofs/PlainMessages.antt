@@ -1,4 +1,4 @@
--- A Redirect from the first hop of its destination, and the chronicle that a node stands for.
+-- A message that says something of a neighbour, and perhaps redirects a destination, and the chronicle that a node stands for.
 use Rattle.std.proofs.Common.{◌≡◌, ℕ, ◌<◌, ◌≤◌, Bool, true, false, List, [], ◌∷◌, ◌++◌, append-nil, Option, Some, None, refl, sym, ◌∙◌, ap, subst, arith}
 use Rattle.std.specs.Prelude.{MatchBool, if◌then◌else◌}
 use Rattle.std.specs.List.{flat_map}
@@ -9,6 +9,7 @@ use Rattle.nd_addr.specs.Number.{number_of}
 use Rattle.nd_decode.specs.Message.{Parts}
 use Rattle.nd_decode.specs.Option.{Said}
 use Rattle.nd_decode.specs.declared.body.Body.TheVariants as bodies
+use Rattle.nd_decode.specs.declared.body.Body.{Body}
 use Rattle.nd_decode.specs.declared.redirect.Redirect.{Redirect}
 use Rattle.nd_neighbour.specs.declared.news.News.{News}
 use Rattle.nd_neighbour.specs.declared.news.Times.{Times}
@@ -20,12 +21,13 @@ use Rattle.nd_nexthop.specs.History as redirect_rows
 use Rattle.nd_nexthop.specs.Choice as choice
 use Rattle.nd_slaac.specs.Table as addresses
 use Rattle.nd_chronicle.specs.Start.{Start}
-use Rattle.nd_chronicle.specs.Happening.{Chronicle, Heard, Passed, Refused, Full, Neighbours, last_moment}
-use Rattle.nd_chronicle.specs.Histories.{neighbour_history, router_history, address_history, redirect_history, said_of_neighbour, then_neighbour}
+use Rattle.nd_chronicle.specs.Happening.{Chronicle, Heard, Passed, Refused, Full, Limit, Neighbours, last_moment}
+use Rattle.nd_chronicle.specs.Histories.{neighbour_history, router_history, address_history, redirect_history, said_of_neighbour, then_neighbour, then_redirect}
 use Rattle.nd_chronicle.specs.Due.{assigned_at}
-use Rattle.nd_chronicle.specs.Full.{entering, Placed}
+use Rattle.nd_chronicle.specs.Full.{entering, needs, Placed, MessageFills, Fills}
 use Rattle.nd_chronicle.specs.InForce.{reachable_time}
-use Rattle.nd_chronicle.specs.Message.{said, releasing}
+use Rattle.nd_chronicle.specs.Message.{said, PlaceFor, releasing}
+use Rattle.nd_chronicle.specs.Event.{MessageAdds}
 use Rattle.nd_chronicle.specs.Told.{lines_of, text}
 use Rattle.nd_out.specs.declared.out.Out.{Out}
 use Rattle.nd_out.specs.Out.{happening}
@@ -35,15 +37,43 @@ use Rattle.nd_node.specs.LinkLayerAddress.{said_by, HearsOf, released_frames}
 use Rattle.nd_node.specs.Node.{Stands, next_of}
 use Rattle.nd_node.specs.Told.{at_moment, happenings, Tells}
 use Rattle.nd_node.proofs.Quiet.{Quiet, stands_quiet}
-use Rattle.nd_node.proofs.Saying.{NoneOverdueStill, OneGoes, OverdueByTable, none_before_said, placed_by, released_kept, releasing_is_quiet, releasing_text}
+use Rattle.nd_node.proofs.Saying.{NoneOverdueStill, OneGoes, Others, OverdueByTable, none_before_said, placed_by, released_kept, releasing_is_quiet, releasing_text}
 use Rattle.nd_node.proofs.Standing.{Apart, Still, apart_quiet, apart_then, stands_at}
 use Rattle.nd_node.proofs.Steps.{one_more, passed}
 use Rattle.nd_node.proofs.Telling.{one, above_silent, Tells-then}
 use Rattle.nd_node.proofs.Turns.{addresses_before, neighbours_before, routers_before}
 
--- a Redirect
-abbrev pub redirection : Redirect → List Said → Parts
-redirection r options = record { body = bodies.Redirect r; options = options }
+-- a message
+abbrev pub message_of : Body → List Said → Parts
+message_of body options = record { body = body; options = options }
+
+-- a message that wants place for a neighbour alone, and concerns the neighbours and the redirects alone
+pub record IsPlain (now : ℕ) (source destination : Addr) (body : Body) (options : List Said) : Type 0 where
+  pub needs_is : (c : Chronicle) → needs c source (message_of body options) body ≡ entering (said c source (message_of body options))
+  pub fills : (start : Start) (c : Chronicle) (limit : Option Limit) → MessageFills start c now source (message_of body options) limit → Fills start c now source (message_of body options) body limit
+  pub adds : (start : Start) (c placed : Chronicle) → PlaceFor start c now (said c source (message_of body options)) placed
+      → MessageAdds start now source destination (message_of body options) body c
+      (releasing now (said c source (message_of body options)) (neighbour_history placed) ((now, Heard source destination (message_of body options)) ∷ placed))
+  pub apart : (c : Chronicle) → Apart c ((now, Heard source destination (message_of body options)) ∷ c)
+  pub routers : (c : Chronicle) → router_history ((now, Heard source destination (message_of body options)) ∷ c) ≡ router_history c
+
+pub plain_redirect : (now : ℕ) (source destination : Addr) (r : Redirect) (options : List Said) → IsPlain now source destination (bodies.Redirect r) options
+plain_redirect now source destination r options = record {
+  needs_is = λ c. refl;
+  fills = λ start c limit f. f;
+  adds = λ start c placed place. (placed, place, refl);
+  apart = λ c. record { parameters = refl; prefixes = refl; servers = refl; names = refl; assigned = λ k. refl; solicited = refl; stream = λ start. refl };
+  routers = λ c. refl;
+}
+
+pub plain_solicitation : (now : ℕ) (source destination : Addr) (options : List Said) → IsPlain now source destination bodies.Rs options
+plain_solicitation now source destination options = record {
+  needs_is = λ c. refl;
+  fills = λ start c limit f. f;
+  adds = λ start c placed place. (placed, place, refl);
+  apart = λ c. record { parameters = refl; prefixes = refl; servers = refl; names = refl; assigned = λ k. refl; solicited = refl; stream = λ start. refl };
+  routers = λ c. refl;
+}
 
 refused_is_quiet : (at : ℕ) (c : Chronicle) → ((start : ℕ) → last_moment start c ≡ at) → Quiet c ((at, Refused (Full Neighbours)) ∷ c)
 refused_is_quiet at c now = record {
@@ -66,26 +96,40 @@ placed_later start c now None place h = h
 placed_later start c now (Some said') true h = h
 placed_later start c now (Some said') false h = h
 
-module _ {R A : Type 0} (stream : R → Stream) (old : Node R A) (now : ℕ) (source destination : Addr) (r : Redirect) (options : List Said)
+apart_passed : (now : ℕ) (c : Chronicle) → Apart c ((now, Passed) ∷ c)
+apart_passed now c = record { parameters = refl; prefixes = refl; servers = refl; names = refl; assigned = λ k. refl; solicited = refl; stream = λ start. refl }
+
+apart_others : {c d : Chronicle} → Others c d → Apart c d
+apart_others o = record {
+  parameters = o.parameters;
+  prefixes = o.prefixes;
+  servers = o.servers;
+  names = o.names;
+  assigned = λ key. ap (λ l. assigned_at key l) o.addresses;
+  solicited = o.solicited;
+  stream = o.stream;
+}
+
+module _ {R A : Type 0} (stream : R → Stream) (old : Node R A) (now : ℕ) (source destination : Addr) (body : Body) (options : List Said) (plain : IsPlain now source destination body options)
     (settled : now < next_of old) (times : Times) (news : Option News)
-    (news_is : option_map (said_by times) news ≡ said_of_neighbour source (bodies.Redirect r) options times.reachable) (reachable_is : times.reachable ≡ old.params.reachable_time) where
+    (news_is : option_map (said_by times) news ≡ said_of_neighbour source body options times.reachable) (reachable_is : times.reachable ≡ old.params.reachable_time) where
   -- what is said is that of the chronicle
-  said_is : (start : Start) (c : Chronicle) → Stands stream start old c → option_map (said_by times) news ≡ said c source (redirection r options)
-  said_is start c s = news_is ∙ ap (λ (t : ℕ). said_of_neighbour source (bodies.Redirect r) options t) (reachable_is ∙ s.params.reachable_time)
+  said_is : (start : Start) (c : Chronicle) → Stands stream start old c → option_map (said_by times) news ≡ said c source (message_of body options)
+  said_is start c s = news_is ∙ ap (λ (t : ℕ). said_of_neighbour source body options t) (reachable_is ∙ s.params.reachable_time)
 
   -- its target has no place
-  pub redirect_refused : (new : Node R A) (x y : List (ℕ × Out A)) (out : Out A)
+  pub message_refused : (new : Node R A) (x y : List (ℕ × Out A)) (out : Out A)
       → ((start : Start) (c : Chronicle) → Stands stream start old c → Placed start c now (entering (option_map (said_by times) news)) false)
       → new ≡ record old { last = now } → happening out ≡ Refused (Full Neighbours) → y ≡ x ++ (now, out) ∷ []
-      → AddsMessage stream old new x y now source destination (redirection r options)
-  redirect_refused new x y out placed is out_is told = record {
+      → AddsMessage stream old new x y now source destination (message_of body options)
+  message_refused new x y out placed is out_is told = record {
     each = λ start c s le takes.
         let later : Chronicle = (now, Passed) ∷ c in
         let stands' = passed stream start old new c now s le settled is in
-        let placed' : Placed start later now (entering (said later source (redirection r options))) false =
+        let placed' : Placed start later now (entering (said later source (message_of body options))) false =
         subst (λ (o : Option (ℕ × rows.RowKind)). Placed start later now (entering o) false) (said_is start c s) (placed_later start c now (option_map (said_by times) news) false (placed start c s)) in (
           (now, Refused (Full Neighbours)) ∷ later,
-          (Some Neighbours, record { neighbours = false; placed = placed'; first = refl }, refl),
+          (Some Neighbours, plain.fills start later (Some Neighbours) (record { neighbours = false; placed = rw (plain.needs_is later) placed'; first = refl }), refl),
           stands_quiet stream start new later ((now, Refused (Full Neighbours)) ∷ later) (refused_is_quiet now later (λ at. refl)) stands',
           record {
             newer = (now, Refused (Full Neighbours)) ∷ [];
@@ -98,14 +142,14 @@ module _ {R A : Type 0} (stream : R → Stream) (old : Node R A) (now : ℕ) (so
   module _ (new : Node R A) (x room y z : List (ℕ × Out A)) (ends : Bool) (heard : Out A)
       (still : NoneOverdueStill) (table : OverdueByTable) (one_goes : OneGoes) (same : Still old new now) (routers_same : new.routers ≡ old.routers) (addresses_same : new.addresses ≡ old.addresses)
       (placed : (start : Start) (c : Chronicle) → Stands stream start old c → Placed start c now (entering (option_map (said_by times) news)) true)
-      (reserved : room ≡ x) (told : y ≡ room ++ (now, heard) ∷ []) (heard_is : happening heard ≡ Heard source destination (record { body = bodies.Redirect r; options = [] }))
-      (gains : choice.GainsRow old.choice new.choice (redirect_rows.Redirected now (number_of r.destination.0) (number_of r.target.0)))
+      (reserved : room ≡ x) (told : y ≡ room ++ (now, heard) ∷ []) (heard_is : happening heard ≡ Heard source destination (record { body = body; options = [] }))
+      (redirects : (history : List redirect_rows.RedirectRow) → choice.Stands old.choice history → choice.Stands new.choice (then_redirect now body history))
       (hears : HearsOf old.neighbours.limit now (option_map (said_by times) news) old.neighbours.nodes new.neighbours.nodes y z ends) where
-    pub adds_redirect : AddsMessage stream old new x z now source destination (redirection r options)
-    adds_redirect = record {
+    pub adds_message : AddsMessage stream old new x z now source destination (message_of body options)
+    adds_message = record {
       each = λ start c s le takes.
           let later : Chronicle = (now, Passed) ∷ c in
-          let message : Parts = redirection r options in
+          let message : Parts = message_of body options in
           let history : List rows.Row = neighbour_history c in
           let limit : ℕ = start.limits.neighbours in
           let this : Option (ℕ × rows.RowKind) = said later source message in
@@ -121,29 +165,21 @@ module _ {R A : Type 0} (stream : R → Stream) (old : Node R A) (now : ℕ) (so
           let q : Quiet before after = releasing_is_quiet now this (neighbour_history p.placed) before (λ a. refl) in
           let not_past : now ≤ next_of old = omega (arith, settled) in
           let said_now : neighbour_history before ≡ then_neighbour now this made =
-          ap (λ (t : ℕ). then_neighbour now (said_of_neighbour source (bodies.Redirect r) options t) (neighbour_history p.placed)) (ap (λ l. reachable_of l) p.others.parameters)
+          ap (λ (t : ℕ). then_neighbour now (said_of_neighbour source body options t) (neighbour_history p.placed)) (ap (λ l. reachable_of l) p.others.parameters)
           ∙ ap (λ (l : List rows.Row). then_neighbour now this l) p.history in
           let neighbours' : neighbours.Stands new.neighbours.nodes (neighbour_history before) = subst (λ (l : List rows.Row). neighbours.Stands new.neighbours.nodes l) (sym said_now) h.2 in
           let none = none_before_said table still one_goes limit now this old.neighbours.nodes new.neighbours.nodes history made s.neighbours h.1 h.2 (neighbours_before old now not_past) in
-          let apart : Apart c before = record {
-            parameters = p.others.parameters;
-            prefixes = p.others.prefixes;
-            servers = p.others.servers;
-            names = p.others.names;
-            assigned = λ key. ap (λ l. assigned_at key l) p.others.addresses;
-            solicited = p.others.solicited;
-            stream = p.others.stream;
-          } in
+          let apart : Apart c before = apart_then c later before (apart_passed now c) (apart_then later p.placed before (apart_others p.others) (plain.apart p.placed)) in
           let redirects' : choice.Stands new.choice (redirect_history before) =
-          subst (λ l. choice.Stands new.choice (redirect_rows.Redirected now (number_of r.destination.0) (number_of r.target.0) ∷ l)) (sym p.others.redirects) (gains.stands (redirect_history c) s.redirects) in
+          subst (λ l. choice.Stands new.choice (then_redirect now body l)) (sym p.others.redirects) (redirects (redirect_history c) s.redirects) in
           let stands_before : Stands stream start new before = stands_at stream start old new c before now same apart s le not_past refl
-          (subst (λ l. routers.Stands new.routers l) (sym p.others.routers) (rw routers_same s.routers)) (rw routers_same (routers_before old now not_past))
+          (subst (λ l. routers.Stands new.routers l) (sym (plain.routers p.placed ∙ p.others.routers)) (rw routers_same s.routers)) (rw routers_same (routers_before old now not_past))
           (subst (λ l. addresses.Stands new.addresses.addresses l) (sym p.others.addresses) (rw addresses_same s.addresses)) (rw addresses_same (addresses_before old now not_past))
           neighbours' none redirects' in
           let kept : released_frames now this (neighbour_history p.placed) ≡ released_frames now this history =
           ap (λ (l : List rows.Row). released_frames now this l) p.history ∙ released_kept limit now this history made h.1 in
           let heard_text : Tells c before x y = record {
-            newer = (now, Heard source destination (record { body = bodies.Redirect r; options = [] })) ∷ [];
+            newer = (now, Heard source destination (record { body = body; options = [] })) ∷ [];
             text = ap (λ t. t ++ lines_of (now, Heard source destination message)) (p.others.text ∙ append-nil (text c)) ∙ one (text c) (lines_of (now, Heard source destination message));
             outs = ap happenings told ∙ (ap (λ l. happenings (l ++ (now, heard) ∷ [])) reserved ∙ (one_more x (x ++ (now, heard) ∷ []) now heard refl ∙ ap (λ w. happenings x ++ (now, w) ∷ []) heard_is));
           } in
@@ -155,7 +191,7 @@ module _ {R A : Type 0} (stream : R → Stream) (old : Node R A) (now : ℕ) (so
           let placed' : Placed start later now (entering this) true =
           subst (λ (o : Option (ℕ × rows.RowKind)). Placed start later now (entering o) true) this_is (placed_later start c now (option_map (said_by times) news) true (placed start c s)) in (
             after,
-            (None, record { neighbours = true; placed = placed'; first = refl }, (p.placed, p.place, refl)),
+            (None, plain.fills start later None (record { neighbours = true; placed = rw (plain.needs_is later) placed'; first = refl }), plain.adds start later p.placed p.place),
             stands_quiet stream start new before after q stands_before,
             Tells-then c before after x y z heard_text frames_text,
           );

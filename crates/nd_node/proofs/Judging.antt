@@ -1,0 +1,315 @@
+-- What a node makes of a frame, and the chronicle that it stands for.
+use Rattle.std.proofs.Common.{◌≡◌, ◌↔◌, ◌≢◌, ℕ, ◌+◌, ◌-◌, ◌<◌, ◌≤◌, Bool, true, false, List, [], ◌∷◌, ◌++◌, length, take, drop, min, Result, Ok, Err, refl, sym, ◌∙◌, ap, subst, arith}
+use Rattle.std.specs.Prelude.{OnErr, slice_range}
+use Rattle.std.proofs.lemmas.List.{length-take, length-drop, take_min}
+use Rattle.rand_core.specs.Stream.{Stream}
+use Rattle.nd_addr.specs.declared.addr.Addr.{Addr}
+use Rattle.nd_addr.specs.declared.role.Role.{Role}
+use Rattle.nd_addr.specs.declared.why.Why.{Why}
+use Rattle.nd_addr.specs.declared.why.Why.TheVariants.{NotForUs, NotFirstHop}
+use Rattle.nd_addr.specs.Ip6.{PacketParts, ipv6_header_length, payload_length_of}
+use Rattle.nd_addr.specs.Number.{number_of}
+use Rattle.nd_addr.specs.Places.{packet_in, parts_in}
+use Rattle.nd_decode.specs.Message.{Parts}
+use Rattle.nd_decode.specs.Option.{Said}
+use Rattle.nd_decode.specs.declared.body.Body.{Body}
+use Rattle.nd_decode.specs.declared.body.Body.TheVariants as bodies
+use Rattle.nd_decode.specs.declared.redirect.Redirect.{Redirect}
+use Rattle.nd_validity.specs.Hearing.{Outcome, Hears, valid, other, dropped}
+use Rattle.nd_neighbour.specs.Table as neighbours
+use Rattle.nd_nexthop.specs.NextHop.{NextHop, via}
+use Rattle.nd_chronicle.specs.Start.{Start}
+use Rattle.nd_chronicle.specs.Happening.{Chronicle, Happening, Dropped, Up, Passed, last_moment}
+use Rattle.nd_chronicle.specs.Hearing.{FromFirstHop, IsForUs, IsPacketForUs, Judges, IsDropped, IsTaken, IsStrange, IsMisdirected, IsPacket, IsStrangePacket, takes_target}
+use Rattle.nd_chronicle.specs.NextHop.{IsNextHop}
+use Rattle.nd_chronicle.specs.Event as events
+use Rattle.nd_chronicle.specs.Told.{lines_of, text}
+use Rattle.nd_out.specs.declared.out.Out.{Out}
+use Rattle.nd_out.specs.Out.{happening}
+use Rattle.nd_node.specs.declared.node.Node.{Node}
+use Rattle.nd_node.specs.Event.{AddsEvent}
+use Rattle.nd_node.specs.Frame.{AddsAlone, AddsJudged, Stays}
+use Rattle.nd_node.specs.Hearing.{AddsMessage, Keeps}
+use Rattle.nd_node.specs.Node.{Stands, next_of}
+use Rattle.nd_node.specs.Told.{happenings}
+use Rattle.nd_node.proofs.Quiet.{Quiet, stands_quiet}
+use Rattle.nd_node.proofs.Steps.{one_more, passed}
+use Rattle.nd_node.proofs.Telling.{above_silent}
+
+-- ---- what is told alone
+
+abbrev IsQuiet : ℕ → Happening → Type 0
+IsQuiet now what = (c : Chronicle) → ((at : ℕ) → last_moment at c ≡ now) → Quiet c ((now, what) ∷ c)
+
+dropped_is_quiet : (now : ℕ) (why : Why) → IsQuiet now (Dropped why)
+dropped_is_quiet now why c is = record {
+  parameters = refl;
+  neighbours = refl;
+  routers = refl;
+  prefixes = refl;
+  addresses = refl;
+  servers = refl;
+  names = refl;
+  redirects = refl;
+  solicited = refl;
+  stream = λ start. refl;
+  last = λ start. sym (is start);
+}
+
+up_is_quiet : (now : ℕ) (packet : List ℕ) → IsQuiet now (Up packet)
+up_is_quiet now packet c is = record {
+  parameters = refl;
+  neighbours = refl;
+  routers = refl;
+  prefixes = refl;
+  addresses = refl;
+  servers = refl;
+  names = refl;
+  redirects = refl;
+  solicited = refl;
+  stream = λ start. refl;
+  last = λ start. sym (is start);
+}
+
+module _ {R A : Type 0} (stream : R → Stream) (old new : Node R A) (x y : List (ℕ × Out A)) (now : ℕ) (out : Out A) (settled : now < next_of old) (is : new ≡ record old { last = now }) (told : y ≡ x ++ (now, out) ∷ []) where
+  alone : (what : Happening) → IsQuiet now what → happening out ≡ what → AddsAlone stream old new x y now what
+  alone what quiet out_is = record {
+    each = λ start c s le. (
+      stands_quiet stream start new ((now, Passed) ∷ c) ((now, what) ∷ (now, Passed) ∷ c) (quiet ((now, Passed) ∷ c) (λ at. refl)) (passed stream start old new c now s le settled is),
+      record {
+        newer = (now, what) ∷ [];
+        text = above_silent (text c) (lines_of (now, what));
+        outs = one_more x y now out told ∙ ap (λ w. happenings x ++ (now, w) ∷ []) out_is;
+      },
+    );
+  }
+
+  pub drops : (why : Why) → happening out ≡ Dropped why → AddsAlone stream old new x y now (Dropped why)
+  drops why out_is = alone (Dropped why) (dropped_is_quiet now why) out_is
+
+  pub goes_up : (packet : List ℕ) → happening out ≡ Up packet → AddsAlone stream old new x y now (Up packet)
+  goes_up packet out_is = alone (Up packet) (up_is_quiet now packet) out_is
+
+-- ---- it stands for the same
+
+pub on_err : {T E : Type 0} (r : Result T E) (P Q : Type 0) → (P → Q) → OnErr r P → OnErr r Q
+on_err (Ok x) P Q f h = tt
+on_err (Err e) P Q f h = f h
+
+pub stays_same : {R A : Type 0} (stream : R → Stream) (old new : Node R A) → new ≡ old → Stays stream old new
+stays_same stream old new is = record { each = λ start c s. rw is s }
+
+pub stays_keeps : {R A : Type 0} (stream : R → Stream) (old new : Node R A) → Keeps old new → Stays stream old new
+stays_keeps stream old new k = record {
+  each = λ start c s. record {
+    role = k.role ∙ s.role;
+    mac = k.mac ∙ s.mac;
+    address_mac = rw k.addresses s.address_mac;
+    neighbour_limit = k.limit ∙ s.neighbour_limit;
+    router_limit = rw k.routers s.router_limit;
+    params = rw k.params s.params;
+    routers = rw k.routers s.routers;
+    prefixes = rw k.prefixes s.prefixes;
+    addresses = rw k.addresses s.addresses;
+    neighbours = rw k.nodes s.neighbours;
+    dns = rw k.dns s.dns;
+    redirects = rw k.choice s.redirects;
+    solicitations = rw k.solicitations s.solicitations;
+    generator = ap stream k.generator ∙ s.generator;
+    last = k.last ∙ s.last;
+    prefixes_by_then = s.prefixes_by_then;
+    servers_by_then = s.servers_by_then;
+    names_by_then = s.names_by_then;
+    in_time = rw (k.role, k.params, k.routers, k.addresses, k.nodes, k.solicitations) s.in_time;
+  };
+}
+
+pub stays_then : {R A : Type 0} (stream : R → Stream) (old mid new : Node R A) → ((start : Start) (c : Chronicle) → Stands stream start old c → Stands stream start mid c) → Stays stream mid new → Stays stream old new
+stays_then stream old mid new first then = record { each = λ start c s. then.each start c (first start c s) }
+
+-- ---- time that passed changes none of the questions
+
+next_later : (c : Chronicle) (now : ℕ) (destination : Addr) (next : NextHop) → IsNextHop c now destination next → IsNextHop ((now, Passed) ∷ c) now destination next
+next_later c now destination next h = record {
+  prefixes = h.prefixes;
+  standing = h.standing;
+  routers = h.routers;
+  those = record { entries = h.those.entries; listed = h.those.listed; failed = h.those.failed; failures = h.those.failures; routers_are = h.those.routers_are };
+  next_is = h.next_is;
+}
+
+-- ---- a message that is for the node
+
+abbrev SameTarget : ℕ → Addr → Parts → Type 0
+SameTarget now source message = (c : Chronicle) → takes_target ((now, Passed) ∷ c) source message.body ≡ takes_target c source message.body
+
+pub judged : {R A : Type 0} (stream : R → Stream) (old new : Node R A) (x y : List (ℕ × Out A)) (now : ℕ) (source destination : Addr) (message : Parts) → SameTarget now source message
+    → ((c : Chronicle) → FromFirstHop ((now, Passed) ∷ c) now source message.body) → AddsMessage stream old new x y now source destination message → AddsJudged stream old new x y now source destination message
+judged stream old new x y now source destination message same from adds = record {
+  each = λ frame start c s le ours.
+      let a = adds.each start c s le (sym (same c) ∙ ours.target) in (
+        valid source destination message,
+        a.0,
+        IsTaken ours (from c),
+        a.1,
+        a.2,
+        a.3,
+      );
+}
+
+abbrev pub redirection : Redirect → List Said → Parts
+redirection r options = record { body = bodies.Redirect r; options = options }
+
+module _ {R A : Type 0} (stream : R → Stream) (old mid new : Node R A) (x y : List (ℕ × Out A)) (now : ℕ) (source destination : Addr) (r : Redirect) (options : List Said) (hop : NextHop)
+    (stands : (start : Start) (c : Chronicle) → Stands stream start old c → Stands stream start mid c)
+    (next : (start : Start) (c : Chronicle) → Stands stream start old c → last_moment start.at c ≤ now → IsNextHop c now r.destination hop) where
+  -- it comes from the current first hop
+  pub directed : hop ≡ via (number_of source.0) → AddsMessage stream mid new x y now source destination (redirection r options) → AddsJudged stream old new x y now source destination (redirection r options)
+  directed is adds = record {
+    each = λ frame start c s le ours.
+        let a = adds.each start c (stands start c s) le ours.target in (
+          valid source destination (redirection r options),
+          a.0,
+          IsTaken ours (subst (λ (h : NextHop). IsNextHop ((now, Passed) ∷ c) now r.destination h) is (next_later c now r.destination hop (next start c s le))),
+          a.1,
+          a.2,
+          a.3,
+        );
+  }
+
+  -- it comes from another node
+  pub misdirected : hop ≢ via (number_of source.0) → AddsAlone stream mid new x y now (Dropped NotFirstHop) → AddsJudged stream old new x y now source destination (redirection r options)
+  misdirected differs adds = record {
+    each = λ frame start c s le ours.
+        let a = adds.each start c (stands start c s) le in (
+          dropped NotFirstHop,
+          (now, Dropped NotFirstHop) ∷ (now, Passed) ∷ c,
+          IsMisdirected ours (hop, next_later c now r.destination hop (next start c s le), differs),
+          refl,
+          a.0,
+          a.1,
+        );
+  }
+
+-- ---- a frame
+
+module _ {R A : Type 0} (stream : R → Stream) (old new : Node R A) (x y : List (ℕ × Out A)) (now : ℕ) (frame : List ℕ) where
+  -- what it says by itself, at the role of the node
+  by_role : (start : Start) (c : Chronicle) (outcome : Outcome) → Stands stream start old c → Hears frame old.role outcome → Hears frame start.role outcome
+  by_role start c outcome s h = subst (λ (r : Role). Hears frame r outcome) s.role h
+
+  -- it is dropped for what it says by itself
+  pub dropped_by_frame : (why : Why) → Hears frame old.role (dropped why) → AddsAlone stream old new x y now (Dropped why) → AddsEvent stream old new x y now (events.Receives frame)
+  dropped_by_frame why h adds = record {
+    each = λ start c s le.
+        let a = adds.each start c s le in (
+          (now, Dropped why) ∷ (now, Passed) ∷ c,
+          record { outcome = dropped why; heard = record { outcome = dropped why; by_frame = by_role start c (dropped why) s h; by_node = IsDropped }; adds = refl },
+          a.0,
+          a.1,
+        );
+  }
+
+  module _ (source destination : Addr) (message : Parts) (h : Hears frame old.role (valid source destination message)) (ours : Bool)
+      (says : (start : Start) (c : Chronicle) → Stands stream start old c → ours ≡ true ↔ IsForUs start c source destination message) (same : SameTarget now source message) where
+    -- time that passed doesn't change for whom it is
+    for_us_later : (start : Start) (c : Chronicle) → IsForUs start c source destination message → IsForUs start ((now, Passed) ∷ c) source destination message
+    for_us_later start c f = record { destination_is = f.destination_is; target = same c ∙ f.target; awake = f.awake }
+
+    for_us_before : (start : Start) (c : Chronicle) → IsForUs start ((now, Passed) ∷ c) source destination message → IsForUs start c source destination message
+    for_us_before start c f = record { destination_is = f.destination_is; target = sym (same c) ∙ f.target; awake = f.awake }
+
+    pub message_judged : ours ≡ true → AddsJudged stream old new x y now source destination message → AddsEvent stream old new x y now (events.Receives frame)
+    message_judged is adds = record {
+      each = λ start c s le.
+          let a = adds.each frame start c s le (for_us_later start c ((says start c s).0 is)) in (
+            a.1,
+            record {
+              outcome = a.0;
+              heard = record { outcome = valid source destination message; by_frame = by_role start c (valid source destination message) s h; by_node = a.2 };
+              adds = a.3;
+            },
+            a.4,
+            a.5,
+          );
+    }
+
+    pub message_is_strange : ours ≡ false → AddsAlone stream old new x y now (Dropped NotForUs) → AddsEvent stream old new x y now (events.Receives frame)
+    message_is_strange is adds = record {
+      each = λ start c s le.
+          let a = adds.each start c s le in (
+            (now, Dropped NotForUs) ∷ (now, Passed) ∷ c,
+            record {
+              outcome = dropped NotForUs;
+              heard = record {
+                outcome = valid source destination message;
+                by_frame = by_role start c (valid source destination message) s h;
+                by_node = IsStrange (λ f. let yes' = (says start c s).1 (for_us_before start c f) in let never : ⊥ = cc in never);
+              };
+              adds = refl;
+            },
+            a.0,
+            a.1,
+          );
+    }
+
+  module _ (packet : PacketParts) (h : Hears frame old.role (other packet)) (ours : Bool) (says : (start : Start) (c : Chronicle) → Stands stream start old c → ours ≡ true ↔ IsPacketForUs start c packet) where
+    pub packet_is_strange : ours ≡ false → AddsAlone stream old new x y now (Dropped NotForUs) → AddsEvent stream old new x y now (events.Receives frame)
+    packet_is_strange is adds = record {
+      each = λ start c s le.
+          let a = adds.each start c s le in (
+            (now, Dropped NotForUs) ∷ (now, Passed) ∷ c,
+            record {
+              outcome = dropped NotForUs;
+              heard = record {
+                outcome = other packet;
+                by_frame = by_role start c (other packet) s h;
+                by_node = IsStrangePacket (λ f. let yes' = (says start c s).1 (record { destination_is = f.destination_is; up = f.up }) in let never : ⊥ = cc in never);
+              };
+              adds = refl;
+            },
+            a.0,
+            a.1,
+          );
+    }
+
+    pub packet_goes_up : ours ≡ true → AddsAlone stream old new x y now (Up (take (ipv6_header_length + payload_length_of (packet_in frame)) (packet_in frame))) → AddsEvent stream old new x y now (events.Receives frame)
+    packet_goes_up is adds = record {
+      each = λ start c s le.
+          let a = adds.each start c s le in
+          let f = (says start c s).0 is in (
+            (now, Up (take (ipv6_header_length + payload_length_of (packet_in frame)) (packet_in frame))) ∷ (now, Passed) ∷ c,
+            record {
+              outcome = other packet;
+              heard = record {
+                outcome = other packet;
+                by_frame = by_role start c (other packet) s h;
+                by_node = IsPacket (record { destination_is = f.destination_is; up = f.up });
+              };
+              adds = refl;
+            },
+            a.0,
+            a.1,
+          );
+    }
+
+-- what is asked of the target is the same once time has passed
+pub same_target : (now : ℕ) (source : Addr) (body : Body) (options : List Said) → SameTarget now source (record { body = body; options = options })
+same_target now source bodies.Rs options c = refl
+same_target now source (bodies.Ra ra) options c = refl
+same_target now source (bodies.Ns ns) options c = refl
+same_target now source (bodies.Na na) options c = refl
+same_target now source (bodies.Redirect r) options c = refl
+
+-- ---- the bytes of a packet
+
+ends_with_payload : (m n : ℕ) → min (40 + min (40 + n - 40) (m - 40)) m ≡ min (40 + n) m
+ends_with_payload m n = omega arith
+
+-- a payload is as long as the header says, where the frame has so many bytes
+pub up_to_payload : (bytes : List ℕ) (n : ℕ) → take (40 + length (slice_range bytes 40 (40 + n))) bytes ≡ take (40 + n) bytes
+up_to_payload bytes n =
+    let rest : List ℕ = drop 40 bytes in
+    let long : length (take (40 + n - 40) rest) ≡ min (40 + n - 40) (length bytes - 40) = length-take (40 + n - 40) rest ∙ ap (λ (k : ℕ). min (40 + n - 40) k) (length-drop 40 bytes) in
+    sym (take_min (40 + length (take (40 + n - 40) rest)) bytes)
+    ∙ (ap (λ (k : ℕ). take k bytes) (ap (λ (k : ℕ). min (40 + k) (length bytes)) long ∙ ends_with_payload (length bytes) n) ∙ take_min (40 + n) bytes)

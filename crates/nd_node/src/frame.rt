@@ -1,0 +1,101 @@
+//! A frame that comes.
+
+ghost use Rattle.std.specs.Prelude.{◌≡◌, ◌+◌, ◌<◌, ◌^◌, ℕ, List, OnOk, OnErr, take};
+ghost use Rattle.nd_addr.specs.Ip6.{ipv6_header_length, packet_parts};
+ghost use Rattle.nd_addr.specs.Places.{packet_in};
+ghost use Rattle.nd_decode.specs.Message.{parts};
+ghost use Rattle.nd_validity.specs.Hearing.{Hears, other, valid};
+ghost use Rattle.nd_chronicle.specs.Event as events;
+ghost use Rattle.nd_node.specs.Event.{AddsEvent};
+ghost use Rattle.nd_node.specs.Frame.{Stays};
+
+use crate::node::Node;
+use nd_addr::{ETHERNET_HEADER_LENGTH, HEADERS_LENGTH, Ip6Ref, Why};
+use nd_out::Out;
+use nd_validity::{Heard, Hearing, hear};
+use rand_core::Rng;
+use std::alloc::{AllocError, Allocator};
+
+/// How many bytes an IPv6 header has (RFC 8200, section 3).
+const IPV6_HEADER_LENGTH: usize = HEADERS_LENGTH - ETHERNET_HEADER_LENGTH;
+
+/// The packet in a frame, from its IPv6 header to the end of a payload of this length: padding behind it is left out.
+fn packet_in(frame: &[u8], payload_length: usize) -> &[u8]
+    ensures { result.now ≡ take (ipv6_header_length + payload_length) (packet_in frame.now) }
+{
+    let packet = &frame[ETHERNET_HEADER_LENGTH.min(frame.len())..];
+    let length = IPV6_HEADER_LENGTH.saturating_add(payload_length);
+    &packet[..length.min(packet.len())]
+}
+
+impl<R: Rng + Drop, A: Allocator + Clone> Node<R, A> {
+    ghost use Rattle.nd_node.specs.Node.{next_of};
+
+    /// A packet that is no message of Neighbor Discovery goes to the upper layer, if it is for an assigned address.
+    fn hear_packet(
+        &mut self,
+        now: u64,
+        frame: &[u8],
+        packet: Ip6Ref<'_>,
+        outs: &mut Vec<(u64, Out<A>), A>,
+    ) -> Result<(), AllocError>
+        requires settled { now < next_of self.old }
+        requires by_frame { Hears frame.now self.old.role (other (packet_parts packet)) }
+        ensures adds { OnOk result (AddsEvent R.stream self.old self.new outs.old.items outs.new.items now (events.Receives frame.now)) }
+        ensures stays { OnErr result (Stays R.stream self.old self.new) }
+        ensures told { OnErr result (outs.new.items ≡ outs.old.items) }
+    {
+        if !self.is_packet_for_us(packet.header.destination) {
+            return self.drop_frame(now, Why::NotForUs, outs);
+        }
+        let mut up = Vec::new(outs.allocator().clone()?);
+        up.extend_from_slice(packet_in(frame, packet.payload.len()))?;
+        outs.push((now, Out::Up(up)))?;
+        self.last = now;
+        Ok(())
+    }
+
+    /// A valid message is heard, if it is for this node.
+    fn judge_message(
+        &mut self,
+        now: u64,
+        heard: &Heard<'_>,
+        outs: &mut Vec<(u64, Out<A>), A>,
+    ) -> Result<(), AllocError>
+        requires moment { now < 2 ^ 62 }
+        requires settled { now < next_of self.old }
+        ensures adds { OnOk result ((frame : List ℕ) → Hears frame self.old.role (valid heard.now.source heard.now.destination (parts heard.now.message)) → AddsEvent R.stream self.old self.new outs.old.items outs.new.items now (events.Receives frame)) }
+        ensures stays { OnErr result (Stays R.stream self.old self.new) }
+        ensures told { OnErr result (outs.new.items ≡ outs.old.items) }
+    {
+        let source = heard.source;
+        let destination = heard.destination;
+        let message = heard.message;
+        if !self.is_for_us(source, destination, &message.body) {
+            return self.drop_frame(now, Why::NotForUs, outs);
+        }
+        self.hear_message(now, source, destination, &message.body, message.options, outs)
+    }
+
+    /// A frame comes at a moment, in milliseconds, up to which nothing is due: it is dropped for the first reason that holds, a message
+    /// that is for this node is heard, and another packet for it goes to the upper layer (RFC 4861, sections 6.1, 7.1 and 8.1). The error
+    /// is want of memory, and then nothing has happened.
+    pub(crate) fn receive(
+        &mut self,
+        now: u64,
+        frame: &[u8],
+        outs: &mut Vec<(u64, Out<A>), A>,
+    ) -> Result<(), AllocError>
+        requires moment { now < 2 ^ 62 }
+        requires settled { now < next_of self.old }
+        ensures adds { OnOk result (AddsEvent R.stream self.old self.new outs.old.items outs.new.items now (events.Receives frame.now)) }
+        ensures stays { OnErr result (Stays R.stream self.old self.new) }
+        ensures told { OnErr result (outs.new.items ≡ outs.old.items) }
+    {
+        match hear(frame, self.role) {
+            Hearing::Drop(why) => self.drop_frame(now, why, outs),
+            Hearing::Other(packet) => self.hear_packet(now, frame, packet, outs),
+            Hearing::Valid(heard) => self.judge_message(now, &heard, outs),
+        }
+    }
+}

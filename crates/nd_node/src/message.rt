@@ -1,0 +1,108 @@
+//! A valid message that is for this node.
+
+ghost use Rattle.std.specs.Prelude.{◌≡◌, ◌↔◌, ◌<◌, ◌^◌, OnOk, OnErr, true};
+ghost use Rattle.nd_addr.specs.Number.{number_of};
+ghost use Rattle.nd_decode.specs.Pieces.{options_left};
+ghost use Rattle.nd_decode.specs.declared.body.Body.TheVariants as bodies;
+ghost use Rattle.nd_nexthop.specs.NextHop.{hop_of, via};
+ghost use Rattle.nd_chronicle.specs.Happening.{Dropped};
+ghost use Rattle.nd_node.specs.Frame.{AddsAlone, AddsJudged, Stays};
+
+use crate::node::Node;
+use nd_addr::{Addr, Why};
+use nd_decode::{Body, Options, Redirect};
+use nd_nexthop::Hop;
+use nd_out::Out;
+use nd_table::compare;
+use rand_core::Rng;
+use std::alloc::{AllocError, Allocator};
+
+/// Whether a next hop is this node on the link, and not the destination itself.
+fn is_via(hop: Hop, addr: Addr) -> bool
+    ensures { result ≡ true ↔ (hop_of hop ≡ via (number_of addr.0)) }
+{
+    match hop {
+        Hop::Via(router) => compare(router, addr).is_eq(),
+        Hop::Direct | Hop::NoRoute => false,
+    }
+}
+
+impl<R: Rng + Drop, A: Allocator + Clone> Node<R, A> {
+    ghost use Rattle.nd_node.specs.Node.{next_of};
+
+    /// A frame is dropped at a moment, in milliseconds, for a reason, which is told. The error is want of memory, and then nothing has
+    /// changed.
+    pub(crate) fn drop_frame(
+        &mut self,
+        now: u64,
+        why: Why,
+        outs: &mut Vec<(u64, Out<A>), A>,
+    ) -> Result<(), AllocError>
+        requires settled { now < next_of self.old }
+        ensures adds { OnOk result (AddsAlone R.stream self.old self.new outs.old.items outs.new.items now (Dropped why)) }
+        ensures keeps { OnErr result (self.new ≡ self.old) }
+        ensures told { OnErr result (outs.new.items ≡ outs.old.items) }
+    {
+        outs.push((now, Out::Dropped(why)))?;
+        self.last = now;
+        Ok(())
+    }
+
+    /// A Redirect that is for this node is heard, if it comes from the current first hop of its destination (RFC 4861, section 8.1). It
+    /// is asked of the tables as they are before the Redirect changes them.
+    fn judge_redirect(
+        &mut self,
+        now: u64,
+        source: Addr,
+        destination: Addr,
+        redirect: &Redirect,
+        options: Options<'_>,
+        outs: &mut Vec<(u64, Out<A>), A>,
+    ) -> Result<(), AllocError>
+        requires moment { now < 2 ^ 62 }
+        requires settled { now < next_of self.old }
+        ensures adds { OnOk result (AddsJudged R.stream self.old self.new outs.old.items outs.new.items now source destination (record { body = bodies.Redirect redirect.now; options = options_left options.entry })) }
+        ensures stays { OnErr result (Stays R.stream self.old self.new) }
+        ensures told { OnErr result (outs.new.items ≡ outs.old.items) }
+    {
+        let hop = self.next_hop(now, redirect.destination);
+        if !is_via(hop, source) {
+            return self.drop_frame(now, Why::NotFirstHop, outs);
+        }
+        self.hear_redirect(now, source, destination, redirect, options, outs)
+    }
+
+    /// A valid message that is for this node is heard at a moment, in milliseconds (RFC 4861, sections 6.2.6, 6.3.4, 7.2.3, 7.2.5 and
+    /// 8.3). The error is want of memory, and then nothing has happened.
+    pub(crate) fn hear_message(
+        &mut self,
+        now: u64,
+        source: Addr,
+        destination: Addr,
+        body: &Body,
+        options: Options<'_>,
+        outs: &mut Vec<(u64, Out<A>), A>,
+    ) -> Result<(), AllocError>
+        requires moment { now < 2 ^ 62 }
+        requires settled { now < next_of self.old }
+        ensures adds { OnOk result (AddsJudged R.stream self.old self.new outs.old.items outs.new.items now source destination (record { body = body.now; options = options_left options.entry })) }
+        ensures stays { OnErr result (Stays R.stream self.old self.new) }
+        ensures told { OnErr result (outs.new.items ≡ outs.old.items) }
+    {
+        match body {
+            Body::Rs => self.hear_router_solicitation(now, source, destination, options, outs),
+            Body::Ra(ra) => {
+                self.hear_router_advertisement(now, source, destination, ra, options, outs)
+            }
+            Body::Ns(ns) => {
+                self.hear_neighbor_solicitation(now, source, destination, ns, options, outs)
+            }
+            Body::Na(na) => {
+                self.hear_neighbor_advertisement(now, source, destination, na, options, outs)
+            }
+            Body::Redirect(redirect) => {
+                self.judge_redirect(now, source, destination, redirect, options, outs)
+            }
+        }
+    }
+}

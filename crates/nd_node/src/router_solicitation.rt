@@ -1,0 +1,64 @@
+ghost use Rattle.std.specs.Prelude.{◌≡◌, ◌<◌, ◌^◌, OnOk, OnErr};
+ghost use Rattle.nd_decode.specs.Pieces.{options_left};
+ghost use Rattle.nd_decode.specs.declared.body.Body.TheVariants as bodies;
+ghost use Rattle.nd_node.specs.Hearing.{AddsMessage};
+
+use crate::link_layer_address::{hear_of_neighbour, news_of, waiting_for};
+use crate::node::Node;
+use crate::packet::times_in_force;
+use crate::place::has_place;
+use nd_addr::Addr;
+use nd_decode::{Body, Options};
+use nd_out::{Limit, Out, Refusal};
+use rand_core::Rng;
+use std::alloc::{AllocError, Allocator};
+
+/// How many places a solicitation takes beside those of the packets that it releases: one for what is heard.
+const MOST_SOLICITED: usize = 1;
+
+impl<R: Rng + Drop, A: Allocator + Clone> Node<R, A> {
+    ghost use Rattle.nd_node.specs.Node.{next_of};
+
+    /// A Router Solicitation is heard at a moment, in milliseconds: what it says of its sender is taken (RFC 4861, section 6.2.6). It is
+    /// refused where the sender has no place among the neighbours. The error is want of memory, and then nothing has changed.
+    pub(crate) fn hear_router_solicitation(
+        &mut self,
+        now: u64,
+        source: Addr,
+        destination: Addr,
+        options: Options<'_>,
+        outs: &mut Vec<(u64, Out<A>), A>,
+    ) -> Result<(), AllocError>
+        requires moment { now < 2 ^ 62 }
+        requires settled { now < next_of self.old }
+        ensures adds { OnOk result (AddsMessage R.stream self.old self.new outs.old.items outs.new.items now source destination (record { body = bodies.Rs; options = options_left options.entry })) }
+        ensures keeps { OnErr result (self.new ≡ self.old) }
+        ensures told { OnErr result (outs.new.items ≡ outs.old.items) }
+    {
+        nd_neighbour::laws::none_overdue();
+        nd_neighbour::laws::one_is_pushed_out();
+        let body = Body::Rs;
+        let news = news_of(source, &body, options);
+        if !has_place(&self.neighbours, now, news) {
+            let full = Out::Refused(Refusal::Full(Limit::Neighbours));
+            outs.push((now, full))?;
+            self.last = now;
+            return Ok(());
+        }
+        let waiting = waiting_for(&self.neighbours, news);
+        let places = waiting.checked_add(MOST_SOLICITED).ok_or(AllocError)?;
+        outs.reserve(places)?;
+        self.last = now;
+        outs.push_reserved((
+            now,
+            Out::Heard {
+                source,
+                destination,
+                body,
+            },
+        ));
+        let times = times_in_force(&self.params);
+        hear_of_neighbour(&mut self.neighbours, now, news, times, outs);
+        Ok(())
+    }
+}
