@@ -30,13 +30,12 @@ use Rattle.nd_slaac.specs.Due as address_due
 use Rattle.nd_slaac.specs.History as address_rows
 use Rattle.nd_slaac.specs.State as states
 use Rattle.nd_slaac.specs.Table as addresses
-use Rattle.nd_chronicle.specs.Start.{Start}
 use Rattle.nd_chronicle.specs.Happening.{Chronicle, Address, Heard, LeftRouter, Passed, last_moment}
 use Rattle.nd_chronicle.specs.Histories.{neighbour_history, router_history, address_history, redirect_history, said_of_neighbour, advertised_by}
 use Rattle.nd_chronicle.specs.InForce.{reachable_time}
 use Rattle.nd_chronicle.specs.LinkLayerAddress.{first_tlla}
 use Rattle.nd_chronicle.specs.Message.{said, releasing, leaving}
-use Rattle.nd_chronicle.specs.NeighborAdvertisement.{conflicting, ends_in_list, then_neighbor_advertised}
+use Rattle.nd_chronicle.specs.NeighborAdvertisement.{conflicting, ends_in_list}
 use Rattle.nd_chronicle.specs.OwnAddress.{is_tentative}
 use Rattle.nd_chronicle.specs.Told.{lines_of, text}
 use Rattle.nd_out.specs.declared.out.Out.{Out}
@@ -46,9 +45,8 @@ use Rattle.nd_node.specs.DefaultRouter.{with_left, with_gone}
 use Rattle.nd_node.specs.Hearing.{AddsMessage}
 use Rattle.nd_node.specs.LinkLayerAddress.{said_by, HasPlace, HearsOf, released_frames}
 use Rattle.nd_node.specs.NeighborAdvertisement.{Conflicts, Leaves, with_conflict, told_conflict, told_left}
-use Rattle.nd_node.specs.Node.{Stands, next_of}
+use Rattle.nd_node.specs.Node.{next_of}
 use Rattle.nd_node.specs.Told.{at_moment, happenings, Tells}
-use Rattle.nd_node.proofs.NextHops.{settled_routers}
 use Rattle.nd_node.proofs.Quiet.{Quiet}
 use Rattle.nd_node.proofs.Saying.{NoneOverdueStill, OneGoes, OverdueByTable, none_before_said, releasing_is_quiet, releasing_text}
 use Rattle.nd_node.proofs.Standing.{Apart, Still, apart_quiet, apart_then, settled_none, stands_at}

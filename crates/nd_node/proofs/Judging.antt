@@ -9,18 +9,17 @@ use Rattle.nd_addr.specs.declared.why.Why.{Why}
 use Rattle.nd_addr.specs.declared.why.Why.TheVariants.{NotForUs, NotFirstHop}
 use Rattle.nd_addr.specs.Ip6.{PacketParts, ipv6_header_length, payload_length_of}
 use Rattle.nd_addr.specs.Number.{number_of}
-use Rattle.nd_addr.specs.Places.{packet_in, parts_in}
+use Rattle.nd_addr.specs.Places.{packet_in}
 use Rattle.nd_decode.specs.Message.{Parts}
 use Rattle.nd_decode.specs.Option.{Said}
 use Rattle.nd_decode.specs.declared.body.Body.{Body}
 use Rattle.nd_decode.specs.declared.body.Body.TheVariants as bodies
 use Rattle.nd_decode.specs.declared.redirect.Redirect.{Redirect}
 use Rattle.nd_validity.specs.Hearing.{Outcome, Hears, valid, other, dropped}
-use Rattle.nd_neighbour.specs.Table as neighbours
 use Rattle.nd_nexthop.specs.NextHop.{NextHop, via}
 use Rattle.nd_chronicle.specs.Start.{Start}
 use Rattle.nd_chronicle.specs.Happening.{Chronicle, Happening, Dropped, Up, Passed, last_moment}
-use Rattle.nd_chronicle.specs.Hearing.{FromFirstHop, IsForUs, IsPacketForUs, Judges, IsDropped, IsTaken, IsStrange, IsMisdirected, IsPacket, IsStrangePacket, takes_target}
+use Rattle.nd_chronicle.specs.Hearing.{FromFirstHop, IsForUs, IsPacketForUs, IsDropped, IsTaken, IsStrange, IsMisdirected, IsPacket, IsStrangePacket, takes_target}
 use Rattle.nd_chronicle.specs.NextHop.{IsNextHop}
 use Rattle.nd_chronicle.specs.Event as events
 use Rattle.nd_chronicle.specs.Told.{lines_of, text}
@@ -31,6 +30,7 @@ use Rattle.nd_node.specs.Event.{AddsEvent}
 use Rattle.nd_node.specs.Frame.{AddsAlone, AddsJudged, Stays}
 use Rattle.nd_node.specs.Hearing.{AddsMessage, Keeps}
 use Rattle.nd_node.specs.Node.{Stands, next_of}
+use Rattle.nd_node.specs.Time.{Leads, Onward}
 use Rattle.nd_node.specs.Told.{happenings}
 use Rattle.nd_node.proofs.Quiet.{Quiet, stands_quiet}
 use Rattle.nd_node.proofs.Steps.{one_more, passed}
@@ -126,6 +126,18 @@ stays_keeps stream old new k = record {
 
 pub stays_then : {R A : Type 0} (stream : R → Stream) (old mid new : Node R A) → ((start : Start) (c : Chronicle) → Stands stream start old c → Stands stream start mid c) → Stays stream mid new → Stays stream old new
 stays_then stream old mid new first then = record { each = λ start c s. then.each start c (first start c s) }
+
+-- what was left to walk is left
+pub stays_onward : {R A : Type 0} (stream : R → Stream) (old mid new : Node R A) (x y z : List (ℕ × Out A)) (now : ℕ) → Leads stream old mid x y (Onward now) → Stays stream mid new → z ≡ y → Leads stream old new x z (Onward now)
+stays_onward stream old mid new x y z now leads stays same = record {
+  each = λ start c s.
+      let d = leads.each start c s in (
+        d.0,
+        d.1,
+        stays.each start d.0 d.2,
+        rw same d.3,
+      );
+}
 
 -- ---- time that passed changes none of the questions
 

@@ -7,13 +7,12 @@ use Rattle.nd_addr.specs.declared.addr.Addr.{Addr}
 use Rattle.nd_addr.specs.Kind.{multicast_prefix, unspecified_address, loopback_address}
 use Rattle.nd_addr.specs.Number.{number_of, holds}
 use Rattle.nd_lifetime.specs.declared.lasting.Lasting.{Lasting}
-use Rattle.nd_lifetime.specs.Listing.{Lists, open_at}
-use Rattle.nd_lifetime.specs.Same.{same_prefix}
+use Rattle.nd_lifetime.specs.Listing.{open_at}
 use Rattle.nd_lifetime.proofs.Behind.{open_all}
 use Rattle.nd_lifetime.proofs.Steps.{lists_at}
-use Rattle.nd_neighbour.specs.Entry.{Node, known_mac}
+use Rattle.nd_neighbour.specs.Entry.{Node}
 use Rattle.nd_neighbour.specs.History as neighbour_rows
-use Rattle.nd_neighbour.specs.Story.{is_present, mac_of, stage_by, node_of}
+use Rattle.nd_neighbour.specs.Story.{is_present, mac_of, node_of}
 use Rattle.nd_neighbour.specs.Table as neighbours
 use Rattle.nd_neighbour.specs.Due as neighbour_dates
 use Rattle.nd_slaac.specs.Dates as address_dates
@@ -36,8 +35,8 @@ use Rattle.nd_slaac.proofs.Destinations.{counted_by_history}
 use Rattle.rand_core.specs.Stream.{Stream}
 use Rattle.nd_chronicle.specs.Start.{Start}
 use Rattle.nd_chronicle.specs.Happening.{Chronicle, last_moment}
-use Rattle.nd_chronicle.specs.Histories.{neighbour_history, router_history, prefix_history, address_history, redirect_history}
-use Rattle.nd_chronicle.specs.NextHop.{candidate, AreRouters, IsNextHop}
+use Rattle.nd_chronicle.specs.Histories.{neighbour_history, router_history, address_history, redirect_history}
+use Rattle.nd_chronicle.specs.NextHop.{candidate, IsNextHop}
 use Rattle.nd_chronicle.specs.OwnAddress.{is_own}
 use Rattle.nd_node.specs.declared.node.Node as nodes
 use Rattle.nd_node.specs.Moments.{earlier}

@@ -1,11 +1,8 @@
 -- A message that says something of a neighbour, and perhaps redirects a destination, and the chronicle that a node stands for.
 use Rattle.std.proofs.Common.{◌≡◌, ℕ, ◌<◌, ◌≤◌, Bool, true, false, List, [], ◌∷◌, ◌++◌, append-nil, Option, Some, None, refl, sym, ◌∙◌, ap, subst, arith}
-use Rattle.std.specs.Prelude.{MatchBool, if◌then◌else◌}
-use Rattle.std.specs.List.{flat_map}
 use Rattle.std.specs.Option.{option_map}
 use Rattle.rand_core.specs.Stream.{Stream}
 use Rattle.nd_addr.specs.declared.addr.Addr.{Addr}
-use Rattle.nd_addr.specs.Number.{number_of}
 use Rattle.nd_decode.specs.Message.{Parts}
 use Rattle.nd_decode.specs.Option.{Said}
 use Rattle.nd_decode.specs.declared.body.Body.TheVariants as bodies
@@ -22,10 +19,9 @@ use Rattle.nd_nexthop.specs.Choice as choice
 use Rattle.nd_slaac.specs.Table as addresses
 use Rattle.nd_chronicle.specs.Start.{Start}
 use Rattle.nd_chronicle.specs.Happening.{Chronicle, Heard, Passed, Refused, Full, Limit, Neighbours, last_moment}
-use Rattle.nd_chronicle.specs.Histories.{neighbour_history, router_history, address_history, redirect_history, said_of_neighbour, then_neighbour, then_redirect}
+use Rattle.nd_chronicle.specs.Histories.{neighbour_history, router_history, redirect_history, said_of_neighbour, then_neighbour, then_redirect}
 use Rattle.nd_chronicle.specs.Due.{assigned_at}
 use Rattle.nd_chronicle.specs.Full.{entering, needs, Placed, MessageFills, Fills}
-use Rattle.nd_chronicle.specs.InForce.{reachable_time}
 use Rattle.nd_chronicle.specs.Message.{said, PlaceFor, releasing}
 use Rattle.nd_chronicle.specs.Event.{MessageAdds}
 use Rattle.nd_chronicle.specs.Told.{lines_of, text}
@@ -38,7 +34,7 @@ use Rattle.nd_node.specs.Node.{Stands, next_of}
 use Rattle.nd_node.specs.Told.{at_moment, happenings, Tells}
 use Rattle.nd_node.proofs.Quiet.{Quiet, stands_quiet}
 use Rattle.nd_node.proofs.Saying.{NoneOverdueStill, OneGoes, Others, OverdueByTable, none_before_said, placed_by, released_kept, releasing_is_quiet, releasing_text}
-use Rattle.nd_node.proofs.Standing.{Apart, Still, apart_quiet, apart_then, stands_at}
+use Rattle.nd_node.proofs.Standing.{Apart, Still, apart_then, stands_at}
 use Rattle.nd_node.proofs.Steps.{one_more, passed}
 use Rattle.nd_node.proofs.Telling.{one, above_silent, Tells-then}
 use Rattle.nd_node.proofs.Turns.{addresses_before, neighbours_before, routers_before}

@@ -16,7 +16,7 @@ use Rattle.nd_chronicle.specs.Happening.{Chronicle, Sent, last_moment}
 use Rattle.nd_chronicle.specs.Histories.{parameter_history, neighbour_history, router_history, prefix_history, address_history, server_history, name_history, redirect_history, then_neighbour}
 use Rattle.nd_chronicle.specs.Generator.{stream_left}
 use Rattle.nd_chronicle.specs.Due.{solicited_routers}
-use Rattle.nd_chronicle.specs.Message.{lets_enter, PlaceFor, releasing, releasing_by, sending_if_known}
+use Rattle.nd_chronicle.specs.Message.{lets_enter, PlaceFor, releasing, sending_if_known}
 use Rattle.nd_chronicle.specs.Packet.{with_pushed, sending}
 use Rattle.nd_chronicle.specs.Told.{lines_of, text}
 use Rattle.nd_node.specs.LinkLayerAddress.{PreparesFor, sent_if_known, released_frames}

@@ -1,6 +1,6 @@
 -- A node stands for a chronicle with more rows of a moment, where these concern neither the parameters nor the prefixes nor the servers and
 -- names.
-use Rattle.std.proofs.Common.{◌≡◌, ℕ, ◌<◌, ◌≤◌, Option, Some, None, refl, sym, ◌∙◌, ap, arith}
+use Rattle.std.proofs.Common.{◌≡◌, ℕ, ◌≤◌, Option, Some, None, sym, ◌∙◌, ap, arith}
 use Rattle.std.specs.Prelude.{IsTrue}
 use Rattle.rand_core.specs.Stream.{Stream}
 use Rattle.nd_table.specs.Due.{NotBefore}

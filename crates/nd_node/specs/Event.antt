@@ -12,7 +12,7 @@ use Rattle.nd_node.specs.declared.node.Node.{Node}
 use Rattle.nd_node.specs.declared.event.Table.{Table}
 use Rattle.nd_node.specs.declared.event.Table.TheVariants.{Neighbours, Routers, Prefixes, Addresses, Dns, Redirects, Params, Advertise, Routes}
 use Rattle.nd_node.specs.declared.event.Event.{Event}
-use Rattle.nd_node.specs.declared.event.Event.TheVariants.{Passes, Shows}
+use Rattle.nd_node.specs.declared.event.Event.TheVariants.{Passes, Receives, Shows}
 use Rattle.nd_node.specs.Node.{Stands}
 use Rattle.nd_node.specs.Told.{Tells}
 
@@ -27,8 +27,9 @@ table_of Params = shown.ParameterTable
 table_of Advertise = shown.AdvertiseTable
 table_of Routes = shown.RouteTable
 
-abbrev pub event_of : Event → events.Event
+abbrev pub event_of : {A : Type 0} → Event A → events.Event
 event_of Passes = events.Passes
+event_of (Receives frame) = events.Receives frame.items
 event_of (Shows table) = events.Shows (table_of table)
 
 -- what follows where the event comes

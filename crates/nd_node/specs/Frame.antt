@@ -1,8 +1,7 @@
 -- A frame that comes, and a message that is for the node.
-use Rattle.std.specs.Prelude.{◌≡◌, ℕ, true, false, List, ◌∷◌, ◌≤◌}
+use Rattle.std.specs.Prelude.{ℕ, List, ◌∷◌, ◌≤◌}
 use Rattle.rand_core.specs.Stream.{Stream}
 use Rattle.nd_addr.specs.declared.addr.Addr.{Addr}
-use Rattle.nd_addr.specs.declared.why.Why.{Why}
 use Rattle.nd_decode.specs.Message.{Parts}
 use Rattle.nd_validity.specs.Hearing.{Outcome, valid}
 use Rattle.nd_chronicle.specs.Start.{Start}

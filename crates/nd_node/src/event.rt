@@ -2,6 +2,7 @@ ghost use Rattle.std.specs.Prelude.{◌≡◌, ℕ, ◌^◌, ◌<◌, OnOk, OnEr
 ghost use Rattle.nd_chronicle.specs.Event.{EventAdds};
 ghost use Rattle.nd_chronicle.specs.Happening.{Passed};
 ghost use Rattle.nd_node.specs.Event.{event_of, AddsEvent, FollowsBy};
+ghost use Rattle.nd_node.specs.Frame.{Stays};
 ghost use Rattle.nd_node.specs.Time.{Leads, Onward};
 
 use crate::node::Node;
@@ -33,10 +34,12 @@ pub enum Table {
 }
 
 /// What comes to a node from outside.
-#[derive(Clone, Copy, Debug, PartialEq, Eq)]
-pub enum Event {
+#[derive(Drop)]
+pub enum Event<A: Allocator> {
     /// Time passes.
     Passes,
+    /// A frame comes, from its Ethernet destination on (RFC 2464, section 3).
+    Receives(Vec<u8, A>),
     /// A table is shown.
     Shows(Table),
 }
@@ -51,7 +54,7 @@ impl<R: Rng + Drop, A: Allocator + Clone> Node<R, A> {
     pub fn event(
         &mut self,
         now: u64,
-        event: Event,
+        event: Event<A>,
         outs: &mut Vec<(u64, Out<A>), A>,
     ) -> Result<(), AllocError>
         requires { now < 2 ^ 62 }
@@ -66,17 +69,17 @@ impl<R: Rng + Drop, A: Allocator + Clone> Node<R, A> {
         self.add(now, event, outs)
     }
 
-    /// What an event adds, once all that is due up to it is done. The error is want of memory, and then nothing has changed.
+    /// What an event adds, once all that is due up to it is done. The error is want of memory, and then nothing has happened.
     fn add(
         &mut self,
         now: u64,
-        event: Event,
+        event: Event<A>,
         outs: &mut Vec<(u64, Out<A>), A>,
     ) -> Result<(), AllocError>
         requires moment { now < 2 ^ 62 }
         requires settled { now < next_of self.old }
         ensures adds { OnOk result (AddsEvent R.stream self.old self.new outs.old.items outs.new.items now (event_of event)) }
-        ensures same { OnErr result (self.new ≡ self.old) }
+        ensures stays { OnErr result (Stays R.stream self.old self.new) }
         ensures told { OnErr result (outs.new.items ≡ outs.old.items) }
     {
         match event {
@@ -84,6 +87,7 @@ impl<R: Rng + Drop, A: Allocator + Clone> Node<R, A> {
                 self.last = now;
                 Ok(())
             }
+            Event::Receives(frame) => self.receive(now, &frame, outs),
             Event::Shows(table) => {
                 let rows = self.rows(outs.allocator(), now, table)?;
                 outs.push((now, Out::Shown(rows)))?;

@@ -74,7 +74,14 @@ impl<R: Rng + Drop, A: Allocator + Clone> Node<R, A> {
         if !self.is_for_us(source, destination, &message.body) {
             return self.drop_frame(now, Why::NotForUs, outs);
         }
-        self.hear_message(now, source, destination, &message.body, message.options, outs)
+        self.hear_message(
+            now,
+            source,
+            destination,
+            &message.body,
+            message.options,
+            outs,
+        )
     }
 
     /// A frame comes at a moment, in milliseconds, up to which nothing is due: it is dropped for the first reason that holds, a message

@@ -1,5 +1,4 @@
 use Rattle.std.proofs.Common.{◌∙◌, ap}
-use Rattle.nd_addr.specs.Number.{number_of}
 use Rattle.nd_slaac.specs.PrefixOption.{link_local_of}
 use Rattle.nd_chronicle.specs.Hearing.{conflicts_with}
 use Rattle.nd_chronicle.specs.Histories.{address_history}

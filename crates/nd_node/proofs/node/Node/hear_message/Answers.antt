@@ -1,7 +1,7 @@
 use Rattle.std.proofs.Common.{refl}
 use Rattle.nd_decode.specs.Pieces.{options_left}
 use Rattle.nd_decode.specs.declared.body.Body.TheVariants as bodies
-use Rattle.nd_node.proofs.Judging.{judged, on_err, stays_same, stays_keeps}
+use Rattle.nd_node.proofs.Judging.{judged}
 use Rattle.nd_node.proofs.Rows.{on_ok}
 use Rattle.nd_node.proofs.node.Node.hear_message.Goals as goal
 

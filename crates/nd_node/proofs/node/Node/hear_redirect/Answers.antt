@@ -1,4 +1,4 @@
-use Rattle.std.proofs.Common.{refl, ◌∙◌, subst}
+use Rattle.std.proofs.Common.{refl, subst}
 use Rattle.std.specs.Prelude.{Bool}
 use Rattle.std.specs.Option.{option_map}
 use Rattle.nd_decode.specs.Pieces.{options_left}

@@ -1,6 +1,6 @@
 use Rattle.nd_decode.specs.Pieces.{options_left}
 use Rattle.nd_nexthop.specs.NextHop.{hop_of}
-use Rattle.nd_node.proofs.Judging.{directed, misdirected, on_err, stays_same, stays_then}
+use Rattle.nd_node.proofs.Judging.{directed, misdirected}
 use Rattle.nd_node.proofs.Rows.{on_ok}
 use Rattle.nd_node.proofs.node.Node.judge_redirect.Goals as goal
 

@@ -1,5 +1,5 @@
 use Rattle.std.proofs.Common.{subst}
-use Rattle.nd_validity.specs.Hearing.{Outcome, Hears, outcome}
+use Rattle.nd_validity.specs.Hearing.{Hears, outcome}
 use Rattle.nd_validity.specs.declared.hearing.Hearing.{Hearing}
 use Rattle.nd_node.proofs.Judging.{dropped_by_frame}
 use Rattle.nd_node.proofs.Rows.{on_ok}
