@@ -30,7 +30,6 @@ use Rattle.nd_node.specs.Event.{AddsEvent}
 use Rattle.nd_node.specs.Frame.{AddsAlone, AddsJudged, Stays}
 use Rattle.nd_node.specs.Hearing.{AddsMessage, Keeps}
 use Rattle.nd_node.specs.Node.{Stands, next_of}
-use Rattle.nd_node.specs.Time.{Leads, Onward}
 use Rattle.nd_node.specs.Told.{happenings}
 use Rattle.nd_node.proofs.Quiet.{Quiet, stands_quiet}
 use Rattle.nd_node.proofs.Steps.{one_more, passed}
@@ -126,18 +125,6 @@ stays_keeps stream old new k = record {
 
 pub stays_then : {R A : Type 0} (stream : R → Stream) (old mid new : Node R A) → ((start : Start) (c : Chronicle) → Stands stream start old c → Stands stream start mid c) → Stays stream mid new → Stays stream old new
 stays_then stream old mid new first then = record { each = λ start c s. then.each start c (first start c s) }
-
--- what was left to walk is left
-pub stays_onward : {R A : Type 0} (stream : R → Stream) (old mid new : Node R A) (x y z : List (ℕ × Out A)) (now : ℕ) → Leads stream old mid x y (Onward now) → Stays stream mid new → z ≡ y → Leads stream old new x z (Onward now)
-stays_onward stream old mid new x y z now leads stays same = record {
-  each = λ start c s.
-      let d = leads.each start c s in (
-        d.0,
-        d.1,
-        stays.each start d.0 d.2,
-        rw same d.3,
-      );
-}
 
 -- ---- time that passed changes none of the questions
 

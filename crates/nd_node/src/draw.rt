@@ -5,6 +5,9 @@ ghost use Rattle.nd_chronicle.specs.Generator.{drawn_from, reachable_drawn};
 use nd_params::reachable_range;
 use rand_core::Rng;
 
+/// How long the first solicitation for an address waits at most, in milliseconds (RFC 4861, section 10; RFC 4862, section 5.4.2).
+pub(crate) const MAX_RTR_SOLICITATION_DELAY: u64 = 1_000;
+
 /// A number of a range, both ends included, by the next word of a generator.
 pub(crate) fn drawn_from<R: Rng>(generator: &mut R, least: u64, greatest: u64) -> u64
     requires order { least ≤ greatest }

@@ -1,6 +1,6 @@
 ghost use Rattle.std.specs.Prelude.{◌≡◌, ◌^◌, ◌<◌, IfOk, IfErr};
 
-use crate::draw::{drawn_from, reachable_drawn};
+use crate::draw::{MAX_RTR_SOLICITATION_DELAY, drawn_from, reachable_drawn};
 use crate::room::Room;
 use crate::router_solicitations::RouterSolicitations;
 use nd_addr::{Mac, Role};
@@ -15,9 +15,6 @@ use std::alloc::Allocator;
 
 /// BaseReachableTime until a router tells one, in milliseconds (RFC 4861, section 10, REACHABLE_TIME).
 const REACHABLE_TIME: u32 = 30_000;
-
-/// How long the first solicitation for an address waits at most, in milliseconds (RFC 4861, section 10; RFC 4862, section 5.4.2).
-const MAX_RTR_SOLICITATION_DELAY: u64 = 1_000;
 
 /// A host or a router on its link. Each moment that a call takes or answers is in milliseconds, from a beginning that is the caller's.
 #[derive(Drop)]

@@ -9,14 +9,11 @@ ghost use Rattle.nd_chronicle.specs.Happening.{Chronicle};
 ghost use Rattle.nd_chronicle.specs.RouterAdvertisement.{then_option, then_options};
 ghost use Rattle.nd_node.specs.PrefixOptions.{delay_from, Forms};
 
-use crate::draw::drawn_from;
+use crate::draw::{MAX_RTR_SOLICITATION_DELAY, drawn_from};
 use nd_decode::{OptionRef, Options, PrefixInfo};
 use nd_slaac::Addresses;
 use rand_core::Rng;
 use std::alloc::Allocator;
-
-/// How long the first solicitation for an address waits at most, in milliseconds (RFC 4861, section 10; RFC 4862, section 5.4.2).
-const MAX_RTR_SOLICITATION_DELAY: u64 = 1_000;
 
 /// How long the first solicitation for an address waits, in milliseconds: that is drawn where one is formed by an advertisement that
 /// went to all (RFC 4862, section 5.4.2).
