@@ -1,6 +1,9 @@
 pub mod Partings
+pub mod Readings
 pub mod TableWords
+pub mod FrameWords
 pub mod CommandWords
 pub mod Lines
 pub mod Labels
 pub mod Runs
+pub mod OneText

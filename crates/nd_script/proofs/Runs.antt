@@ -17,9 +17,7 @@ use Rattle.nd_chronicle.specs.Told as chronicle
 use Rattle.nd_chronicle.specs.Told.{text}
 use Rattle.nd_out.specs.declared.out.Out.{Out}
 use Rattle.nd_out.specs.Out.{told, happening}
-use Rattle.nd_node.specs.declared.event.Event.{Event}
 use Rattle.nd_node.specs.declared.node.Node.{Node}
-use Rattle.nd_node.specs.Event as nodes
 use Rattle.nd_node.specs.Event.{FollowsBy}
 use Rattle.nd_node.specs.Node.{Stands}
 use Rattle.nd_node.specs.Time as time
@@ -54,14 +52,14 @@ event_answered stream old new at event outs before after leads written = record 
 }
 
 -- a line that says an event comes before what later lines say
-pub event_first : {R A : Type 0} (stream : R → Stream) (old new : Node R A) (line : List ℕ) (at : ℕ) (event : Event) (before after : List ℕ) → Says line at event
-    → (a : AnswersEvent stream old new at (nodes.event_of event) before after) → ComesFirst (Leads stream old) (Leads stream new) line a.told
+pub event_first : {R A : Type 0} (stream : R → Stream) (old new : Node R A) (line : List ℕ) (at : ℕ) (event : events.Event) (before after : List ℕ) → Says line at event
+    → (a : AnswersEvent stream old new at event before after) → ComesFirst (Leads stream old) (Leads stream new) line a.told
 event_first stream old new line at event before after said a n lines later found given = record {
   each = λ start c s.
       let next = a.each start c s in
       let on = given.each start next.0 next.2 in
       record {
-        said = (at, nodes.event_of event) ∷ on.said;
+        said = (at, event) ∷ on.said;
         say = says at event said on.say;
         end = on.end;
         runs = (next.0, next.1, on.runs);
@@ -94,7 +92,7 @@ no_text start n = record { said = []; say = (refl, refl); chronicle = beginning 
 
 -- the laws that are asked for
 pub record Laws : Type 0 where
-  pub one_reading : (line : List ℕ) (at other_at : ℕ) (event other_event : Event) → IsLine line at event → IsLine line other_at other_event → (at ≡ other_at) × (event ≡ other_event)
+  pub one_reading : (line : List ℕ) (at other_at : ℕ) (event other_event : events.Event) → IsLine line at event → IsLine line other_at other_event → (at ≡ other_at) × (event ≡ other_event)
   pub one_chronicle : (start : Start) (said : List (ℕ × events.Event)) (c d : Chronicle) → IsChronicle start said c → IsChronicle start said d → c ≡ d
   pub rows : (start : Start) (said : List (ℕ × events.Event)) (c d : Chronicle) → Runs start c said d → Grows c d
   pub told : (newer c : Chronicle) → text (newer ++ c) ≡ text c ++ text newer

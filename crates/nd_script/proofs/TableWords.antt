@@ -2,45 +2,54 @@
 use Rattle.std.proofs.Common.{◌≡◌, ◌∙◌, ℕ, ◌<◌, List, [], ◌∷◌, Some, get_or, length, eqb, if◌then◌else◌, ap, sym, refl, arith}
 use Rattle.std.specs.Prelude.{slice_get}
 use Rattle.nd_script.specs.Command.{table_word}
-use Rattle.nd_node.specs.declared.event.Table.{Table}
+use Rattle.nd_chronicle.specs.Shown.{Table, NeighbourTable, RouterTable, PrefixTable, AddressTable, DnsTable, RedirectTable, ParameterTable, AdvertiseTable, RouteTable}
+use Rattle.nd_node.specs.Event.{table_of}
+use Rattle.nd_node.specs.declared.event.Table as rust
 use Rattle.nd_node.specs.declared.event.Table.TheVariants.{Neighbours, Routers, Prefixes, Addresses, Dns, Redirects, Params, Advertise, Routes}
 
 -- the table of a word, by some of its bytes and its length
 abbrev pub told : List ℕ → Table
 told word =
-    if eqb (length word) 10 then Neighbours else
-    if eqb (length word) 7 then Routers else
-    if eqb (length word) 8 then Prefixes else
-    if eqb (length word) 3 then Dns else
-    if eqb (get_or word 2 0) 100 then (if eqb (get_or word 0 0) 97 then Addresses else Redirects) else
-    if eqb (length word) 9 then Advertise else
-    if eqb (get_or word 0 0) 112 then Params else Routes
+    if eqb (length word) 10 then NeighbourTable else
+    if eqb (length word) 7 then RouterTable else
+    if eqb (length word) 8 then PrefixTable else
+    if eqb (length word) 3 then DnsTable else
+    if eqb (get_or word 2 0) 100 then (if eqb (get_or word 0 0) 97 then AddressTable else RedirectTable) else
+    if eqb (length word) 9 then AdvertiseTable else
+    if eqb (get_or word 0 0) 112 then ParameterTable else RouteTable
 
 told_back : (table : Table) → told (table_word table) ≡ table
-told_back Neighbours = refl
-told_back Routers = refl
-told_back Prefixes = refl
-told_back Addresses = refl
-told_back Dns = refl
-told_back Redirects = refl
-told_back Params = refl
-told_back Advertise = refl
-told_back Routes = refl
+told_back NeighbourTable = refl
+told_back RouterTable = refl
+told_back PrefixTable = refl
+told_back AddressTable = refl
+told_back DnsTable = refl
+told_back RedirectTable = refl
+told_back ParameterTable = refl
+told_back AdvertiseTable = refl
+told_back RouteTable = refl
 
 pub one_table : (s t : Table) → table_word s ≡ table_word t → s ≡ t
 one_table s t e = sym (told_back s) ∙ ap told e ∙ told_back t
 
-abbrev tables : List Table
+abbrev tables : List rust.Table
 tables = Neighbours ∷ Routers ∷ Prefixes ∷ Addresses ∷ Dns ∷ Redirects ∷ Params ∷ Advertise ∷ Routes ∷ []
 
--- each table stands among the nine
-pub place : (table : Table) → (k : ℕ) × ((k < 9) × (slice_get tables k ≡ Some table))
-place Neighbours = (0, (omega arith, refl))
-place Routers = (1, (omega arith, refl))
-place Prefixes = (2, (omega arith, refl))
-place Addresses = (3, (omega arith, refl))
-place Dns = (4, (omega arith, refl))
-place Redirects = (5, (omega arith, refl))
-place Params = (6, (omega arith, refl))
-place Advertise = (7, (omega arith, refl))
-place Routes = (8, (omega arith, refl))
+-- where a table stands among the nine
+pub record Place (table : Table) : Type 0 where
+  pub at : ℕ
+  pub within : at < 9
+  pub found : rust.Table
+  pub there : slice_get tables at ≡ Some found
+  pub is_it : table_of found ≡ table
+
+pub place : (table : Table) → Place table
+place NeighbourTable = record { at = 0; within = omega arith; found = Neighbours; there = refl; is_it = refl }
+place RouterTable = record { at = 1; within = omega arith; found = Routers; there = refl; is_it = refl }
+place PrefixTable = record { at = 2; within = omega arith; found = Prefixes; there = refl; is_it = refl }
+place AddressTable = record { at = 3; within = omega arith; found = Addresses; there = refl; is_it = refl }
+place DnsTable = record { at = 4; within = omega arith; found = Dns; there = refl; is_it = refl }
+place RedirectTable = record { at = 5; within = omega arith; found = Redirects; there = refl; is_it = refl }
+place ParameterTable = record { at = 6; within = omega arith; found = Params; there = refl; is_it = refl }
+place AdvertiseTable = record { at = 7; within = omega arith; found = Advertise; there = refl; is_it = refl }
+place RouteTable = record { at = 8; within = omega arith; found = Routes; there = refl; is_it = refl }

@@ -1,4 +1,5 @@
 pub mod Words
+pub mod Frame
 pub mod Command
 pub mod Line
 pub mod Source

@@ -1,7 +1,7 @@
 -- The lines of a script (the texts are this project's own).
 use Rattle.std.specs.Prelude.{◌≡◌, ℕ, ◌<◌, ◌^◌, List, ◌∷◌, ◌++◌}
 use Rattle.std.specs.Fmt.{decimal}
-use Rattle.nd_node.specs.declared.event.Event.{Event}
+use Rattle.nd_chronicle.specs.Event.{Event}
 use Rattle.nd_script.specs.Command.{IsCommand}
 
 -- the bytes spell a moment in milliseconds and an event: a decimal number below 2^62 with no leading zero, one space, and its command

@@ -2,6 +2,7 @@
 #![tactic(auto)]
 
 mod command;
+mod frame;
 pub mod laws;
 mod line;
 mod number;

@@ -1,38 +1,48 @@
 //! The lines of a script.
 
-ghost use Rattle.std.specs.Prelude.{◌≡◌, ℕ, IfSome};
+ghost use Rattle.std.specs.Prelude.{◌≡◌, ℕ, None, Ok, IfSome, IfOk};
 ghost use Rattle.std.specs.Option.{IsSomeAnd};
+ghost use Rattle.nd_chronicle.specs.Event as events;
+ghost use Rattle.nd_node.specs.Event.{event_of};
 ghost use Rattle.nd_script.specs.Line.{IsLine};
 
 use crate::command::read_command;
 use crate::number::read_number;
 use crate::words::split_word;
 use nd_node::Event;
+use std::alloc::{AllocError, Allocator};
 
 /// A line of a script.
-#[derive(Clone, Copy, Debug, PartialEq, Eq)]
-pub struct Line {
+#[derive(Drop)]
+pub struct Line<A: Allocator> {
     /// The moment, in milliseconds; `read_line` gives one below 2^62.
     pub at: u64,
     /// What comes then.
-    pub event: Event,
+    pub event: Event<A>,
 }
 
 /// The moments of a script are below this (our choice).
 const MOMENTS: u64 = 1 << 62;
 
 /// The line that some bytes spell: a moment in decimal digits with no sign and no leading zero, one space, and a command. The bytes are
-/// those before the line feed. Any other line is malformed, and spells none.
-pub fn read_line(line: &[u8]) -> Option<Line>
-    ensures found { IfSome result (λ read. IsLine line.now read.at read.event) }
-    ensures only { (at : ℕ) (event : Event) → IsLine line.now at event
-        → IsSomeAnd result (λ read. (read.at ≡ at) × (read.event ≡ event)) }
+/// those before the line feed. Any other line is malformed: it spells none, and takes no memory. The error is want of memory.
+pub fn read_line<A: Allocator>(alloc: A, line: &[u8]) -> Result<Option<Line<A>>, AllocError>
+    ensures found { IfOk result (λ spelled. IfSome spelled (λ read. IsLine line.now read.at (event_of read.event))) }
+    ensures only { (at : ℕ) (event : events.Event) → IsLine line.now at event
+        → IfOk result (λ spelled. IsSomeAnd spelled (λ read. (read.at ≡ at) × (event_of read.event ≡ event))) }
+    ensures malformed { ((at : ℕ) (event : events.Event) → IsLine line.now at event → ⊥) → result ≡ Ok None }
 {
-    let (word, rest) = split_word(line)?;
-    let at = read_number(word)?;
+    let Some((word, rest)) = split_word(line) else {
+        return Ok(None);
+    };
+    let Some(at) = read_number(word) else {
+        return Ok(None);
+    };
     if at >= MOMENTS {
-        return None;
+        return Ok(None);
     }
-    let event = read_command(rest)?;
-    Some(Line { at, event })
+    match read_command(alloc, rest)? {
+        Some(event) => Ok(Some(Line { at, event })),
+        None => Ok(None),
+    }
 }

@@ -1,17 +1,19 @@
 //! A node that answers the lines of a script.
 
-ghost use Rattle.std.specs.Prelude.{◌≡◌, ◌++◌, [], OnOk, OnErr, ◌^◌, ◌<◌, ℕ, List, string_bytes};
+ghost use Rattle.std.specs.Prelude.{◌≡◌, ◌++◌, [], OnOk, OnErr, IfOk, IfSome, IfNone, ◌^◌, ◌<◌, ℕ, List, string_bytes};
 ghost use Rattle.nd_chronicle.specs.Start.{Start};
 ghost use Rattle.nd_chronicle.specs.Happening.{Chronicle};
 ghost use Rattle.nd_chronicle.specs.History.{Follows};
 ghost use Rattle.nd_chronicle.specs.Told as chronicle;
 ghost use Rattle.nd_node.specs.Event.{event_of};
 ghost use Rattle.nd_node.specs.Node.{Stands};
+ghost use Rattle.nd_chronicle.specs.Event as events;
+ghost use Rattle.nd_script.specs.Line.{IsLine};
 ghost use Rattle.nd_script.specs.Script.{Leads};
 ghost use Rattle.nd_script.specs.ScriptLaws.{no_line, long_line};
 ghost use Rattle.nd_script.specs.Answer.{AnswersEvent};
 
-use crate::line::read_line;
+use crate::line::{Line, read_line};
 use nd_io::answering::{Answering, Unanswered};
 use nd_node::{Event, Node};
 use nd_out::{Out, write_outs};
@@ -36,11 +38,19 @@ impl<R: Rng + Drop, A: Allocator + Clone> Script<R, A> {
         }
     }
 
+    /// The line that some bytes spell, with its frame in the node's memory. The error is want of memory.
+    fn read(&self, line: &[u8]) -> Result<Option<Line<A>>, AllocError>
+        ensures found { IfOk result (λ spelled. IfSome spelled (λ read. IsLine line.now read.at (event_of read.event))) }
+        ensures malformed { IfOk result (λ spelled. IfNone spelled ((at : ℕ) (event : events.Event) → IsLine line.now at event → ⊥)) }
+    {
+        read_line(self.outs.allocator().clone()?, line)
+    }
+
     /// An event comes, and its text goes to the end. The error is want of memory.
     fn event<B: Allocator>(
         &mut self,
         at: u64,
-        event: Event,
+        event: Event<A>,
         text: &mut String<B>,
     ) -> Result<(), AllocError>
         requires { at < 2 ^ 62 }
@@ -64,12 +74,13 @@ impl<R: Rng + Drop, A: Allocator + Clone> Answering for Script<R, A> {
         line: &[u8],
         text: &mut String<B>,
     ) -> Result<(), Unanswered> {
-        match read_line(line) {
-            Some(read) => match self.event(read.at, read.event, text) {
+        match self.read(line) {
+            Ok(Some(read)) => match self.event(read.at, read.event, text) {
                 Ok(()) => Ok(()),
                 Err(_) => Err(Unanswered::Memory),
             },
-            None => Err(Unanswered::Malformed),
+            Ok(None) => Err(Unanswered::Malformed),
+            Err(_) => Err(Unanswered::Memory),
         }
     }
 }

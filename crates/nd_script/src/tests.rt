@@ -4,106 +4,199 @@ use nd_io::input::Pieces;
 use nd_io::output::Writing;
 use nd_io::tool_fault::ToolFault;
 use nd_node::{Event, Table};
+use nd_text::write_hex;
 use rand_core::Rng;
-use std::alloc::Global;
+use std::alloc::{AllocError, Global};
 use std::process::Abort;
 use std::test::*;
 
-fn at(moment: u64) -> Option<Line> {
-    Some(Line {
-        at: moment,
-        event: Event::Passes,
-    })
+/// What a line says.
+#[derive(Clone, Debug, PartialEq, Eq, Drop)]
+enum Said {
+    Settles,
+    Receives(String),
+    Shows(Table),
 }
 
-fn show(moment: u64, table: Table) -> Option<Line> {
-    Some(Line {
-        at: moment,
-        event: Event::Shows(table),
-    })
+/// The moment of a line and what it says, a frame by its bytes in lower case digits.
+fn reading(alloc: Global, line: &[u8]) -> Result<Option<(u64, Said)>, AllocError> {
+    let Some(read) = read_line(alloc, line)? else {
+        return Ok(None);
+    };
+    let what = match read.event {
+        Event::Passes => Said::Settles,
+        Event::Receives(frame) => {
+            let mut digits = String::new(alloc);
+            write_hex(&mut digits, &frame)?;
+            Said::Receives(digits)
+        }
+        Event::Shows(table) => Said::Shows(table),
+    };
+    Ok(Some((read.at, what)))
+}
+
+fn at(moment: u64) -> Option<(u64, Said)> {
+    Some((moment, Said::Settles))
+}
+
+fn show(moment: u64, table: Table) -> Option<(u64, Said)> {
+    Some((moment, Said::Shows(table)))
+}
+
+/// The frame of a line that says that one comes at 10 ms, in lower case digits.
+fn received(rt: &impl Abort, alloc: Global, line: &[u8], digits: &str) -> Result<(), Fail> {
+    match reading(alloc, line)? {
+        Some((10, Said::Receives(frame))) => assert_eq!(rt; frame.as_str(), digits),
+        _ => return Err(Fail::new("no frame at 10 ms")),
+    }
+    Ok(())
 }
 
 #[test]
-fn lines_of_settling_are_read(rt: HostRuntime) {
-    assert_eq!(rt; read_line(b"0 at"), at(0));
-    assert_eq!(rt; read_line(b"10 at"), at(10));
-    assert_eq!(rt; read_line(b"2200 at"), at(2200));
-    assert_eq!(rt; read_line(b"1801200 at"), at(1801200));
+fn lines_of_settling_are_read(rt: HostRuntime) -> Result<(), Fail> {
+    assert_eq!(rt; reading(rt.alloc(), b"0 at")?, at(0));
+    assert_eq!(rt; reading(rt.alloc(), b"10 at")?, at(10));
+    assert_eq!(rt; reading(rt.alloc(), b"2200 at")?, at(2200));
+    assert_eq!(rt; reading(rt.alloc(), b"1801200 at")?, at(1801200));
+    Ok(())
 }
 
 #[test]
-fn lines_of_each_table_are_read(rt: HostRuntime) {
+fn lines_of_each_table_are_read(rt: HostRuntime) -> Result<(), Fail> {
     assert_eq!(rt;
-        read_line(b"86401199 show neighbours"),
+        reading(rt.alloc(), b"86401199 show neighbours")?,
         show(86401199, Table::Neighbours)
     );
-    assert_eq!(rt; read_line(b"2200 show routers"), show(2200, Table::Routers));
     assert_eq!(rt;
-        read_line(b"1200 show prefixes"),
+        reading(rt.alloc(), b"2200 show routers")?,
+        show(2200, Table::Routers)
+    );
+    assert_eq!(rt;
+        reading(rt.alloc(), b"1200 show prefixes")?,
         show(1200, Table::Prefixes)
     );
     assert_eq!(rt;
-        read_line(b"999 show addresses"),
+        reading(rt.alloc(), b"999 show addresses")?,
         show(999, Table::Addresses)
     );
-    assert_eq!(rt; read_line(b"1200 show dns"), show(1200, Table::Dns));
     assert_eq!(rt;
-        read_line(b"2300 show redirects"),
+        reading(rt.alloc(), b"1200 show dns")?,
+        show(1200, Table::Dns)
+    );
+    assert_eq!(rt;
+        reading(rt.alloc(), b"2300 show redirects")?,
         show(2300, Table::Redirects)
     );
-    assert_eq!(rt; read_line(b"10 show params"), show(10, Table::Params));
-    assert_eq!(rt; read_line(b"10 show advertise"), show(10, Table::Advertise));
-    assert_eq!(rt; read_line(b"10 show routes"), show(10, Table::Routes));
+    assert_eq!(rt;
+        reading(rt.alloc(), b"10 show params")?,
+        show(10, Table::Params)
+    );
+    assert_eq!(rt;
+        reading(rt.alloc(), b"10 show advertise")?,
+        show(10, Table::Advertise)
+    );
+    assert_eq!(rt;
+        reading(rt.alloc(), b"10 show routes")?,
+        show(10, Table::Routes)
+    );
+    Ok(())
 }
 
 #[test]
-fn the_moment_is_below_2_to_the_62(rt: HostRuntime) {
+fn the_moment_is_below_2_to_the_62(rt: HostRuntime) -> Result<(), Fail> {
     assert_eq!(rt;
-        read_line(b"4611686018427387903 at"),
+        reading(rt.alloc(), b"4611686018427387903 at")?,
         at(4611686018427387903)
     );
-    assert_eq!(rt; read_line(b"4611686018427387904 at"), None);
-    assert_eq!(rt; read_line(b"18446744073709551616 at"), None);
+    assert_eq!(rt; reading(rt.alloc(), b"4611686018427387904 at")?, None);
+    assert_eq!(rt; reading(rt.alloc(), b"18446744073709551616 at")?, None);
+    Ok(())
 }
 
 #[test]
-fn words_are_parted_by_one_space(rt: HostRuntime) {
-    assert_eq!(rt; read_line(b"10  at"), None);
-    assert_eq!(rt; read_line(b" 10 at"), None);
-    assert_eq!(rt; read_line(b"10 at "), None);
-    assert_eq!(rt; read_line(b"10 show  params"), None);
-    assert_eq!(rt; read_line(b"10 show params "), None);
-    assert_eq!(rt; read_line(b"10\tat"), None);
-    assert_eq!(rt; read_line(b"10 at\r"), None);
-    assert_eq!(rt; read_line(b"10 show params\r"), None);
+fn words_are_parted_by_one_space(rt: HostRuntime) -> Result<(), Fail> {
+    assert_eq!(rt; reading(rt.alloc(), b"10  at")?, None);
+    assert_eq!(rt; reading(rt.alloc(), b" 10 at")?, None);
+    assert_eq!(rt; reading(rt.alloc(), b"10 at ")?, None);
+    assert_eq!(rt; reading(rt.alloc(), b"10 show  params")?, None);
+    assert_eq!(rt; reading(rt.alloc(), b"10 show params ")?, None);
+    assert_eq!(rt; reading(rt.alloc(), b"10\tat")?, None);
+    assert_eq!(rt; reading(rt.alloc(), b"10 at\r")?, None);
+    assert_eq!(rt; reading(rt.alloc(), b"10 show params\r")?, None);
+    Ok(())
 }
 
 #[test]
-fn other_lines_are_malformed(rt: HostRuntime) {
-    assert_eq!(rt; read_line(b""), None);
-    assert_eq!(rt; read_line(b" "), None);
-    assert_eq!(rt; read_line(b"10"), None);
-    assert_eq!(rt; read_line(b"10 "), None);
-    assert_eq!(rt; read_line(b"at"), None);
-    assert_eq!(rt; read_line(b"show params"), None);
-    assert_eq!(rt; read_line(b"10 show"), None);
-    assert_eq!(rt; read_line(b"10 show "), None);
-    assert_eq!(rt; read_line(b"10 show neighbour"), None);
-    assert_eq!(rt; read_line(b"10 show Params"), None);
-    assert_eq!(rt; read_line(b"10 show params dns"), None);
-    assert_eq!(rt; read_line(b"10 At"), None);
-    assert_eq!(rt; read_line(b"10 at now"), None);
-    assert_eq!(rt; read_line(b"10 settle"), None);
+fn other_lines_are_malformed(rt: HostRuntime) -> Result<(), Fail> {
+    assert_eq!(rt; reading(rt.alloc(), b"")?, None);
+    assert_eq!(rt; reading(rt.alloc(), b" ")?, None);
+    assert_eq!(rt; reading(rt.alloc(), b"10")?, None);
+    assert_eq!(rt; reading(rt.alloc(), b"10 ")?, None);
+    assert_eq!(rt; reading(rt.alloc(), b"at")?, None);
+    assert_eq!(rt; reading(rt.alloc(), b"show params")?, None);
+    assert_eq!(rt; reading(rt.alloc(), b"10 show")?, None);
+    assert_eq!(rt; reading(rt.alloc(), b"10 show ")?, None);
+    assert_eq!(rt; reading(rt.alloc(), b"10 show neighbour")?, None);
+    assert_eq!(rt; reading(rt.alloc(), b"10 show Params")?, None);
+    assert_eq!(rt; reading(rt.alloc(), b"10 show params dns")?, None);
+    assert_eq!(rt; reading(rt.alloc(), b"10 At")?, None);
+    assert_eq!(rt; reading(rt.alloc(), b"10 at now")?, None);
+    assert_eq!(rt; reading(rt.alloc(), b"10 settle")?, None);
+    Ok(())
 }
 
 #[test]
-fn moments_have_no_sign_and_no_leading_zero(rt: HostRuntime) {
-    assert_eq!(rt; read_line(b"010 at"), None);
-    assert_eq!(rt; read_line(b"00 at"), None);
-    assert_eq!(rt; read_line(b"+10 at"), None);
-    assert_eq!(rt; read_line(b"-10 at"), None);
-    assert_eq!(rt; read_line(b"1a at"), None);
-    assert_eq!(rt; read_line(b"\xff at"), None);
+fn moments_have_no_sign_and_no_leading_zero(rt: HostRuntime) -> Result<(), Fail> {
+    assert_eq!(rt; reading(rt.alloc(), b"010 at")?, None);
+    assert_eq!(rt; reading(rt.alloc(), b"00 at")?, None);
+    assert_eq!(rt; reading(rt.alloc(), b"+10 at")?, None);
+    assert_eq!(rt; reading(rt.alloc(), b"-10 at")?, None);
+    assert_eq!(rt; reading(rt.alloc(), b"1a at")?, None);
+    assert_eq!(rt; reading(rt.alloc(), b"\xff at")?, None);
+    Ok(())
+}
+
+/// A Router Advertisement of a router without a lifetime.
+const ADVERTISED: &str =
+    "33330000000102000000000186dd6000000000103afffe80000000000000000000fffe000001ff0200000000000000000000000000018600ffff0000000000007d2f00000000";
+
+#[test]
+fn frames_are_read(rt: HostRuntime) -> Result<(), Fail> {
+    let line = format!(in rt.alloc(); "10 rx {ADVERTISED}")?;
+    received(&rt, rt.alloc(), line.as_bytes(), ADVERTISED)?;
+    received(&rt, rt.alloc(), b"10 rx -", "")?;
+    received(&rt, rt.alloc(), b"10 rx 00", "00")?;
+    received(
+        &rt,
+        rt.alloc(),
+        b"10 rx 0123456789ABCDEF",
+        "0123456789abcdef",
+    )?;
+    received(&rt, rt.alloc(), b"10 rx aBcDeF", "abcdef")
+}
+
+#[test]
+fn other_words_are_no_frames(rt: HostRuntime) -> Result<(), Fail> {
+    for line in [
+        "10 rx",
+        "10 rx ",
+        "10 rx 0",
+        "10 rx 012",
+        "10 rx 0g",
+        "10 rx --",
+        "10 rx -00",
+        "10 rx 00-",
+        "10 rx 0x00",
+        "10 rx  00",
+        "10 rx 00 ",
+        "10 rx 00 00",
+        "10 rx 00\r",
+        "10 RX 00",
+        "rx 00",
+    ] {
+        assert_eq!(rt; reading(rt.alloc(), line.as_bytes())?, None);
+    }
+    Ok(())
 }
 
 /// The first words of a source, if the text names one.
@@ -245,6 +338,20 @@ fn past_moments_and_malformed_lines(rt: HostRuntime) -> Result<(), Fail> {
         b"10 at\nshow params\n11 at\n",
         Err(ToolFault::Line(2)),
         STARTED,
+    )
+}
+
+/// The empty frame is dropped, as it is too short; an empty word is malformed.
+#[test]
+fn frames_come_to_a_host(rt: HostRuntime) -> Result<(), Fail> {
+    let dropped = format!(in rt.alloc(); "{STARTED}10 drop 1 FrameShort\n")?;
+    told(&rt, rt.alloc(), b"10 rx -\n", Ok(()), &dropped)?;
+    told(
+        &rt,
+        rt.alloc(),
+        b"10 rx -\n11 rx \n12 at\n",
+        Err(ToolFault::Line(2)),
+        &dropped,
     )
 }
 

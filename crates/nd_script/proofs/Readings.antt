@@ -1,0 +1,29 @@
+-- What is read, or not.
+use Rattle.std.proofs.Common.{◌≡◌, ℕ, Bool, true, false, Option, Some, None, Ok, Err, refl, subst}
+use Rattle.std.specs.Prelude.{Result, IfOk, IfNone, IfSome}
+use Rattle.std.specs.Option.{option_map, IsSomeAnd}
+
+pub not_true : (b : Bool) → (b ≡ true → ⊥) → b ≡ false
+not_true true other = absurd (other refl)
+not_true false other = refl
+
+pub some_is : {T : Type 0} (o : Option T) (t : T) (P : T → Type 0) → o ≡ Some t → IfSome o P → P t
+some_is {T} o t P e found = subst (λ (o : Option T). IfSome o P) e found
+
+pub none_is : {T : Type 0} (o : Option T) (P : Type 0) → o ≡ None → IfNone o P → P
+none_is {T} o P e found = subst (λ (o : Option T). IfNone o P) e found
+
+pub mapped : {X Y : Type 0} (f : X → Y) (o : Option X) (x : X) (y : Y) → o ≡ Some x → option_map f o ≡ Some y → f x ≡ y
+mapped f (Some z) x y is e = cc
+mapped f None x y is e = cc
+
+pub not_mapped : {X Y : Type 0} (f : X → Y) (o : Option X) (y : Y) → o ≡ None → option_map f o ≡ Some y → ⊥
+not_mapped f (Some z) y is e = cc
+not_mapped f None y is e = cc
+
+-- where nothing is read nothing is spelled
+pub none_read : {T E X : Type 0} (read : Result (Option T) E) (Spells : ℕ → X → Type 0) (Is : ℕ → X → T → Type 0)
+    → ((at : ℕ) (x : X) → Spells at x → IfOk read (λ o. IsSomeAnd o (Is at x))) → IfOk read (λ o. IfNone o ((at : ℕ) (x : X) → Spells at x → ⊥))
+none_read (Ok (Some t)) Spells Is only = tt
+none_read (Ok None) Spells Is only = λ at x s. only at x s
+none_read (Err e) Spells Is only = tt
