@@ -17,4 +17,6 @@ pub use run::run_script;
 pub use source::Source;
 
 #[cfg(test)]
+mod frame_tests;
+#[cfg(test)]
 mod tests;

@@ -23,16 +23,19 @@ fn reading(alloc: Global, line: &[u8]) -> Result<Option<(u64, Said)>, AllocError
     let Some(read) = read_line(alloc, line)? else {
         return Ok(None);
     };
-    let what = match read.event {
-        Event::Passes => Said::Settles,
+    Ok(Some((read.at, event_said(alloc, read.event)?)))
+}
+
+fn event_said(alloc: Global, event: Event<Global>) -> Result<Said, AllocError> {
+    match event {
+        Event::Passes => Ok(Said::Settles),
         Event::Receives(frame) => {
             let mut digits = String::new(alloc);
             write_hex(&mut digits, &frame)?;
-            Said::Receives(digits)
+            Ok(Said::Receives(digits))
         }
-        Event::Shows(table) => Said::Shows(table),
-    };
-    Ok(Some((read.at, what)))
+        Event::Shows(table) => Ok(Said::Shows(table)),
+    }
 }
 
 fn at(moment: u64) -> Option<(u64, Said)> {
@@ -267,7 +270,7 @@ fn other_texts_name_no_source(rt: HostRuntime) {
 
 /// What a host of 34:56:78:9a:bc:de tells whose generator answers 0 to each word, where its script is read in pieces of one byte, and in
 /// long ones.
-fn told(
+pub(crate) fn told(
     rt: &impl Abort,
     alloc: Global,
     script: &[u8],
