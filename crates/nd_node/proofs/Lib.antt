@@ -19,6 +19,7 @@ pub mod Asking
 pub mod Advertisements
 pub mod PlainMessages
 pub mod Judging
+pub mod Running
 pub mod Forming
 pub mod Measuring
 pub mod Filling

@@ -1,12 +1,13 @@
 -- What an event is to a node.
-use Rattle.std.specs.Prelude.{◌≤◌, ℕ, List, ◌∷◌}
+use Rattle.std.specs.Prelude.{◌≤◌, ◌<◌, ◌^◌, ℕ, List, ◌∷◌, map, take}
+use Rattle.std.specs.List.{AllByRecursion}
 use Rattle.rand_core.specs.Stream.{Stream}
 use Rattle.nd_chronicle.specs.Start.{Start}
 use Rattle.nd_chronicle.specs.Happening.{Chronicle, Passed, last_moment}
 use Rattle.nd_chronicle.specs.Shown as shown
 use Rattle.nd_chronicle.specs.Event as events
 use Rattle.nd_chronicle.specs.Event.{EventAdds}
-use Rattle.nd_chronicle.specs.History.{Follows}
+use Rattle.nd_chronicle.specs.History.{Follows, Runs}
 use Rattle.nd_out.specs.declared.out.Out.{Out}
 use Rattle.nd_node.specs.declared.node.Node.{Node}
 use Rattle.nd_node.specs.declared.event.Table.{Table}
@@ -14,6 +15,7 @@ use Rattle.nd_node.specs.declared.event.Table.TheVariants.{Neighbours, Routers, 
 use Rattle.nd_node.specs.declared.event.Event.{Event}
 use Rattle.nd_node.specs.declared.event.Event.TheVariants.{Passes, Receives, Shows}
 use Rattle.nd_node.specs.Node.{Stands}
+use Rattle.nd_node.specs.Time.{Onward}
 use Rattle.nd_node.specs.Told.{Tells}
 
 abbrev pub table_of : Table → shown.Table
@@ -32,6 +34,14 @@ event_of Passes = events.Passes
 event_of (Receives frame) = events.Receives frame.items
 event_of (Shows table) = events.Shows (table_of table)
 
+-- the same of events with their moments
+abbrev pub events_of : {A : Type 0} → List (ℕ × Event A) → List (ℕ × events.Event)
+events_of list = map (λ e. (e.0, event_of e.1)) list
+
+-- their moments are below 2^62
+abbrev pub AreEarly : {A : Type 0} → List (ℕ × Event A) → Type 0
+AreEarly list = AllByRecursion (λ e. e.0 < 2 ^ 62) list
+
 -- what follows where the event comes
 abbrev pub FollowsBy : ℕ → events.Event → Start → Chronicle → Chronicle → Type 0
 FollowsBy now event start c d = Follows start c now event d
@@ -40,3 +50,11 @@ FollowsBy now event start c d = Follows start c now event d
 pub record AddsEvent {R A : Type 0} (stream : R → Stream) (old new : Node R A) (before after : List (ℕ × Out A)) (now : ℕ) (event : events.Event) : Type 0 where
   pub each : (start : Start) (c : Chronicle) → Stands stream start old c → last_moment start.at c ≤ now
       → (d : Chronicle) × EventAdds start now event ((now, Passed) ∷ c) d × Stands stream start new d × Tells c d before after
+
+-- what follows where the events come, one after the other
+abbrev pub RunsBy : List (ℕ × events.Event) → Start → Chronicle → Chronicle → Type 0
+RunsBy list start c d = Runs start c list d
+
+-- what follows where the first of them came, and a part of the time up to the next one has passed
+abbrev pub RunsInPart : List (ℕ × events.Event) → Start → Chronicle → Chronicle → Type 0
+RunsInPart list start c d = (count : ℕ) × (now : ℕ) × (e : Chronicle) × Runs start c (take count list) e × Onward now start e d

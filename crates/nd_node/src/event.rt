@@ -1,7 +1,7 @@
 ghost use Rattle.std.specs.Prelude.{◌≡◌, ℕ, ◌^◌, ◌<◌, OnOk, OnErr};
 ghost use Rattle.nd_chronicle.specs.Event.{EventAdds};
 ghost use Rattle.nd_chronicle.specs.Happening.{Passed};
-ghost use Rattle.nd_node.specs.Event.{event_of, AddsEvent, FollowsBy};
+ghost use Rattle.nd_node.specs.Event.{event_of, events_of, AddsEvent, AreEarly, FollowsBy, RunsBy, RunsInPart};
 ghost use Rattle.nd_node.specs.Frame.{Stays};
 ghost use Rattle.nd_node.specs.Time.{Leads, Onward};
 
@@ -54,11 +54,11 @@ impl<R: Rng + Drop, A: Allocator + Clone> Node<R, A> {
     pub fn event(
         &mut self,
         now: u64,
-        event: Event<A>,
+        event: &Event<A>,
         outs: &mut Vec<(u64, Out<A>), A>,
     ) -> Result<(), AllocError>
         requires { now < 2 ^ 62 }
-        ensures follows { OnOk result (Leads R.stream self.old self.new outs.old.items outs.new.items (FollowsBy now (event_of event))) }
+        ensures follows { OnOk result (Leads R.stream self.old self.new outs.old.items outs.new.items (FollowsBy now (event_of event.now))) }
         ensures onward { OnErr result (Leads R.stream self.old self.new outs.old.items outs.new.items (Onward now)) }
     {
         if now < self.last {
@@ -69,16 +69,35 @@ impl<R: Rng + Drop, A: Allocator + Clone> Node<R, A> {
         self.add(now, event, outs)
     }
 
+    /// Events come, one after the other, each at its moment, in milliseconds.
+    ///
+    /// The error is want of memory: then some of the events have come, the first ones, and of what is due up to the next one a part may
+    /// have been done; all that is told.
+    pub fn run(
+        &mut self,
+        events: &[(u64, Event<A>)],
+        outs: &mut Vec<(u64, Out<A>), A>,
+    ) -> Result<(), AllocError>
+        requires { AreEarly events.now }
+        ensures runs { OnOk result (Leads R.stream self.old self.new outs.old.items outs.new.items (RunsBy (events_of events.now))) }
+        ensures in_part { OnErr result (Leads R.stream self.old self.new outs.old.items outs.new.items (RunsInPart (events_of events.now))) }
+    {
+        for (at, event) in events {
+            self.event(*at, event, outs)?;
+        }
+        Ok(())
+    }
+
     /// What an event adds, once all that is due up to it is done. The error is want of memory, and then nothing has happened.
     fn add(
         &mut self,
         now: u64,
-        event: Event<A>,
+        event: &Event<A>,
         outs: &mut Vec<(u64, Out<A>), A>,
     ) -> Result<(), AllocError>
         requires moment { now < 2 ^ 62 }
         requires settled { now < next_of self.old }
-        ensures adds { OnOk result (AddsEvent R.stream self.old self.new outs.old.items outs.new.items now (event_of event)) }
+        ensures adds { OnOk result (AddsEvent R.stream self.old self.new outs.old.items outs.new.items now (event_of event.now)) }
         ensures stays { OnErr result (Stays R.stream self.old self.new) }
         ensures told { OnErr result (outs.new.items ≡ outs.old.items) }
     {
@@ -87,9 +106,9 @@ impl<R: Rng + Drop, A: Allocator + Clone> Node<R, A> {
                 self.last = now;
                 Ok(())
             }
-            Event::Receives(frame) => self.receive(now, &frame, outs),
+            Event::Receives(frame) => self.receive(now, frame, outs),
             Event::Shows(table) => {
-                let rows = self.rows(outs.allocator(), now, table)?;
+                let rows = self.rows(outs.allocator(), now, *table)?;
                 outs.push((now, Out::Shown(rows)))?;
                 self.last = now;
                 Ok(())

@@ -33,3 +33,6 @@ mod turned;
 pub use event::{Event, Table};
 pub use node::Node;
 pub use turned::Turned;
+
+#[cfg(test)]
+mod tests;

@@ -57,7 +57,7 @@ impl<R: Rng + Drop, A: Allocator + Clone> Script<R, A> {
         ensures { OnOk result (AnswersEvent R.stream self.old.node self.new.node at (event_of event) (string_bytes text.old) (string_bytes text.new)) }
     {
         self.outs.clear();
-        self.node.event(at, event, &mut self.outs)?;
+        self.node.event(at, &event, &mut self.outs)?;
         write_outs(text, &self.outs)
     }
 }

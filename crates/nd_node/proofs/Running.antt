@@ -1,0 +1,79 @@
+-- Events that come one after the other.
+use Rattle.std.proofs.Common.{◌≡◌, ℕ, zero, suc, ◌+◌, ◌<◌, List, [], ◌∷◌, ◌++◌, length, map, take, get_or, Result, Ok, Err, refl, sym, ◌∙◌, ap, subst, arith}
+use Rattle.std.specs.Prelude.{OnErr}
+use Rattle.rand_core.specs.Stream.{Stream}
+use Rattle.nd_chronicle.specs.Start.{Start}
+use Rattle.nd_chronicle.specs.Happening.{Chronicle}
+use Rattle.nd_chronicle.specs.Event as events
+use Rattle.nd_chronicle.specs.History.{Follows, Runs}
+use Rattle.nd_out.specs.declared.out.Out.{Out}
+use Rattle.nd_node.specs.declared.node.Node.{Node}
+use Rattle.nd_node.specs.declared.event.Event.{Event}
+use Rattle.nd_node.specs.Event.{event_of, events_of, FollowsBy, RunsBy, RunsInPart}
+use Rattle.nd_node.specs.Time.{Leads, Onward}
+use Rattle.nd_node.proofs.Telling.{Tells-same, Tells-then}
+
+-- the events up to a place, and the one there
+take_more : {X : Type 0} (xs : List X) (i : ℕ) (x : X) → i < length xs → x ≡ get_or xs i x → take (suc i) xs ≡ take i xs ++ x ∷ []
+take_more [] i x lt is = absurd (omega (arith, lt))
+take_more (y ∷ ys) zero x lt is = ap (λ z. z ∷ []) (sym is)
+take_more (y ∷ ys) (suc i) x lt is = ap (λ l. y ∷ l) (take_more ys i x (omega (arith, lt)) is)
+
+length-map : {X Y : Type 0} (f : X → Y) (xs : List X) → length (map f xs) ≡ length xs
+length-map f [] = refl
+length-map f (x ∷ xs) = ap suc (length-map f xs)
+
+get_or-map : {X Y : Type 0} (f : X → Y) (xs : List X) (i : ℕ) (x : X) → get_or (map f xs) i (f x) ≡ f (get_or xs i x)
+get_or-map f [] i x = refl
+get_or-map f (y ∷ ys) zero x = refl
+get_or-map f (y ∷ ys) (suc i) x = get_or-map f ys i x
+
+pub at_place : {A : Type 0} (list : List (ℕ × Event A)) (i : ℕ) (e : ℕ × Event A) → i < length list → e ≡ get_or list i e
+    → take (i + 1) (events_of list) ≡ take i (events_of list) ++ (e.0, event_of e.1) ∷ []
+at_place {A} list i e lt is =
+    let f : ℕ × Event A → ℕ × events.Event = λ x. (x.0, event_of x.1) in
+    let more : i + 1 ≡ suc i = omega arith in
+    ap (λ (n : ℕ). take n (events_of list)) more
+    ∙ take_more (events_of list) i (f e) (subst (λ (n : ℕ). i < n) (sym (length-map f list)) lt) (ap f is ∙ sym (get_or-map f list i e))
+
+-- whatever a failure is made of
+pub on_err_any : {T E : Type 0} (r : Result T E) (P : Type 0) → P → OnErr r P
+on_err_any (Ok x) P p = tt
+on_err_any (Err e) P p = p
+
+abbrev Events : Type 0
+Events = List (ℕ × events.Event)
+
+-- one more comes behind those that came
+one_more_event : (start : Start) (c d e : Chronicle) (list : Events) (at : ℕ) (event : events.Event) → Runs start c list d → Follows start d at event e → Runs start c (list ++ (at, event) ∷ []) e
+one_more_event start c d e [] at event is follows = (e, subst (λ (x : Chronicle). Follows start x at event e) is follows, refl)
+one_more_event start c d e (first ∷ list) at event runs follows = (runs.0, runs.1, one_more_event start runs.0 d e list at event runs.2 follows)
+
+module _ {R A : Type 0} (stream : R → Stream) where
+  pub none_came : (node : Node R A) (outs : List (ℕ × Out A)) → Leads stream node node outs outs (RunsBy [])
+  none_came node outs = record { each = λ start c s. (c, refl, s, Tells-same c outs) }
+
+  module _ (origin old new : Node R A) (x y z : List (ℕ × Out A)) (list : Events) (sofar : Leads stream origin old x y (RunsBy list)) where
+    pub came : (at : ℕ) (event : events.Event) (more : Events) → more ≡ list ++ (at, event) ∷ [] → Leads stream old new y z (FollowsBy at event) → Leads stream origin new x z (RunsBy more)
+    came at event more is next = record {
+      each = λ start c s.
+          let l = sofar.each start c s in
+          let n = next.each start l.0 l.2 in (
+            n.0,
+            subst (λ (m : Events). Runs start c m n.0) (sym is) (one_more_event start c l.0 n.0 list at event l.1 n.1),
+            n.2,
+            Tells-then c l.0 n.0 x y z l.3 n.3,
+          );
+    }
+
+    pub came_in_part : (all : Events) (count now : ℕ) → list ≡ take count all → Leads stream old new y z (Onward now) → Leads stream origin new x z (RunsInPart all)
+    came_in_part all count now is next = record {
+      each = λ start c s.
+          let l = sofar.each start c s in
+          let n = next.each start l.0 l.2 in (
+            n.0,
+            (count, now, l.0, subst (λ (m : Events). Runs start c m l.0) is l.1, n.1),
+            n.2,
+            Tells-then c l.0 n.0 x y z l.3 n.3,
+          );
+    }

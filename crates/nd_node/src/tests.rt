@@ -1,0 +1,42 @@
+use crate::*;
+use nd_addr::{Mac, Role};
+use nd_out::write_outs;
+use rand_core::SeedableRng;
+use rand_pcg::Pcg32;
+use std::test::*;
+
+const MAC: Mac = Mac([0x34, 0x56, 0x78, 0x9a, 0xbc, 0xde]);
+
+/// A frame that says nothing: the Ethernet type of IPv6, and no packet.
+const EMPTY: [u8; 14] = [0, 0, 0, 0, 0, 0, 0, 0, 0, 0, 0, 0, 0x86, 0xdd];
+
+/// The second word of the generator of seed 0 is 0xfc843fd7, which delays the first solicitation by 234 ms.
+const STARTED: &str =
+    "234 tx 3333ff9abcde3456789abcde86dd6000000000183aff00000000000000000000000000000000ff0200000000000000000001ff9abcde870053df00000000fe80000000000000365678fffe9abcde\n1234 assigned fe80::3656:78ff:fe9a:bcde\n1234 tx 3333000000023456789abcde86dd6000000000103afffe80000000000000365678fffe9abcdeff0200000000000000000000000000028500a78f0000000001013456789abcde\n";
+
+/// Events come one after the other, and all that is due up to each comes first.
+#[test]
+fn events_run_in_their_order(rt: HostRuntime) -> Result<(), Fail> {
+    let generator = Pcg32::seed_from_u64(0);
+    let Ok(mut node) = Node::new(rt.alloc(), Role::Host, MAC, 0, generator) else {
+        return Err(Fail::new("no memory"));
+    };
+    assert!(rt; node.settled(0));
+    assert!(rt; !node.settled(3000));
+    let mut frame = Vec::new(rt.alloc());
+    frame.extend_from_slice(&EMPTY)?;
+    let mut events = Vec::new(rt.alloc());
+    events.push((3000, Event::Receives(frame)))?;
+    events.push((2999, Event::Passes))?;
+    events.push((3000, Event::Shows(Table::Routers)))?;
+    let mut outs = Vec::new(rt.alloc());
+    node.run(&events, &mut outs)?;
+    let mut text = String::new(rt.alloc());
+    write_outs(&mut text, &outs)?;
+    let wanted = format!(in rt.alloc();
+        "{STARTED}3000 drop 3 HeaderShort\n2999 refused past 3000\n3000 end 0\n"
+    )?;
+    assert_eq!(rt; text.as_str(), wanted.as_str());
+    assert!(rt; node.settled(3000));
+    Ok(())
+}
