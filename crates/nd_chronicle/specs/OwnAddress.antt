@@ -24,7 +24,7 @@ is_own c address = is_tentative c address || is_assigned c address
 
 -- "the interface MUST be disabled" where the link-local address is a duplicate (RFC 4862, section 5.4.5): it sends no packets
 abbrev pub is_disabled : Start → Chronicle → Bool
-is_disabled start c = states.has_conflict (story_of c (link_local_key start))
+is_disabled start c = states.is_duplicate (story_of c (link_local_key start))
 
 -- its link-local address is assigned
 abbrev pub is_up : Start → Chronicle → Bool

@@ -58,6 +58,10 @@ state_of s t = if is_known s then Some (state_by (has_conflict s) (was_assigned 
 abbrev pub is_tentative : Story → Bool
 is_tentative s = is_known s && not (has_conflict s) && not (was_assigned s)
 
+-- the address is a duplicate
+abbrev pub is_duplicate : Story → Bool
+is_duplicate s = is_known s && has_conflict s
+
 -- the address is assigned: preferred or deprecated
 abbrev pub is_assigned : Story → Bool
 is_assigned s = is_known s && not (has_conflict s) && was_assigned s

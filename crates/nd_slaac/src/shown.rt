@@ -25,7 +25,7 @@ pub struct OwnAddress {
 
 impl<A: Allocator> Addresses<A> {
     ghost use Rattle.nd_slaac.specs.History.{Row, story};
-    ghost use Rattle.nd_slaac.specs.State.{state_of};
+    ghost use Rattle.nd_slaac.specs.State.{state_of, is_duplicate};
     ghost use Rattle.nd_slaac.specs.Table.{Stands, address_in};
     ghost use Rattle.nd_slaac.specs.Shown.{state_at};
 
@@ -35,6 +35,13 @@ impl<A: Allocator> Addresses<A> {
         ensures state { (history : List Row) → Stands self.now.addresses history → result ≡ state_of (story (number_of addr.0) history) now }
     {
         show(&self.entries, now, addr)
+    }
+
+    /// Whether an address is a duplicate (RFC 4862, section 5.4.5).
+    pub fn is_duplicate(&self, addr: Addr) -> bool
+        ensures { (history : List Row) → Stands self.now.addresses history → result ≡ is_duplicate (story (number_of addr.0) history) }
+    {
+        matches!(self.state(0, addr), Some(State::Duplicate))
     }
 }
 
