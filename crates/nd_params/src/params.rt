@@ -29,14 +29,15 @@ pub struct Params {
 }
 
 impl Model for Params {
-    ghost use Rattle.std.specs.Prelude.{◌<◌, ◌^◌};
+    ghost use Rattle.std.specs.Prelude.{◌<◌, ◌≤◌, ◌^◌};
+    ghost use Rattle.nd_addr.specs.Frame.{ethernet_mtu};
     ghost use Rattle.nd_params.specs.Params.{Values};
 
     ghost Value = { Values };
 
     ghost view = { λ p. record { hop_limit = p.hop_limit; mtu = p.mtu; base_reachable_time = p.base_reachable_time; reachable_time = p.reachable_time; retrans_timer = p.retrans_timer; managed = p.managed; other = p.other; drawn_at = p.drawn_at } };
 
-    ghost invariant = { λ p. (p.drawn_at < 2 ^ 62) × (p.reachable_time < 2 ^ 62) × (0 < p.retrans_timer) };
+    ghost invariant = { λ p. (p.drawn_at < 2 ^ 62) × (p.reachable_time < 2 ^ 62) × (0 < p.retrans_timer) × (p.mtu ≤ ethernet_mtu) };
 
     ghost inverse = { λ v. record { hop_limit = v.hop_limit; mtu = v.mtu; base_reachable_time = v.base_reachable_time; reachable_time = v.reachable_time; retrans_timer = v.retrans_timer; managed = v.managed; other = v.other; drawn_at = v.drawn_at } };
 }

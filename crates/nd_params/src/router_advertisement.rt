@@ -1,4 +1,5 @@
-ghost use Rattle.std.specs.Prelude.{◌≡◌, ◌^◌, ◌<◌, ◌∷◌, List, is_some, not, ◌==◌, IfSome};
+ghost use Rattle.std.specs.Prelude.{◌≡◌, ◌^◌, ◌<◌, ◌≤◌, ◌∷◌, List, is_some, not, ◌==◌, IfSome};
+ghost use Rattle.nd_addr.specs.Frame.{ethernet_mtu};
 ghost use Rattle.nd_decode.specs.Option.{Said};
 ghost use Rattle.nd_decode.specs.Pieces.{options_left};
 ghost use Rattle.nd_params.specs.History.{Row, Heard, first_mtu, valid_mtu_or, base_of, then_heard};
@@ -63,7 +64,9 @@ fn first_mtu(options: Options<'_>) -> Option<u32>
 
 /// The MTU behind these options, of which the first one counts, if the link can have it.
 fn mtu_after(options: Options<'_>, before: u32) -> u32
-    ensures { result ≡ valid_mtu_or (first_mtu (options_left options.entry)) before }
+    requires { before ≤ ethernet_mtu }
+    ensures most { result ≤ ethernet_mtu }
+    ensures value { result ≡ valid_mtu_or (first_mtu (options_left options.entry)) before }
 {
     match first_mtu(options) {
         Some(mtu) if mtu >= LEAST_MTU && mtu <= ETHERNET_MTU => mtu,

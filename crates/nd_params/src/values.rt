@@ -1,4 +1,5 @@
-ghost use Rattle.std.specs.Prelude.{◌≡◌, List, ◌<◌, ◌^◌};
+ghost use Rattle.std.specs.Prelude.{◌≡◌, List, ◌<◌, ◌≤◌, ◌^◌};
+ghost use Rattle.nd_addr.specs.Frame.{ethernet_mtu};
 ghost use Rattle.nd_params.specs.History.{Row, hop_limit_of, mtu_of, base_of, retrans_of, managed_of, other_of, reachable_of};
 ghost use Rattle.nd_params.specs.Params.{Stands};
 
@@ -16,6 +17,7 @@ impl Params {
     /// LinkMTU, in bytes.
     pub fn mtu(&self) -> u32
         ensures value { result ≡ self.now.mtu }
+        ensures most { result ≤ ethernet_mtu }
         ensures by_history { (history : List Row) → Stands self.now history → result ≡ mtu_of history }
     {
         self.mtu
