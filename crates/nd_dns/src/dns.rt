@@ -1,4 +1,4 @@
-ghost use Rattle.std.specs.Prelude.{◌≡◌, ◌≤◌, ◌<◌, ◌∷◌, ℕ, List, [], IfOk};
+ghost use Rattle.std.specs.Prelude.{◌≡◌, ◌≤◌, ◌<◌, ◌∷◌, ℕ, List, [], length, IfOk};
 ghost use Rattle.nd_addr.specs.declared.addr.Addr.{Addr};
 ghost use Rattle.nd_lifetime.specs.declared.lasting.Lasting.{Lasting};
 ghost use Rattle.nd_lifetime.specs.History.{Row, Cleared, last_moment};
@@ -61,7 +61,7 @@ impl<A: Allocator + Clone> Dns<A> {
 }
 
 impl<A: Allocator> Dns<A> {
-    ghost use Rattle.nd_dns.specs.Dns.{Stands};
+    ghost use Rattle.nd_dns.specs.Dns.{Stands, max_servers, max_names};
     ghost use Rattle.nd_dns.specs.Names.{same_name};
 
     /// The servers that stand at a moment, with their ends, both in milliseconds, in the order in which they came.
@@ -70,6 +70,22 @@ impl<A: Allocator> Dns<A> {
         ensures lists { (history : List (Row Addr)) (names : List (Row (List ℕ))) → Stands self.now history names → last_moment history ≤ now → Lists same_addr history now (standing_left result) }
     {
         Standing::new(&self.servers, now)
+    }
+
+    /// How many servers there are that haven't been taken out, at most 32.
+    pub fn servers_len(&self) -> usize
+        ensures value { result ≡ length self.now.servers }
+        ensures few { result ≤ max_servers }
+    {
+        self.servers.len()
+    }
+
+    /// How many search names there are that haven't been taken out, at most 32.
+    pub fn search_names_len(&self) -> usize
+        ensures value { result ≡ length self.now.names }
+        ensures few { result ≤ max_names }
+    {
+        self.names.len()
     }
 
     /// The search names that stand at a moment, with their ends, both in milliseconds, in the order in which they came.

@@ -1,4 +1,4 @@
-ghost use Rattle.std.specs.Prelude.{IfOk, [], ◌≡◌};
+ghost use Rattle.std.specs.Prelude.{IfOk, [], ◌≡◌, ◌≤◌, length};
 
 use crate::entry::Entry;
 use nd_waiting::Ring;
@@ -45,5 +45,15 @@ impl<A: Allocator + Clone> Cache<A> {
             rings,
             limit,
         })
+    }
+}
+
+impl<A: Allocator> Cache<A> {
+    /// How many neighbours there are, at most as many as the cache has room for.
+    pub fn len(&self) -> usize
+        ensures value { result ≡ length self.now.nodes }
+        ensures few { result ≤ self.now.limit }
+    {
+        self.entries.len()
     }
 }

@@ -33,6 +33,7 @@ impl<A: Allocator> Cache<A> {
     pub fn waiting_at(&self, addr: Addr) -> usize
         ensures value { result ≡ length (waiting_at (node_in (number_of addr.0) self.now.nodes)) }
         ensures by_history { (history : List Row) → Stands self.now.nodes history → result ≡ length (waits_of (story (number_of addr.0) history)) }
+        ensures few { result ≤ max_waiting }
     {
         count_at(&self.entries, addr)
     }
@@ -80,7 +81,8 @@ pub(crate) fn remove<A: Allocator>(entries: &mut Vec<Entry<A>, A>, addr: Addr) -
 
 /// How many packets wait for a neighbour that may be there.
 fn count_at<A: Allocator>(entries: &[Entry<A>], addr: Addr) -> usize
-    ensures { result ≡ length (waiting_at (node_in (number_of addr.0) entries.now)) }
+    ensures few { result ≤ max_waiting }
+    ensures value { result ≡ length (waiting_at (node_in (number_of addr.0) entries.now)) }
 {
     match find(entries, addr) {
         Some(i) => entries[i].waiting(),

@@ -1,10 +1,11 @@
-ghost use Rattle.std.specs.Prelude.{◌≡◌, ◌≤◌, ◌<◌, ◌∷◌, ℕ, List, [], IfOk};
+ghost use Rattle.std.specs.Prelude.{◌≡◌, ◌≤◌, ◌<◌, ◌∷◌, ℕ, List, [], length, IfOk};
 ghost use Rattle.nd_addr.specs.Prefix.{PrefixValue};
 ghost use Rattle.nd_lifetime.specs.declared.lasting.Lasting.{Lasting};
 ghost use Rattle.nd_lifetime.specs.History.{Row, Cleared, last_moment};
 ghost use Rattle.nd_lifetime.specs.Listing.{open_at, Lists, Stands};
 ghost use Rattle.nd_lifetime.specs.Left.{standing_left};
 ghost use Rattle.nd_lifetime.specs.Same.{same_prefix};
+ghost use Rattle.nd_routers.specs.PrefixOptions.{max_prefixes};
 
 use nd_addr::Prefix;
 use nd_lifetime::{Lasting, Standing};
@@ -53,6 +54,14 @@ impl<A: Allocator> Prefixes<A> {
         ensures lists { (history : List (Row PrefixValue)) → Stands same_prefix self.now history → last_moment history ≤ now → Lists same_prefix history now (standing_left result) }
     {
         Standing::new(&self.entries, now)
+    }
+
+    /// How many prefixes there are whose end hasn't been told, at most 64.
+    pub fn len(&self) -> usize
+        ensures value { result ≡ length self.now }
+        ensures few { result ≤ max_prefixes }
+    {
+        self.entries.len()
     }
 
     /// No prefix is on the link from now on, but for fe80::/64.

@@ -1,4 +1,4 @@
-ghost use Rattle.std.specs.Prelude.{◌≡◌, ◌≤◌, ◌<◌, ◌^◌, [], ◌∷◌, None, vec_capacity};
+ghost use Rattle.std.specs.Prelude.{◌≡◌, ◌≤◌, ◌<◌, ◌^◌, [], ◌∷◌, None, length, vec_capacity};
 ghost use Rattle.nd_slaac.specs.Room.{max_addresses};
 
 use crate::entry::Entry;
@@ -65,5 +65,13 @@ impl<A: Allocator> Addresses<A> {
         let mut entries = room.entries;
         entries.push_reserved(Entry::link_local(link_local(mac), now, delay, retrans));
         Addresses { mac, entries }
+    }
+
+    /// How many addresses there are, the link-local one among them, at most 64.
+    pub fn len(&self) -> usize
+        ensures value { result ≡ length self.now.addresses }
+        ensures few { result ≤ max_addresses }
+    {
+        self.entries.len()
     }
 }
