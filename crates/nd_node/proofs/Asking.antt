@@ -96,6 +96,20 @@ module _ (times : Times) (source : Addr) (ns : NeighborSolicitation) (options : 
   pub of_asker : IsOfAsker (number_of source.0) news
   of_asker = said_of_asker times (number_of source.0) news (first_slla options) (bytes_eq source.0 unspecified_address) is
 
+-- a neighbour has no place
+pub would_be_full : {R A : Type 0} (stream : R → Stream) (start : Start) (node : Node R A) (c : Chronicle) (now key : ℕ) → FullByHistory → Stands stream start node c
+    → has_room node.neighbours.limit now key None node.neighbours.nodes ≡ false → WouldBeFull start.limits.neighbours now key (neighbour_history c)
+would_be_full stream start node c now key law s room =
+    let none : NoPlace node.neighbours.limit now key node.neighbours.nodes = no_room (node_in key node.neighbours.nodes) (has_place node.neighbours.limit now node.neighbours.nodes) room in
+    subst (λ (limit : ℕ). WouldBeFull limit now key (neighbour_history c)) s.neighbour_limit ((law node.neighbours.limit now key node.neighbours.nodes (neighbour_history c) s.neighbours).0 none)
+
+-- a neighbour has place
+pub has_place_for : {R A : Type 0} (stream : R → Stream) (start : Start) (node : Node R A) (c : Chronicle) (now key : ℕ) → RoomIsPlace → FullByHistory → Stands stream start node c
+    → has_room node.neighbours.limit now key None node.neighbours.nodes ≡ true → packets.HasPlace start ((now, Passed) ∷ c) now key true true
+has_place_for stream start node c now key room_is_place full_by_history s has = λ enters would.
+    room_is_place node.neighbours.limit now key None node.neighbours.nodes has
+    ((full_by_history node.neighbours.limit now key node.neighbours.nodes (neighbour_history c) s.neighbours).1 (subst (λ (limit : ℕ). WouldBeFull limit now key (neighbour_history c)) (sym s.neighbour_limit) would))
+
 -- there is place for the news
 pub place_for_news : RoomIsPlace → (limit now key : ℕ) (nodes : List entries.Node) (news : Option News) → IsOfAsker key news → has_room limit now key None nodes ≡ true → HasPlace limit now news nodes
 place_for_news law limit now key nodes None of room = tt
@@ -178,9 +192,7 @@ module _ {R A : Type 0} (stream : R → Stream) (old new : Node R A) (x y : List
         let key : ℕ = number_of source.0 in
         let later : Chronicle = (now, Passed) ∷ c in
         let d : Chronicle = (now, Refused (Full Neighbours)) ∷ later in
-        let none : NoPlace old.neighbours.limit now key old.neighbours.nodes = no_room (node_in key old.neighbours.nodes) (has_place old.neighbours.limit now old.neighbours.nodes) room in
-        let would : WouldBeFull start.limits.neighbours now key (neighbour_history c) =
-        subst (λ (limit : ℕ). WouldBeFull limit now key (neighbour_history c)) s.neighbour_limit ((law old.neighbours.limit now key old.neighbours.nodes (neighbour_history c) s.neighbours).0 none) in (
+        let would : WouldBeFull start.limits.neighbours now key (neighbour_history c) = would_be_full stream start old c now key law s room in (
           d,
           adds_refusal start now source destination ns options later d from (refl, would) refl,
           stands_quiet stream start new later d (refused_is_quiet now later (λ a. refl)) (passed stream start old new c now s le settled is),
@@ -269,9 +281,7 @@ module _ {R A : Type 0} (stream : R → Stream) (old mid : Node R A) (x room y z
         let frame : List ℕ = answer_frame (is_router start.role) start.mac ns.target source in
         let frame_is : packet ≡ frame =
         packet_is ∙ (ap (λ (b : Bool). answer_frame b old.mac ns.target source) (router_is ∙ ap is_router s.role) ∙ ap (λ (m : Mac). answer_frame (is_router start.role) m ns.target source) s.mac) in
-        let place : packets.HasPlace start later now key true true =
-        λ enters would. room_is_place old.neighbours.limit now key None old.neighbours.nodes has
-        ((full_by_history old.neighbours.limit now key old.neighbours.nodes (neighbour_history c) s.neighbours).1 (subst (λ (limit : ℕ). WouldBeFull limit now key (neighbour_history c)) (sym s.neighbour_limit) would)) in (
+        let place : packets.HasPlace start later now key true true = has_place_for stream start old c now key room_is_place full_by_history s has in (
           g.0,
           adds_answer start now source destination ns options later g.0 from place
               (record { placed = t.placed; place = t.place; answer = subst (λ (f : List ℕ). Goes start after now key f g.0) frame_is g.1 }),

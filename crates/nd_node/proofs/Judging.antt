@@ -37,7 +37,7 @@ use Rattle.nd_node.proofs.Telling.{above_silent}
 
 -- ---- what is told alone
 
-abbrev IsQuiet : ℕ → Happening → Type 0
+abbrev pub IsQuiet : ℕ → Happening → Type 0
 IsQuiet now what = (c : Chronicle) → ((at : ℕ) → last_moment at c ≡ now) → Quiet c ((now, what) ∷ c)
 
 dropped_is_quiet : (now : ℕ) (why : Why) → IsQuiet now (Dropped why)
@@ -71,7 +71,7 @@ up_is_quiet now packet c is = record {
 }
 
 module _ {R A : Type 0} (stream : R → Stream) (old new : Node R A) (x y : List (ℕ × Out A)) (now : ℕ) (out : Out A) (settled : now < next_of old) (is : new ≡ record old { last = now }) (told : y ≡ x ++ (now, out) ∷ []) where
-  alone : (what : Happening) → IsQuiet now what → happening out ≡ what → AddsAlone stream old new x y now what
+  pub alone : (what : Happening) → IsQuiet now what → happening out ≡ what → AddsAlone stream old new x y now what
   alone what quiet out_is = record {
     each = λ start c s le. (
       stands_quiet stream start new ((now, Passed) ∷ c) ((now, what) ∷ (now, Passed) ∷ c) (quiet ((now, Passed) ∷ c) (λ at. refl)) (passed stream start old new c now s le settled is),
@@ -128,7 +128,7 @@ stays_then stream old mid new first then = record { each = λ start c s. then.ea
 
 -- ---- time that passed changes none of the questions
 
-next_later : (c : Chronicle) (now : ℕ) (destination : Addr) (next : NextHop) → IsNextHop c now destination next → IsNextHop ((now, Passed) ∷ c) now destination next
+pub next_later : (c : Chronicle) (now : ℕ) (destination : Addr) (next : NextHop) → IsNextHop c now destination next → IsNextHop ((now, Passed) ∷ c) now destination next
 next_later c now destination next h = record {
   prefixes = h.prefixes;
   standing = h.standing;
