@@ -4,6 +4,7 @@ pub mod LostHop
 pub mod Turned
 pub mod Node
 pub mod Told
+pub mod Counts
 pub mod Time
 pub mod Packet
 pub mod LinkLayerAddress

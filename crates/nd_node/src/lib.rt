@@ -2,6 +2,7 @@
 //! RFC 4862, RFC 8106).
 #![tactic(auto)]
 
+mod counts;
 mod default_router;
 mod draw;
 mod due;
@@ -30,6 +31,7 @@ mod time;
 mod told;
 mod turned;
 
+pub use counts::Counts;
 pub use event::{Event, Table};
 pub use node::Node;
 pub use turned::Turned;

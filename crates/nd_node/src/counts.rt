@@ -1,0 +1,47 @@
+//! How many rows the tables of a node have.
+
+ghost use Rattle.nd_chronicle.specs.Happening.{Chronicle};
+ghost use Rattle.nd_chronicle.specs.Start.{Start};
+ghost use Rattle.nd_node.specs.Counts.{Counted, WithinLimits};
+
+use crate::node::Node;
+use rand_core::Rng;
+use std::alloc::Allocator;
+
+/// How many rows the tables of a node have, those among them whose end is due and hasn't been told.
+#[derive(Clone, Copy, Debug, PartialEq, Eq)]
+pub struct Counts {
+    pub neighbours: usize,
+    pub routers: usize,
+    pub prefixes: usize,
+    /// The own addresses, the link-local one among them.
+    pub addresses: usize,
+    pub servers: usize,
+    pub search_names: usize,
+}
+
+impl<R: Rng + Drop, A: Allocator + Clone> Node<R, A> {
+    ghost use Rattle.nd_node.specs.Node.{Stands};
+
+    /// How many rows the tables have: never more than their limits, whatever was heard (our choice: RFC 4861, section 5.3, leaves limits
+    /// to the node). It takes no memory.
+    pub fn counts(&self) -> Counts
+        ensures value { Counted self.now result }
+        ensures within { (start : Start) (c : Chronicle) → Stands R.stream start self.now c → WithinLimits start.limits result }
+    {
+        let neighbours = self.neighbours.len();
+        let routers = self.routers.len();
+        let prefixes = self.prefixes.len();
+        let addresses = self.addresses.len();
+        let servers = self.dns.servers_len();
+        let search_names = self.dns.search_names_len();
+        Counts {
+            neighbours,
+            routers,
+            prefixes,
+            addresses,
+            servers,
+            search_names,
+        }
+    }
+}
