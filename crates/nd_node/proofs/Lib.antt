@@ -25,3 +25,4 @@ pub mod Measuring
 pub mod Filling
 pub mod Advertised
 pub mod TakenOrRefused
+pub mod Memory

@@ -18,5 +18,6 @@ pub mod Place
 pub mod Fullness
 pub mod RouterAdvertisement
 pub mod NeighborAdvertisement
+pub mod Memory
 pub mod Event
 pub mod Frame

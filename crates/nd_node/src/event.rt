@@ -1,8 +1,9 @@
-ghost use Rattle.std.specs.Prelude.{◌≡◌, ℕ, ◌^◌, ◌<◌, OnOk, OnErr};
+ghost use Rattle.std.specs.Prelude.{◌≡◌, ℕ, ◌^◌, ◌-◌, ◌<◌, ◌≤◌, IsOk, OnOk, OnErr, vec_len, vec_capacity};
 ghost use Rattle.nd_chronicle.specs.Event.{EventAdds};
 ghost use Rattle.nd_chronicle.specs.Happening.{Passed};
 ghost use Rattle.nd_node.specs.Event.{event_of, events_of, AddsEvent, AreEarly, FollowsBy, RunsBy, RunsInPart};
 ghost use Rattle.nd_node.specs.Frame.{Stays};
+ghost use Rattle.nd_node.specs.Memory.{AsksForNone};
 ghost use Rattle.nd_node.specs.Time.{Leads, Onward};
 
 use crate::node::Node;
@@ -60,6 +61,10 @@ impl<R: Rng + Drop, A: Allocator + Clone> Node<R, A> {
         requires { now < 2 ^ 62 }
         ensures follows { OnOk result (Leads R.stream self.old self.new outs.old.items outs.new.items (FollowsBy now (event_of event.now))) }
         ensures onward { OnErr result (Leads R.stream self.old self.new outs.old.items outs.new.items (Onward now)) }
+
+        // Where nothing is due up to it and it asks for no memory, or where it comes too late, nothing refuses, whatever memory there is.
+        ensures quiet { self.old.last ≤ now → now < next_of self.old → AsksForNone self.old now (vec_capacity outs.old - vec_len outs.old) (event_of event.now) → IsOk result }
+        ensures late { now < self.old.last → vec_len outs.old < vec_capacity outs.old → IsOk result }
     {
         if now < self.last {
             outs.push((now, Out::Past(self.last)))?;
@@ -100,6 +105,7 @@ impl<R: Rng + Drop, A: Allocator + Clone> Node<R, A> {
         ensures adds { OnOk result (AddsEvent R.stream self.old self.new outs.old.items outs.new.items now (event_of event.now)) }
         ensures stays { OnErr result (Stays R.stream self.old self.new) }
         ensures told { OnErr result (outs.new.items ≡ outs.old.items) }
+        ensures quiet { AsksForNone self.old now (vec_capacity outs.old - vec_len outs.old) (event_of event.now) → IsOk result }
     {
         match event {
             Event::Passes => {

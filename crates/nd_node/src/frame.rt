@@ -1,13 +1,17 @@
 //! A frame that comes.
 
-ghost use Rattle.std.specs.Prelude.{◌≡◌, ◌+◌, ◌<◌, ◌^◌, ℕ, List, OnOk, OnErr, take};
+ghost use Rattle.std.specs.Prelude.{◌≡◌, ◌+◌, ◌-◌, ◌<◌, ◌^◌, ℕ, List, IsOk, OnOk, OnErr, take, vec_len, vec_capacity};
 ghost use Rattle.nd_addr.specs.Ip6.{ipv6_header_length, packet_parts};
 ghost use Rattle.nd_addr.specs.Places.{packet_in};
 ghost use Rattle.nd_decode.specs.Message.{parts};
+ghost use Rattle.nd_decode.specs.Pieces.{options_left};
+ghost use Rattle.nd_decode.specs.declared.body.Body.TheVariants as bodies;
+ghost use Rattle.nd_decode.specs.declared.router_advertisement.RouterAdvertisement.{RouterAdvertisement};
 ghost use Rattle.nd_validity.specs.Hearing.{Hears, other, valid};
 ghost use Rattle.nd_chronicle.specs.Event as events;
 ghost use Rattle.nd_node.specs.Event.{AddsEvent};
 ghost use Rattle.nd_node.specs.Frame.{Stays};
+ghost use Rattle.nd_node.specs.Memory.{AddsNoName, AsksForNone};
 
 use crate::node::Node;
 use nd_addr::{ETHERNET_HEADER_LENGTH, HEADERS_LENGTH, Ip6Ref, Why};
@@ -67,6 +71,7 @@ impl<R: Rng + Drop, A: Allocator + Clone> Node<R, A> {
         ensures adds { OnOk result ((frame : List ℕ) → Hears frame self.old.role (valid heard.now.source heard.now.destination (parts heard.now.message)) → AddsEvent R.stream self.old self.new outs.old.items outs.new.items now (events.Receives frame)) }
         ensures stays { OnErr result (Stays R.stream self.old self.new) }
         ensures told { OnErr result (outs.new.items ≡ outs.old.items) }
+        ensures quiet { (ra : RouterAdvertisement) → heard.now.message.body ≡ bodies.Ra ra → AddsNoName self.old now heard.now.source (options_left heard.now.message.options) (vec_capacity outs.old - vec_len outs.old) → IsOk result }
     {
         let source = heard.source;
         let destination = heard.destination;
@@ -98,6 +103,7 @@ impl<R: Rng + Drop, A: Allocator + Clone> Node<R, A> {
         ensures adds { OnOk result (AddsEvent R.stream self.old self.new outs.old.items outs.new.items now (events.Receives frame.now)) }
         ensures stays { OnErr result (Stays R.stream self.old self.new) }
         ensures told { OnErr result (outs.new.items ≡ outs.old.items) }
+        ensures quiet { AsksForNone self.old now (vec_capacity outs.old - vec_len outs.old) (events.Receives frame.now) → IsOk result }
     {
         match hear(frame, self.role) {
             Hearing::Drop(why) => self.drop_frame(now, why, outs),

@@ -11,6 +11,7 @@ ghost use Rattle.nd_neighbour.specs.Table.{node_in};
 ghost use Rattle.nd_chronicle.specs.Happening.{Sent};
 ghost use Rattle.nd_chronicle.specs.Histories.{given_or_marked, mark_of_target, said_of_neighbour, said_of_source};
 ghost use Rattle.nd_chronicle.specs.LinkLayerAddress.{first_slla, first_tlla};
+ghost use Rattle.nd_waiting.specs.Waiting.{max_waiting};
 ghost use Rattle.nd_node.specs.LinkLayerAddress.{said_by, HasPlace, waiting_for, HearsOf};
 ghost use Rattle.nd_node.specs.Told.{at_moment, happenings};
 
@@ -112,7 +113,8 @@ fn neighbour_in(news: &News) -> Addr
 
 /// How many packets wait for the neighbour that is spoken of.
 pub(crate) fn waiting_for<A: Allocator>(neighbours: &Cache<A>, news: Option<News>) -> usize
-    ensures { result ≡ waiting_for news neighbours.now.nodes }
+    ensures value { result ≡ waiting_for news neighbours.now.nodes }
+    ensures few { result ≤ max_waiting }
 {
     match news {
         Some(news) => neighbours.waiting_at(neighbour_in(&news)),

@@ -1,12 +1,14 @@
 //! A valid message that is for this node.
 
-ghost use Rattle.std.specs.Prelude.{◌≡◌, ◌↔◌, ◌<◌, ◌^◌, OnOk, OnErr, true};
+ghost use Rattle.std.specs.Prelude.{◌≡◌, ◌↔◌, ◌-◌, ◌<◌, ◌^◌, IsOk, OnOk, OnErr, true, vec_len, vec_capacity};
 ghost use Rattle.nd_addr.specs.Number.{number_of};
 ghost use Rattle.nd_decode.specs.Pieces.{options_left};
 ghost use Rattle.nd_decode.specs.declared.body.Body.TheVariants as bodies;
+ghost use Rattle.nd_decode.specs.declared.router_advertisement.RouterAdvertisement.{RouterAdvertisement};
 ghost use Rattle.nd_nexthop.specs.NextHop.{hop_of, via};
 ghost use Rattle.nd_chronicle.specs.Happening.{Dropped};
 ghost use Rattle.nd_node.specs.Frame.{AddsAlone, AddsJudged, Stays};
+ghost use Rattle.nd_node.specs.Memory.{AddsNoName};
 
 use crate::node::Node;
 use nd_addr::{Addr, Why};
@@ -42,6 +44,9 @@ impl<R: Rng + Drop, A: Allocator + Clone> Node<R, A> {
         ensures adds { OnOk result (AddsAlone R.stream self.old self.new outs.old.items outs.new.items now (Dropped why)) }
         ensures keeps { OnErr result (self.new ≡ self.old) }
         ensures told { OnErr result (outs.new.items ≡ outs.old.items) }
+
+        // Where there is a place for it nothing refuses, whatever memory there is.
+        ensures quiet { vec_len outs.old < vec_capacity outs.old → IsOk result }
     {
         outs.push((now, Out::Dropped(why)))?;
         self.last = now;
@@ -88,6 +93,7 @@ impl<R: Rng + Drop, A: Allocator + Clone> Node<R, A> {
         ensures adds { OnOk result (AddsJudged R.stream self.old self.new outs.old.items outs.new.items now source destination (record { body = body.now; options = options_left options.entry })) }
         ensures stays { OnErr result (Stays R.stream self.old self.new) }
         ensures told { OnErr result (outs.new.items ≡ outs.old.items) }
+        ensures quiet { (ra : RouterAdvertisement) → body.now ≡ bodies.Ra ra → AddsNoName self.old now source (options_left options.entry) (vec_capacity outs.old - vec_len outs.old) → IsOk result }
     {
         match body {
             Body::Rs => self.hear_router_solicitation(now, source, destination, options, outs),

@@ -96,8 +96,7 @@ impl<R: Rng + Drop, A: Allocator + Clone> Node<R, A> {
         let body = Body::Na(*na);
         let news = news_of(source, &body, options);
         let waiting = waiting_for(&self.neighbours, news);
-        let places = waiting.checked_add(MOST_ADVERTISED).ok_or(AllocError)?;
-        outs.reserve(places)?;
+        outs.reserve(waiting + MOST_ADVERTISED)?;
         self.last = now;
         outs.push_reserved((
             now,

@@ -166,10 +166,9 @@ fn make_room<A: Allocator + Clone>(
     ensures same { outs.new.items ≡ outs.old.items }
 {
     let waiting = waiting_for(neighbours, news);
-    let places = waiting.checked_add(MOST_ANSWERED).ok_or(AllocError)?;
     let answer = FrameRoom::new(outs.allocator().clone()?)?;
     let solicitation = FrameRoom::new(outs.allocator().clone()?)?;
-    outs.reserve(places)?;
+    outs.reserve(waiting + MOST_ANSWERED)?;
     let unknown = news.is_none() && neighbours.entry(now, asker).is_none();
     if unknown && neighbours.ready(1).is_err() {
         return Err(AllocError);

@@ -48,8 +48,7 @@ impl<R: Rng + Drop, A: Allocator + Clone> Node<R, A> {
             return Ok(());
         }
         let waiting = waiting_for(&self.neighbours, news);
-        let places = waiting.checked_add(MOST_REDIRECTED).ok_or(AllocError)?;
-        outs.reserve(places)?;
+        outs.reserve(waiting + MOST_REDIRECTED)?;
         self.choice
             .redirected(redirect.destination, redirect.target)?;
         self.last = now;

@@ -1,4 +1,4 @@
-ghost use Rattle.std.specs.Prelude.{◌≡◌, ◌≤◌, ◌<◌, ◌^◌, ◌+◌, ◌++◌, ℕ, List, true, OnOk, OnErr, vec_len, vec_capacity};
+ghost use Rattle.std.specs.Prelude.{◌≡◌, ◌≤◌, ◌<◌, ◌^◌, ◌+◌, ◌-◌, ◌++◌, ℕ, List, true, IsOk, OnOk, OnErr, vec_len, vec_capacity};
 ghost use Rattle.std.specs.Option.{option_map};
 ghost use Rattle.nd_addr.specs.Number.{number_of};
 ghost use Rattle.nd_addr.specs.Prefix.{PrefixValue};
@@ -21,6 +21,7 @@ ghost use Rattle.nd_node.specs.LinkLayerAddress.{said_by, HasPlace, waiting_for}
 ghost use Rattle.nd_node.specs.Told.{at_moment, happenings};
 ghost use Rattle.nd_node.specs.RouterAdvertisement.{left_told, TakesAdvertisement};
 ghost use Rattle.nd_node.specs.Hearing.{AddsMessage};
+ghost use Rattle.nd_node.specs.Memory.{AddsNoName};
 ghost use Rattle.nd_node.specs.Fullness.{HasRoom};
 
 use crate::default_router::hear_router;
@@ -187,6 +188,9 @@ impl<R: Rng + Drop, A: Allocator + Clone> Node<R, A> {
         ensures adds { OnOk result (AddsMessage R.stream self.old self.new outs.old.items outs.new.items now source destination (record { body = bodies.Ra ra.now; options = options_left options.entry })) }
         ensures keeps { OnErr result (self.new ≡ self.old) }
         ensures told { OnErr result (outs.new.items ≡ outs.old.items) }
+
+        // Where it adds no search name nothing refuses, whatever memory there is.
+        ensures quiet { AddsNoName self.old now source (options_left options.entry) (vec_capacity outs.old - vec_len outs.old) → IsOk result }
     {
         let news = news_of(source, &Body::Ra(*ra), options);
         let place = has_place(&self.neighbours, now, news);
@@ -202,8 +206,7 @@ impl<R: Rng + Drop, A: Allocator + Clone> Node<R, A> {
             return Err(AllocError);
         };
         let waiting = waiting_for(&self.neighbours, news);
-        let most_told = waiting.checked_add(BESIDE_FRAMES).ok_or(AllocError)?;
-        outs.reserve(most_told)?;
+        outs.reserve(waiting + BESIDE_FRAMES)?;
         let heard = Advertisement {
             source,
             destination,

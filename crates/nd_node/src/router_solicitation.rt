@@ -46,8 +46,7 @@ impl<R: Rng + Drop, A: Allocator + Clone> Node<R, A> {
             return Ok(());
         }
         let waiting = waiting_for(&self.neighbours, news);
-        let places = waiting.checked_add(MOST_SOLICITED).ok_or(AllocError)?;
-        outs.reserve(places)?;
+        outs.reserve(waiting + MOST_SOLICITED)?;
         self.last = now;
         outs.push_reserved((
             now,

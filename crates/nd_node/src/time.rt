@@ -1,4 +1,4 @@
-ghost use Rattle.std.specs.Prelude.{◌≡◌, ℕ, ◌^◌, ◌<◌, ◌≤◌, OnOk, OnErr};
+ghost use Rattle.std.specs.Prelude.{◌≡◌, ℕ, ◌^◌, ◌<◌, ◌≤◌, Ok, OnOk, OnErr};
 ghost use Rattle.nd_node.specs.Time.{Leads, Comes, Passes, Onward};
 
 use crate::node::Node;
@@ -37,6 +37,9 @@ impl<R: Rng + Drop, A: Allocator + Clone> Node<R, A> {
         ensures onward { Leads R.stream self.old self.new outs.old.items outs.new.items (Onward now) }
         ensures passes { OnOk result (Leads R.stream self.old self.new outs.old.items outs.new.items (Passes now)) }
         ensures settled { OnOk result (now < next_of self.new) }
+
+        // Where nothing is due up to it nothing happens, whatever memory there is.
+        ensures idle { now < next_of self.old → (result ≡ Ok tt) × (self.new ≡ self.old) × (outs.new ≡ outs.old) }
     {
         idle_time_passes();
         loop {

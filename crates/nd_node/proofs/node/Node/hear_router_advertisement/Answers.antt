@@ -1,11 +1,14 @@
-use Rattle.std.proofs.Common.{refl, ap, subst}
+use Rattle.std.proofs.Common.{refl, ap, subst, arith}
 use Rattle.std.specs.Prelude.{Option}
 use Rattle.std.specs.Option.{option_map}
+use Rattle.nd_addr.specs.Number.{number_of}
 use Rattle.nd_decode.specs.Pieces.{options_left}
 use Rattle.nd_out.specs.Out.{limit_of}
 use Rattle.nd_chronicle.specs.Happening.{Limit}
+use Rattle.nd_chronicle.specs.LinkLayerAddress.{first_slla}
 use Rattle.nd_chronicle.specs.Full.{AdvertisementFills}
 use Rattle.nd_node.specs.RouterAdvertisement.{advertised}
+use Rattle.nd_node.proofs.Memory.{waits_for_sender}
 use Rattle.nd_node.proofs.TakenOrRefused.{sender_placed, refuses, takes}
 use Rattle.nd_node.proofs.node.Node.hear_router_advertisement.Goals as goal
 
@@ -30,3 +33,9 @@ returns-clause-adds g c =
     (c.first_full.ensures.fills start c' s le (sender_placed stream c.args.now c.args.source c.args.destination c.args.ra.now options c.args.self.now c.news_of-news.result c.has_place-place.result c.news_of-news.ensures c.has_place-place.ensures.placed start c' s)))
     c.in_ok-reserve.ensures.items c.push_reserved.ensures.items
     c.take_router_advertisement.ensures
+
+pub returns-in_err-reserve-clause-quiet : goal.returns-in_err-reserve-clause-quiet
+returns-in_err-reserve-clause-quiet g c = λ adds.
+    let options = options_left c.args.options in
+    let waits = waits_for_sender (record { retrans = 0; reachable = 0 }) (number_of c.args.source.0) (first_slla options) c.news_of-news.result c.args.self.now.neighbours.nodes (c.news_of-news.ensures (record { retrans = 0; reachable = 0 })) in
+    absurd (omega (arith, adds.told, waits, c.waiting_for-waiting.ensures.value, c.in_err-reserve.ensures.full))

@@ -1,5 +1,5 @@
 use Rattle.std.proofs.Common.{refl}
-use Rattle.nd_node.specs.Event.{event_of, events_of}
+use Rattle.nd_node.specs.Event.{events_of}
 use Rattle.nd_node.proofs.Running.{came, came_in_part, at_place, on_err_any}
 use Rattle.nd_node.proofs.node.Node.run.Goals as goal
 

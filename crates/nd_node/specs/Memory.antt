@@ -1,0 +1,41 @@
+-- Which events are taken whatever memory there is, once all that is due up to them is done: those that tell no more than there are places for.
+use Rattle.std.specs.Prelude.{◌≡◌, ℕ, ◌+◌, ◌≤◌, ◌⊎◌, List, [], length}
+use Rattle.nd_addr.specs.declared.addr.Addr.{Addr}
+use Rattle.nd_addr.specs.declared.role.Role.{Role}
+use Rattle.nd_addr.specs.declared.why.Why.{Why}
+use Rattle.nd_addr.specs.Number.{number_of}
+use Rattle.nd_decode.specs.Option.{Said}
+use Rattle.nd_decode.specs.declared.body.Body.TheVariants as bodies
+use Rattle.nd_decode.specs.declared.router_advertisement.RouterAdvertisement.{RouterAdvertisement}
+use Rattle.nd_validity.specs.Hearing.{Hears, valid, dropped}
+use Rattle.nd_dns.specs.Dns.{new_names}
+use Rattle.nd_neighbour.specs.Removal.{waiting_at}
+use Rattle.nd_neighbour.specs.Table.{node_in}
+use Rattle.nd_chronicle.specs.Event as events
+use Rattle.nd_node.specs.declared.node.Node.{Node}
+
+-- the frame is invalid by what it says, and there is a place for its reason
+pub record IsInvalid (role : Role) (frame : List ℕ) (places : ℕ) : Type 0 where
+  pub why : Why
+  pub hears : Hears frame role (dropped why)
+  pub told : 1 ≤ places
+
+-- an advertisement that adds no search name: there are places for itself, a router that leaves, and the packets that wait for its sender
+pub record AddsNoName {R A : Type 0} (node : Node R A) (now : ℕ) (source : Addr) (options : List Said) (places : ℕ) : Type 0 where
+  pub names : new_names now options node.dns ≡ []
+  pub told : length (waiting_at (node_in (number_of source.0) node.neighbours.nodes)) + 2 ≤ places
+
+-- the frame is such an advertisement
+pub record IsNameless {R A : Type 0} (node : Node R A) (now : ℕ) (frame : List ℕ) (places : ℕ) : Type 0 where
+  pub source : Addr
+  pub destination : Addr
+  pub ra : RouterAdvertisement
+  pub options : List Said
+  pub hears : Hears frame node.role (valid source destination (record { body = bodies.Ra ra; options = options }))
+  pub adds : AddsNoName node now source options places
+
+-- the event asks for no memory, where there are so many places for what is told
+abbrev pub AsksForNone : {R A : Type 0} → Node R A → ℕ → ℕ → events.Event → Type 0
+AsksForNone node now places events.Passes = Unit {0}
+AsksForNone node now places (events.Receives frame) = IsInvalid node.role frame places ⊎ IsNameless node now frame places
+AsksForNone node now places _ = ⊥
