@@ -40,3 +40,22 @@ fn events_run_in_their_order(rt: HostRuntime) -> Result<(), Fail> {
     assert!(rt; node.settled(3000));
     Ok(())
 }
+
+/// A host that was just started knows its link-local address, and nothing else.
+#[test]
+fn a_new_host_has_one_row(rt: HostRuntime) -> Result<(), Fail> {
+    let generator = Pcg32::seed_from_u64(0);
+    let Ok(node) = Node::new(rt.alloc(), Role::Host, MAC, 0, generator) else {
+        return Err(Fail::new("no memory"));
+    };
+    let counts = node.counts();
+    assert_eq!(rt;
+        (counts.neighbours, counts.routers, counts.prefixes),
+        (0, 0, 0)
+    );
+    assert_eq!(rt;
+        (counts.addresses, counts.servers, counts.search_names),
+        (1, 0, 0)
+    );
+    Ok(())
+}

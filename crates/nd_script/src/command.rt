@@ -55,7 +55,10 @@ fn read_table(word: &[u8]) -> Option<Table>
 }
 
 /// The event that the bytes of a command spell. No other bytes spell any, and such bytes take no memory. The error is want of memory.
-pub fn read_command<A: Allocator>(alloc: A, bytes: &[u8]) -> Result<Option<Event<A>>, AllocError>
+pub fn read_command<A: Allocator + Clone>(
+    alloc: &A,
+    bytes: &[u8],
+) -> Result<Option<Event<A>>, AllocError>
     ensures found { IfOk result (λ read. IfSome read (λ event. IsCommand bytes.now (event_of event))) }
     ensures only { (event : events.Event) → IsCommand bytes.now event → IfOk result (λ read. option_map event_of read ≡ Some event) }
     ensures malformed { ((event : events.Event) → IsCommand bytes.now event → ⊥) → result ≡ Ok None }

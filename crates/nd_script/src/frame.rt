@@ -24,8 +24,8 @@ fn are_digits(word: &[u8]) -> bool
 
 /// The frame that a word spells: `-` is the empty one, and else each byte is two hexadecimal digits, in either case. No other word spells
 /// one, and such a word takes no memory. The error is want of memory.
-pub(crate) fn read_frame<A: Allocator>(
-    alloc: A,
+pub(crate) fn read_frame<A: Allocator + Clone>(
+    alloc: &A,
     word: &[u8],
 ) -> Result<Option<Vec<u8, A>>, AllocError>
     ensures found { IfOk result (λ read. IfSome read (λ frame. IsFrameWord word.now frame.items)) }
@@ -33,12 +33,12 @@ pub(crate) fn read_frame<A: Allocator>(
     ensures malformed { ((frame : List ℕ) → IsFrameWord word.now frame → ⊥) → result ≡ Ok None }
 {
     if word == b"-".as_slice() {
-        return Ok(Some(Vec::new(alloc)));
+        return Ok(Some(Vec::new(alloc.clone()?)));
     }
     if !is_hexadecimal(word) {
         return Ok(None);
     }
-    match hex::decode(alloc, word) {
+    match hex::decode(alloc.clone()?, word) {
         Ok(frame) => Ok(Some(frame)),
         Err(_) => Err(AllocError),
     }

@@ -26,7 +26,10 @@ const MOMENTS: u64 = 1 << 62;
 
 /// The line that some bytes spell: a moment in decimal digits with no sign and no leading zero, one space, and a command. The bytes are
 /// those before the line feed. Any other line is malformed: it spells none, and takes no memory. The error is want of memory.
-pub fn read_line<A: Allocator>(alloc: A, line: &[u8]) -> Result<Option<Line<A>>, AllocError>
+pub fn read_line<A: Allocator + Clone>(
+    alloc: &A,
+    line: &[u8],
+) -> Result<Option<Line<A>>, AllocError>
     ensures found { IfOk result (λ spelled. IfSome spelled (λ read. IsLine line.now read.at (event_of read.event))) }
     ensures only { (at : ℕ) (event : events.Event) → IsLine line.now at event
         → IfOk result (λ spelled. IsSomeAnd spelled (λ read. (read.at ≡ at) × (event_of read.event ≡ event))) }

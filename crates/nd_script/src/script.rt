@@ -1,6 +1,6 @@
 //! A node that answers the lines of a script.
 
-ghost use Rattle.std.specs.Prelude.{◌≡◌, ◌++◌, [], OnOk, OnErr, IfOk, IfSome, IfNone, ◌^◌, ◌<◌, ℕ, List, string_bytes};
+ghost use Rattle.std.specs.Prelude.{◌≡◌, ◌++◌, [], None, Ok, OnOk, OnErr, IfOk, IfSome, IfNone, ◌^◌, ◌<◌, ℕ, List, string_bytes};
 ghost use Rattle.nd_chronicle.specs.Start.{Start};
 ghost use Rattle.nd_chronicle.specs.Happening.{Chronicle};
 ghost use Rattle.nd_chronicle.specs.History.{Follows};
@@ -38,12 +38,13 @@ impl<R: Rng + Drop, A: Allocator + Clone> Script<R, A> {
         }
     }
 
-    /// The line that some bytes spell, with its frame in the node's memory. The error is want of memory.
+    /// The line that some bytes spell, with its frame in the node's memory. A malformed one takes none. The error is want of memory.
     fn read(&self, line: &[u8]) -> Result<Option<Line<A>>, AllocError>
         ensures found { IfOk result (λ spelled. IfSome spelled (λ read. IsLine line.now read.at (event_of read.event))) }
         ensures malformed { IfOk result (λ spelled. IfNone spelled ((at : ℕ) (event : events.Event) → IsLine line.now at event → ⊥)) }
+        ensures quiet { ((at : ℕ) (event : events.Event) → IsLine line.now at event → ⊥) → result ≡ Ok None }
     {
-        read_line(self.outs.allocator().clone()?, line)
+        read_line(self.outs.allocator(), line)
     }
 
     /// An event comes, and its text goes to the end. The error is want of memory.

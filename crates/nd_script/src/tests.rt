@@ -20,7 +20,7 @@ enum Said {
 
 /// The moment of a line and what it says, a frame by its bytes in lower case digits.
 fn reading(alloc: Global, line: &[u8]) -> Result<Option<(u64, Said)>, AllocError> {
-    let Some(read) = read_line(alloc, line)? else {
+    let Some(read) = read_line(&alloc, line)? else {
         return Ok(None);
     };
     Ok(Some((read.at, event_said(alloc, read.event)?)))

@@ -6,7 +6,6 @@ use Rattle.nd_script.specs.Command.{IsCommand}
 use Rattle.nd_script.proofs.CommandWords.{parted_command, whole_command, no_other, rx_command, show_command}
 use Rattle.nd_script.proofs.Readings.{not_true}
 use Rattle.nd_script.proofs.command.read_command.Goals as goal
-use Rattle.nd_script.proofs.command.read_command.Goals.{in-Some-read_table, in-None-read_table}
 
 pub returns-in_default-clause-only : goal.returns-in_default-clause-only
 returns-in_default-clause-only g c = λ event e.
@@ -30,14 +29,10 @@ returns-in-Some-2-clause-malformed g c = λ none.
     let spelled : IsCommand c.args.bytes.now (events.Receives c.in-Some-2.frame.items) = search rules in
     absurd (none (events.Receives c.in-Some-2.frame.items) spelled)
 
-pub returns-then-eq-2-clause-malformed : goal.returns-then-eq-2-clause-malformed
-returns-then-eq-2-clause-malformed g c = λ none.
+pub returns-in-Some-read_table-clause-malformed : goal.returns-in-Some-read_table-clause-malformed
+returns-in-Some-read_table-clause-malformed g c = λ none.
     let show : c.in-Some.word.now ≡ codes "show" = search rules in
-    elim c.match-read_table.branch [
-      | in-Some-read_table w ↦
-          absurd (none (events.Shows (table_of w.in-Some-read_table.table)) (show_command c.args.bytes.now c.in-Some.word.now c.in-Some.rest.now (table_of w.in-Some-read_table.table) c.in-Some.ensures show w.in-Some-read_table.ensures.found))
-      | in-None-read_table w ↦ w.result-is
-    ]
+    absurd (none (events.Shows (table_of c.in-Some-read_table.table)) (show_command c.args.bytes.now c.in-Some.word.now c.in-Some.rest.now (table_of c.in-Some-read_table.table) c.in-Some.ensures show c.in-Some-read_table.ensures.found))
 
 pub returns-clause-only : goal.returns-clause-only
 returns-clause-only g c = λ event e.

@@ -7,6 +7,16 @@ use Rattle.nd_script.proofs.frame.read_frame.Goals as goal
 pub returns-then-eq-clause-malformed : goal.returns-then-eq-clause-malformed
 returns-then-eq-clause-malformed g c = λ none. let same : c.args.word.now ≡ codes "-" = search rules in absurd (none [] same)
 
+pub returns-in_err-clone-clause-malformed : goal.returns-in_err-clone-clause-malformed
+returns-in_err-clone-clause-malformed g c = λ none. let same : c.args.word.now ≡ codes "-" = search rules in absurd (none [] same)
+
+pub returns-in_err-clone-2-clause-malformed : goal.returns-in_err-clone-2-clause-malformed
+returns-in_err-clone-2-clause-malformed g c = λ none.
+    let yes : IsTrue c.is_hexadecimal.result = search rules in
+    let digits = c.is_hexadecimal.ensures.0 yes in
+    let decoded = decode_of-digits c.args.word.now digits.1 digits.2 in
+    absurd (none decoded.0 (decoded_word c.args.word.now decoded.0 digits decoded.1))
+
 pub returns-then-not-is_hexadecimal-clause-only : goal.returns-then-not-is_hexadecimal-clause-only
 returns-then-not-is_hexadecimal-clause-only g c = λ frame w.
     let other : c.args.word.now ≡ codes "-" → ⊥ = λ e. (let test : c.eq.result ≡ true = c.eq.ensures ∙ rw (e, c.as_slice.ensures) refl in let no : ⊥ = cc in no) in
