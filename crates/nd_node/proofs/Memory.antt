@@ -15,10 +15,17 @@ use Rattle.nd_neighbour.specs.History as rows
 use Rattle.nd_neighbour.specs.News.{news_key}
 use Rattle.nd_neighbour.specs.Removal.{waiting_at}
 use Rattle.nd_neighbour.specs.Table.{node_in}
+use Rattle.nd_addr.specs.declared.role.Role.{Role}
+use Rattle.nd_addr.specs.declared.why.Why.{Why}
+use Rattle.nd_addr.specs.Ip6.{PacketParts}
+use Rattle.nd_validity.specs.Hearing.{other}
+use Rattle.nd_chronicle.specs.Start.{Start}
+use Rattle.nd_chronicle.specs.Happening.{Chronicle, Passed}
+use Rattle.nd_chronicle.specs.Hearing.{IsForUs, IsPacketForUs, IsHeard, Judges, IsStrange, IsMisdirected, IsStrangePacket, NotFromFirstHop}
 use Rattle.nd_chronicle.specs.Histories.{given_or_marked}
 use Rattle.nd_node.specs.declared.node.Node.{Node}
 use Rattle.nd_node.specs.LinkLayerAddress.{said_by, waiting_for}
-use Rattle.nd_node.specs.Memory.{IsInvalid, IsNameless, AddsNoName}
+use Rattle.nd_node.specs.Memory.{IsDropped, IsNameless, AddsNoName}
 
 -- ---- the packets that an advertisement may release wait for its sender
 
@@ -36,32 +43,49 @@ waits_for_sender times key (Some mac) None nodes e = let no : ⊥ = cc in absurd
 waits_for_sender times key None None nodes e = let no : ⊥ = cc in absurd no
 waits_for_sender times key mac (Some n) nodes e = ap (λ (k : ℕ). length (waiting_at (node_in k nodes))) (of_sender times key mac n e)
 
+-- ---- what is dropped
+
+-- a message that is for this node is dropped only as a Redirect from another node than the first hop
+pub misdirected : (start : Start) (c : Chronicle) (now : ℕ) (source destination : Addr) (message : Parts) (why : Why) → IsForUs start c source destination message
+    → Judges start c now (valid source destination message) (dropped why) → NotFromFirstHop c now source message.body
+misdirected start c now source destination message why u (IsStrange n) = absurd (n u)
+misdirected start c now source destination message why u (IsMisdirected u' n) = n
+
+-- a packet that is for this node isn't
+pub packet_stays : (start : Start) (c : Chronicle) (now : ℕ) (packet : PacketParts) (why : Why) → IsPacketForUs start c packet → Judges start c now (other packet) (dropped why) → ⊥
+packet_stays start c now packet why u (IsStrangePacket n) = n u
+
+-- the node judges what the frame says
+pub judged_by_frame : (start : Start) (c : Chronicle) (now : ℕ) (frame : List ℕ) (role : Role) (said : Outcome) (why : Why) → role ≡ start.role → ((o : Outcome) → Hears frame role o → said ≡ o)
+    → IsHeard start c now frame (dropped why) → Judges start c now said (dropped why)
+judged_by_frame start c now frame role said why same only h =
+    let is : said ≡ h.outcome = only h.outcome (subst (λ (r : Role). Hears frame r h.outcome) (sym same) h.by_frame) in
+    subst (λ (o : Outcome). Judges start c now o (dropped why)) (sym is) h.by_node
+
 -- ---- a frame says one thing
 
-module _ {R A : Type 0} (node : Node R A) (now : ℕ) (frame : List ℕ) (places : ℕ) (source destination : Addr) (message : Parts)
-    (only : (o : Outcome) → Hears frame node.role o → valid source destination message ≡ o) where
-  pub record IsSuch : Type 0 where
-    pub ra : RouterAdvertisement
-    pub body : message.body ≡ bodies.Ra ra
-    pub adds : AddsNoName node now source message.options places
-
-  not_invalid : IsInvalid node.role frame places → IsSuch
-  not_invalid i =
-      let e : valid source destination message ≡ dropped i.why = only (dropped i.why) i.hears in
-      let no : ⊥ = cc in
-      absurd no
-
-  is_nameless : IsNameless node now frame places → IsSuch
-  is_nameless n =
+module _ {R A : Type 0} (node : Node R A) (now : ℕ) (frame : List ℕ) (places : ℕ) where
+  pub no_other : (packet : PacketParts) → ((o : Outcome) → Hears frame node.role o → other packet ≡ o) → IsNameless node now frame places → ⊥
+  no_other packet only n =
       let said : Parts = record { body = bodies.Ra n.ra; options = n.options } in
-      let e : valid source destination message ≡ valid n.source n.destination said = only (valid n.source n.destination said) n.hears in
-      let source_is : source ≡ n.source = cc in
-      let message_is : message ≡ said = cc in
-      record {
-        ra = n.ra;
-        body = ap (λ (m : Parts). m.body) message_is;
-        adds = subst (λ (m : Parts). AddsNoName node now source m.options places) (sym message_is) (subst (λ (s : Addr). AddsNoName node now s n.options places) (sym source_is) n.adds);
-      }
+      let e : other packet ≡ valid n.source n.destination said = only (valid n.source n.destination said) n.hears in
+      let no : ⊥ = cc in
+      no
 
-  pub nameless : IsInvalid node.role frame places ⊎ IsNameless node now frame places → IsSuch
-  nameless h = ⊎_elim not_invalid is_nameless h
+  module _ (source destination : Addr) (message : Parts) (only : (o : Outcome) → Hears frame node.role o → valid source destination message ≡ o) where
+    pub record IsSuch : Type 0 where
+      pub ra : RouterAdvertisement
+      pub body : message.body ≡ bodies.Ra ra
+      pub adds : AddsNoName node now source message.options places
+
+    pub nameless : IsNameless node now frame places → IsSuch
+    nameless n =
+        let said : Parts = record { body = bodies.Ra n.ra; options = n.options } in
+        let e : valid source destination message ≡ valid n.source n.destination said = only (valid n.source n.destination said) n.hears in
+        let source_is : source ≡ n.source = cc in
+        let message_is : message ≡ said = cc in
+        record {
+          ra = n.ra;
+          body = ap (λ (m : Parts). m.body) message_is;
+          adds = subst (λ (m : Parts). AddsNoName node now source m.options places) (sym message_is) (subst (λ (s : Addr). AddsNoName node now s n.options places) (sym source_is) n.adds);
+        }

@@ -1,7 +1,6 @@
 -- Which events are taken whatever memory there is, once all that is due up to them is done: those that tell no more than there are places for.
-use Rattle.std.specs.Prelude.{◌≡◌, ℕ, ◌+◌, ◌≤◌, ◌⊎◌, List, [], length}
+use Rattle.std.specs.Prelude.{◌≡◌, ℕ, ◌+◌, ◌≤◌, ◌⊎◌, List, [], ◌∷◌, length}
 use Rattle.nd_addr.specs.declared.addr.Addr.{Addr}
-use Rattle.nd_addr.specs.declared.role.Role.{Role}
 use Rattle.nd_addr.specs.declared.why.Why.{Why}
 use Rattle.nd_addr.specs.Number.{number_of}
 use Rattle.nd_decode.specs.Option.{Said}
@@ -11,13 +10,16 @@ use Rattle.nd_validity.specs.Hearing.{Hears, valid, dropped}
 use Rattle.nd_dns.specs.Dns.{new_names}
 use Rattle.nd_neighbour.specs.Removal.{waiting_at}
 use Rattle.nd_neighbour.specs.Table.{node_in}
+use Rattle.nd_chronicle.specs.Start.{Start}
+use Rattle.nd_chronicle.specs.Happening.{Chronicle, Passed}
+use Rattle.nd_chronicle.specs.Hearing.{IsHeard}
 use Rattle.nd_chronicle.specs.Event as events
 use Rattle.nd_node.specs.declared.node.Node.{Node}
 
--- the frame is invalid by what it says, and there is a place for its reason
-pub record IsInvalid (role : Role) (frame : List ℕ) (places : ℕ) : Type 0 where
+-- the frame is dropped, and there is a place for its reason
+pub record IsDropped (start : Start) (c : Chronicle) (now : ℕ) (frame : List ℕ) (places : ℕ) : Type 0 where
   pub why : Why
-  pub hears : Hears frame role (dropped why)
+  pub heard : IsHeard start ((now, Passed) ∷ c) now frame (dropped why)
   pub told : 1 ≤ places
 
 -- an advertisement that adds no search name: there are places for itself, a router that leaves, and the packets that wait for its sender
@@ -34,8 +36,8 @@ pub record IsNameless {R A : Type 0} (node : Node R A) (now : ℕ) (frame : List
   pub hears : Hears frame node.role (valid source destination (record { body = bodies.Ra ra; options = options }))
   pub adds : AddsNoName node now source options places
 
--- the event asks for no memory, where there are so many places for what is told
-abbrev pub AsksForNone : {R A : Type 0} → Node R A → ℕ → ℕ → events.Event → Type 0
-AsksForNone node now places events.Passes = Unit {0}
-AsksForNone node now places (events.Receives frame) = IsInvalid node.role frame places ⊎ IsNameless node now frame places
-AsksForNone node now places _ = ⊥
+-- the event asks a node that stands for a chronicle for no memory, where there are so many places for what is told
+abbrev pub AsksForNone : {R A : Type 0} → Start → Chronicle → Node R A → ℕ → ℕ → events.Event → Type 0
+AsksForNone start c node now places events.Passes = Unit {0}
+AsksForNone start c node now places (events.Receives frame) = IsDropped start c now frame places ⊎ IsNameless node now frame places
+AsksForNone start c node now places _ = ⊥

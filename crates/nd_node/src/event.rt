@@ -1,6 +1,7 @@
 ghost use Rattle.std.specs.Prelude.{◌≡◌, ℕ, ◌^◌, ◌-◌, ◌<◌, ◌≤◌, IsOk, OnOk, OnErr, vec_len, vec_capacity};
 ghost use Rattle.nd_chronicle.specs.Event.{EventAdds};
-ghost use Rattle.nd_chronicle.specs.Happening.{Passed};
+ghost use Rattle.nd_chronicle.specs.Happening.{Chronicle, Passed, last_moment};
+ghost use Rattle.nd_chronicle.specs.Start.{Start};
 ghost use Rattle.nd_node.specs.Event.{event_of, events_of, AddsEvent, AreEarly, FollowsBy, RunsBy, RunsInPart};
 ghost use Rattle.nd_node.specs.Frame.{Stays};
 ghost use Rattle.nd_node.specs.Memory.{AsksForNone};
@@ -46,7 +47,7 @@ pub enum Event<A: Allocator> {
 }
 
 impl<R: Rng + Drop, A: Allocator + Clone> Node<R, A> {
-    ghost use Rattle.nd_node.specs.Node.{next_of};
+    ghost use Rattle.nd_node.specs.Node.{Stands, next_of};
 
     /// An event comes at a moment, in milliseconds. All that is due up to it comes first, its own millisecond included; then it adds what
     /// it adds. One that comes before the moment up to which time has passed is told alone.
@@ -63,7 +64,7 @@ impl<R: Rng + Drop, A: Allocator + Clone> Node<R, A> {
         ensures onward { OnErr result (Leads R.stream self.old self.new outs.old.items outs.new.items (Onward now)) }
 
         // Where nothing is due up to it and it asks for no memory, or where it comes too late, nothing refuses, whatever memory there is.
-        ensures quiet { self.old.last ≤ now → now < next_of self.old → AsksForNone self.old now (vec_capacity outs.old - vec_len outs.old) (event_of event.now) → IsOk result }
+        ensures quiet { (start : Start) (c : Chronicle) → Stands R.stream start self.old c → last_moment start.at c ≤ now → now < next_of self.old → AsksForNone start c self.old now (vec_capacity outs.old - vec_len outs.old) (event_of event.now) → IsOk result }
         ensures late { now < self.old.last → vec_len outs.old < vec_capacity outs.old → IsOk result }
     {
         if now < self.last {
@@ -105,7 +106,7 @@ impl<R: Rng + Drop, A: Allocator + Clone> Node<R, A> {
         ensures adds { OnOk result (AddsEvent R.stream self.old self.new outs.old.items outs.new.items now (event_of event.now)) }
         ensures stays { OnErr result (Stays R.stream self.old self.new) }
         ensures told { OnErr result (outs.new.items ≡ outs.old.items) }
-        ensures quiet { AsksForNone self.old now (vec_capacity outs.old - vec_len outs.old) (event_of event.now) → IsOk result }
+        ensures quiet { (start : Start) (c : Chronicle) → Stands R.stream start self.old c → last_moment start.at c ≤ now → AsksForNone start c self.old now (vec_capacity outs.old - vec_len outs.old) (event_of event.now) → IsOk result }
     {
         match event {
             Event::Passes => {

@@ -1,12 +1,14 @@
 //! A valid message that is for this node.
 
-ghost use Rattle.std.specs.Prelude.{◌≡◌, ◌↔◌, ◌-◌, ◌<◌, ◌^◌, IsOk, OnOk, OnErr, true, vec_len, vec_capacity};
+ghost use Rattle.std.specs.Prelude.{◌≡◌, ◌↔◌, ◌∷◌, ◌-◌, ◌<◌, ◌≤◌, ◌^◌, IsOk, OnOk, OnErr, true, vec_len, vec_capacity};
 ghost use Rattle.nd_addr.specs.Number.{number_of};
 ghost use Rattle.nd_decode.specs.Pieces.{options_left};
 ghost use Rattle.nd_decode.specs.declared.body.Body.TheVariants as bodies;
 ghost use Rattle.nd_decode.specs.declared.router_advertisement.RouterAdvertisement.{RouterAdvertisement};
 ghost use Rattle.nd_nexthop.specs.NextHop.{hop_of, via};
-ghost use Rattle.nd_chronicle.specs.Happening.{Dropped};
+ghost use Rattle.nd_chronicle.specs.Start.{Start};
+ghost use Rattle.nd_chronicle.specs.Happening.{Chronicle, Dropped, Passed, last_moment};
+ghost use Rattle.nd_chronicle.specs.Hearing.{NotFromFirstHop};
 ghost use Rattle.nd_node.specs.Frame.{AddsAlone, AddsJudged, Stays};
 ghost use Rattle.nd_node.specs.Memory.{AddsNoName};
 
@@ -30,7 +32,7 @@ fn is_via(hop: Hop, addr: Addr) -> bool
 }
 
 impl<R: Rng + Drop, A: Allocator + Clone> Node<R, A> {
-    ghost use Rattle.nd_node.specs.Node.{next_of};
+    ghost use Rattle.nd_node.specs.Node.{Stands, next_of};
 
     /// A frame is dropped at a moment, in milliseconds, for a reason, which is told. The error is want of memory, and then nothing has
     /// changed.
@@ -69,6 +71,7 @@ impl<R: Rng + Drop, A: Allocator + Clone> Node<R, A> {
         ensures adds { OnOk result (AddsJudged R.stream self.old self.new outs.old.items outs.new.items now source destination (record { body = bodies.Redirect redirect.now; options = options_left options.entry })) }
         ensures stays { OnErr result (Stays R.stream self.old self.new) }
         ensures told { OnErr result (outs.new.items ≡ outs.old.items) }
+        ensures misdirected { (start : Start) (c : Chronicle) → Stands R.stream start self.old c → last_moment start.at c ≤ now → NotFromFirstHop ((now, Passed) ∷ c) now source (bodies.Redirect redirect.now) → vec_len outs.old < vec_capacity outs.old → IsOk result }
     {
         let hop = self.next_hop(now, redirect.destination);
         if !is_via(hop, source) {
@@ -94,6 +97,7 @@ impl<R: Rng + Drop, A: Allocator + Clone> Node<R, A> {
         ensures stays { OnErr result (Stays R.stream self.old self.new) }
         ensures told { OnErr result (outs.new.items ≡ outs.old.items) }
         ensures quiet { (ra : RouterAdvertisement) → body.now ≡ bodies.Ra ra → AddsNoName self.old now source (options_left options.entry) (vec_capacity outs.old - vec_len outs.old) → IsOk result }
+        ensures misdirected { (start : Start) (c : Chronicle) → Stands R.stream start self.old c → last_moment start.at c ≤ now → NotFromFirstHop ((now, Passed) ∷ c) now source body.now → vec_len outs.old < vec_capacity outs.old → IsOk result }
     {
         match body {
             Body::Rs => self.hear_router_solicitation(now, source, destination, options, outs),

@@ -1,4 +1,7 @@
-use Rattle.std.proofs.Common.{refl}
+use Rattle.std.proofs.Common.{◌∷◌, refl, subst}
+use Rattle.nd_decode.specs.declared.body.Body.{Body}
+use Rattle.nd_chronicle.specs.Happening.{Passed}
+use Rattle.nd_chronicle.specs.Hearing.{NotFromFirstHop}
 use Rattle.nd_decode.specs.Pieces.{options_left}
 use Rattle.nd_decode.specs.declared.body.Body.TheVariants as bodies
 use Rattle.nd_node.proofs.Judging.{judged}
@@ -20,3 +23,23 @@ returns-in-Ns-clause-adds g c = rw c.in-Ns.is (on_ok c.hear_neighbor_solicitatio
 pub returns-in-Na-clause-adds : goal.returns-in-Na-clause-adds
 returns-in-Na-clause-adds g c = rw c.in-Na.is (on_ok c.hear_neighbor_advertisement.result _ _ (λ adds. judged g.R.Rng.stream c.args.self.now c.hear_neighbor_advertisement.new.self c.args.outs.now.items c.hear_neighbor_advertisement.new.outs.items c.args.now c.args.source c.args.destination
     (record { body = bodies.Na c.in-Na.na; options = options_left c.args.options }) (λ c'. refl) (λ c'. tt) adds) c.hear_neighbor_advertisement.ensures.adds)
+
+pub returns-in-Rs-clause-misdirected : goal.returns-in-Rs-clause-misdirected
+returns-in-Rs-clause-misdirected g c = λ start c' s le misdirected place.
+    absurd (subst (λ (b : Body). NotFromFirstHop ((c.args.now, Passed) ∷ c') c.args.now c.args.source b) c.in-Rs.is misdirected)
+
+pub returns-in-Ra-clause-misdirected : goal.returns-in-Ra-clause-misdirected
+returns-in-Ra-clause-misdirected g c = λ start c' s le misdirected place.
+    absurd (subst (λ (b : Body). NotFromFirstHop ((c.args.now, Passed) ∷ c') c.args.now c.args.source b) c.in-Ra.is misdirected)
+
+pub returns-in-Ns-clause-misdirected : goal.returns-in-Ns-clause-misdirected
+returns-in-Ns-clause-misdirected g c = λ start c' s le misdirected place.
+    absurd (subst (λ (b : Body). NotFromFirstHop ((c.args.now, Passed) ∷ c') c.args.now c.args.source b) c.in-Ns.is misdirected)
+
+pub returns-in-Na-clause-misdirected : goal.returns-in-Na-clause-misdirected
+returns-in-Na-clause-misdirected g c = λ start c' s le misdirected place.
+    absurd (subst (λ (b : Body). NotFromFirstHop ((c.args.now, Passed) ∷ c') c.args.now c.args.source b) c.in-Na.is misdirected)
+
+pub returns-in-Redirect-clause-misdirected : goal.returns-in-Redirect-clause-misdirected
+returns-in-Redirect-clause-misdirected g c = λ start c' s le misdirected place.
+    c.judge_redirect.ensures.misdirected start c' s le (subst (λ (b : Body). NotFromFirstHop ((c.args.now, Passed) ∷ c') c.args.now c.args.source b) c.in-Redirect.is misdirected) place

@@ -1,8 +1,9 @@
-use Rattle.std.proofs.Common.{◌≡◌, ◌+◌, ◌++◌, ℕ, List, take, length, refl, ◌∙◌, ap}
+use Rattle.std.proofs.Common.{◌≡◌, ◌∷◌, ◌+◌, ◌++◌, ℕ, List, take, length, refl, ◌∙◌, ap}
 use Rattle.nd_addr.specs.Ip6.{PacketParts, packet_parts, ipv6_header_length, payload_length_of}
 use Rattle.nd_addr.specs.Places.{packet_in}
-use Rattle.nd_chronicle.specs.Happening.{Up}
+use Rattle.nd_chronicle.specs.Happening.{Up, Passed}
 use Rattle.nd_node.proofs.Judging.{goes_up, packet_goes_up, packet_is_strange, up_to_payload, on_err, stays_same}
+use Rattle.nd_node.proofs.Memory.{packet_stays}
 use Rattle.nd_node.proofs.Rows.{on_ok}
 use Rattle.nd_node.proofs.node.Node.hear_packet.Goals as goal
 
@@ -27,3 +28,18 @@ returns-clause-adds g c =
     packet_goes_up g.R.Rng.stream c.args.self.now _ c.args.outs.now.items c.push.new.self.items c.args.now c.args.frame.now
     (packet_parts c.args.packet) c.requires.by_frame c.is_packet_for_us.result (λ start c' s. c.is_packet_for_us.ensures start c' (packet_parts c.args.packet) s refl) c.if-not-is_packet_for_us.false
     (goes_up g.R.Rng.stream c.args.self.now _ c.args.outs.now.items c.push.new.self.items c.args.now _ c.requires.settled refl c.in_ok-push.ensures.items packet (ap Up up_is))
+
+pub returns-in_err-clone-clause-quiet : goal.returns-in_err-clone-clause-quiet
+returns-in_err-clone-clause-quiet g c = λ why start c' s le judged place.
+    let ours = (c.is_packet_for_us.ensures start c' (packet_parts c.args.packet) s refl).0 c.if-not-is_packet_for_us.false in
+    absurd (packet_stays start ((c.args.now, Passed) ∷ c') c.args.now (packet_parts c.args.packet) why (record { destination_is = ours.destination_is; up = ours.up }) judged)
+
+pub returns-in_err-extend_from_slice-clause-quiet : goal.returns-in_err-extend_from_slice-clause-quiet
+returns-in_err-extend_from_slice-clause-quiet g c = λ why start c' s le judged place.
+    let ours = (c.is_packet_for_us.ensures start c' (packet_parts c.args.packet) s refl).0 c.if-not-is_packet_for_us.false in
+    absurd (packet_stays start ((c.args.now, Passed) ∷ c') c.args.now (packet_parts c.args.packet) why (record { destination_is = ours.destination_is; up = ours.up }) judged)
+
+pub returns-in_err-push-clause-quiet : goal.returns-in_err-push-clause-quiet
+returns-in_err-push-clause-quiet g c = λ why start c' s le judged place.
+    let ours = (c.is_packet_for_us.ensures start c' (packet_parts c.args.packet) s refl).0 c.if-not-is_packet_for_us.false in
+    absurd (packet_stays start ((c.args.now, Passed) ∷ c') c.args.now (packet_parts c.args.packet) why (record { destination_is = ours.destination_is; up = ours.up }) judged)

@@ -1,7 +1,10 @@
-use Rattle.std.proofs.Common.{refl}
+use Rattle.std.proofs.Common.{◌∷◌, refl, ◌∙◌}
+use Rattle.nd_chronicle.specs.Happening.{Passed}
+use Rattle.nd_chronicle.specs.Hearing.{IsForUs}
 use Rattle.nd_decode.specs.Message.{parts}
 use Rattle.nd_decode.specs.Pieces.{options_left}
 use Rattle.nd_node.proofs.Judging.{message_judged, message_is_strange, same_target}
+use Rattle.nd_node.proofs.Memory.{misdirected}
 use Rattle.nd_node.proofs.Rows.{on_ok}
 use Rattle.nd_node.proofs.node.Node.judge_message.Goals as goal
 
@@ -18,3 +21,11 @@ returns-clause-adds g c =
     on_ok c.hear_message.result _ _ (λ adds frame h. message_judged g.R.Rng.stream c.args.self.now c.hear_message.new.self c.args.outs.now.items c.hear_message.new.outs.items c.args.now frame
     c.args.heard.now.source c.args.heard.now.destination (parts m) h c.is_for_us.result (λ start c' s. c.is_for_us.ensures start c' (parts m) s refl) (same_target c.args.now c.args.heard.now.source m.body (options_left m.options)) c.if-not-is_for_us.false adds)
     c.hear_message.ensures.adds
+
+pub returns-clause-dropped : goal.returns-clause-dropped
+returns-clause-dropped g c = λ why start c' s le judged place.
+    let m = c.args.heard.now.message in
+    let source = c.args.heard.now.source in
+    let ours = (c.is_for_us.ensures start c' (parts m) s refl).0 c.if-not-is_for_us.false in
+    let later : IsForUs start ((c.args.now, Passed) ∷ c') source c.args.heard.now.destination (parts m) = record { destination_is = ours.destination_is; target = same_target c.args.now source m.body (options_left m.options) c' ∙ ours.target; awake = ours.awake } in
+    c.hear_message.ensures.misdirected start c' s le (misdirected start ((c.args.now, Passed) ∷ c') c.args.now source c.args.heard.now.destination (parts m) why later judged) place

@@ -1,6 +1,11 @@
+use Rattle.std.proofs.Common.{◌≡◌, ◌∷◌, ◌∙◌, sym}
+use Rattle.nd_nexthop.specs.NextHop.{via}
+use Rattle.nd_addr.specs.Number.{number_of}
+use Rattle.nd_chronicle.specs.Happening.{Passed}
+use Rattle.nd_chronicle.proofs.Hops.{one_next_hop}
 use Rattle.nd_decode.specs.Pieces.{options_left}
 use Rattle.nd_nexthop.specs.NextHop.{hop_of}
-use Rattle.nd_node.proofs.Judging.{directed, misdirected}
+use Rattle.nd_node.proofs.Judging.{directed, misdirected, next_later}
 use Rattle.nd_node.proofs.Rows.{on_ok}
 use Rattle.nd_node.proofs.node.Node.judge_redirect.Goals as goal
 
@@ -15,3 +20,11 @@ returns-clause-adds g c =
     on_ok c.hear_redirect.result _ _ (λ adds. directed g.R.Rng.stream c.args.self.now c.next_hop-hop.new.self c.hear_redirect.new.self c.args.outs.now.items c.hear_redirect.new.outs.items c.args.now c.args.source c.args.destination c.args.redirect.now (options_left c.args.options) (hop_of c.next_hop-hop.result)
     c.next_hop-hop.ensures.stands c.next_hop-hop.ensures.next (c.is_via.ensures.0 c.if-not-is_via.false) adds)
     c.hear_redirect.ensures.adds
+
+pub returns-clause-misdirected : goal.returns-clause-misdirected
+returns-clause-misdirected g c = λ start c' s le n place.
+    let hop = hop_of c.next_hop-hop.result in
+    let destination = c.args.redirect.now.destination in
+    let here = next_later c' c.args.now destination hop (c.next_hop-hop.ensures.next start c' s le) in
+    let same : hop ≡ n.0 = one_next_hop ((c.args.now, Passed) ∷ c') c.args.now destination hop n.0 here n.1 in
+    absurd (n.2 (sym same ∙ c.is_via.ensures.0 c.if-not-is_via.false))

@@ -1,9 +1,11 @@
-use Rattle.std.proofs.Common.{◌≡◌, subst}
+use Rattle.std.proofs.Common.{◌≡◌, ◌∷◌, ⊎_elim, subst, arith}
+use Rattle.nd_addr.specs.Ip6.{packet_parts}
 use Rattle.nd_decode.specs.Message.{parts}
-use Rattle.nd_validity.specs.Hearing.{Outcome, Hears, outcome}
+use Rattle.nd_validity.specs.Hearing.{Outcome, Hears, outcome, other, valid}
 use Rattle.nd_validity.specs.declared.hearing.Hearing.{Hearing}
+use Rattle.nd_chronicle.specs.Happening.{Passed}
 use Rattle.nd_node.proofs.Judging.{dropped_by_frame}
-use Rattle.nd_node.proofs.Memory.{nameless}
+use Rattle.nd_node.proofs.Memory.{judged_by_frame, nameless, no_other}
 use Rattle.nd_node.proofs.Rows.{on_ok}
 use Rattle.nd_node.proofs.node.Node.receive.Goals as goal
 
@@ -17,9 +19,25 @@ returns-in-Valid-clause-adds g c =
     let h = subst (λ (r : Hearing). Hears c.args.frame.now c.args.self.now.role (outcome r)) c.in-Valid.is c.hear.ensures.heard in
     on_ok c.judge_message.result _ _ (λ adds. adds c.args.frame.now h) c.judge_message.ensures.adds
 
+pub returns-in-Drop-clause-quiet : goal.returns-in-Drop-clause-quiet
+returns-in-Drop-clause-quiet g c = λ start c' s le asks.
+    ⊎_elim (λ d. c.drop_frame.ensures.quiet (omega (arith, d.told))) (λ n. c.drop_frame.ensures.quiet (omega (arith, n.adds.told))) asks
+
+pub returns-in-Other-clause-quiet : goal.returns-in-Other-clause-quiet
+returns-in-Other-clause-quiet g c = λ start c' s le asks.
+    let packet = c.in-Other.packet in
+    let only = subst (λ (r : Hearing). (o : Outcome) → Hears c.args.frame.now c.args.self.now.role o → outcome r ≡ o) c.in-Other.is c.hear.ensures.only in
+    ⊎_elim
+    (λ d. c.hear_packet.ensures.quiet d.why start c' s le (judged_by_frame start ((c.args.now, Passed) ∷ c') c.args.now c.args.frame.now c.args.self.now.role (other (packet_parts packet)) d.why s.role only d.heard) (omega (arith, d.told)))
+    (λ n. absurd (no_other c.args.self.now c.args.now c.args.frame.now _ (packet_parts packet) only n))
+    asks
+
 pub returns-in-Valid-clause-quiet : goal.returns-in-Valid-clause-quiet
-returns-in-Valid-clause-quiet g c = λ asks.
+returns-in-Valid-clause-quiet g c = λ start c' s le asks.
     let heard = c.in-Valid.heard in
+    let message = parts heard.message in
     let only = subst (λ (r : Hearing). (o : Outcome) → Hears c.args.frame.now c.args.self.now.role o → outcome r ≡ o) c.in-Valid.is c.hear.ensures.only in
-    let such = nameless c.args.self.now c.args.now c.args.frame.now _ heard.source heard.destination (parts heard.message) only asks in
-    c.judge_message.ensures.quiet such.ra such.body such.adds
+    ⊎_elim
+    (λ d. c.judge_message.ensures.dropped d.why start c' s le (judged_by_frame start ((c.args.now, Passed) ∷ c') c.args.now c.args.frame.now c.args.self.now.role (valid heard.source heard.destination message) d.why s.role only d.heard) (omega (arith, d.told)))
+    (λ n. (let such = nameless c.args.self.now c.args.now c.args.frame.now _ heard.source heard.destination message only n in c.judge_message.ensures.quiet such.ra such.body such.adds))
+    asks
