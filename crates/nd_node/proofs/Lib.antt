@@ -26,3 +26,4 @@ pub mod Filling
 pub mod Advertised
 pub mod TakenOrRefused
 pub mod Memory
+pub mod OutgoingPackets

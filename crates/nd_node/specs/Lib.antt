@@ -21,3 +21,4 @@ pub mod NeighborAdvertisement
 pub mod Memory
 pub mod Event
 pub mod Frame
+pub mod OutgoingPacket

@@ -25,7 +25,7 @@ use rand_core::Rng;
 use std::alloc::{AllocError, Allocator};
 
 /// How many bytes an IPv6 header has (RFC 8200, section 3).
-const IPV6_HEADER_LENGTH: usize = HEADERS_LENGTH - ETHERNET_HEADER_LENGTH;
+pub(crate) const IPV6_HEADER_LENGTH: usize = HEADERS_LENGTH - ETHERNET_HEADER_LENGTH;
 
 /// The packet in a frame, from its IPv6 header to the end of a payload of this length: padding behind it is left out.
 fn packet_in(frame: &[u8], payload_length: usize) -> &[u8]

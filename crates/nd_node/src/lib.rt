@@ -18,6 +18,7 @@ mod message;
 mod neighbor_advertisement;
 mod neighbor_solicitation;
 mod node;
+mod outgoing_packet;
 mod packet;
 mod place;
 mod prefix_options;
@@ -34,6 +35,7 @@ mod turned;
 pub use counts::Counts;
 pub use event::{Event, Table};
 pub use node::Node;
+pub use outgoing_packet::OutgoingPacket;
 pub use turned::Turned;
 
 #[cfg(test)]

@@ -1,5 +1,5 @@
 use crate::*;
-use nd_addr::{Mac, Role};
+use nd_addr::{Addr, Mac, Role};
 use nd_out::write_outs;
 use rand_core::SeedableRng;
 use rand_pcg::Pcg32;
@@ -57,5 +57,40 @@ fn a_new_host_has_one_row(rt: HostRuntime) -> Result<(), Fail> {
         (counts.addresses, counts.servers, counts.search_names),
         (1, 0, 0)
     );
+    Ok(())
+}
+
+/// What the upper layer sends: to a multicast address at once, and without a next hop nowhere (RFC 4861, section 5.2).
+#[test]
+fn packets_are_sent(rt: HostRuntime) -> Result<(), Fail> {
+    let generator = Pcg32::seed_from_u64(0);
+    let Ok(mut node) = Node::new(rt.alloc(), Role::Host, MAC, 0, generator) else {
+        return Err(Fail::new("no memory"));
+    };
+    let mut events = Vec::new(rt.alloc());
+    events.push((3000, Event::Passes))?;
+    let mut outs = Vec::new(rt.alloc());
+    node.run(&events, &mut outs)?;
+    let mut payload = Vec::new(rt.alloc());
+    payload.extend_from_slice(&[1, 2, 3])?;
+    let mut outgoing = OutgoingPacket {
+        source: Addr([
+            0xfe, 0x80, 0, 0, 0, 0, 0, 0, 0x36, 0x56, 0x78, 0xff, 0xfe, 0x9a, 0xbc, 0xde,
+        ]),
+        destination: Addr::ALL_NODES,
+        next_header: 17,
+        payload,
+    };
+    node.send(3000, &outgoing, &mut outs)?;
+    outgoing.destination = Addr([0x20, 1, 0xd, 0xb8, 0, 0, 0, 0, 0, 0, 0, 0, 0, 0, 0, 1]);
+    node.send(3000, &outgoing, &mut outs)?;
+    outgoing.source = Addr::UNSPECIFIED;
+    node.send(3000, &outgoing, &mut outs)?;
+    let mut text = String::new(rt.alloc());
+    write_outs(&mut text, &outs)?;
+    let wanted = format!(in rt.alloc();
+        "{STARTED}3000 tx 3333000000013456789abcde86dd6000000000031140fe80000000000000365678fffe9abcdeff020000000000000000000000000001010203\n3000 lost no-route fe80::3656:78ff:fe9a:bcde 2001:db8::1\n3000 refused not-ours ::\n"
+    )?;
+    assert_eq!(rt; text.as_str(), wanted.as_str());
     Ok(())
 }

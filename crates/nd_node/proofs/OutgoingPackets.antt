@@ -1,0 +1,212 @@
+-- A packet of the upper layer that is to be sent, and the chronicle that a node stands for.
+use Rattle.std.proofs.Common.{◌≡◌, ℕ, ◌<◌, ◌≤◌, Bool, true, false, List, [], ◌∷◌, ◌++◌, append-nil, Option, Some, None, refl, sym, ◌∙◌, ap, subst}
+use Rattle.std.specs.Prelude.{MatchBool}
+use Rattle.rand_core.specs.Stream.{Stream}
+use Rattle.nd_addr.specs.declared.mac.Mac.{Mac}
+use Rattle.nd_addr.specs.Kind.{multicast_mac_of, multicast_prefix}
+use Rattle.nd_addr.specs.Number.{holds, number_of}
+use Rattle.nd_frames.specs.Frames.{multicast_mac, open_mac}
+use Rattle.nd_neighbour.specs.Place.{WouldBeFull}
+use Rattle.nd_neighbour.specs.Room.{has_room}
+use Rattle.nd_nexthop.specs.NextHop.{NextHop, direct, no_route}
+use Rattle.nd_chronicle.specs.Start.{Start}
+use Rattle.nd_chronicle.specs.Happening.{Chronicle, Passed, Refused, Refusal, Full, Neighbours, Lost, Routeless, Sent, last_moment}
+use Rattle.nd_chronicle.specs.Histories.{neighbour_history}
+use Rattle.nd_chronicle.specs.NextHop.{IsNextHop}
+use Rattle.nd_chronicle.specs.Event as events
+use Rattle.nd_chronicle.specs.Event.{GoesIfPlaced, PacketAdds, UnlessRefused, packet_frame, refusal_of_packet}
+use Rattle.nd_out.specs.declared.out.Out.{Out}
+use Rattle.nd_out.specs.Out.{happening}
+use Rattle.nd_node.specs.declared.node.Node.{Node}
+use Rattle.nd_node.specs.declared.outgoing_packet.OutgoingPacket.{OutgoingPacket}
+use Rattle.nd_node.specs.Event.{AddsEvent}
+use Rattle.nd_node.specs.Frame.{AddsAlone}
+use Rattle.nd_node.specs.Hearing.{Keeps}
+use Rattle.nd_node.specs.Node.{Stands, next_of}
+use Rattle.nd_node.specs.OutgoingPacket.{AddsPacket, AddsToNeighbour, frame_of}
+use Rattle.nd_node.specs.Packet.{PacketGoes}
+use Rattle.nd_node.specs.Time.{Leads}
+use Rattle.nd_node.specs.Told.{Tells, happenings}
+use Rattle.nd_node.proofs.Asking.{FullByHistory, RoomIsPlace, has_place_for, would_be_full}
+use Rattle.nd_node.proofs.Judging.{IsQuiet, alone, next_later, stays_keeps}
+use Rattle.nd_node.proofs.Steps.{passed}
+use Rattle.nd_node.proofs.Telling.{Tells-then}
+
+-- ---- what is told alone
+
+refused_is_quiet : (now : ℕ) (refusal : Refusal) → IsQuiet now (Refused refusal)
+refused_is_quiet now refusal c is = record {
+  parameters = refl;
+  neighbours = refl;
+  routers = refl;
+  prefixes = refl;
+  addresses = refl;
+  servers = refl;
+  names = refl;
+  redirects = refl;
+  solicited = refl;
+  stream = λ start. refl;
+  last = λ start. sym (is start);
+}
+
+lost_is_quiet : (now : ℕ) (packet : List ℕ) → IsQuiet now (Lost Routeless packet)
+lost_is_quiet now packet c is = record {
+  parameters = refl;
+  neighbours = refl;
+  routers = refl;
+  prefixes = refl;
+  addresses = refl;
+  servers = refl;
+  names = refl;
+  redirects = refl;
+  solicited = refl;
+  stream = λ start. refl;
+  last = λ start. sym (is start);
+}
+
+sent_is_quiet : (now : ℕ) (packet : List ℕ) → IsQuiet now (Sent packet)
+sent_is_quiet now packet c is = record {
+  parameters = refl;
+  neighbours = refl;
+  routers = refl;
+  prefixes = refl;
+  addresses = refl;
+  servers = refl;
+  names = refl;
+  redirects = refl;
+  solicited = refl;
+  stream = λ start. refl;
+  last = λ start. sym (is start);
+}
+
+module _ {R A : Type 0} (stream : R → Stream) (old new : Node R A) (x y : List (ℕ × Out A)) (now : ℕ) (out : Out A) (settled : now < next_of old) (is : new ≡ record old { last = now }) (told : y ≡ x ++ (now, out) ∷ []) where
+  pub refuses : (refusal : Refusal) → happening out ≡ Refused refusal → AddsAlone stream old new x y now (Refused refusal)
+  refuses refusal out_is = alone stream old new x y now out settled is told (Refused refusal) (refused_is_quiet now refusal) out_is
+
+  pub loses : (packet : List ℕ) → happening out ≡ Lost Routeless packet → AddsAlone stream old new x y now (Lost Routeless packet)
+  loses packet out_is = alone stream old new x y now out settled is told (Lost Routeless packet) (lost_is_quiet now packet) out_is
+
+  pub sends : (packet : List ℕ) → happening out ≡ Sent packet → AddsAlone stream old new x y now (Sent packet)
+  sends packet out_is = alone stream old new x y now out settled is told (Sent packet) (sent_is_quiet now packet) out_is
+
+-- ---- to a neighbour
+
+module _ {R A : Type 0} (stream : R → Stream) (old new : Node R A) (x y : List (ℕ × Out A)) (now key : ℕ) (packet : List ℕ) (settled : now < next_of old) where
+  -- it has no place
+  pub refused_full : FullByHistory → has_room old.neighbours.limit now key None old.neighbours.nodes ≡ false → AddsAlone stream old new x y now (Refused (Full Neighbours))
+      → AddsToNeighbour stream old new x y now key packet
+  refused_full law room adds = record {
+    each = λ start c s le.
+        let a = adds.each start c s le in
+        let would : WouldBeFull start.limits.neighbours now key (neighbour_history c) = would_be_full stream start old c now key law s room in (
+          (now, Refused (Full Neighbours)) ∷ (now, Passed) ∷ c,
+          (false, (refl, would), refl),
+          a.0,
+          a.1,
+        );
+  }
+
+  -- it has place
+  pub goes_to : (mid : Node R A) (room : List (ℕ × Out A)) → Keeps (record old { last = now }) mid → room ≡ x → RoomIsPlace → FullByHistory
+      → has_room old.neighbours.limit now key None old.neighbours.nodes ≡ true → Leads stream mid new room y (PacketGoes now key packet)
+      → AddsToNeighbour stream old new x y now key packet
+  goes_to mid room keeps same room_is_place full_by_history has goes = record {
+    each = λ start c s le.
+        let later : Chronicle = (now, Passed) ∷ c in
+        let base : Node R A = record old { last = now } in
+        let kept = stays_keeps stream base mid keeps in
+        let g = goes.each start later (kept.each start later (passed stream start old base c now s le settled refl)) in
+        let nothing : Tells c later x room = record { newer = []; text = refl; outs = ap happenings same ∙ sym (append-nil _) } in (
+          g.0,
+          (true, has_place_for stream start old c now key room_is_place full_by_history s has, g.1),
+          g.2,
+          Tells-then c later g.0 x room y nothing g.3,
+        );
+  }
+
+-- ---- by its next hop
+
+module _ {R A : Type 0} (stream : R → Stream) (old new : Node R A) (x y : List (ℕ × Out A)) (now : ℕ) (packet : OutgoingPacket A) where
+  -- the frame of the node is that of the chronicle
+  frame_is : (to : Mac) (start : Start) (c : Chronicle) → Stands stream start old c
+      → frame_of to old.mac old.params.hop_limit packet ≡ packet_frame start now to packet.source packet.destination packet.next_header packet.payload.items ((now, Passed) ∷ c)
+  frame_is to start c s =
+      ap (λ (m : Mac). frame_of to m old.params.hop_limit packet) s.mac ∙ ap (λ (n : ℕ). frame_of to start.mac n packet) s.params.hop_limit
+
+  module _ (to : Mac) (frame : List ℕ) (is : frame ≡ frame_of to old.mac old.params.hop_limit packet) where
+    frame_later : (start : Start) (c : Chronicle) → Stands stream start old c
+        → frame ≡ packet_frame start now to packet.source packet.destination packet.next_header packet.payload.items ((now, Passed) ∷ c)
+    frame_later start c s = is ∙ frame_is to start c s
+
+    -- there is none
+    pub goes_nowhere : to ≡ open_mac → AddsAlone stream old new x y now (Lost Routeless frame) → AddsPacket stream old new x y now no_route packet
+    goes_nowhere open' adds = record {
+      each = λ start c s le.
+          let a = adds.each start c s le in
+          let later : Chronicle = (now, Passed) ∷ c in (
+            (now, Lost Routeless frame) ∷ later,
+            ap (λ (f : List ℕ). (now, Lost Routeless f) ∷ later) (frame_later start c s
+                ∙ ap (λ (m : Mac). packet_frame start now m packet.source packet.destination packet.next_header packet.payload.items later) open'),
+            a.0,
+            a.1,
+          );
+    }
+
+    -- the destination is multicast
+    pub goes_to_all : to.0 ≡ multicast_mac_of packet.destination.0 → holds multicast_prefix packet.destination.0 ≡ true → AddsAlone stream old new x y now (Sent frame)
+        → AddsPacket stream old new x y now direct packet
+    goes_to_all to_is multicast adds = record {
+      each = λ start c s le.
+          let a = adds.each start c s le in
+          let later : Chronicle = (now, Passed) ∷ c in
+          let d : Chronicle = (now, Sent frame) ∷ later in
+          let sent : d ≡ (now, Sent (packet_frame start now (multicast_mac packet.destination) packet.source packet.destination packet.next_header packet.payload.items later)) ∷ later =
+          ap (λ (f : List ℕ). (now, Sent f) ∷ later) (frame_later start c s
+          ∙ ap (λ (bytes : List ℕ). packet_frame start now (record { 0 = bytes }) packet.source packet.destination packet.next_header packet.payload.items later) to_is) in (
+            d,
+            subst (λ (b : Bool). MatchBool b
+                (d ≡ (now, Sent (packet_frame start now (multicast_mac packet.destination) packet.source packet.destination packet.next_header packet.payload.items later)) ∷ later)
+                (GoesIfPlaced start now (number_of packet.destination.0) (packet_frame start now open_mac packet.source packet.destination packet.next_header packet.payload.items later) later d))
+                (sym multicast) sent,
+            a.0,
+            a.1,
+          );
+    }
+
+-- ---- the event
+
+module _ {R A : Type 0} (stream : R → Stream) (old new : Node R A) (x y : List (ℕ × Out A)) (now : ℕ) (packet : OutgoingPacket A) where
+  -- it is refused
+  pub not_sent : (refusal : Refusal) → ((start : Start) (c : Chronicle) → Stands stream start old c → Some refusal ≡ refusal_of_packet start now packet.source packet.payload.items c)
+      → AddsAlone stream old new x y now (Refused refusal) → AddsEvent stream old new x y now (events.Sends packet.source packet.destination packet.next_header packet.payload.items)
+  not_sent refusal says adds = record {
+    each = λ start c s le.
+        let a = adds.each start c s le in
+        let later : Chronicle = (now, Passed) ∷ c in
+        let d : Chronicle = (now, Refused refusal) ∷ later in (
+          d,
+          subst (λ (o : Option Refusal). UnlessRefused start now o (λ e. (next : NextHop) × IsNextHop later now packet.destination next
+              × PacketAdds start now next packet.source packet.destination packet.next_header packet.payload.items later e) later d) (says start c s) refl,
+          a.0,
+          a.1,
+        );
+  }
+
+  -- it goes to its next hop
+  pub sent : (mid : Node R A) (hop : NextHop) → ((start : Start) (c : Chronicle) → Stands stream start old c → None ≡ refusal_of_packet start now packet.source packet.payload.items c)
+      → ((start : Start) (c : Chronicle) → Stands stream start old c → Stands stream start mid c)
+      → ((start : Start) (c : Chronicle) → Stands stream start old c → last_moment start.at c ≤ now → IsNextHop c now packet.destination hop)
+      → AddsPacket stream mid new x y now hop packet → AddsEvent stream old new x y now (events.Sends packet.source packet.destination packet.next_header packet.payload.items)
+  sent mid hop says stands next adds = record {
+    each = λ start c s le.
+        let a = adds.each start c (stands start c s) le in
+        let later : Chronicle = (now, Passed) ∷ c in
+        let d : Chronicle = a.0 in (
+          d,
+          subst (λ (o : Option Refusal). UnlessRefused start now o (λ e. (next : NextHop) × IsNextHop later now packet.destination next
+              × PacketAdds start now next packet.source packet.destination packet.next_header packet.payload.items later e) later d) (says start c s)
+              (hop, next_later c now packet.destination hop (next start c s le), a.1),
+          a.2,
+          a.3,
+        );
+  }

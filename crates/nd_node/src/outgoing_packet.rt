@@ -1,0 +1,287 @@
+//! A packet of the upper layer that is to be sent (RFC 4861, section 5.2).
+
+ghost use Rattle.std.specs.Prelude.{◌≡◌, ◌+◌, ◌<◌, ◌≤◌, ◌^◌, nat_lt, length, ℕ, IfOk, None, OnErr, OnOk, option_map, vec_capacity, vec_len};
+ghost use Rattle.nd_addr.specs.Frame.{ethernet_mtu};
+ghost use Rattle.nd_addr.specs.Ip6.{ipv6_header_length};
+ghost use Rattle.nd_addr.specs.Number.{number_of};
+ghost use Rattle.nd_chronicle.specs.Event as events;
+ghost use Rattle.nd_chronicle.specs.Event.{refusal_of_packet};
+ghost use Rattle.nd_chronicle.specs.Happening.{Chronicle, Lost, Refused, Routeless, Sent};
+ghost use Rattle.nd_chronicle.specs.Start.{Start};
+ghost use Rattle.nd_neighbour.specs.Table.{node_in};
+ghost use Rattle.nd_nexthop.specs.NextHop.{hop_of, direct};
+ghost use Rattle.nd_node.specs.Event.{AddsEvent};
+ghost use Rattle.nd_node.specs.Frame.{AddsAlone, Stays};
+ghost use Rattle.nd_node.specs.Hearing.{Keeps};
+ghost use Rattle.nd_node.specs.OutgoingPacket.{AddsPacket, AddsToNeighbour, frame_of};
+ghost use Rattle.nd_out.specs.Out.{refusal_of};
+
+use crate::frame::IPV6_HEADER_LENGTH;
+use crate::node::Node;
+use nd_addr::{Addr, Ip6, Mac, write_frame};
+use nd_frames::FrameRoom;
+use nd_neighbour::Cache;
+use nd_nexthop::Hop;
+use nd_out::{Limit, Loss, Out, Refusal};
+use nd_slaac::Counted;
+use nd_waiting::Packet;
+use rand_core::Rng;
+use std::alloc::{AllocError, Allocator};
+
+/// What stands in the place of an Ethernet destination that is still open: the packet is addressed when it is sent.
+const OPEN_MAC: Mac = Mac([0; 6]);
+
+/// A packet that the upper layer hands to the node: what its IPv6 header says (RFC 8200, section 3), and what stands behind that.
+#[derive(Drop)]
+pub struct OutgoingPacket<A: Allocator> {
+    /// The address that it comes from, an assigned one of the node.
+    pub source: Addr,
+    /// The address that it is for, of which the next hop is asked (RFC 4861, section 5.2).
+    pub destination: Addr,
+    /// What follows the header: one of IANA's protocol numbers.
+    pub next_header: u8,
+    /// What stands behind the header.
+    pub payload: Vec<u8, A>,
+}
+
+impl<A: Allocator> OutgoingPacket<A> {
+    /// The frame of the packet. The error is want of memory.
+    fn frame(&self, alloc: A, to: Mac, from: Mac, hop_limit: u8) -> Result<Packet<A>, AllocError>
+        requires { length self.now.payload.items ≤ 65535 }
+        ensures { IfOk result (λ packet. packet ≡ frame_of to from hop_limit self.now) }
+    {
+        let _to = to.as_bytes();
+        let _from = from.as_bytes();
+        let header = Ip6 {
+            traffic_class: 0,
+            flow_label: 0,
+            next_header: self.next_header,
+            hop_limit,
+            source: self.source,
+            destination: self.destination,
+        };
+        let frame = write_frame(alloc, to, from, &header, &self.payload)?;
+        match Packet::new(frame) {
+            Some(packet) => Ok(packet),
+            None => unreachable!(),
+        }
+    }
+}
+
+/// Whether a packet with this payload is longer than the MTU of the link (RFC 8200, section 5).
+fn is_too_long(payload: &[u8], mtu: u32) -> bool
+    requires { mtu ≤ ethernet_mtu }
+    ensures { result ≡ nat_lt mtu (ipv6_header_length + length payload.now) }
+{
+    (mtu as usize) < IPV6_HEADER_LENGTH.saturating_add(payload.len())
+}
+
+/// Makes room for a packet to a neighbour: the solicitation of its link-layer address, a place for what is told, and a ring where the
+/// neighbour isn't there. The error is want of memory.
+fn ready_for<A: Allocator + Clone>(
+    neighbours: &mut Cache<A>,
+    now: u64,
+    to: Addr,
+    outs: &mut Vec<(u64, Out<A>), A>,
+) -> Result<FrameRoom<A>, AllocError>
+    ensures place { OnOk result (vec_len outs.new < vec_capacity outs.new) }
+    ensures ring { OnOk result (node_in (number_of to.0) neighbours.old.nodes ≡ None → 0 < neighbours.new.rings) }
+    ensures nodes { neighbours.new.nodes ≡ neighbours.old.nodes }
+    ensures limit { neighbours.new.limit ≡ neighbours.old.limit }
+    ensures same { outs.new.items ≡ outs.old.items }
+{
+    let solicitation = FrameRoom::new(outs.allocator().clone()?)?;
+    outs.reserve(1)?;
+    if neighbours.entry(now, to).is_none() && neighbours.ready(1).is_err() {
+        return Err(AllocError);
+    }
+    Ok(solicitation)
+}
+
+impl<R: Rng + Drop, A: Allocator + Clone> Node<R, A> {
+    ghost use Rattle.nd_node.specs.Node.{Stands, next_of};
+
+    /// Why a packet isn't sent at all, the first reason that holds: the link-local address is a duplicate (RFC 4862, section 5.4.5), the
+    /// source isn't assigned, or the packet is too long. It takes no memory.
+    fn refusal_of(&self, outgoing: &OutgoingPacket<A>) -> Option<Refusal>
+        ensures says { (start : Start) (now : ℕ) (c : Chronicle) → Stands R.stream start self.now c → option_map refusal_of result ≡ refusal_of_packet start now outgoing.now.source outgoing.now.payload.items c }
+        ensures short { result ≡ None → length outgoing.now.payload.items ≤ 65535 }
+    {
+        let own = self.addresses.link_local();
+        if self.addresses.is_duplicate(own) {
+            return Some(Refusal::Disabled);
+        }
+        if !self.addresses.counts(Counted::Assigned, outgoing.source) {
+            return Some(Refusal::NotOurs(outgoing.source));
+        }
+        let mtu = self.params.mtu();
+        if is_too_long(&outgoing.payload, mtu) {
+            return Some(Refusal::TooLong);
+        }
+        None
+    }
+
+    /// A packet is refused at a moment, in milliseconds, for a reason, which is told. The error is want of memory, and then nothing has
+    /// changed.
+    fn refuse(
+        &mut self,
+        now: u64,
+        refusal: Refusal,
+        outs: &mut Vec<(u64, Out<A>), A>,
+    ) -> Result<(), AllocError>
+        requires settled { now < next_of self.old }
+        ensures adds { OnOk result (AddsAlone R.stream self.old self.new outs.old.items outs.new.items now (Refused (refusal_of refusal))) }
+        ensures keeps { OnErr result (self.new ≡ self.old) }
+        ensures told { OnErr result (outs.new.items ≡ outs.old.items) }
+    {
+        outs.push((now, Out::Refused(refusal)))?;
+        self.last = now;
+        Ok(())
+    }
+
+    /// A packet without a next hop is lost (RFC 4861, section 5.2). The error is want of memory, and then nothing has changed.
+    fn lose(
+        &mut self,
+        now: u64,
+        packet: Packet<A>,
+        outs: &mut Vec<(u64, Out<A>), A>,
+    ) -> Result<(), AllocError>
+        requires settled { now < next_of self.old }
+        ensures adds { OnOk result (AddsAlone R.stream self.old self.new outs.old.items outs.new.items now (Lost Routeless packet)) }
+        ensures keeps { OnErr result (Keeps self.old self.new) }
+        ensures told { OnErr result (outs.new.items ≡ outs.old.items) }
+    {
+        outs.push((now, Out::Lost(Loss::NoRoute, packet)))?;
+        self.last = now;
+        Ok(())
+    }
+
+    /// A packet whose Ethernet destination is known goes out (RFC 2464, section 7). The error is want of memory, and then nothing has
+    /// changed.
+    fn send_at_once(
+        &mut self,
+        now: u64,
+        packet: Packet<A>,
+        outs: &mut Vec<(u64, Out<A>), A>,
+    ) -> Result<(), AllocError>
+        requires settled { now < next_of self.old }
+        ensures adds { OnOk result (AddsAlone R.stream self.old self.new outs.old.items outs.new.items now (Sent packet)) }
+        ensures keeps { OnErr result (Keeps self.old self.new) }
+        ensures told { OnErr result (outs.new.items ≡ outs.old.items) }
+    {
+        outs.push((now, Out::Frame(packet)))?;
+        self.last = now;
+        Ok(())
+    }
+
+    /// A packet goes to a neighbour, and is refused where that has no place (RFC 4861, sections 7.2.2 and 7.3.3). The error is want of
+    /// memory, and then nothing has changed.
+    fn send_to(
+        &mut self,
+        now: u64,
+        to: Addr,
+        packet: Packet<A>,
+        outs: &mut Vec<(u64, Out<A>), A>,
+    ) -> Result<(), AllocError>
+        requires moment { now < 2 ^ 62 }
+        requires settled { now < next_of self.old }
+        ensures adds { OnOk result (AddsToNeighbour R.stream self.old self.new outs.old.items outs.new.items now (number_of to.0) packet) }
+        ensures keeps { OnErr result (Keeps self.old self.new) }
+        ensures told { OnErr result (outs.new.items ≡ outs.old.items) }
+    {
+        nd_neighbour::laws::room_is_place();
+        nd_neighbour::laws::full_by_history();
+        if !self.neighbours.room(now, to, None) {
+            let full = Out::Refused(Refusal::Full(Limit::Neighbours));
+            outs.push((now, full))?;
+            self.last = now;
+            return Ok(());
+        }
+        let solicitation = ready_for(&mut self.neighbours, now, to, outs)?;
+        self.last = now;
+        self.go(now, to, packet, solicitation, outs);
+        Ok(())
+    }
+
+    /// A packet whose destination is on the link goes there: at once to a multicast address, of which no entry is kept (RFC 2464,
+    /// section 7), and else as to a neighbour. The error is want of memory, and then nothing has changed.
+    fn send_directly(
+        &mut self,
+        now: u64,
+        outgoing: &OutgoingPacket<A>,
+        outs: &mut Vec<(u64, Out<A>), A>,
+    ) -> Result<(), AllocError>
+        requires moment { now < 2 ^ 62 }
+        requires settled { now < next_of self.old }
+        requires short { length outgoing.now.payload.items ≤ 65535 }
+        ensures adds { OnOk result (AddsPacket R.stream self.old self.new outs.old.items outs.new.items now direct outgoing.now) }
+        ensures keeps { OnErr result (Keeps self.old self.new) }
+        ensures told { OnErr result (outs.new.items ≡ outs.old.items) }
+    {
+        let hop_limit = self.params.hop_limit();
+        let alloc = outs.allocator().clone()?;
+        let destination = outgoing.destination;
+        if destination.is_multicast() {
+            let to = Mac::multicast(destination);
+            let packet = outgoing.frame(alloc, to, self.mac, hop_limit)?;
+            return self.send_at_once(now, packet, outs);
+        }
+        let packet = outgoing.frame(alloc, OPEN_MAC, self.mac, hop_limit)?;
+        self.send_to(now, destination, packet, outs)
+    }
+
+    /// A packet goes to its next hop, and is lost where it has none (RFC 4861, section 5.2). The error is want of memory, and then
+    /// nothing has changed.
+    fn send_by_hop(
+        &mut self,
+        now: u64,
+        hop: Hop,
+        outgoing: &OutgoingPacket<A>,
+        outs: &mut Vec<(u64, Out<A>), A>,
+    ) -> Result<(), AllocError>
+        requires moment { now < 2 ^ 62 }
+        requires settled { now < next_of self.old }
+        requires short { length outgoing.now.payload.items ≤ 65535 }
+        ensures adds { OnOk result (AddsPacket R.stream self.old self.new outs.old.items outs.new.items now (hop_of hop) outgoing.now) }
+        ensures keeps { OnErr result (Keeps self.old self.new) }
+        ensures told { OnErr result (outs.new.items ≡ outs.old.items) }
+    {
+        let hop_limit = self.params.hop_limit();
+        match hop {
+            Hop::Direct => self.send_directly(now, outgoing, outs),
+            Hop::Via(router) => {
+                let alloc = outs.allocator().clone()?;
+                let packet = outgoing.frame(alloc, OPEN_MAC, self.mac, hop_limit)?;
+                self.send_to(now, router, packet, outs)
+            }
+            Hop::NoRoute => {
+                let alloc = outs.allocator().clone()?;
+                let packet = outgoing.frame(alloc, OPEN_MAC, self.mac, hop_limit)?;
+                self.lose(now, packet, outs)
+            }
+        }
+    }
+
+    /// A packet is to be sent at a moment, in milliseconds, up to which nothing is due: it is refused for the first reason that holds, or
+    /// goes to its next hop (RFC 4861, section 5.2). The error is want of memory, and then nothing has happened.
+    pub fn send(
+        &mut self,
+        now: u64,
+        outgoing: &OutgoingPacket<A>,
+        outs: &mut Vec<(u64, Out<A>), A>,
+    ) -> Result<(), AllocError>
+        requires moment { now < 2 ^ 62 }
+        requires settled { now < next_of self.old }
+        ensures adds { OnOk result (AddsEvent R.stream self.old self.new outs.old.items outs.new.items now (events.Sends outgoing.now.source outgoing.now.destination outgoing.now.next_header outgoing.now.payload.items)) }
+        ensures stays { OnErr result (Stays R.stream self.old self.new) }
+        ensures told { OnErr result (outs.new.items ≡ outs.old.items) }
+    {
+        match self.refusal_of(outgoing) {
+            Some(refusal) => self.refuse(now, refusal, outs),
+            None => {
+                let hop = self.next_hop(now, outgoing.destination);
+                self.send_by_hop(now, hop, outgoing, outs)
+            }
+        }
+    }
+}
