@@ -1,8 +1,9 @@
 use crate::*;
 use nd_addr::{Addr, Mac, Role};
-use nd_out::write_outs;
+use nd_out::{Out, write_outs};
 use rand_core::SeedableRng;
 use rand_pcg::Pcg32;
+use std::alloc::Global;
 use std::test::*;
 
 const MAC: Mac = Mac([0x34, 0x56, 0x78, 0x9a, 0xbc, 0xde]);
@@ -60,7 +61,21 @@ fn a_new_host_has_one_row(rt: HostRuntime) -> Result<(), Fail> {
     Ok(())
 }
 
-/// What the upper layer sends: to a multicast address at once, and without a next hop nowhere (RFC 4861, section 5.2).
+/// A packet is to be sent at 3 s, up to which nothing is due any more.
+fn send(
+    node: &mut Node<Pcg32, Global>,
+    outgoing: &OutgoingPacket<Global>,
+    outs: &mut Vec<(u64, Out<Global>), Global>,
+) -> Result<(), Fail> {
+    if !node.settled(3000) {
+        return Err(Fail::new("something is due"));
+    }
+    node.send(3000, outgoing, outs)?;
+    Ok(())
+}
+
+/// What the upper layer sends: to a multicast address at once, without a next hop nowhere, and to a neighbour once its address is known,
+/// for which it is solicited (RFC 4861, sections 5.2 and 7.2.2).
 #[test]
 fn packets_are_sent(rt: HostRuntime) -> Result<(), Fail> {
     let generator = Pcg32::seed_from_u64(0);
@@ -81,15 +96,17 @@ fn packets_are_sent(rt: HostRuntime) -> Result<(), Fail> {
         next_header: 17,
         payload,
     };
-    node.send(3000, &outgoing, &mut outs)?;
+    send(&mut node, &outgoing, &mut outs)?;
     outgoing.destination = Addr([0x20, 1, 0xd, 0xb8, 0, 0, 0, 0, 0, 0, 0, 0, 0, 0, 0, 1]);
-    node.send(3000, &outgoing, &mut outs)?;
+    send(&mut node, &outgoing, &mut outs)?;
+    outgoing.destination = Addr([0xfe, 0x80, 0, 0, 0, 0, 0, 0, 0, 0, 0, 0, 0, 0, 0, 1]);
+    send(&mut node, &outgoing, &mut outs)?;
     outgoing.source = Addr::UNSPECIFIED;
-    node.send(3000, &outgoing, &mut outs)?;
+    send(&mut node, &outgoing, &mut outs)?;
     let mut text = String::new(rt.alloc());
     write_outs(&mut text, &outs)?;
     let wanted = format!(in rt.alloc();
-        "{STARTED}3000 tx 3333000000013456789abcde86dd6000000000031140fe80000000000000365678fffe9abcdeff020000000000000000000000000001010203\n3000 lost no-route fe80::3656:78ff:fe9a:bcde 2001:db8::1\n3000 refused not-ours ::\n"
+        "{STARTED}3000 tx 3333000000013456789abcde86dd6000000000031140fe80000000000000365678fffe9abcdeff020000000000000000000000000001010203\n3000 lost no-route fe80::3656:78ff:fe9a:bcde 2001:db8::1\n3000 tx 3333ff0000013456789abcde86dd6000000000203afffe80000000000000365678fffe9abcdeff0200000000000000000001ff0000018700a7fc00000000fe80000000000000000000000000000101013456789abcde\n3000 refused not-ours ::\n"
     )?;
     assert_eq!(rt; text.as_str(), wanted.as_str());
     Ok(())
