@@ -8,6 +8,7 @@ ghost use Rattle.nd_node.specs.Memory.{AsksForNone};
 ghost use Rattle.nd_node.specs.Time.{Leads, Onward};
 
 use crate::node::Node;
+use crate::outgoing_packet::OutgoingPacket;
 use nd_out::Out;
 use rand_core::Rng;
 use std::alloc::{AllocError, Allocator};
@@ -42,6 +43,8 @@ pub enum Event<A: Allocator> {
     Passes,
     /// A frame comes, from its Ethernet destination on (RFC 2464, section 3).
     Receives(Vec<u8, A>),
+    /// A packet of the upper layer is to be sent (RFC 4861, section 5.2).
+    Sends(OutgoingPacket<A>),
     /// A table is shown.
     Shows(Table),
 }
@@ -114,6 +117,7 @@ impl<R: Rng + Drop, A: Allocator + Clone> Node<R, A> {
                 Ok(())
             }
             Event::Receives(frame) => self.receive(now, frame, outs),
+            Event::Sends(outgoing) => self.send(now, outgoing, outs),
             Event::Shows(table) => {
                 let rows = self.rows(outs.allocator(), now, *table)?;
                 outs.push((now, Out::Shown(rows)))?;

@@ -264,7 +264,7 @@ impl<R: Rng + Drop, A: Allocator + Clone> Node<R, A> {
 
     /// A packet is to be sent at a moment, in milliseconds, up to which nothing is due: it is refused for the first reason that holds, or
     /// goes to its next hop (RFC 4861, section 5.2). The error is want of memory, and then nothing has happened.
-    pub fn send(
+    pub(crate) fn send(
         &mut self,
         now: u64,
         outgoing: &OutgoingPacket<A>,
