@@ -27,3 +27,4 @@ pub mod Advertised
 pub mod TakenOrRefused
 pub mod Memory
 pub mod OutgoingPackets
+pub mod Commands

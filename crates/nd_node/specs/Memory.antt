@@ -40,4 +40,5 @@ pub record IsNameless {R A : Type 0} (node : Node R A) (now : ℕ) (frame : List
 abbrev pub AsksForNone : {R A : Type 0} → Start → Chronicle → Node R A → ℕ → ℕ → events.Event → Type 0
 AsksForNone start c node now places events.Passes = Unit {0}
 AsksForNone start c node now places (events.Receives frame) = IsDropped start c now frame places ⊎ IsNameless node now frame places
+AsksForNone start c node now places (events.Confirms neighbour) = Unit {0}
 AsksForNone start c node now places _ = ⊥

@@ -9,6 +9,7 @@ ghost use Rattle.nd_node.specs.Time.{Leads, Onward};
 
 use crate::node::Node;
 use crate::outgoing_packet::OutgoingPacket;
+use nd_addr::Addr;
 use nd_out::Out;
 use rand_core::Rng;
 use std::alloc::{AllocError, Allocator};
@@ -45,6 +46,8 @@ pub enum Event<A: Allocator> {
     Receives(Vec<u8, A>),
     /// A packet of the upper layer is to be sent (RFC 4861, section 5.2).
     Sends(OutgoingPacket<A>),
+    /// An upper layer confirms that a neighbour is reached (RFC 4861, section 7.3.1).
+    Confirms(Addr),
     /// A table is shown.
     Shows(Table),
 }
@@ -118,6 +121,10 @@ impl<R: Rng + Drop, A: Allocator + Clone> Node<R, A> {
             }
             Event::Receives(frame) => self.receive(now, frame, outs),
             Event::Sends(outgoing) => self.send(now, outgoing, outs),
+            Event::Confirms(neighbour) => {
+                self.confirm(now, *neighbour);
+                Ok(())
+            }
             Event::Shows(table) => {
                 let rows = self.rows(outs.allocator(), now, *table)?;
                 outs.push((now, Out::Shown(rows)))?;

@@ -22,6 +22,7 @@ mod outgoing_packet;
 mod packet;
 mod place;
 mod prefix_options;
+mod reachability_confirmation;
 mod redirect;
 mod room;
 mod router_advertisement;

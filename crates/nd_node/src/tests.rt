@@ -1,3 +1,5 @@
+ghost use Rattle.nd_node.specs.Event.{AreEarly};
+
 use crate::*;
 use nd_addr::{Addr, Mac, Role};
 use nd_out::{Out, write_outs};
@@ -14,6 +16,15 @@ const EMPTY: [u8; 14] = [0, 0, 0, 0, 0, 0, 0, 0, 0, 0, 0, 0, 0x86, 0xdd];
 /// The second word of the generator of seed 0 is 0xfc843fd7, which delays the first solicitation by 234 ms.
 const STARTED: &str =
     "234 tx 3333ff9abcde3456789abcde86dd6000000000183aff00000000000000000000000000000000ff0200000000000000000001ff9abcde870053df00000000fe80000000000000365678fffe9abcde\n1234 assigned fe80::3656:78ff:fe9a:bcde\n1234 tx 3333000000023456789abcde86dd6000000000103afffe80000000000000365678fffe9abcdeff0200000000000000000000000000028500a78f0000000001013456789abcde\n";
+
+/// A Router Advertisement of `ROUTER` with its link-layer address, whose lifetime is 1800 s.
+const ADVERTISEMENT: [u8; 78] = [
+    0x33, 0x33, 0, 0, 0, 1, 2, 0, 0, 0, 0, 1, 0x86, 0xdd, 0x60, 0, 0, 0, 0, 0x18, 0x3a, 0xff, 0xfe,
+    0x80, 0, 0, 0, 0, 0, 0, 0, 0, 0, 0xff, 0xfe, 0, 0, 1, 0xff, 2, 0, 0, 0, 0, 0, 0, 0, 0, 0, 0, 0,
+    0, 0, 1, 0x86, 0, 0x33, 0x1d, 0x40, 0, 7, 8, 0, 0, 0, 0, 0, 0, 0, 0, 1, 1, 2, 0, 0, 0, 0, 1,
+];
+
+const ROUTER: Addr = Addr([0xfe, 0x80, 0, 0, 0, 0, 0, 0, 0, 0, 0, 0xff, 0xfe, 0, 0, 1]);
 
 /// Events come one after the other, and all that is due up to each comes first.
 #[test]
@@ -107,6 +118,39 @@ fn packets_are_sent(rt: HostRuntime) -> Result<(), Fail> {
     write_outs(&mut text, &outs)?;
     let wanted = format!(in rt.alloc();
         "{STARTED}3000 tx 3333000000013456789abcde86dd6000000000031140fe80000000000000365678fffe9abcdeff020000000000000000000000000001010203\n3000 lost no-route fe80::3656:78ff:fe9a:bcde 2001:db8::1\n3000 tx 3333ff0000013456789abcde86dd6000000000203afffe80000000000000365678fffe9abcdeff0200000000000000000001ff0000018700a7fc00000000fe80000000000000000000000000000101013456789abcde\n3000 refused not-ours ::\n"
+    )?;
+    assert_eq!(rt; text.as_str(), wanted.as_str());
+    Ok(())
+}
+
+/// What is told of events at a host that starts at 0.
+fn told_of(alloc: Global, events: &[(u64, Event<Global>)]) -> Result<String<Global>, Fail>
+    requires { AreEarly events.now }
+{
+    let generator = Pcg32::seed_from_u64(0);
+    let Ok(mut node) = Node::new(alloc, Role::Host, MAC, 0, generator) else {
+        return Err(Fail::new("no memory"));
+    };
+    let mut outs = Vec::new(alloc);
+    node.run(events, &mut outs)?;
+    let mut text = String::new(alloc);
+    write_outs(&mut text, &outs)?;
+    Ok(text)
+}
+
+/// A neighbour that an upper layer confirms is REACHABLE (RFC 4861, section 7.3.1).
+#[test]
+fn a_neighbour_is_confirmed(rt: HostRuntime) -> Result<(), Fail> {
+    let mut advertisement = Vec::new(rt.alloc());
+    advertisement.extend_from_slice(&ADVERTISEMENT)?;
+    let mut events = Vec::new(rt.alloc());
+    events.push((3000, Event::Receives(advertisement)))?;
+    events.push((3000, Event::Shows(Table::Neighbours)))?;
+    events.push((3000, Event::Confirms(ROUTER)))?;
+    events.push((3000, Event::Shows(Table::Neighbours)))?;
+    let text = told_of(rt.alloc(), &events)?;
+    let wanted = format!(in rt.alloc();
+        "{STARTED}3000 heard ra\n3000 neighbour fe80::ff:fe00:1 02:00:00:00:00:01 stale router\n3000 end 1\n3000 neighbour fe80::ff:fe00:1 02:00:00:00:00:01 reachable router\n3000 end 1\n"
     )?;
     assert_eq!(rt; text.as_str(), wanted.as_str());
     Ok(())

@@ -1,0 +1,62 @@
+-- What a command makes of one neighbour, and the chronicle that a node stands for.
+use Rattle.std.proofs.Common.{◌≡◌, ℕ, ◌<◌, ◌≤◌, List, [], ◌∷◌, append-nil, refl, sym, ◌∙◌, subst, arith}
+use Rattle.rand_core.specs.Stream.{Stream}
+use Rattle.nd_addr.specs.declared.addr.Addr.{Addr}
+use Rattle.nd_addr.specs.Number.{number_of}
+use Rattle.nd_neighbour.specs.History as rows
+use Rattle.nd_neighbour.specs.Table as neighbours
+use Rattle.nd_routers.specs.History.{RouterRow}
+use Rattle.nd_nexthop.specs.History.{RedirectRow}
+use Rattle.nd_chronicle.specs.Start.{Start}
+use Rattle.nd_chronicle.specs.Happening.{Chronicle, Neighbour, Passed, last_moment}
+use Rattle.nd_chronicle.specs.Histories.{neighbour_history, then_failed, then_target}
+use Rattle.nd_chronicle.specs.InForce.{reachable_time}
+use Rattle.nd_chronicle.specs.Event as events
+use Rattle.nd_chronicle.specs.Told.{text}
+use Rattle.nd_out.specs.declared.out.Out.{Out}
+use Rattle.nd_node.specs.declared.node.Node.{Node}
+use Rattle.nd_node.specs.Event.{AddsEvent}
+use Rattle.nd_node.specs.Node.{Stands, next_of}
+use Rattle.nd_node.specs.Told.{happenings}
+use Rattle.nd_node.proofs.Beside.{Same, beside_neighbour, stands_neighbours}
+use Rattle.nd_node.proofs.Saying.{NoneOverdueStill, OverdueByTable}
+use Rattle.nd_node.proofs.Steps.{passed}
+use Rattle.nd_node.proofs.Turns.{neighbours_before}
+
+module _ {R A : Type 0} (stream : R → Stream) (old new : Node R A) (now : ℕ) (neighbour : Addr) (settled : now < next_of old) (still : NoneOverdueStill) (table : OverdueByTable)
+    (same : Same (record old { last = now }) new) (is : new.addresses ≡ old.addresses) where
+  -- the neighbour has one more row, which is no failure
+  row_stands : (kind : rows.RowKind) → ((history : List RouterRow) → then_failed now (number_of neighbour.0) kind history ≡ history)
+      → ((history : List RedirectRow) → then_target now (number_of neighbour.0) kind history ≡ history)
+      → (start : Start) (c : Chronicle) → Stands stream start old c → last_moment start.at c ≤ now
+      → neighbours.Stands new.neighbours.nodes ((now, number_of neighbour.0, kind) ∷ neighbour_history c)
+      → Stands stream start new ((now, Neighbour (number_of neighbour.0) kind) ∷ (now, Passed) ∷ c)
+  row_stands kind routers' redirects' start c s le stands' =
+      let key : ℕ = number_of neighbour.0 in
+      let history : List rows.Row = neighbour_history c in
+      let base : Node R A = record old { last = now } in
+      let later : Chronicle = (now, Passed) ∷ c in
+      let not_past : now ≤ next_of old = omega (arith, settled) in
+      let before = (table old.neighbours.nodes history now s.neighbours).0 (neighbours_before old now not_past) in
+      let none = (table new.neighbours.nodes ((now, key, kind) ∷ history) now stands').1 (still history now key kind before) in
+      stands_neighbours stream start base new later ((now, Neighbour key kind) ∷ later) now same (beside_neighbour now key kind later routers' redirects')
+      (passed stream start old base c now s le settled refl) refl refl is refl stands' none
+
+  -- it is confirmed, at the ReachableTime in force
+  pub confirms : (reachable : ℕ) → reachable ≡ old.params.reachable_time
+      → neighbours.GainsRow old.neighbours.nodes new.neighbours.nodes (now, number_of neighbour.0, rows.Confirmed reachable)
+      → (outs : List (ℕ × Out A)) → AddsEvent stream old new outs outs now (events.Confirms neighbour)
+  confirms reachable reachable_is gains outs = record {
+    each = λ start c s le.
+        let key : ℕ = number_of neighbour.0 in
+        let kind : rows.RowKind = rows.Confirmed (reachable_time c) in
+        let later : Chronicle = (now, Passed) ∷ c in
+        let stands' : neighbours.Stands new.neighbours.nodes ((now, key, kind) ∷ neighbour_history c) =
+        subst (λ (r : ℕ). neighbours.Stands new.neighbours.nodes ((now, key, rows.Confirmed r) ∷ neighbour_history c)) (reachable_is ∙ s.params.reachable_time)
+        (gains.stands (neighbour_history c) s.neighbours) in (
+          (now, Neighbour key kind) ∷ later,
+          refl,
+          row_stands kind (λ h. refl) (λ h. refl) start c s le stands',
+          record { newer = []; text = append-nil (text later); outs = sym (append-nil (happenings outs)) },
+        );
+  }

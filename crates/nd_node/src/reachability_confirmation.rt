@@ -1,0 +1,27 @@
+ghost use Rattle.std.specs.Prelude.{◌<◌, ◌^◌, ℕ, List};
+ghost use Rattle.nd_chronicle.specs.Event as events;
+ghost use Rattle.nd_out.specs.declared.out.Out as told;
+ghost use Rattle.nd_node.specs.Event.{AddsEvent};
+
+use crate::node::Node;
+use crate::packet::times_in_force;
+use nd_addr::Addr;
+use rand_core::Rng;
+use std::alloc::Allocator;
+
+impl<R: Rng + Drop, A: Allocator + Clone> Node<R, A> {
+    ghost use Rattle.nd_node.specs.Node.{next_of};
+
+    /// An upper layer confirms at a moment, in milliseconds, that a neighbour is reached (RFC 4861, section 7.3.1). It takes no memory,
+    /// and nothing is told.
+    pub(crate) fn confirm(&mut self, now: u64, neighbour: Addr)
+        requires moment { now < 2 ^ 62 }
+        requires settled { now < next_of self.old }
+        ensures { (outs : List (ℕ × told.Out A)) → AddsEvent R.stream self.old self.new outs outs now (events.Confirms neighbour) }
+    {
+        nd_neighbour::laws::none_overdue();
+        let times = times_in_force(&self.params);
+        self.neighbours.confirmed(now, neighbour, times.reachable);
+        self.last = now;
+    }
+}
