@@ -1,26 +1,32 @@
 -- What a command makes of one neighbour, and the chronicle that a node stands for.
-use Rattle.std.proofs.Common.{◌≡◌, ℕ, ◌<◌, ◌≤◌, List, [], ◌∷◌, append-nil, refl, sym, ◌∙◌, subst, arith}
+use Rattle.std.proofs.Common.{◌≡◌, ℕ, ◌<◌, ◌≤◌, List, [], ◌∷◌, ◌++◌, append-nil, refl, sym, ◌∙◌, ap, subst, arith}
+use Rattle.std.specs.List.{flat_map}
 use Rattle.rand_core.specs.Stream.{Stream}
 use Rattle.nd_addr.specs.declared.addr.Addr.{Addr}
 use Rattle.nd_addr.specs.Number.{number_of}
 use Rattle.nd_neighbour.specs.History as rows
+use Rattle.nd_neighbour.specs.History.{story}
+use Rattle.nd_neighbour.specs.Story.{waits_of}
 use Rattle.nd_neighbour.specs.Table as neighbours
 use Rattle.nd_routers.specs.History.{RouterRow}
 use Rattle.nd_nexthop.specs.History.{RedirectRow}
 use Rattle.nd_chronicle.specs.Start.{Start}
-use Rattle.nd_chronicle.specs.Happening.{Chronicle, Neighbour, Passed, last_moment}
+use Rattle.nd_chronicle.specs.Happening.{Chronicle, Neighbour, Passed, Forgotten, last_moment}
 use Rattle.nd_chronicle.specs.Histories.{neighbour_history, then_failed, then_target}
 use Rattle.nd_chronicle.specs.InForce.{reachable_time}
+use Rattle.nd_chronicle.specs.Packet.{losing}
 use Rattle.nd_chronicle.specs.Event as events
-use Rattle.nd_chronicle.specs.Told.{text}
+use Rattle.nd_chronicle.specs.Told.{lines_of, text}
 use Rattle.nd_out.specs.declared.out.Out.{Out}
 use Rattle.nd_node.specs.declared.node.Node.{Node}
 use Rattle.nd_node.specs.Event.{AddsEvent}
 use Rattle.nd_node.specs.Node.{Stands, next_of}
 use Rattle.nd_node.specs.Told.{happenings}
 use Rattle.nd_node.proofs.Beside.{Same, beside_neighbour, stands_neighbours}
+use Rattle.nd_node.proofs.Quiet.{losing_is_quiet, stands_quiet}
 use Rattle.nd_node.proofs.Saying.{NoneOverdueStill, OverdueByTable}
 use Rattle.nd_node.proofs.Steps.{passed}
+use Rattle.nd_node.proofs.Telling.{lost_at, lost_text}
 use Rattle.nd_node.proofs.Turns.{neighbours_before}
 
 module _ {R A : Type 0} (stream : R → Stream) (old new : Node R A) (now : ℕ) (neighbour : Addr) (settled : now < next_of old) (still : NoneOverdueStill) (table : OverdueByTable)
@@ -58,5 +64,29 @@ module _ {R A : Type 0} (stream : R → Stream) (old new : Node R A) (now : ℕ)
           refl,
           row_stands kind (λ h. refl) (λ h. refl) start c s le stands',
           record { newer = []; text = append-nil (text later); outs = sym (append-nil (happenings outs)) },
+        );
+  }
+
+  -- it is forgotten, and what waited for it is lost
+  pub forgets : (x room y : List (ℕ × Out A)) (packets : List (List ℕ)) → neighbours.GainsRow old.neighbours.nodes new.neighbours.nodes (now, number_of neighbour.0, rows.Forgot rows.Removed)
+      → ((history : List rows.Row) → neighbours.Stands old.neighbours.nodes history → packets ≡ waits_of (story (number_of neighbour.0) history))
+      → room ≡ x → happenings y ≡ happenings room ++ lost_at now Forgotten packets → AddsEvent stream old new x y now (events.Forgets neighbour)
+  forgets x room y packets gains packets_are reserved told = record {
+    each = λ start c s le.
+        let key : ℕ = number_of neighbour.0 in
+        let kind : rows.RowKind = rows.Forgot rows.Removed in
+        let later : Chronicle = (now, Passed) ∷ c in
+        let row : Chronicle = (now, Neighbour key kind) ∷ later in
+        let waited : List (List ℕ) = waits_of (story key (neighbour_history c)) in
+        let gone = row_stands kind (λ h. refl) (λ h. refl) start c s le (gains.stands (neighbour_history c) s.neighbours) in (
+          losing now Forgotten waited row,
+          refl,
+          stands_quiet stream start new row (losing now Forgotten waited row) (losing_is_quiet now Forgotten waited row (λ at. refl)) gone,
+          record {
+            newer = lost_at now Forgotten waited;
+            text = lost_text now Forgotten waited row ∙ ap (λ (t : List ℕ). t ++ flat_map lines_of (lost_at now Forgotten waited)) (append-nil (text later) ∙ append-nil (text c));
+            outs = told ∙ (ap (λ (r : List (ℕ × Out A)). happenings r ++ lost_at now Forgotten packets) reserved
+                ∙ ap (λ (p : List (List ℕ)). happenings x ++ lost_at now Forgotten p) (packets_are (neighbour_history c) s.neighbours));
+          },
         );
   }

@@ -5,7 +5,7 @@ use Rattle.std.specs.List.{flat_map}
 use Rattle.nd_neighbour.specs.Due as neighbours
 use Rattle.nd_slaac.specs.Due as addresses
 use Rattle.nd_chronicle.specs.Start.{Start, link_local}
-use Rattle.nd_chronicle.specs.Happening.{Chronicle, Happening, Lost, Unreachable}
+use Rattle.nd_chronicle.specs.Happening.{Chronicle, Happening, Loss, Lost, Unreachable}
 use Rattle.nd_chronicle.specs.Due.{What, RouterEnds, AddressFalls, NeighbourFalls, RoutersSolicited, Redraws, comes}
 use Rattle.nd_chronicle.specs.Packet.{losing}
 use Rattle.nd_chronicle.specs.Told.{lines_of, text}
@@ -21,9 +21,9 @@ one t lines = ap (λ l. t ++ l) (sym (append-nil lines))
 pub above_silent : (t : List ℕ) (lines : List ℕ) → (t ++ []) ++ lines ≡ t ++ (lines ++ [])
 above_silent t lines = ap (λ l. l ++ lines) (append-nil t) ∙ one t lines
 
--- packets that are lost at the moment
-abbrev pub lost_at : ℕ → List (List ℕ) → List (ℕ × Happening)
-lost_at at packets = at_moment at (map (λ packet. Lost Unreachable packet) packets)
+-- packets that are lost at the moment, for a reason
+abbrev pub lost_at : ℕ → Loss → List (List ℕ) → List (ℕ × Happening)
+lost_at at why packets = at_moment at (map (λ packet. Lost why packet) packets)
 
 -- the oldest one is taken
 pub taken : (packets : List (List ℕ)) (packet : List ℕ) → slice_get packets 0 ≡ Some packet → packets ≡ packet ∷ drop 1 packets
@@ -38,10 +38,10 @@ happenings-append (x ∷ xs) ys = ap (λ l. (x.0, happening x.1) ∷ l) (happeni
 pub handed_out : {A : Type 0} (xs : List (ℕ × Out A)) (at : ℕ) (out : Out A) (rest : List (ℕ × Happening)) → happenings (xs ++ (at, out) ∷ []) ++ rest ≡ happenings xs ++ (at, happening out) ∷ rest
 handed_out xs at out rest = ap (λ l. l ++ rest) (happenings-append xs ((at, out) ∷ [])) ∙ append_assoc (happenings xs) ((at, happening out) ∷ []) rest
 
-lost_text : (at : ℕ) (packets : List (List ℕ)) (c : Chronicle) → text (losing at Unreachable packets c) ≡ text c ++ flat_map lines_of (at_moment at (map (λ packet. Lost Unreachable packet) packets))
-lost_text at [] c = sym (append-nil (text c))
-lost_text at (packet ∷ packets) c =
-    lost_text at packets ((at, Lost Unreachable packet) ∷ c) ∙ append_assoc (text c) (lines_of (at, Lost Unreachable packet)) (flat_map lines_of (at_moment at (map (λ p. Lost Unreachable p) packets)))
+pub lost_text : (at : ℕ) (why : Loss) (packets : List (List ℕ)) (c : Chronicle) → text (losing at why packets c) ≡ text c ++ flat_map lines_of (lost_at at why packets)
+lost_text at why [] c = sym (append-nil (text c))
+lost_text at why (packet ∷ packets) c =
+    lost_text at why packets ((at, Lost why packet) ∷ c) ∙ append_assoc (text c) (lines_of (at, Lost why packet)) (flat_map lines_of (lost_at at why packets))
 
 pub text_of : (start : Start) (c : Chronicle) (at : ℕ) (what : What) → text (comes start at what c) ≡ text c ++ flat_map lines_of (at_moment at (told_of start.mac (link_local start) what))
 text_of start c at (RouterEnds key) = one (text c) _
@@ -50,7 +50,7 @@ text_of start c at (AddressFalls (addresses.Solicits key)) = above_silent (text 
 text_of start c at (AddressFalls (addresses.Assigns key)) = one (text c) _
 text_of start c at (NeighbourFalls (neighbours.Multicasts key)) = above_silent (text c) _
 text_of start c at (NeighbourFalls (neighbours.Unicasts key mac)) = above_silent (text c) _
-text_of start c at (NeighbourFalls (neighbours.Fails key packets)) = lost_text at packets _ ∙ append_assoc (text c) _ _
+text_of start c at (NeighbourFalls (neighbours.Fails key packets)) = lost_text at Unreachable packets _ ∙ append_assoc (text c) _ _
 text_of start c at (NeighbourFalls (neighbours.Ages key)) = refl
 text_of start c at RoutersSolicited = above_silent (text c) _
 text_of start c at Redraws = refl

@@ -13,7 +13,7 @@ use Rattle.nd_node.specs.declared.node.Node.{Node}
 use Rattle.nd_node.specs.declared.event.Table.{Table}
 use Rattle.nd_node.specs.declared.event.Table.TheVariants.{Neighbours, Routers, Prefixes, Addresses, Dns, Redirects, Params, Advertise, Routes}
 use Rattle.nd_node.specs.declared.event.Event.{Event}
-use Rattle.nd_node.specs.declared.event.Event.TheVariants.{Passes, Receives, Sends, Confirms, Shows}
+use Rattle.nd_node.specs.declared.event.Event.TheVariants.{Passes, Receives, Sends, Confirms, Forgets, Shows}
 use Rattle.nd_node.specs.Node.{Stands}
 use Rattle.nd_node.specs.Time.{Onward}
 use Rattle.nd_node.specs.Told.{Tells}
@@ -34,6 +34,7 @@ event_of Passes = events.Passes
 event_of (Receives frame) = events.Receives frame.items
 event_of (Sends packet) = events.Sends packet.source packet.destination packet.next_header packet.payload.items
 event_of (Confirms neighbour) = events.Confirms neighbour
+event_of (Forgets neighbour) = events.Forgets neighbour
 event_of (Shows table) = events.Shows (table_of table)
 
 -- the same of events with their moments

@@ -41,4 +41,5 @@ abbrev pub AsksForNone : {R A : Type 0} → Start → Chronicle → Node R A →
 AsksForNone start c node now places events.Passes = Unit {0}
 AsksForNone start c node now places (events.Receives frame) = IsDropped start c now frame places ⊎ IsNameless node now frame places
 AsksForNone start c node now places (events.Confirms neighbour) = Unit {0}
+AsksForNone start c node now places (events.Forgets neighbour) = length (waiting_at (node_in (number_of neighbour.0) node.neighbours.nodes)) ≤ places
 AsksForNone start c node now places _ = ⊥

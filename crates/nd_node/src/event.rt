@@ -48,6 +48,8 @@ pub enum Event<A: Allocator> {
     Sends(OutgoingPacket<A>),
     /// An upper layer confirms that a neighbour is reached (RFC 4861, section 7.3.1).
     Confirms(Addr),
+    /// A neighbour is to be forgotten, by a command.
+    Forgets(Addr),
     /// A table is shown.
     Shows(Table),
 }
@@ -125,6 +127,7 @@ impl<R: Rng + Drop, A: Allocator + Clone> Node<R, A> {
                 self.confirm(now, *neighbour);
                 Ok(())
             }
+            Event::Forgets(neighbour) => self.forget(now, *neighbour, outs),
             Event::Shows(table) => {
                 let rows = self.rows(outs.allocator(), now, *table)?;
                 outs.push((now, Out::Shown(rows)))?;

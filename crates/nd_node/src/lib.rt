@@ -24,6 +24,7 @@ mod place;
 mod prefix_options;
 mod reachability_confirmation;
 mod redirect;
+mod removal;
 mod room;
 mod router_advertisement;
 mod router_solicitation;

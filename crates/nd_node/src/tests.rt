@@ -155,3 +155,58 @@ fn a_neighbour_is_confirmed(rt: HostRuntime) -> Result<(), Fail> {
     assert_eq!(rt; text.as_str(), wanted.as_str());
     Ok(())
 }
+
+/// A Redirect of `ROUTER`: 2001:db8:1::5 by fe80::2, with the link-layer address of that.
+const REDIRECT: [u8; 102] = [
+    0x34, 0x56, 0x78, 0x9a, 0xbc, 0xde, 2, 0, 0, 0, 0, 1, 0x86, 0xdd, 0x60, 0, 0, 0, 0, 0x30, 0x3a,
+    0xff, 0xfe, 0x80, 0, 0, 0, 0, 0, 0, 0, 0, 0, 0xff, 0xfe, 0, 0, 1, 0xfe, 0x80, 0, 0, 0, 0, 0, 0,
+    0x36, 0x56, 0x78, 0xff, 0xfe, 0x9a, 0xbc, 0xde, 0x89, 0, 0xdf, 0x7d, 0, 0, 0, 0, 0xfe, 0x80, 0,
+    0, 0, 0, 0, 0, 0, 0, 0, 0, 0, 0, 0, 2, 0x20, 1, 0x0d, 0xb8, 0, 1, 0, 0, 0, 0, 0, 0, 0, 0, 0, 5,
+    2, 1, 2, 0, 0, 0, 0, 2,
+];
+
+const OWN: Addr = Addr([
+    0xfe, 0x80, 0, 0, 0, 0, 0, 0, 0x36, 0x56, 0x78, 0xff, 0xfe, 0x9a, 0xbc, 0xde,
+]);
+
+/// A neighbour on the link.
+const NEIGHBOUR: Addr = Addr([0xfe, 0x80, 0, 0, 0, 0, 0, 0, 0, 0, 0, 0, 0, 0, 0, 1]);
+
+/// The target of the Redirect.
+const TARGET: Addr = Addr([0xfe, 0x80, 0, 0, 0, 0, 0, 0, 0, 0, 0, 0, 0, 0, 0, 2]);
+
+/// A frame comes.
+fn received(alloc: Global, bytes: &[u8]) -> Result<Event<Global>, Fail> {
+    let mut frame = Vec::new(alloc);
+    frame.extend_from_slice(bytes)?;
+    Ok(Event::Receives(frame))
+}
+
+/// A packet without a payload is to be sent.
+fn sends(alloc: Global, destination: Addr) -> Event<Global> {
+    Event::Sends(OutgoingPacket {
+        source: OWN,
+        destination,
+        next_header: 59,
+        payload: Vec::new(alloc),
+    })
+}
+
+/// A neighbour is forgotten, and what waits for it is lost. A redirect to it stays.
+#[test]
+fn a_neighbour_is_forgotten(rt: HostRuntime) -> Result<(), Fail> {
+    let mut events = Vec::new(rt.alloc());
+    events.push((3000, sends(rt.alloc(), NEIGHBOUR)))?;
+    events.push((3000, Event::Forgets(NEIGHBOUR)))?;
+    events.push((3000, Event::Shows(Table::Neighbours)))?;
+    events.push((3000, received(rt.alloc(), &ADVERTISEMENT)?))?;
+    events.push((3000, received(rt.alloc(), &REDIRECT)?))?;
+    events.push((3000, Event::Forgets(TARGET)))?;
+    events.push((3000, Event::Shows(Table::Redirects)))?;
+    let text = told_of(rt.alloc(), &events)?;
+    let wanted = format!(in rt.alloc();
+        "{STARTED}3000 tx 3333ff0000013456789abcde86dd6000000000203afffe80000000000000365678fffe9abcdeff0200000000000000000001ff0000018700a7fc00000000fe80000000000000000000000000000101013456789abcde\n3000 lost forgotten fe80::3656:78ff:fe9a:bcde fe80::1\n3000 end 0\n3000 heard ra\n3000 heard redirect\n3000 redirect 2001:db8:1::5 fe80::2\n3000 end 1\n"
+    )?;
+    assert_eq!(rt; text.as_str(), wanted.as_str());
+    Ok(())
+}

@@ -4,8 +4,8 @@ ghost use Rattle.nd_slaac.specs.PrefixOption.{link_local_of};
 ghost use Rattle.nd_slaac.specs.View as addresses;
 ghost use Rattle.nd_neighbour.specs.View as neighbours;
 ghost use Rattle.nd_frames.specs.Frames.{detection_frame, resolution_frame, probe_frame};
-ghost use Rattle.nd_chronicle.specs.Happening.{Lost, Unreachable};
-ghost use Rattle.nd_out.specs.Out.{happening};
+ghost use Rattle.nd_chronicle.specs.Happening.{Lost};
+ghost use Rattle.nd_out.specs.Out.{happening, loss_of};
 ghost use Rattle.nd_node.specs.Turned.{what_of};
 ghost use Rattle.nd_node.specs.Told.{told_of_address, told_of_neighbour, told_of, at_moment, happenings};
 
@@ -75,14 +75,19 @@ fn told_of_address<A: Allocator>(
     }
 }
 
-/// The packets that waited for a neighbour are lost, the oldest first.
-fn tell_lost<A: Allocator>(outs: &mut Vec<(u64, Out<A>), A>, at: u64, packets: Packets<A>)
+/// The packets that waited for a neighbour are lost for a reason, the oldest first.
+pub(crate) fn tell_lost<A: Allocator>(
+    outs: &mut Vec<(u64, Out<A>), A>,
+    at: u64,
+    why: Loss,
+    packets: Packets<A>,
+)
     requires { vec_len outs.old + length packets ≤ vec_capacity outs.old }
-    ensures { happenings outs.new.items ≡ happenings outs.old.items ++ at_moment at (map (λ packet. Lost Unreachable packet) packets) }
+    ensures { happenings outs.new.items ≡ happenings outs.old.items ++ at_moment at (map (λ packet. Lost (loss_of why) packet) packets) }
 {
     let mut rest = packets;
     while let Some(packet) = rest.take() {
-        outs.push_reserved((at, Out::Lost(Loss::Unreachable, packet)));
+        outs.push_reserved((at, Out::Lost(why, packet)));
     }
 }
 
@@ -108,7 +113,7 @@ fn tell_neighbour<A: Allocator>(
         nd_neighbour::Due::Failed(addr, packets) => {
             let _few = packets.len();
             outs.push_reserved((at, Out::Failed(addr)));
-            tell_lost(outs, at, packets);
+            tell_lost(outs, at, Loss::Unreachable, packets);
         }
         nd_neighbour::Due::Aged(_) => {}
     }

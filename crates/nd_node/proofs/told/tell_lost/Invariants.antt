@@ -1,4 +1,5 @@
 use Rattle.std.proofs.Common.{◌≡◌, ◌+◌, ◌++◌, ◌≤◌, vec_len, vec_capacity, length}
+use Rattle.nd_out.specs.Out.{loss_of}
 use Rattle.nd_node.specs.Told.{happenings}
 use Rattle.nd_node.proofs.Telling.{lost_at}
 use Rattle.nd_node.proofs.told.tell_lost.Given as goal
@@ -7,7 +8,7 @@ use Rattle.nd_node.proofs.told.tell_lost.Given as goal
 abbrev pub invariant-loop-packet : goal.invariant-loop-packet
 invariant-loop-packet g l = record {
   room : vec_len l.outs + length l.rest ≤ vec_capacity l.outs;
-  told : happenings l.outs.items ++ lost_at l.at l.rest ≡ happenings l.fn.outs.items ++ lost_at l.fn.at l.fn.packets;
+  told : happenings l.outs.items ++ lost_at l.at (loss_of l.why) l.rest ≡ happenings l.fn.outs.items ++ lost_at l.fn.at (loss_of l.fn.why) l.fn.packets;
 }
 
 abbrev pub decreases-loop-packet : goal.decreases-loop-packet

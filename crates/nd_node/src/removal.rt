@@ -1,0 +1,44 @@
+//! A neighbour is to be forgotten, by a command.
+
+ghost use Rattle.std.specs.Prelude.{◌≡◌, ◌-◌, ◌<◌, ◌≤◌, IsOk, OnErr, OnOk, length, vec_capacity, vec_len};
+ghost use Rattle.nd_addr.specs.Number.{number_of};
+ghost use Rattle.nd_chronicle.specs.Event as events;
+ghost use Rattle.nd_neighbour.specs.Removal.{waiting_at};
+ghost use Rattle.nd_neighbour.specs.Table.{node_in};
+ghost use Rattle.nd_node.specs.Event.{AddsEvent};
+
+use crate::node::Node;
+use crate::told::tell_lost;
+use nd_addr::Addr;
+use nd_out::{Loss, Out};
+use rand_core::Rng;
+use std::alloc::{AllocError, Allocator};
+
+impl<R: Rng + Drop, A: Allocator + Clone> Node<R, A> {
+    ghost use Rattle.nd_node.specs.Node.{next_of};
+
+    /// A neighbour is forgotten at a moment, in milliseconds, and what waits for it is lost, the oldest first. That is no failure: no
+    /// redirect to it ends. The error is want of memory, and then nothing has changed.
+    pub(crate) fn forget(
+        &mut self,
+        now: u64,
+        neighbour: Addr,
+        outs: &mut Vec<(u64, Out<A>), A>,
+    ) -> Result<(), AllocError>
+        requires settled { now < next_of self.old }
+        ensures adds { OnOk result (AddsEvent R.stream self.old self.new outs.old.items outs.new.items now (events.Forgets neighbour)) }
+        ensures keeps { OnErr result (self.new ≡ self.old) }
+        ensures told { OnErr result (outs.new.items ≡ outs.old.items) }
+
+        // Where there are places for the packets that wait, nothing refuses.
+        ensures quiet { length (waiting_at (node_in (number_of neighbour.0) self.old.neighbours.nodes)) ≤ vec_capacity outs.old - vec_len outs.old → IsOk result }
+    {
+        nd_neighbour::laws::none_overdue();
+        let waiting = self.neighbours.waiting_at(neighbour);
+        outs.reserve(waiting)?;
+        self.last = now;
+        let packets = self.neighbours.forget(neighbour);
+        tell_lost(outs, now, Loss::Forgotten, packets);
+        Ok(())
+    }
+}
