@@ -28,3 +28,4 @@ pub mod TakenOrRefused
 pub mod Memory
 pub mod OutgoingPackets
 pub mod Commands
+pub mod ClearedTables

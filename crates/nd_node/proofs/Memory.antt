@@ -1,5 +1,5 @@
 -- What asks for no memory.
-use Rattle.std.proofs.Common.{◌≡◌, ℕ, ◌⊎◌, ⊎_elim, List, length, Option, Some, None, true, sym, ap, subst}
+use Rattle.std.proofs.Common.{◌≡◌, ℕ, List, length, Option, Some, None, true, sym, ap, subst}
 use Rattle.std.specs.Option.{option_map}
 use Rattle.nd_addr.specs.declared.addr.Addr.{Addr}
 use Rattle.nd_addr.specs.declared.mac.Mac.{Mac}
@@ -20,12 +20,12 @@ use Rattle.nd_addr.specs.declared.why.Why.{Why}
 use Rattle.nd_addr.specs.Ip6.{PacketParts}
 use Rattle.nd_validity.specs.Hearing.{other}
 use Rattle.nd_chronicle.specs.Start.{Start}
-use Rattle.nd_chronicle.specs.Happening.{Chronicle, Passed}
+use Rattle.nd_chronicle.specs.Happening.{Chronicle}
 use Rattle.nd_chronicle.specs.Hearing.{IsForUs, IsPacketForUs, IsHeard, Judges, IsStrange, IsMisdirected, IsStrangePacket, NotFromFirstHop}
 use Rattle.nd_chronicle.specs.Histories.{given_or_marked}
 use Rattle.nd_node.specs.declared.node.Node.{Node}
 use Rattle.nd_node.specs.LinkLayerAddress.{said_by, waiting_for}
-use Rattle.nd_node.specs.Memory.{IsDropped, IsNameless, AddsNoName}
+use Rattle.nd_node.specs.Memory.{IsNameless, AddsNoName}
 
 -- ---- the packets that an advertisement may release wait for its sender
 

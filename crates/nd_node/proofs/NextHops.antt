@@ -7,7 +7,7 @@ use Rattle.nd_addr.specs.declared.addr.Addr.{Addr}
 use Rattle.nd_addr.specs.Kind.{multicast_prefix, unspecified_address, loopback_address}
 use Rattle.nd_addr.specs.Number.{number_of, holds}
 use Rattle.nd_lifetime.specs.declared.lasting.Lasting.{Lasting}
-use Rattle.nd_lifetime.specs.Listing.{open_at}
+use Rattle.nd_lifetime.specs.Listing.{Lists, open_at}
 use Rattle.nd_lifetime.proofs.Behind.{open_all}
 use Rattle.nd_lifetime.proofs.Steps.{lists_at}
 use Rattle.nd_neighbour.specs.Entry.{Node}
@@ -98,6 +98,10 @@ module _ {R A : Type 0} (stream : R → Stream) (start : Start) (node : nodes.No
   open_routers : open_at now node.routers.entries ≡ node.routers.entries
   open_routers = open_all same eqb_tells node.routers.entries now (open_each node.routers.entries now (settled_routers node now settled))
 
+  -- the routers that it keeps are those that stand
+  pub routers_listed : Lists same (announcements (router_history c)) now node.routers.entries
+  routers_listed = rw (sym open_routers) (lists_at same eqb_tells node.routers.entries (announcements (router_history c)) now s.routers.routers)
+
   pub next_hop_is : (destination : Addr) (next : NextHop)
       → next ≡ hop (λ (a : List ℕ). counted_in Own (address_in (number_of a) node.addresses.addresses)) (λ (a : List ℕ). is_held a (open_at now node.prefixes)) (candidates_in node.neighbours.nodes node.routers) (kept (number_of destination.0) (redirect_history c)) destination.0
       → IsNextHop c now destination next
@@ -107,7 +111,7 @@ module _ {R A : Type 0} (stream : R → Stream) (start : Start) (node : nodes.No
     routers = candidates_in node.neighbours.nodes node.routers;
     those = record {
       entries = node.routers.entries;
-      listed = rw (sym open_routers) (lists_at same eqb_tells node.routers.entries (announcements (router_history c)) now s.routers.routers);
+      listed = routers_listed;
       failed = node.routers.failed;
       failures = s.routers.failures;
       routers_are = candidates_are c node.neighbours.nodes node.routers.failed node.routers.entries s.neighbours;

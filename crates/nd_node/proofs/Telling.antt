@@ -55,7 +55,7 @@ text_of start c at (NeighbourFalls (neighbours.Ages key)) = refl
 text_of start c at RoutersSolicited = above_silent (text c) _
 text_of start c at Redraws = refl
 
-flat_map-append : (xs ys : List (ℕ × Happening)) → flat_map lines_of (xs ++ ys) ≡ flat_map lines_of xs ++ flat_map lines_of ys
+pub flat_map-append : (xs ys : List (ℕ × Happening)) → flat_map lines_of (xs ++ ys) ≡ flat_map lines_of xs ++ flat_map lines_of ys
 flat_map-append [] ys = refl
 flat_map-append (x ∷ xs) ys = ap (λ l. lines_of x ++ l) (flat_map-append xs ys) ∙ sym (append_assoc (lines_of x) (flat_map lines_of xs) (flat_map lines_of ys))
 

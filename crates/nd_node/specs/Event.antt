@@ -10,10 +10,12 @@ use Rattle.nd_chronicle.specs.Event.{EventAdds}
 use Rattle.nd_chronicle.specs.History.{Follows, Runs}
 use Rattle.nd_out.specs.declared.out.Out.{Out}
 use Rattle.nd_node.specs.declared.node.Node.{Node}
+use Rattle.nd_node.specs.declared.clearing.Clearable.{Clearable}
+use Rattle.nd_node.specs.declared.clearing.Clearable.TheVariants as clearables
 use Rattle.nd_node.specs.declared.event.Table.{Table}
 use Rattle.nd_node.specs.declared.event.Table.TheVariants.{Neighbours, Routers, Prefixes, Addresses, Dns, Redirects, Params, Advertise, Routes}
 use Rattle.nd_node.specs.declared.event.Event.{Event}
-use Rattle.nd_node.specs.declared.event.Event.TheVariants.{Passes, Receives, Sends, Confirms, Forgets, Shows}
+use Rattle.nd_node.specs.declared.event.Event.TheVariants.{Passes, Receives, Sends, Confirms, Forgets, Clears, Shows}
 use Rattle.nd_node.specs.Node.{Stands}
 use Rattle.nd_node.specs.Time.{Onward}
 use Rattle.nd_node.specs.Told.{Tells}
@@ -29,12 +31,20 @@ table_of Params = shown.ParameterTable
 table_of Advertise = shown.AdvertiseTable
 table_of Routes = shown.RouteTable
 
+abbrev pub clearable_of : Clearable → events.Clearable
+clearable_of clearables.Neighbours = events.ClearNeighbours
+clearable_of clearables.Routers = events.ClearRouters
+clearable_of clearables.Prefixes = events.ClearPrefixes
+clearable_of clearables.Redirects = events.ClearRedirects
+clearable_of clearables.Dns = events.ClearDns
+
 abbrev pub event_of : {A : Type 0} → Event A → events.Event
 event_of Passes = events.Passes
 event_of (Receives frame) = events.Receives frame.items
 event_of (Sends packet) = events.Sends packet.source packet.destination packet.next_header packet.payload.items
 event_of (Confirms neighbour) = events.Confirms neighbour
 event_of (Forgets neighbour) = events.Forgets neighbour
+event_of (Clears table) = events.Clears (clearable_of table)
 event_of (Shows table) = events.Shows (table_of table)
 
 -- the same of events with their moments

@@ -36,10 +36,18 @@ pub record IsNameless {R A : Type 0} (node : Node R A) (now : ℕ) (frame : List
   pub hears : Hears frame node.role (valid source destination (record { body = bodies.Ra ra; options = options }))
   pub adds : AddsNoName node now source options places
 
+-- a table that is cleared without a word
+abbrev pub TellsNothing : events.Clearable → Type 0
+TellsNothing events.ClearPrefixes = Unit {0}
+TellsNothing events.ClearRedirects = Unit {0}
+TellsNothing events.ClearDns = Unit {0}
+TellsNothing _ = ⊥
+
 -- the event asks a node that stands for a chronicle for no memory, where there are so many places for what is told
 abbrev pub AsksForNone : {R A : Type 0} → Start → Chronicle → Node R A → ℕ → ℕ → events.Event → Type 0
 AsksForNone start c node now places events.Passes = Unit {0}
 AsksForNone start c node now places (events.Receives frame) = IsDropped start c now frame places ⊎ IsNameless node now frame places
 AsksForNone start c node now places (events.Confirms neighbour) = Unit {0}
 AsksForNone start c node now places (events.Forgets neighbour) = length (waiting_at (node_in (number_of neighbour.0) node.neighbours.nodes)) ≤ places
+AsksForNone start c node now places (events.Clears table) = TellsNothing table
 AsksForNone start c node now places _ = ⊥

@@ -7,6 +7,7 @@ ghost use Rattle.nd_node.specs.Frame.{Stays};
 ghost use Rattle.nd_node.specs.Memory.{AsksForNone};
 ghost use Rattle.nd_node.specs.Time.{Leads, Onward};
 
+use crate::clearing::Clearable;
 use crate::node::Node;
 use crate::outgoing_packet::OutgoingPacket;
 use nd_addr::Addr;
@@ -50,6 +51,8 @@ pub enum Event<A: Allocator> {
     Confirms(Addr),
     /// A neighbour is to be forgotten, by a command.
     Forgets(Addr),
+    /// A table is to be cleared, by a command.
+    Clears(Clearable),
     /// A table is shown.
     Shows(Table),
 }
@@ -128,6 +131,7 @@ impl<R: Rng + Drop, A: Allocator + Clone> Node<R, A> {
                 Ok(())
             }
             Event::Forgets(neighbour) => self.forget(now, *neighbour, outs),
+            Event::Clears(table) => self.clear(now, *table, outs),
             Event::Shows(table) => {
                 let rows = self.rows(outs.allocator(), now, *table)?;
                 outs.push((now, Out::Shown(rows)))?;

@@ -2,6 +2,7 @@
 //! RFC 4862, RFC 8106).
 #![tactic(auto)]
 
+mod clearing;
 mod counts;
 mod default_router;
 mod draw;
@@ -34,6 +35,7 @@ mod time;
 mod told;
 mod turned;
 
+pub use clearing::Clearable;
 pub use counts::Counts;
 pub use event::{Event, Table};
 pub use node::Node;

@@ -210,3 +210,69 @@ fn a_neighbour_is_forgotten(rt: HostRuntime) -> Result<(), Fail> {
     assert_eq!(rt; text.as_str(), wanted.as_str());
     Ok(())
 }
+
+/// All neighbours are forgotten, and what waits for them is lost in the order of their addresses.
+#[test]
+fn neighbours_are_cleared(rt: HostRuntime) -> Result<(), Fail> {
+    let mut events = Vec::new(rt.alloc());
+    events.push((3000, sends(rt.alloc(), TARGET)))?;
+    events.push((3000, sends(rt.alloc(), NEIGHBOUR)))?;
+    events.push((3000, Event::Clears(Clearable::Neighbours)))?;
+    events.push((3000, Event::Shows(Table::Neighbours)))?;
+    let text = told_of(rt.alloc(), &events)?;
+    let wanted = format!(in rt.alloc();
+        "{STARTED}3000 tx 3333ff0000023456789abcde86dd6000000000203afffe80000000000000365678fffe9abcdeff0200000000000000000001ff0000028700a7fa00000000fe80000000000000000000000000000201013456789abcde\n3000 tx 3333ff0000013456789abcde86dd6000000000203afffe80000000000000365678fffe9abcdeff0200000000000000000001ff0000018700a7fc00000000fe80000000000000000000000000000101013456789abcde\n3000 lost forgotten fe80::3656:78ff:fe9a:bcde fe80::1\n3000 lost forgotten fe80::3656:78ff:fe9a:bcde fe80::2\n3000 end 0\n"
+    )?;
+    assert_eq!(rt; text.as_str(), wanted.as_str());
+    Ok(())
+}
+
+/// Redirects end by themselves and with the routers, which are told.
+#[test]
+fn routers_and_redirects_are_cleared(rt: HostRuntime) -> Result<(), Fail> {
+    let mut events = Vec::new(rt.alloc());
+    events.push((3000, received(rt.alloc(), &ADVERTISEMENT)?))?;
+    events.push((3000, received(rt.alloc(), &REDIRECT)?))?;
+    events.push((3000, Event::Clears(Clearable::Redirects)))?;
+    events.push((3000, Event::Shows(Table::Redirects)))?;
+    events.push((3000, received(rt.alloc(), &REDIRECT)?))?;
+    events.push((3000, Event::Clears(Clearable::Routers)))?;
+    events.push((3000, Event::Shows(Table::Redirects)))?;
+    events.push((3000, Event::Shows(Table::Routers)))?;
+    let text = told_of(rt.alloc(), &events)?;
+    let wanted = format!(in rt.alloc();
+        "{STARTED}3000 heard ra\n3000 heard redirect\n3000 end 0\n3000 heard redirect\n3000 ended router fe80::ff:fe00:1\n3000 end 0\n3000 end 0\n"
+    )?;
+    assert_eq!(rt; text.as_str(), wanted.as_str());
+    Ok(())
+}
+
+/// A Router Advertisement as the one above, with the prefix 2001:db8::/64 on the link, of which no address is formed, for 30 days, and the
+/// server 2001:db8::53 for 1800 s.
+const INFORMATION: [u8; 134] = [
+    0x33, 0x33, 0, 0, 0, 1, 2, 0, 0, 0, 0, 1, 0x86, 0xdd, 0x60, 0, 0, 0, 0, 0x50, 0x3a, 0xff, 0xfe,
+    0x80, 0, 0, 0, 0, 0, 0, 0, 0, 0, 0xff, 0xfe, 0, 0, 1, 0xff, 2, 0, 0, 0, 0, 0, 0, 0, 0, 0, 0, 0,
+    0, 0, 1, 0x86, 0, 0xab, 0xdf, 0x40, 0, 7, 8, 0, 0, 0, 0, 0, 0, 0, 0, 1, 1, 2, 0, 0, 0, 0, 1, 3,
+    4, 0x40, 0x80, 0, 0x27, 0x8d, 0, 0, 9, 0x3a, 0x80, 0, 0, 0, 0, 0x20, 1, 0x0d, 0xb8, 0, 0, 0, 0,
+    0, 0, 0, 0, 0, 0, 0, 0, 0x19, 3, 0, 0, 0, 0, 7, 8, 0x20, 1, 0x0d, 0xb8, 0, 0, 0, 0, 0, 0, 0, 0,
+    0, 0, 0, 0x53,
+];
+
+/// Prefixes, servers and names are cleared without a word.
+#[test]
+fn prefixes_and_servers_are_cleared(rt: HostRuntime) -> Result<(), Fail> {
+    let mut events = Vec::new(rt.alloc());
+    events.push((3000, received(rt.alloc(), &INFORMATION)?))?;
+    events.push((3000, Event::Shows(Table::Prefixes)))?;
+    events.push((3000, Event::Shows(Table::Dns)))?;
+    events.push((3000, Event::Clears(Clearable::Prefixes)))?;
+    events.push((3000, Event::Clears(Clearable::Dns)))?;
+    events.push((3000, Event::Shows(Table::Prefixes)))?;
+    events.push((3000, Event::Shows(Table::Dns)))?;
+    let text = told_of(rt.alloc(), &events)?;
+    let wanted = format!(in rt.alloc();
+        "{STARTED}3000 heard ra\n3000 prefix 2001:db8::/64 2592000000\n3000 end 1\n3000 server 2001:db8::53 1800000\n3000 end 1\n3000 end 0\n3000 end 0\n"
+    )?;
+    assert_eq!(rt; text.as_str(), wanted.as_str());
+    Ok(())
+}

@@ -13,3 +13,6 @@ returns-in_ok-push-in-Shows-clause-adds g c =
 
 pub returns-in-Forgets-clause-stays : goal.returns-in-Forgets-clause-stays
 returns-in-Forgets-clause-stays g c = on_err c.forget.result _ _ (stays_same g.R.Rng.stream c.args.self.now c.forget.new.self) c.forget.ensures.keeps
+
+pub returns-in-Clears-clause-stays : goal.returns-in-Clears-clause-stays
+returns-in-Clears-clause-stays g c = on_err c.clear.result _ _ (stays_same g.R.Rng.stream c.args.self.now c.clear.new.self) c.clear.ensures.keeps

@@ -1,6 +1,4 @@
 use Rattle.std.proofs.Common.{◌≡◌, ◌∷◌, ◌∙◌, sym}
-use Rattle.nd_nexthop.specs.NextHop.{via}
-use Rattle.nd_addr.specs.Number.{number_of}
 use Rattle.nd_chronicle.specs.Happening.{Passed}
 use Rattle.nd_chronicle.proofs.Hops.{one_next_hop}
 use Rattle.nd_decode.specs.Pieces.{options_left}

@@ -1,0 +1,332 @@
+-- A table that is cleared, and the chronicle that a node stands for.
+use Rattle.std.proofs.Common.{◌≡◌, ℕ, ◌<◌, ◌≤◌, List, [], ◌∷◌, ◌++◌, append-nil, append_assoc, map, take, Option, Some, None, refl, sym, ◌∙◌, ap, subst, arith}
+use Rattle.std.specs.List.{flat_map}
+use Rattle.rand_core.specs.Stream.{Stream}
+use Rattle.nd_addr.specs.declared.addr.Addr.{Addr}
+use Rattle.nd_addr.specs.Number.{number_of}
+use Rattle.nd_addr.specs.Prefix.{PrefixValue}
+use Rattle.nd_lifetime.specs.declared.lasting.Lasting.{Lasting}
+use Rattle.nd_lifetime.specs.History as lifetimes
+use Rattle.nd_lifetime.specs.Listing as lists
+use Rattle.nd_lifetime.specs.Same.{same_prefix}
+use Rattle.nd_dns.specs.Dns as dns
+use Rattle.nd_neighbour.specs.Entry as entries
+use Rattle.nd_neighbour.specs.Entry.{waiting_in}
+use Rattle.nd_neighbour.specs.History as rows
+use Rattle.nd_neighbour.specs.Removal.{all_waiting, cleared}
+use Rattle.nd_neighbour.specs.Table as neighbours
+use Rattle.nd_routers.specs.History as router_rows
+use Rattle.nd_routers.specs.Routers as routers
+use Rattle.nd_routers.specs.Routers.{keys, then_left}
+use Rattle.nd_nexthop.specs.History as redirect_rows
+use Rattle.nd_nexthop.specs.History.{RedirectRow, destinations, max_redirects, remembered, since, target_left, target_of, unless_ended}
+use Rattle.nd_nexthop.specs.Choice as choice
+use Rattle.nd_chronicle.specs.Start.{Start}
+use Rattle.nd_chronicle.specs.Happening.{Chronicle, Happening, Lost, Neighbour, Passed, LeftRouter, ClearedPrefixes, ClearedRedirects, ClearedDns, Forgotten, last_moment}
+use Rattle.nd_chronicle.specs.Histories.{parameter_history, neighbour_history, router_history, prefix_history, address_history, server_history, name_history, redirect_history}
+use Rattle.nd_chronicle.specs.Generator.{stream_left}
+use Rattle.nd_chronicle.specs.Due.{solicited_routers}
+use Rattle.nd_chronicle.specs.Packet.{losing}
+use Rattle.nd_chronicle.specs.Event as events
+use Rattle.nd_chronicle.specs.Event.{all_leaving, clearing}
+use Rattle.nd_chronicle.specs.Told.{lines_of, text}
+use Rattle.nd_out.specs.declared.out.Out.{Out}
+use Rattle.nd_node.specs.declared.node.Node.{Node}
+use Rattle.nd_node.specs.Event.{AddsEvent}
+use Rattle.nd_node.specs.Node.{Stands, next_of}
+use Rattle.nd_node.specs.Told.{at_moment, happenings}
+use Rattle.nd_node.proofs.Beside.{Beside, Same, beside_neighbour, beside_quiet, beside_then, stands_neighbours}
+use Rattle.nd_node.proofs.NextHops.{routers_listed}
+use Rattle.nd_node.proofs.Quiet.{losing_is_quiet}
+use Rattle.nd_node.proofs.Standing.{Apart, Still, apart_then, stands_at}
+use Rattle.nd_node.proofs.Steps.{passed}
+use Rattle.nd_node.proofs.Telling.{flat_map-append, lost_at, lost_text}
+use Rattle.nd_node.proofs.Turns.{addresses_before, neighbours_before}
+
+-- ---- prefixes, redirects, servers and names: nothing is told
+
+-- a row that concerns these alone, and that isn't told
+record Silent (now : ℕ) (what : Happening) : Type 0 where
+  parameters : (c : Chronicle) → parameter_history ((now, what) ∷ c) ≡ parameter_history c
+  neighbours : (c : Chronicle) → neighbour_history ((now, what) ∷ c) ≡ neighbour_history c
+  routers : (c : Chronicle) → router_history ((now, what) ∷ c) ≡ router_history c
+  addresses : (c : Chronicle) → address_history ((now, what) ∷ c) ≡ address_history c
+  solicited : (c : Chronicle) → solicited_routers ((now, what) ∷ c) ≡ solicited_routers c
+  stream : (start : Start) (c : Chronicle) → stream_left start ((now, what) ∷ c) ≡ stream_left start c
+  last : (at : ℕ) (c : Chronicle) → last_moment at ((now, what) ∷ c) ≡ now
+
+module _ {R A : Type 0} (stream : R → Stream) (start : Start) (old : Node R A) (c : Chronicle) (now : ℕ) (what : Happening) (silent : Silent now what) (s : Stands stream start old c)
+    (settled : now < next_of old) (ps : List (Lasting PrefixValue)) (ds : dns.Table) (rs : List (ℕ × Option ℕ)) where
+  abbrev later : Chronicle
+  later = (now, Passed) ∷ c
+
+  silent_stands : lists.Stands same_prefix ps (prefix_history ((now, what) ∷ later)) → dns.Stands ds (server_history ((now, what) ∷ later)) (name_history ((now, what) ∷ later))
+      → choice.Stands rs (redirect_history ((now, what) ∷ later)) → lifetimes.last_moment (prefix_history ((now, what) ∷ later)) ≤ now
+      → lifetimes.last_moment (server_history ((now, what) ∷ later)) ≤ now → lifetimes.last_moment (name_history ((now, what) ∷ later)) ≤ now
+      → Stands stream start (record old { last = now; prefixes = ps; dns = ds; choice = rs }) ((now, what) ∷ later)
+  silent_stands prefixes' dns' redirects' prefixes_by servers_by names_by = record {
+    role = s.role;
+    mac = s.mac;
+    address_mac = s.address_mac;
+    neighbour_limit = s.neighbour_limit;
+    router_limit = s.router_limit;
+    params = rw (silent.parameters later) s.params;
+    routers = rw (silent.routers later) s.routers;
+    prefixes = prefixes';
+    addresses = rw (silent.addresses later) s.addresses;
+    neighbours = rw (silent.neighbours later) s.neighbours;
+    dns = dns';
+    redirects = redirects';
+    solicitations = record {
+      assigned = rw (silent.addresses later) s.solicitations.assigned;
+      sent = rw (silent.solicited later) s.solicitations.sent;
+      heard = rw (silent.parameters later) s.solicitations.heard;
+    };
+    generator = s.generator ∙ sym (silent.stream start later);
+    last = sym (silent.last start.at later);
+    prefixes_by_then = rw (silent.last start.at later) prefixes_by;
+    servers_by_then = rw (silent.last start.at later) servers_by;
+    names_by_then = rw (silent.last start.at later) names_by;
+    in_time = rw (silent.last start.at later) (omega (arith, settled));
+  }
+
+cleared_prefixes : (now : ℕ) → Silent now ClearedPrefixes
+cleared_prefixes now = record { parameters = λ c. refl; neighbours = λ c. refl; routers = λ c. refl; addresses = λ c. refl; solicited = λ c. refl; stream = λ start c. refl; last = λ at c. refl }
+
+cleared_redirects : (now : ℕ) → Silent now ClearedRedirects
+cleared_redirects now = record { parameters = λ c. refl; neighbours = λ c. refl; routers = λ c. refl; addresses = λ c. refl; solicited = λ c. refl; stream = λ start c. refl; last = λ at c. refl }
+
+cleared_dns : (now : ℕ) → Silent now ClearedDns
+cleared_dns now = record { parameters = λ c. refl; neighbours = λ c. refl; routers = λ c. refl; addresses = λ c. refl; solicited = λ c. refl; stream = λ start c. refl; last = λ at c. refl }
+
+module _ {R A : Type 0} (stream : R → Stream) (old new : Node R A) (outs : List (ℕ × Out A)) (now : ℕ) (settled : now < next_of old) where
+  pub clears_prefixes : (ps : List (Lasting PrefixValue)) → new ≡ record old { last = now; prefixes = ps }
+      → ((at : ℕ) (history : List (lifetimes.Row PrefixValue)) → lists.Stands same_prefix ps (lifetimes.Cleared at ∷ history))
+      → AddsEvent stream old new outs outs now (events.Clears events.ClearPrefixes)
+  clears_prefixes ps is stands = record {
+    each = λ start c s le.
+        let later' : Chronicle = (now, Passed) ∷ c in (
+          (now, ClearedPrefixes) ∷ later',
+          refl,
+          rw is (silent_stands stream start old c now ClearedPrefixes (cleared_prefixes now) s settled ps old.dns old.choice
+              (stands now (prefix_history c)) s.dns s.redirects (omega arith) (omega (arith, s.servers_by_then, le)) (omega (arith, s.names_by_then, le))),
+          record { newer = []; text = append-nil (text later'); outs = sym (append-nil (happenings outs)) },
+        );
+  }
+
+  pub clears_redirects : (rs : List (ℕ × Option ℕ)) → new ≡ record old { last = now; choice = rs } → choice.GainsRow old.choice rs (redirect_rows.Cleared now)
+      → AddsEvent stream old new outs outs now (events.Clears events.ClearRedirects)
+  clears_redirects rs is gains = record {
+    each = λ start c s le.
+        let later' : Chronicle = (now, Passed) ∷ c in (
+          (now, ClearedRedirects) ∷ later',
+          refl,
+          rw is (silent_stands stream start old c now ClearedRedirects (cleared_redirects now) s settled old.prefixes old.dns rs
+              s.prefixes s.dns (gains.stands (redirect_history c) s.redirects)
+              (omega (arith, s.prefixes_by_then, le)) (omega (arith, s.servers_by_then, le)) (omega (arith, s.names_by_then, le))),
+          record { newer = []; text = append-nil (text later'); outs = sym (append-nil (happenings outs)) },
+        );
+  }
+
+  pub clears_dns : (ds : dns.Table) → new ≡ record old { last = now; dns = ds }
+      → ((at : ℕ) (servers : List (lifetimes.Row Addr)) (names : List (lifetimes.Row (List ℕ))) → dns.Stands ds (lifetimes.Cleared at ∷ servers) (lifetimes.Cleared at ∷ names))
+      → AddsEvent stream old new outs outs now (events.Clears events.ClearDns)
+  clears_dns ds is stands = record {
+    each = λ start c s le.
+        let later' : Chronicle = (now, Passed) ∷ c in (
+          (now, ClearedDns) ∷ later',
+          refl,
+          rw is (silent_stands stream start old c now ClearedDns (cleared_dns now) s settled old.prefixes ds old.choice
+              s.prefixes (stands now (server_history c) (name_history c)) s.redirects (omega (arith, s.prefixes_by_then, le)) (omega arith) (omega arith)),
+          record { newer = []; text = append-nil (text later'); outs = sym (append-nil (happenings outs)) },
+        );
+  }
+
+-- ---- the neighbours, and what waits for them
+
+-- packets that wait are told as lost, one list behind the other
+lost_both : (at : ℕ) (xs ys : List (List ℕ)) → lost_at at Forgotten (xs ++ ys) ≡ lost_at at Forgotten xs ++ lost_at at Forgotten ys
+lost_both at [] ys = refl
+lost_both at (x ∷ xs) ys = ap (λ l. (at, Lost Forgotten x) ∷ l) (lost_both at xs ys)
+
+module _ (start : Start) (now : ℕ) where
+  -- one of them goes, and what waits for it is lost
+  abbrev going : entries.Node → Chronicle → Chronicle
+  going n c = losing now Forgotten (waiting_in n.stage) ((now, Neighbour n.key (rows.Forgot rows.Cleared)) ∷ c)
+
+  abbrev forgotten_text : List entries.Node → List ℕ
+  forgotten_text nodes = flat_map lines_of (lost_at now Forgotten (all_waiting nodes))
+
+  clearing_beside : (nodes : List entries.Node) (c : Chronicle) → Beside c (clearing start now nodes c)
+  clearing_beside [] c = record { parameters = refl; routers = refl; prefixes = refl; servers = refl; names = refl; redirects = refl; assigned = λ key. refl; solicited = refl; stream = λ start'. refl }
+  clearing_beside (n ∷ nodes) c =
+      let row : Chronicle = (now, Neighbour n.key (rows.Forgot rows.Cleared)) ∷ c in
+      let gone = beside_then c row (going n c) (beside_neighbour now n.key (rows.Forgot rows.Cleared) c (λ h. refl) (λ h. refl))
+      (beside_quiet row (going n c) (losing_is_quiet now Forgotten (waiting_in n.stage) row (λ at. refl))) in
+      beside_then c (going n c) (clearing start now nodes (going n c)) gone (clearing_beside nodes (going n c))
+
+  clearing_history : (nodes : List entries.Node) (c : Chronicle) → neighbour_history (clearing start now nodes c) ≡ cleared now nodes (neighbour_history c)
+  clearing_history [] c = refl
+  clearing_history (n ∷ nodes) c =
+      let row : Chronicle = (now, Neighbour n.key (rows.Forgot rows.Cleared)) ∷ c in
+      clearing_history nodes (going n c) ∙ ap (λ h. cleared now nodes h) (losing_is_quiet now Forgotten (waiting_in n.stage) row (λ at. refl)).neighbours
+
+  clearing_addresses : (nodes : List entries.Node) (c : Chronicle) → address_history (clearing start now nodes c) ≡ address_history c
+  clearing_addresses [] c = refl
+  clearing_addresses (n ∷ nodes) c =
+      let row : Chronicle = (now, Neighbour n.key (rows.Forgot rows.Cleared)) ∷ c in
+      clearing_addresses nodes (going n c) ∙ (losing_is_quiet now Forgotten (waiting_in n.stage) row (λ at. refl)).addresses
+
+  clearing_last : (nodes : List entries.Node) (c : Chronicle) (at : ℕ) → last_moment at c ≡ now → last_moment at (clearing start now nodes c) ≡ now
+  clearing_last [] c at is = is
+  clearing_last (n ∷ nodes) c at is =
+      let row : Chronicle = (now, Neighbour n.key (rows.Forgot rows.Cleared)) ∷ c in
+      clearing_last nodes (going n c) at ((losing_is_quiet now Forgotten (waiting_in n.stage) row (λ at'. refl)).last at)
+
+  clearing_text : (nodes : List entries.Node) (c : Chronicle) → text (clearing start now nodes c) ≡ text c ++ forgotten_text nodes
+  clearing_text [] c = sym (append-nil (text c))
+  clearing_text (n ∷ nodes) c =
+      let row : Chronicle = (now, Neighbour n.key (rows.Forgot rows.Cleared)) ∷ c in
+      let these : List ℕ = flat_map lines_of (lost_at now Forgotten (waiting_in n.stage)) in
+      let first : text (going n c) ≡ text c ++ these = lost_text now Forgotten (waiting_in n.stage) row ∙ ap (λ (t : List ℕ). t ++ these) (append-nil (text c)) in
+      let both : forgotten_text (n ∷ nodes) ≡ these ++ forgotten_text nodes =
+      ap (λ l. flat_map lines_of l) (lost_both now (waiting_in n.stage) (all_waiting nodes)) ∙ flat_map-append (lost_at now Forgotten (waiting_in n.stage)) (lost_at now Forgotten (all_waiting nodes)) in
+      clearing_text nodes (going n c) ∙ (ap (λ (t : List ℕ). t ++ forgotten_text nodes) first ∙ (append_assoc (text c) these (forgotten_text nodes) ∙ ap (λ (t : List ℕ). text c ++ t) (sym both)))
+
+module _ {R A : Type 0} (stream : R → Stream) (old new : Node R A) (x room y : List (ℕ × Out A)) (now : ℕ) (settled : now < next_of old)
+    (same : Same (record old { last = now }) new) (is : new.addresses ≡ old.addresses) where
+  pub clears_neighbours : ((at : ℕ) (history : List rows.Row) → neighbours.Stands old.neighbours.nodes history → neighbours.Stands new.neighbours.nodes (cleared at old.neighbours.nodes history))
+      → new.neighbours.nodes ≡ [] → (packets : List (List ℕ)) → packets ≡ all_waiting old.neighbours.nodes → room ≡ x → happenings y ≡ happenings room ++ lost_at now Forgotten packets
+      → AddsEvent stream old new x y now (events.Clears events.ClearNeighbours)
+  clears_neighbours stands none packets packets_are reserved told = record {
+    each = λ start c s le.
+        let nodes : List entries.Node = old.neighbours.nodes in
+        let later' : Chronicle = (now, Passed) ∷ c in
+        let d : Chronicle = clearing start now nodes later' in
+        let base : Node R A = record old { last = now } in
+        let history_is : neighbour_history d ≡ cleared now nodes (neighbour_history c) = clearing_history start now nodes later' in
+        let neighbours' = subst (λ (h : List rows.Row). neighbours.Stands new.neighbours.nodes h) (sym history_is) (stands now (neighbour_history c) s.neighbours) in (
+          d,
+          (nodes, s.neighbours, refl),
+          stands_neighbours stream start base new later' d now same (clearing_beside start now nodes later') (passed stream start old base c now s le settled refl) refl
+              (clearing_last start now nodes later' start.at refl) is (clearing_addresses start now nodes later') neighbours' (rw none tt),
+          record {
+            newer = lost_at now Forgotten (all_waiting nodes);
+            text = clearing_text start now nodes later' ∙ ap (λ (t : List ℕ). t ++ forgotten_text start now nodes) (append-nil (text c));
+            outs = told ∙ (ap (λ (r : List (ℕ × Out A)). happenings r ++ lost_at now Forgotten packets) reserved
+                ∙ ap (λ (p : List (List ℕ)). happenings x ++ lost_at now Forgotten p) packets_are);
+          },
+        );
+  }
+
+-- ---- the routers, and all redirects
+
+-- their numbers
+abbrev pub numbers : List Addr → List ℕ
+numbers addrs = map (λ a. number_of a.0) addrs
+
+-- routers that leave at the moment
+abbrev pub left_at : ℕ → List ℕ → List (ℕ × Happening)
+left_at at those = at_moment at (map (λ key. LeftRouter key) those)
+
+-- the redirects to each of them end
+abbrev then_gone : ℕ → List ℕ → List RedirectRow → List RedirectRow
+then_gone at [] history = history
+then_gone at (key ∷ those) history = then_gone at those (redirect_rows.TargetGone at key ∷ history)
+
+gone_destinations : (at : ℕ) (those : List ℕ) (history : List RedirectRow) → destinations (then_gone at those history) ≡ destinations history
+gone_destinations at [] history = refl
+gone_destinations at (key ∷ those) history = gone_destinations at those (redirect_rows.TargetGone at key ∷ history)
+
+-- where all redirects end, it doesn't matter what ended before
+ended_target : (at : ℕ) (target : Option ℕ) (history : List RedirectRow) → unless_ended target (redirect_rows.Cleared at ∷ history) ≡ None
+ended_target at None history = refl
+ended_target at (Some target) history = refl
+
+-- the destination with nothing left of its redirect
+abbrev bare : ℕ → ℕ × Option ℕ
+bare key = (key, None)
+
+-- with what is left of its redirect once all ended
+abbrev left_over : ℕ → List RedirectRow → ℕ → ℕ × Option ℕ
+left_over at history key = (key, target_left key (redirect_rows.Cleared at ∷ history))
+
+nothing_left : (at : ℕ) (history : List RedirectRow) (those : List ℕ) → map (λ key. left_over at history key) those ≡ map (λ key. bare key) those
+nothing_left at history [] = refl
+nothing_left at history (key ∷ those) =
+    ap (λ (o : Option ℕ). (key, o) ∷ map (λ k. left_over at history k) those) (ended_target at (target_of key history) (since key history))
+    ∙ ap (λ (l : List (ℕ × Option ℕ)). bare key ∷ l) (nothing_left at history those)
+
+all_ended : (at : ℕ) (first other : List RedirectRow) → destinations other ≡ destinations first → remembered (redirect_rows.Cleared at ∷ first) ≡ remembered (redirect_rows.Cleared at ∷ other)
+all_ended at first other same =
+    nothing_left at first (take max_redirects (destinations first)) ∙ (ap (λ (l : List ℕ). map (λ key. bare key) (take max_redirects l)) (sym same)
+    ∙ sym (nothing_left at other (take max_redirects (destinations other))))
+
+-- the routers left, and nothing else is changed
+record Left (now : ℕ) (those : List ℕ) (c d : Chronicle) : Type 0 where
+  apart : Apart c d
+  routers : router_history d ≡ then_left now those (router_history c)
+  redirects : redirect_history d ≡ then_gone now those (redirect_history c)
+  neighbours : neighbour_history d ≡ neighbour_history c
+  addresses : address_history d ≡ address_history c
+  told : text d ≡ text c ++ flat_map lines_of (left_at now those)
+
+all_left : (start : Start) (now : ℕ) (es : List (Lasting ℕ)) (c : Chronicle) → Left now (keys es) c (all_leaving start now es c)
+all_left start now [] c = record {
+  apart = record { parameters = refl; prefixes = refl; servers = refl; names = refl; assigned = λ k. refl; solicited = refl; stream = λ start'. refl };
+  routers = refl;
+  redirects = refl;
+  neighbours = refl;
+  addresses = refl;
+  told = sym (append-nil (text c));
+}
+all_left start now (e ∷ es) c =
+    let row : Chronicle = (now, LeftRouter e.key) ∷ c in
+    let d : Chronicle = all_leaving start now es row in
+    let rest = all_left start now es row in
+    let first : Apart c row = record { parameters = refl; prefixes = refl; servers = refl; names = refl; assigned = λ k. refl; solicited = refl; stream = λ start'. refl } in
+    record {
+      apart = apart_then c row d first rest.apart;
+      routers = rest.routers;
+      redirects = rest.redirects;
+      neighbours = rest.neighbours;
+      addresses = rest.addresses;
+      told = rest.told ∙ append_assoc (text c) (lines_of (now, LeftRouter e.key)) (flat_map lines_of (left_at now (keys es)));
+    }
+
+module _ {R A : Type 0} (stream : R → Stream) (old new : Node R A) (x room y : List (ℕ × Out A)) (now : ℕ) (settled : now < next_of old)
+    (same : Still old new now) (addresses_are : new.addresses ≡ old.addresses) (neighbours_are : new.neighbours ≡ old.neighbours) where
+  pub clears_routers : ((at : ℕ) (history : List router_rows.RouterRow) → routers.Stands old.routers history → routers.Stands new.routers (then_left at (keys old.routers.entries) history))
+      → new.routers.entries ≡ [] → choice.GainsRow old.choice new.choice (redirect_rows.Cleared now)
+      → (addrs : List Addr) → numbers addrs ≡ keys old.routers.entries → room ≡ x → happenings y ≡ happenings room ++ left_at now (numbers addrs)
+      → AddsEvent stream old new x y now (events.Clears events.ClearRouters)
+  clears_routers stands none gains addrs addrs_are reserved told = record {
+    each = λ start c s le.
+        let es : List (Lasting ℕ) = old.routers.entries in
+        let those : List ℕ = keys es in
+        let later' : Chronicle = (now, Passed) ∷ c in
+        let mid : Chronicle = all_leaving start now es later' in
+        let d : Chronicle = (now, ClearedRedirects) ∷ mid in
+        let left = all_left start now es later' in
+        let not_past : now ≤ next_of old = omega (arith, settled) in
+        let before : Apart c mid = apart_then c later' mid (record { parameters = refl; prefixes = refl; servers = refl; names = refl; assigned = λ k. refl; solicited = refl; stream = λ start'. refl }) left.apart in
+        let apart : Apart c d = apart_then c mid d before (record { parameters = refl; prefixes = refl; servers = refl; names = refl; assigned = λ k. refl; solicited = refl; stream = λ start'. refl }) in
+        let ended : choice.Stands new.choice (redirect_rows.Cleared now ∷ redirect_history c) = gains.stands (redirect_history c) s.redirects in
+        let redirects' : choice.Stands new.choice (redirect_rows.Cleared now ∷ then_gone now those (redirect_history c)) = record {
+          entries_are = ended.entries_are ∙ all_ended now (redirect_history c) (then_gone now those (redirect_history c)) (gone_destinations now those (redirect_history c));
+        } in
+        let redirects_are = ap (λ (h : List RedirectRow). redirect_rows.Cleared now ∷ h) left.redirects in (
+          d,
+          (es, routers_listed stream start old c now s le settled, refl),
+          stands_at stream start old new c d now same apart s le not_past refl
+              (subst (λ (h : List router_rows.RouterRow). routers.Stands new.routers h) (sym left.routers) (stands now (router_history c) s.routers)) (rw none tt)
+              (rw (addresses_are, left.addresses) s.addresses) (rw addresses_are (addresses_before old now not_past))
+              (rw (neighbours_are, left.neighbours) s.neighbours) (rw neighbours_are (neighbours_before old now not_past))
+              (subst (λ (h : List RedirectRow). choice.Stands new.choice h) (sym redirects_are) redirects'),
+          record {
+            newer = left_at now those;
+            text = append-nil (text mid) ∙ (left.told ∙ ap (λ (t : List ℕ). t ++ flat_map lines_of (left_at now those)) (append-nil (text c)));
+            outs = told ∙ (ap (λ (r : List (ℕ × Out A)). happenings r ++ left_at now (numbers addrs)) reserved ∙ ap (λ (l : List ℕ). happenings x ++ left_at now l) addrs_are);
+          },
+        );
+  }

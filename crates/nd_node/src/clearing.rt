@@ -1,0 +1,132 @@
+//! A table is cleared, by a command.
+
+ghost use Rattle.std.specs.Prelude.{◌≡◌, ◌+◌, ◌++◌, ◌<◌, ◌≤◌, IsOk, OnErr, OnOk, length, map, vec_capacity, vec_len};
+ghost use Rattle.nd_addr.specs.Number.{number_of};
+ghost use Rattle.nd_chronicle.specs.Event as events;
+ghost use Rattle.nd_chronicle.specs.Happening.{Forgotten, LeftRouter, Lost};
+ghost use Rattle.nd_node.specs.Event.{AddsEvent, clearable_of};
+ghost use Rattle.nd_node.specs.Memory.{TellsNothing};
+ghost use Rattle.nd_node.specs.Told.{at_moment, happenings};
+
+use crate::node::Node;
+use nd_addr::Addr;
+use nd_out::{Loss, Out};
+use nd_waiting::Packet;
+use rand_core::Rng;
+use std::alloc::{AllocError, Allocator};
+
+/// The tables that a command clears.
+#[derive(Clone, Copy, Debug, PartialEq, Eq)]
+pub enum Clearable {
+    /// The neighbours (RFC 4861, section 5.1).
+    Neighbours,
+    /// The default routers (RFC 4861, section 5.1). All redirects end with them.
+    Routers,
+    /// The prefixes on the link (RFC 4861, section 5.1). The addresses that were formed of them stay.
+    Prefixes,
+    /// The kept redirects (RFC 4861, section 8.3).
+    Redirects,
+    /// The DNS servers and search names (RFC 8106, section 6.1).
+    Dns,
+}
+
+/// Packets that waited for neighbours that are forgotten are lost, in their order.
+fn tell_packets<A: Allocator>(outs: &mut Vec<(u64, Out<A>), A>, at: u64, packets: Vec<Packet<A>, A>)
+    requires { vec_len outs.old + length packets.items ≤ vec_capacity outs.old }
+    ensures { happenings outs.new.items ≡ happenings outs.old.items ++ at_moment at (map (λ packet. Lost Forgotten packet) packets.items) }
+{
+    for packet in packets {
+        outs.push_reserved((at, Out::Lost(Loss::Forgotten, packet)));
+    }
+}
+
+/// Routers leave the list, in its order.
+fn tell_routers<A: Allocator>(outs: &mut Vec<(u64, Out<A>), A>, at: u64, routers: &[Addr])
+    requires { vec_len outs.old + length routers.now ≤ vec_capacity outs.old }
+    ensures { happenings outs.new.items ≡ happenings outs.old.items ++ at_moment at (map (λ key. LeftRouter key) (map (λ a. number_of a.0) routers.now)) }
+{
+    for router in routers {
+        outs.push_reserved((at, Out::EndedRouter(*router)));
+    }
+}
+
+impl<R: Rng + Drop, A: Allocator + Clone> Node<R, A> {
+    ghost use Rattle.nd_node.specs.Node.{next_of};
+
+    /// All neighbours are forgotten, and what waits for them is lost, in the order of their addresses, the oldest first. The error is want
+    /// of memory, and then nothing has changed.
+    fn clear_neighbours(
+        &mut self,
+        now: u64,
+        outs: &mut Vec<(u64, Out<A>), A>,
+    ) -> Result<(), AllocError>
+        requires settled { now < next_of self.old }
+        ensures adds { OnOk result (AddsEvent R.stream self.old self.new outs.old.items outs.new.items now (events.Clears events.ClearNeighbours)) }
+        ensures keeps { OnErr result (self.new ≡ self.old) }
+        ensures told { OnErr result (outs.new.items ≡ outs.old.items) }
+    {
+        let waiting = self.neighbours.waiting();
+        outs.reserve(waiting)?;
+        let packets = self.neighbours.clear()?;
+        self.last = now;
+        tell_packets(outs, now, packets);
+        Ok(())
+    }
+
+    /// All routers leave the list, in its order, and all redirects end with them (RFC 4861, section 6.3.5). The error is want of memory,
+    /// and then nothing has changed.
+    fn clear_routers(
+        &mut self,
+        now: u64,
+        outs: &mut Vec<(u64, Out<A>), A>,
+    ) -> Result<(), AllocError>
+        requires settled { now < next_of self.old }
+        ensures adds { OnOk result (AddsEvent R.stream self.old self.new outs.old.items outs.new.items now (events.Clears events.ClearRouters)) }
+        ensures keeps { OnErr result (self.new ≡ self.old) }
+        ensures told { OnErr result (outs.new.items ≡ outs.old.items) }
+    {
+        let count = self.routers.len();
+        outs.reserve(count)?;
+        let routers = self.routers.clear()?;
+        self.choice.clear();
+        self.last = now;
+        tell_routers(outs, now, &routers);
+        Ok(())
+    }
+
+    /// A table is cleared at a moment, in milliseconds. The error is want of memory, and then nothing has changed.
+    pub(crate) fn clear(
+        &mut self,
+        now: u64,
+        table: Clearable,
+        outs: &mut Vec<(u64, Out<A>), A>,
+    ) -> Result<(), AllocError>
+        requires settled { now < next_of self.old }
+        ensures adds { OnOk result (AddsEvent R.stream self.old self.new outs.old.items outs.new.items now (events.Clears (clearable_of table))) }
+        ensures keeps { OnErr result (self.new ≡ self.old) }
+        ensures told { OnErr result (outs.new.items ≡ outs.old.items) }
+
+        // Where nothing is told nothing refuses, whatever memory there is.
+        ensures quiet { TellsNothing (clearable_of table) → IsOk result }
+    {
+        match table {
+            Clearable::Neighbours => self.clear_neighbours(now, outs),
+            Clearable::Routers => self.clear_routers(now, outs),
+            Clearable::Prefixes => {
+                self.prefixes.clear();
+                self.last = now;
+                Ok(())
+            }
+            Clearable::Redirects => {
+                self.choice.clear();
+                self.last = now;
+                Ok(())
+            }
+            Clearable::Dns => {
+                self.dns.clear();
+                self.last = now;
+                Ok(())
+            }
+        }
+    }
+}
