@@ -45,7 +45,7 @@ each_byte a b sa sb e (suc (suc (suc (suc (suc (suc (suc (suc (suc (suc (suc (su
 each_byte a b sa sb e (suc (suc (suc (suc (suc (suc (suc (suc (suc (suc (suc (suc (suc (suc (suc zero))))))))))))))) lt = (pair_bytes a b 14 15 refl sa sb (let f : group_at a 14 ≡ group_at b 14 = cc in f)).1
 each_byte a b sa sb e (suc (suc (suc (suc (suc (suc (suc (suc (suc (suc (suc (suc (suc (suc (suc (suc k)))))))))))))))) lt = absurd (omega arith)
 
-groups_injective : (a b : List ℕ) → AreBytes 16 a → AreBytes 16 b → groups_of a ≡ groups_of b → a ≡ b
+pub groups_injective : (a b : List ℕ) → AreBytes 16 a → AreBytes 16 b → groups_of a ≡ groups_of b → a ≡ b
 groups_injective a b sa sb e =
     same_number_lists a b (sa.len_is ∙ sym sb.len_is) (λ k lt. each_byte a b sa.each sb.each e k (omega (arith, sa.len_is)))
 

@@ -1,7 +1,9 @@
 pub mod Partings
 pub mod Readings
 pub mod TableWords
-pub mod FrameWords
+pub mod BytesWords
+pub mod AddressWords
+pub mod PacketWords
 pub mod CommandWords
 pub mod Lines
 pub mod Labels

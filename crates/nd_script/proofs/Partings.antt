@@ -4,7 +4,7 @@ use Rattle.std.specs.Char.{digit_value}
 use Rattle.std.specs.Fmt.{decimal}
 use Rattle.std.specs.Str.Parse.{AllDigits}
 use Rattle.std.proofs.lemmas.Fmt.{decimal_is_IsNumeral}
-use Rattle.nd_script.specs.Words.{HasNoSpace, IsParted}
+use Rattle.nd_script.specs.Words.{HasNoSpace, IsParted, Parts}
 
 -- the words behind the first ones
 tail_has_none : (b : ℕ) (word : List ℕ) → HasNoSpace (b ∷ word) → HasNoSpace word
@@ -37,6 +37,27 @@ space_within (b ∷ word) rest = let later = space_within word rest in omega ari
 pub no_parting : (text word rest : List ℕ) → HasNoSpace text → IsParted text word rest → ⊥
 no_parting text word rest none p =
     none (length word) (subst (λ (t : List ℕ). length word < length t) (sym p.text_is) (space_within word rest)) (ap (λ (t : List ℕ). get_or t (length word) 0) p.text_is ∙ space_at word rest)
+
+-- ---- what is said of the parts
+
+pub parts_at : (text word rest : List ℕ) (First Rest : List ℕ → Type 0) → IsParted text word rest → Parts text First Rest → First word × Rest rest
+parts_at text word rest First Rest p q = let one = one_parting text word rest q.word q.rest p q.parted in (subst First (sym one.0) q.first, subst Rest (sym one.1) q.behind)
+
+pub no_parts : (text : List ℕ) (First Rest : List ℕ → Type 0) → HasNoSpace text → Parts text First Rest → ⊥
+no_parts text First Rest none q = no_parting text q.word q.rest none q.parted
+
+pub parts_of : (text word rest : List ℕ) (First : List ℕ → Type 0) → IsParted text word rest → First word → Parts text First (λ r. r ≡ rest)
+parts_of text word rest First p first = record { word = word; rest = rest; parted = p; first = first; behind = refl }
+
+-- of the rest only which it is
+pub in_front : (text : List ℕ) (First Rest : List ℕ → Type 0) (q : Parts text First Rest) → Parts text First (λ r. r ≡ q.rest)
+in_front text First Rest q = parts_of text q.word q.rest First q.parted q.first
+
+-- and more of it
+pub with_rest : (text rest : List ℕ) (First Rest : List ℕ → Type 0) → Parts text First (λ r. r ≡ rest) → Rest rest → Parts text First Rest
+with_rest text rest First Rest q behind = record { word = q.word; rest = q.rest; parted = q.parted; first = q.first; behind = subst Rest (sym q.behind) behind }
+
+-- ---- where a text is parted
 
 -- what stands before the first space and behind it
 pub parted_at : (i : ℕ) (text : List ℕ) → ((k : ℕ) → k < i → get_or text k 0 ≡ 32 → ⊥) → i < length text → get_or text i 0 ≡ 32 → IsParted text (take i text) (drop (suc i) text)

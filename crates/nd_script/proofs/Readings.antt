@@ -13,6 +13,12 @@ some_is {T} o t P e found = subst (λ (o : Option T). IfSome o P) e found
 pub none_is : {T : Type 0} (o : Option T) (P : Type 0) → o ≡ None → IfNone o P → P
 none_is {T} o P e found = subst (λ (o : Option T). IfNone o P) e found
 
+pub some_and : {T : Type 0} (o : Option T) (t : T) (P : T → Type 0) → o ≡ Some t → IsSomeAnd o P → P t
+some_and {T} o t P e found = subst (λ (o : Option T). IsSomeAnd o P) e found
+
+pub none_and : {T : Type 0} (o : Option T) (P : T → Type 0) → o ≡ None → IsSomeAnd o P → ⊥
+none_and {T} o P e found = subst (λ (o : Option T). IsSomeAnd o P) e found
+
 pub mapped : {X Y : Type 0} (f : X → Y) (o : Option X) (x : X) (y : Y) → o ≡ Some x → option_map f o ≡ Some y → f x ≡ y
 mapped f (Some z) x y is e = cc
 mapped f None x y is e = cc
@@ -27,3 +33,9 @@ pub none_read : {T E X : Type 0} (read : Result (Option T) E) (Spells : ℕ → 
 none_read (Ok (Some t)) Spells Is only = tt
 none_read (Ok None) Spells Is only = λ at x s. only at x s
 none_read (Err e) Spells Is only = tt
+
+-- what holds of what is read
+pub if_read : {T E : Type 0} (read : Result (Option T) E) (P Q : T → Type 0) → ((t : T) → P t → Q t) → IfOk read (λ o. IfSome o P) → IfOk read (λ o. IfSome o Q)
+if_read (Ok (Some t)) P Q more h = more t h
+if_read (Ok None) P Q more h = tt
+if_read (Err e) P Q more h = tt

@@ -1,7 +1,7 @@
 -- A table is told by its word.
 use Rattle.std.proofs.Common.{◌≡◌, ◌∙◌, ℕ, ◌<◌, List, [], ◌∷◌, Some, get_or, length, eqb, if◌then◌else◌, ap, sym, refl, arith}
 use Rattle.std.specs.Prelude.{slice_get}
-use Rattle.nd_script.specs.Command.{table_word}
+use Rattle.nd_script.specs.Table.{table_word}
 use Rattle.nd_chronicle.specs.Shown.{Table, NeighbourTable, RouterTable, PrefixTable, AddressTable, DnsTable, RedirectTable, ParameterTable, AdvertiseTable, RouteTable}
 use Rattle.nd_node.specs.Event.{table_of}
 use Rattle.nd_node.specs.declared.event.Table as rust

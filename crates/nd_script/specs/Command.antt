@@ -1,24 +1,29 @@
 -- The commands of a script: which bytes spell which event (the texts are this project's own).
-use Rattle.std.specs.Prelude.{◌≡◌, ℕ, List, ◌++◌, codes}
-use Rattle.nd_chronicle.specs.Event.{Event, Passes, Receives, Shows}
-use Rattle.nd_chronicle.specs.Shown.{Table, NeighbourTable, RouterTable, PrefixTable, AddressTable, DnsTable, RedirectTable, ParameterTable, AdvertiseTable, RouteTable}
-use Rattle.nd_script.specs.Frame.{IsFrameWord}
+use Rattle.std.specs.Prelude.{◌≡◌, ◌⊎◌, ℕ, List, codes}
+use Rattle.nd_addr.specs.declared.addr.Addr.{Addr}
+use Rattle.nd_chronicle.specs.Event.{Event, Passes, Receives, Sends, Shows}
+use Rattle.nd_chronicle.specs.Shown as shown
+use Rattle.nd_script.specs.declared.command.Command.{Command}
+use Rattle.nd_script.specs.declared.command.Command.TheVariants.{Rx, Send, Show}
+use Rattle.nd_script.specs.Bytes.{IsBytesWord}
+use Rattle.nd_script.specs.Packet.{IsPacket}
+use Rattle.nd_script.specs.Table.{table_word}
+use Rattle.nd_script.specs.Words.{Parts}
 
--- the word of a table
-abbrev pub table_word : Table → List ℕ
-table_word NeighbourTable = codes "neighbours"
-table_word RouterTable = codes "routers"
-table_word PrefixTable = codes "prefixes"
-table_word AddressTable = codes "addresses"
-table_word DnsTable = codes "dns"
-table_word RedirectTable = codes "redirects"
-table_word ParameterTable = codes "params"
-table_word AdvertiseTable = codes "advertise"
-table_word RouteTable = codes "routes"
+-- the word that a command begins with
+abbrev pub command_word : Command → List ℕ
+command_word Rx = codes "rx"
+command_word Send = codes "send"
+command_word Show = codes "show"
 
--- the bytes are the command of the event
+-- the words behind it spell the event
+abbrev pub AreArguments : Command → List ℕ → Event → Type 0
+AreArguments Rx words event = (frame : List ℕ) × (event ≡ Receives frame) × IsBytesWord words frame
+AreArguments Send words event =
+    (source : Addr) × (destination : Addr) × (next_header : ℕ) × (payload : List ℕ) × (event ≡ Sends source destination next_header payload) × IsPacket words source destination next_header payload
+AreArguments Show words event = (table : shown.Table) × (event ≡ Shows table) × (words ≡ table_word table)
+
+-- the bytes spell the event: they are `at`, by which time passes, or the word of a command, and what it acts on
 abbrev pub IsCommand : List ℕ → Event → Type 0
-IsCommand bytes Passes = bytes ≡ codes "at"
-IsCommand bytes (Receives frame) = (word : List ℕ) × (bytes ≡ codes "rx " ++ word) × IsFrameWord word frame
-IsCommand bytes (Shows table) = bytes ≡ codes "show " ++ table_word table
-IsCommand bytes _ = ⊥
+IsCommand bytes event =
+    ((bytes ≡ codes "at") × (event ≡ Passes)) ⊎ ((command : Command) × Parts bytes (λ word. word ≡ command_word command) (λ words. AreArguments command words event))

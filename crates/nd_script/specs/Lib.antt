@@ -1,5 +1,8 @@
 pub mod Words
-pub mod Frame
+pub mod Bytes
+pub mod Address
+pub mod Packet
+pub mod Table
 pub mod Command
 pub mod Line
 pub mod Source

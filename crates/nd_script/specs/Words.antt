@@ -9,3 +9,11 @@ HasNoSpace text = (k : ℕ) → k < length text → slice_index text k ≢ 32
 pub record IsParted (text word rest : List ℕ) : Type 0 where
   pub text_is : text ≡ word ++ 32 ∷ rest
   pub no_space : HasNoSpace word
+
+-- its first word is such a one, and so is the rest
+pub record Parts (text : List ℕ) (First Rest : List ℕ → Type 0) : Type 0 where
+  pub word : List ℕ
+  pub rest : List ℕ
+  pub parted : IsParted text word rest
+  pub first : First word
+  pub behind : Rest rest

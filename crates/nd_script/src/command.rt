@@ -3,55 +3,77 @@
 ghost use Rattle.std.specs.Prelude.{◌≡◌, Some, None, Ok, IfSome, IfOk};
 ghost use Rattle.std.specs.Option.{option_map};
 ghost use Rattle.nd_chronicle.specs.Event as events;
-ghost use Rattle.nd_chronicle.specs.Shown as shown;
-ghost use Rattle.nd_node.specs.Event.{event_of, table_of};
-ghost use Rattle.nd_script.specs.Command.{table_word, IsCommand};
+ghost use Rattle.nd_node.specs.Event.{event_of};
+ghost use Rattle.nd_script.specs.Command.{command_word, AreArguments, IsCommand};
 
-use crate::frame::read_frame;
+use crate::bytes::read_bytes;
+use crate::packet::read_packet;
+use crate::table::read_table;
 use crate::words::split_word;
-use nd_node::{Event, Table};
+use nd_node::Event;
 use std::alloc::{AllocError, Allocator};
 
-const TABLES: [Table; 9] = [
-    Table::Neighbours,
-    Table::Routers,
-    Table::Prefixes,
-    Table::Addresses,
-    Table::Dns,
-    Table::Redirects,
-    Table::Params,
-    Table::Advertise,
-    Table::Routes,
-];
+/// The commands that act on something, each by its word: all but `at`.
+#[derive(Clone, Copy, Debug, PartialEq, Eq)]
+pub enum Command {
+    /// A frame is heard.
+    Rx,
+    /// A packet of the upper layer is to be sent.
+    Send,
+    /// A table is shown.
+    Show,
+}
 
-/// The word that names a table in a command.
-pub(crate) fn table_word(table: Table) -> &'static str
-    ensures { result.now ≡ table_word (table_of table) }
+const COMMANDS: [Command; 3] = [Command::Rx, Command::Send, Command::Show];
+
+/// The word that a command begins with.
+fn command_word(command: Command) -> &'static str
+    ensures { result.now ≡ command_word command }
 {
-    match table {
-        Table::Neighbours => "neighbours",
-        Table::Routers => "routers",
-        Table::Prefixes => "prefixes",
-        Table::Addresses => "addresses",
-        Table::Dns => "dns",
-        Table::Redirects => "redirects",
-        Table::Params => "params",
-        Table::Advertise => "advertise",
-        Table::Routes => "routes",
+    match command {
+        Command::Rx => "rx",
+        Command::Send => "send",
+        Command::Show => "show",
     }
 }
 
-/// The table that a word names.
-fn read_table(word: &[u8]) -> Option<Table>
-    ensures found { IfSome result (λ table. word.now ≡ table_word (table_of table)) }
-    ensures only { (table : shown.Table) → word.now ≡ table_word table → option_map table_of result ≡ Some table }
+/// The command that a word begins.
+fn read_command_word(word: &[u8]) -> Option<Command>
+    ensures found { IfSome result (λ command. word.now ≡ command_word command) }
+    ensures only { (command : Command) → word.now ≡ command_word command → result ≡ Some command }
 {
-    for table in TABLES {
-        if table_word(table).as_bytes() == word {
-            return Some(table);
+    for command in COMMANDS {
+        if command_word(command).as_bytes() == word {
+            return Some(command);
         }
     }
     None
+}
+
+/// The event that the words behind a command spell. No other words spell any, and such words take no memory. The error is want of memory.
+fn read_arguments<A: Allocator + Clone>(
+    alloc: &A,
+    command: Command,
+    words: &[u8],
+) -> Result<Option<Event<A>>, AllocError>
+    ensures found { IfOk result (λ read. IfSome read (λ event. AreArguments command words.now (event_of event))) }
+    ensures only { (event : events.Event) → AreArguments command words.now event → IfOk result (λ read. option_map event_of read ≡ Some event) }
+    ensures malformed { ((event : events.Event) → AreArguments command words.now event → ⊥) → result ≡ Ok None }
+{
+    match command {
+        Command::Rx => match read_bytes(alloc, words)? {
+            Some(frame) => Ok(Some(Event::Receives(frame))),
+            None => Ok(None),
+        },
+        Command::Send => match read_packet(alloc, words)? {
+            Some(packet) => Ok(Some(Event::Sends(packet))),
+            None => Ok(None),
+        },
+        Command::Show => match read_table(words) {
+            Some(table) => Ok(Some(Event::Shows(table))),
+            None => Ok(None),
+        },
+    }
 }
 
 /// The event that the bytes of a command spell. No other bytes spell any, and such bytes take no memory. The error is want of memory.
@@ -66,17 +88,8 @@ pub fn read_command<A: Allocator + Clone>(
     let Some((word, rest)) = split_word(bytes) else {
         return Ok((bytes == b"at".as_slice()).then_some(Event::Passes));
     };
-    if word == b"rx".as_slice() {
-        return match read_frame(alloc, rest)? {
-            Some(frame) => Ok(Some(Event::Receives(frame))),
-            None => Ok(None),
-        };
-    }
-    if word == b"show".as_slice() {
-        return match read_table(rest) {
-            Some(table) => Ok(Some(Event::Shows(table))),
-            None => Ok(None),
-        };
-    }
-    Ok(None)
+    let Some(command) = read_command_word(word) else {
+        return Ok(None);
+    };
+    read_arguments(alloc, command, rest)
 }

@@ -1,22 +1,27 @@
 //! The lines of a script that a node reads, and the sources that its random words come from.
 #![tactic(auto)]
 
+mod address;
+mod bytes;
 mod command;
-mod frame;
 pub mod laws;
 mod line;
 mod number;
+mod packet;
 mod run;
 mod script;
 mod source;
+mod table;
 mod words;
 
-pub use command::read_command;
+pub use command::{Command, read_command};
 pub use line::{Line, read_line};
 pub use run::run_script;
 pub use source::Source;
 
 #[cfg(test)]
 mod frame_tests;
+#[cfg(test)]
+mod packet_tests;
 #[cfg(test)]
 mod tests;

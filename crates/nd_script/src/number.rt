@@ -33,6 +33,18 @@ pub(crate) fn read_number(text: &[u8]) -> Option<u64>
     is_decimal(text, number).then_some(number)
 }
 
+/// The number below 256 that a text spells in decimal digits, with no sign and no leading zero.
+pub(crate) fn read_byte(text: &[u8]) -> Option<u8>
+    ensures found { IfSome result (λ n. text.now ≡ decimal n) }
+    ensures only { (n : ℕ) → n < 2 ^ 8 → text.now ≡ decimal n → result ≡ Some n }
+{
+    let number = read_number(text)?;
+    if number > u8::MAX as u64 {
+        return None;
+    }
+    Some(number as u8)
+}
+
 /// The number below 2^64 that a text spells behind a label.
 pub(crate) fn read_labelled(text: &[u8], label: &[u8]) -> Option<u64>
     ensures found { IfSome result (λ n. text.now ≡ label.now ++ decimal n) }

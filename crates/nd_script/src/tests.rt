@@ -1,5 +1,5 @@
 use super::*;
-use nd_addr::Mac;
+use nd_addr::{Addr, Mac};
 use nd_io::input::Pieces;
 use nd_io::output::Writing;
 use nd_io::tool_fault::ToolFault;
@@ -15,6 +15,7 @@ use std::test::*;
 enum Said {
     Settles,
     Receives(String),
+    Sends(Addr, Addr, u8, String),
     Shows(Table),
 }
 
@@ -33,6 +34,16 @@ fn event_said(alloc: Global, event: Event<Global>) -> Result<Said, AllocError> {
             let mut digits = String::new(alloc);
             write_hex(&mut digits, &frame)?;
             Ok(Said::Receives(digits))
+        }
+        Event::Sends(packet) => {
+            let mut digits = String::new(alloc);
+            write_hex(&mut digits, &packet.payload)?;
+            Ok(Said::Sends(
+                packet.source,
+                packet.destination,
+                packet.next_header,
+                digits,
+            ))
         }
         Event::Shows(table) => Ok(Said::Shows(table)),
     }
@@ -196,6 +207,75 @@ fn other_words_are_no_frames(rt: HostRuntime) -> Result<(), Fail> {
         "10 rx 00\r",
         "10 RX 00",
         "rx 00",
+    ] {
+        assert_eq!(rt; reading(rt.alloc(), line.as_bytes())?, None);
+    }
+    Ok(())
+}
+
+/// The packet of a line that says that one is to be sent at 10 ms from fe80::1 to 2001:db8::2: its next header, and its payload in lower
+/// case digits.
+fn sent(
+    rt: &impl Abort,
+    alloc: Global,
+    line: &[u8],
+    next_header: u8,
+    digits: &str,
+) -> Result<(), Fail> {
+    match reading(alloc, line)? {
+        Some((10, Said::Sends(source, destination, of, payload))) => {
+            assert_eq!(rt; source.to_bits(), 0xfe80_0000_0000_0000_0000_0000_0000_0001);
+            assert_eq!(rt;
+                destination.to_bits(),
+                0x2001_0db8_0000_0000_0000_0000_0000_0002
+            );
+            assert_eq!(rt; of, next_header);
+            assert_eq!(rt; payload.as_str(), digits);
+        }
+        _ => return Err(Fail::new("no packet at 10 ms")),
+    }
+    Ok(())
+}
+
+#[test]
+fn packets_are_read(rt: HostRuntime) -> Result<(), Fail> {
+    sent(&rt, rt.alloc(), b"10 send fe80::1 2001:db8::2 17 -", 17, "")?;
+    sent(
+        &rt,
+        rt.alloc(),
+        b"10 send FE80:0::1 2001:DB8:0:0:0:0:0:2 0 0aBC",
+        0,
+        "0abc",
+    )?;
+    sent(
+        &rt,
+        rt.alloc(),
+        b"10 send fe80::1 2001:db8::2 255 00",
+        255,
+        "00",
+    )
+}
+
+#[test]
+fn other_words_are_no_packets(rt: HostRuntime) -> Result<(), Fail> {
+    for line in [
+        "10 send",
+        "10 send ",
+        "10 send fe80::1",
+        "10 send fe80::1 2001:db8::2",
+        "10 send fe80::1 2001:db8::2 17",
+        "10 send fe80::1 2001:db8::2 17 ",
+        "10 send fe80::1 2001:db8::2 256 -",
+        "10 send fe80::1 2001:db8::2 017 -",
+        "10 send fe80::1 2001:db8::2 +17 -",
+        "10 send fe80::1 2001:db8::2 17 0",
+        "10 send fe80::1 2001:db8::2 17 - -",
+        "10 send fe80::1  2001:db8::2 17 -",
+        "10 send  fe80::1 2001:db8::2 17 -",
+        "10 send fe80::1:: 2001:db8::2 17 -",
+        "10 send fe80::1 2001:db8::2/64 17 -",
+        "10 send fe80::1 17 2001:db8::2 -",
+        "10 Send fe80::1 2001:db8::2 17 -",
     ] {
         assert_eq!(rt; reading(rt.alloc(), line.as_bytes())?, None);
     }

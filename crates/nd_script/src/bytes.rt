@@ -1,10 +1,10 @@
-//! The words of a script that stand for frames.
+//! The words of a script that stand for bytes.
 
 ghost use Rattle.std.specs.Prelude.{◌≡◌, ◌↔◌, ◌<◌, ◌%◌, ℕ, List, length, IsTrue, IfSome, IfOk, None, Ok};
 ghost use Rattle.std.specs.List.{AllPass};
 ghost use Rattle.std.specs.Option.{IsSomeAnd};
 ghost use Rattle.hex.specs.Hex.{is_hex_digit};
-ghost use Rattle.nd_script.specs.Frame.{IsFrameWord};
+ghost use Rattle.nd_script.specs.Bytes.{IsBytesWord};
 
 use std::alloc::{AllocError, Allocator};
 
@@ -22,15 +22,15 @@ fn are_digits(word: &[u8]) -> bool
     word.iter().all(|byte| byte.is_ascii_hexdigit())
 }
 
-/// The frame that a word spells: `-` is the empty one, and else each byte is two hexadecimal digits, in either case. No other word spells
-/// one, and such a word takes no memory. The error is want of memory.
-pub(crate) fn read_frame<A: Allocator + Clone>(
+/// The bytes that a word spells: `-` stands for none, and else each byte is two hexadecimal digits, in either case. No other word spells
+/// bytes, and such a word takes no memory. The error is want of memory.
+pub(crate) fn read_bytes<A: Allocator + Clone>(
     alloc: &A,
     word: &[u8],
 ) -> Result<Option<Vec<u8, A>>, AllocError>
-    ensures found { IfOk result (λ read. IfSome read (λ frame. IsFrameWord word.now frame.items)) }
-    ensures only { (frame : List ℕ) → IsFrameWord word.now frame → IfOk result (λ read. IsSomeAnd read (λ found. found.items ≡ frame)) }
-    ensures malformed { ((frame : List ℕ) → IsFrameWord word.now frame → ⊥) → result ≡ Ok None }
+    ensures found { IfOk result (λ read. IfSome read (λ bytes. IsBytesWord word.now bytes.items)) }
+    ensures only { (bytes : List ℕ) → IsBytesWord word.now bytes → IfOk result (λ read. IsSomeAnd read (λ found. found.items ≡ bytes)) }
+    ensures malformed { ((bytes : List ℕ) → IsBytesWord word.now bytes → ⊥) → result ≡ Ok None }
 {
     if word == b"-".as_slice() {
         return Ok(Some(Vec::new(alloc.clone()?)));
@@ -39,7 +39,7 @@ pub(crate) fn read_frame<A: Allocator + Clone>(
         return Ok(None);
     }
     match hex::decode(alloc.clone()?, word) {
-        Ok(frame) => Ok(Some(frame)),
+        Ok(bytes) => Ok(Some(bytes)),
         Err(_) => Err(AllocError),
     }
 }

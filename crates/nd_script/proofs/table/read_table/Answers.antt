@@ -1,7 +1,7 @@
 use Rattle.std.proofs.Common.{sym, ap, ◌∙◌, arith}
-use Rattle.nd_script.specs.Command.{table_word}
+use Rattle.nd_script.specs.Table.{table_word}
 use Rattle.nd_script.proofs.TableWords.{place}
-use Rattle.nd_script.proofs.command.read_table.Goals as goal
+use Rattle.nd_script.proofs.table.read_table.Goals as goal
 
 pub returns-clause-only : goal.returns-clause-only
 returns-clause-only c = λ table e.

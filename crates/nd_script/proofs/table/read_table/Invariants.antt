@@ -2,8 +2,8 @@ use Rattle.std.proofs.Common.{◌≡◌, ℕ, ◌<◌, Some}
 use Rattle.std.specs.Prelude.{slice_get}
 use Rattle.nd_node.specs.declared.event.Table.{Table}
 use Rattle.nd_node.specs.Event.{table_of}
-use Rattle.nd_script.specs.Command.{table_word}
-use Rattle.nd_script.proofs.command.read_table.Given as goal
+use Rattle.nd_script.specs.Table.{table_word}
+use Rattle.nd_script.proofs.table.read_table.Given as goal
 
 -- the tables so far have other words
 abbrev pub invariant-loop-table : goal.invariant-loop-table
