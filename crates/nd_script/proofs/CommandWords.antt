@@ -1,15 +1,16 @@
 -- A command is told by its words.
-use Rattle.std.proofs.Common.{◌≡◌, ◌∙◌, ◌<◌, ℕ, zero, suc, List, [], ◌∷◌, Some, get_or, eqb, if◌then◌else◌, sym, refl, ap, subst, inl, inr, arith}
+use Rattle.std.proofs.Common.{◌≡◌, ◌∙◌, ◌<◌, ℕ, zero, suc, List, [], ◌∷◌, Some, get_or, length, eqb, if◌then◌else◌, sym, refl, ap, subst, inl, inr, arith}
 use Rattle.std.specs.Prelude.{codes, slice_get}
-use Rattle.nd_chronicle.specs.Event.{Event, Passes, Receives, Shows}
+use Rattle.nd_chronicle.specs.Event.{Event, Passes, Receives, Confirms, Forgets, Clears, Shows}
 use Rattle.nd_script.specs.declared.command.Command.{Command}
-use Rattle.nd_script.specs.declared.command.Command.TheVariants.{Rx, Send, Show}
+use Rattle.nd_script.specs.declared.command.Command.TheVariants.{Rx, Send, Confirm, Forget, Clear, Show}
 use Rattle.nd_script.specs.Command.{command_word, AreArguments, IsCommand}
 use Rattle.nd_script.specs.Words.{HasNoSpace, IsParted}
+use Rattle.nd_script.proofs.AddressWords.{one_address}
 use Rattle.nd_script.proofs.BytesWords.{one_bytes}
 use Rattle.nd_script.proofs.PacketWords.{one_packet}
 use Rattle.nd_script.proofs.Partings.{no_parting, no_parts, parts_at}
-use Rattle.nd_script.proofs.TableWords.{one_table}
+use Rattle.nd_script.proofs.TableWords.{one_clearable, one_table}
 
 at_no_space : HasNoSpace (codes "at")
 at_no_space zero lt e = omega arith
@@ -21,31 +22,42 @@ at_bytes bytes e = rw e at_no_space
 
 -- ---- a command is told by its word
 
--- by some of its bytes
+-- by its length, or by its second byte
 abbrev told : List ℕ → Command
-told word = if eqb (get_or word 0 0) 114 then Rx else if eqb (get_or word 1 0) 101 then Send else Show
+told word =
+    if eqb (length word) 2 then Rx else
+    if eqb (length word) 5 then Clear else
+    if eqb (length word) 6 then Forget else
+    if eqb (length word) 7 then Confirm else
+    if eqb (get_or word 1 0) 101 then Send else Show
 
 told_back : (command : Command) → told (command_word command) ≡ command
 told_back Rx = refl
 told_back Send = refl
+told_back Confirm = refl
+told_back Forget = refl
+told_back Clear = refl
 told_back Show = refl
 
 pub one_command_word : (c d : Command) → command_word c ≡ command_word d → c ≡ d
 one_command_word c d e = sym (told_back c) ∙ ap told e ∙ told_back d
 
 abbrev commands : List Command
-commands = Rx ∷ Send ∷ Show ∷ []
+commands = Rx ∷ Send ∷ Confirm ∷ Forget ∷ Clear ∷ Show ∷ []
 
 -- where a command stands among them
 pub record Place (command : Command) : Type 0 where
   pub at : ℕ
-  pub within : at < 3
+  pub within : at < 6
   pub there : slice_get commands at ≡ Some command
 
 pub place : (command : Command) → Place command
 place Rx = record { at = 0; within = omega arith; there = refl }
 place Send = record { at = 1; within = omega arith; there = refl }
-place Show = record { at = 2; within = omega arith; there = refl }
+place Confirm = record { at = 2; within = omega arith; there = refl }
+place Forget = record { at = 3; within = omega arith; there = refl }
+place Clear = record { at = 4; within = omega arith; there = refl }
+place Show = record { at = 5; within = omega arith; there = refl }
 
 -- ---- what it acts on
 
@@ -57,6 +69,9 @@ same_packet words c d (s, t, n, p, is, spelled) (s', t', n', p', is', spelled') 
 one_event : (command : Command) (words : List ℕ) (c d : Event) → AreArguments command words c → AreArguments command words d → c ≡ d
 one_event Rx words c d p q = p.1 ∙ (ap Receives (one_bytes words p.0 q.0 p.2 q.2) ∙ sym q.1)
 one_event Send words c d p q = same_packet words c d p q
+one_event Confirm words c d p q = p.1 ∙ (ap Confirms (one_address words p.0 q.0 p.2 q.2) ∙ sym q.1)
+one_event Forget words c d p q = p.1 ∙ (ap Forgets (one_address words p.0 q.0 p.2 q.2) ∙ sym q.1)
+one_event Clear words c d p q = p.1 ∙ (ap Clears (one_clearable p.0 q.0 (sym p.2 ∙ q.2)) ∙ sym q.1)
 one_event Show words c d p q = p.1 ∙ (ap Shows (one_table p.0 q.0 (sym p.2 ∙ q.2)) ∙ sym q.1)
 
 pub of_command : (c d : Command) (words : List ℕ) (event : Event) → c ≡ d → AreArguments c words event → AreArguments d words event

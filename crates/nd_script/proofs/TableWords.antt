@@ -1,9 +1,12 @@
 -- A table is told by its word.
 use Rattle.std.proofs.Common.{◌≡◌, ◌∙◌, ℕ, ◌<◌, List, [], ◌∷◌, Some, get_or, length, eqb, if◌then◌else◌, ap, sym, refl, arith}
 use Rattle.std.specs.Prelude.{slice_get}
-use Rattle.nd_script.specs.Table.{table_word}
+use Rattle.nd_script.specs.Table.{clearable_word, table_word}
+use Rattle.nd_chronicle.specs.Event.{Clearable, ClearNeighbours, ClearRouters, ClearPrefixes, ClearRedirects, ClearDns}
 use Rattle.nd_chronicle.specs.Shown.{Table, NeighbourTable, RouterTable, PrefixTable, AddressTable, DnsTable, RedirectTable, ParameterTable, AdvertiseTable, RouteTable}
-use Rattle.nd_node.specs.Event.{table_of}
+use Rattle.nd_node.specs.Event.{clearable_of, table_of}
+use Rattle.nd_node.specs.declared.clearing.Clearable as rust_clearable
+use Rattle.nd_node.specs.declared.clearing.Clearable.TheVariants as clearables
 use Rattle.nd_node.specs.declared.event.Table as rust
 use Rattle.nd_node.specs.declared.event.Table.TheVariants.{Neighbours, Routers, Prefixes, Addresses, Dns, Redirects, Params, Advertise, Routes}
 
@@ -53,3 +56,41 @@ place RedirectTable = record { at = 5; within = omega arith; found = Redirects; 
 place ParameterTable = record { at = 6; within = omega arith; found = Params; there = refl; is_it = refl }
 place AdvertiseTable = record { at = 7; within = omega arith; found = Advertise; there = refl; is_it = refl }
 place RouteTable = record { at = 8; within = omega arith; found = Routes; there = refl; is_it = refl }
+
+-- ---- a table that is cleared
+
+-- by its length
+abbrev told_clearable : List ℕ → Clearable
+told_clearable word =
+    if eqb (length word) 10 then ClearNeighbours else
+    if eqb (length word) 7 then ClearRouters else
+    if eqb (length word) 8 then ClearPrefixes else
+    if eqb (length word) 9 then ClearRedirects else ClearDns
+
+clearable_back : (table : Clearable) → told_clearable (clearable_word table) ≡ table
+clearable_back ClearNeighbours = refl
+clearable_back ClearRouters = refl
+clearable_back ClearPrefixes = refl
+clearable_back ClearRedirects = refl
+clearable_back ClearDns = refl
+
+pub one_clearable : (s t : Clearable) → clearable_word s ≡ clearable_word t → s ≡ t
+one_clearable s t e = sym (clearable_back s) ∙ ap told_clearable e ∙ clearable_back t
+
+abbrev clearable_tables : List rust_clearable.Clearable
+clearable_tables = clearables.Neighbours ∷ clearables.Routers ∷ clearables.Prefixes ∷ clearables.Redirects ∷ clearables.Dns ∷ []
+
+-- where one stands among the five
+pub record PlaceToClear (table : Clearable) : Type 0 where
+  pub at : ℕ
+  pub within : at < 5
+  pub found : rust_clearable.Clearable
+  pub there : slice_get clearable_tables at ≡ Some found
+  pub is_it : clearable_of found ≡ table
+
+pub place_to_clear : (table : Clearable) → PlaceToClear table
+place_to_clear ClearNeighbours = record { at = 0; within = omega arith; found = clearables.Neighbours; there = refl; is_it = refl }
+place_to_clear ClearRouters = record { at = 1; within = omega arith; found = clearables.Routers; there = refl; is_it = refl }
+place_to_clear ClearPrefixes = record { at = 2; within = omega arith; found = clearables.Prefixes; there = refl; is_it = refl }
+place_to_clear ClearRedirects = record { at = 3; within = omega arith; found = clearables.Redirects; there = refl; is_it = refl }
+place_to_clear ClearDns = record { at = 4; within = omega arith; found = clearables.Dns; there = refl; is_it = refl }

@@ -1,19 +1,23 @@
 -- The commands of a script: which bytes spell which event (the texts are this project's own).
 use Rattle.std.specs.Prelude.{◌≡◌, ◌⊎◌, ℕ, List, codes}
 use Rattle.nd_addr.specs.declared.addr.Addr.{Addr}
-use Rattle.nd_chronicle.specs.Event.{Event, Passes, Receives, Sends, Shows}
+use Rattle.nd_chronicle.specs.Event.{Clearable, Event, Passes, Receives, Sends, Confirms, Forgets, Clears, Shows}
 use Rattle.nd_chronicle.specs.Shown as shown
 use Rattle.nd_script.specs.declared.command.Command.{Command}
-use Rattle.nd_script.specs.declared.command.Command.TheVariants.{Rx, Send, Show}
+use Rattle.nd_script.specs.declared.command.Command.TheVariants.{Rx, Send, Confirm, Forget, Clear, Show}
+use Rattle.nd_script.specs.Address.{IsAddressWord}
 use Rattle.nd_script.specs.Bytes.{IsBytesWord}
 use Rattle.nd_script.specs.Packet.{IsPacket}
-use Rattle.nd_script.specs.Table.{table_word}
+use Rattle.nd_script.specs.Table.{clearable_word, table_word}
 use Rattle.nd_script.specs.Words.{Parts}
 
 -- the word that a command begins with
 abbrev pub command_word : Command → List ℕ
 command_word Rx = codes "rx"
 command_word Send = codes "send"
+command_word Confirm = codes "confirm"
+command_word Forget = codes "forget"
+command_word Clear = codes "clear"
 command_word Show = codes "show"
 
 -- the words behind it spell the event
@@ -21,6 +25,9 @@ abbrev pub AreArguments : Command → List ℕ → Event → Type 0
 AreArguments Rx words event = (frame : List ℕ) × (event ≡ Receives frame) × IsBytesWord words frame
 AreArguments Send words event =
     (source : Addr) × (destination : Addr) × (next_header : ℕ) × (payload : List ℕ) × (event ≡ Sends source destination next_header payload) × IsPacket words source destination next_header payload
+AreArguments Confirm words event = (neighbour : Addr) × (event ≡ Confirms neighbour) × IsAddressWord words neighbour
+AreArguments Forget words event = (neighbour : Addr) × (event ≡ Forgets neighbour) × IsAddressWord words neighbour
+AreArguments Clear words event = (table : Clearable) × (event ≡ Clears table) × (words ≡ clearable_word table)
 AreArguments Show words event = (table : shown.Table) × (event ≡ Shows table) × (words ≡ table_word table)
 
 -- the bytes spell the event: they are `at`, by which time passes, or the word of a command, and what it acts on

@@ -6,9 +6,10 @@ ghost use Rattle.nd_chronicle.specs.Event as events;
 ghost use Rattle.nd_node.specs.Event.{event_of};
 ghost use Rattle.nd_script.specs.Command.{command_word, AreArguments, IsCommand};
 
+use crate::address::read_address;
 use crate::bytes::read_bytes;
 use crate::packet::read_packet;
-use crate::table::read_table;
+use crate::table::{read_clearable, read_table};
 use crate::words::split_word;
 use nd_node::Event;
 use std::alloc::{AllocError, Allocator};
@@ -20,11 +21,24 @@ pub enum Command {
     Rx,
     /// A packet of the upper layer is to be sent.
     Send,
+    /// An upper layer confirms that a neighbour is reached.
+    Confirm,
+    /// A neighbour is to be forgotten.
+    Forget,
+    /// A table is to be cleared.
+    Clear,
     /// A table is shown.
     Show,
 }
 
-const COMMANDS: [Command; 3] = [Command::Rx, Command::Send, Command::Show];
+const COMMANDS: [Command; 6] = [
+    Command::Rx,
+    Command::Send,
+    Command::Confirm,
+    Command::Forget,
+    Command::Clear,
+    Command::Show,
+];
 
 /// The word that a command begins with.
 fn command_word(command: Command) -> &'static str
@@ -33,6 +47,9 @@ fn command_word(command: Command) -> &'static str
     match command {
         Command::Rx => "rx",
         Command::Send => "send",
+        Command::Confirm => "confirm",
+        Command::Forget => "forget",
+        Command::Clear => "clear",
         Command::Show => "show",
     }
 }
@@ -67,6 +84,18 @@ fn read_arguments<A: Allocator + Clone>(
         },
         Command::Send => match read_packet(alloc, words)? {
             Some(packet) => Ok(Some(Event::Sends(packet))),
+            None => Ok(None),
+        },
+        Command::Confirm => match read_address(words) {
+            Some(neighbour) => Ok(Some(Event::Confirms(neighbour))),
+            None => Ok(None),
+        },
+        Command::Forget => match read_address(words) {
+            Some(neighbour) => Ok(Some(Event::Forgets(neighbour))),
+            None => Ok(None),
+        },
+        Command::Clear => match read_clearable(words) {
+            Some(table) => Ok(Some(Event::Clears(table))),
             None => Ok(None),
         },
         Command::Show => match read_table(words) {

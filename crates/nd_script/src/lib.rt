@@ -22,6 +22,6 @@ pub use source::Source;
 #[cfg(test)]
 mod frame_tests;
 #[cfg(test)]
-mod packet_tests;
+mod host_tests;
 #[cfg(test)]
 mod tests;

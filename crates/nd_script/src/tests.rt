@@ -3,7 +3,7 @@ use nd_addr::{Addr, Mac};
 use nd_io::input::Pieces;
 use nd_io::output::Writing;
 use nd_io::tool_fault::ToolFault;
-use nd_node::{Event, Table};
+use nd_node::{Clearable, Event, Table};
 use nd_text::write_hex;
 use rand_core::Rng;
 use std::alloc::{AllocError, Global};
@@ -16,6 +16,9 @@ enum Said {
     Settles,
     Receives(String),
     Sends(Addr, Addr, u8, String),
+    Confirms(Addr),
+    Forgets(Addr),
+    Clears(Clearable),
     Shows(Table),
 }
 
@@ -45,6 +48,9 @@ fn event_said(alloc: Global, event: Event<Global>) -> Result<Said, AllocError> {
                 digits,
             ))
         }
+        Event::Confirms(neighbour) => Ok(Said::Confirms(neighbour)),
+        Event::Forgets(neighbour) => Ok(Said::Forgets(neighbour)),
+        Event::Clears(table) => Ok(Said::Clears(table)),
         Event::Shows(table) => Ok(Said::Shows(table)),
     }
 }
@@ -113,6 +119,55 @@ fn lines_of_each_table_are_read(rt: HostRuntime) -> Result<(), Fail> {
         reading(rt.alloc(), b"10 show routes")?,
         show(10, Table::Routes)
     );
+    Ok(())
+}
+
+#[test]
+fn lines_of_a_neighbour_are_read(rt: HostRuntime) -> Result<(), Fail> {
+    let neighbour = Addr::from_bits(0xfe80_0000_0000_0000_0000_0000_0000_0001);
+    assert_eq!(rt;
+        reading(rt.alloc(), b"10 confirm fe80::1")?,
+        Some((10, Said::Confirms(neighbour)))
+    );
+    assert_eq!(rt;
+        reading(rt.alloc(), b"10 forget FE80:0:0::1")?,
+        Some((10, Said::Forgets(neighbour)))
+    );
+    for line in [
+        "10 confirm",
+        "10 confirm ",
+        "10 confirm fe80::1 ",
+        "10 confirm fe80",
+        "10 forget fe80::1/64",
+        "10 forget fe80::1 fe80::2",
+    ] {
+        assert_eq!(rt; reading(rt.alloc(), line.as_bytes())?, None);
+    }
+    Ok(())
+}
+
+#[test]
+fn lines_of_tables_to_clear_are_read(rt: HostRuntime) -> Result<(), Fail> {
+    for (line, table) in [
+        ("10 clear neighbours", Clearable::Neighbours),
+        ("10 clear routers", Clearable::Routers),
+        ("10 clear prefixes", Clearable::Prefixes),
+        ("10 clear redirects", Clearable::Redirects),
+        ("10 clear dns", Clearable::Dns),
+    ] {
+        assert_eq!(rt;
+            reading(rt.alloc(), line.as_bytes())?,
+            Some((10, Said::Clears(table)))
+        );
+    }
+    for line in [
+        "10 clear",
+        "10 clear addresses",
+        "10 clear params",
+        "10 clear routers now",
+    ] {
+        assert_eq!(rt; reading(rt.alloc(), line.as_bytes())?, None);
+    }
     Ok(())
 }
 

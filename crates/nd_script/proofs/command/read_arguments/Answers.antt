@@ -1,7 +1,7 @@
 use Rattle.std.proofs.Common.{Some, ap, refl, sym}
 use Rattle.nd_chronicle.specs.Event as events
-use Rattle.nd_node.specs.Event.{table_of}
-use Rattle.nd_script.specs.declared.command.Command.TheVariants.{Rx, Send, Show}
+use Rattle.nd_node.specs.Event.{clearable_of, table_of}
+use Rattle.nd_script.specs.declared.command.Command.TheVariants.{Rx, Send, Confirm, Forget, Clear, Show}
 use Rattle.nd_script.specs.Bytes.{IsBytesWord}
 use Rattle.nd_script.specs.Packet.{IsPacket}
 use Rattle.nd_script.proofs.CommandWords.{of_command}
@@ -42,6 +42,21 @@ pub returns-in-None-2-clause-only : goal.returns-in-None-2-clause-only
 returns-in-None-2-clause-only g c = λ event are.
     let theirs = of_command c.args.command Send c.args.words.now event c.in-Send.is are in
     absurd (none_and c.in_ok-packet-in-Send.field-0 _ c.in-None-2.is (c.in_ok-packet-in-Send.ensures.only theirs.0 theirs.1 theirs.2 theirs.3 theirs.5))
+
+pub returns-in-Some-read_address-clause-malformed : goal.returns-in-Some-read_address-clause-malformed
+returns-in-Some-read_address-clause-malformed g c = λ none.
+    let neighbour = c.in-Some-read_address.neighbour in
+    absurd (none (events.Confirms neighbour) (of_command Confirm c.args.command c.args.words.now (events.Confirms neighbour) (sym c.in-Confirm.is) (neighbour, refl, c.in-Some-read_address.ensures.found)))
+
+pub returns-in-Some-read_address-2-clause-malformed : goal.returns-in-Some-read_address-2-clause-malformed
+returns-in-Some-read_address-2-clause-malformed g c = λ none.
+    let neighbour = c.in-Some-read_address-2.neighbour in
+    absurd (none (events.Forgets neighbour) (of_command Forget c.args.command c.args.words.now (events.Forgets neighbour) (sym c.in-Forget.is) (neighbour, refl, c.in-Some-read_address-2.ensures.found)))
+
+pub returns-in-Some-read_clearable-clause-malformed : goal.returns-in-Some-read_clearable-clause-malformed
+returns-in-Some-read_clearable-clause-malformed g c = λ none.
+    let table = clearable_of c.in-Some-read_clearable.table in
+    absurd (none (events.Clears table) (of_command Clear c.args.command c.args.words.now (events.Clears table) (sym c.in-Clear.is) (table, refl, c.in-Some-read_clearable.ensures.found)))
 
 pub returns-in-Some-read_table-clause-malformed : goal.returns-in-Some-read_table-clause-malformed
 returns-in-Some-read_table-clause-malformed g c = λ none.

@@ -1,4 +1,4 @@
-//! Packets of the upper layer in scripts: worked rows of lines and texts.
+//! Packets of the upper layer and commands in scripts: worked rows of lines and texts.
 
 use crate::run_script;
 use crate::source::Source;
@@ -112,6 +112,19 @@ fn a_known_router_is_used(rt: HostRuntime) -> Result<(), Fail> {
     )?;
     let wanted = format!(in rt.alloc();
         "{STARTED}{FORMED}2300 heard ra\n2400 tx 0200000000013456789abcde86dd600000000000114020010db800000000365678fffe9abcde20010db8000100000000000000000005\n"
+    )?;
+    told(&rt, rt.alloc(), script.as_bytes(), Ok(()), &wanted)
+}
+
+/// Cleared routers leave the list, the redirects end with them, and a Redirect doesn't come from the first hop any more (RFC 4861, sections
+/// 6.3.5 and 8.1).
+#[test]
+fn cleared_routers_end_the_redirects(rt: HostRuntime) -> Result<(), Fail> {
+    let script = format!(in rt.alloc();
+        "1200 rx {ADVERTISED}\n2200 at\n2300 rx 3456789abcde02000000000186dd6000000000303afffe80000000000000000000fffe000001fe80000000000000365678fffe9abcde8900df7d00000000fe80000000000000000000000000000220010db80001000000000000000000050201020000000002\n2300 show redirects\n2300 show neighbours\n2400 clear routers\n2400 rx 3456789abcde02000000000186dd6000000000303afffe80000000000000000000fffe000001fe80000000000000365678fffe9abcde8900df7d00000000fe80000000000000000000000000000220010db80001000000000000000000050201020000000002\n2400 show redirects\n"
+    )?;
+    let wanted = format!(in rt.alloc();
+        "{STARTED}{FORMED}2300 heard redirect\n2300 redirect 2001:db8:1::5 fe80::2\n2300 end 1\n2300 neighbour fe80::2 02:00:00:00:00:02 stale router\n2300 neighbour fe80::ff:fe00:1 02:00:00:00:00:01 stale router\n2300 end 2\n2400 ended router fe80::ff:fe00:1\n2400 drop 20 NotFirstHop\n2400 end 0\n"
     )?;
     told(&rt, rt.alloc(), script.as_bytes(), Ok(()), &wanted)
 }
