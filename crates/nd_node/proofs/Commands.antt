@@ -1,4 +1,4 @@
--- What a command makes of one neighbour, and the chronicle that a node stands for.
+-- What a command makes of one neighbour, or a command of a router at a host, and the chronicle that a node stands for.
 use Rattle.std.proofs.Common.{◌≡◌, ℕ, ◌<◌, ◌≤◌, List, [], ◌∷◌, ◌++◌, append-nil, refl, sym, ◌∙◌, ap, subst, arith}
 use Rattle.std.specs.List.{flat_map}
 use Rattle.rand_core.specs.Stream.{Stream}
@@ -11,7 +11,7 @@ use Rattle.nd_neighbour.specs.Table as neighbours
 use Rattle.nd_routers.specs.History.{RouterRow}
 use Rattle.nd_nexthop.specs.History.{RedirectRow}
 use Rattle.nd_chronicle.specs.Start.{Start}
-use Rattle.nd_chronicle.specs.Happening.{Chronicle, Neighbour, Passed, Forgotten, last_moment}
+use Rattle.nd_chronicle.specs.Happening.{Chronicle, Neighbour, Passed, Forgotten, Refused, WrongRole, last_moment}
 use Rattle.nd_chronicle.specs.Histories.{neighbour_history, then_failed, then_target}
 use Rattle.nd_chronicle.specs.InForce.{reachable_time}
 use Rattle.nd_chronicle.specs.Packet.{losing}
@@ -20,6 +20,7 @@ use Rattle.nd_chronicle.specs.Told.{lines_of, text}
 use Rattle.nd_out.specs.declared.out.Out.{Out}
 use Rattle.nd_node.specs.declared.node.Node.{Node}
 use Rattle.nd_node.specs.Event.{AddsEvent}
+use Rattle.nd_node.specs.Frame.{AddsAlone}
 use Rattle.nd_node.specs.Node.{Stands, next_of}
 use Rattle.nd_node.specs.Told.{happenings}
 use Rattle.nd_node.proofs.Beside.{Same, beside_neighbour, stands_neighbours}
@@ -90,3 +91,9 @@ module _ {R A : Type 0} (stream : R → Stream) (old new : Node R A) (now : ℕ)
           },
         );
   }
+
+-- ---- a command of a router
+
+pub wrong_role : {R A : Type 0} (stream : R → Stream) (old new : Node R A) (x y : List (ℕ × Out A)) (now : ℕ) → AddsAlone stream old new x y now (Refused WrongRole)
+    → AddsEvent stream old new x y now events.IsOfRouters
+wrong_role stream old new x y now adds = record { each = λ start c s le. let a = adds.each start c s le in ((now, Refused WrongRole) ∷ (now, Passed) ∷ c, refl, a.0, a.1) }

@@ -11,7 +11,7 @@ use crate::clearing::Clearable;
 use crate::node::Node;
 use crate::outgoing_packet::OutgoingPacket;
 use nd_addr::Addr;
-use nd_out::Out;
+use nd_out::{Out, Refusal};
 use rand_core::Rng;
 use std::alloc::{AllocError, Allocator};
 
@@ -55,6 +55,8 @@ pub enum Event<A: Allocator> {
     Clears(Clearable),
     /// A table is shown.
     Shows(Table),
+    /// A router is to cease advertising (RFC 4861, section 6.2.5). A host refuses it.
+    Stops,
 }
 
 impl<R: Rng + Drop, A: Allocator + Clone> Node<R, A> {
@@ -138,6 +140,7 @@ impl<R: Rng + Drop, A: Allocator + Clone> Node<R, A> {
                 self.last = now;
                 Ok(())
             }
+            Event::Stops => self.refuse(now, Refusal::WrongRole, outs),
         }
     }
 }

@@ -25,6 +25,7 @@ mod place;
 mod prefix_options;
 mod reachability_confirmation;
 mod redirect;
+mod refusal;
 mod removal;
 mod room;
 mod router_advertisement;

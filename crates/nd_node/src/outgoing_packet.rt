@@ -6,7 +6,7 @@ ghost use Rattle.nd_addr.specs.Ip6.{ipv6_header_length};
 ghost use Rattle.nd_addr.specs.Number.{number_of};
 ghost use Rattle.nd_chronicle.specs.Event as events;
 ghost use Rattle.nd_chronicle.specs.Event.{refusal_of_packet};
-ghost use Rattle.nd_chronicle.specs.Happening.{Chronicle, Lost, Refused, Routeless, Sent};
+ghost use Rattle.nd_chronicle.specs.Happening.{Chronicle, Lost, Routeless, Sent};
 ghost use Rattle.nd_chronicle.specs.Start.{Start};
 ghost use Rattle.nd_neighbour.specs.Table.{node_in};
 ghost use Rattle.nd_nexthop.specs.NextHop.{hop_of, direct};
@@ -119,24 +119,6 @@ impl<R: Rng + Drop, A: Allocator + Clone> Node<R, A> {
             return Some(Refusal::TooLong);
         }
         None
-    }
-
-    /// A packet is refused at a moment, in milliseconds, for a reason, which is told. The error is want of memory, and then nothing has
-    /// changed.
-    fn refuse(
-        &mut self,
-        now: u64,
-        refusal: Refusal,
-        outs: &mut Vec<(u64, Out<A>), A>,
-    ) -> Result<(), AllocError>
-        requires settled { now < next_of self.old }
-        ensures adds { OnOk result (AddsAlone R.stream self.old self.new outs.old.items outs.new.items now (Refused (refusal_of refusal))) }
-        ensures keeps { OnErr result (self.new ≡ self.old) }
-        ensures told { OnErr result (outs.new.items ≡ outs.old.items) }
-    {
-        outs.push((now, Out::Refused(refusal)))?;
-        self.last = now;
-        Ok(())
     }
 
     /// A packet without a next hop is lost (RFC 4861, section 5.2). The error is want of memory, and then nothing has changed.

@@ -1,10 +1,10 @@
 -- A command is told by its words.
 use Rattle.std.proofs.Common.{◌≡◌, ◌∙◌, ◌<◌, ℕ, zero, suc, List, [], ◌∷◌, Some, get_or, length, eqb, if◌then◌else◌, sym, refl, ap, subst, inl, inr, arith}
 use Rattle.std.specs.Prelude.{codes, slice_get}
-use Rattle.nd_chronicle.specs.Event.{Event, Passes, Receives, Confirms, Forgets, Clears, Shows}
+use Rattle.nd_chronicle.specs.Event.{Event, Receives, Confirms, Forgets, Clears, Shows}
 use Rattle.nd_script.specs.declared.command.Command.{Command}
 use Rattle.nd_script.specs.declared.command.Command.TheVariants.{Rx, Send, Confirm, Forget, Clear, Show}
-use Rattle.nd_script.specs.Command.{command_word, AreArguments, IsCommand}
+use Rattle.nd_script.specs.Command.{command_word, AreArguments, IsCommand, IsWholeCommand}
 use Rattle.nd_script.specs.Words.{HasNoSpace, IsParted}
 use Rattle.nd_script.proofs.AddressWords.{one_address}
 use Rattle.nd_script.proofs.BytesWords.{one_bytes}
@@ -17,8 +17,23 @@ at_no_space zero lt e = omega arith
 at_no_space (suc zero) lt e = omega arith
 at_no_space (suc (suc k)) lt e = omega arith
 
-at_bytes : (bytes : List ℕ) → bytes ≡ codes "at" → HasNoSpace bytes
-at_bytes bytes e = rw e at_no_space
+stop_no_space : HasNoSpace (codes "stop")
+stop_no_space zero lt e = omega arith
+stop_no_space (suc zero) lt e = omega arith
+stop_no_space (suc (suc zero)) lt e = omega arith
+stop_no_space (suc (suc (suc zero))) lt e = omega arith
+stop_no_space (suc (suc (suc (suc k)))) lt e = omega arith
+
+whole_no_space : (bytes : List ℕ) (event : Event) → IsWholeCommand bytes event → HasNoSpace bytes
+whole_no_space bytes event (inl (at, passes)) = rw at at_no_space
+whole_no_space bytes event (inr (stop, of_routers)) = rw stop stop_no_space
+
+-- a word is one of them at most
+pub one_whole_command : (word : List ℕ) (c d : Event) → IsWholeCommand word c → IsWholeCommand word d → c ≡ d
+one_whole_command word c d (inl (at, passes)) (inl (at', passes')) = passes ∙ sym passes'
+one_whole_command word c d (inl (at, passes)) (inr (stop, of_routers)) = let no : codes "at" ≡ codes "stop" = sym at ∙ stop in cc
+one_whole_command word c d (inr (stop, of_routers)) (inl (at, passes)) = let no : codes "at" ≡ codes "stop" = sym at ∙ stop in cc
+one_whole_command word c d (inr (stop, of_routers)) (inr (stop', of_routers')) = of_routers ∙ sym of_routers'
 
 -- ---- a command is told by its word
 
@@ -81,30 +96,27 @@ of_command c d words event e are = subst (λ (command : Command). AreArguments c
 
 -- with a space, they begin with its word, and what it acts on follows
 pub arguments_of : (bytes word rest : List ℕ) (command : Command) (event : Event) → IsParted bytes word rest → word ≡ command_word command → IsCommand bytes event → AreArguments command rest event
-arguments_of bytes word rest command event p is (inl (at, passes)) = absurd (no_parting bytes word rest (at_bytes bytes at) p)
+arguments_of bytes word rest command event p is (inl whole) = absurd (no_parting bytes word rest (whole_no_space bytes event whole) p)
 arguments_of bytes word rest command event p is (inr (other, parts)) =
     let theirs = parts_at bytes word rest _ _ p parts in
     subst (λ (c : Command). AreArguments c rest event) (one_command_word other command (sym theirs.0 ∙ is)) theirs.1
 
 -- a word that begins none
 pub no_command : (bytes word rest : List ℕ) (event : Event) → IsParted bytes word rest → ((command : Command) → word ≡ command_word command → ⊥) → IsCommand bytes event → ⊥
-no_command bytes word rest event p none (inl (at, passes)) = no_parting bytes word rest (at_bytes bytes at) p
+no_command bytes word rest event p none (inl whole) = no_parting bytes word rest (whole_no_space bytes event whole) p
 no_command bytes word rest event p none (inr (command, parts)) = none command (parts_at bytes word rest _ _ p parts).0
 
--- and without a space they are `at`
-pub whole_command : (bytes : List ℕ) (event : Event) → HasNoSpace bytes → IsCommand bytes event → (event ≡ Passes) × (bytes ≡ codes "at")
-whole_command bytes event none (inl (at, passes)) = (passes, at)
+-- and without a space they act on nothing
+pub whole_command : (bytes : List ℕ) (event : Event) → HasNoSpace bytes → IsCommand bytes event → IsWholeCommand bytes event
+whole_command bytes event none (inl whole) = whole
 whole_command bytes event none (inr (command, parts)) = absurd (no_parts bytes _ _ none parts)
 
 -- bytes spell one command at most
 pub one_command : (bytes : List ℕ) (c d : Event) → IsCommand bytes c → IsCommand bytes d → c ≡ d
-one_command bytes c d (inl (at, passes)) q = passes ∙ sym (whole_command bytes d (at_bytes bytes at) q).0
+one_command bytes c d (inl whole) q = one_whole_command bytes c d whole (whole_command bytes d (whole_no_space bytes c whole) q)
 one_command bytes c d (inr (command, parts)) q = one_event command parts.rest c d parts.behind (arguments_of bytes parts.word parts.rest command d parts.parted parts.first q)
 
 -- ---- what the parts of a command make
-
-pub at_command : (bytes : List ℕ) → bytes ≡ codes "at" → IsCommand bytes Passes
-at_command bytes e = inl (e, refl)
 
 pub command_of : (bytes word rest : List ℕ) (command : Command) (event : Event) → IsParted bytes word rest → word ≡ command_word command → AreArguments command rest event → IsCommand bytes event
 command_of bytes word rest command event p is are = inr (command, record { word = word; rest = rest; parted = p; first = is; behind = are })

@@ -39,3 +39,11 @@ pub if_read : {T E : Type 0} (read : Result (Option T) E) (P Q : T → Type 0) �
 if_read (Ok (Some t)) P Q more h = more t h
 if_read (Ok None) P Q more h = tt
 if_read (Err e) P Q more h = tt
+
+pub some_more : {T : Type 0} (o : Option T) (P Q : T → Type 0) → ((t : T) → P t → Q t) → IfSome o P → IfSome o Q
+some_more (Some t) P Q more h = more t h
+some_more None P Q more h = tt
+
+pub nothing_read : {T : Type 0} (o : Option T) (P : T → Type 0) → IfSome o P → ((t : T) → P t → ⊥) → o ≡ None
+nothing_read (Some t) P h none = absurd (none t h)
+nothing_read None P h none = refl

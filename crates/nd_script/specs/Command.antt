@@ -1,7 +1,7 @@
 -- The commands of a script: which bytes spell which event (the texts are this project's own).
 use Rattle.std.specs.Prelude.{◌≡◌, ◌⊎◌, ℕ, List, codes}
 use Rattle.nd_addr.specs.declared.addr.Addr.{Addr}
-use Rattle.nd_chronicle.specs.Event.{Clearable, Event, Passes, Receives, Sends, Confirms, Forgets, Clears, Shows}
+use Rattle.nd_chronicle.specs.Event.{Clearable, Event, Passes, Receives, Sends, Confirms, Forgets, Clears, Shows, IsOfRouters}
 use Rattle.nd_chronicle.specs.Shown as shown
 use Rattle.nd_script.specs.declared.command.Command.{Command}
 use Rattle.nd_script.specs.declared.command.Command.TheVariants.{Rx, Send, Confirm, Forget, Clear, Show}
@@ -30,7 +30,11 @@ AreArguments Forget words event = (neighbour : Addr) × (event ≡ Forgets neigh
 AreArguments Clear words event = (table : Clearable) × (event ≡ Clears table) × (words ≡ clearable_word table)
 AreArguments Show words event = (table : shown.Table) × (event ≡ Shows table) × (words ≡ table_word table)
 
--- the bytes spell the event: they are `at`, by which time passes, or the word of a command, and what it acts on
+-- the word is a command that acts on nothing: `at`, by which time passes, or `stop`, which a host refuses
+abbrev pub IsWholeCommand : List ℕ → Event → Type 0
+IsWholeCommand word event = ((word ≡ codes "at") × (event ≡ Passes)) ⊎ ((word ≡ codes "stop") × (event ≡ IsOfRouters))
+
+-- the bytes spell the event: they are such a word, or the word of a command and what it acts on
 abbrev pub IsCommand : List ℕ → Event → Type 0
 IsCommand bytes event =
-    ((bytes ≡ codes "at") × (event ≡ Passes)) ⊎ ((command : Command) × Parts bytes (λ word. word ≡ command_word command) (λ words. AreArguments command words event))
+    IsWholeCommand bytes event ⊎ ((command : Command) × Parts bytes (λ word. word ≡ command_word command) (λ words. AreArguments command words event))

@@ -4,7 +4,7 @@ ghost use Rattle.std.specs.Prelude.{◌≡◌, Some, None, Ok, IfSome, IfOk};
 ghost use Rattle.std.specs.Option.{option_map};
 ghost use Rattle.nd_chronicle.specs.Event as events;
 ghost use Rattle.nd_node.specs.Event.{event_of};
-ghost use Rattle.nd_script.specs.Command.{command_word, AreArguments, IsCommand};
+ghost use Rattle.nd_script.specs.Command.{command_word, AreArguments, IsCommand, IsWholeCommand};
 
 use crate::address::read_address;
 use crate::bytes::read_bytes;
@@ -14,7 +14,7 @@ use crate::words::split_word;
 use nd_node::Event;
 use std::alloc::{AllocError, Allocator};
 
-/// The commands that act on something, each by its word: all but `at`.
+/// The commands that act on something, each by its word: all but `at` and `stop`.
 #[derive(Clone, Copy, Debug, PartialEq, Eq)]
 pub enum Command {
     /// A frame is heard.
@@ -105,6 +105,20 @@ fn read_arguments<A: Allocator + Clone>(
     }
 }
 
+/// The event of a command that acts on nothing, by its word.
+fn read_whole_command<A: Allocator>(word: &[u8]) -> Option<Event<A>>
+    ensures found { IfSome result (λ event. IsWholeCommand word.now (event_of event)) }
+    ensures only { (event : events.Event) → IsWholeCommand word.now event → option_map event_of result ≡ Some event }
+{
+    if word == b"at".as_slice() {
+        return Some(Event::Passes);
+    }
+    if word == b"stop".as_slice() {
+        return Some(Event::Stops);
+    }
+    None
+}
+
 /// The event that the bytes of a command spell. No other bytes spell any, and such bytes take no memory. The error is want of memory.
 pub fn read_command<A: Allocator + Clone>(
     alloc: &A,
@@ -115,7 +129,7 @@ pub fn read_command<A: Allocator + Clone>(
     ensures malformed { ((event : events.Event) → IsCommand bytes.now event → ⊥) → result ≡ Ok None }
 {
     let Some((word, rest)) = split_word(bytes) else {
-        return Ok((bytes == b"at".as_slice()).then_some(Event::Passes));
+        return Ok(read_whole_command(bytes));
     };
     let Some(command) = read_command_word(word) else {
         return Ok(None);

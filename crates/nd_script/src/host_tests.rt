@@ -129,6 +129,21 @@ fn cleared_routers_end_the_redirects(rt: HostRuntime) -> Result<(), Fail> {
     told(&rt, rt.alloc(), script.as_bytes(), Ok(()), &wanted)
 }
 
+/// A packet without a next hop, one from an address that isn't ours, a frame that isn't for a host, and a command of a router.
+#[test]
+fn a_host_refuses_what_it_must(rt: HostRuntime) -> Result<(), Fail> {
+    let wanted = format!(in rt.alloc();
+        "{STARTED}5000 tx 3333000000023456789abcde86dd6000000000103afffe80000000000000365678fffe9abcdeff0200000000000000000000000000028500a78f0000000001013456789abcde\n9000 tx 3333000000023456789abcde86dd6000000000103afffe80000000000000365678fffe9abcdeff0200000000000000000000000000028500a78f0000000001013456789abcde\n10000 lost no-route fe80::3656:78ff:fe9a:bcde 2001:db8:2::1\n10000 refused not-ours ::\n10000 drop 19 NotForUs\n10000 refused wrong-role\n"
+    )?;
+    told(
+        &rt,
+        rt.alloc(),
+        b"10000 at\n10000 send fe80::3656:78ff:fe9a:bcde 2001:db8:2::1 17 -\n10000 send :: fe80::ff:fe00:1 17 -\n10000 rx 3333000000023456789abcde86dd6000000000103afffe80000000000000365678fffe9abcdeff0200000000000000000000000000028500a78f0000000001013456789abcde\n10000 stop\n",
+        Ok(()),
+        &wanted,
+    )
+}
+
 /// A packet is at most as long as the MTU of the link: 40 bytes of its header, and 1,460 of its payload (RFC 8200, section 5).
 #[test]
 fn a_packet_longer_than_the_mtu_is_refused(rt: HostRuntime) -> Result<(), Fail> {

@@ -20,6 +20,7 @@ enum Said {
     Forgets(Addr),
     Clears(Clearable),
     Shows(Table),
+    Stops,
 }
 
 /// The moment of a line and what it says, a frame by its bytes in lower case digits.
@@ -52,6 +53,7 @@ fn event_said(alloc: Global, event: Event<Global>) -> Result<Said, AllocError> {
         Event::Forgets(neighbour) => Ok(Said::Forgets(neighbour)),
         Event::Clears(table) => Ok(Said::Clears(table)),
         Event::Shows(table) => Ok(Said::Shows(table)),
+        Event::Stops => Ok(Said::Stops),
     }
 }
 
@@ -143,6 +145,15 @@ fn lines_of_a_neighbour_are_read(rt: HostRuntime) -> Result<(), Fail> {
     ] {
         assert_eq!(rt; reading(rt.alloc(), line.as_bytes())?, None);
     }
+    Ok(())
+}
+
+#[test]
+fn lines_of_ceasing_are_read(rt: HostRuntime) -> Result<(), Fail> {
+    assert_eq!(rt; reading(rt.alloc(), b"10 stop")?, Some((10, Said::Stops)));
+    assert_eq!(rt; reading(rt.alloc(), b"10 stop ")?, None);
+    assert_eq!(rt; reading(rt.alloc(), b"10 stop now")?, None);
+    assert_eq!(rt; reading(rt.alloc(), b"stop")?, None);
     Ok(())
 }
 

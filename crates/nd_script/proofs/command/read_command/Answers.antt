@@ -1,21 +1,17 @@
-use Rattle.std.proofs.Common.{rules, ◌≡◌, ◌∙◌, true, false, refl}
-use Rattle.std.specs.Prelude.{codes}
-use Rattle.nd_chronicle.specs.Event as events
+use Rattle.std.proofs.Common.{Ok, ap, inl}
 use Rattle.nd_node.specs.Event.{event_of}
-use Rattle.nd_script.proofs.CommandWords.{arguments_of, no_command, whole_command, at_command, command_of}
-use Rattle.nd_script.proofs.Readings.{not_true, if_read}
+use Rattle.nd_script.proofs.CommandWords.{arguments_of, no_command, whole_command, command_of}
+use Rattle.nd_script.proofs.Readings.{if_read, nothing_read, some_more}
 use Rattle.nd_script.proofs.command.read_command.Goals as goal
 
 pub returns-in_default-clause-only : goal.returns-in_default-clause-only
-returns-in_default-clause-only g c = λ event e.
-    let whole = whole_command c.args.bytes.now event c.in_default.ensures e in
-    let test : c.eq.result ≡ true = c.eq.ensures ∙ rw (whole.1, c.as_slice.ensures) refl in
-    rw (c.then_some.ensures, test, whole.0) refl
+returns-in_default-clause-only g c = λ event e. c.read_whole_command.ensures.only event (whole_command c.args.bytes.now event c.in_default.ensures e)
 
 pub returns-in_default-clause-malformed : goal.returns-in_default-clause-malformed
-returns-in_default-clause-malformed g c = λ none.
-    let test : c.eq.result ≡ false = not_true c.eq.result (λ t. (let same : c.args.bytes.now ≡ codes "at" = search rules in none events.Passes (at_command c.args.bytes.now same))) in
-    rw (c.then_some.ensures, test) refl
+returns-in_default-clause-malformed g c = λ none. ap (λ read. Ok read) (nothing_read c.read_whole_command.result _ c.read_whole_command.ensures.found (λ event whole. none (event_of event) (inl whole)))
+
+pub returns-in_default-clause-found : goal.returns-in_default-clause-found
+returns-in_default-clause-found g c = some_more c.read_whole_command.result _ _ (λ event whole. inl whole) c.read_whole_command.ensures.found
 
 pub returns-in_default-read_command_word-clause-only : goal.returns-in_default-read_command_word-clause-only
 returns-in_default-read_command_word-clause-only g c = λ event e.

@@ -1,0 +1,31 @@
+ghost use Rattle.std.specs.Prelude.{◌≡◌, ◌<◌, OnErr, OnOk};
+ghost use Rattle.nd_chronicle.specs.Happening.{Refused};
+ghost use Rattle.nd_node.specs.Frame.{AddsAlone};
+ghost use Rattle.nd_out.specs.Out.{refusal_of};
+
+use crate::node::Node;
+use nd_out::{Out, Refusal};
+use rand_core::Rng;
+use std::alloc::{AllocError, Allocator};
+
+impl<R: Rng + Drop, A: Allocator + Clone> Node<R, A> {
+    ghost use Rattle.nd_node.specs.Node.{next_of};
+
+    /// What was asked is refused at a moment, in milliseconds, for a reason, which is told alone. The error is want of memory, and then nothing has
+    /// changed.
+    pub(crate) fn refuse(
+        &mut self,
+        now: u64,
+        refusal: Refusal,
+        outs: &mut Vec<(u64, Out<A>), A>,
+    ) -> Result<(), AllocError>
+        requires settled { now < next_of self.old }
+        ensures adds { OnOk result (AddsAlone R.stream self.old self.new outs.old.items outs.new.items now (Refused (refusal_of refusal))) }
+        ensures keeps { OnErr result (self.new ≡ self.old) }
+        ensures told { OnErr result (outs.new.items ≡ outs.old.items) }
+    {
+        outs.push((now, Out::Refused(refusal)))?;
+        self.last = now;
+        Ok(())
+    }
+}
