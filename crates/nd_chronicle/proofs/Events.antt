@@ -110,7 +110,7 @@ module _ (start : Start) (c : Chronicle) (now : ℕ) where
       unless_refused (option_map Full k.0) (MessageAdds start now source destination message message.body c) d e (one_message source destination message message.body d e)
       (subst (λ (full : Option Limit). UnlessRefused start now (option_map Full full) (MessageAdds start now source destination message message.body c) c d) same h.2) k.2
 
-  one_frame : (frame : List ℕ) (d e : Chronicle) → FrameAdds start now frame c d → FrameAdds start now frame c e → d ≡ e
+  pub one_frame : (frame : List ℕ) (d e : Chronicle) → FrameAdds start now frame c d → FrameAdds start now frame c e → d ≡ e
   one_frame frame d e h k =
       one_outcome frame k.outcome d e
       (subst (λ (o : Outcome). OutcomeAdds start now frame o c d) (one_heard c now start frame h.outcome k.outcome h.heard k.heard) h.adds) k.adds

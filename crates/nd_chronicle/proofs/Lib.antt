@@ -5,3 +5,4 @@ pub mod Events
 pub mod Growth
 pub mod Tried
 pub mod Idle
+pub mod Rivals

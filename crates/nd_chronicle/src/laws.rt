@@ -1,13 +1,21 @@
 //! Laws of the definitions, each the contract of a function that does nothing.
 
-ghost use Rattle.std.specs.Prelude.{◌≡◌, ◌<◌, ◌≤◌, ◌+◌, ◌++◌, ℕ, List, None, true};
+ghost use Rattle.std.specs.Prelude.{◌≡◌, ◌<◌, ◌≤◌, ◌+◌, ◌++◌, ◌∷◌, ℕ, List, None, false, true};
+ghost use Rattle.nd_addr.specs.Bytes.{AreBytes};
+ghost use Rattle.nd_addr.specs.declared.addr.Addr.{Addr};
+ghost use Rattle.nd_decode.specs.declared.body.Body.TheVariants as bodies;
+ghost use Rattle.nd_frames.specs.Frames.{unspecified, all_nodes, solicited_node};
+ghost use Rattle.nd_frames.specs.Meaning.{IsUnicast, IsDetection, IsDefence};
 ghost use Rattle.nd_slaac.specs.MayCome.{Held};
 ghost use Rattle.nd_slaac.specs.State.{is_assigned};
 ghost use Rattle.nd_chronicle.specs.Start.{Start};
-ghost use Rattle.nd_chronicle.specs.Happening.{Chronicle};
+ghost use Rattle.nd_chronicle.specs.Happening.{Chronicle, Heard};
 ghost use Rattle.nd_chronicle.specs.Histories.{address_history};
-ghost use Rattle.nd_chronicle.specs.OwnAddress.{story_of};
-ghost use Rattle.nd_chronicle.specs.Event.{Event};
+ghost use Rattle.nd_chronicle.specs.OwnAddress.{is_own, story_of};
+ghost use Rattle.nd_chronicle.specs.Event.{Event, FrameAdds};
+ghost use Rattle.nd_chronicle.specs.Hearing.{is_awake};
+ghost use Rattle.nd_chronicle.specs.NeighborAdvertisement.{then_neighbor_advertised};
+ghost use Rattle.nd_chronicle.specs.NeighborSolicitation.{then_tried};
 ghost use Rattle.nd_chronicle.specs.Due.{Due};
 ghost use Rattle.nd_chronicle.specs.Growth.{Grows};
 ghost use Rattle.nd_chronicle.specs.History.{IsChronicle, Runs, Walk};
@@ -28,6 +36,18 @@ pub fn only_grows()
 /// place up to its assignment, and was assigned one RetransTimer after the last solicitation for it, that in force when it was formed.
 pub fn none_untried()
     ensures { (start : Start) (events : List (ℕ × Event)) (c : Chronicle) (key : ℕ) → IsChronicle start events c → is_assigned (story_of c key) ≡ true → Held key (address_history c) }
+{}
+
+/// Where another node tries an own address, a duplicate is told or all nodes are told that it is held here; where another node tells all nodes
+/// that it holds an address, that is a duplicate if it is tentative here (RFC 4861, section 7.2.4; RFC 4862, sections 5.4.3 and 5.4.4). Nothing
+/// refuses either, and nothing else comes first.
+pub fn rivals_are_heard()
+    ensures tried { (start : Start) (c d : Chronicle) (now : ℕ) (frame : List ℕ) (address : Addr) → AreBytes 16 address.0 → IsUnicast address → (t : IsDetection frame address)
+        → is_own c address.0 ≡ true → is_awake start c unspecified (bodies.Ns (record { target = address })) ≡ true
+        → FrameAdds start now frame c d → d ≡ then_tried start now address ((now, Heard unspecified (solicited_node address) t.message) ∷ c) }
+    ensures held { (start : Start) (c d : Chronicle) (now : ℕ) (frame : List ℕ) (address : Addr) → AreBytes 16 address.0 → IsUnicast address → (t : IsDefence frame address)
+        → is_awake start c address (bodies.Na (record { router = t.router; solicited = false; override_flag = t.overrides; target = address })) ≡ true
+        → FrameAdds start now frame c d → d ≡ then_neighbor_advertised now address all_nodes address t.message c }
 {}
 
 /// Milliseconds in which nothing is due add nothing: who knows the moment before which nothing is due may go there at once.

@@ -1,0 +1,82 @@
+-- What it brings to hear that another node tries an own address, or has it.
+use Rattle.std.proofs.Common.{◌≡◌, ℕ, Bool, true, false, List, ◌∷◌, None, refl, sym, ap, subst, inl, inr}
+use Rattle.std.specs.Prelude.{◌||◌, ◌&&◌}
+use Rattle.nd_addr.specs.declared.addr.Addr.{Addr}
+use Rattle.nd_addr.specs.Bytes.{AreBytes}
+use Rattle.nd_addr.specs.Kind.{solicited_node_of}
+use Rattle.nd_addr.specs.Number.{number_of}
+use Rattle.nd_addr.proofs.Numbered.{addr_back}
+use Rattle.nd_decode.specs.Message.{Parts}
+use Rattle.nd_decode.specs.declared.body.Body.{Body}
+use Rattle.nd_decode.specs.declared.body.Body.TheVariants as bodies
+use Rattle.nd_validity.specs.Hearing.{Hears, valid}
+use Rattle.nd_frames.specs.Frames.{unspecified, all_nodes, solicited_node}
+use Rattle.nd_frames.specs.Meaning.{IsUnicast, IsDetection, IsDefence}
+use Rattle.nd_frames.proofs.Meant.{detection_heard, defence_heard}
+use Rattle.nd_chronicle.specs.Start.{Start}
+use Rattle.nd_chronicle.specs.Happening.{Chronicle, Heard}
+use Rattle.nd_chronicle.specs.Hearing.{is_awake, IsTaken}
+use Rattle.nd_chronicle.specs.NeighborSolicitation.{then_tried}
+use Rattle.nd_chronicle.specs.NeighborAdvertisement.{then_neighbor_advertised}
+use Rattle.nd_chronicle.specs.OwnAddress.{is_own}
+use Rattle.nd_chronicle.specs.Event.{FrameAdds}
+use Rattle.nd_chronicle.proofs.Events.{one_frame}
+
+own_is_taken : (t a : Bool) → (t || a) ≡ true → (a || (t && true)) ≡ true
+own_is_taken true true e = refl
+own_is_taken true false e = refl
+own_is_taken false true e = refl
+own_is_taken false false e = e
+
+module _ (start : Start) (c : Chronicle) (now : ℕ) (frame : List ℕ) (address : Addr) (bytes : AreBytes 16 address.0) where
+  -- a solicitation from :: for an own address
+  tried_by : (message : Parts) → message.body ≡ bodies.Ns (record { target = address }) → is_own c address.0 ≡ true → is_awake start c unspecified (bodies.Ns (record { target = address })) ≡ true
+      → Hears frame start.role (valid unspecified (solicited_node address) message)
+      → FrameAdds start now frame c (then_tried start now address ((now, Heard unspecified (solicited_node address) message) ∷ c))
+  tried_by message e own awake hears =
+      subst (λ (m : Parts). Hears frame start.role (valid unspecified (solicited_node address) m) → FrameAdds start now frame c (then_tried start now address ((now, Heard unspecified (solicited_node address) m) ∷ c)))
+      (sym (ap (λ (b : Body). let m : Parts = record { body = b; options = message.options } in m) e))
+      (λ h. record {
+        outcome = valid unspecified (solicited_node address) (record { body = bodies.Ns (record { target = address }); options = message.options });
+        heard = record {
+          outcome = valid unspecified (solicited_node address) (record { body = bodies.Ns (record { target = address }); options = message.options });
+          by_frame = h;
+          by_node = IsTaken (record {
+            destination_is = inr (inr (record {
+              key = number_of address.0;
+              counted = subst (λ (a : Addr). is_own c a.0 ≡ true) (sym (addr_back address bytes)) own;
+              to = inr (ap (λ (a : Addr). solicited_node_of a.0) (sym (addr_back address bytes)));
+            }));
+            target = own_is_taken _ _ own;
+            awake = awake;
+          }) tt;
+        };
+        adds = (None, record { neighbours = true; placed = refl; first = refl }, refl);
+      }) hears
+
+  pub tried : (d : Chronicle) → IsUnicast address → (t : IsDetection frame address) → is_own c address.0 ≡ true → is_awake start c unspecified (bodies.Ns (record { target = address })) ≡ true
+      → FrameAdds start now frame c d → d ≡ then_tried start now address ((now, Heard unspecified (solicited_node address) t.message) ∷ c)
+  tried d unicast t own awake adds = one_frame start c now frame d _ adds (tried_by t.message t.body_is own awake (detection_heard frame address start.role unicast t))
+
+  -- an advertisement of an address to all nodes
+  held_by : (message : Parts) (router overrides : Bool) → message.body ≡ bodies.Na (record { router = router; solicited = false; override_flag = overrides; target = address })
+      → is_awake start c address (bodies.Na (record { router = router; solicited = false; override_flag = overrides; target = address })) ≡ true
+      → Hears frame start.role (valid address all_nodes message)
+      → FrameAdds start now frame c (then_neighbor_advertised now address all_nodes address message c)
+  held_by message router overrides e awake hears =
+      subst (λ (m : Parts). Hears frame start.role (valid address all_nodes m) → FrameAdds start now frame c (then_neighbor_advertised now address all_nodes address m c))
+      (sym (ap (λ (b : Body). let m : Parts = record { body = b; options = message.options } in m) e))
+      (λ h. record {
+        outcome = valid address all_nodes (record { body = bodies.Na (record { router = router; solicited = false; override_flag = overrides; target = address }); options = message.options });
+        heard = record {
+          outcome = valid address all_nodes (record { body = bodies.Na (record { router = router; solicited = false; override_flag = overrides; target = address }); options = message.options });
+          by_frame = h;
+          by_node = IsTaken (record { destination_is = inl refl; target = refl; awake = awake }) tt;
+        };
+        adds = (None, record { neighbours = true; placed = λ enters full. (let no : ⊥ = cc in no); first = refl }, (c, record { pushed = None; place = refl; with_it = refl }, refl));
+      }) hears
+
+  pub told : (d : Chronicle) → IsUnicast address → (t : IsDefence frame address)
+      → is_awake start c address (bodies.Na (record { router = t.router; solicited = false; override_flag = t.overrides; target = address })) ≡ true
+      → FrameAdds start now frame c d → d ≡ then_neighbor_advertised now address all_nodes address t.message c
+  told d unicast t awake adds = one_frame start c now frame d _ adds (held_by t.message t.router t.overrides t.body_is awake (defence_heard frame address start.role unicast t))
