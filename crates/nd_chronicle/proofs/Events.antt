@@ -163,7 +163,10 @@ module _ (start : Start) (c : Chronicle) (now : ℕ) where
   one_event (events.Forgets neighbour) d e h k = h ∙ sym k
   one_event (events.Clears table) d e h k = one_clear table d e h k
   one_event (events.Shows table) d e h k = h.2 ∙ ap (λ rows. (now, Shown rows) ∷ c) (one_rows table h.0 k.0 h.1 k.1) ∙ sym k.2
-  one_event events.IsOfRouters d e h k = h ∙ sym k
+  one_event (events.Advertises settings) d e h k = h ∙ sym k
+  one_event (events.Offers info) d e h k = h ∙ sym k
+  one_event (events.Routes prefix route) d e h k = h ∙ sym k
+  one_event events.Stops d e h k = h ∙ sym k
 
 module _ (start : Start) where
   one_walked : (c : Chronicle) (now : ℕ) (event : Event) (d e : Chronicle)

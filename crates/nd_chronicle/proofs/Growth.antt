@@ -261,7 +261,10 @@ module _ (start : Start) (now : ℕ) (c : Chronicle) where
       (grows_by (Neighbour (number_of neighbour.0) (neighbours.Forgot neighbours.Removed)) (stays now c))) h
   event_grows (events.Clears table) d h = clear_grows table d h
   event_grows (events.Shows table) d h = grows_to (grows_by _ (stays now c)) h.2
-  event_grows events.IsOfRouters d h = grows_to (grows_by _ (stays now c)) h
+  event_grows (events.Advertises settings) d h = grows_to (grows_by _ (stays now c)) h
+  event_grows (events.Offers info) d h = grows_to (grows_by _ (stays now c)) h
+  event_grows (events.Routes prefix route) d h = grows_to (grows_by _ (stays now c)) h
+  event_grows events.Stops d h = grows_to (grows_by _ (stays now c)) h
 
 module _ (start : Start) where
   walk_grows : {c d : Chronicle} {m n : ℕ} → Walk start c m n d → Grows c d

@@ -313,7 +313,10 @@ module _ (start : Start) where
           fine_same (ap address_history h ∙ losing_same now Forgotten (waits_of (story (number_of neighbour.0) (neighbour_history c))) ((now, Neighbour (number_of neighbour.0) (neighbours.Forgot neighbours.Removed)) ∷ c)) f
       fine_event (events.Clears table) d h = fine_clear table d h
       fine_event (events.Shows table) d h = fine_same (ap address_history h.2) f
-      fine_event events.IsOfRouters d h = fine_same (ap address_history h) f
+      fine_event (events.Advertises settings) d h = fine_same (ap address_history h) f
+      fine_event (events.Offers info) d h = fine_same (ap address_history h) f
+      fine_event (events.Routes prefix route) d h = fine_same (ap address_history h) f
+      fine_event events.Stops d h = fine_same (ap address_history h) f
 
   -- ---- the newest moment
 

@@ -8,9 +8,12 @@ use Rattle.nd_addr.specs.Ip6.{ipv6_header_length, payload_length_of}
 use Rattle.nd_addr.specs.Kind.{multicast_prefix}
 use Rattle.nd_addr.specs.Number.{number_of, holds}
 use Rattle.nd_addr.specs.Places.{packet_in}
+use Rattle.nd_addr.specs.Prefix.{PrefixValue}
+use Rattle.nd_advertiser.specs.Config.{Settings}
 use Rattle.nd_decode.specs.Message.{Parts}
 use Rattle.nd_decode.specs.declared.body.Body.{Body}
 use Rattle.nd_decode.specs.declared.body.Body.TheVariants as bodies
+use Rattle.nd_decode.specs.declared.prefix_info.PrefixInfo.{PrefixInfo}
 use Rattle.nd_lifetime.specs.declared.lasting.Lasting.{Lasting}
 use Rattle.nd_lifetime.specs.Listing.{Lists}
 use Rattle.nd_validity.specs.Hearing.{Outcome, valid, other, dropped}
@@ -22,6 +25,7 @@ use Rattle.nd_neighbour.specs.Table as cache
 use Rattle.nd_nexthop.specs.NextHop.{NextHop, direct, via, no_route}
 use Rattle.nd_routers.specs.History.{announcements}
 use Rattle.nd_routers.specs.Routers.{same}
+use Rattle.nd_routes.specs.declared.route.Route.{Route}
 use Rattle.nd_chronicle.specs.Start.{Start}
 use Rattle.nd_chronicle.specs.Happening.{Chronicle, Heard, Dropped, Up, Neighbour, LeftRouter, ClearedPrefixes, ClearedRedirects, ClearedDns, Sent, Lost, Refused, Shown, Limit, Refusal, WrongRole, Disabled, NotOurs, TooLong, Full, Routeless, Forgotten}
 use Rattle.nd_chronicle.specs.Histories.{neighbour_history, router_history}
@@ -59,8 +63,13 @@ pub data Event : Type 0 where
   Forgets : (neighbour : Addr) → Event
   Clears : (table : Clearable) → Event
   Shows : (table : Table) → Event
-  -- a command that a host doesn't have
-  IsOfRouters : Event
+  -- a router is to advertise with these settings, and this prefix too (RFC 4861, section 6.2.1)
+  Advertises : (settings : Settings) → Event
+  Offers : (info : PrefixInfo) → Event
+  -- a router is to have a static route
+  Routes : (prefix : PrefixValue) (route : Route) → Event
+  -- a router is to cease advertising (section 6.2.5)
+  Stops : Event
 
 module _ (start : Start) (now : ℕ) where
   -- ---- a frame comes
@@ -169,4 +178,7 @@ module _ (start : Start) (now : ℕ) where
   EventAdds (Forgets neighbour) c d = d ≡ forgetting (number_of neighbour.0) c
   EventAdds (Clears table) c d = ClearAdds table c d
   EventAdds (Shows table) c d = (rows : List (List ℕ)) × AreRows start c now table rows × (d ≡ (now, Shown rows) ∷ c)
-  EventAdds IsOfRouters c d = d ≡ (now, Refused WrongRole) ∷ c
+  EventAdds (Advertises settings) c d = d ≡ (now, Refused WrongRole) ∷ c
+  EventAdds (Offers info) c d = d ≡ (now, Refused WrongRole) ∷ c
+  EventAdds (Routes prefix route) c d = d ≡ (now, Refused WrongRole) ∷ c
+  EventAdds Stops c d = d ≡ (now, Refused WrongRole) ∷ c

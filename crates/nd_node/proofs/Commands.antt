@@ -16,6 +16,7 @@ use Rattle.nd_chronicle.specs.Histories.{neighbour_history, then_failed, then_ta
 use Rattle.nd_chronicle.specs.InForce.{reachable_time}
 use Rattle.nd_chronicle.specs.Packet.{losing}
 use Rattle.nd_chronicle.specs.Event as events
+use Rattle.nd_chronicle.specs.Event.{EventAdds}
 use Rattle.nd_chronicle.specs.Told.{lines_of, text}
 use Rattle.nd_out.specs.declared.out.Out.{Out}
 use Rattle.nd_node.specs.declared.node.Node.{Node}
@@ -94,6 +95,7 @@ module _ {R A : Type 0} (stream : R → Stream) (old new : Node R A) (now : ℕ)
 
 -- ---- a command of a router
 
-pub wrong_role : {R A : Type 0} (stream : R → Stream) (old new : Node R A) (x y : List (ℕ × Out A)) (now : ℕ) → AddsAlone stream old new x y now (Refused WrongRole)
-    → AddsEvent stream old new x y now events.IsOfRouters
-wrong_role stream old new x y now adds = record { each = λ start c s le. let a = adds.each start c s le in ((now, Refused WrongRole) ∷ (now, Passed) ∷ c, refl, a.0, a.1) }
+pub wrong_role : {R A : Type 0} (stream : R → Stream) (old new : Node R A) (x y : List (ℕ × Out A)) (now : ℕ) (event : events.Event)
+    → ((start : Start) (c : Chronicle) → EventAdds start now event c ((now, Refused WrongRole) ∷ c)) → AddsAlone stream old new x y now (Refused WrongRole) → AddsEvent stream old new x y now event
+wrong_role stream old new x y now event refused adds =
+    record { each = λ start c s le. let a = adds.each start c s le in ((now, Refused WrongRole) ∷ (now, Passed) ∷ c, refused start ((now, Passed) ∷ c), a.0, a.1) }

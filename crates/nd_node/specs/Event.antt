@@ -15,7 +15,7 @@ use Rattle.nd_node.specs.declared.clearing.Clearable.TheVariants as clearables
 use Rattle.nd_node.specs.declared.event.Table.{Table}
 use Rattle.nd_node.specs.declared.event.Table.TheVariants.{Neighbours, Routers, Prefixes, Addresses, Dns, Redirects, Params, Advertise, Routes}
 use Rattle.nd_node.specs.declared.event.Event.{Event}
-use Rattle.nd_node.specs.declared.event.Event.TheVariants.{Passes, Receives, Sends, Confirms, Forgets, Clears, Shows, Stops}
+use Rattle.nd_node.specs.declared.event.Event.TheVariants.{Passes, Receives, Sends, Confirms, Forgets, Clears, Shows, Advertises, Offers, PutsRoute, Stops}
 use Rattle.nd_node.specs.Node.{Stands}
 use Rattle.nd_node.specs.Time.{Onward}
 use Rattle.nd_node.specs.Told.{Tells}
@@ -46,7 +46,10 @@ event_of (Confirms neighbour) = events.Confirms neighbour
 event_of (Forgets neighbour) = events.Forgets neighbour
 event_of (Clears table) = events.Clears (clearable_of table)
 event_of (Shows table) = events.Shows (table_of table)
-event_of Stops = events.IsOfRouters
+event_of (Advertises config) = events.Advertises config
+event_of (Offers offer) = events.Offers offer
+event_of (PutsRoute route) = events.Routes route.prefix route.route
+event_of Stops = events.Stops
 
 -- the same of events with their moments
 abbrev pub events_of : {A : Type 0} → List (ℕ × Event A) → List (ℕ × events.Event)

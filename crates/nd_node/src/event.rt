@@ -11,7 +11,9 @@ use crate::clearing::Clearable;
 use crate::node::Node;
 use crate::outgoing_packet::OutgoingPacket;
 use nd_addr::Addr;
+use nd_advertiser::{Config, Offer};
 use nd_out::{Out, Refusal};
+use nd_routes::KeptRoute;
 use rand_core::Rng;
 use std::alloc::{AllocError, Allocator};
 
@@ -55,7 +57,13 @@ pub enum Event<A: Allocator> {
     Clears(Clearable),
     /// A table is shown.
     Shows(Table),
-    /// A router is to cease advertising (RFC 4861, section 6.2.5). A host refuses it.
+    /// A router is to advertise so (RFC 4861, section 6.2.1). A host refuses it, as all that follow.
+    Advertises(Config),
+    /// A router is to advertise a prefix, too (RFC 4861, section 6.2.1).
+    Offers(Offer),
+    /// A router is to have a static route.
+    PutsRoute(KeptRoute),
+    /// A router is to cease advertising (RFC 4861, section 6.2.5).
     Stops,
 }
 
@@ -140,7 +148,9 @@ impl<R: Rng + Drop, A: Allocator + Clone> Node<R, A> {
                 self.last = now;
                 Ok(())
             }
-            Event::Stops => self.refuse(now, Refusal::WrongRole, outs),
+            Event::Advertises(_) | Event::Offers(_) | Event::PutsRoute(_) | Event::Stops => {
+                self.refuse(now, Refusal::WrongRole, outs)
+            }
         }
     }
 }

@@ -1,7 +1,7 @@
 -- The commands of a script: which bytes spell which event (the texts are this project's own).
 use Rattle.std.specs.Prelude.{◌≡◌, ◌⊎◌, ℕ, List, codes}
 use Rattle.nd_addr.specs.declared.addr.Addr.{Addr}
-use Rattle.nd_chronicle.specs.Event.{Clearable, Event, Passes, Receives, Sends, Confirms, Forgets, Clears, Shows, IsOfRouters}
+use Rattle.nd_chronicle.specs.Event.{Clearable, Event, Passes, Receives, Sends, Confirms, Forgets, Clears, Shows, Stops}
 use Rattle.nd_chronicle.specs.Shown as shown
 use Rattle.nd_script.specs.declared.command.Command.{Command}
 use Rattle.nd_script.specs.declared.command.Command.TheVariants.{Rx, Send, Confirm, Forget, Clear, Show}
@@ -32,7 +32,7 @@ AreArguments Show words event = (table : shown.Table) × (event ≡ Shows table)
 
 -- the word is a command that acts on nothing: `at`, by which time passes, or `stop`, which a host refuses
 abbrev pub IsWholeCommand : List ℕ → Event → Type 0
-IsWholeCommand word event = ((word ≡ codes "at") × (event ≡ Passes)) ⊎ ((word ≡ codes "stop") × (event ≡ IsOfRouters))
+IsWholeCommand word event = ((word ≡ codes "at") × (event ≡ Passes)) ⊎ ((word ≡ codes "stop") × (event ≡ Stops))
 
 -- the bytes spell the event: they are such a word, or the word of a command and what it acts on
 abbrev pub IsCommand : List ℕ → Event → Type 0
