@@ -58,20 +58,21 @@ use Rattle.nd_chronicle.specs.Message.{releasing, leaving}
 use Rattle.nd_chronicle.specs.RouterAdvertisement.{redrawing, with_delay, forming, naming, then_option, then_options, times_out}
 use Rattle.nd_chronicle.specs.Told.{lines_of, text}
 use Rattle.nd_out.specs.declared.out.Out.{Out}
+use Rattle.nd_effects.specs.DefaultRouter.{with_left, with_gone}
+use Rattle.nd_effects.specs.LinkLayerAddress.{PreparesFor, released_frames, HearsOf}
+use Rattle.nd_effects.specs.LinkParameters.{then_parameters, HearsParameters}
+use Rattle.nd_effects.specs.PrefixOptions.{Forms}
+use Rattle.nd_effects.specs.RouterAdvertisement.{left_told}
+use Rattle.nd_effects.specs.RouterSolicitations as soliciting
+use Rattle.nd_effects.specs.RouterSolicitations.{Solicitations, next_solicitation}
+use Rattle.nd_effects.specs.Told.{at_moment, Tells}
+use Rattle.nd_effects.specs.Told as told
+use Rattle.nd_effects.proofs.Quiet.{Quiet}
+use Rattle.nd_effects.proofs.Saying.{OneGoes, OverdueByTable, NoneOverdueStill, Placed, placed_by, none_before_said, releasing_is_quiet, releasing_text, released_kept}
+use Rattle.nd_effects.proofs.Telling.{Tells-then}
 use Rattle.nd_node.specs.declared.node.Node.{Node}
-use Rattle.nd_node.specs.DefaultRouter.{with_left, with_gone}
-use Rattle.nd_node.specs.LinkLayerAddress.{PreparesFor, released_frames, HearsOf}
-use Rattle.nd_node.specs.LinkParameters.{then_parameters, HearsParameters}
 use Rattle.nd_node.specs.Node.{Stands, next_of}
-use Rattle.nd_node.specs.PrefixOptions.{Forms}
-use Rattle.nd_node.specs.RouterAdvertisement.{left_told, advertised, Advertises, TakesAdvertisement}
-use Rattle.nd_node.specs.RouterSolicitations as soliciting
-use Rattle.nd_node.specs.RouterSolicitations.{Solicitations, next_solicitation}
-use Rattle.nd_node.specs.Told.{at_moment, Tells}
-use Rattle.nd_node.specs.Told as told
-use Rattle.nd_node.proofs.Quiet.{Quiet}
-use Rattle.nd_node.proofs.Saying.{OneGoes, OverdueByTable, NoneOverdueStill, Placed, placed_by, none_before_said, releasing_is_quiet, releasing_text, released_kept}
-use Rattle.nd_node.proofs.Telling.{Tells-then}
+use Rattle.nd_node.specs.RouterAdvertisement.{advertised, Advertises, TakesAdvertisement}
 use Rattle.nd_node.proofs.Turns.{all_later, addresses_before, neighbours_before, solicitation_before, redraw_before}
 
 -- laws of the own addresses

@@ -18,19 +18,16 @@ use Rattle.nd_neighbour.specs.declared.news.Times.{Times}
 use Rattle.nd_neighbour.specs.Entry as entries
 use Rattle.nd_neighbour.specs.History as rows
 use Rattle.nd_neighbour.specs.Table as neighbours
-use Rattle.nd_routers.specs.History as router_rows
 use Rattle.nd_routers.specs.History.{announcements}
 use Rattle.nd_routers.specs.Routers as routers
 use Rattle.nd_routers.specs.Routers.{same, IsSettled}
-use Rattle.nd_nexthop.specs.History as redirect_rows
 use Rattle.nd_nexthop.specs.Choice as choice
 use Rattle.nd_slaac.specs.Address as own
 use Rattle.nd_slaac.specs.Dates as address_dates
 use Rattle.nd_slaac.specs.Due as address_due
 use Rattle.nd_slaac.specs.History as address_rows
-use Rattle.nd_slaac.specs.State as states
 use Rattle.nd_slaac.specs.Table as addresses
-use Rattle.nd_chronicle.specs.Happening.{Chronicle, Address, Heard, LeftRouter, Passed, last_moment}
+use Rattle.nd_chronicle.specs.Happening.{Chronicle, Heard, Passed, last_moment}
 use Rattle.nd_chronicle.specs.Histories.{neighbour_history, router_history, address_history, redirect_history, said_of_neighbour, advertised_by}
 use Rattle.nd_chronicle.specs.InForce.{reachable_time}
 use Rattle.nd_chronicle.specs.LinkLayerAddress.{first_tlla}
@@ -40,18 +37,17 @@ use Rattle.nd_chronicle.specs.OwnAddress.{is_tentative}
 use Rattle.nd_chronicle.specs.Told.{lines_of, text}
 use Rattle.nd_out.specs.declared.out.Out.{Out}
 use Rattle.nd_out.specs.Out.{happening}
+use Rattle.nd_effects.specs.DefaultRouter.{with_left, with_gone}
+use Rattle.nd_effects.specs.LinkLayerAddress.{said_by, HasPlace, HearsOf, released_frames}
+use Rattle.nd_effects.specs.NeighborAdvertisement.{Conflicts, Leaves, with_conflict, told_conflict, told_left}
+use Rattle.nd_effects.specs.Told.{at_moment, happenings, Tells}
+use Rattle.nd_effects.proofs.Quiet.{Quiet}
+use Rattle.nd_effects.proofs.Saying.{NoneOverdueStill, OneGoes, OverdueByTable, none_before_said, releasing_is_quiet, releasing_text}
+use Rattle.nd_effects.proofs.Telling.{one, above_silent, Tells-then, one_more}
 use Rattle.nd_node.specs.declared.node.Node.{Node}
-use Rattle.nd_node.specs.DefaultRouter.{with_left, with_gone}
 use Rattle.nd_node.specs.Hearing.{AddsMessage}
-use Rattle.nd_node.specs.LinkLayerAddress.{said_by, HasPlace, HearsOf, released_frames}
-use Rattle.nd_node.specs.NeighborAdvertisement.{Conflicts, Leaves, with_conflict, told_conflict, told_left}
 use Rattle.nd_node.specs.Node.{next_of}
-use Rattle.nd_node.specs.Told.{at_moment, happenings, Tells}
-use Rattle.nd_node.proofs.Quiet.{Quiet}
-use Rattle.nd_node.proofs.Saying.{NoneOverdueStill, OneGoes, OverdueByTable, none_before_said, releasing_is_quiet, releasing_text}
 use Rattle.nd_node.proofs.Standing.{Apart, Still, apart_quiet, apart_then, settled_none, stands_at}
-use Rattle.nd_node.proofs.Steps.{one_more}
-use Rattle.nd_node.proofs.Telling.{one, above_silent, Tells-then}
 use Rattle.nd_node.proofs.Turns.{addresses_before, neighbours_before}
 
 -- an advertisement
@@ -72,30 +68,6 @@ silent_news limit now nodes (Some (news.Given addr m mark)) times key flags mac 
     let never : ⊥ = cc in absurd never
 silent_news limit now nodes (Some (news.Advert addr f m)) times key flags mac reachable e = λ enters. let never : ⊥ = cc in absurd never
 silent_news limit now nodes (Some (news.Marked addr router)) times key flags mac reachable e = λ enters. let never : ⊥ = cc in absurd never
-
--- ---- the steps of the calls
-
-pub conflicts_now : {A : Type 0} (now key : ℕ) (old new : List own.Address) (x y : List (ℕ × Out A)) (out : Out A) (result : Bool) → result ≡ true
-    → ((history : List address_rows.Row) → addresses.Stands old history → result ≡ states.is_tentative (address_rows.story key history))
-    → addresses.GainsRow old new (now, key, address_rows.Conflict) → y ≡ x ++ (now, out) ∷ [] → happening out ≡ Address key address_rows.Conflict
-    → Conflicts now key old new x y true
-conflicts_now now key old new x y out result is tentative gains told out_is = record {
-  stands = λ history h. (sym is ∙ tentative history h, gains.stands history h);
-  told = one_more x y now out told ∙ ap (λ w. happenings x ++ (now, w) ∷ []) out_is;
-}
-
-both_hold : (e h s : Bool) → e ≡ true → h ≡ true → h ≡ s → true ≡ (e && s)
-both_hold e h s a b is = rw a (sym b ∙ is)
-
-pub leaves_now : {A : Type 0} (now key : ℕ) (ends held : Bool) (old new : routers.Table) (old_redirects new_redirects : List (ℕ × Option ℕ)) (x y : List (ℕ × Out A)) (out : Out A)
-    → ends ≡ true → held ≡ true → ((history : List router_rows.RouterRow) → routers.Stands old history → held ≡ stands same key (announcements history) now)
-    → routers.GainsRow old new (router_rows.LeftList now key) → choice.GainsRow old_redirects new_redirects (redirect_rows.TargetGone now key)
-    → y ≡ x ++ (now, out) ∷ [] → happening out ≡ LeftRouter key → Leaves now key ends old new old_redirects new_redirects x y true
-leaves_now now key ends held old new old_redirects new_redirects x y out e h held_is gains gone told out_is = record {
-  routers = λ history s. (both_hold ends held (stands same key (announcements history) now) e h (held_is history s), gains.stands history s);
-  redirects = λ history s. gone.stands history s;
-  told = one_more x y now out told ∙ ap (λ w. happenings x ++ (now, w) ∷ []) out_is;
-}
 
 -- ---- the rows
 

@@ -39,20 +39,20 @@ use Rattle.nd_chronicle.specs.Due.{assigned_at}
 use Rattle.nd_chronicle.specs.Told.{lines_of, text}
 use Rattle.nd_out.specs.declared.out.Out.{Out}
 use Rattle.nd_out.specs.Out.{happening}
+use Rattle.nd_effects.specs.LinkLayerAddress.{said_by, HasPlace, HearsOf, released_frames}
+use Rattle.nd_effects.specs.Told.{at_moment, happenings, Tells}
+use Rattle.nd_effects.proofs.Quiet.{Quiet}
+use Rattle.nd_effects.proofs.Saying.{NoneOverdueStill, OneGoes, Others, OverdueByTable, none_before_said, placed_by, released_kept, releasing_is_quiet, releasing_text}
+use Rattle.nd_effects.proofs.Telling.{handed_out, Tells-then, one_told}
 use Rattle.nd_node.specs.declared.node.Node.{Node}
 use Rattle.nd_node.specs.Node.{Stands, next_of}
 use Rattle.nd_node.specs.Packet.{PacketGoes}
-use Rattle.nd_node.specs.LinkLayerAddress.{said_by, HasPlace, HearsOf, released_frames}
 use Rattle.nd_node.specs.Time.{Leads}
-use Rattle.nd_node.specs.Told.{at_moment, happenings, Tells}
 use Rattle.nd_node.specs.Hearing.{AddsMessage}
 use Rattle.nd_node.proofs.Beside.{Beside, Same, beside_then, stands_neighbours}
 use Rattle.nd_node.proofs.Detections.{solicitation}
-use Rattle.nd_node.proofs.Packets.{one_told}
-use Rattle.nd_node.proofs.Quiet.{Quiet, stands_quiet}
-use Rattle.nd_node.proofs.Saying.{NoneOverdueStill, OneGoes, Others, OverdueByTable, none_before_said, placed_by, released_kept, releasing_is_quiet, releasing_text}
+use Rattle.nd_node.proofs.Quiet.{stands_quiet}
 use Rattle.nd_node.proofs.Steps.{passed}
-use Rattle.nd_node.proofs.Telling.{handed_out, Tells-then}
 use Rattle.nd_node.proofs.Turns.{neighbours_before}
 
 -- ---- place for the asker

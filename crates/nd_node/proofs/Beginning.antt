@@ -17,8 +17,8 @@ use Rattle.nd_chronicle.specs.Start.{Start, link_local_key}
 use Rattle.nd_chronicle.specs.Histories.{parameter_history, address_history}
 use Rattle.nd_chronicle.specs.Generator.{stream_left}
 use Rattle.nd_chronicle.specs.History.{beginning}
+use Rattle.nd_effects.specs.RouterSolicitations.{Solicitations, next_solicitation}
 use Rattle.nd_node.specs.declared.node.Node.{Node}
-use Rattle.nd_node.specs.RouterSolicitations.{Solicitations, next_solicitation}
 use Rattle.nd_node.specs.Node.{Stands}
 use Rattle.nd_node.proofs.Turns.{all_later}
 

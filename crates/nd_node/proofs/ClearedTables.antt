@@ -3,7 +3,6 @@ use Rattle.std.proofs.Common.{◌≡◌, ℕ, ◌<◌, ◌≤◌, List, [], ◌�
 use Rattle.std.specs.List.{flat_map}
 use Rattle.rand_core.specs.Stream.{Stream}
 use Rattle.nd_addr.specs.declared.addr.Addr.{Addr}
-use Rattle.nd_addr.specs.Number.{number_of}
 use Rattle.nd_addr.specs.Prefix.{PrefixValue}
 use Rattle.nd_lifetime.specs.declared.lasting.Lasting.{Lasting}
 use Rattle.nd_lifetime.specs.History as lifetimes
@@ -31,16 +30,16 @@ use Rattle.nd_chronicle.specs.Event as events
 use Rattle.nd_chronicle.specs.Event.{all_leaving, clearing}
 use Rattle.nd_chronicle.specs.Told.{lines_of, text}
 use Rattle.nd_out.specs.declared.out.Out.{Out}
+use Rattle.nd_effects.specs.Told.{happenings}
+use Rattle.nd_effects.proofs.Quiet.{losing_is_quiet}
+use Rattle.nd_effects.proofs.Telling.{flat_map-append, lost_at, lost_text, left_at, numbers}
 use Rattle.nd_node.specs.declared.node.Node.{Node}
 use Rattle.nd_node.specs.Event.{AddsEvent}
 use Rattle.nd_node.specs.Node.{Stands, next_of}
-use Rattle.nd_node.specs.Told.{at_moment, happenings}
 use Rattle.nd_node.proofs.Beside.{Beside, Same, beside_neighbour, beside_quiet, beside_then, stands_neighbours}
 use Rattle.nd_node.proofs.NextHops.{routers_listed}
-use Rattle.nd_node.proofs.Quiet.{losing_is_quiet}
 use Rattle.nd_node.proofs.Standing.{Apart, Still, apart_then, stands_at}
 use Rattle.nd_node.proofs.Steps.{passed}
-use Rattle.nd_node.proofs.Telling.{flat_map-append, lost_at, lost_text}
 use Rattle.nd_node.proofs.Turns.{addresses_before, neighbours_before}
 
 -- ---- prefixes, redirects, servers and names: nothing is told
@@ -220,14 +219,6 @@ module _ {R A : Type 0} (stream : R → Stream) (old new : Node R A) (x room y :
   }
 
 -- ---- the routers, and all redirects
-
--- their numbers
-abbrev pub numbers : List Addr → List ℕ
-numbers addrs = map (λ a. number_of a.0) addrs
-
--- routers that leave at the moment
-abbrev pub left_at : ℕ → List ℕ → List (ℕ × Happening)
-left_at at those = at_moment at (map (λ key. LeftRouter key) those)
 
 -- the redirects to each of them end
 abbrev then_gone : ℕ → List ℕ → List RedirectRow → List RedirectRow

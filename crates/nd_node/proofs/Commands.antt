@@ -19,16 +19,17 @@ use Rattle.nd_chronicle.specs.Event as events
 use Rattle.nd_chronicle.specs.Event.{EventAdds}
 use Rattle.nd_chronicle.specs.Told.{lines_of, text}
 use Rattle.nd_out.specs.declared.out.Out.{Out}
+use Rattle.nd_effects.specs.Told.{happenings}
+use Rattle.nd_effects.proofs.Quiet.{losing_is_quiet}
+use Rattle.nd_effects.proofs.Saying.{NoneOverdueStill, OverdueByTable}
+use Rattle.nd_effects.proofs.Telling.{lost_at, lost_text}
 use Rattle.nd_node.specs.declared.node.Node.{Node}
 use Rattle.nd_node.specs.Event.{AddsEvent}
 use Rattle.nd_node.specs.Frame.{AddsAlone}
 use Rattle.nd_node.specs.Node.{Stands, next_of}
-use Rattle.nd_node.specs.Told.{happenings}
 use Rattle.nd_node.proofs.Beside.{Same, beside_neighbour, stands_neighbours}
-use Rattle.nd_node.proofs.Quiet.{losing_is_quiet, stands_quiet}
-use Rattle.nd_node.proofs.Saying.{NoneOverdueStill, OverdueByTable}
+use Rattle.nd_node.proofs.Quiet.{stands_quiet}
 use Rattle.nd_node.proofs.Steps.{passed}
-use Rattle.nd_node.proofs.Telling.{lost_at, lost_text}
 use Rattle.nd_node.proofs.Turns.{neighbours_before}
 
 module _ {R A : Type 0} (stream : R → Stream) (old new : Node R A) (now : ℕ) (neighbour : Addr) (settled : now < next_of old) (still : NoneOverdueStill) (table : OverdueByTable)

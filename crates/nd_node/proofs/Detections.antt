@@ -29,14 +29,15 @@ use Rattle.nd_chronicle.specs.Event.{OutcomeAdds}
 use Rattle.nd_chronicle.specs.Told.{lines_of, text}
 use Rattle.nd_out.specs.declared.out.Out.{Out}
 use Rattle.nd_out.specs.Out.{happening}
+use Rattle.nd_effects.specs.Told.{happenings, Tells}
+use Rattle.nd_effects.proofs.Quiet.{Quiet, sent_is_quiet}
+use Rattle.nd_effects.proofs.Telling.{handed_out}
 use Rattle.nd_node.specs.declared.node.Node.{Node}
 use Rattle.nd_node.specs.Node.{Stands, next_of}
-use Rattle.nd_node.specs.Told.{happenings, Tells}
 use Rattle.nd_node.specs.Hearing.{AddsMessage}
 use Rattle.nd_node.proofs.Beside.{Beside, Same, stands_addresses}
-use Rattle.nd_node.proofs.Quiet.{Quiet, sent_is_quiet, stands_quiet}
+use Rattle.nd_node.proofs.Quiet.{stands_quiet}
 use Rattle.nd_node.proofs.Steps.{passed}
-use Rattle.nd_node.proofs.Telling.{handed_out}
 use Rattle.nd_node.proofs.Turns.{addresses_before}
 
 -- ---- what the addresses' laws say

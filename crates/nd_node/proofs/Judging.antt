@@ -25,15 +25,16 @@ use Rattle.nd_chronicle.specs.Event as events
 use Rattle.nd_chronicle.specs.Told.{lines_of, text}
 use Rattle.nd_out.specs.declared.out.Out.{Out}
 use Rattle.nd_out.specs.Out.{happening}
+use Rattle.nd_effects.specs.Told.{happenings}
+use Rattle.nd_effects.proofs.Quiet.{Quiet}
+use Rattle.nd_effects.proofs.Telling.{above_silent, one_more}
 use Rattle.nd_node.specs.declared.node.Node.{Node}
 use Rattle.nd_node.specs.Event.{AddsEvent}
 use Rattle.nd_node.specs.Frame.{AddsAlone, AddsJudged, Stays}
 use Rattle.nd_node.specs.Hearing.{AddsMessage, Keeps}
 use Rattle.nd_node.specs.Node.{Stands, next_of}
-use Rattle.nd_node.specs.Told.{happenings}
-use Rattle.nd_node.proofs.Quiet.{Quiet, stands_quiet}
-use Rattle.nd_node.proofs.Steps.{one_more, passed}
-use Rattle.nd_node.proofs.Telling.{above_silent}
+use Rattle.nd_node.proofs.Quiet.{stands_quiet}
+use Rattle.nd_node.proofs.Steps.{passed}
 
 -- ---- what is told alone
 

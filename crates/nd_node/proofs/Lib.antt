@@ -2,17 +2,12 @@ pub mod Moments
 pub mod Quiet
 pub mod Turns
 pub mod Beginning
-pub mod Telling
 pub mod Walks
-pub mod Released
-pub mod Saying
 pub mod Steps
 pub mod Rows
 pub mod Beside
 pub mod Standing
 pub mod Packets
-pub mod Placing
-pub mod Ours
 pub mod NextHops
 pub mod Detections
 pub mod Asking
@@ -20,8 +15,6 @@ pub mod Advertisements
 pub mod PlainMessages
 pub mod Judging
 pub mod Running
-pub mod Forming
-pub mod Measuring
 pub mod Filling
 pub mod Advertised
 pub mod TakenOrRefused

@@ -23,8 +23,8 @@ use Rattle.nd_chronicle.specs.Start.{Start}
 use Rattle.nd_chronicle.specs.Happening.{Chronicle}
 use Rattle.nd_chronicle.specs.Hearing.{IsForUs, IsPacketForUs, IsHeard, Judges, IsStrange, IsMisdirected, IsStrangePacket, NotFromFirstHop}
 use Rattle.nd_chronicle.specs.Histories.{given_or_marked}
+use Rattle.nd_effects.specs.LinkLayerAddress.{said_by, waiting_for}
 use Rattle.nd_node.specs.declared.node.Node.{Node}
-use Rattle.nd_node.specs.LinkLayerAddress.{said_by, waiting_for}
 use Rattle.nd_node.specs.Memory.{IsNameless, AddsNoName}
 
 -- ---- the packets that an advertisement may release wait for its sender

@@ -38,10 +38,10 @@ use Rattle.nd_chronicle.specs.Happening.{Chronicle, last_moment}
 use Rattle.nd_chronicle.specs.Histories.{neighbour_history, router_history, address_history, redirect_history}
 use Rattle.nd_chronicle.specs.NextHop.{candidate, IsNextHop}
 use Rattle.nd_chronicle.specs.OwnAddress.{is_own}
+use Rattle.nd_effects.specs.RouterSolicitations.{next_solicitation}
+use Rattle.nd_effects.specs.FirstHop.{is_resolved, candidate_in, candidates_in}
 use Rattle.nd_node.specs.declared.node.Node as nodes
 use Rattle.nd_node.specs.Moments.{earlier}
-use Rattle.nd_node.specs.RouterSolicitations.{next_solicitation}
-use Rattle.nd_node.specs.FirstHop.{is_resolved, candidate_in, candidates_in}
 use Rattle.nd_node.specs.Node.{Stands, next_of}
 
 -- ---- a router in any state other than INCOMPLETE

@@ -17,20 +17,21 @@ use Rattle.nd_chronicle.specs.Event as events
 use Rattle.nd_chronicle.specs.Event.{GoesIfPlaced, PacketAdds, UnlessRefused, packet_frame, refusal_of_packet}
 use Rattle.nd_out.specs.declared.out.Out.{Out}
 use Rattle.nd_out.specs.Out.{happening}
+use Rattle.nd_effects.specs.declared.outgoing_packet.OutgoingPacket.{OutgoingPacket}
+use Rattle.nd_effects.specs.OutgoingPacket.{frame_of}
+use Rattle.nd_effects.specs.Told.{Tells, happenings}
+use Rattle.nd_effects.proofs.Telling.{Tells-then}
 use Rattle.nd_node.specs.declared.node.Node.{Node}
-use Rattle.nd_node.specs.declared.outgoing_packet.OutgoingPacket.{OutgoingPacket}
 use Rattle.nd_node.specs.Event.{AddsEvent}
 use Rattle.nd_node.specs.Frame.{AddsAlone}
 use Rattle.nd_node.specs.Hearing.{Keeps}
 use Rattle.nd_node.specs.Node.{Stands, next_of}
-use Rattle.nd_node.specs.OutgoingPacket.{AddsPacket, AddsToNeighbour, frame_of}
+use Rattle.nd_node.specs.OutgoingPacket.{AddsPacket, AddsToNeighbour}
 use Rattle.nd_node.specs.Packet.{PacketGoes}
 use Rattle.nd_node.specs.Time.{Leads}
-use Rattle.nd_node.specs.Told.{Tells, happenings}
 use Rattle.nd_node.proofs.Asking.{FullByHistory, RoomIsPlace, has_place_for, would_be_full}
 use Rattle.nd_node.proofs.Judging.{IsQuiet, alone, next_later, stays_keeps}
 use Rattle.nd_node.proofs.Steps.{passed}
-use Rattle.nd_node.proofs.Telling.{Tells-then}
 
 -- ---- what is told alone
 

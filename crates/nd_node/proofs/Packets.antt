@@ -21,22 +21,22 @@ use Rattle.nd_waiting.specs.Waiting.{max_waiting}
 use Rattle.nd_slaac.specs.PrefixOption.{link_local_of}
 use Rattle.nd_frames.specs.Frames.{resolution_frame}
 use Rattle.nd_chronicle.specs.Start.{Start, link_local}
-use Rattle.nd_chronicle.specs.Happening.{Chronicle, Happening, Neighbour, Sent, Lost, Replaced, last_moment}
+use Rattle.nd_chronicle.specs.Happening.{Chronicle, Neighbour, Sent, Lost, Replaced, last_moment}
 use Rattle.nd_chronicle.specs.Histories.{neighbour_history, address_history}
 use Rattle.nd_chronicle.specs.InForce.{retrans_timer}
 use Rattle.nd_chronicle.specs.Packet.{losing, with_pushed, then_packet}
 use Rattle.nd_chronicle.specs.Told.{lines_of, text}
 use Rattle.nd_out.specs.declared.out.Out.{Out}
-use Rattle.nd_out.specs.Out.{happening}
+use Rattle.nd_effects.specs.Packet.{told_of_packet}
+use Rattle.nd_effects.specs.Told.{at_moment, happenings}
+use Rattle.nd_effects.proofs.Quiet.{losing_is_quiet}
+use Rattle.nd_effects.proofs.Saying.{NoneOverdueStill, OneGoes, OverdueByTable}
+use Rattle.nd_effects.proofs.Telling.{one}
 use Rattle.nd_node.specs.declared.node.Node.{Node}
 use Rattle.nd_node.specs.Node.{Stands, next_of}
-use Rattle.nd_node.specs.Packet.{PacketGoes, told_of_packet}
+use Rattle.nd_node.specs.Packet.{PacketGoes}
 use Rattle.nd_node.specs.Time.{Leads}
-use Rattle.nd_node.specs.Told.{at_moment, happenings}
 use Rattle.nd_node.proofs.Beside.{Beside, Same, beside_neighbour, beside_quiet, beside_sent, beside_then, stands_neighbours}
-use Rattle.nd_node.proofs.Quiet.{losing_is_quiet}
-use Rattle.nd_node.proofs.Saying.{NoneOverdueStill, OneGoes, OverdueByTable}
-use Rattle.nd_node.proofs.Telling.{handed_out, one}
 use Rattle.nd_node.proofs.Turns.{neighbours_before}
 
 -- ---- a neighbour that is pushed out
@@ -83,11 +83,6 @@ packet_text start c placed at key retrans packet (Queues true replaced) same =
 packet_text start c placed at key retrans packet (Queues false None) same = append-nil (text placed) ∙ (same ∙ sym (append-nil (text c)))
 packet_text start c placed at key retrans packet (Queues false (Some oldest)) same =
     above_silent (text c) (text placed) (lines_of (at, Lost Replaced oldest)) same
-
--- one is handed out
-pub one_told : {A : Type 0} (x y : List (ℕ × Out A)) (at : ℕ) (out : Out A) (told : Happening) → y ≡ x ++ (at, out) ∷ [] → happening out ≡ told → happenings y ≡ happenings x ++ (at, told) ∷ []
-one_told x y at out told is out_is =
-    ap happenings is ∙ (sym (append-nil _) ∙ (handed_out x at out [] ∙ ap (λ (h : Happening). happenings x ++ (at, h) ∷ []) out_is))
 
 -- ---- the tables
 

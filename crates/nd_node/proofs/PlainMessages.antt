@@ -27,16 +27,17 @@ use Rattle.nd_chronicle.specs.Event.{MessageAdds}
 use Rattle.nd_chronicle.specs.Told.{lines_of, text}
 use Rattle.nd_out.specs.declared.out.Out.{Out}
 use Rattle.nd_out.specs.Out.{happening}
+use Rattle.nd_effects.specs.LinkLayerAddress.{said_by, HearsOf, released_frames}
+use Rattle.nd_effects.specs.Told.{at_moment, happenings, Tells}
+use Rattle.nd_effects.proofs.Quiet.{Quiet}
+use Rattle.nd_effects.proofs.Saying.{NoneOverdueStill, OneGoes, Others, OverdueByTable, none_before_said, placed_by, released_kept, releasing_is_quiet, releasing_text}
+use Rattle.nd_effects.proofs.Telling.{one, above_silent, Tells-then, one_more}
 use Rattle.nd_node.specs.declared.node.Node.{Node}
 use Rattle.nd_node.specs.Hearing.{AddsMessage}
-use Rattle.nd_node.specs.LinkLayerAddress.{said_by, HearsOf, released_frames}
 use Rattle.nd_node.specs.Node.{Stands, next_of}
-use Rattle.nd_node.specs.Told.{at_moment, happenings, Tells}
-use Rattle.nd_node.proofs.Quiet.{Quiet, stands_quiet}
-use Rattle.nd_node.proofs.Saying.{NoneOverdueStill, OneGoes, Others, OverdueByTable, none_before_said, placed_by, released_kept, releasing_is_quiet, releasing_text}
+use Rattle.nd_node.proofs.Quiet.{stands_quiet}
 use Rattle.nd_node.proofs.Standing.{Apart, Still, apart_then, stands_at}
-use Rattle.nd_node.proofs.Steps.{one_more, passed}
-use Rattle.nd_node.proofs.Telling.{one, above_silent, Tells-then}
+use Rattle.nd_node.proofs.Steps.{passed}
 use Rattle.nd_node.proofs.Turns.{addresses_before, neighbours_before, routers_before}
 
 -- a message

@@ -7,11 +7,11 @@ use Rattle.nd_chronicle.specs.Happening.{Chronicle}
 use Rattle.nd_chronicle.specs.Event as events
 use Rattle.nd_chronicle.specs.History.{Follows, Runs}
 use Rattle.nd_out.specs.declared.out.Out.{Out}
+use Rattle.nd_effects.proofs.Telling.{Tells-same, Tells-then}
 use Rattle.nd_node.specs.declared.node.Node.{Node}
 use Rattle.nd_node.specs.declared.event.Event.{Event}
 use Rattle.nd_node.specs.Event.{event_of, events_of, FollowsBy, RunsBy, RunsInPart}
 use Rattle.nd_node.specs.Time.{Leads, Onward}
-use Rattle.nd_node.proofs.Telling.{Tells-same, Tells-then}
 
 -- the events up to a place, and the one there
 take_more : {X : Type 0} (xs : List X) (i : ℕ) (x : X) → i < length xs → x ≡ get_or xs i x → take (suc i) xs ≡ take i xs ++ x ∷ []

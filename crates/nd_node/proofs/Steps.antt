@@ -14,13 +14,14 @@ use Rattle.nd_chronicle.specs.Event.{EventAdds}
 use Rattle.nd_chronicle.specs.History.{Walk, over, adds, passes}
 use Rattle.nd_out.specs.declared.out.Out.{Out}
 use Rattle.nd_out.specs.Out.{happening}
+use Rattle.nd_effects.specs.Told.{happenings}
+use Rattle.nd_effects.proofs.Quiet.{Quiet}
+use Rattle.nd_effects.proofs.Telling.{one, above_silent, Tells-then, one_more}
 use Rattle.nd_node.specs.declared.node.Node.{Node}
 use Rattle.nd_node.specs.Node.{Stands, next_of}
-use Rattle.nd_node.specs.Told.{happenings}
 use Rattle.nd_node.specs.Time.{Leads, Passes}
 use Rattle.nd_node.specs.Event.{AddsEvent, FollowsBy}
-use Rattle.nd_node.proofs.Quiet.{Quiet, stands_quiet}
-use Rattle.nd_node.proofs.Telling.{one, above_silent, handed_out, Tells-then}
+use Rattle.nd_node.proofs.Quiet.{stands_quiet}
 use Rattle.nd_node.proofs.Walks.{last_of}
 
 -- ---- time has passed
@@ -81,10 +82,6 @@ too_late_is_quiet at last c = record {
   stream = λ start. refl;
   last = λ start. refl;
 }
-
--- one is handed out
-pub one_more : {A : Type 0} (xs ys : List (ℕ × Out A)) (at : ℕ) (out : Out A) → ys ≡ xs ++ (at, out) ∷ [] → happenings ys ≡ happenings xs ++ (at, happening out) ∷ []
-one_more xs ys at out is = ap happenings is ∙ (sym (append-nil _) ∙ handed_out xs at out [])
 
 -- ---- events
 

@@ -20,16 +20,17 @@ use Rattle.nd_chronicle.specs.Told.{lines_of, text}
 use Rattle.nd_out.specs.declared.out.Out.{Out}
 use Rattle.nd_out.specs.declared.out.Out.TheVariants as outs
 use Rattle.nd_out.specs.Out.{happening}
+use Rattle.nd_effects.specs.LinkLayerAddress.{said_by}
+use Rattle.nd_effects.specs.Told.{Tells}
+use Rattle.nd_effects.specs.Told as told
+use Rattle.nd_effects.proofs.Quiet.{Quiet}
+use Rattle.nd_effects.proofs.Telling.{above_silent, handed_out, Tells-then}
 use Rattle.nd_node.specs.declared.node.Node.{Node}
 use Rattle.nd_node.specs.Hearing.{AddsMessage}
-use Rattle.nd_node.specs.LinkLayerAddress.{said_by}
 use Rattle.nd_node.specs.Node.{Stands, next_of}
 use Rattle.nd_node.specs.RouterAdvertisement.{advertised, TakesAdvertisement}
-use Rattle.nd_node.specs.Told.{Tells}
-use Rattle.nd_node.specs.Told as told
-use Rattle.nd_node.proofs.Quiet.{Quiet, stands_quiet}
+use Rattle.nd_node.proofs.Quiet.{stands_quiet}
 use Rattle.nd_node.proofs.Steps.{passed}
-use Rattle.nd_node.proofs.Telling.{above_silent, handed_out, Tells-then}
 
 refused_is_quiet : (at : ℕ) (refusal : Refusal) (c : Chronicle) → ((start : ℕ) → last_moment start c ≡ at) → Quiet c ((at, Refused refusal) ∷ c)
 refused_is_quiet at refusal c now = record {

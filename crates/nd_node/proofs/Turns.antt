@@ -27,14 +27,15 @@ use Rattle.nd_chronicle.specs.Histories.{parameter_history, neighbour_history, r
 use Rattle.nd_chronicle.specs.InForce.{next_redraw}
 use Rattle.nd_chronicle.specs.Generator.{stream_left, reachable_drawn}
 use Rattle.nd_chronicle.specs.Due.{RouterEnds, AddressFalls, NeighbourFalls, RoutersSolicited, Redraws, comes, max_rtr_solicitations, router_solicitation_date, rtr_solicitation_interval, is_host, solicited_routers, assigned_at}
+use Rattle.nd_effects.specs.RouterSolicitations as solicitations
+use Rattle.nd_effects.specs.RouterSolicitations.{Solicitations, next_solicitation, after_address}
+use Rattle.nd_effects.specs.LostHop.{Notes, with_failure, with_lost_target}
+use Rattle.nd_effects.proofs.Quiet.{sent_is_quiet, losing_is_quiet}
 use Rattle.nd_node.specs.declared.node.Node.{Node}
 use Rattle.nd_node.specs.Moments.{earlier}
-use Rattle.nd_node.specs.RouterSolicitations as solicitations
-use Rattle.nd_node.specs.RouterSolicitations.{Solicitations, next_solicitation, after_address}
-use Rattle.nd_node.specs.LostHop.{Notes, with_failure, with_lost_target}
 use Rattle.nd_node.specs.Node.{Stands, NextDue, next_of}
 use Rattle.nd_node.proofs.Moments.{no_router, no_address, no_neighbour, none_at, before_second, none_before, before_routers, before_addresses, before_neighbours, before_solicitation, before_redraw, at_redraw}
-use Rattle.nd_node.proofs.Quiet.{sent_is_quiet, losing_is_quiet, stands_quiet}
+use Rattle.nd_node.proofs.Quiet.{stands_quiet}
 
 -- ---- the dates of a node
 

@@ -10,12 +10,12 @@ use Rattle.nd_chronicle.specs.Happening.{Chronicle, Unreachable, last_moment}
 use Rattle.nd_chronicle.specs.Due.{What, RouterEnds, AddressFalls, NeighbourFalls, RoutersSolicited, Redraws, Due, comes}
 use Rattle.nd_chronicle.specs.History.{Walk, over, adds}
 use Rattle.nd_out.specs.declared.out.Out.{Out}
+use Rattle.nd_effects.specs.Told.{told_of, at_moment, happenings}
+use Rattle.nd_effects.proofs.Quiet.{losing_is_quiet}
+use Rattle.nd_effects.proofs.Telling.{text_of, Tells-same, Tells-then}
 use Rattle.nd_node.specs.declared.node.Node.{Node}
 use Rattle.nd_node.specs.Node.{Stands, NextDue}
-use Rattle.nd_node.specs.Told.{told_of, at_moment, happenings}
 use Rattle.nd_node.specs.Time.{Leads, Comes, Passes, Onward}
-use Rattle.nd_node.proofs.Quiet.{losing_is_quiet}
-use Rattle.nd_node.proofs.Telling.{text_of, Tells-same, Tells-then}
 
 -- the newest moment is that of what fell due
 pub last_of : (start : Start) (c : Chronicle) (at : ℕ) (what : What) → last_moment start.at (comes start at what c) ≡ at

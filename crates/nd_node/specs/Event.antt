@@ -9,6 +9,7 @@ use Rattle.nd_chronicle.specs.Event as events
 use Rattle.nd_chronicle.specs.Event.{EventAdds}
 use Rattle.nd_chronicle.specs.History.{Follows, Runs}
 use Rattle.nd_out.specs.declared.out.Out.{Out}
+use Rattle.nd_effects.specs.Told.{Tells}
 use Rattle.nd_node.specs.declared.node.Node.{Node}
 use Rattle.nd_node.specs.declared.clearing.Clearable.{Clearable}
 use Rattle.nd_node.specs.declared.clearing.Clearable.TheVariants as clearables
@@ -18,7 +19,6 @@ use Rattle.nd_node.specs.declared.event.Event.{Event}
 use Rattle.nd_node.specs.declared.event.Event.TheVariants.{Passes, Receives, Sends, Confirms, Forgets, Clears, Shows, Advertises, Offers, PutsRoute, Stops}
 use Rattle.nd_node.specs.Node.{Stands}
 use Rattle.nd_node.specs.Time.{Onward}
-use Rattle.nd_node.specs.Told.{Tells}
 
 abbrev pub table_of : Table → shown.Table
 table_of Neighbours = shown.NeighbourTable

@@ -9,9 +9,9 @@ use Rattle.nd_chronicle.specs.Happening.{Chronicle, Happening, Passed, last_mome
 use Rattle.nd_chronicle.specs.Hearing.{IsForUs, Judges}
 use Rattle.nd_chronicle.specs.Event.{OutcomeAdds}
 use Rattle.nd_out.specs.declared.out.Out.{Out}
+use Rattle.nd_effects.specs.Told.{Tells}
 use Rattle.nd_node.specs.declared.node.Node.{Node}
 use Rattle.nd_node.specs.Node.{Stands}
-use Rattle.nd_node.specs.Told.{Tells}
 
 -- From each chronicle of earlier moments that the node stood for, the call leads to one with this alone, and that is told.
 pub record AddsAlone {R A : Type 0} (stream : R → Stream) (old new : Node R A) (before after : List (ℕ × Out A)) (now : ℕ) (what : Happening) : Type 0 where

@@ -9,9 +9,9 @@ use Rattle.nd_chronicle.specs.Happening.{Chronicle, Passed, last_moment}
 use Rattle.nd_chronicle.specs.Hearing.{takes_target}
 use Rattle.nd_chronicle.specs.Event.{OutcomeAdds}
 use Rattle.nd_out.specs.declared.out.Out.{Out}
+use Rattle.nd_effects.specs.Told.{Tells}
 use Rattle.nd_node.specs.declared.node.Node.{Node}
 use Rattle.nd_node.specs.Node.{Stands}
-use Rattle.nd_node.specs.Told.{Tells}
 
 -- From each chronicle of earlier moments that the node stood for, a message that is for it leads to one with what it adds, or with its
 -- refusal where a table would be full, and that is told.

@@ -20,9 +20,9 @@ use Rattle.nd_chronicle.specs.Happening.{Chronicle, last_moment}
 use Rattle.nd_chronicle.specs.Histories.{parameter_history, neighbour_history, router_history, prefix_history, address_history, server_history, name_history, redirect_history}
 use Rattle.nd_chronicle.specs.Generator.{stream_left}
 use Rattle.nd_chronicle.specs.Due.{Due, max_rtr_solicitations}
+use Rattle.nd_effects.specs.RouterSolicitations as solicitations
+use Rattle.nd_effects.specs.RouterSolicitations.{next_solicitation}
 use Rattle.nd_node.specs.Moments.{earlier}
-use Rattle.nd_node.specs.RouterSolicitations as solicitations
-use Rattle.nd_node.specs.RouterSolicitations.{next_solicitation}
 use Rattle.nd_node.specs.declared.node.Node.{Node}
 
 -- how many neighbours and default routers a node knows at most (our choice)

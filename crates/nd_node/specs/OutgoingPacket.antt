@@ -1,28 +1,15 @@
 -- A packet of the upper layer that is to be sent (RFC 4861, section 5.2).
 use Rattle.std.specs.Prelude.{ℕ, List, ◌∷◌, ◌≤◌}
 use Rattle.rand_core.specs.Stream.{Stream}
-use Rattle.nd_addr.specs.declared.mac.Mac.{Mac}
-use Rattle.nd_addr.specs.Frame.{written_frame}
 use Rattle.nd_nexthop.specs.NextHop.{NextHop}
 use Rattle.nd_chronicle.specs.Start.{Start}
 use Rattle.nd_chronicle.specs.Happening.{Chronicle, Passed, last_moment}
 use Rattle.nd_chronicle.specs.Event.{GoesIfPlaced, PacketAdds}
 use Rattle.nd_out.specs.declared.out.Out.{Out}
+use Rattle.nd_effects.specs.declared.outgoing_packet.OutgoingPacket.{OutgoingPacket}
+use Rattle.nd_effects.specs.Told.{Tells}
 use Rattle.nd_node.specs.declared.node.Node.{Node}
-use Rattle.nd_node.specs.declared.outgoing_packet.OutgoingPacket.{OutgoingPacket}
 use Rattle.nd_node.specs.Node.{Stands}
-use Rattle.nd_node.specs.Told.{Tells}
-
--- the frame of the packet, with a hop limit (RFC 8200, section 3)
-abbrev pub frame_of : {A : Type 0} → Mac → Mac → ℕ → OutgoingPacket A → List ℕ
-frame_of to from hop_limit packet = written_frame to from (record {
-  traffic_class = 0;
-  flow_label = 0;
-  next_header = packet.next_header;
-  hop_limit = hop_limit;
-  source = packet.source;
-  destination = packet.destination;
-}) packet.payload.items
 
 -- From each chronicle of earlier moments that the node stood for, the call leads to one in which the packet goes to the neighbour, if that
 -- has place, and that is told.

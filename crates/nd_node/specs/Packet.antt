@@ -1,22 +1,8 @@
--- A packet to a neighbour, and what is told of it (RFC 4861, sections 7.2.2 and 7.3.3).
-use Rattle.std.specs.Prelude.{ℕ, true, false, List, [], ◌∷◌, map}
-use Rattle.std.specs.Option.{option_to_list}
-use Rattle.nd_addr.specs.declared.addr.Addr.{Addr}
-use Rattle.nd_addr.specs.declared.mac.Mac.{Mac}
-use Rattle.nd_addr.specs.Frame.{addressed}
-use Rattle.nd_addr.specs.Number.{addr_at, mac_at}
-use Rattle.nd_neighbour.specs.Sending.{Sending, Sends, Queues}
-use Rattle.nd_frames.specs.Frames.{resolution_frame}
+-- A packet to a neighbour (RFC 4861, sections 7.2.2 and 7.3.3).
+use Rattle.std.specs.Prelude.{ℕ, List}
 use Rattle.nd_chronicle.specs.Start.{Start}
-use Rattle.nd_chronicle.specs.Happening.{Chronicle, Happening, Sent, Lost, Replaced}
+use Rattle.nd_chronicle.specs.Happening.{Chronicle}
 use Rattle.nd_chronicle.specs.Packet.{Goes}
-
--- the packet itself, or the solicitation that its resolution begins with, or the one that it replaces: of a node with a link-layer
--- address and a link-local one
-abbrev pub told_of_packet : Mac → Addr → ℕ → Sending → List Happening
-told_of_packet mac own key (Sends to packet) = Sent (addressed (mac_at to) packet) ∷ []
-told_of_packet mac own key (Queues true replaced) = Sent (resolution_frame mac own (addr_at key)) ∷ []
-told_of_packet mac own key (Queues false replaced) = map (λ packet. Lost Replaced packet) (option_to_list replaced)
 
 -- the packet goes to the neighbour at the moment
 abbrev pub PacketGoes : ℕ → ℕ → List ℕ → Start → Chronicle → Chronicle → Type 0

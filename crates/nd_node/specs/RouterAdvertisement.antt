@@ -1,5 +1,5 @@
 -- A Router Advertisement is taken by all tables of a node (RFC 4861, section 6.3.4; RFC 4862, section 5.5.3; RFC 8106, section 6.1).
-use Rattle.std.specs.Prelude.{◌≤◌, ℕ, Bool, true, false, List, [], ◌∷◌}
+use Rattle.std.specs.Prelude.{◌≤◌, ℕ, List, ◌∷◌}
 use Rattle.rand_core.specs.Stream.{Stream}
 use Rattle.nd_addr.specs.declared.addr.Addr.{Addr}
 use Rattle.nd_decode.specs.Message.{Parts}
@@ -7,18 +7,13 @@ use Rattle.nd_decode.specs.Option.{Said}
 use Rattle.nd_decode.specs.declared.body.Body.TheVariants as bodies
 use Rattle.nd_decode.specs.declared.router_advertisement.RouterAdvertisement.{RouterAdvertisement}
 use Rattle.nd_chronicle.specs.Start.{Start}
-use Rattle.nd_chronicle.specs.Happening.{Chronicle, Happening, Passed, Heard, LeftRouter, last_moment}
+use Rattle.nd_chronicle.specs.Happening.{Chronicle, Passed, Heard, last_moment}
 use Rattle.nd_chronicle.specs.Message.{said, PlaceFor}
 use Rattle.nd_chronicle.specs.RouterAdvertisement.{then_advertised}
 use Rattle.nd_out.specs.declared.out.Out.{Out}
+use Rattle.nd_effects.specs.Told.{Tells}
 use Rattle.nd_node.specs.declared.node.Node.{Node}
 use Rattle.nd_node.specs.Node.{Stands}
-use Rattle.nd_node.specs.Told.{Tells}
-
--- a router that left the list is told
-abbrev pub left_told : Bool → ℕ → List Happening
-left_told true key = LeftRouter key ∷ []
-left_told false key = []
 
 abbrev pub advertised : RouterAdvertisement → List Said → Parts
 advertised ra options = record { body = bodies.Ra ra; options = options }

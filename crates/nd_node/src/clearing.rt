@@ -1,17 +1,13 @@
 //! A table is cleared, by a command.
 
-ghost use Rattle.std.specs.Prelude.{◌≡◌, ◌+◌, ◌++◌, ◌<◌, ◌≤◌, IsOk, OnErr, OnOk, length, map, vec_capacity, vec_len};
-ghost use Rattle.nd_addr.specs.Number.{number_of};
+ghost use Rattle.std.specs.Prelude.{◌≡◌, ◌<◌, IsOk, OnErr, OnOk};
 ghost use Rattle.nd_chronicle.specs.Event as events;
-ghost use Rattle.nd_chronicle.specs.Happening.{Forgotten, LeftRouter, Lost};
 ghost use Rattle.nd_node.specs.Event.{AddsEvent, clearable_of};
 ghost use Rattle.nd_node.specs.Memory.{TellsNothing};
-ghost use Rattle.nd_node.specs.Told.{at_moment, happenings};
 
 use crate::node::Node;
-use nd_addr::Addr;
-use nd_out::{Loss, Out};
-use nd_waiting::Packet;
+use nd_effects::{tell_packets, tell_routers};
+use nd_out::Out;
 use rand_core::Rng;
 use std::alloc::{AllocError, Allocator};
 
@@ -28,26 +24,6 @@ pub enum Clearable {
     Redirects,
     /// The DNS servers and search names (RFC 8106, section 6.1).
     Dns,
-}
-
-/// Packets that waited for neighbours that are forgotten are lost, in their order.
-fn tell_packets<A: Allocator>(outs: &mut Vec<(u64, Out<A>), A>, at: u64, packets: Vec<Packet<A>, A>)
-    requires { vec_len outs.old + length packets.items ≤ vec_capacity outs.old }
-    ensures { happenings outs.new.items ≡ happenings outs.old.items ++ at_moment at (map (λ packet. Lost Forgotten packet) packets.items) }
-{
-    for packet in packets {
-        outs.push_reserved((at, Out::Lost(Loss::Forgotten, packet)));
-    }
-}
-
-/// Routers leave the list, in its order.
-fn tell_routers<A: Allocator>(outs: &mut Vec<(u64, Out<A>), A>, at: u64, routers: &[Addr])
-    requires { vec_len outs.old + length routers.now ≤ vec_capacity outs.old }
-    ensures { happenings outs.new.items ≡ happenings outs.old.items ++ at_moment at (map (λ key. LeftRouter key) (map (λ a. number_of a.0) routers.now)) }
-{
-    for router in routers {
-        outs.push_reserved((at, Out::EndedRouter(*router)));
-    }
 }
 
 impl<R: Rng + Drop, A: Allocator + Clone> Node<R, A> {

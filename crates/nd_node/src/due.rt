@@ -5,15 +5,12 @@ ghost use Rattle.nd_params.specs.History.{Drew};
 ghost use Rattle.nd_slaac.specs.View.{falls_of};
 ghost use Rattle.nd_params.specs.Params.{GainsRows};
 ghost use Rattle.nd_chronicle.specs.Generator.{reachable_drawn};
+ghost use Rattle.nd_effects.specs.RouterSolicitations.{after_address};
 ghost use Rattle.nd_node.specs.Moments.{earlier};
-ghost use Rattle.nd_node.specs.RouterSolicitations.{after_address};
 
-use crate::draw::reachable_drawn;
-use crate::lost_hop::note;
 use crate::node::Node;
-use crate::router_solicitations::RouterSolicitations;
-use crate::turned::Turned;
 use nd_addr::Addr;
+use nd_effects::{RouterSolicitations, Turned, note, reachable_drawn};
 use nd_params::Params;
 use nd_table::compare;
 use rand_core::Rng;
@@ -23,8 +20,8 @@ impl<R: Rng + Drop, A: Allocator + Clone> Node<R, A> {
     ghost use Rattle.nd_chronicle.specs.Start.{Start};
     ghost use Rattle.nd_chronicle.specs.Happening.{Chronicle};
     ghost use Rattle.nd_chronicle.specs.Due.{Due, comes};
+    ghost use Rattle.nd_effects.specs.Turned.{what_of};
     ghost use Rattle.nd_node.specs.Node.{Stands, NextDue, next_of, turns_left};
-    ghost use Rattle.nd_node.specs.Turned.{what_of};
 
     /// The moment at which something falls due next.
     pub fn next_due(&self) -> u64

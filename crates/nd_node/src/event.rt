@@ -9,9 +9,9 @@ ghost use Rattle.nd_node.specs.Time.{Leads, Onward};
 
 use crate::clearing::Clearable;
 use crate::node::Node;
-use crate::outgoing_packet::OutgoingPacket;
 use nd_addr::Addr;
 use nd_advertiser::{Config, Offer};
+use nd_effects::OutgoingPacket;
 use nd_out::{Out, Refusal};
 use nd_routes::KeptRoute;
 use rand_core::Rng;

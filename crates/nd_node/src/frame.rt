@@ -1,8 +1,7 @@
 //! A frame that comes.
 
-ghost use Rattle.std.specs.Prelude.{◌≡◌, ◌+◌, ◌∷◌, ◌-◌, ◌<◌, ◌≤◌, ◌^◌, ℕ, List, IsOk, OnOk, OnErr, take, vec_len, vec_capacity};
-ghost use Rattle.nd_addr.specs.Ip6.{ipv6_header_length, packet_parts};
-ghost use Rattle.nd_addr.specs.Places.{packet_in};
+ghost use Rattle.std.specs.Prelude.{◌≡◌, ◌∷◌, ◌-◌, ◌<◌, ◌≤◌, ◌^◌, ℕ, List, IsOk, OnOk, OnErr, vec_len, vec_capacity};
+ghost use Rattle.nd_addr.specs.Ip6.{packet_parts};
 ghost use Rattle.nd_decode.specs.Message.{parts};
 ghost use Rattle.nd_decode.specs.Pieces.{options_left};
 ghost use Rattle.nd_decode.specs.declared.body.Body.TheVariants as bodies;
@@ -18,23 +17,12 @@ ghost use Rattle.nd_node.specs.Frame.{Stays};
 ghost use Rattle.nd_node.specs.Memory.{AddsNoName, AsksForNone};
 
 use crate::node::Node;
-use nd_addr::{ETHERNET_HEADER_LENGTH, HEADERS_LENGTH, Ip6Ref, Why};
+use nd_addr::{Ip6Ref, Why};
+use nd_effects::packet_in;
 use nd_out::Out;
 use nd_validity::{Heard, Hearing, hear};
 use rand_core::Rng;
 use std::alloc::{AllocError, Allocator};
-
-/// How many bytes an IPv6 header has (RFC 8200, section 3).
-pub(crate) const IPV6_HEADER_LENGTH: usize = HEADERS_LENGTH - ETHERNET_HEADER_LENGTH;
-
-/// The packet in a frame, from its IPv6 header to the end of a payload of this length: padding behind it is left out.
-fn packet_in(frame: &[u8], payload_length: usize) -> &[u8]
-    ensures { result.now ≡ take (ipv6_header_length + payload_length) (packet_in frame.now) }
-{
-    let packet = &frame[ETHERNET_HEADER_LENGTH.min(frame.len())..];
-    let length = IPV6_HEADER_LENGTH.saturating_add(payload_length);
-    &packet[..length.min(packet.len())]
-}
 
 impl<R: Rng + Drop, A: Allocator + Clone> Node<R, A> {
     ghost use Rattle.nd_node.specs.Node.{Stands, next_of};

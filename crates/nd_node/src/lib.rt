@@ -4,25 +4,18 @@
 
 mod clearing;
 mod counts;
-mod default_router;
-mod draw;
 mod due;
 mod event;
 mod first_hop;
 mod for_us;
 mod frame;
 mod fullness;
-mod link_layer_address;
-mod link_parameters;
-mod lost_hop;
 mod message;
 mod neighbor_advertisement;
 mod neighbor_solicitation;
 mod node;
 mod outgoing_packet;
 mod packet;
-mod place;
-mod prefix_options;
 mod reachability_confirmation;
 mod redirect;
 mod refusal;
@@ -30,18 +23,14 @@ mod removal;
 mod room;
 mod router_advertisement;
 mod router_solicitation;
-mod router_solicitations;
 mod shown;
 mod time;
-mod told;
-mod turned;
 
 pub use clearing::Clearable;
 pub use counts::Counts;
 pub use event::{Event, Table};
+pub use nd_effects::{OutgoingPacket, Turned};
 pub use node::Node;
-pub use outgoing_packet::OutgoingPacket;
-pub use turned::Turned;
 
 #[cfg(test)]
 mod tests;

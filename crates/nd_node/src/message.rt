@@ -1,11 +1,9 @@
 //! A valid message that is for this node.
 
-ghost use Rattle.std.specs.Prelude.{◌≡◌, ◌↔◌, ◌∷◌, ◌-◌, ◌<◌, ◌≤◌, ◌^◌, IsOk, OnOk, OnErr, true, vec_len, vec_capacity};
-ghost use Rattle.nd_addr.specs.Number.{number_of};
+ghost use Rattle.std.specs.Prelude.{◌≡◌, ◌∷◌, ◌-◌, ◌<◌, ◌≤◌, ◌^◌, IsOk, OnOk, OnErr, vec_len, vec_capacity};
 ghost use Rattle.nd_decode.specs.Pieces.{options_left};
 ghost use Rattle.nd_decode.specs.declared.body.Body.TheVariants as bodies;
 ghost use Rattle.nd_decode.specs.declared.router_advertisement.RouterAdvertisement.{RouterAdvertisement};
-ghost use Rattle.nd_nexthop.specs.NextHop.{hop_of, via};
 ghost use Rattle.nd_chronicle.specs.Start.{Start};
 ghost use Rattle.nd_chronicle.specs.Happening.{Chronicle, Dropped, Passed, last_moment};
 ghost use Rattle.nd_chronicle.specs.Hearing.{NotFromFirstHop};
@@ -15,21 +13,10 @@ ghost use Rattle.nd_node.specs.Memory.{AddsNoName};
 use crate::node::Node;
 use nd_addr::{Addr, Why};
 use nd_decode::{Body, Options, Redirect};
-use nd_nexthop::Hop;
+use nd_effects::is_via;
 use nd_out::Out;
-use nd_table::compare;
 use rand_core::Rng;
 use std::alloc::{AllocError, Allocator};
-
-/// Whether a next hop is this node on the link, and not the destination itself.
-fn is_via(hop: Hop, addr: Addr) -> bool
-    ensures { result ≡ true ↔ (hop_of hop ≡ via (number_of addr.0)) }
-{
-    match hop {
-        Hop::Via(router) => compare(router, addr).is_eq(),
-        Hop::Direct | Hop::NoRoute => false,
-    }
-}
 
 impl<R: Rng + Drop, A: Allocator + Clone> Node<R, A> {
     ghost use Rattle.nd_node.specs.Node.{Stands, next_of};

@@ -1,73 +1,21 @@
-ghost use Rattle.std.specs.Prelude.{◌≡◌, ◌+◌, ◌<◌, ◌≤◌, ◌^◌, OnOk, OnErr, ℕ, vec_len, vec_capacity};
-ghost use Rattle.nd_addr.specs.Number.{number_of};
+ghost use Rattle.std.specs.Prelude.{◌≡◌, ◌<◌, ◌^◌, OnOk, OnErr};
 ghost use Rattle.nd_decode.specs.Pieces.{options_left};
 ghost use Rattle.nd_decode.specs.declared.body.Body.TheVariants as bodies;
-ghost use Rattle.nd_routers.specs.Routers.{IsSettled};
 ghost use Rattle.nd_node.specs.Hearing.{AddsMessage};
-ghost use Rattle.nd_node.specs.NeighborAdvertisement.{Conflicts, Leaves};
 
-use crate::link_layer_address::{hear_of_neighbour, news_of, waiting_for};
 use crate::node::Node;
-use crate::packet::times_in_force;
 use nd_addr::Addr;
 use nd_decode::{Body, NeighborAdvertisement, Options};
-use nd_nexthop::Choice;
+use nd_effects::{
+    end_router, hear_holder, hear_of_neighbour, news_of, times_in_force, waiting_for,
+};
 use nd_out::Out;
-use nd_routers::Routers;
-use nd_slaac::Addresses;
 use rand_core::Rng;
 use std::alloc::{AllocError, Allocator};
 
 /// How many places an advertisement takes beside those of the packets that it releases: one for what is heard, one for a duplicate
 /// address, and one for a router that leaves the list.
 const MOST_ADVERTISED: usize = 3;
-
-/// Another node has an address: it is a duplicate from now on where it is tentative, and that is told (RFC 4862, section 5.4.4).
-fn hear_holder<A: Allocator>(
-    addresses: &mut Addresses<A>,
-    now: u64,
-    target: Addr,
-    outs: &mut Vec<(u64, Out<A>), A>,
-) -> bool
-    requires { vec_len outs.old + 1 ≤ vec_capacity outs.old }
-    ensures conflicts { Conflicts now (number_of target.0) addresses.old.addresses addresses.new.addresses outs.old.items outs.new.items result }
-    ensures mac { addresses.new.mac ≡ addresses.old.mac }
-    ensures len { vec_len outs.new ≤ vec_len outs.old + 1 }
-    ensures capacity { vec_capacity outs.new ≡ vec_capacity outs.old }
-{
-    if addresses.conflict(target) {
-        outs.push_reserved((now, Out::Duplicate(target)));
-        return true;
-    }
-    false
-}
-
-/// A neighbour that is no router any more leaves the list where it stands there, the redirects to it end, and that is told (RFC 4861,
-/// section 7.2.5).
-fn end_router<A: Allocator>(
-    routers: &mut Routers<A>,
-    choice: &mut Choice<A>,
-    now: u64,
-    addr: Addr,
-    ends: bool,
-    outs: &mut Vec<(u64, Out<A>), A>,
-) -> bool
-    requires room { vec_len outs.old + 1 ≤ vec_capacity outs.old }
-    ensures leaves { Leaves now (number_of addr.0) ends routers.old routers.new choice.old choice.new outs.old.items outs.new.items result }
-    ensures settled { (moment : ℕ) → IsSettled routers.old.entries moment → IsSettled routers.new.entries moment }
-    ensures limit { routers.new.limit ≡ routers.old.limit }
-{
-    if !ends {
-        return false;
-    }
-    if !routers.holds(now, addr) {
-        return false;
-    }
-    routers.ended(addr);
-    choice.target_gone(addr);
-    outs.push_reserved((now, Out::EndedRouter(addr)));
-    true
-}
 
 impl<R: Rng + Drop, A: Allocator + Clone> Node<R, A> {
     ghost use Rattle.nd_node.specs.Node.{next_of};

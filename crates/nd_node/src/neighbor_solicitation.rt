@@ -6,14 +6,13 @@ ghost use Rattle.nd_decode.specs.Pieces.{options_left};
 ghost use Rattle.nd_decode.specs.declared.body.Body.TheVariants as bodies;
 ghost use Rattle.nd_neighbour.specs.Table.{node_in};
 ghost use Rattle.nd_chronicle.specs.NeighborSolicitation as solicited;
+ghost use Rattle.nd_effects.specs.LinkLayerAddress.{waiting_for};
 ghost use Rattle.nd_node.specs.Hearing.{AddsMessage, Keeps};
-ghost use Rattle.nd_node.specs.LinkLayerAddress.{waiting_for};
 
-use crate::link_layer_address::{hear_of_neighbour, news_of, waiting_for};
 use crate::node::Node;
-use crate::packet::times_in_force;
 use nd_addr::{Addr, Role};
 use nd_decode::{Body, NeighborSolicitation, Options};
+use nd_effects::{hear_of_neighbour, news_of, times_in_force, waiting_for};
 use nd_frames::FrameRoom;
 use nd_neighbour::{Cache, News};
 use nd_out::{Limit, Out, Refusal};

@@ -1,10 +1,9 @@
 ghost use Rattle.std.specs.Prelude.{◌≡◌, ◌^◌, ◌<◌, IfOk, IfErr};
 
-use crate::draw::{MAX_RTR_SOLICITATION_DELAY, drawn_from, reachable_drawn};
 use crate::room::Room;
-use crate::router_solicitations::RouterSolicitations;
 use nd_addr::{Mac, Role};
 use nd_dns::Dns;
+use nd_effects::{MAX_RTR_SOLICITATION_DELAY, RouterSolicitations, drawn_from, reachable_drawn};
 use nd_neighbour::Cache;
 use nd_nexthop::Choice;
 use nd_params::Params;

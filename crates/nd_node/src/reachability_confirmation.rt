@@ -4,8 +4,8 @@ ghost use Rattle.nd_out.specs.declared.out.Out as told;
 ghost use Rattle.nd_node.specs.Event.{AddsEvent};
 
 use crate::node::Node;
-use crate::packet::times_in_force;
 use nd_addr::Addr;
+use nd_effects::times_in_force;
 use rand_core::Rng;
 use std::alloc::Allocator;
 

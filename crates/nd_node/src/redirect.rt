@@ -3,12 +3,10 @@ ghost use Rattle.nd_decode.specs.Pieces.{options_left};
 ghost use Rattle.nd_decode.specs.declared.body.Body.TheVariants as bodies;
 ghost use Rattle.nd_node.specs.Hearing.{AddsMessage};
 
-use crate::link_layer_address::{hear_of_neighbour, news_of, waiting_for};
 use crate::node::Node;
-use crate::packet::times_in_force;
-use crate::place::has_place;
 use nd_addr::Addr;
 use nd_decode::{Body, Options, Redirect};
+use nd_effects::{has_place, hear_of_neighbour, news_of, times_in_force, waiting_for};
 use nd_out::{Limit, Out, Refusal};
 use rand_core::Rng;
 use std::alloc::{AllocError, Allocator};

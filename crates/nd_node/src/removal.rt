@@ -8,8 +8,8 @@ ghost use Rattle.nd_neighbour.specs.Table.{node_in};
 ghost use Rattle.nd_node.specs.Event.{AddsEvent};
 
 use crate::node::Node;
-use crate::told::tell_lost;
 use nd_addr::Addr;
+use nd_effects::tell_lost;
 use nd_out::{Loss, Out};
 use rand_core::Rng;
 use std::alloc::{AllocError, Allocator};

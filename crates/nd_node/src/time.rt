@@ -2,8 +2,8 @@ ghost use Rattle.std.specs.Prelude.{◌≡◌, ℕ, ◌^◌, ◌<◌, ◌≤◌,
 ghost use Rattle.nd_node.specs.Time.{Leads, Comes, Passes, Onward};
 
 use crate::node::Node;
-use crate::told::{MOST_TOLD, link_local, tell};
 use nd_chronicle::laws::idle_time_passes;
+use nd_effects::{MOST_TOLD, link_local, tell};
 use nd_frames::FrameRoom;
 use nd_out::Out;
 use rand_core::Rng;

@@ -17,11 +17,11 @@ use Rattle.nd_chronicle.specs.Told as chronicle
 use Rattle.nd_chronicle.specs.Told.{text}
 use Rattle.nd_out.specs.declared.out.Out.{Out}
 use Rattle.nd_out.specs.Out.{told, happening}
+use Rattle.nd_effects.specs.Told.{happenings}
 use Rattle.nd_node.specs.declared.node.Node.{Node}
 use Rattle.nd_node.specs.Event.{FollowsBy}
 use Rattle.nd_node.specs.Node.{Stands}
 use Rattle.nd_node.specs.Time as time
-use Rattle.nd_node.specs.Told.{happenings}
 use Rattle.nd_script.specs.Line.{IsLine}
 use Rattle.nd_script.specs.Script.{Says, SayFrom, stops, says, Say, Leads, IsText}
 use Rattle.nd_script.specs.Answer.{AnswersEvent}

@@ -1,8 +1,6 @@
 use Rattle.std.proofs.Common.{refl, map, string_bytes}
 use Rattle.nd_node.specs.Event.{table_of}
-use Rattle.nd_node.proofs.Commands.{wrong_role}
 use Rattle.nd_node.proofs.Judging.{on_err, stays_same}
-use Rattle.nd_node.proofs.Rows.{on_ok}
 use Rattle.nd_node.proofs.Steps.{passing, showing}
 use Rattle.nd_node.proofs.node.Node.add.Goals as goal
 
@@ -18,10 +16,3 @@ returns-in-Forgets-clause-stays g c = on_err c.forget.result _ _ (stays_same g.R
 
 pub returns-in-Clears-clause-stays : goal.returns-in-Clears-clause-stays
 returns-in-Clears-clause-stays g c = on_err c.clear.result _ _ (stays_same g.R.Rng.stream c.args.self.now c.clear.new.self) c.clear.ensures.keeps
-
-pub returns-in-Stops-clause-adds : goal.returns-in-Stops-clause-adds
-returns-in-Stops-clause-adds g c =
-    rw c.in-Stops.is (on_ok c.refuse.result _ _ (λ adds. wrong_role g.R.Rng.stream c.args.self.now c.refuse.new.self c.args.outs.now.items c.refuse.new.outs.items c.args.now adds) c.refuse.ensures.adds)
-
-pub returns-in-Stops-clause-stays : goal.returns-in-Stops-clause-stays
-returns-in-Stops-clause-stays g c = on_err c.refuse.result _ _ (stays_same g.R.Rng.stream c.args.self.now c.refuse.new.self) c.refuse.ensures.keeps

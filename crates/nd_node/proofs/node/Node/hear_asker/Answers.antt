@@ -4,7 +4,7 @@ use Rattle.nd_addr.specs.Number.{number_of}
 use Rattle.nd_decode.specs.Pieces.{options_left}
 use Rattle.nd_neighbour.specs.declared.news.Times.{Times}
 use Rattle.nd_neighbour.specs.Entry as entries
-use Rattle.nd_node.specs.LinkLayerAddress.{said_by, HearsOf}
+use Rattle.nd_effects.specs.LinkLayerAddress.{said_by, HearsOf}
 use Rattle.nd_node.proofs.Asking.{answered, of_asker, place_for_news, refused}
 use Rattle.nd_node.proofs.node.Node.hear_asker.Goals as goal
 

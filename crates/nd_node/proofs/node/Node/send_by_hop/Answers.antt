@@ -1,6 +1,6 @@
 use Rattle.std.proofs.Common.{ℕ, refl, ◌∙◌, ap}
 use Rattle.nd_frames.specs.Frames.{open_mac}
-use Rattle.nd_node.specs.OutgoingPacket.{frame_of}
+use Rattle.nd_effects.specs.OutgoingPacket.{frame_of}
 use Rattle.nd_node.proofs.OutgoingPackets.{goes_nowhere}
 use Rattle.nd_node.proofs.Rows.{on_ok}
 use Rattle.nd_node.proofs.node.Node.send_by_hop.Goals as goal

@@ -1,5 +1,5 @@
 use Rattle.std.proofs.Common.{ℕ, sym, ◌∙◌, ap}
-use Rattle.nd_node.specs.OutgoingPacket.{frame_of}
+use Rattle.nd_effects.specs.OutgoingPacket.{frame_of}
 use Rattle.nd_node.proofs.OutgoingPackets.{goes_to_all}
 use Rattle.nd_node.proofs.Rows.{on_ok}
 use Rattle.nd_node.proofs.node.Node.send_directly.Goals as goal

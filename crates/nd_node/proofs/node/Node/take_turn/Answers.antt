@@ -4,7 +4,7 @@ use Rattle.nd_neighbour.specs.View as neighbours
 use Rattle.nd_slaac.specs.View as addresses
 use Rattle.nd_slaac.specs.PrefixOption.{link_local_of}
 use Rattle.nd_chronicle.specs.Histories.{router_history, address_history}
-use Rattle.nd_node.specs.RouterSolicitations.{after_address}
+use Rattle.nd_effects.specs.RouterSolicitations.{after_address}
 use Rattle.nd_node.proofs.Turns.{router_ended, address_fell, neighbour_fell}
 use Rattle.nd_node.proofs.node.Node.take_turn.Goals as goal
 

@@ -1,0 +1,9 @@
+pub mod Quiet
+pub mod Telling
+pub mod Released
+pub mod Saying
+pub mod Placing
+pub mod Ours
+pub mod Forming
+pub mod Measuring
+pub mod Advertisements

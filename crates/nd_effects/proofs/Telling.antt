@@ -1,0 +1,89 @@
+-- What is told of what falls due is at the end of the text.
+use Rattle.std.proofs.Common.{◌≡◌, ℕ, List, [], ◌∷◌, ◌++◌, append-nil, append_assoc, map, Some, refl, sym, ◌∙◌, ap}
+use Rattle.std.specs.Prelude.{slice_get, drop}
+use Rattle.std.specs.List.{flat_map}
+use Rattle.nd_addr.specs.declared.addr.Addr.{Addr}
+use Rattle.nd_addr.specs.Number.{number_of}
+use Rattle.nd_neighbour.specs.Due as neighbours
+use Rattle.nd_slaac.specs.Due as addresses
+use Rattle.nd_chronicle.specs.Start.{Start, link_local}
+use Rattle.nd_chronicle.specs.Happening.{Chronicle, Happening, LeftRouter, Loss, Lost, Unreachable}
+use Rattle.nd_chronicle.specs.Due.{What, RouterEnds, AddressFalls, NeighbourFalls, RoutersSolicited, Redraws, comes}
+use Rattle.nd_chronicle.specs.Packet.{losing}
+use Rattle.nd_chronicle.specs.Told.{lines_of, text}
+use Rattle.nd_out.specs.declared.out.Out.{Out}
+use Rattle.nd_out.specs.Out.{happening}
+use Rattle.nd_effects.specs.Told.{told_of, at_moment, happenings, Tells}
+
+-- one row with a text
+pub one : (t : List ℕ) (lines : List ℕ) → t ++ lines ≡ t ++ (lines ++ [])
+one t lines = ap (λ l. t ++ l) (sym (append-nil lines))
+
+-- and one without a text below it
+pub above_silent : (t : List ℕ) (lines : List ℕ) → (t ++ []) ++ lines ≡ t ++ (lines ++ [])
+above_silent t lines = ap (λ l. l ++ lines) (append-nil t) ∙ one t lines
+
+-- packets that are lost at the moment, for a reason
+abbrev pub lost_at : ℕ → Loss → List (List ℕ) → List (ℕ × Happening)
+lost_at at why packets = at_moment at (map (λ packet. Lost why packet) packets)
+
+-- the numbers of addresses
+abbrev pub numbers : List Addr → List ℕ
+numbers addrs = map (λ a. number_of a.0) addrs
+
+-- routers that leave at the moment
+abbrev pub left_at : ℕ → List ℕ → List (ℕ × Happening)
+left_at at those = at_moment at (map (λ key. LeftRouter key) those)
+
+-- the oldest one is taken
+pub taken : (packets : List (List ℕ)) (packet : List ℕ) → slice_get packets 0 ≡ Some packet → packets ≡ packet ∷ drop 1 packets
+taken [] packet e = let no : ⊥ = cc in absurd no
+taken (p ∷ packets) packet e = let same : p ≡ packet = cc in ap (λ x. x ∷ packets) same
+
+happenings-append : {A : Type 0} (xs ys : List (ℕ × Out A)) → happenings (xs ++ ys) ≡ happenings xs ++ happenings ys
+happenings-append [] ys = refl
+happenings-append (x ∷ xs) ys = ap (λ l. (x.0, happening x.1) ∷ l) (happenings-append xs ys)
+
+-- one more is handed out, and what comes behind it
+pub handed_out : {A : Type 0} (xs : List (ℕ × Out A)) (at : ℕ) (out : Out A) (rest : List (ℕ × Happening)) → happenings (xs ++ (at, out) ∷ []) ++ rest ≡ happenings xs ++ (at, happening out) ∷ rest
+handed_out xs at out rest = ap (λ l. l ++ rest) (happenings-append xs ((at, out) ∷ [])) ∙ append_assoc (happenings xs) ((at, happening out) ∷ []) rest
+
+-- one is handed out
+pub one_more : {A : Type 0} (xs ys : List (ℕ × Out A)) (at : ℕ) (out : Out A) → ys ≡ xs ++ (at, out) ∷ [] → happenings ys ≡ happenings xs ++ (at, happening out) ∷ []
+one_more xs ys at out is = ap happenings is ∙ (sym (append-nil _) ∙ handed_out xs at out [])
+
+-- and this is told of it
+pub one_told : {A : Type 0} (x y : List (ℕ × Out A)) (at : ℕ) (out : Out A) (told : Happening) → y ≡ x ++ (at, out) ∷ [] → happening out ≡ told → happenings y ≡ happenings x ++ (at, told) ∷ []
+one_told x y at out told is out_is =
+    ap happenings is ∙ (sym (append-nil _) ∙ (handed_out x at out [] ∙ ap (λ (h : Happening). happenings x ++ (at, h) ∷ []) out_is))
+
+pub lost_text : (at : ℕ) (why : Loss) (packets : List (List ℕ)) (c : Chronicle) → text (losing at why packets c) ≡ text c ++ flat_map lines_of (lost_at at why packets)
+lost_text at why [] c = sym (append-nil (text c))
+lost_text at why (packet ∷ packets) c =
+    lost_text at why packets ((at, Lost why packet) ∷ c) ∙ append_assoc (text c) (lines_of (at, Lost why packet)) (flat_map lines_of (lost_at at why packets))
+
+pub text_of : (start : Start) (c : Chronicle) (at : ℕ) (what : What) → text (comes start at what c) ≡ text c ++ flat_map lines_of (at_moment at (told_of start.mac (link_local start) what))
+text_of start c at (RouterEnds key) = one (text c) _
+text_of start c at (AddressFalls (addresses.Ends key)) = one (text c) _
+text_of start c at (AddressFalls (addresses.Solicits key)) = above_silent (text c) _
+text_of start c at (AddressFalls (addresses.Assigns key)) = one (text c) _
+text_of start c at (NeighbourFalls (neighbours.Multicasts key)) = above_silent (text c) _
+text_of start c at (NeighbourFalls (neighbours.Unicasts key mac)) = above_silent (text c) _
+text_of start c at (NeighbourFalls (neighbours.Fails key packets)) = lost_text at Unreachable packets _ ∙ append_assoc (text c) _ _
+text_of start c at (NeighbourFalls (neighbours.Ages key)) = refl
+text_of start c at RoutersSolicited = above_silent (text c) _
+text_of start c at Redraws = refl
+
+pub flat_map-append : (xs ys : List (ℕ × Happening)) → flat_map lines_of (xs ++ ys) ≡ flat_map lines_of xs ++ flat_map lines_of ys
+flat_map-append [] ys = refl
+flat_map-append (x ∷ xs) ys = ap (λ l. lines_of x ++ l) (flat_map-append xs ys) ∙ sym (append_assoc (lines_of x) (flat_map lines_of xs) (flat_map lines_of ys))
+
+pub Tells-same : {A : Type 0} (c : Chronicle) (outs : List (ℕ × Out A)) → Tells c c outs outs
+Tells-same c outs = record { newer = []; text = sym (append-nil _); outs = sym (append-nil _) }
+
+pub Tells-then : {A : Type 0} (c d e : Chronicle) (x y z : List (ℕ × Out A)) → Tells c d x y → Tells d e y z → Tells c e x z
+Tells-then c d e x y z s t = record {
+  newer = s.newer ++ t.newer;
+  text = t.text ∙ (ap (λ l. l ++ flat_map lines_of t.newer) s.text ∙ (append_assoc (text c) (flat_map lines_of s.newer) (flat_map lines_of t.newer) ∙ ap (λ l. text c ++ l) (sym (flat_map-append s.newer t.newer))));
+  outs = t.outs ∙ (ap (λ l. l ++ t.newer) s.outs ∙ append_assoc (happenings x) s.newer t.newer);
+}

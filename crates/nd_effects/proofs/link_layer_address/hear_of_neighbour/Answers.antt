@@ -1,0 +1,5 @@
+use Rattle.nd_effects.proofs.Released.{hears_nothing}
+use Rattle.nd_effects.proofs.link_layer_address.hear_of_neighbour.Goals as goal
+
+pub returns-in-None-clause-hears : goal.returns-in-None-clause-hears
+returns-in-None-clause-hears g c = rw c.in-None.is (hears_nothing c.args.neighbours.now.limit c.args.now c.args.neighbours.now.nodes c.args.outs.now.items)

@@ -1,0 +1,15 @@
+pub mod RouterSolicitations
+pub mod LostHop
+pub mod Turned
+pub mod Told
+pub mod Packet
+pub mod LinkLayerAddress
+pub mod ForUs
+pub mod FirstHop
+pub mod PrefixOptions
+pub mod LinkParameters
+pub mod DefaultRouter
+pub mod Place
+pub mod RouterAdvertisement
+pub mod NeighborAdvertisement
+pub mod OutgoingPacket

@@ -1,0 +1,24 @@
+ghost use Rattle.std.specs.Prelude.{◌≡◌, ℕ};
+ghost use Rattle.nd_neighbour.specs.View.{falls_of};
+ghost use Rattle.nd_effects.specs.LostHop.{Notes};
+
+use nd_neighbour::Due;
+use nd_nexthop::Choice;
+use nd_routers::Routers;
+use std::alloc::Allocator;
+
+/// What falls due for a neighbour is noted: where it failed, the router that it may be failed too, and the redirects to it end (RFC 4861,
+/// sections 6.3.6 and 7.3.3).
+pub fn note<A: Allocator + Clone>(routers: &mut Routers<A>, choice: &mut Choice<A>, due: &Due<A>)
+    ensures notes { (at : ℕ) → Notes at (falls_of due.now) routers.old routers.new choice.old choice.new }
+    ensures entries { routers.new.entries ≡ routers.old.entries }
+    ensures limit { routers.new.limit ≡ routers.old.limit }
+{
+    match due {
+        Due::Failed(addr, _) => {
+            routers.failed(*addr);
+            choice.target_gone(*addr);
+        }
+        Due::Multicast(_) | Due::Unicast(_, _) | Due::Aged(_) => {}
+    }
+}

@@ -1,0 +1,60 @@
+ghost use Rattle.std.specs.Prelude.{◌≡◌, ◌+◌, ◌≤◌, ℕ, vec_len, vec_capacity};
+ghost use Rattle.nd_addr.specs.Number.{number_of};
+ghost use Rattle.nd_routers.specs.Routers.{IsSettled};
+ghost use Rattle.nd_effects.specs.NeighborAdvertisement.{Conflicts, Leaves};
+
+use nd_addr::Addr;
+use nd_nexthop::Choice;
+use nd_out::Out;
+use nd_routers::Routers;
+use nd_slaac::Addresses;
+use std::alloc::Allocator;
+
+/// Another node has an address, as is heard at a moment, in milliseconds: it is a duplicate from now on where it is tentative, and that is
+/// told (RFC 4862, section 5.4.4). It answers whether it was tentative, and takes no memory: the room for it was taken before.
+pub fn hear_holder<A: Allocator>(
+    addresses: &mut Addresses<A>,
+    now: u64,
+    target: Addr,
+    outs: &mut Vec<(u64, Out<A>), A>,
+) -> bool
+    requires { vec_len outs.old + 1 ≤ vec_capacity outs.old }
+    ensures conflicts { Conflicts now (number_of target.0) addresses.old.addresses addresses.new.addresses outs.old.items outs.new.items result }
+    ensures mac { addresses.new.mac ≡ addresses.old.mac }
+    ensures len { vec_len outs.new ≤ vec_len outs.old + 1 }
+    ensures capacity { vec_capacity outs.new ≡ vec_capacity outs.old }
+{
+    if addresses.conflict(target) {
+        outs.push_reserved((now, Out::Duplicate(target)));
+        return true;
+    }
+    false
+}
+
+/// A neighbour that is no router any more, if that is said at a moment, in milliseconds, leaves the list where it stands there, the
+/// redirects to it end, and that is told (RFC 4861, section 7.2.5). It answers whether it left, and takes no memory: the room for it was
+/// taken before.
+pub fn end_router<A: Allocator>(
+    routers: &mut Routers<A>,
+    choice: &mut Choice<A>,
+    now: u64,
+    addr: Addr,
+    ends: bool,
+    outs: &mut Vec<(u64, Out<A>), A>,
+) -> bool
+    requires room { vec_len outs.old + 1 ≤ vec_capacity outs.old }
+    ensures leaves { Leaves now (number_of addr.0) ends routers.old routers.new choice.old choice.new outs.old.items outs.new.items result }
+    ensures settled { (moment : ℕ) → IsSettled routers.old.entries moment → IsSettled routers.new.entries moment }
+    ensures limit { routers.new.limit ≡ routers.old.limit }
+{
+    if !ends {
+        return false;
+    }
+    if !routers.holds(now, addr) {
+        return false;
+    }
+    routers.ended(addr);
+    choice.target_gone(addr);
+    outs.push_reserved((now, Out::EndedRouter(addr)));
+    true
+}
