@@ -1,15 +1,18 @@
 -- A command is told by its words.
 use Rattle.std.proofs.Common.{◌≡◌, ◌∙◌, ◌<◌, ℕ, zero, suc, List, [], ◌∷◌, Some, get_or, length, eqb, if◌then◌else◌, sym, refl, ap, subst, inl, inr, arith}
 use Rattle.std.specs.Prelude.{codes, slice_get}
-use Rattle.nd_chronicle.specs.Event.{Event, Receives, Confirms, Forgets, Clears, Shows}
+use Rattle.nd_chronicle.specs.Event.{Event, Receives, Confirms, Forgets, Clears, Shows, Advertises, Offers}
 use Rattle.nd_script.specs.declared.command.Command.{Command}
-use Rattle.nd_script.specs.declared.command.Command.TheVariants.{Rx, Send, Confirm, Forget, Clear, Show}
+use Rattle.nd_script.specs.declared.command.Command.TheVariants.{Rx, Send, Confirm, Forget, Clear, Show, Advertise, Prefix, Route}
 use Rattle.nd_script.specs.Command.{command_word, AreArguments, IsCommand, IsWholeCommand}
 use Rattle.nd_script.specs.Words.{HasNoSpace, IsParted}
 use Rattle.nd_script.proofs.AddressWords.{one_address}
 use Rattle.nd_script.proofs.BytesWords.{one_bytes}
+use Rattle.nd_script.proofs.OfferWords.{one_offer}
 use Rattle.nd_script.proofs.PacketWords.{one_packet}
 use Rattle.nd_script.proofs.Partings.{no_parting, no_parts, parts_at}
+use Rattle.nd_script.proofs.RouteWords.{one_route}
+use Rattle.nd_script.proofs.SettingsWords.{one_settings}
 use Rattle.nd_script.proofs.TableWords.{one_clearable, one_table}
 
 at_no_space : HasNoSpace (codes "at")
@@ -37,13 +40,16 @@ one_whole_command word c d (inr (stop, of_routers)) (inr (stop', of_routers')) =
 
 -- ---- a command is told by its word
 
--- by its length, or by its second byte
+-- by its length, or by its first bytes
 abbrev told : List ℕ → Command
 told word =
     if eqb (length word) 2 then Rx else
-    if eqb (length word) 5 then Clear else
-    if eqb (length word) 6 then Forget else
     if eqb (length word) 7 then Confirm else
+    if eqb (length word) 9 then Advertise else
+    if eqb (get_or word 0 0) 99 then Clear else
+    if eqb (get_or word 0 0) 102 then Forget else
+    if eqb (get_or word 0 0) 112 then Prefix else
+    if eqb (get_or word 0 0) 114 then Route else
     if eqb (get_or word 1 0) 101 then Send else Show
 
 told_back : (command : Command) → told (command_word command) ≡ command
@@ -53,17 +59,20 @@ told_back Confirm = refl
 told_back Forget = refl
 told_back Clear = refl
 told_back Show = refl
+told_back Advertise = refl
+told_back Prefix = refl
+told_back Route = refl
 
 pub one_command_word : (c d : Command) → command_word c ≡ command_word d → c ≡ d
 one_command_word c d e = sym (told_back c) ∙ ap told e ∙ told_back d
 
 abbrev commands : List Command
-commands = Rx ∷ Send ∷ Confirm ∷ Forget ∷ Clear ∷ Show ∷ []
+commands = Rx ∷ Send ∷ Confirm ∷ Forget ∷ Clear ∷ Show ∷ Advertise ∷ Prefix ∷ Route ∷ []
 
 -- where a command stands among them
 pub record Place (command : Command) : Type 0 where
   pub at : ℕ
-  pub within : at < 6
+  pub within : at < 9
   pub there : slice_get commands at ≡ Some command
 
 pub place : (command : Command) → Place command
@@ -73,6 +82,9 @@ place Confirm = record { at = 2; within = omega arith; there = refl }
 place Forget = record { at = 3; within = omega arith; there = refl }
 place Clear = record { at = 4; within = omega arith; there = refl }
 place Show = record { at = 5; within = omega arith; there = refl }
+place Advertise = record { at = 6; within = omega arith; there = refl }
+place Prefix = record { at = 7; within = omega arith; there = refl }
+place Route = record { at = 8; within = omega arith; there = refl }
 
 -- ---- what it acts on
 
@@ -81,6 +93,11 @@ same_packet words c d (s, t, n, p, is, spelled) (s', t', n', p', is', spelled') 
     let same = one_packet words s t n p s' t' n' p' spelled spelled' in
     is ∙ rw (same.source_is, same.destination_is, same.next_header_is, same.payload_is) (sym is')
 
+same_route : (words : List ℕ) (c d : Event) → AreArguments Route words c → AreArguments Route words d → c ≡ d
+same_route words c d (prefix, route, is, spelled) (prefix', route', is', spelled') =
+    let same = one_route words prefix prefix' route route' spelled spelled' in
+    is ∙ rw (same.0, same.1) (sym is')
+
 one_event : (command : Command) (words : List ℕ) (c d : Event) → AreArguments command words c → AreArguments command words d → c ≡ d
 one_event Rx words c d p q = p.1 ∙ (ap Receives (one_bytes words p.0 q.0 p.2 q.2) ∙ sym q.1)
 one_event Send words c d p q = same_packet words c d p q
@@ -88,6 +105,9 @@ one_event Confirm words c d p q = p.1 ∙ (ap Confirms (one_address words p.0 q.
 one_event Forget words c d p q = p.1 ∙ (ap Forgets (one_address words p.0 q.0 p.2 q.2) ∙ sym q.1)
 one_event Clear words c d p q = p.1 ∙ (ap Clears (one_clearable p.0 q.0 (sym p.2 ∙ q.2)) ∙ sym q.1)
 one_event Show words c d p q = p.1 ∙ (ap Shows (one_table p.0 q.0 (sym p.2 ∙ q.2)) ∙ sym q.1)
+one_event Advertise words c d p q = p.1 ∙ (ap Advertises (one_settings words p.0 q.0 p.2 q.2) ∙ sym q.1)
+one_event Prefix words c d p q = p.1 ∙ (ap Offers (one_offer words p.0 q.0 p.2 q.2) ∙ sym q.1)
+one_event Route words c d p q = same_route words c d p q
 
 pub of_command : (c d : Command) (words : List ℕ) (event : Event) → c ≡ d → AreArguments c words event → AreArguments d words event
 of_command c d words event e are = subst (λ (command : Command). AreArguments command words event) e are

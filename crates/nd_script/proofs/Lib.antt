@@ -3,7 +3,14 @@ pub mod Readings
 pub mod TableWords
 pub mod BytesWords
 pub mod AddressWords
+pub mod NumberWords
+pub mod FlagsWords
+pub mod PrefixWords
 pub mod PacketWords
+pub mod Faults
+pub mod SettingsWords
+pub mod OfferWords
+pub mod RouteWords
 pub mod CommandWords
 pub mod Lines
 pub mod Labels

@@ -1,10 +1,11 @@
--- The one way to part a text at its first space.
-use Rattle.std.proofs.Common.{◌≡◌, ℕ, zero, suc, ◌<◌, ◌^◌, List, [], ◌∷◌, ◌++◌, length, take, drop, get_or, refl, sym, ap, subst, ◌∙◌, arith}
+-- The one way to part a text at its first space, and all its words.
+use Rattle.std.proofs.Common.{◌≡◌, ◌≢◌, ◌==◌, ℕ, false, zero, suc, ◌<◌, ◌^◌, List, [], ◌∷◌, ◌++◌, length, take, drop, get_or, refl, sym, ap, subst, ◌∙◌, arith}
 use Rattle.std.specs.Char.{digit_value}
 use Rattle.std.specs.Fmt.{decimal}
 use Rattle.std.specs.Str.Parse.{AllDigits}
+use Rattle.std.proofs.lemmas.Bool.Decides.{nat_tests}
 use Rattle.std.proofs.lemmas.Fmt.{decimal_is_IsNumeral}
-use Rattle.nd_script.specs.Words.{HasNoSpace, IsParted, Parts}
+use Rattle.nd_script.specs.Words.{HasNoSpace, IsParted, Parts, words_of}
 
 -- the words behind the first ones
 tail_has_none : (b : ℕ) (word : List ℕ) → HasNoSpace (b ∷ word) → HasNoSpace word
@@ -79,3 +80,35 @@ digits_no_space (b ∷ text) (suc k) h lt e = digits_no_space text k h.1 (omega 
 -- there is no space in a number
 pub decimal_no_space : (n : ℕ) → n < 2 ^ 64 → HasNoSpace (decimal n)
 decimal_no_space n wide = λ k lt e. digits_no_space (decimal n) k (decimal_is_IsNumeral n wide).0.1 lt e
+
+-- ---- all words of a text
+
+head_is_none : (b : ℕ) (text : List ℕ) → HasNoSpace (b ∷ text) → (b == 32) ≡ false
+head_is_none b text none = let other : b ≢ 32 = none 0 (omega arith) in grind (arith, nat_tests)
+
+-- a text with no space is its only word
+pub one_word : (text : List ℕ) → HasNoSpace text → words_of text ≡ text ∷ []
+unfolding words_of
+one_word [] none = refl
+one_word (b ∷ text) none = rw (head_is_none b text none, one_word text (tail_has_none b text none))
+
+-- what stands before the first space is the first word
+front_word : (word rest : List ℕ) → HasNoSpace word → words_of (word ++ 32 ∷ rest) ≡ word ∷ words_of rest
+unfolding words_of
+front_word [] rest none = refl
+front_word (b ∷ word) rest none = rw (head_is_none b word none, front_word word rest (tail_has_none b word none))
+
+pub first_word : (text word rest : List ℕ) → IsParted text word rest → words_of text ≡ word ∷ words_of rest
+first_word text word rest p = ap words_of p.text_is ∙ front_word word rest p.no_space
+
+-- each text has a word
+pub some_word : (text : List ℕ) → 0 < length (words_of text)
+unfolding words_of
+some_word [] = omega arith
+some_word (b ∷ text) = grind (arith)
+
+pub count_one : (text : List ℕ) → HasNoSpace text → length (words_of text) ≡ 1
+count_one text none = ap length (one_word text none)
+
+pub count_first : (text word rest : List ℕ) → IsParted text word rest → length (words_of text) ≡ suc (length (words_of rest))
+count_first text word rest p = ap length (first_word text word rest p)

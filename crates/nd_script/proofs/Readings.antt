@@ -1,7 +1,8 @@
 -- What is read, or not.
 use Rattle.std.proofs.Common.{◌≡◌, ℕ, Bool, true, false, Option, Some, None, Ok, Err, refl, subst}
-use Rattle.std.specs.Prelude.{Result, IfOk, IfNone, IfSome}
-use Rattle.std.specs.Option.{option_map, IsSomeAnd}
+use Rattle.std.specs.Prelude.{Result, IfOk, IsOkAnd, IfNone, IfSome}
+use Rattle.std.specs.Option.{option_map, IsSomeAnd, SomeIff}
+use Rattle.std.specs.Result.{result_ok}
 
 pub not_true : (b : Bool) → (b ≡ true → ⊥) → b ≡ false
 not_true true other = absurd (other refl)
@@ -47,3 +48,17 @@ some_more None P Q more h = tt
 pub nothing_read : {T : Type 0} (o : Option T) (P : T → Type 0) → IfSome o P → ((t : T) → P t → ⊥) → o ≡ None
 nothing_read (Some t) P h none = absurd (none t h)
 nothing_read None P h none = refl
+
+pub some_iff : {T : Type 0} (o : Option T) (P : Type 0) (v : T) → SomeIff o P v → P → o ≡ Some v
+some_iff (Some t) P v h p = let same = h.1 in cc
+some_iff None P v h p = absurd (h p)
+
+-- ---- what is read with no reason why not
+
+pub ok_found : {T E : Type 0} (read : Result T E) (o : Option T) (P : T → Type 0) → o ≡ result_ok read → IfOk read P → IfSome o P
+ok_found (Ok t) o P e found = rw e found
+ok_found (Err why) o P e found = rw e tt
+
+pub ok_only : {T E : Type 0} (read : Result T E) (o : Option T) (t : T) → o ≡ result_ok read → IsOkAnd read (λ found. found ≡ t) → o ≡ Some t
+ok_only (Ok found) o t e same = cc
+ok_only (Err why) o t e same = absurd same

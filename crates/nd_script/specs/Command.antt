@@ -1,13 +1,20 @@
 -- The commands of a script: which bytes spell which event (the texts are this project's own).
 use Rattle.std.specs.Prelude.{◌≡◌, ◌⊎◌, ℕ, List, codes}
 use Rattle.nd_addr.specs.declared.addr.Addr.{Addr}
-use Rattle.nd_chronicle.specs.Event.{Clearable, Event, Passes, Receives, Sends, Confirms, Forgets, Clears, Shows, Stops}
+use Rattle.nd_addr.specs.Prefix.{PrefixValue}
+use Rattle.nd_decode.specs.declared.prefix_info.PrefixInfo.{PrefixInfo}
+use Rattle.nd_advertiser.specs.Config.{Settings}
+use Rattle.nd_routes.specs.declared.route.Route as routes
+use Rattle.nd_chronicle.specs.Event.{Clearable, Event, Passes, Receives, Sends, Confirms, Forgets, Clears, Shows, Advertises, Offers, Routes, Stops}
 use Rattle.nd_chronicle.specs.Shown as shown
 use Rattle.nd_script.specs.declared.command.Command.{Command}
-use Rattle.nd_script.specs.declared.command.Command.TheVariants.{Rx, Send, Confirm, Forget, Clear, Show}
+use Rattle.nd_script.specs.declared.command.Command.TheVariants.{Rx, Send, Confirm, Forget, Clear, Show, Advertise, Prefix, Route}
 use Rattle.nd_script.specs.Address.{IsAddressWord}
 use Rattle.nd_script.specs.Bytes.{IsBytesWord}
+use Rattle.nd_script.specs.Offer.{IsOffer}
 use Rattle.nd_script.specs.Packet.{IsPacket}
+use Rattle.nd_script.specs.Route.{IsRoute}
+use Rattle.nd_script.specs.Settings.{AreSettings}
 use Rattle.nd_script.specs.Table.{clearable_word, table_word}
 use Rattle.nd_script.specs.Words.{Parts}
 
@@ -19,6 +26,9 @@ command_word Confirm = codes "confirm"
 command_word Forget = codes "forget"
 command_word Clear = codes "clear"
 command_word Show = codes "show"
+command_word Advertise = codes "advertise"
+command_word Prefix = codes "prefix"
+command_word Route = codes "route"
 
 -- the words behind it spell the event
 abbrev pub AreArguments : Command → List ℕ → Event → Type 0
@@ -29,6 +39,9 @@ AreArguments Confirm words event = (neighbour : Addr) × (event ≡ Confirms nei
 AreArguments Forget words event = (neighbour : Addr) × (event ≡ Forgets neighbour) × IsAddressWord words neighbour
 AreArguments Clear words event = (table : Clearable) × (event ≡ Clears table) × (words ≡ clearable_word table)
 AreArguments Show words event = (table : shown.Table) × (event ≡ Shows table) × (words ≡ table_word table)
+AreArguments Advertise words event = (settings : Settings) × (event ≡ Advertises settings) × AreSettings words settings
+AreArguments Prefix words event = (info : PrefixInfo) × (event ≡ Offers info) × IsOffer words info
+AreArguments Route words event = (prefix : PrefixValue) × (route : routes.Route) × (event ≡ Routes prefix route) × IsRoute words prefix route
 
 -- the word is a command that acts on nothing: `at`, by which time passes, or `stop`, which a host refuses
 abbrev pub IsWholeCommand : List ℕ → Event → Type 0

@@ -1,8 +1,13 @@
 pub mod Words
+pub mod Number
+pub mod Flags
 pub mod Bytes
 pub mod Address
 pub mod Packet
 pub mod Table
+pub mod Settings
+pub mod Offer
+pub mod Route
 pub mod Command
 pub mod Line
 pub mod Source

@@ -1,5 +1,6 @@
 -- Words that are parted by exactly one space (the texts are this project's own).
-use Rattle.std.specs.Prelude.{◌≡◌, ◌≢◌, ℕ, ◌<◌, List, ◌∷◌, ◌++◌, length, slice_index}
+use Rattle.std.specs.Prelude.{◌≡◌, ◌≢◌, ◌==◌, ℕ, ◌<◌, List, ◌∷◌, ◌++◌, length, slice_index}
+use Rattle.std.specs.List.{slice_split}
 
 -- there is no space in the text
 abbrev pub HasNoSpace : List ℕ → Type 0
@@ -17,3 +18,7 @@ pub record Parts (text : List ℕ) (First Rest : List ℕ → Type 0) : Type 0 w
   pub parted : IsParted text word rest
   pub first : First word
   pub behind : Rest rest
+
+-- the words of a text: each space parts two, and between two spaces in a row stands an empty one
+unfoldable pub words_of : List ℕ → List (List ℕ)
+words_of text = slice_split (λ byte. byte == 32) text

@@ -8,7 +8,10 @@ ghost use Rattle.nd_script.specs.Command.{command_word, AreArguments, IsCommand,
 
 use crate::address::read_address;
 use crate::bytes::read_bytes;
+use crate::offer::read_offer;
 use crate::packet::read_packet;
+use crate::route::read_route;
+use crate::settings::read_settings;
 use crate::table::{read_clearable, read_table};
 use crate::words::split_word;
 use nd_node::Event;
@@ -29,15 +32,24 @@ pub enum Command {
     Clear,
     /// A table is shown.
     Show,
+    /// A router is to advertise so (RFC 4861, section 6.2.1).
+    Advertise,
+    /// A router is to advertise a prefix, too (RFC 4861, section 6.2.1).
+    Prefix,
+    /// A router is to have a static route.
+    Route,
 }
 
-const COMMANDS: [Command; 6] = [
+const COMMANDS: [Command; 9] = [
     Command::Rx,
     Command::Send,
     Command::Confirm,
     Command::Forget,
     Command::Clear,
     Command::Show,
+    Command::Advertise,
+    Command::Prefix,
+    Command::Route,
 ];
 
 /// The word that a command begins with.
@@ -51,6 +63,9 @@ fn command_word(command: Command) -> &'static str
         Command::Forget => "forget",
         Command::Clear => "clear",
         Command::Show => "show",
+        Command::Advertise => "advertise",
+        Command::Prefix => "prefix",
+        Command::Route => "route",
     }
 }
 
@@ -100,6 +115,18 @@ fn read_arguments<A: Allocator + Clone>(
         },
         Command::Show => match read_table(words) {
             Some(table) => Ok(Some(Event::Shows(table))),
+            None => Ok(None),
+        },
+        Command::Advertise => match read_settings(words) {
+            Some(settings) => Ok(Some(Event::Advertises(settings))),
+            None => Ok(None),
+        },
+        Command::Prefix => match read_offer(words) {
+            Some(offer) => Ok(Some(Event::Offers(offer))),
+            None => Ok(None),
+        },
+        Command::Route => match read_route(words) {
+            Some(route) => Ok(Some(Event::PutsRoute(route))),
             None => Ok(None),
         },
     }

@@ -4,12 +4,17 @@
 mod address;
 mod bytes;
 mod command;
+mod flags;
 pub mod laws;
 mod line;
 mod number;
+mod offer;
 mod packet;
+mod prefix;
+mod route;
 mod run;
 mod script;
+mod settings;
 mod source;
 mod table;
 mod words;
@@ -23,5 +28,7 @@ pub use source::Source;
 mod frame_tests;
 #[cfg(test)]
 mod host_tests;
+#[cfg(test)]
+mod router_command_tests;
 #[cfg(test)]
 mod tests;

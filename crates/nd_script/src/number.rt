@@ -1,6 +1,7 @@
 //! Numbers in decimal digits, with no sign and no leading zero.
 
 ghost use Rattle.std.specs.Prelude.{◌≡◌, ◌↔◌, ◌<◌, ◌^◌, ◌++◌, ℕ, IsTrue, Some, IfSome, decimal};
+ghost use Rattle.nd_script.specs.Number.{IsNumberOr, IsNumberWord};
 
 use itoa::Buffer;
 
@@ -33,16 +34,62 @@ pub(crate) fn read_number(text: &[u8]) -> Option<u64>
     is_decimal(text, number).then_some(number)
 }
 
-/// The number below 256 that a text spells in decimal digits, with no sign and no leading zero.
-pub(crate) fn read_byte(text: &[u8]) -> Option<u8>
-    ensures found { IfSome result (λ n. text.now ≡ decimal n) }
-    ensures only { (n : ℕ) → n < 2 ^ 8 → text.now ≡ decimal n → result ≡ Some n }
+/// The number below 2^8 that a word spells in decimal digits, with no sign and no leading zero.
+pub(crate) fn read_byte(word: &[u8]) -> Option<u8>
+    ensures found { IfSome result (λ n. IsNumberWord (2 ^ 8) word.now n) }
+    ensures only { (n : ℕ) → IsNumberWord (2 ^ 8) word.now n → result ≡ Some n }
 {
-    let number = read_number(text)?;
+    let number = read_number(word)?;
     if number > u8::MAX as u64 {
         return None;
     }
     Some(number as u8)
+}
+
+/// The number below 2^16 that a word spells in decimal digits, with no sign and no leading zero.
+pub(crate) fn read_u16(word: &[u8]) -> Option<u16>
+    ensures found { IfSome result (λ n. IsNumberWord (2 ^ 16) word.now n) }
+    ensures only { (n : ℕ) → IsNumberWord (2 ^ 16) word.now n → result ≡ Some n }
+{
+    let number = read_number(word)?;
+    if number > u16::MAX as u64 {
+        return None;
+    }
+    Some(number as u16)
+}
+
+/// The number below 2^32 that a word spells in decimal digits, with no sign and no leading zero.
+pub(crate) fn read_u32(word: &[u8]) -> Option<u32>
+    ensures found { IfSome result (λ n. IsNumberWord (2 ^ 32) word.now n) }
+    ensures only { (n : ℕ) → IsNumberWord (2 ^ 32) word.now n → result ≡ Some n }
+{
+    let number = read_number(word)?;
+    if number > u32::MAX as u64 {
+        return None;
+    }
+    Some(number as u32)
+}
+
+/// The number below 2^16 that a word spells, `-` standing for a default.
+pub(crate) fn read_u16_or(word: &[u8], default: u16) -> Option<u16>
+    ensures found { IfSome result (λ n. IsNumberOr default (2 ^ 16) word.now n) }
+    ensures only { (n : ℕ) → IsNumberOr default (2 ^ 16) word.now n → result ≡ Some n }
+{
+    if word == b"-".as_slice() {
+        return Some(default);
+    }
+    read_u16(word)
+}
+
+/// The number below 2^32 that a word spells, `-` standing for a default.
+pub(crate) fn read_u32_or(word: &[u8], default: u32) -> Option<u32>
+    ensures found { IfSome result (λ n. IsNumberOr default (2 ^ 32) word.now n) }
+    ensures only { (n : ℕ) → IsNumberOr default (2 ^ 32) word.now n → result ≡ Some n }
+{
+    if word == b"-".as_slice() {
+        return Some(default);
+    }
+    read_u32(word)
 }
 
 /// The number below 2^64 that a text spells behind a label.

@@ -20,6 +20,7 @@ enum Said {
     Forgets(Addr),
     Clears(Clearable),
     Shows(Table),
+    CommandsRouter,
     Stops,
 }
 
@@ -53,6 +54,7 @@ fn event_said(alloc: Global, event: Event<Global>) -> Result<Said, AllocError> {
         Event::Forgets(neighbour) => Ok(Said::Forgets(neighbour)),
         Event::Clears(table) => Ok(Said::Clears(table)),
         Event::Shows(table) => Ok(Said::Shows(table)),
+        Event::Advertises(_) | Event::Offers(_) | Event::PutsRoute(_) => Ok(Said::CommandsRouter),
         Event::Stops => Ok(Said::Stops),
     }
 }
@@ -436,7 +438,7 @@ pub(crate) fn told(
 }
 
 /// The solicitation that tries the link-local address, and a Router Solicitation, each with its moment.
-const STARTED: &str =
+pub(crate) const STARTED: &str =
     "0 tx 3333ff9abcde3456789abcde86dd6000000000183aff00000000000000000000000000000000ff0200000000000000000001ff9abcde870053df00000000fe80000000000000365678fffe9abcde\n";
 
 const ASSIGNED: &str = "1000 assigned fe80::3656:78ff:fe9a:bcde\n";

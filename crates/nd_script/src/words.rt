@@ -1,7 +1,7 @@
 //! The words of a text.
 
-ghost use Rattle.std.specs.Prelude.{MatchOption};
-ghost use Rattle.nd_script.specs.Words.{HasNoSpace, IsParted};
+ghost use Rattle.std.specs.Prelude.{◌≡◌, [], ◌∷◌, length, IsSome, IfSome, MatchOption};
+ghost use Rattle.nd_script.specs.Words.{HasNoSpace, IsParted, words_of};
 
 /// The first word of a text and what follows its space, where the text has a space.
 pub(crate) fn split_word(text: &[u8]) -> Option<(&[u8], &[u8])>
@@ -13,4 +13,27 @@ pub(crate) fn split_word(text: &[u8]) -> Option<(&[u8], &[u8])>
         }
     }
     None
+}
+
+/// The words of a text that has two.
+pub(crate) fn two_words(text: &[u8]) -> Option<(&[u8], &[u8])>
+    ensures found { IfSome result (λ words. words_of text.now ≡ words.0.now ∷ words.1.now ∷ []) }
+    ensures only { length (words_of text.now) ≡ 2 → IsSome result }
+{
+    let (first, second) = split_word(text)?;
+    match split_word(second) {
+        Some(_) => None,
+        None => Some((first, second)),
+    }
+}
+
+/// The words of a text that has four.
+pub(crate) fn four_words(text: &[u8]) -> Option<(&[u8], &[u8], &[u8], &[u8])>
+    ensures found { IfSome result (λ words. words_of text.now ≡ words.0.now ∷ words.1.now ∷ words.2.now ∷ words.3.now ∷ []) }
+    ensures only { length (words_of text.now) ≡ 4 → IsSome result }
+{
+    let (first, rest) = split_word(text)?;
+    let (second, rest) = split_word(rest)?;
+    let (third, fourth) = two_words(rest)?;
+    Some((first, second, third, fourth))
 }

@@ -1,7 +1,7 @@
 use Rattle.std.proofs.Common.{Some, ap, refl, sym}
 use Rattle.nd_chronicle.specs.Event as events
 use Rattle.nd_node.specs.Event.{clearable_of, table_of}
-use Rattle.nd_script.specs.declared.command.Command.TheVariants.{Rx, Send, Confirm, Forget, Clear, Show}
+use Rattle.nd_script.specs.declared.command.Command.TheVariants.{Rx, Send, Confirm, Forget, Clear, Show, Advertise, Prefix, Route}
 use Rattle.nd_script.specs.Bytes.{IsBytesWord}
 use Rattle.nd_script.specs.Packet.{IsPacket}
 use Rattle.nd_script.proofs.CommandWords.{of_command}
@@ -62,3 +62,19 @@ pub returns-in-Some-read_table-clause-malformed : goal.returns-in-Some-read_tabl
 returns-in-Some-read_table-clause-malformed g c = λ none.
     let table = table_of c.in-Some-read_table.table in
     absurd (none (events.Shows table) (of_command Show c.args.command c.args.words.now (events.Shows table) (sym c.in-Show.is) (table, refl, c.in-Some-read_table.ensures.found)))
+
+pub returns-in-Some-read_settings-clause-malformed : goal.returns-in-Some-read_settings-clause-malformed
+returns-in-Some-read_settings-clause-malformed g c = λ none.
+    let settings = c.in-Some-read_settings.settings in
+    absurd (none (events.Advertises settings) (of_command Advertise c.args.command c.args.words.now (events.Advertises settings) (sym c.in-Advertise.is) (settings, refl, c.in-Some-read_settings.ensures.found)))
+
+pub returns-in-Some-read_offer-clause-malformed : goal.returns-in-Some-read_offer-clause-malformed
+returns-in-Some-read_offer-clause-malformed g c = λ none.
+    let offer = c.in-Some-read_offer.offer in
+    absurd (none (events.Offers offer) (of_command Prefix c.args.command c.args.words.now (events.Offers offer) (sym c.in-Prefix.is) (offer, refl, c.in-Some-read_offer.ensures.found)))
+
+pub returns-in-Some-read_route-clause-malformed : goal.returns-in-Some-read_route-clause-malformed
+returns-in-Some-read_route-clause-malformed g c = λ none.
+    let kept = c.in-Some-read_route.route in
+    let event = events.Routes kept.prefix kept.route in
+    absurd (none event (of_command Route c.args.command c.args.words.now event (sym c.in-Route.is) (kept.prefix, kept.route, refl, c.in-Some-read_route.ensures.found)))
