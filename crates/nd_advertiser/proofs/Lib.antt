@@ -2,3 +2,4 @@ pub mod Offering
 pub mod Keyed
 pub mod OptionList
 pub mod ByRows
+pub mod Dates

@@ -6,3 +6,4 @@ pub mod Advertising
 pub mod Table
 pub mod Calls
 pub mod Contents
+pub mod Overdue
