@@ -1,2 +1,3 @@
 pub mod Formed
 pub mod Meant
+pub mod Redirects

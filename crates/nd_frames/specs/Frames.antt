@@ -73,3 +73,7 @@ defence_frame router mac target = multicast_frame mac target all_nodes (advertis
 -- "Otherwise, the node MUST set the Solicited flag to one and unicast the advertisement to the Source Address of the solicitation."
 abbrev pub answer_frame : Bool → Mac → Addr → Addr → List ℕ
 answer_frame router mac target asker = message_frame open_mac mac target asker (advertisement router true mac target)
+
+-- a Router Advertisement to all nodes (section 6.2.4)
+abbrev pub router_advertisement_frame : Mac → Addr → Parts → List ℕ
+router_advertisement_frame mac source message = multicast_frame mac source all_nodes message

@@ -1,14 +1,19 @@
-//! The frames that a node sends of its own (RFC 4861, sections 4 and 7.2; RFC 4862, section 5.4), each written into room that is taken
-//! beforehand, so that sending it takes no memory.
+//! The frames that a node sends of its own (RFC 4861, sections 4 and 7.2; RFC 4862, section 5.4). The short ones are written into room that is
+//! taken beforehand, so that sending one takes no memory; those of a router are made before they are sent.
 #![tactic(auto)]
 
 mod advertisement;
 mod frame_room;
 pub mod laws;
+mod long_frame;
+mod redirect;
+mod router_advertisement;
 mod router_solicitation;
 mod solicitation;
 
 pub use frame_room::FrameRoom;
+pub use redirect::redirect_frame;
+pub use router_advertisement::router_advertisement_frame;
 
 #[cfg(test)]
 mod tests;
