@@ -9,7 +9,7 @@ use Rattle.nd_routers.specs.History.{RouterRow}
 use Rattle.nd_chronicle.specs.Start.{Start}
 use Rattle.nd_chronicle.specs.Happening.{Chronicle}
 use Rattle.nd_chronicle.specs.Histories.{router_history, address_history, neighbour_history}
-use Rattle.nd_chronicle.specs.Due.{What, RouterEnds, AddressFalls, NeighbourFalls, RoutersSolicited, Redraws, Due, comes}
+use Rattle.nd_chronicle.specs.Due.{What, RouterEnds, AddressFalls, NeighbourFalls, RoutersSolicited, RouterAdvertises, Redraws, Due, comes}
 use Rattle.nd_chronicle.specs.History.{Walk, over, adds, passes}
 
 -- the answer of each of the three passes that have several
@@ -37,6 +37,7 @@ module _ (start : Start) (c : Chronicle) (m : ℕ) where
   router_due (Some (AddressFalls falls)) due = due.0
   router_due (Some (NeighbourFalls falls)) due = due.0
   router_due (Some RoutersSolicited) due = due.0
+  router_due (Some RouterAdvertises) due = due.0
   router_due (Some Redraws) due = due.0
   router_due None due = due.0
 
@@ -45,6 +46,7 @@ module _ (start : Start) (c : Chronicle) (m : ℕ) where
   address_due (Some (AddressFalls falls)) none due = due.1
   address_due (Some (NeighbourFalls falls)) none due = due.1
   address_due (Some RoutersSolicited) none due = due.1
+  address_due (Some RouterAdvertises) none due = due.1
   address_due (Some Redraws) none due = due.1
   address_due None none due = due.1
 
@@ -53,27 +55,35 @@ module _ (start : Start) (c : Chronicle) (m : ℕ) where
   neighbour_due (Some (AddressFalls falls)) none none' due = absurd (let no : ⊥ = cc in no)
   neighbour_due (Some (NeighbourFalls falls)) none none' due = due.2
   neighbour_due (Some RoutersSolicited) none none' due = due.2
+  neighbour_due (Some RouterAdvertises) none none' due = due.2
   neighbour_due (Some Redraws) none none' due = due.2
   neighbour_due None none none' due = due.2
 
-  -- what the last two passes give, where the others have nothing
-  last_two : (a b : Option What) → Due start c m a → Due start c m b → router_in a ≡ None → address_in a ≡ None → neighbour_in a ≡ None
+  -- what the last three passes give, where the others have nothing
+  last_three : (a b : Option What) → Due start c m a → Due start c m b → router_in a ≡ None → address_in a ≡ None → neighbour_in a ≡ None
       → router_in b ≡ None → address_in b ≡ None → neighbour_in b ≡ None → a ≡ b
-  last_two (Some (RouterEnds x)) b h k r s t u v w = absurd (let no : ⊥ = cc in no)
-  last_two (Some (AddressFalls x)) b h k r s t u v w = absurd (let no : ⊥ = cc in no)
-  last_two (Some (NeighbourFalls x)) b h k r s t u v w = absurd (let no : ⊥ = cc in no)
-  last_two a (Some (RouterEnds x)) h k r s t u v w = absurd (let no : ⊥ = cc in no)
-  last_two a (Some (AddressFalls x)) h k r s t u v w = absurd (let no : ⊥ = cc in no)
-  last_two a (Some (NeighbourFalls x)) h k r s t u v w = absurd (let no : ⊥ = cc in no)
-  last_two (Some RoutersSolicited) (Some RoutersSolicited) h k r s t u v w = refl
-  last_two (Some RoutersSolicited) (Some Redraws) h k r s t u v w = absurd (k.3 h.3)
-  last_two (Some RoutersSolicited) None h k r s t u v w = absurd (k.3 h.3)
-  last_two (Some Redraws) (Some RoutersSolicited) h k r s t u v w = absurd (h.3 k.3)
-  last_two (Some Redraws) (Some Redraws) h k r s t u v w = refl
-  last_two (Some Redraws) None h k r s t u v w = absurd (k.4 h.4)
-  last_two None (Some RoutersSolicited) h k r s t u v w = absurd (h.3 k.3)
-  last_two None (Some Redraws) h k r s t u v w = absurd (h.4 k.4)
-  last_two None None h k r s t u v w = refl
+  last_three (Some (RouterEnds x)) b h k r s t u v w = absurd (let no : ⊥ = cc in no)
+  last_three (Some (AddressFalls x)) b h k r s t u v w = absurd (let no : ⊥ = cc in no)
+  last_three (Some (NeighbourFalls x)) b h k r s t u v w = absurd (let no : ⊥ = cc in no)
+  last_three a (Some (RouterEnds x)) h k r s t u v w = absurd (let no : ⊥ = cc in no)
+  last_three a (Some (AddressFalls x)) h k r s t u v w = absurd (let no : ⊥ = cc in no)
+  last_three a (Some (NeighbourFalls x)) h k r s t u v w = absurd (let no : ⊥ = cc in no)
+  last_three (Some RoutersSolicited) (Some RoutersSolicited) h k r s t u v w = refl
+  last_three (Some RoutersSolicited) (Some RouterAdvertises) h k r s t u v w = absurd (k.3 h.3)
+  last_three (Some RoutersSolicited) (Some Redraws) h k r s t u v w = absurd (k.3 h.3)
+  last_three (Some RoutersSolicited) None h k r s t u v w = absurd (k.3 h.3)
+  last_three (Some RouterAdvertises) (Some RoutersSolicited) h k r s t u v w = absurd (h.3 k.3)
+  last_three (Some RouterAdvertises) (Some RouterAdvertises) h k r s t u v w = refl
+  last_three (Some RouterAdvertises) (Some Redraws) h k r s t u v w = absurd (k.4 h.4)
+  last_three (Some RouterAdvertises) None h k r s t u v w = absurd (k.4 h.4)
+  last_three (Some Redraws) (Some RoutersSolicited) h k r s t u v w = absurd (h.3 k.3)
+  last_three (Some Redraws) (Some RouterAdvertises) h k r s t u v w = absurd (h.4 k.4)
+  last_three (Some Redraws) (Some Redraws) h k r s t u v w = refl
+  last_three (Some Redraws) None h k r s t u v w = absurd (k.5 h.5)
+  last_three None (Some RoutersSolicited) h k r s t u v w = absurd (h.3 k.3)
+  last_three None (Some RouterAdvertises) h k r s t u v w = absurd (h.4 k.4)
+  last_three None (Some Redraws) h k r s t u v w = absurd (h.5 k.5)
+  last_three None None h k r s t u v w = refl
 
   -- the answer of a pass is the whole answer
   router_is : (w : Option What) (key : ℕ) → router_in w ≡ Some key → w ≡ Some (RouterEnds key)
@@ -81,6 +91,7 @@ module _ (start : Start) (c : Chronicle) (m : ℕ) where
   router_is (Some (AddressFalls x)) key e = absurd (let no : ⊥ = cc in no)
   router_is (Some (NeighbourFalls x)) key e = absurd (let no : ⊥ = cc in no)
   router_is (Some RoutersSolicited) key e = absurd (let no : ⊥ = cc in no)
+  router_is (Some RouterAdvertises) key e = absurd (let no : ⊥ = cc in no)
   router_is (Some Redraws) key e = absurd (let no : ⊥ = cc in no)
   router_is None key e = absurd (let no : ⊥ = cc in no)
 
@@ -89,6 +100,7 @@ module _ (start : Start) (c : Chronicle) (m : ℕ) where
   address_is (Some (AddressFalls x)) falls e = cc
   address_is (Some (NeighbourFalls x)) falls e = absurd (let no : ⊥ = cc in no)
   address_is (Some RoutersSolicited) falls e = absurd (let no : ⊥ = cc in no)
+  address_is (Some RouterAdvertises) falls e = absurd (let no : ⊥ = cc in no)
   address_is (Some Redraws) falls e = absurd (let no : ⊥ = cc in no)
   address_is None falls e = absurd (let no : ⊥ = cc in no)
 
@@ -97,13 +109,14 @@ module _ (start : Start) (c : Chronicle) (m : ℕ) where
   neighbour_is (Some (AddressFalls x)) falls e = absurd (let no : ⊥ = cc in no)
   neighbour_is (Some (NeighbourFalls x)) falls e = cc
   neighbour_is (Some RoutersSolicited) falls e = absurd (let no : ⊥ = cc in no)
+  neighbour_is (Some RouterAdvertises) falls e = absurd (let no : ⊥ = cc in no)
   neighbour_is (Some Redraws) falls e = absurd (let no : ⊥ = cc in no)
   neighbour_is None falls e = absurd (let no : ⊥ = cc in no)
 
   module _ (a b : Option What) (h : Due start c m a) (k : Due start c m b) where
     by_neighbour : router_in a ≡ None → router_in b ≡ None → address_in a ≡ None → address_in b ≡ None → (x : Option neighbours_due.Falls)
         → neighbour_in a ≡ x → neighbour_in b ≡ x → a ≡ b
-    by_neighbour r r' s s' None e f = last_two a b h k r s e r' s' f
+    by_neighbour r r' s s' None e f = last_three a b h k r s e r' s' f
     by_neighbour r r' s s' (Some x) e f = neighbour_is a x e ∙ sym (neighbour_is b x f)
 
     by_address : router_in a ≡ None → router_in b ≡ None → (x : Option addresses_due.Falls) → address_in a ≡ x → address_in b ≡ x → a ≡ b

@@ -4,14 +4,19 @@ use Rattle.std.specs.Prelude.{MatchBool, map, bytes_eq, nat_lt}
 use Rattle.std.specs.Option.{option_map}
 use Rattle.nd_addr.specs.declared.addr.Addr.{Addr}
 use Rattle.nd_addr.specs.Kind.{multicast_prefix, unspecified_address}
+use Rattle.nd_addr.specs.Ip6.{PacketParts}
 use Rattle.nd_addr.specs.Number.{number_of, holds}
+use Rattle.nd_addr.specs.declared.role.Role.{Role}
+use Rattle.nd_addr.specs.declared.role.Role.TheVariants.{Host, Router}
+use Rattle.nd_routes.specs.Forward.{Fate, lost_no_route, lost_hop_limit, sent, fate}
+use Rattle.nd_routes.specs.Redirect.{last_redirect, redirect}
+use Rattle.nd_routes.specs.Routes.{routes}
 use Rattle.nd_decode.specs.Message.{Parts}
 use Rattle.nd_decode.specs.declared.body.Body.{Body}
 use Rattle.nd_decode.specs.declared.body.Body.TheVariants as bodies
 use Rattle.nd_lifetime.specs.Same.{same_addr, addrs_tell, same_prefix, prefixes_tell, bytes_tell}
 use Rattle.nd_lifetime.proofs.Unique.{one_listing}
 use Rattle.nd_table.proofs.Unique.{one_list}
-use Rattle.nd_validity.specs.Hearing.{Outcome, valid, other, dropped}
 use Rattle.nd_neighbour.specs.History.{RowKind}
 use Rattle.nd_neighbour.specs.Shown as neighbours
 use Rattle.nd_neighbour.proofs.Unique as neighbour_proofs
@@ -21,23 +26,28 @@ use Rattle.nd_slaac.specs.PrefixOption.{prefixes_in}
 use Rattle.nd_slaac.proofs.Unique.{one_fit}
 use Rattle.nd_dns.specs.Names.{same_name}
 use Rattle.nd_chronicle.specs.Start.{Start}
-use Rattle.nd_chronicle.specs.Happening.{Chronicle, Heard, ClearedRedirects, Shown, Limit, Refusal, Full, Passed, TooLate, last_moment}
-use Rattle.nd_chronicle.specs.Histories.{neighbour_history, prefix_history, address_history, server_history, name_history}
+use Rattle.nd_chronicle.specs.Happening.{Chronicle, Heard, ClearedRedirects, RedirectMade, Shown, Limit, Refusal, Full, Passed, TooLate, last_moment}
+use Rattle.nd_chronicle.specs.Histories.{neighbour_history, prefix_history, address_history, server_history, name_history, route_history}
 use Rattle.nd_chronicle.specs.Message.{said, PlaceFor, releasing}
 use Rattle.nd_chronicle.specs.RouterAdvertisement.{then_advertised}
 use Rattle.nd_chronicle.specs.NeighborSolicitation as asked
 use Rattle.nd_chronicle.specs.NeighborSolicitation.{is_router, ThenSolicited, then_tried}
 use Rattle.nd_frames.specs.Frames.{answer_frame}
-use Rattle.nd_chronicle.specs.Packet.{Goes}
+use Rattle.nd_chronicle.specs.OwnAddress.{is_own}
+use Rattle.nd_chronicle.specs.Packet.{no_place, Goes, GoesIfPlaced}
+use Rattle.nd_chronicle.specs.Refused.{UnlessRefused, AtRouter}
+use Rattle.nd_chronicle.specs.Hearing.{Verdict, hears, goes_up, goes_on, drops}
+use Rattle.nd_chronicle.specs.Advertising.{planning, wants_answer, full_of_offers, full_of_routes}
+use Rattle.nd_chronicle.specs.Forwarding.{better_hop_frame, frame_sent_on, Redirects, SendsOn, FateAdds}
 use Rattle.nd_chronicle.specs.NeighborAdvertisement.{then_neighbor_advertised}
-use Rattle.nd_chronicle.specs.Full.{needs, Placed, no_place, Fills}
+use Rattle.nd_chronicle.specs.Full.{needs, Placed, Fills}
 use Rattle.nd_chronicle.specs.Shown as tables
 use Rattle.nd_chronicle.specs.Shown.{Table, AreRows, neighbour_row, router_row, prefix_row, address_row, server_row, search_row}
 use Rattle.nd_chronicle.specs.Event as events
-use Rattle.nd_chronicle.specs.Event.{Event, Clearable, MessageAdds, UnlessRefused, OutcomeAdds, FrameAdds, PacketAdds, GoesIfPlaced, SendAdds, refusal_of_packet, ClearAdds, clearing, all_leaving, EventAdds}
+use Rattle.nd_chronicle.specs.Event.{Event, Clearable, packet_bytes, MessageAdds, VerdictAdds, FrameAdds, PacketAdds, SendAdds, refusal_of_packet, ClearAdds, clearing, all_leaving, EventAdds}
 use Rattle.nd_chronicle.specs.History.{Walk, Follows, Runs}
-use Rattle.nd_chronicle.proofs.Places.{one_place, one_has_place, one_goes}
-use Rattle.nd_chronicle.proofs.Hops.{one_router_list, one_next_hop, one_heard}
+use Rattle.nd_chronicle.proofs.Places.{one_place, one_has_place, have_one_place, one_goes}
+use Rattle.nd_chronicle.proofs.Hops.{one_router_list, one_hop, one_heard}
 use Rattle.nd_chronicle.proofs.Dues.{one_walk}
 
 -- by a test, or by a refusal
@@ -46,9 +56,13 @@ by_test true f g a b = f a b
 by_test false f g a b = g a b
 
 module _ (start : Start) (c : Chronicle) (now : ℕ) where
-  unless_refused : (r : Option Refusal) (A : Chronicle → Type 0) (d e : Chronicle) → (A d → A e → d ≡ e) → UnlessRefused start now r A c d → UnlessRefused start now r A c e → d ≡ e
+  unless_refused : (r : Option Refusal) (A : Chronicle → Type 0) (d e : Chronicle) → (A d → A e → d ≡ e) → UnlessRefused now r A c d → UnlessRefused now r A c e → d ≡ e
   unless_refused None A d e one h k = one h k
   unless_refused (Some refusal) A d e one h k = h ∙ sym k
+
+  at_router : (role : Role) (A : Chronicle → Type 0) (d e : Chronicle) → (A d → A e → d ≡ e) → AtRouter now role A c d → AtRouter now role A c e → d ≡ e
+  at_router Host A d e one h k = h ∙ sym k
+  at_router Router A d e one h k = one h k
 
   one_place_for : (news : Option (ℕ × RowKind)) (d e : Chronicle) → PlaceFor start c now news d → PlaceFor start c now news e → d ≡ e
   one_place_for None d e h k = h ∙ sym k
@@ -98,28 +112,47 @@ module _ (start : Start) (c : Chronicle) (now : ℕ) where
     one_message (bodies.Ra ra) d e h k = one_behind (λ placed. then_advertised start now source destination ra message placed) d e h k
     one_message (bodies.Na na) d e h k = one_behind (λ placed. then_neighbor_advertised now source destination na.target message placed) d e h k
     one_message bodies.Rs d e h k =
-        one_behind (λ placed. releasing now (said c source message) (neighbour_history placed) ((now, Heard source destination message) ∷ placed)) d e h k
+        one_behind (λ placed. planning start now (wants_answer start c) (releasing now (said c source message) (neighbour_history placed) ((now, Heard source destination message) ∷ placed))) d e h k
     one_message (bodies.Redirect r) d e h k =
         one_behind (λ placed. releasing now (said c source message) (neighbour_history placed) ((now, Heard source destination message) ∷ placed)) d e h k
-
-  one_outcome : (frame : List ℕ) (o : Outcome) (d e : Chronicle) → OutcomeAdds start now frame o c d → OutcomeAdds start now frame o c e → d ≡ e
-  one_outcome frame (dropped why) d e h k = h ∙ sym k
-  one_outcome frame (other packet) d e h k = h ∙ sym k
-  one_outcome frame (valid source destination message) d e h k =
-      let same : h.0 ≡ k.0 = one_full source message message.body h.0 k.0 h.1 k.1 in
-      unless_refused (option_map Full k.0) (MessageAdds start now source destination message message.body c) d e (one_message source destination message message.body d e)
-      (subst (λ (full : Option Limit). UnlessRefused start now (option_map Full full) (MessageAdds start now source destination message message.body c) c d) same h.2) k.2
-
-  pub one_frame : (frame : List ℕ) (d e : Chronicle) → FrameAdds start now frame c d → FrameAdds start now frame c e → d ≡ e
-  one_frame frame d e h k =
-      one_outcome frame k.outcome d e
-      (subst (λ (o : Outcome). OutcomeAdds start now frame o c d) (one_heard c now start frame h.outcome k.outcome h.heard k.heard) h.adds) k.adds
 
   one_if_placed : (key : ℕ) (packet : List ℕ) (d e : Chronicle) → GoesIfPlaced start now key packet c d → GoesIfPlaced start now key packet c e → d ≡ e
   one_if_placed key packet d e h k =
       let same : h.0 ≡ k.0 = one_has_place start c now key true h.0 k.0 h.1 k.1 in
       unless_refused (option_map Full (no_place k.0)) (Goes start c now key packet) d e (one_goes start c now key packet d e)
-      (subst (λ (place : Bool). UnlessRefused start now (option_map Full (no_place place)) (Goes start c now key packet) c d) same h.2) k.2
+      (subst (λ (place : Bool). UnlessRefused now (option_map Full (no_place place)) (Goes start c now key packet) c d) same h.2) k.2
+
+  module _ (packet : PacketParts) (bytes : List ℕ) where
+    one_redirects : (target : Addr) (key : ℕ) (d e : Chronicle) → Redirects start now target packet bytes key c d → Redirects start now target packet bytes key c e → d ≡ e
+    one_redirects target key d e h k =
+        let same : h.told ≡ k.told = one_goes start ((now, RedirectMade) ∷ c) now (number_of packet.header.source.0) (better_hop_frame start now target packet bytes c) h.told k.told h.redirect k.redirect in
+        one_goes start k.told now key (frame_sent_on start now packet) d e (subst (λ (x : Chronicle). Goes start x now key (frame_sent_on start now packet) d) same h.behind) k.behind
+
+    one_sends_on : (target : Option Addr) (key : ℕ) (d e : Chronicle) → SendsOn start now target packet bytes key c d → SendsOn start now target packet bytes key c e → d ≡ e
+    one_sends_on None key d e h k = one_if_placed key _ d e h k
+    one_sends_on (Some target) key d e h k =
+        let same : h.0 ≡ k.0 = have_one_place start c now (number_of packet.header.source.0) key h.0 k.0 h.1 k.1 in
+        unless_refused (option_map Full (no_place k.0)) (Redirects start now target packet bytes key c) d e (one_redirects target key d e)
+        (subst (λ (place : Bool). UnlessRefused now (option_map Full (no_place place)) (Redirects start now target packet bytes key c) c d) same h.2) k.2
+
+    one_fate : (f : Fate) (d e : Chronicle) → FateAdds start now f packet bytes c d → FateAdds start now f packet bytes c e → d ≡ e
+    one_fate lost_no_route d e h k = h ∙ sym k
+    one_fate lost_hop_limit d e h k = h ∙ sym k
+    one_fate (sent next) d e h k = one_sends_on (redirect (is_own c) (routes (route_history c)) (last_redirect (route_history c)) now packet.header) _ d e h k
+
+  one_verdict : (frame : List ℕ) (v : Verdict) (d e : Chronicle) → VerdictAdds start now frame v c d → VerdictAdds start now frame v c e → d ≡ e
+  one_verdict frame (drops why) d e h k = h ∙ sym k
+  one_verdict frame (goes_up packet) d e h k = h ∙ sym k
+  one_verdict frame (goes_on packet) d e h k = one_fate packet (packet_bytes frame) (fate (is_own c) (routes (route_history c)) packet.header) d e h k
+  one_verdict frame (hears source destination message) d e h k =
+      let same : h.0 ≡ k.0 = one_full source message message.body h.0 k.0 h.1 k.1 in
+      unless_refused (option_map Full k.0) (MessageAdds start now source destination message message.body c) d e (one_message source destination message message.body d e)
+      (subst (λ (full : Option Limit). UnlessRefused now (option_map Full full) (MessageAdds start now source destination message message.body c) c d) same h.2) k.2
+
+  pub one_frame : (frame : List ℕ) (d e : Chronicle) → FrameAdds start now frame c d → FrameAdds start now frame c e → d ≡ e
+  one_frame frame d e h k =
+      one_verdict frame k.verdict d e
+      (subst (λ (v : Verdict). VerdictAdds start now frame v c d) (one_heard c now start frame h.verdict k.verdict h.heard k.heard) h.adds) k.adds
 
   module _ (source destination : Addr) (next_header : ℕ) (payload : List ℕ) where
     one_packet : (next : NextHop) (d e : Chronicle) → PacketAdds start now next source destination next_header payload c d → PacketAdds start now next source destination next_header payload c e → d ≡ e
@@ -129,7 +162,7 @@ module _ (start : Start) (c : Chronicle) (now : ℕ) where
 
     one_send : (d e : Chronicle) → SendAdds start now source destination next_header payload c d → SendAdds start now source destination next_header payload c e → d ≡ e
     one_send d e h k = unless_refused (refusal_of_packet start now source payload c) _ d e
-        (λ x y. one_packet y.0 d e (subst (λ (next : NextHop). PacketAdds start now next source destination next_header payload c d) (one_next_hop c now destination x.0 y.0 x.1 y.1) x.2) y.2) h k
+        (λ x y. one_packet y.0 d e (subst (λ (next : NextHop). PacketAdds start now next source destination next_header payload c d) (one_hop c now start.role destination x.0 y.0 x.1 y.1) x.2) y.2) h k
 
   one_clear : (table : Clearable) (d e : Chronicle) → ClearAdds start now table c d → ClearAdds start now table c e → d ≡ e
   one_clear events.ClearNeighbours d e h k = h.2 ∙ ap (λ nodes. clearing start now nodes c) (neighbour_proofs.one_table (neighbour_history c) h.0 k.0 h.1 k.1) ∙ sym k.2
@@ -163,10 +196,12 @@ module _ (start : Start) (c : Chronicle) (now : ℕ) where
   one_event (events.Forgets neighbour) d e h k = h ∙ sym k
   one_event (events.Clears table) d e h k = one_clear table d e h k
   one_event (events.Shows table) d e h k = h.2 ∙ ap (λ rows. (now, Shown rows) ∷ c) (one_rows table h.0 k.0 h.1 k.1) ∙ sym k.2
-  one_event (events.Advertises settings) d e h k = h ∙ sym k
-  one_event (events.Offers info) d e h k = h ∙ sym k
-  one_event (events.Routes prefix route) d e h k = h ∙ sym k
-  one_event events.Stops d e h k = h ∙ sym k
+  one_event (events.Advertises settings) d e h k = at_router start.role _ d e (λ x y. x ∙ sym y) h k
+  one_event (events.Offers info) d e h k =
+      at_router start.role _ d e (λ x y. unless_refused (option_map Full (full_of_offers start info.prefix c)) _ d e (λ u v. u ∙ sym v) x y) h k
+  one_event (events.Routes prefix route) d e h k =
+      at_router start.role _ d e (λ x y. unless_refused (option_map Full (full_of_routes prefix c)) _ d e (λ u v. u ∙ sym v) x y) h k
+  one_event events.Stops d e h k = at_router start.role _ d e (λ x y. x ∙ sym y) h k
 
 module _ (start : Start) where
   one_walked : (c : Chronicle) (now : ℕ) (event : Event) (d e : Chronicle)

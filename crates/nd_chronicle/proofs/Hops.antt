@@ -24,8 +24,10 @@ use Rattle.nd_chronicle.specs.Start.{Start}
 use Rattle.nd_chronicle.specs.Happening.{Chronicle}
 use Rattle.nd_chronicle.specs.Histories.{router_history, prefix_history, redirect_history}
 use Rattle.nd_chronicle.specs.OwnAddress.{is_own}
-use Rattle.nd_chronicle.specs.NextHop.{candidate, AreRouters, IsNextHop}
-use Rattle.nd_chronicle.specs.Hearing.{FromFirstHop, NotFromFirstHop, Judges, IsDropped, IsTaken, IsStrange, IsMisdirected, IsPacket, IsStrangePacket, IsHeard}
+use Rattle.nd_addr.specs.declared.role.Role.{Role}
+use Rattle.nd_addr.specs.declared.role.Role.TheVariants.{Host, Router}
+use Rattle.nd_chronicle.specs.NextHop.{candidate, AreRouters, IsNextHop, IsHopOf}
+use Rattle.nd_chronicle.specs.Hearing.{FromFirstHop, NotFromFirstHop, Verdict, Judges, IsDropped, IsTaken, IsStrange, IsMisdirected, IsPacket, IsPassing, IsStrangePacket, IsHeard}
 
 module _ (c : Chronicle) (now : ℕ) where
   pub one_router_list : (es fs : List (Lasting ℕ)) → Lists same (announcements (router_history c)) now es → Lists same (announcements (router_history c)) now fs → es ≡ fs
@@ -47,6 +49,10 @@ module _ (c : Chronicle) (now : ℕ) where
       (one_routers h.routers k.routers h.those k.those)
       ∙ sym k.next_is
 
+  pub one_hop : (role : Role) (destination : Addr) (m n : NextHop) → IsHopOf role c now destination m → IsHopOf role c now destination n → m ≡ n
+  one_hop Host destination m n h k = one_next_hop destination m n h k
+  one_hop Router destination m n h k = h ∙ sym k
+
   not_both : (source : Addr) (body : Body) → FromFirstHop c now source body → NotFromFirstHop c now source body → ⊥
   not_both source (bodies.Redirect r) h k = k.2 (one_next_hop r.destination k.0 (via (number_of source.0)) k.1 h)
   not_both source bodies.Rs h k = k
@@ -55,7 +61,7 @@ module _ (c : Chronicle) (now : ℕ) where
   not_both source (bodies.Na na) h k = k
 
   module _ (start : Start) where
-    one_judged : {said a b : Outcome} → Judges start c now said a → Judges start c now said b → a ≡ b
+    one_judged : {said : Outcome} {a b : Verdict} → Judges start c now said a → Judges start c now said b → a ≡ b
     one_judged IsDropped IsDropped = refl
     one_judged (IsTaken u f) (IsTaken u' f') = refl
     one_judged (IsTaken u f) (IsStrange n) = absurd (n u)
@@ -67,10 +73,15 @@ module _ (c : Chronicle) (now : ℕ) where
     one_judged (IsMisdirected u n) (IsStrange n') = absurd (n' u)
     one_judged (IsMisdirected u n) (IsMisdirected u' n') = refl
     one_judged (IsPacket u) (IsPacket u') = refl
-    one_judged (IsPacket u) (IsStrangePacket n) = absurd (n u)
-    one_judged (IsStrangePacket n) (IsPacket u) = absurd (n u)
-    one_judged (IsStrangePacket n) (IsStrangePacket n') = refl
+    one_judged (IsPacket u) (IsPassing t) = absurd (t.not_ours u)
+    one_judged (IsPacket u) (IsStrangePacket n m) = absurd (n u)
+    one_judged (IsPassing t) (IsPacket u) = absurd (t.not_ours u)
+    one_judged (IsPassing t) (IsPassing t') = refl
+    one_judged (IsPassing t) (IsStrangePacket n m) = absurd (m t)
+    one_judged (IsStrangePacket n m) (IsPacket u) = absurd (n u)
+    one_judged (IsStrangePacket n m) (IsPassing t) = absurd (m t)
+    one_judged (IsStrangePacket n m) (IsStrangePacket n' m') = refl
 
-    pub one_heard : (frame : List ℕ) (a b : Outcome) → IsHeard start c now frame a → IsHeard start c now frame b → a ≡ b
+    pub one_heard : (frame : List ℕ) (a b : Verdict) → IsHeard start c now frame a → IsHeard start c now frame b → a ≡ b
     one_heard frame a b h k =
         one_judged (subst (λ (o : Outcome). Judges start c now o a) (hears_one frame start.role h.outcome k.outcome h.by_frame k.by_frame) h.by_node) k.by_node

@@ -3,6 +3,7 @@ pub mod Hops
 pub mod Dues
 pub mod Events
 pub mod Growth
+pub mod Pasts
 pub mod Tried
 pub mod Idle
 pub mod Rivals

@@ -11,7 +11,7 @@ use Rattle.nd_chronicle.specs.Happening.{Chronicle}
 use Rattle.nd_chronicle.specs.Histories.{neighbour_history}
 use Rattle.nd_chronicle.specs.InForce.{retrans_timer}
 use Rattle.nd_chronicle.specs.Packet as packets
-use Rattle.nd_chronicle.specs.Packet.{HasPlace, Goes, with_pushed, then_packet}
+use Rattle.nd_chronicle.specs.Packet.{HasPlace, HavePlace, Goes, with_pushed, then_packet}
 
 longer : (x : Row) (h : List Row) → x ∷ h ≡ h → ⊥
 longer x h e = let l = ap length e in omega (arith, l)
@@ -54,6 +54,12 @@ module _ (start : Start) (c : Chronicle) (at key : ℕ) where
   one_has_place enters true false h k = absurd (h k.0 k.1)
   one_has_place enters false true h k = absurd (k h.0 h.1)
   one_has_place enters false false h k = refl
+
+  pub have_one_place : (second : ℕ) (a b : Bool) → HavePlace start c at key second a → HavePlace start c at key second b → a ≡ b
+  have_one_place second true true h k = refl
+  have_one_place second true false h k = absurd (k h)
+  have_one_place second false true h k = absurd (h k)
+  have_one_place second false false h k = refl
 
   pub one_goes : (packet : List ℕ) (d e : Chronicle) → Goes start c at key packet d → Goes start c at key packet e → d ≡ e
   one_goes packet d e g h =

@@ -15,7 +15,7 @@ use Rattle.nd_frames.specs.Meaning.{IsUnicast, IsDetection, IsDefence}
 use Rattle.nd_frames.proofs.Meant.{detection_heard, defence_heard}
 use Rattle.nd_chronicle.specs.Start.{Start}
 use Rattle.nd_chronicle.specs.Happening.{Chronicle, Heard}
-use Rattle.nd_chronicle.specs.Hearing.{is_awake, IsTaken}
+use Rattle.nd_chronicle.specs.Hearing.{hears, is_awake, IsTaken}
 use Rattle.nd_chronicle.specs.NeighborSolicitation.{then_tried}
 use Rattle.nd_chronicle.specs.NeighborAdvertisement.{then_neighbor_advertised}
 use Rattle.nd_chronicle.specs.OwnAddress.{is_own}
@@ -33,11 +33,11 @@ module _ (start : Start) (c : Chronicle) (now : ℕ) (frame : List ℕ) (address
   tried_by : (message : Parts) → message.body ≡ bodies.Ns (record { target = address }) → is_own c address.0 ≡ true → is_awake start c unspecified (bodies.Ns (record { target = address })) ≡ true
       → Hears frame start.role (valid unspecified (solicited_node address) message)
       → FrameAdds start now frame c (then_tried start now address ((now, Heard unspecified (solicited_node address) message) ∷ c))
-  tried_by message e own awake hears =
+  tried_by message e own awake heard =
       subst (λ (m : Parts). Hears frame start.role (valid unspecified (solicited_node address) m) → FrameAdds start now frame c (then_tried start now address ((now, Heard unspecified (solicited_node address) m) ∷ c)))
       (sym (ap (λ (b : Body). let m : Parts = record { body = b; options = message.options } in m) e))
       (λ h. record {
-        outcome = valid unspecified (solicited_node address) (record { body = bodies.Ns (record { target = address }); options = message.options });
+        verdict = hears unspecified (solicited_node address) (record { body = bodies.Ns (record { target = address }); options = message.options });
         heard = record {
           outcome = valid unspecified (solicited_node address) (record { body = bodies.Ns (record { target = address }); options = message.options });
           by_frame = h;
@@ -52,7 +52,7 @@ module _ (start : Start) (c : Chronicle) (now : ℕ) (frame : List ℕ) (address
           }) tt;
         };
         adds = (None, record { neighbours = true; placed = refl; first = refl }, refl);
-      }) hears
+      }) heard
 
   pub tried : (d : Chronicle) → IsUnicast address → (t : IsDetection frame address) → is_own c address.0 ≡ true → is_awake start c unspecified (bodies.Ns (record { target = address })) ≡ true
       → FrameAdds start now frame c d → d ≡ then_tried start now address ((now, Heard unspecified (solicited_node address) t.message) ∷ c)
@@ -63,18 +63,18 @@ module _ (start : Start) (c : Chronicle) (now : ℕ) (frame : List ℕ) (address
       → is_awake start c address (bodies.Na (record { router = router; solicited = false; override_flag = overrides; target = address })) ≡ true
       → Hears frame start.role (valid address all_nodes message)
       → FrameAdds start now frame c (then_neighbor_advertised now address all_nodes address message c)
-  held_by message router overrides e awake hears =
+  held_by message router overrides e awake heard =
       subst (λ (m : Parts). Hears frame start.role (valid address all_nodes m) → FrameAdds start now frame c (then_neighbor_advertised now address all_nodes address m c))
       (sym (ap (λ (b : Body). let m : Parts = record { body = b; options = message.options } in m) e))
       (λ h. record {
-        outcome = valid address all_nodes (record { body = bodies.Na (record { router = router; solicited = false; override_flag = overrides; target = address }); options = message.options });
+        verdict = hears address all_nodes (record { body = bodies.Na (record { router = router; solicited = false; override_flag = overrides; target = address }); options = message.options });
         heard = record {
           outcome = valid address all_nodes (record { body = bodies.Na (record { router = router; solicited = false; override_flag = overrides; target = address }); options = message.options });
           by_frame = h;
           by_node = IsTaken (record { destination_is = inl refl; target = refl; awake = awake }) tt;
         };
         adds = (None, record { neighbours = true; placed = λ enters full. (let no : ⊥ = cc in no); first = refl }, (c, record { pushed = None; place = refl; with_it = refl }, refl));
-      }) hears
+      }) heard
 
   pub told : (d : Chronicle) → IsUnicast address → (t : IsDefence frame address)
       → is_awake start c address (bodies.Na (record { router = t.router; solicited = false; override_flag = t.overrides; target = address })) ≡ true

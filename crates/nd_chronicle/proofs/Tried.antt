@@ -6,7 +6,16 @@ use Rattle.std.specs.Prelude.{MatchBool, bytes_eq, nat_lt, ◌==◌, ◌||◌, �
 use Rattle.std.specs.Option.{option_map, option_to_list}
 use Rattle.nd_addr.specs.declared.addr.Addr.{Addr}
 use Rattle.nd_addr.specs.Kind.{multicast_prefix, unspecified_address}
+use Rattle.nd_addr.specs.Ip6.{PacketParts}
 use Rattle.nd_addr.specs.Number.{number_of, holds}
+use Rattle.nd_addr.specs.declared.role.Role.{Role}
+use Rattle.nd_addr.specs.declared.role.Role.TheVariants.{Host, Router}
+use Rattle.nd_advertiser.specs.Advertising.{advertised_by, tells_its_end}
+use Rattle.nd_advertiser.specs.Config.{Settings}
+use Rattle.nd_advertiser.specs.Contents.{last_contents_of}
+use Rattle.nd_routes.specs.Forward.{Fate, lost_no_route, lost_hop_limit, sent, fate}
+use Rattle.nd_routes.specs.Redirect.{last_redirect, redirect}
+use Rattle.nd_routes.specs.Routes.{routes}
 use Rattle.nd_decode.specs.Message.{Parts}
 use Rattle.nd_decode.specs.declared.body.Body.{Body}
 use Rattle.nd_decode.specs.declared.body.Body.TheVariants as bodies
@@ -15,7 +24,7 @@ use Rattle.nd_decode.specs.declared.router_advertisement.RouterAdvertisement.{Ro
 use Rattle.nd_lifetime.specs.declared.lasting.Lasting.{Lasting}
 use Rattle.nd_params.specs.History as parameters
 use Rattle.nd_params.specs.Params.{redraws}
-use Rattle.nd_validity.specs.Hearing.{Outcome, valid, other, dropped}
+use Rattle.nd_validity.specs.Hearing.{Outcome}
 use Rattle.nd_neighbour.specs.Due as neighbours_due
 use Rattle.nd_neighbour.specs.Entry.{Node, waiting_in}
 use Rattle.nd_neighbour.specs.History as neighbours
@@ -33,20 +42,23 @@ use Rattle.nd_slaac.specs.State as states
 use Rattle.nd_slaac.proofs.Histories.{held}
 use Rattle.nd_slaac.proofs.Overdue.{still_none}
 use Rattle.nd_chronicle.specs.Start.{Start, link_local_key}
-use Rattle.nd_chronicle.specs.Happening.{Chronicle, Happening, Address, Heard, Lost, Neighbour, Passed, TooLate, Forgotten, Loss, Refusal, Full, last_moment}
-use Rattle.nd_chronicle.specs.Histories.{address_history, neighbour_history, parameter_history}
+use Rattle.nd_chronicle.specs.Happening.{Chronicle, Happening, Address, Heard, Lost, Neighbour, Passed, TooLate, Ceased, RedirectMade, Forgotten, Loss, Refusal, Full, last_moment}
+use Rattle.nd_chronicle.specs.Histories.{address_history, neighbour_history, parameter_history, advertising_history, route_history}
 use Rattle.nd_chronicle.specs.InForce.{base_reachable_time, retrans_timer}
-use Rattle.nd_chronicle.specs.OwnAddress.{story_of, is_assigned, is_tentative}
-use Rattle.nd_chronicle.specs.Packet.{losing, sending, with_pushed, MakesPlace, then_packet, Goes}
-use Rattle.nd_chronicle.specs.Hearing.{IsForUs, Judges, IsTaken, takes_target}
+use Rattle.nd_chronicle.specs.OwnAddress.{story_of, is_assigned, is_own, is_tentative}
+use Rattle.nd_chronicle.specs.Packet.{losing, sending, with_pushed, MakesPlace, then_packet, Goes, GoesIfPlaced}
+use Rattle.nd_chronicle.specs.Refused.{UnlessRefused, AtRouter}
+use Rattle.nd_chronicle.specs.Advertising.{advertising_by, planning, telling_end, wants_answer, full_of_offers, full_of_routes}
+use Rattle.nd_chronicle.specs.Forwarding.{Redirects, SendsOn, FateAdds}
+use Rattle.nd_chronicle.specs.Hearing.{Verdict, hears, goes_up, goes_on, drops, IsForUs, Judges, IsTaken, takes_target}
 use Rattle.nd_chronicle.specs.Message.{said, PlaceFor, sending_if_known, releasing, leaving}
 use Rattle.nd_chronicle.specs.RouterAdvertisement.{redrawing, delay_for, with_delay, forming, naming, then_option, then_options, times_out, then_advertised}
 use Rattle.nd_chronicle.specs.NeighborSolicitation as asked
 use Rattle.nd_chronicle.specs.NeighborSolicitation.{then_tried}
 use Rattle.nd_chronicle.specs.NeighborAdvertisement.{conflicting, ends_in_list, then_neighbor_advertised}
 use Rattle.nd_chronicle.specs.Event as events
-use Rattle.nd_chronicle.specs.Event.{Event, Clearable, MessageAdds, UnlessRefused, OutcomeAdds, FrameAdds, PacketAdds, GoesIfPlaced, SendAdds, refusal_of_packet, ClearAdds, clearing, all_leaving, EventAdds}
-use Rattle.nd_chronicle.specs.Due.{What, RouterEnds, AddressFalls, NeighbourFalls, RoutersSolicited, Redraws, Due, then_address, then_neighbour, comes}
+use Rattle.nd_chronicle.specs.Event.{Event, Clearable, packet_bytes, MessageAdds, VerdictAdds, FrameAdds, PacketAdds, SendAdds, refusal_of_packet, ClearAdds, clearing, all_leaving, EventAdds}
+use Rattle.nd_chronicle.specs.Due.{What, RouterEnds, AddressFalls, NeighbourFalls, RoutersSolicited, RouterAdvertises, Redraws, Due, then_address, then_neighbour, comes}
 use Rattle.nd_chronicle.specs.History.{Walk, over, adds, passes, Runs, beginning}
 use Rattle.nd_chronicle.proofs.Growth.{AllAt, event_grows}
 
@@ -92,7 +104,7 @@ module _ (at : ℕ) where
 
   module _ (start : Start) where
     packet_same : (key retrans : ℕ) (packet : List ℕ) (s : Sending) (c : Chronicle) → Same c (then_packet start at key retrans packet s c)
-    packet_same key retrans packet (Sends mac sent) c = refl
+    packet_same key retrans packet (Sends mac frame) c = refl
     packet_same key retrans packet (Queues true replaced) c = refl
     packet_same key retrans packet (Queues false replaced) c = losing_same _ (option_to_list replaced) _
 
@@ -109,6 +121,19 @@ module _ (at : ℕ) where
     neighbour_same (neighbours_due.Unicasts key mac) c = refl
     neighbour_same (neighbours_due.Fails key packets) c = losing_same _ packets _
     neighbour_same (neighbours_due.Ages key) c = refl
+
+    advertising_same : (settings : Option Settings) (c : Chronicle) → Same c (advertising_by start at settings c)
+    advertising_same None c = refl
+    advertising_same (Some settings) c = refl
+
+    planning_same : (wants : Bool) (c : Chronicle) → Same c (planning start at wants c)
+    planning_same true c = refl
+    planning_same false c = refl
+
+    telling_same : (tells : Bool) (message : Option Parts) (c : Chronicle) → Same c (telling_end start at tells message c)
+    telling_same true (Some message) c = refl
+    telling_same true None c = refl
+    telling_same false message c = refl
 
     clearing_same : (nodes : List Node) (c : Chronicle) → Same c (clearing start at nodes c)
     clearing_same [] c = refl
@@ -157,6 +182,7 @@ module _ (start : Start) (m : ℕ) where
   fine_comes (AddressFalls falls) c due f = fine_due falls c due.1 f
   fine_comes (NeighbourFalls falls) c due f = fine_same (neighbour_same m start falls c) f
   fine_comes RoutersSolicited c due f = fine_same refl f
+  fine_comes RouterAdvertises c due f = fine_same (advertising_same m start (advertised_by (advertising_history start c)) c) f
   fine_comes Redraws c due f = fine_same refl f
 
 module _ (start : Start) where
@@ -196,19 +222,23 @@ module _ (start : Start) where
         (fine_if (is_taken info) _ c (fine_naming to_all (states.is_known (story_of c (named_by start.mac info))) info c refl f) f)
 
     fine_tried : (target : Addr) (c : Chronicle) (assigned : Bool) → is_assigned c target.0 ≡ assigned → (is_assigned c target.0 ≡ false → is_tentative c target.0 ≡ true) → Fine c now
-        → (sent : Happening) → Same c ((now, sent) ∷ c)
-        → Fine (cond assigned ((now, sent) ∷ c) ((now, Address (number_of target.0) addresses.Conflict) ∷ c)) now
-    fine_tried target c true is tentative f sent same = fine_same same f
-    fine_tried target c false is tentative f sent same = fine_row (number_of target.0) addresses.Conflict (tentative is) f
+        → (what : Happening) → Same c ((now, what) ∷ c)
+        → Fine (cond assigned ((now, what) ∷ c) ((now, Address (number_of target.0) addresses.Conflict) ∷ c)) now
+    fine_tried target c true is tentative f what same = fine_same same f
+    fine_tried target c false is tentative f what same = fine_row (number_of target.0) addresses.Conflict (tentative is) f
 
     fine_conflicting : (target : Addr) (c : Chronicle) (t : Bool) → is_tentative c target.0 ≡ t → Fine c now → Fine (conflicting now t (number_of target.0) c) now
     fine_conflicting target c true is f = fine_row (number_of target.0) addresses.Conflict is f
     fine_conflicting target c false is f = f
 
     module _ (c : Chronicle) (f : Fine c now) where
-      fine_refused : (r : Option Refusal) (A : Chronicle → Type 0) (d : Chronicle) → (A d → Fine d now) → UnlessRefused start now r A c d → Fine d now
+      fine_refused : (r : Option Refusal) (A : Chronicle → Type 0) (d : Chronicle) → (A d → Fine d now) → UnlessRefused now r A c d → Fine d now
       fine_refused None A d g h = g h
       fine_refused (Some refusal) A d g h = fine_same (ap address_history h) f
+
+      fine_at_router : (role : Role) (A : Chronicle → Type 0) (d : Chronicle) → (A d → Fine d now) → AtRouter now role A c d → Fine d now
+      fine_at_router Host A d g h = fine_same (ap address_history h) f
+      fine_at_router Router A d g h = g h
 
       module _ (source destination : Addr) (message : Parts) where
         fine_advertised : (ra : RouterAdvertisement) (d : Chronicle) → Fine d now → Fine (then_advertised start now source destination ra message d) now
@@ -266,22 +296,38 @@ module _ (start : Start) where
         fine_message (bodies.Na na) takes d h =
             fine_same (ap address_history h.2) (fine_neighbor_advertised na.target h.0 (fine_same (place_for_same start c now (said c source message) h.0 h.1) f))
         fine_message bodies.Rs takes d h =
-            fine_known h.0 h.1 d h.2
+            let row = (now, Heard source destination message) ∷ h.0 in
+            let all = releasing now (said c source message) (neighbour_history h.0) row in
+            fine_same {c = all} (ap address_history h.2 ∙ planning_same now start (wants_answer start c) all) (fine_known h.0 h.1 all refl)
         fine_message (bodies.Redirect r) takes d h =
             fine_known h.0 h.1 d h.2
 
-        for_us : {outcome : Outcome} → Judges start c now outcome (valid source destination message) → IsForUs start c source destination message
+        for_us : {outcome : Outcome} → Judges start c now outcome (hears source destination message) → IsForUs start c source destination message
         for_us (IsTaken u h) = u
-
-      fine_outcome : (frame : List ℕ) (said' outcome : Outcome) (d : Chronicle) → Judges start c now said' outcome → OutcomeAdds start now frame outcome c d → Fine d now
-      fine_outcome frame said' (dropped why) d j h = fine_same (ap address_history h) f
-      fine_outcome frame said' (other packet) d j h = fine_same (ap address_history h) f
-      fine_outcome frame said' (valid source destination message) d j h =
-          fine_refused (option_map Full h.0) (MessageAdds start now source destination message message.body c) d
-          (fine_message source destination message message.body (for_us source destination message j).target d) h.2
 
       fine_placed : (key : ℕ) (packet : List ℕ) (d : Chronicle) → GoesIfPlaced start now key packet c d → Fine d now
       fine_placed key packet d h = fine_refused _ (Goes start c now key packet) d (λ g. fine_same (goes_same start c now key packet d g) f) h.2
+
+      fine_redirects : (target : Addr) (packet : PacketParts) (bytes : List ℕ) (key : ℕ) (d : Chronicle) → Redirects start now target packet bytes key c d → Fine d now
+      fine_redirects target packet bytes key d h =
+          fine_same {c = h.told} (goes_same start h.told now key _ d h.behind) (fine_same {c = (now, RedirectMade) ∷ c} (goes_same start ((now, RedirectMade) ∷ c) now _ _ h.told h.redirect) (fine_same refl f))
+
+      fine_sends_on : (target : Option Addr) (packet : PacketParts) (bytes : List ℕ) (key : ℕ) (d : Chronicle) → SendsOn start now target packet bytes key c d → Fine d now
+      fine_sends_on None packet bytes key d h = fine_placed key _ d h
+      fine_sends_on (Some target) packet bytes key d h = fine_refused _ (Redirects start now target packet bytes key c) d (fine_redirects target packet bytes key d) h.2
+
+      fine_fate : (fate : Fate) (packet : PacketParts) (bytes : List ℕ) (d : Chronicle) → FateAdds start now fate packet bytes c d → Fine d now
+      fine_fate lost_no_route packet bytes d h = fine_same (ap address_history h) f
+      fine_fate lost_hop_limit packet bytes d h = fine_same (ap address_history h) f
+      fine_fate (sent next) packet bytes d h = fine_sends_on (redirect (is_own c) (routes (route_history c)) (last_redirect (route_history c)) now packet.header) packet bytes _ d h
+
+      fine_verdict : (frame : List ℕ) (outcome : Outcome) (v : Verdict) (d : Chronicle) → Judges start c now outcome v → VerdictAdds start now frame v c d → Fine d now
+      fine_verdict frame outcome (drops why) d j h = fine_same (ap address_history h) f
+      fine_verdict frame outcome (goes_up packet) d j h = fine_same (ap address_history h) f
+      fine_verdict frame outcome (goes_on packet) d j h = fine_fate (fate (is_own c) (routes (route_history c)) packet.header) packet (packet_bytes frame) d h
+      fine_verdict frame outcome (hears source destination message) d j h =
+          fine_refused (option_map Full h.0) (MessageAdds start now source destination message message.body c) d
+          (fine_message source destination message message.body (for_us source destination message j).target d) h.2
 
       module _ (source destination : Addr) (next_header : ℕ) (payload : List ℕ) where
         fine_direct : (t : Bool) (what : Happening) (key : ℕ) (packet : List ℕ) (d : Chronicle) → Same c ((now, what) ∷ c)
@@ -306,23 +352,26 @@ module _ (start : Start) where
 
       fine_event : (event : Event) (d : Chronicle) → EventAdds start now event c d → Fine d now
       fine_event events.Passes d h = fine_same (ap address_history h) f
-      fine_event (events.Receives frame) d h = fine_outcome frame h.heard.outcome h.outcome d h.heard.by_node h.adds
+      fine_event (events.Receives frame) d h = fine_verdict frame h.heard.outcome h.verdict d h.heard.by_node h.adds
       fine_event (events.Sends source destination next_header payload) d h = fine_send source destination next_header payload d h
       fine_event (events.Confirms neighbour) d h = fine_same (ap address_history h) f
       fine_event (events.Forgets neighbour) d h =
           fine_same (ap address_history h ∙ losing_same now Forgotten (waits_of (story (number_of neighbour.0) (neighbour_history c))) ((now, Neighbour (number_of neighbour.0) (neighbours.Forgot neighbours.Removed)) ∷ c)) f
       fine_event (events.Clears table) d h = fine_clear table d h
       fine_event (events.Shows table) d h = fine_same (ap address_history h.2) f
-      fine_event (events.Advertises settings) d h = fine_same (ap address_history h) f
-      fine_event (events.Offers info) d h = fine_same (ap address_history h) f
-      fine_event (events.Routes prefix route) d h = fine_same (ap address_history h) f
-      fine_event events.Stops d h = fine_same (ap address_history h) f
+      fine_event (events.Advertises settings) d h = fine_at_router start.role _ d (λ x. fine_same (ap address_history x) f) h
+      fine_event (events.Offers info) d h =
+          fine_at_router start.role _ d (λ x. fine_refused (option_map Full (full_of_offers start info.prefix c)) _ d (λ y. fine_same (ap address_history y) f) x) h
+      fine_event (events.Routes prefix route) d h =
+          fine_at_router start.role _ d (λ x. fine_refused (option_map Full (full_of_routes prefix c)) _ d (λ y. fine_same (ap address_history y) f) x) h
+      fine_event events.Stops d h =
+          fine_at_router start.role _ d (λ x. fine_same (ap address_history x ∙ telling_same now start (tells_its_end (advertising_history start c)) (last_contents_of start.mac (advertising_history start c)) ((now, Ceased) ∷ c)) f) h
 
   -- ---- the newest moment
 
   newest : (now : ℕ) (newer c : Chronicle) → AllAt now newer → last_moment start.at c ≡ now → last_moment start.at (newer ++ c) ≡ now
   newest now [] c all e = e
-  newest now ((at, TooLate last) ∷ newer) c all e = newest now newer c all.1 e
+  newest now ((at, TooLate last) ∷ newer) c all e = newest now newer c all.2 e
   newest now ((at, _) ∷ newer) c all e = all.0
 
   fine_follows : (t : Bool) (c : Chronicle) (now last : ℕ) (event : Event) (d : Chronicle) → Fine c (last_moment start.at c)

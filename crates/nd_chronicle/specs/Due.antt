@@ -1,4 +1,4 @@
--- What falls due in a millisecond, in the order of seven passes, and what comes with it.
+-- What falls due in a millisecond, in the order of its passes, and what comes with it.
 use Rattle.std.specs.Prelude.{◌≡◌, ◌≢◌, ℕ, ◌+◌, ◌*◌, Bool, true, false, ◌&&◌, ◌||◌, not, ◌==◌, nat_lt, if◌then◌else◌, List, [], ◌∷◌, Option, Some, None}
 use Rattle.std.specs.Option.{option_map}
 use Rattle.nd_addr.specs.declared.role.Role.{Role}
@@ -12,7 +12,9 @@ use Rattle.nd_slaac.specs.Due as addresses
 use Rattle.nd_slaac.specs.History as address_rows
 use Rattle.nd_chronicle.specs.Start.{Start, link_local, link_local_key}
 use Rattle.nd_chronicle.specs.Happening.{Chronicle, Drew, ForReachableTime, Neighbour, Address, LeftRouter, SolicitedRouters, Sent, Unreachable}
-use Rattle.nd_chronicle.specs.Histories.{parameter_history, neighbour_history, router_history, address_history}
+use Rattle.nd_chronicle.specs.Histories.{parameter_history, neighbour_history, router_history, address_history, advertising_history}
+use Rattle.nd_advertiser.specs.Advertising.{next_of}
+use Rattle.nd_chronicle.specs.Advertising.{then_advertising}
 use Rattle.nd_chronicle.specs.InForce.{base_reachable_time, next_redraw}
 use Rattle.nd_chronicle.specs.Generator.{stream_left, reachable_drawn}
 use Rattle.nd_frames.specs.Frames.{detection_frame, resolution_frame, probe_frame, router_solicitation_frame}
@@ -57,16 +59,23 @@ router_solicitation_date start c =
     then option_map (λ at. at + solicited_routers c * rtr_solicitation_interval) (assigned_at (link_local_key start) (address_history c))
     else None
 
+-- ---- Router Advertisements (RFC 4861, section 6.2.4)
+
+-- the date of the next one: a host sends none
+abbrev pub router_advertisement_date : Start → Chronicle → Option ℕ
+router_advertisement_date start c = if is_host start.role then None else next_of (advertising_history start c)
+
 -- ---- the passes
 
 -- what may fall due: a router's lifetime ends (RFC 4861, section 6.3.5); an own address ends, is to be solicited or is assigned (RFC 4862,
--- sections 5.4 and 5.5.4); a neighbour is to be solicited, fails or ages (RFC 4861, sections 7.2.2 and 7.3.3); a Router Solicitation is to be
--- sent; ReachableTime is to be drawn again (section 6.3.4)
+-- sections 5.4 and 5.5.4); a neighbour is to be solicited, fails or ages (RFC 4861, sections 7.2.2 and 7.3.3); a Router Solicitation, or a
+-- Router Advertisement, is to be sent (sections 6.3.7 and 6.2.4); ReachableTime is to be drawn again (section 6.3.4)
 pub data What : Type 0 where
   RouterEnds : (key : ℕ) → What
   AddressFalls : (falls : addresses.Falls) → What
   NeighbourFalls : (falls : neighbours.Falls) → What
   RoutersSolicited : What
+  RouterAdvertises : What
   Redraws : What
 
 abbrev pub NoRouter : Chronicle → ℕ → Type 0
@@ -81,8 +90,11 @@ NoNeighbour c moment = neighbours.FirstDue (neighbour_history c) moment None
 abbrev pub NoSolicitation : Start → Chronicle → ℕ → Type 0
 NoSolicitation start c moment = router_solicitation_date start c ≢ Some moment
 
+abbrev pub NoAdvertisement : Start → Chronicle → ℕ → Type 0
+NoAdvertisement start c moment = router_advertisement_date start c ≢ Some moment
+
 -- What is due first at the moment and isn't in the chronicle: the routers' ends, the addresses' ends, their detections, the neighbours, Router
--- Solicitations, a redraw, each pass in the order of addresses.
+-- Solicitations, Router Advertisements, a redraw, each pass in the order of addresses.
 abbrev pub Due : Start → Chronicle → ℕ → Option What → Type 0
 Due start c moment (Some (RouterEnds key)) = routers.FirstDue (router_history c) moment (Some key)
 Due start c moment (Some (AddressFalls falls)) = NoRouter c moment × addresses.FirstDue (address_history c) moment (Some falls)
@@ -90,10 +102,15 @@ Due start c moment (Some (NeighbourFalls falls)) =
     NoRouter c moment × NoAddress c moment × neighbours.FirstDue (neighbour_history c) moment (Some falls)
 Due start c moment (Some RoutersSolicited) =
     NoRouter c moment × NoAddress c moment × NoNeighbour c moment × (router_solicitation_date start c ≡ Some moment)
+Due start c moment (Some RouterAdvertises) =
+    NoRouter c moment × NoAddress c moment × NoNeighbour c moment × NoSolicitation start c moment
+    × (router_advertisement_date start c ≡ Some moment)
 Due start c moment (Some Redraws) =
-    NoRouter c moment × NoAddress c moment × NoNeighbour c moment × NoSolicitation start c moment × (next_redraw c ≡ moment)
+    NoRouter c moment × NoAddress c moment × NoNeighbour c moment × NoSolicitation start c moment × NoAdvertisement start c moment
+    × (next_redraw c ≡ moment)
 Due start c moment None =
-    NoRouter c moment × NoAddress c moment × NoNeighbour c moment × NoSolicitation start c moment × (next_redraw c ≢ moment)
+    NoRouter c moment × NoAddress c moment × NoNeighbour c moment × NoSolicitation start c moment × NoAdvertisement start c moment
+    × (next_redraw c ≢ moment)
 
 -- ---- what comes with it
 
@@ -117,4 +134,5 @@ module _ (start : Start) (at : ℕ) where
   comes (AddressFalls falls) c = then_address falls c
   comes (NeighbourFalls falls) c = then_neighbour falls c
   comes RoutersSolicited c = (at, Sent (router_solicitation_frame start.mac (link_local start))) ∷ (at, SolicitedRouters) ∷ c
+  comes RouterAdvertises c = then_advertising start at c
   comes Redraws c = (at, Drew ForReachableTime (reachable_drawn (base_reachable_time c) (stream_left start c))) ∷ c

@@ -1,6 +1,5 @@
 -- What an event adds to a chronicle: a frame, a packet to be sent, a command. The milliseconds up to it have passed.
 use Rattle.std.specs.Prelude.{◌≡◌, ℕ, ◌+◌, nat_lt, Bool, true, if◌then◌else◌, MatchBool, List, [], ◌∷◌, length, take, Option, Some, None}
-use Rattle.std.specs.Option.{option_map}
 use Rattle.nd_addr.specs.declared.addr.Addr.{Addr}
 use Rattle.nd_addr.specs.declared.mac.Mac.{Mac}
 use Rattle.nd_addr.specs.Frame.{written_frame}
@@ -16,7 +15,6 @@ use Rattle.nd_decode.specs.declared.body.Body.TheVariants as bodies
 use Rattle.nd_decode.specs.declared.prefix_info.PrefixInfo.{PrefixInfo}
 use Rattle.nd_lifetime.specs.declared.lasting.Lasting.{Lasting}
 use Rattle.nd_lifetime.specs.Listing.{Lists}
-use Rattle.nd_validity.specs.Hearing.{Outcome, valid, other, dropped}
 use Rattle.nd_neighbour.specs.Entry.{Node, waiting_in}
 use Rattle.nd_neighbour.specs.History as neighbours
 use Rattle.nd_neighbour.specs.History.{story}
@@ -27,19 +25,22 @@ use Rattle.nd_routers.specs.History.{announcements}
 use Rattle.nd_routers.specs.Routers.{same}
 use Rattle.nd_routes.specs.declared.route.Route.{Route}
 use Rattle.nd_chronicle.specs.Start.{Start}
-use Rattle.nd_chronicle.specs.Happening.{Chronicle, Heard, Dropped, Up, Neighbour, LeftRouter, ClearedPrefixes, ClearedRedirects, ClearedDns, Sent, Lost, Refused, Shown, Limit, Refusal, WrongRole, Disabled, NotOurs, TooLong, Full, Routeless, Forgotten}
+use Rattle.nd_chronicle.specs.Happening.{Chronicle, Heard, Dropped, Up, Neighbour, LeftRouter, ClearedPrefixes, ClearedRedirects, ClearedDns, Configured, Offered, RoutePut, Sent, Lost, Shown, Limit, Refusal, Disabled, NotOurs, TooLong, Routeless, Forgotten}
 use Rattle.nd_chronicle.specs.Histories.{neighbour_history, router_history}
 use Rattle.nd_chronicle.specs.InForce.{hop_limit, link_mtu, reachable_time}
 use Rattle.nd_chronicle.specs.OwnAddress.{is_assigned, is_disabled}
 use Rattle.nd_frames.specs.Frames.{multicast_mac, open_mac}
-use Rattle.nd_chronicle.specs.Packet.{losing, Goes, HasPlace}
-use Rattle.nd_chronicle.specs.NextHop.{IsNextHop}
-use Rattle.nd_chronicle.specs.Hearing.{IsHeard}
+use Rattle.nd_chronicle.specs.Packet.{losing, GoesIfPlaced}
+use Rattle.nd_chronicle.specs.NextHop.{IsHopOf}
+use Rattle.nd_chronicle.specs.Hearing.{Verdict, hears, goes_up, goes_on, drops, IsHeard}
 use Rattle.nd_chronicle.specs.Message.{said, PlaceFor, releasing}
 use Rattle.nd_chronicle.specs.RouterAdvertisement.{then_advertised}
 use Rattle.nd_chronicle.specs.NeighborSolicitation.{ThenSolicited}
 use Rattle.nd_chronicle.specs.NeighborAdvertisement.{then_neighbor_advertised}
-use Rattle.nd_chronicle.specs.Full.{Fills, no_place}
+use Rattle.nd_chronicle.specs.Full.{Fills}
+use Rattle.nd_chronicle.specs.Refused.{UnlessRefused, UnlessFull, AtRouter}
+use Rattle.nd_chronicle.specs.Advertising.{planning, wants_answer, ceasing, full_of_offers, full_of_routes}
+use Rattle.nd_chronicle.specs.Forwarding.{ForwardAdds}
 use Rattle.nd_chronicle.specs.Shown.{Table, AreRows}
 
 -- the tables that a command clears
@@ -71,6 +72,10 @@ pub data Event : Type 0 where
   -- a router is to cease advertising (section 6.2.5)
   Stops : Event
 
+-- the packet of a frame, from its IPv6 header to the end of its payload: what follows is padding
+abbrev pub packet_bytes : List ℕ → List ℕ
+packet_bytes frame = take (ipv6_header_length + payload_length_of (packet_in frame)) (packet_in frame)
+
 module _ (start : Start) (now : ℕ) where
   -- ---- a frame comes
 
@@ -81,29 +86,24 @@ module _ (start : Start) (now : ℕ) where
       (placed : Chronicle) × PlaceFor start c now (said c source message) placed × (d ≡ then_advertised start now source destination ra message placed)
   MessageAdds source destination message (bodies.Na na) c d =
       (placed : Chronicle) × PlaceFor start c now (said c source message) placed × (d ≡ then_neighbor_advertised now source destination na.target message placed)
-  MessageAdds source destination message _ c d =
+  MessageAdds source destination message (bodies.Redirect r) c d =
       (placed : Chronicle) × PlaceFor start c now (said c source message) placed
       × (d ≡ releasing now (said c source message) (neighbour_history placed) ((now, Heard source destination message) ∷ placed))
+  MessageAdds source destination message bodies.Rs c d =
+      (placed : Chronicle) × PlaceFor start c now (said c source message) placed
+      × (d ≡ planning start now (wants_answer start c) (releasing now (said c source message) (neighbour_history placed) ((now, Heard source destination message) ∷ placed)))
 
-  -- what is refused adds its refusal alone
-  abbrev pub UnlessRefused : Option Refusal → (Chronicle → Type 0) → Chronicle → Chronicle → Type 0
-  UnlessRefused None Adds c d = Adds d
-  UnlessRefused (Some refusal) Adds c d = d ≡ (now, Refused refusal) ∷ c
-
-  -- so is what would fill a table
-  abbrev pub UnlessFull : Option Limit → (Chronicle → Type 0) → Chronicle → Chronicle → Type 0
-  UnlessFull full Adds c d = UnlessRefused (option_map Full full) Adds c d
-
-  abbrev pub OutcomeAdds : List ℕ → Outcome → Chronicle → Chronicle → Type 0
-  OutcomeAdds frame (dropped why) c d = d ≡ (now, Dropped why) ∷ c
-  OutcomeAdds frame (other packet) c d = d ≡ (now, Up (take (ipv6_header_length + payload_length_of (packet_in frame)) (packet_in frame))) ∷ c
-  OutcomeAdds frame (valid source destination message) c d =
-      (full : Option Limit) × Fills start c now source message message.body full × UnlessFull full (MessageAdds source destination message message.body c) c d
+  abbrev pub VerdictAdds : List ℕ → Verdict → Chronicle → Chronicle → Type 0
+  VerdictAdds frame (drops why) c d = d ≡ (now, Dropped why) ∷ c
+  VerdictAdds frame (goes_up packet) c d = d ≡ (now, Up (packet_bytes frame)) ∷ c
+  VerdictAdds frame (goes_on packet) c d = ForwardAdds start now packet (packet_bytes frame) c d
+  VerdictAdds frame (hears source destination message) c d =
+      (full : Option Limit) × Fills start c now source message message.body full × UnlessFull now full (MessageAdds source destination message message.body c) c d
 
   pub record FrameAdds (frame : List ℕ) (c d : Chronicle) : Type 0 where
-    pub outcome : Outcome
-    pub heard : IsHeard start c now frame outcome
-    pub adds : OutcomeAdds frame outcome c d
+    pub verdict : Verdict
+    pub heard : IsHeard start c now frame verdict
+    pub adds : VerdictAdds frame verdict c d
 
   -- ---- a packet is to be sent (RFC 4861, section 5.2)
 
@@ -117,10 +117,6 @@ module _ (start : Start) (now : ℕ) where
     destination = destination;
   }) payload
 
-  -- to a neighbour, if that has place
-  abbrev pub GoesIfPlaced : ℕ → List ℕ → Chronicle → Chronicle → Type 0
-  GoesIfPlaced key packet c d = (place : Bool) × HasPlace start c now key true place × UnlessFull (no_place place) (Goes start c now key packet) c d
-
   -- what goes to a multicast address goes out at once (RFC 2464, section 7)
   abbrev pub PacketAdds : NextHop → Addr → Addr → ℕ → List ℕ → Chronicle → Chronicle → Type 0
   PacketAdds no_route source destination next_header payload c d =
@@ -128,9 +124,9 @@ module _ (start : Start) (now : ℕ) where
   PacketAdds direct source destination next_header payload c d =
       MatchBool (holds multicast_prefix destination.0)
       (d ≡ (now, Sent (packet_frame (multicast_mac destination) source destination next_header payload c)) ∷ c)
-      (GoesIfPlaced (number_of destination.0) (packet_frame open_mac source destination next_header payload c) c d)
+      (GoesIfPlaced start now (number_of destination.0) (packet_frame open_mac source destination next_header payload c) c d)
   PacketAdds (via key) source destination next_header payload c d =
-      GoesIfPlaced key (packet_frame open_mac source destination next_header payload c) c d
+      GoesIfPlaced start now key (packet_frame open_mac source destination next_header payload c) c d
 
   -- why it isn't sent at all, the first that holds
   abbrev pub refusal_of_packet : Addr → List ℕ → Chronicle → Option Refusal
@@ -141,8 +137,8 @@ module _ (start : Start) (now : ℕ) where
       else Some (NotOurs source)
 
   abbrev pub SendAdds : Addr → Addr → ℕ → List ℕ → Chronicle → Chronicle → Type 0
-  SendAdds source destination next_header payload c d = UnlessRefused (refusal_of_packet source payload c)
-      (λ e. (next : NextHop) × IsNextHop c now destination next × PacketAdds next source destination next_header payload c e) c d
+  SendAdds source destination next_header payload c d = UnlessRefused now (refusal_of_packet source payload c)
+      (λ e. (next : NextHop) × IsHopOf start.role c now destination next × PacketAdds next source destination next_header payload c e) c d
 
   -- ---- commands
 
@@ -178,7 +174,7 @@ module _ (start : Start) (now : ℕ) where
   EventAdds (Forgets neighbour) c d = d ≡ forgetting (number_of neighbour.0) c
   EventAdds (Clears table) c d = ClearAdds table c d
   EventAdds (Shows table) c d = (rows : List (List ℕ)) × AreRows start c now table rows × (d ≡ (now, Shown rows) ∷ c)
-  EventAdds (Advertises settings) c d = d ≡ (now, Refused WrongRole) ∷ c
-  EventAdds (Offers info) c d = d ≡ (now, Refused WrongRole) ∷ c
-  EventAdds (Routes prefix route) c d = d ≡ (now, Refused WrongRole) ∷ c
-  EventAdds Stops c d = d ≡ (now, Refused WrongRole) ∷ c
+  EventAdds (Advertises settings) c d = AtRouter now start.role (λ e. e ≡ (now, Configured settings) ∷ c) c d
+  EventAdds (Offers info) c d = AtRouter now start.role (λ e. UnlessFull now (full_of_offers start info.prefix c) (λ x. x ≡ (now, Offered info) ∷ c) c e) c d
+  EventAdds (Routes prefix route) c d = AtRouter now start.role (λ e. UnlessFull now (full_of_routes prefix c) (λ x. x ≡ (now, RoutePut prefix route) ∷ c) c e) c d
+  EventAdds Stops c d = AtRouter now start.role (λ e. e ≡ ceasing start now c) c d

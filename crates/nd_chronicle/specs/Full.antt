@@ -24,7 +24,7 @@ use Rattle.nd_dns.specs.Servers.{servers_told}
 use Rattle.nd_chronicle.specs.Start.{Start}
 use Rattle.nd_chronicle.specs.Happening.{Chronicle, Limit, Neighbours, Routers, Prefixes, Addresses, Servers, Names}
 use Rattle.nd_chronicle.specs.Histories.{router_history, prefix_history, address_history, server_history, name_history}
-use Rattle.nd_chronicle.specs.Packet.{HasPlace}
+use Rattle.nd_chronicle.specs.Packet.{HasPlace, no_place}
 use Rattle.nd_chronicle.specs.Message.{said, lets_enter}
 
 -- the neighbour that has to have place, and whether it enters
@@ -44,9 +44,6 @@ needs c source message _ = entering (said c source message)
 abbrev pub Placed : Start → Chronicle → ℕ → Option (ℕ × Bool) → Bool → Type 0
 Placed start c now None place = place ≡ true
 Placed start c now (Some need) place = HasPlace start c now need.0 need.1 place
-
-abbrev pub no_place : Bool → Option Limit
-no_place place = if place then None else Some Neighbours
 
 -- the first that has no room, of all tables
 abbrev pub first_full : Bool → Bool → Bool → Bool → Bool → Bool → Option Limit

@@ -2,6 +2,7 @@
 use Rattle.std.specs.Prelude.{ℕ, ◌+◌, ◌-◌, ◌%◌, [], ◌∷◌}
 use Rattle.rand_core.specs.Stream.{Stream, next_u32}
 use Rattle.nd_params.specs.Params.{reachable_range}
+use Rattle.nd_advertiser.specs.Config.{Settings, interval_range}
 use Rattle.nd_chronicle.specs.Start.{Start}
 use Rattle.nd_chronicle.specs.Happening.{Chronicle, Drew}
 
@@ -27,3 +28,16 @@ max_rtr_solicitation_delay = 1000
 -- that delay
 abbrev pub delay_drawn : Stream → ℕ
 delay_drawn stream = drawn_from 0 max_rtr_solicitation_delay stream
+
+-- the time until the next Router Advertisement, in milliseconds: "uniformly distributed between the interface's configured MinRtrAdvInterval
+-- and MaxRtrAdvInterval" (RFC 4861, section 6.2.4)
+abbrev pub interval_drawn : Settings → Stream → ℕ
+interval_drawn settings stream = drawn_from (interval_range settings).0 (interval_range settings).1 stream
+
+-- MAX_RA_DELAY_TIME: how long the answer to a Router Solicitation waits at most, in milliseconds (RFC 4861, section 10)
+abbrev pub max_ra_delay_time : ℕ
+max_ra_delay_time = 500
+
+-- that delay (section 6.2.6)
+abbrev pub answer_delay_drawn : Stream → ℕ
+answer_delay_drawn stream = drawn_from 0 max_ra_delay_time stream

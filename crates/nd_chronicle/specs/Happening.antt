@@ -1,24 +1,32 @@
 -- What happens at a node, each with its moment in milliseconds, the newest first. Nothing here is a state: each question looks back.
 use Rattle.std.specs.Prelude.{ℕ, List, [], ◌∷◌}
+use Rattle.nd_addr.specs.Prefix.{PrefixValue}
 use Rattle.nd_addr.specs.declared.addr.Addr.{Addr}
 use Rattle.nd_addr.specs.declared.why.Why.{Why}
 use Rattle.nd_decode.specs.Message.{Parts}
+use Rattle.nd_decode.specs.declared.prefix_info.PrefixInfo.{PrefixInfo}
+use Rattle.nd_advertiser.specs.Config.{Settings}
+use Rattle.nd_routes.specs.declared.route.Route.{Route}
 use Rattle.nd_neighbour.specs.History as neighbours
 use Rattle.nd_slaac.specs.History as addresses
 
--- what a word of the generator is drawn for: ReachableTime (RFC 4861, section 6.3.2), or the delay of the first solicitation for an
--- address (RFC 4862, section 5.4.2)
+-- what a word of the generator is drawn for: ReachableTime (RFC 4861, section 6.3.2), the delay of the first solicitation for an address
+-- (RFC 4862, section 5.4.2), the time until the next Router Advertisement (RFC 4861, section 6.2.4), or the delay of one that answers
+-- (section 6.2.6)
 pub data Draw : Type 0 where
   ForReachableTime : Draw
   ForDelay : Draw
+  ForInterval : Draw
+  ForAnswer : Draw
 
 -- why a packet is lost: its neighbour can't be reached (RFC 4861, section 7.2.2), a later one took its place among those that wait, its
--- neighbour was to be forgotten, or there is no next hop for it
+-- neighbour was to be forgotten, there is no next hop for it, or its hop limit is spent (RFC 8200, section 3)
 pub data Loss : Type 0 where
   Unreachable : Loss
   Replaced : Loss
   Forgotten : Loss
   Routeless : Loss
+  Spent : Loss
 
 -- the tables that have a limit, in the order in which they are asked for room
 pub data Limit : Type 0 where
@@ -28,6 +36,8 @@ pub data Limit : Type 0 where
   Addresses : Limit
   Servers : Limit
   Names : Limit
+  Offers : Limit
+  StaticRoutes : Limit
 
 -- why an event is refused: it is a router's command at a host; the link-local address is a duplicate; the source is no assigned address;
 -- the packet is longer than the MTU of the link; a table would pass its limit
@@ -61,6 +71,18 @@ pub data Happening : Type 0 where
   ClearedDns : Happening
   -- a Router Solicitation was sent (RFC 4861, section 6.3.7)
   SolicitedRouters : Happening
+  -- a router is to advertise with these settings, and this prefix too, or to cease (RFC 4861, sections 6.2.1 and 6.2.5)
+  Configured : (settings : Settings) → Happening
+  Offered : (info : PrefixInfo) → Happening
+  Ceased : Happening
+  -- a Router Advertisement was sent, and the next one comes after this time (section 6.2.4)
+  Advertised : (interval : ℕ) → Happening
+  -- a Router Solicitation is to be answered, after this delay (section 6.2.6)
+  Planned : (delay : ℕ) → Happening
+  -- a router has a static route
+  RoutePut : (prefix : PrefixValue) (route : Route) → Happening
+  -- a Redirect was made (section 8.2)
+  RedirectMade : Happening
   -- a frame was sent
   Sent : (frame : List ℕ) → Happening
   -- a packet was lost, a frame whose Ethernet destination was still open

@@ -13,6 +13,7 @@ use Rattle.nd_decode.specs.declared.body.Body.{Body}
 use Rattle.nd_decode.specs.declared.body.Body.TheVariants as bodies
 use Rattle.nd_validity.specs.Hearing.{Outcome, valid, other, dropped, Hears}
 use Rattle.nd_nexthop.specs.NextHop.{NextHop, via}
+use Rattle.nd_routes.specs.Forward.{may_be_forwarded}
 use Rattle.nd_chronicle.specs.Start.{Start, link_local}
 use Rattle.nd_chronicle.specs.Happening.{Chronicle}
 use Rattle.nd_chronicle.specs.NextHop.{IsNextHop}
@@ -63,6 +64,14 @@ pub record IsPacketForUs (start : Start) (c : Chronicle) (packet : PacketParts) 
   pub destination_is : IsOurs start (is_assigned c) packet.header.destination
   pub up : is_up start c ≡ true
 
+-- the packet is to be sent on: it isn't for this node, a router whose link-local address is assigned, and neither its source nor its
+-- destination keeps it on its link (RFC 4291, section 2.5.6)
+pub record IsInTransit (start : Start) (c : Chronicle) (packet : PacketParts) : Type 0 where
+  pub role : start.role ≡ Router
+  pub not_ours : IsPacketForUs start c packet → ⊥
+  pub may : may_be_forwarded packet.header ≡ true
+  pub up : is_up start c ≡ true
+
 -- ---- from whom a Redirect comes
 
 -- "The IP source address of the Redirect is the same as the current first-hop router for the specified ICMP Destination Address."
@@ -78,21 +87,29 @@ NotFromFirstHop c now source _ = ⊥
 
 -- ---- what is heard
 
--- What this node makes of what the frame says by itself: a reason stays; a message is heard that is for it and comes from where it has to;
--- another packet that is for it is heard.
-pub data Judges (start : Start) (c : Chronicle) (now : ℕ) : Outcome → Outcome → Type 0 where
-  IsDropped : {why : Why} → Judges start c now (dropped why) (dropped why)
-  IsTaken : {source destination : Addr} {message : Parts} → IsForUs start c source destination message → FromFirstHop c now source message.body
-      → Judges start c now (valid source destination message) (valid source destination message)
-  IsStrange : {source destination : Addr} {message : Parts} → (IsForUs start c source destination message → ⊥)
-      → Judges start c now (valid source destination message) (dropped NotForUs)
-  IsMisdirected : {source destination : Addr} {message : Parts} → IsForUs start c source destination message → NotFromFirstHop c now source message.body
-      → Judges start c now (valid source destination message) (dropped NotFirstHop)
-  IsPacket : {packet : PacketParts} → IsPacketForUs start c packet → Judges start c now (other packet) (other packet)
-  IsStrangePacket : {packet : PacketParts} → (IsPacketForUs start c packet → ⊥) → Judges start c now (other packet) (dropped NotForUs)
+-- a message is heard; another packet goes up, to the upper layer, or on, to another node; or the frame is dropped for a reason
+pub data Verdict : Type 0 where
+  hears : (source destination : Addr) (message : Parts) → Verdict
+  goes_up : (packet : PacketParts) → Verdict
+  goes_on : (packet : PacketParts) → Verdict
+  drops : (why : Why) → Verdict
 
--- this is heard in the frame
-pub record IsHeard (start : Start) (c : Chronicle) (now : ℕ) (frame : List ℕ) (heard : Outcome) : Type 0 where
+-- What this node makes of what the frame says by itself: a reason stays; a message is heard that is for it and comes from where it has to;
+-- another packet goes up that is for it, and on where it is in transit.
+pub data Judges (start : Start) (c : Chronicle) (now : ℕ) : Outcome → Verdict → Type 0 where
+  IsDropped : {why : Why} → Judges start c now (dropped why) (drops why)
+  IsTaken : {source destination : Addr} {message : Parts} → IsForUs start c source destination message → FromFirstHop c now source message.body
+      → Judges start c now (valid source destination message) (hears source destination message)
+  IsStrange : {source destination : Addr} {message : Parts} → (IsForUs start c source destination message → ⊥)
+      → Judges start c now (valid source destination message) (drops NotForUs)
+  IsMisdirected : {source destination : Addr} {message : Parts} → IsForUs start c source destination message → NotFromFirstHop c now source message.body
+      → Judges start c now (valid source destination message) (drops NotFirstHop)
+  IsPacket : {packet : PacketParts} → IsPacketForUs start c packet → Judges start c now (other packet) (goes_up packet)
+  IsPassing : {packet : PacketParts} → IsInTransit start c packet → Judges start c now (other packet) (goes_on packet)
+  IsStrangePacket : {packet : PacketParts} → (IsPacketForUs start c packet → ⊥) → (IsInTransit start c packet → ⊥) → Judges start c now (other packet) (drops NotForUs)
+
+-- this is made of the frame
+pub record IsHeard (start : Start) (c : Chronicle) (now : ℕ) (frame : List ℕ) (verdict : Verdict) : Type 0 where
   pub outcome : Outcome
   pub by_frame : Hears frame start.role outcome
-  pub by_node : Judges start c now outcome heard
+  pub by_node : Judges start c now outcome verdict

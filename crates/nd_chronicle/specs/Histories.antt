@@ -1,5 +1,5 @@
 -- What of a chronicle concerns each table: the history that the table stands for.
-use Rattle.std.specs.Prelude.{ℕ, Bool, true, false, if◌then◌else◌, bytes_eq, List, [], ◌∷◌, Option, Some, None}
+use Rattle.std.specs.Prelude.{ℕ, ◌==◌, Bool, true, false, if◌then◌else◌, bytes_eq, List, [], ◌∷◌, Option, Some, None}
 use Rattle.std.specs.Option.{option_map}
 use Rattle.nd_addr.specs.Kind.{unspecified_address}
 use Rattle.nd_addr.specs.Number.{number_of}
@@ -21,7 +21,10 @@ use Rattle.nd_slaac.specs.History as addresses
 use Rattle.nd_dns.specs.Servers.{servers_told}
 use Rattle.nd_dns.specs.Names.{names_told}
 use Rattle.nd_nexthop.specs.History as redirects
-use Rattle.nd_chronicle.specs.Happening.{ForReachableTime, Drew, Heard, Neighbour, Address, LeftRouter, ClearedPrefixes, ClearedRedirects, ClearedDns, Chronicle}
+use Rattle.nd_advertiser.specs.History as advertising
+use Rattle.nd_routes.specs.History as routes
+use Rattle.nd_chronicle.specs.Start.{Start, link_local_key}
+use Rattle.nd_chronicle.specs.Happening.{ForReachableTime, Drew, Heard, Neighbour, Address, LeftRouter, ClearedPrefixes, ClearedRedirects, ClearedDns, Configured, Offered, Ceased, Advertised, Planned, RoutePut, RedirectMade, Chronicle}
 use Rattle.nd_chronicle.specs.LinkLayerAddress.{first_slla, first_tlla}
 
 -- ---- the parameters of the link: what Router Advertisements tell, and the draws of ReachableTime (RFC 4861, section 6.3.4)
@@ -153,3 +156,28 @@ redirect_history ((at, LeftRouter key) ∷ c) = redirects.TargetGone at key ∷ 
 redirect_history ((at, Neighbour key kind) ∷ c) = then_target at key kind (redirect_history c)
 redirect_history ((at, ClearedRedirects) ∷ c) = redirects.Cleared at ∷ redirect_history c
 redirect_history ((at, _) ∷ c) = redirect_history c
+
+-- ---- what a router advertises (RFC 4861, section 6.2): what it is to advertise, when its link-local address was assigned, when it advertised,
+-- and which solicitations it answers
+
+abbrev pub then_assigned : ℕ → ℕ → ℕ → addresses.RowKind → List advertising.Row → List advertising.Row
+then_assigned own at key addresses.Assigned history = if key == own then advertising.Assigned at ∷ history else history
+then_assigned own at key _ history = history
+
+abbrev pub advertising_history : Start → Chronicle → List advertising.Row
+advertising_history start [] = []
+advertising_history start ((at, Configured settings) ∷ c) = advertising.Advertises at settings ∷ advertising_history start c
+advertising_history start ((at, Offered info) ∷ c) = advertising.Offered info ∷ advertising_history start c
+advertising_history start ((at, Ceased) ∷ c) = advertising.Ceased at ∷ advertising_history start c
+advertising_history start ((at, Advertised interval) ∷ c) = advertising.Sent at interval ∷ advertising_history start c
+advertising_history start ((at, Planned delay) ∷ c) = advertising.Solicited at delay ∷ advertising_history start c
+advertising_history start ((at, Address key kind) ∷ c) = then_assigned (link_local_key start) at key kind (advertising_history start c)
+advertising_history start ((at, _) ∷ c) = advertising_history start c
+
+-- ---- the static routes of a router, and the Redirects that it made (RFC 4861, section 8.2)
+
+abbrev pub route_history : Chronicle → List routes.Row
+route_history [] = []
+route_history ((at, RoutePut prefix route) ∷ c) = routes.RoutePut prefix route ∷ route_history c
+route_history ((at, RedirectMade) ∷ c) = routes.RedirectMade at ∷ route_history c
+route_history ((at, _) ∷ c) = route_history c

@@ -5,6 +5,7 @@ pub mod LinkLayerAddress
 pub mod Histories
 pub mod InForce
 pub mod OwnAddress
+pub mod Refused
 pub mod Packet
 pub mod NextHop
 pub mod Hearing
@@ -13,9 +14,12 @@ pub mod RouterAdvertisement
 pub mod NeighborSolicitation
 pub mod NeighborAdvertisement
 pub mod Full
+pub mod Advertising
+pub mod Forwarding
 pub mod Shown
 pub mod Event
 pub mod Told
 pub mod Growth
+pub mod Past
 pub mod Due
 pub mod History

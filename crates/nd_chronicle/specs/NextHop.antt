@@ -1,6 +1,8 @@
--- The next hop of a host's packets (RFC 4861, sections 5.2 and 6.3.6), asked of a place of a chronicle.
+-- The next hop of a node's packets (RFC 4861, sections 5.2 and 6.3.6), asked of a place of a chronicle.
 use Rattle.std.specs.Prelude.{◌≡◌, ℕ, is_some, List, map}
 use Rattle.nd_addr.specs.declared.addr.Addr.{Addr}
+use Rattle.nd_addr.specs.declared.role.Role.{Role}
+use Rattle.nd_addr.specs.declared.role.Role.TheVariants.{Host, Router}
 use Rattle.nd_addr.specs.Number.{number_of}
 use Rattle.nd_addr.specs.Prefix.{PrefixValue}
 use Rattle.nd_lifetime.specs.declared.lasting.Lasting.{Lasting}
@@ -15,8 +17,10 @@ use Rattle.nd_routers.specs.Routers.{same}
 use Rattle.nd_nexthop.specs.DefaultRouter.{DefaultRouter}
 use Rattle.nd_nexthop.specs.History.{kept}
 use Rattle.nd_nexthop.specs.NextHop.{NextHop, hop}
+use Rattle.nd_routes.specs.NextHop as routes
+use Rattle.nd_routes.specs.Routes.{routes}
 use Rattle.nd_chronicle.specs.Happening.{Chronicle}
-use Rattle.nd_chronicle.specs.Histories.{neighbour_history, router_history, prefix_history, redirect_history}
+use Rattle.nd_chronicle.specs.Histories.{neighbour_history, router_history, prefix_history, redirect_history, route_history}
 use Rattle.nd_chronicle.specs.OwnAddress.{is_own}
 
 -- a router of the list: it is in any state other than INCOMPLETE where its link-layer address is known
@@ -35,10 +39,19 @@ pub record AreRouters (c : Chronicle) (now : ℕ) (routers : List DefaultRouter)
   pub failures : Failures (router_history c) failed
   pub routers_are : routers ≡ map (λ (e : Lasting ℕ). candidate c failed e.key) entries
 
--- it is the next hop of a packet to the destination at the moment
+-- it is the next hop of a host's packet to the destination at the moment
 pub record IsNextHop (c : Chronicle) (now : ℕ) (destination : Addr) (next : NextHop) : Type 0 where
   pub prefixes : List (Lasting PrefixValue)
   pub standing : Lists same_prefix (prefix_history c) now prefixes
   pub routers : List DefaultRouter
   pub those : AreRouters c now routers
   pub next_is : next ≡ hop (is_own c) (λ (a : List ℕ). is_held a prefixes) routers (kept (number_of destination.0) (redirect_history c)) destination.0
+
+-- that of a router's packet, by its static routes
+abbrev pub routed_hop : Chronicle → Addr → NextHop
+routed_hop c destination = routes.hop (is_own c) (routes (route_history c)) destination.0
+
+-- that of a packet of a node
+abbrev pub IsHopOf : Role → Chronicle → ℕ → Addr → NextHop → Type 0
+IsHopOf Host c now destination next = IsNextHop c now destination next
+IsHopOf Router c now destination next = next ≡ routed_hop c destination

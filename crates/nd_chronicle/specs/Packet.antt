@@ -1,16 +1,18 @@
 -- A packet goes to a neighbour (RFC 4861, sections 7.2.2 and 7.3.3).
-use Rattle.std.specs.Prelude.{◌≡◌, ℕ, Bool, true, false, MatchBool, List, [], ◌∷◌, Option, Some, None}
+use Rattle.std.specs.Prelude.{◌≡◌, ℕ, Bool, true, false, if◌then◌else◌, MatchBool, List, [], ◌∷◌, Option, Some, None}
 use Rattle.std.specs.Option.{option_to_list}
 use Rattle.nd_addr.specs.Frame.{addressed}
 use Rattle.nd_addr.specs.Number.{addr_at, mac_at}
 use Rattle.nd_neighbour.specs.History as neighbours
 use Rattle.nd_neighbour.specs.History.{story}
 use Rattle.nd_neighbour.specs.Place.{Prepares, WouldBeFull, pushing}
+use Rattle.nd_neighbour.specs.Room.{HasRoom}
 use Rattle.nd_neighbour.specs.Sending.{Sending, Sends, Queues, sending_of_story}
 use Rattle.nd_chronicle.specs.Start.{Start, link_local}
-use Rattle.nd_chronicle.specs.Happening.{Chronicle, Neighbour, Sent, Lost, Loss, Replaced}
+use Rattle.nd_chronicle.specs.Happening.{Chronicle, Neighbour, Sent, Lost, Loss, Replaced, Limit, Neighbours}
 use Rattle.nd_chronicle.specs.Histories.{neighbour_history}
 use Rattle.nd_chronicle.specs.InForce.{retrans_timer}
+use Rattle.nd_chronicle.specs.Refused.{UnlessFull}
 use Rattle.nd_frames.specs.Frames.{resolution_frame}
 
 -- packets are lost, in their order
@@ -40,6 +42,12 @@ HasPlace start c at key enters place =
     MatchBool place (enters ≡ true → WouldBeFull start.limits.neighbours at key (neighbour_history c) → ⊥)
     ((enters ≡ true) × WouldBeFull start.limits.neighbours at key (neighbour_history c))
 
+-- whether there is place for it, and behind a packet to it for a second one
+abbrev pub HavePlace : Start → Chronicle → ℕ → ℕ → ℕ → Bool → Type 0
+HavePlace start c at key second place =
+    MatchBool place (HasRoom start.limits.neighbours at key (Some second) (neighbour_history c))
+    (HasRoom start.limits.neighbours at key (Some second) (neighbour_history c) → ⊥)
+
 -- what becomes of the packet: one for a neighbour whose link-layer address is known is sent, and uses the neighbour; the first one for
 -- another neighbour begins its resolution, and each waits, where a fourth one takes the place of the oldest
 abbrev pub then_packet : Start → ℕ → ℕ → ℕ → List ℕ → Sending → Chronicle → Chronicle
@@ -56,3 +64,12 @@ pub record Goes (start : Start) (c : Chronicle) (at key : ℕ) (packet : List �
   pub placed : Chronicle
   pub place : MakesPlace start c at key true placed
   pub goes : d ≡ then_packet start at key (retrans_timer c) packet (sending_of_story (story key (neighbour_history c)) packet) placed
+
+-- the table that has no place, if it has none
+abbrev pub no_place : Bool → Option Limit
+no_place place = if place then None else Some Neighbours
+
+-- it goes to the neighbour, if that has place
+abbrev pub GoesIfPlaced : Start → ℕ → ℕ → List ℕ → Chronicle → Chronicle → Type 0
+GoesIfPlaced start now key packet c d =
+    (place : Bool) × HasPlace start c now key true place × UnlessFull now (no_place place) (Goes start c now key packet) c d

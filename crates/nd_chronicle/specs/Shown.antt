@@ -2,10 +2,19 @@
 use Rattle.std.specs.Prelude.{◌≡◌, ℕ, Bool, true, false, ◌++◌, List, [], ◌∷◌, map, codes, Option, Some, None}
 use Rattle.std.specs.Fmt.{decimal}
 use Rattle.nd_addr.specs.declared.addr.Addr.{Addr}
+use Rattle.nd_addr.specs.declared.role.Role.{Role}
+use Rattle.nd_addr.specs.declared.role.Role.TheVariants.{Host, Router}
 use Rattle.nd_addr.specs.Number.{addr_at, mac_at}
 use Rattle.nd_addr.specs.Prefix.{PrefixValue}
 use Rattle.nd_addr.specs.Text.{address_text, mac_text, prefix_text}
 use Rattle.nd_search_list.specs.Text.{name_text}
+use Rattle.nd_decode.specs.declared.prefix_info.PrefixInfo.{PrefixInfo}
+use Rattle.nd_advertiser.specs.History as advertising
+use Rattle.nd_advertiser.specs.Advertising.{is_on}
+use Rattle.nd_advertiser.specs.Offers.{offers_of}
+use Rattle.nd_routes.specs.Routes.{routes}
+use Rattle.nd_routes.specs.declared.route.Route.{Route}
+use Rattle.nd_routes.specs.declared.route.Route.TheVariants.{Direct, Via}
 use Rattle.nd_lifetime.specs.declared.lasting.Lasting.{Lasting}
 use Rattle.nd_lifetime.specs.Listing.{Lists}
 use Rattle.nd_lifetime.specs.Same.{same_addr, same_prefix}
@@ -23,7 +32,7 @@ use Rattle.nd_dns.specs.Names.{same_name}
 use Rattle.nd_nexthop.specs.History.{redirects}
 use Rattle.nd_chronicle.specs.Start.{Start}
 use Rattle.nd_chronicle.specs.Happening.{Chronicle}
-use Rattle.nd_chronicle.specs.Histories.{parameter_history, neighbour_history, router_history, prefix_history, address_history, server_history, name_history, redirect_history}
+use Rattle.nd_chronicle.specs.Histories.{parameter_history, neighbour_history, router_history, prefix_history, address_history, server_history, name_history, redirect_history, advertising_history, route_history}
 use Rattle.nd_chronicle.specs.InForce.{hop_limit, link_mtu, base_reachable_time, reachable_time, retrans_timer}
 
 -- the tables that a command shows
@@ -104,8 +113,46 @@ parameter_row c =
     codes "params hop " ++ decimal (hop_limit c) ++ codes " mtu " ++ decimal (link_mtu c) ++ times_text c
     ++ codes " managed " ++ flag_text (managed_of (parameter_history c)) ++ codes " other " ++ flag_text (other_of (parameter_history c))
 
+-- letters for flags, in their order, and `-` where none is set
+abbrev pub flags_text : Bool → Bool → List ℕ → List ℕ → List ℕ
+flags_text true true first second = first ++ second
+flags_text true false first second = first
+flags_text false true first second = second
+flags_text false false first second = codes "-"
+
+abbrev pub on_text : Bool → List ℕ
+on_text true = codes "advertise on"
+on_text false = codes "advertise off"
+
+-- an advertised prefix, with its lifetimes in seconds
+abbrev pub lifetimes_text : PrefixInfo → List ℕ
+lifetimes_text info = codes " " ++ decimal info.valid_lifetime ++ codes " " ++ decimal info.preferred_lifetime
+
+abbrev pub offer_flags_text : PrefixInfo → List ℕ
+offer_flags_text info = codes " " ++ flags_text info.on_link info.autonomous (codes "l") (codes "a")
+
+abbrev pub offer_row : PrefixInfo → List ℕ
+offer_row info = codes "offer " ++ prefix_text info.prefix ++ lifetimes_text info ++ offer_flags_text info
+
+-- a host advertises nothing
+abbrev pub advertise_rows : Role → List advertising.Row → List (List ℕ)
+advertise_rows Host history = []
+advertise_rows Router history = on_text (is_on history) ∷ map offer_row (offers_of history)
+
+abbrev pub way_of : Route → List ℕ
+way_of Direct = codes "direct"
+way_of (Via a) = address_text a.0
+
+abbrev pub route_row : PrefixValue × Route → List ℕ
+route_row (prefix, route) = codes "route " ++ prefix_text prefix ++ codes " " ++ way_of route
+
+-- nor has it static routes
+abbrev pub route_rows : Role → List (PrefixValue × Route) → List (List ℕ)
+route_rows Host kept = []
+route_rows Router kept = map route_row kept
+
 -- These are the rows of the table at the moment: neighbours and addresses by their numbers, routers, prefixes, servers and names in the
--- order in which they came, redirects the newest first. What only a router has is empty at a host.
+-- order in which they came, redirects the newest first, offers and routes in the order in which they were first made.
 abbrev pub AreRows : Start → Chronicle → ℕ → Table → List (List ℕ) → Type 0
 AreRows start c now NeighbourTable rows = (seen : List neighbours.Seen) × neighbours.Lists (neighbour_history c) now seen × (rows ≡ map neighbour_row seen)
 AreRows start c now RouterTable rows =
@@ -119,5 +166,5 @@ AreRows start c now DnsTable rows =
     × (rows ≡ map (server_row now) servers ++ map (search_row now) names)
 AreRows start c now RedirectTable rows = rows ≡ map redirect_row (redirects (redirect_history c))
 AreRows start c now ParameterTable rows = rows ≡ parameter_row c ∷ []
-AreRows start c now AdvertiseTable rows = rows ≡ []
-AreRows start c now RouteTable rows = rows ≡ []
+AreRows start c now AdvertiseTable rows = rows ≡ advertise_rows start.role (advertising_history start c)
+AreRows start c now RouteTable rows = rows ≡ route_rows start.role (routes (route_history c))

@@ -11,7 +11,7 @@ use Rattle.nd_decode.specs.declared.body.Body.TheVariants as bodies
 use Rattle.nd_text.specs.Digits.{hex_text}
 use Rattle.nd_neighbour.specs.History as neighbours
 use Rattle.nd_slaac.specs.History as addresses
-use Rattle.nd_chronicle.specs.Happening.{Happening, Passed, Drew, Heard, Dropped, Up, Neighbour, Address, LeftRouter, ClearedPrefixes, ClearedRedirects, ClearedDns, SolicitedRouters, Sent, Lost, Refused, Shown, TooLate, Chronicle, Loss, Unreachable, Replaced, Forgotten, Routeless, Limit, Neighbours, Routers, Prefixes, Addresses, Servers, Names, Refusal, WrongRole, Disabled, NotOurs, TooLong, Full}
+use Rattle.nd_chronicle.specs.Happening.{Happening, Passed, Drew, Heard, Dropped, Up, Neighbour, Address, LeftRouter, ClearedPrefixes, ClearedRedirects, ClearedDns, SolicitedRouters, Configured, Offered, Ceased, Advertised, Planned, RoutePut, RedirectMade, Sent, Lost, Refused, Shown, TooLate, Chronicle, Loss, Unreachable, Replaced, Forgotten, Routeless, Spent, Limit, Neighbours, Routers, Prefixes, Addresses, Servers, Names, Offers, StaticRoutes, Refusal, WrongRole, Disabled, NotOurs, TooLong, Full}
 use Rattle.nd_chronicle.specs.Shown.{key_text}
 
 abbrev pub kind_text : Body → List ℕ
@@ -26,6 +26,7 @@ loss_text Unreachable = codes "unreachable"
 loss_text Replaced = codes "replaced"
 loss_text Forgotten = codes "forgotten"
 loss_text Routeless = codes "no-route"
+loss_text Spent = codes "hop-limit"
 
 abbrev pub limit_text : Limit → List ℕ
 limit_text Neighbours = codes "neighbours"
@@ -34,6 +35,8 @@ limit_text Prefixes = codes "prefixes"
 limit_text Addresses = codes "addresses"
 limit_text Servers = codes "servers"
 limit_text Names = codes "names"
+limit_text Offers = codes "offers"
+limit_text StaticRoutes = codes "routes"
 
 abbrev pub refusal_text : Refusal → List ℕ
 refusal_text WrongRole = codes "wrong-role"
@@ -71,6 +74,13 @@ told_of ClearedPrefixes = []
 told_of ClearedRedirects = []
 told_of ClearedDns = []
 told_of SolicitedRouters = []
+told_of (Configured settings) = []
+told_of (Offered info) = []
+told_of Ceased = []
+told_of (Advertised interval) = []
+told_of (Planned delay) = []
+told_of (RoutePut prefix route) = []
+told_of RedirectMade = []
 told_of (Sent frame) = (codes "tx " ++ hex_text frame) ∷ []
 told_of (Lost why packet) = (codes "lost " ++ loss_text why ++ codes " " ++ way_text packet) ∷ []
 told_of (Refused refusal) = (codes "refused " ++ refusal_text refusal) ∷ []

@@ -6,10 +6,12 @@ ghost use Rattle.nd_addr.specs.declared.addr.Addr.{Addr};
 ghost use Rattle.nd_decode.specs.declared.body.Body.TheVariants as bodies;
 ghost use Rattle.nd_frames.specs.Frames.{unspecified, all_nodes, solicited_node};
 ghost use Rattle.nd_frames.specs.Meaning.{IsUnicast, IsDetection, IsDefence};
+ghost use Rattle.nd_slaac.specs.History.{Row, RowKind, Solicited};
+ghost use Rattle.nd_slaac.specs.MayCome as history;
 ghost use Rattle.nd_slaac.specs.MayCome.{Held};
 ghost use Rattle.nd_slaac.specs.State.{is_assigned};
 ghost use Rattle.nd_chronicle.specs.Start.{Start};
-ghost use Rattle.nd_chronicle.specs.Happening.{Chronicle, Heard};
+ghost use Rattle.nd_chronicle.specs.Happening.{Address, Chronicle, Heard};
 ghost use Rattle.nd_chronicle.specs.Histories.{address_history};
 ghost use Rattle.nd_chronicle.specs.OwnAddress.{is_own, story_of};
 ghost use Rattle.nd_chronicle.specs.Event.{Event, FrameAdds};
@@ -19,6 +21,7 @@ ghost use Rattle.nd_chronicle.specs.NeighborSolicitation.{then_tried};
 ghost use Rattle.nd_chronicle.specs.Due.{Due};
 ghost use Rattle.nd_chronicle.specs.Growth.{Grows};
 ghost use Rattle.nd_chronicle.specs.History.{IsChronicle, Runs, Walk};
+ghost use Rattle.nd_chronicle.specs.Past.{Past, PlaceOf, solicited_with};
 ghost use Rattle.nd_chronicle.specs.Told.{text};
 
 /// A history has one chronicle.
@@ -36,6 +39,14 @@ pub fn only_grows()
 /// place up to its assignment, and was assigned one RetransTimer after the last solicitation for it, that in force when it was formed.
 pub fn none_untried()
     ensures { (start : Start) (events : List (ℕ × Event)) (c : Chronicle) (key : ℕ) → IsChronicle start events c → is_assigned (story_of c key) ≡ true → Held key (address_history c) }
+{}
+
+/// What happened to the own addresses stands in the chronicle, row by row, and each solicitation for one is sent in the moment of its row, with
+/// nothing between (RFC 4862, section 5.4.2).
+pub fn rows_have_places()
+    ensures place { (c : Chronicle) (at key : ℕ) (kind : RowKind) (below : List Row) → history.Past ((at, key, kind) ∷ below) (address_history c) → PlaceOf at key kind below c }
+    ensures past { (c d : Chronicle) → Past d c → history.Past (address_history d) (address_history c) }
+    ensures sent { (start : Start) (events : List (ℕ × Event)) (c below : Chronicle) (at key : ℕ) → IsChronicle start events c → Past ((at, Address key Solicited) ∷ below) c → Past (solicited_with start at key below) c }
 {}
 
 /// Where another node tries an own address, a duplicate is told or all nodes are told that it is held here; where another node tells all nodes

@@ -6,6 +6,7 @@ use Rattle.nd_chronicle.specs.Histories.{parameter_history, neighbour_history, r
 use Rattle.nd_chronicle.specs.Generator.{stream_left}
 use Rattle.nd_chronicle.specs.Due.{solicited_routers}
 use Rattle.nd_chronicle.specs.Packet.{losing}
+use Rattle.nd_effects.specs.Router.{router_side}
 
 -- what happened between the two concerns no table, draws nothing, and no time passed
 pub record Quiet (c d : Chronicle) : Type 0 where
@@ -18,6 +19,7 @@ pub record Quiet (c d : Chronicle) : Type 0 where
   pub names : name_history d ≡ name_history c
   pub redirects : redirect_history d ≡ redirect_history c
   pub solicited : solicited_routers d ≡ solicited_routers c
+  pub router : (start : Start) → router_side start d ≡ router_side start c
   pub stream : (start : Start) → stream_left start d ≡ stream_left start c
   pub last : (at : ℕ) → last_moment at d ≡ last_moment at c
 
@@ -32,6 +34,7 @@ quiet_same c = record {
   names = refl;
   redirects = refl;
   solicited = refl;
+  router = λ start. refl;
   stream = λ start. refl;
   last = λ at. refl;
 }
@@ -47,6 +50,7 @@ sent_is_quiet at frame c now = record {
   names = refl;
   redirects = refl;
   solicited = refl;
+  router = λ start. refl;
   stream = λ start. refl;
   last = λ start. sym (now start);
 }
@@ -65,6 +69,7 @@ losing_is_quiet at why (packet ∷ packets) c now =
       names = q.names;
       redirects = q.redirects;
       solicited = q.solicited;
+      router = q.router;
       stream = q.stream;
       last = λ start. q.last start ∙ sym (now start);
     }

@@ -20,6 +20,7 @@ use Rattle.nd_chronicle.specs.Message.{lets_enter, PlaceFor, releasing, sending_
 use Rattle.nd_chronicle.specs.Packet.{with_pushed, sending}
 use Rattle.nd_chronicle.specs.Told.{lines_of, text}
 use Rattle.nd_effects.specs.LinkLayerAddress.{PreparesFor, sent_if_known, released_frames}
+use Rattle.nd_effects.specs.Router.{router_side}
 use Rattle.nd_effects.specs.Told.{at_moment}
 use Rattle.nd_effects.proofs.Quiet.{Quiet, quiet_same}
 
@@ -64,6 +65,7 @@ pub record Others (c d : Chronicle) : Type 0 where
   pub names : name_history d ≡ name_history c
   pub redirects : redirect_history d ≡ redirect_history c
   pub solicited : solicited_routers d ≡ solicited_routers c
+  pub router : (start : Start) → router_side start d ≡ router_side start c
   pub stream : (start : Start) → stream_left start d ≡ stream_left start c
   pub last : (at : ℕ) → last_moment at d ≡ last_moment at c
   pub text : text d ≡ text c
@@ -78,6 +80,7 @@ others_same c = record {
   names = refl;
   redirects = refl;
   solicited = refl;
+  router = λ start. refl;
   stream = λ start. refl;
   last = λ at. refl;
   text = refl;
@@ -94,6 +97,7 @@ others_pushed now (Some key) c is = record {
   names = refl;
   redirects = refl;
   solicited = refl;
+  router = λ start. refl;
   stream = λ start. refl;
   last = λ at. sym (is at);
   text = append-nil (text c);
@@ -176,6 +180,7 @@ sending_is_quiet at mac (packet ∷ packets) c now =
       names = q.names;
       redirects = q.redirects;
       solicited = q.solicited;
+      router = q.router;
       stream = q.stream;
       last = λ start. q.last start ∙ sym (now start);
     }

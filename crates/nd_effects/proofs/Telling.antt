@@ -1,18 +1,27 @@
 -- What is told of what falls due is at the end of the text.
-use Rattle.std.proofs.Common.{◌≡◌, ℕ, List, [], ◌∷◌, ◌++◌, append-nil, append_assoc, map, Some, refl, sym, ◌∙◌, ap}
+use Rattle.std.proofs.Common.{◌≡◌, ℕ, List, [], ◌∷◌, ◌++◌, append-nil, append_assoc, map, Option, Some, None, refl, sym, ◌∙◌, ap}
 use Rattle.std.specs.Prelude.{slice_get, drop}
 use Rattle.std.specs.List.{flat_map}
+use Rattle.std.specs.Option.{option_map, option_to_list}
 use Rattle.nd_addr.specs.declared.addr.Addr.{Addr}
 use Rattle.nd_addr.specs.Number.{number_of}
 use Rattle.nd_neighbour.specs.Due as neighbours
 use Rattle.nd_slaac.specs.Due as addresses
 use Rattle.nd_chronicle.specs.Start.{Start, link_local}
-use Rattle.nd_chronicle.specs.Happening.{Chronicle, Happening, LeftRouter, Loss, Lost, Unreachable}
-use Rattle.nd_chronicle.specs.Due.{What, RouterEnds, AddressFalls, NeighbourFalls, RoutersSolicited, Redraws, comes}
+use Rattle.nd_advertiser.specs.Advertising.{advertised_by}
+use Rattle.nd_advertiser.specs.Config.{Settings}
+use Rattle.nd_advertiser.specs.Contents.{contents}
+use Rattle.nd_advertiser.specs.Offers.{offers_of}
+use Rattle.nd_frames.specs.Frames.{router_advertisement_frame}
+use Rattle.nd_chronicle.specs.Happening.{Chronicle, Happening, LeftRouter, Loss, Lost, Sent, Unreachable}
+use Rattle.nd_chronicle.specs.Histories.{advertising_history}
+use Rattle.nd_chronicle.specs.Advertising.{advertising_by}
+use Rattle.nd_chronicle.specs.Due.{What, RouterEnds, AddressFalls, NeighbourFalls, RoutersSolicited, RouterAdvertises, Redraws, comes}
 use Rattle.nd_chronicle.specs.Packet.{losing}
 use Rattle.nd_chronicle.specs.Told.{lines_of, text}
 use Rattle.nd_out.specs.declared.out.Out.{Out}
 use Rattle.nd_out.specs.Out.{happening}
+use Rattle.nd_effects.specs.Router.{frame_of, advertised}
 use Rattle.nd_effects.specs.Told.{told_of, at_moment, happenings, Tells}
 
 -- one row with a text
@@ -62,7 +71,13 @@ lost_text at why [] c = sym (append-nil (text c))
 lost_text at why (packet ∷ packets) c =
     lost_text at why packets ((at, Lost why packet) ∷ c) ∙ append_assoc (text c) (lines_of (at, Lost why packet)) (flat_map lines_of (lost_at at why packets))
 
-pub text_of : (start : Start) (c : Chronicle) (at : ℕ) (what : What) → text (comes start at what c) ≡ text c ++ flat_map lines_of (at_moment at (told_of start.mac (link_local start) what))
+-- an advertisement that is sent
+advertising_text : (start : Start) (c : Chronicle) (at : ℕ) (settings : Option Settings)
+    → text (advertising_by start at settings c) ≡ text c ++ flat_map lines_of (at_moment at (map (λ frame. Sent frame) (option_to_list (frame_of start (option_map (contents start.mac (offers_of (advertising_history start c))) settings)))))
+advertising_text start c at None = sym (append-nil (text c))
+advertising_text start c at (Some settings) = ap (λ (t : List ℕ). t ++ lines_of (at, Sent (router_advertisement_frame start.mac (link_local start) (contents start.mac (offers_of (advertising_history start c)) settings)))) (append-nil (text c ++ []) ∙ append-nil (text c)) ∙ one (text c) _
+
+pub text_of : (start : Start) (c : Chronicle) (at : ℕ) (what : What) → text (comes start at what c) ≡ text c ++ flat_map lines_of (at_moment at (told_of start.mac (link_local start) (advertised start c) what))
 text_of start c at (RouterEnds key) = one (text c) _
 text_of start c at (AddressFalls (addresses.Ends key)) = one (text c) _
 text_of start c at (AddressFalls (addresses.Solicits key)) = above_silent (text c) _
@@ -72,6 +87,7 @@ text_of start c at (NeighbourFalls (neighbours.Unicasts key mac)) = above_silent
 text_of start c at (NeighbourFalls (neighbours.Fails key packets)) = lost_text at Unreachable packets _ ∙ append_assoc (text c) _ _
 text_of start c at (NeighbourFalls (neighbours.Ages key)) = refl
 text_of start c at RoutersSolicited = above_silent (text c) _
+text_of start c at RouterAdvertises = advertising_text start c at (advertised_by (advertising_history start c))
 text_of start c at Redraws = refl
 
 pub flat_map-append : (xs ys : List (ℕ × Happening)) → flat_map lines_of (xs ++ ys) ≡ flat_map lines_of xs ++ flat_map lines_of ys

@@ -13,3 +13,4 @@ pub mod Place
 pub mod RouterAdvertisement
 pub mod NeighborAdvertisement
 pub mod OutgoingPacket
+pub mod Router

@@ -1,5 +1,6 @@
 -- What is told of what falls due: what is sent, and what happened, the oldest first.
-use Rattle.std.specs.Prelude.{◌≡◌, ℕ, List, [], ◌∷◌, ◌++◌, map}
+use Rattle.std.specs.Prelude.{◌≡◌, ℕ, List, [], ◌∷◌, ◌++◌, map, Option}
+use Rattle.std.specs.Option.{option_to_list}
 use Rattle.std.specs.List.{flat_map}
 use Rattle.nd_addr.specs.declared.addr.Addr.{Addr}
 use Rattle.nd_addr.specs.declared.mac.Mac.{Mac}
@@ -10,10 +11,14 @@ use Rattle.nd_neighbour.specs.History as neighbour_rows
 use Rattle.nd_neighbour.specs.Due as neighbours
 use Rattle.nd_frames.specs.Frames.{detection_frame, resolution_frame, probe_frame, router_solicitation_frame}
 use Rattle.nd_chronicle.specs.Happening.{Chronicle, Happening, Address, Neighbour, LeftRouter, Sent, Lost, Unreachable}
-use Rattle.nd_chronicle.specs.Due.{What, RouterEnds, AddressFalls, NeighbourFalls, RoutersSolicited, Redraws}
+use Rattle.nd_chronicle.specs.Due.{What, RouterEnds, AddressFalls, NeighbourFalls, RoutersSolicited, RouterAdvertises, Redraws}
 use Rattle.nd_chronicle.specs.Told.{lines_of, text}
 use Rattle.nd_out.specs.declared.out.Out.{Out}
 use Rattle.nd_out.specs.Out.{happening}
+
+-- a Router Advertisement that is due, if one is
+abbrev pub advertised_by : Option (List ℕ) → List Happening
+advertised_by advertisement = map (λ frame. Sent frame) (option_to_list advertisement)
 
 -- of a node with a link-layer address and a link-local one
 module _ (mac : Mac) (own : Addr) where
@@ -28,12 +33,14 @@ module _ (mac : Mac) (own : Addr) where
   told_of_neighbour (neighbours.Fails key packets) = Neighbour key (neighbour_rows.Forgot neighbour_rows.Failed) ∷ map (λ packet. Lost Unreachable packet) packets
   told_of_neighbour (neighbours.Ages key) = []
 
-  abbrev pub told_of : What → List Happening
-  told_of (RouterEnds key) = LeftRouter key ∷ []
-  told_of (AddressFalls falls) = told_of_address falls ∷ []
-  told_of (NeighbourFalls falls) = told_of_neighbour falls
-  told_of RoutersSolicited = Sent (router_solicitation_frame mac own) ∷ []
-  told_of Redraws = []
+  -- with what is sent where a Router Advertisement is due
+  abbrev pub told_of : List Happening → What → List Happening
+  told_of advertised (RouterEnds key) = LeftRouter key ∷ []
+  told_of advertised (AddressFalls falls) = told_of_address falls ∷ []
+  told_of advertised (NeighbourFalls falls) = told_of_neighbour falls
+  told_of advertised RoutersSolicited = Sent (router_solicitation_frame mac own) ∷ []
+  told_of advertised RouterAdvertises = advertised
+  told_of advertised Redraws = []
 
 -- all of that moment
 abbrev pub at_moment : ℕ → List Happening → List (ℕ × Happening)

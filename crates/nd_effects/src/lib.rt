@@ -22,12 +22,15 @@ mod place;
 mod prefix_options;
 mod router_advertisement;
 mod router_solicitations;
+mod router_tables;
 mod told;
 mod turned;
 
 pub use clearing::{tell_packets, tell_routers};
 pub use default_router::hear_router;
-pub use draw::{MAX_RTR_SOLICITATION_DELAY, drawn_from, reachable_drawn};
+pub use draw::{
+    MAX_RTR_SOLICITATION_DELAY, answer_delay_drawn, drawn_from, interval_drawn, reachable_drawn,
+};
 pub use first_hop::Tables;
 pub use for_us::{is_awake, is_to_nodes, is_to_routers, takes_target};
 pub use frame::packet_in;
@@ -42,5 +45,6 @@ pub use place::has_place;
 pub use prefix_options::hear_prefix_options;
 pub use router_advertisement::{Advertisement, hear_dns, hear_prefixes, tell_left};
 pub use router_solicitations::RouterSolicitations;
+pub use router_tables::RouterTables;
 pub use told::{MOST_TOLD, link_local, tell, tell_lost};
 pub use turned::Turned;

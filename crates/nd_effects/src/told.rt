@@ -7,7 +7,7 @@ ghost use Rattle.nd_frames.specs.Frames.{detection_frame, resolution_frame, prob
 ghost use Rattle.nd_chronicle.specs.Happening.{Lost};
 ghost use Rattle.nd_out.specs.Out.{happening, loss_of};
 ghost use Rattle.nd_effects.specs.Turned.{what_of};
-ghost use Rattle.nd_effects.specs.Told.{told_of_address, told_of_neighbour, told_of, at_moment, happenings};
+ghost use Rattle.nd_effects.specs.Told.{advertised_by, told_of_address, told_of_neighbour, told_of, at_moment, happenings};
 
 use crate::turned::Turned;
 use nd_addr::laws::addresses_are_told_by_numbers;
@@ -120,18 +120,34 @@ fn tell_neighbour<A: Allocator>(
     }
 }
 
-/// What is told of what fell due at a moment, in milliseconds, goes to the end, for a node with a link-layer address and a link-local one.
-/// It takes no memory: the room for it was taken before.
+/// A Router Advertisement that is due is sent.
+fn tell_advertisement<A: Allocator>(
+    outs: &mut Vec<(u64, Out<A>), A>,
+    at: u64,
+    advertisement: Option<Packet<A>>,
+)
+    requires { vec_len outs.old + 1 ≤ vec_capacity outs.old }
+    ensures { happenings outs.new.items ≡ happenings outs.old.items ++ at_moment at (advertised_by advertisement) }
+{
+    match advertisement {
+        Some(packet) => outs.push_reserved((at, Out::Frame(packet))),
+        None => {}
+    }
+}
+
+/// What is told of what fell due at a moment, in milliseconds, goes to the end, for a node with a link-layer address and a link-local one,
+/// and with the Router Advertisement that is due, if one is. It takes no memory: the room for it was taken before.
 pub fn tell<A: Allocator>(
     outs: &mut Vec<(u64, Out<A>), A>,
     at: u64,
     room: FrameRoom<A>,
     mac: Mac,
     own: Addr,
+    advertisement: Option<Packet<A>>,
     turned: Turned<A>,
 )
     requires { vec_len outs.old + 4 ≤ vec_capacity outs.old }
-    ensures { happenings outs.new.items ≡ happenings outs.old.items ++ at_moment at (told_of mac own (what_of turned)) }
+    ensures { happenings outs.new.items ≡ happenings outs.old.items ++ at_moment at (told_of mac own (advertised_by advertisement) (what_of turned)) }
 {
     match turned {
         Turned::EndedRouter(addr) => outs.push_reserved((at, Out::EndedRouter(addr))),
@@ -140,6 +156,7 @@ pub fn tell<A: Allocator>(
         Turned::SolicitedRouters => {
             outs.push_reserved((at, Out::Frame(room.router_solicitation(mac, own))));
         }
+        Turned::RouterAdvertised => tell_advertisement(outs, at, advertisement),
         Turned::Redrawn => {}
     }
 }

@@ -12,6 +12,8 @@ pub enum Turned<A: Allocator> {
     Neighbour(nd_neighbour::Due<A>),
     /// A Router Solicitation is sent (RFC 4861, section 6.3.7).
     SolicitedRouters,
+    /// A Router Advertisement is sent (RFC 4861, section 6.2.4).
+    RouterAdvertised,
     /// ReachableTime was drawn again (RFC 4861, section 6.3.4).
     Redrawn,
 }

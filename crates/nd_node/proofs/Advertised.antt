@@ -67,6 +67,7 @@ use Rattle.nd_effects.specs.RouterSolicitations as soliciting
 use Rattle.nd_effects.specs.RouterSolicitations.{Solicitations, next_solicitation}
 use Rattle.nd_effects.specs.Told.{at_moment, Tells}
 use Rattle.nd_effects.specs.Told as told
+use Rattle.nd_effects.specs.Router.{router_side}
 use Rattle.nd_effects.proofs.Quiet.{Quiet}
 use Rattle.nd_effects.proofs.Saying.{OneGoes, OverdueByTable, NoneOverdueStill, Placed, placed_by, none_before_said, releasing_is_quiet, releasing_text, released_kept}
 use Rattle.nd_effects.proofs.Telling.{Tells-then}
@@ -94,6 +95,7 @@ module _ (now : ℕ) (still : AddressesStill) where
     names : name_history d ≡ name_history c
     redirects : redirect_history d ≡ redirect_history c
     solicited : solicited_routers d ≡ solicited_routers c
+    router : (start : Start) → router_side start d ≡ router_side start c
     assigned : (key : ℕ) → assigned_at key (address_history d) ≡ assigned_at key (address_history c)
     in_time : address_due.NoneOverdue (address_history c) now → address_due.NoneOverdue (address_history d) now
     last : ((at : ℕ) → last_moment at c ≡ now) → (at : ℕ) → last_moment at d ≡ now
@@ -109,6 +111,7 @@ module _ (now : ℕ) (still : AddressesStill) where
     names = refl;
     redirects = refl;
     solicited = refl;
+    router = λ start. refl;
     assigned = λ key. refl;
     in_time = λ h. h;
     last = λ h. h;
@@ -125,6 +128,7 @@ module _ (now : ℕ) (still : AddressesStill) where
     names = y.names ∙ x.names;
     redirects = y.redirects ∙ x.redirects;
     solicited = y.solicited ∙ x.solicited;
+    router = λ start. y.router start ∙ x.router start;
     assigned = λ key. y.assigned key ∙ x.assigned key;
     in_time = λ h. y.in_time (x.in_time h);
     last = λ h. y.last (x.last h);
@@ -141,6 +145,7 @@ module _ (now : ℕ) (still : AddressesStill) where
     names = refl;
     redirects = refl;
     solicited = refl;
+    router = λ start. refl;
     assigned = λ key. refl;
     in_time = λ h. h;
     last = λ h at. refl;
@@ -158,6 +163,7 @@ module _ (now : ℕ) (still : AddressesStill) where
     names = refl;
     redirects = refl;
     solicited = refl;
+    router = λ start. refl;
     assigned = λ key. refl;
     in_time = λ h. still (address_history c) now key (address_rows.Formed delay retrans lifetimes) h;
     last = λ h at. refl;
@@ -174,6 +180,7 @@ module _ (now : ℕ) (still : AddressesStill) where
     names = refl;
     redirects = refl;
     solicited = refl;
+    router = λ start. refl;
     assigned = λ key. refl;
     in_time = λ h. still (address_history c) now key (address_rows.Announced lifetimes) h;
     last = λ h at. refl;
@@ -217,6 +224,7 @@ module _ (start : Start) (now : ℕ) (source destination : Addr) (ra : RouterAdv
     names : name_history d ≡ then_announced now (names_told options) (name_history c)
     redirects : redirect_history d ≡ redirect_history c
     solicited : solicited_routers d ≡ solicited_routers c
+    router : (start : Start) → router_side start d ≡ router_side start c
     last : (at : ℕ) → last_moment at d ≡ now
     text : text d ≡ text c ++ lines_of (now, Heard source destination (advertised ra options))
 
@@ -230,6 +238,7 @@ module _ (start : Start) (now : ℕ) (source destination : Addr) (ra : RouterAdv
     names = refl;
     redirects = refl;
     solicited = refl;
+    router = λ start. refl;
     last = λ at. refl;
     text = append-nil _;
   }
@@ -242,6 +251,7 @@ module _ (start : Start) (now : ℕ) (source destination : Addr) (ra : RouterAdv
     names = refl;
     redirects = refl;
     solicited = refl;
+    router = λ start. refl;
     last = λ at. refl;
     text = refl;
   }
@@ -259,6 +269,7 @@ module _ (now key : ℕ) where
     names : name_history d ≡ name_history c
     redirects : redirect_history d ≡ with_gone now b key (redirect_history c)
     solicited : solicited_routers d ≡ solicited_routers c
+    router : (start : Start) → router_side start d ≡ router_side start c
     stream : (start : Start) → stream_left start d ≡ stream_left start c
     last : ((at : ℕ) → last_moment at c ≡ now) → (at : ℕ) → last_moment at d ≡ now
     text : text d ≡ text c ++ flat_map lines_of (at_moment now (left_told b key))
@@ -274,6 +285,7 @@ module _ (now key : ℕ) where
     names = refl;
     redirects = refl;
     solicited = refl;
+    router = λ start. refl;
     stream = λ start. refl;
     last = λ h at. refl;
     text = ap (λ (l : List ℕ). text c ++ l) (sym (append-nil _));
@@ -288,6 +300,7 @@ module _ (now key : ℕ) where
     names = refl;
     redirects = refl;
     solicited = refl;
+    router = λ start. refl;
     stream = λ start. refl;
     last = λ h. h;
     text = sym (append-nil (text c));
@@ -556,6 +569,7 @@ module _ {R A : Type 0} (stream : R → Stream) (old new : Node R A) (before aft
   stands_all : Stands stream start new all
   stands_all = record {
     role = t.role ∙ s.role;
+    host = s.host;
     mac = t.mac ∙ s.mac;
     address_mac = forms_all.mac;
     neighbour_limit = t.neighbour_limit ∙ s.neighbour_limit;

@@ -83,7 +83,7 @@ record Conflicted (now : ℕ) (b : Bool) (key : ℕ) (c d : Chronicle) : Type 0 
 
 conflicted : (now : ℕ) (b : Bool) (key : ℕ) (c : Chronicle) → ((at : ℕ) → last_moment at c ≡ now) → Conflicted now b key c (conflicting now b key c)
 conflicted now true key c is = record {
-  apart = record { parameters = refl; prefixes = refl; servers = refl; names = refl; assigned = λ k. refl; solicited = refl; stream = λ start. refl };
+  apart = record { parameters = refl; prefixes = refl; servers = refl; names = refl; assigned = λ k. refl; solicited = refl; router = λ start'. refl; stream = λ start. refl };
   routers = refl;
   redirects = refl;
   neighbours = refl;
@@ -92,7 +92,7 @@ conflicted now true key c is = record {
   told = one (text c) _;
 }
 conflicted now false key c is = record {
-  apart = record { parameters = refl; prefixes = refl; servers = refl; names = refl; assigned = λ k. refl; solicited = refl; stream = λ start. refl };
+  apart = record { parameters = refl; prefixes = refl; servers = refl; names = refl; assigned = λ k. refl; solicited = refl; router = λ start'. refl; stream = λ start. refl };
   routers = refl;
   redirects = refl;
   neighbours = refl;
@@ -112,7 +112,7 @@ pub record Left (now : ℕ) (b : Bool) (key : ℕ) (c d : Chronicle) : Type 0 wh
 
 pub left_list : (now : ℕ) (b : Bool) (key : ℕ) (c : Chronicle) → ((at : ℕ) → last_moment at c ≡ now) → Left now b key c (leaving now b key c)
 left_list now true key c is = record {
-  apart = record { parameters = refl; prefixes = refl; servers = refl; names = refl; assigned = λ k. refl; solicited = refl; stream = λ start. refl };
+  apart = record { parameters = refl; prefixes = refl; servers = refl; names = refl; assigned = λ k. refl; solicited = refl; router = λ start'. refl; stream = λ start. refl };
   routers = refl;
   redirects = refl;
   neighbours = refl;
@@ -121,7 +121,7 @@ left_list now true key c is = record {
   told = one (text c) _;
 }
 left_list now false key c is = record {
-  apart = record { parameters = refl; prefixes = refl; servers = refl; names = refl; assigned = λ k. refl; solicited = refl; stream = λ start. refl };
+  apart = record { parameters = refl; prefixes = refl; servers = refl; names = refl; assigned = λ k. refl; solicited = refl; router = λ start'. refl; stream = λ start. refl };
   routers = refl;
   redirects = refl;
   neighbours = refl;
@@ -180,7 +180,7 @@ module _ {R A : Type 0} (stream : R → Stream) (old new : Node R A) (x room y1 
         let k1 = conflicted now t key e0 (λ at. refl) in
         let q : Quiet e1 e2 = releasing_is_quiet now this history e1 k1.last in
         let k3 = left_list now l key e2 (λ at. q.last at ∙ k1.last at) in
-        let apart0 : Apart c e0 = record { parameters = refl; prefixes = refl; servers = refl; names = refl; assigned = λ k. refl; solicited = refl; stream = λ start'. refl } in
+        let apart0 : Apart c e0 = record { parameters = refl; prefixes = refl; servers = refl; names = refl; assigned = λ k. refl; solicited = refl; router = λ start'. refl; stream = λ start'. refl } in
         let apart : Apart c d = apart_then c e0 d apart0 (apart_then e0 e1 d k1.apart (apart_then e1 e2 d (apart_quiet e1 e2 q) k3.apart)) in
         let not_past : now ≤ next_of old = omega (arith, settled) in
         let routers_are : router_history d ≡ with_left now l key (router_history c) =

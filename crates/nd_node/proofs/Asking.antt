@@ -12,7 +12,6 @@ use Rattle.nd_decode.specs.Message.{Parts}
 use Rattle.nd_decode.specs.Option.{Said}
 use Rattle.nd_decode.specs.declared.body.Body.TheVariants as bodies
 use Rattle.nd_decode.specs.declared.neighbor_solicitation.NeighborSolicitation.{NeighborSolicitation}
-use Rattle.nd_validity.specs.Hearing.{valid}
 use Rattle.nd_neighbour.specs.declared.news.News.{News}
 use Rattle.nd_neighbour.specs.declared.news.News.TheVariants as news
 use Rattle.nd_neighbour.specs.declared.news.Times.{Times}
@@ -34,7 +33,8 @@ use Rattle.nd_chronicle.specs.NeighborSolicitation.{is_router, then_tried, Answe
 use Rattle.nd_chronicle.specs.Full as full
 use Rattle.nd_chronicle.specs.Packet.{Goes}
 use Rattle.nd_chronicle.specs.Packet as packets
-use Rattle.nd_chronicle.specs.Event.{OutcomeAdds}
+use Rattle.nd_chronicle.specs.Event.{VerdictAdds}
+use Rattle.nd_chronicle.specs.Hearing.{hears}
 use Rattle.nd_chronicle.specs.Due.{assigned_at}
 use Rattle.nd_chronicle.specs.Told.{lines_of, text}
 use Rattle.nd_out.specs.declared.out.Out.{Out}
@@ -119,7 +119,7 @@ place_for_news law limit now key nodes (Some n) of room = λ enters full. law li
 
 -- the solicitation itself is news of a neighbour alone
 heard_beside : (at : ℕ) (source destination : Addr) (ns : NeighborSolicitation) (options : List Said) (c : Chronicle) → Beside c ((at, Heard source destination (solicitation ns options)) ∷ c)
-heard_beside at source destination ns options c = record { parameters = refl; routers = refl; prefixes = refl; servers = refl; names = refl; redirects = refl; assigned = λ k. refl; solicited = refl; stream = λ start. refl }
+heard_beside at source destination ns options c = record { parameters = refl; routers = refl; prefixes = refl; servers = refl; names = refl; redirects = refl; assigned = λ k. refl; solicited = refl; router = λ start'. refl; stream = λ start. refl }
 
 others_beside : (c d : Chronicle) → Others c d → Beside c d
 others_beside c d o = record {
@@ -131,6 +131,7 @@ others_beside c d o = record {
   redirects = o.redirects;
   assigned = λ key. ap (λ h. assigned_at key h) o.addresses;
   solicited = o.solicited;
+  router = o.router;
   stream = o.stream;
 }
 
@@ -145,6 +146,7 @@ refused_is_quiet at c now = record {
   names = refl;
   redirects = refl;
   solicited = refl;
+  router = λ start. refl;
   stream = λ start. refl;
   last = λ start. sym (now start);
 }
@@ -170,7 +172,7 @@ module _ (start : Start) (now : ℕ) (source destination : Addr) (ns : NeighborS
   asked place h = subst (λ (b : Bool). full.Placed start c now (if b then None else Some (number_of source.0, true)) place) (sym from) h
 
   adds_answer : packets.HasPlace start c now (number_of source.0) true true → Answers start now source destination ns.target (solicitation ns options) c d
-      → OutcomeAdds start now [] (valid source destination (solicitation ns options)) c d
+      → VerdictAdds start now [] (hears source destination (solicitation ns options)) c d
   adds_answer place answers = (
     None,
     record { neighbours = true; placed = asked true place; first = refl },
@@ -178,7 +180,7 @@ module _ (start : Start) (now : ℕ) (source destination : Addr) (ns : NeighborS
   )
 
   adds_refusal : packets.HasPlace start c now (number_of source.0) true false → d ≡ (now, Refused (Full Neighbours)) ∷ c
-      → OutcomeAdds start now [] (valid source destination (solicitation ns options)) c d
+      → VerdictAdds start now [] (hears source destination (solicitation ns options)) c d
   adds_refusal place is = (Some Neighbours, record { neighbours = false; placed = asked false place; first = refl }, is)
 
 -- ---- there is no place

@@ -13,6 +13,7 @@ use Rattle.nd_chronicle.specs.Happening.{Chronicle, Neighbour, Sent, last_moment
 use Rattle.nd_chronicle.specs.Histories.{parameter_history, neighbour_history, router_history, prefix_history, address_history, server_history, name_history, redirect_history, then_failed, then_target}
 use Rattle.nd_chronicle.specs.Generator.{stream_left}
 use Rattle.nd_chronicle.specs.Due.{solicited_routers, assigned_at}
+use Rattle.nd_effects.specs.Router.{router_side}
 use Rattle.nd_effects.proofs.Quiet.{Quiet}
 use Rattle.nd_node.specs.declared.node.Node.{Node}
 use Rattle.nd_node.specs.Node.{Stands, next_of}
@@ -30,6 +31,7 @@ pub record Beside (c d : Chronicle) : Type 0 where
   pub redirects : redirect_history d ≡ redirect_history c
   pub assigned : (key : ℕ) → assigned_at key (address_history d) ≡ assigned_at key (address_history c)
   pub solicited : solicited_routers d ≡ solicited_routers c
+  pub router : (start : Start) → router_side start d ≡ router_side start c
   pub stream : (start : Start) → stream_left start d ≡ stream_left start c
 
 pub beside_quiet : (c d : Chronicle) → Quiet c d → Beside c d
@@ -42,6 +44,7 @@ beside_quiet c d q = record {
   redirects = q.redirects;
   assigned = λ key. ap (assigned_at key) q.addresses;
   solicited = q.solicited;
+  router = q.router;
   stream = q.stream;
 }
 
@@ -55,6 +58,7 @@ beside_then c d e b f = record {
   redirects = f.redirects ∙ b.redirects;
   assigned = λ key. f.assigned key ∙ b.assigned key;
   solicited = f.solicited ∙ b.solicited;
+  router = λ start. f.router start ∙ b.router start;
   stream = λ start. f.stream start ∙ b.stream start;
 }
 
@@ -72,6 +76,7 @@ beside_neighbour at key kind c routers' redirects' = record {
   redirects = redirects' (redirect_history c);
   assigned = λ k. refl;
   solicited = refl;
+  router = λ start. refl;
   stream = λ start. refl;
 }
 
@@ -85,6 +90,7 @@ beside_sent at frame c = record {
   redirects = refl;
   assigned = λ k. refl;
   solicited = refl;
+  router = λ start. refl;
   stream = λ start. refl;
 }
 
@@ -116,6 +122,7 @@ module _ {R A : Type 0} (stream : R → Stream) (start : Start) (old new : Node 
       → Stands stream start new d
   stands_beside addresses' later_address neighbours' later_neighbour = record {
     role = same.role ∙ s.role;
+    host = s.host;
     mac = same.mac ∙ s.mac;
     address_mac = same.address_mac ∙ s.address_mac;
     neighbour_limit = same.neighbour_limit ∙ s.neighbour_limit;

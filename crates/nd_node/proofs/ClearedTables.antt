@@ -31,6 +31,7 @@ use Rattle.nd_chronicle.specs.Event.{all_leaving, clearing}
 use Rattle.nd_chronicle.specs.Told.{lines_of, text}
 use Rattle.nd_out.specs.declared.out.Out.{Out}
 use Rattle.nd_effects.specs.Told.{happenings}
+use Rattle.nd_effects.specs.Router.{router_side}
 use Rattle.nd_effects.proofs.Quiet.{losing_is_quiet}
 use Rattle.nd_effects.proofs.Telling.{flat_map-append, lost_at, lost_text, left_at, numbers}
 use Rattle.nd_node.specs.declared.node.Node.{Node}
@@ -51,6 +52,7 @@ record Silent (now : ℕ) (what : Happening) : Type 0 where
   routers : (c : Chronicle) → router_history ((now, what) ∷ c) ≡ router_history c
   addresses : (c : Chronicle) → address_history ((now, what) ∷ c) ≡ address_history c
   solicited : (c : Chronicle) → solicited_routers ((now, what) ∷ c) ≡ solicited_routers c
+  router : (start : Start) (c : Chronicle) → router_side start ((now, what) ∷ c) ≡ router_side start c
   stream : (start : Start) (c : Chronicle) → stream_left start ((now, what) ∷ c) ≡ stream_left start c
   last : (at : ℕ) (c : Chronicle) → last_moment at ((now, what) ∷ c) ≡ now
 
@@ -65,6 +67,7 @@ module _ {R A : Type 0} (stream : R → Stream) (start : Start) (old : Node R A)
       → Stands stream start (record old { last = now; prefixes = ps; dns = ds; choice = rs }) ((now, what) ∷ later)
   silent_stands prefixes' dns' redirects' prefixes_by servers_by names_by = record {
     role = s.role;
+    host = s.host;
     mac = s.mac;
     address_mac = s.address_mac;
     neighbour_limit = s.neighbour_limit;
@@ -90,13 +93,13 @@ module _ {R A : Type 0} (stream : R → Stream) (start : Start) (old : Node R A)
   }
 
 cleared_prefixes : (now : ℕ) → Silent now ClearedPrefixes
-cleared_prefixes now = record { parameters = λ c. refl; neighbours = λ c. refl; routers = λ c. refl; addresses = λ c. refl; solicited = λ c. refl; stream = λ start c. refl; last = λ at c. refl }
+cleared_prefixes now = record { parameters = λ c. refl; neighbours = λ c. refl; routers = λ c. refl; addresses = λ c. refl; solicited = λ c. refl; router = λ start' c. refl; stream = λ start c. refl; last = λ at c. refl }
 
 cleared_redirects : (now : ℕ) → Silent now ClearedRedirects
-cleared_redirects now = record { parameters = λ c. refl; neighbours = λ c. refl; routers = λ c. refl; addresses = λ c. refl; solicited = λ c. refl; stream = λ start c. refl; last = λ at c. refl }
+cleared_redirects now = record { parameters = λ c. refl; neighbours = λ c. refl; routers = λ c. refl; addresses = λ c. refl; solicited = λ c. refl; router = λ start' c. refl; stream = λ start c. refl; last = λ at c. refl }
 
 cleared_dns : (now : ℕ) → Silent now ClearedDns
-cleared_dns now = record { parameters = λ c. refl; neighbours = λ c. refl; routers = λ c. refl; addresses = λ c. refl; solicited = λ c. refl; stream = λ start c. refl; last = λ at c. refl }
+cleared_dns now = record { parameters = λ c. refl; neighbours = λ c. refl; routers = λ c. refl; addresses = λ c. refl; solicited = λ c. refl; router = λ start' c. refl; stream = λ start c. refl; last = λ at c. refl }
 
 module _ {R A : Type 0} (stream : R → Stream) (old new : Node R A) (outs : List (ℕ × Out A)) (now : ℕ) (settled : now < next_of old) where
   pub clears_prefixes : (ps : List (Lasting PrefixValue)) → new ≡ record old { last = now; prefixes = ps }
@@ -157,7 +160,7 @@ module _ (start : Start) (now : ℕ) where
   forgotten_text nodes = flat_map lines_of (lost_at now Forgotten (all_waiting nodes))
 
   clearing_beside : (nodes : List entries.Node) (c : Chronicle) → Beside c (clearing start now nodes c)
-  clearing_beside [] c = record { parameters = refl; routers = refl; prefixes = refl; servers = refl; names = refl; redirects = refl; assigned = λ key. refl; solicited = refl; stream = λ start'. refl }
+  clearing_beside [] c = record { parameters = refl; routers = refl; prefixes = refl; servers = refl; names = refl; redirects = refl; assigned = λ key. refl; solicited = refl; router = λ start'. refl; stream = λ start'. refl }
   clearing_beside (n ∷ nodes) c =
       let row : Chronicle = (now, Neighbour n.key (rows.Forgot rows.Cleared)) ∷ c in
       let gone = beside_then c row (going n c) (beside_neighbour now n.key (rows.Forgot rows.Cleared) c (λ h. refl) (λ h. refl))
@@ -264,7 +267,7 @@ record Left (now : ℕ) (those : List ℕ) (c d : Chronicle) : Type 0 where
 
 all_left : (start : Start) (now : ℕ) (es : List (Lasting ℕ)) (c : Chronicle) → Left now (keys es) c (all_leaving start now es c)
 all_left start now [] c = record {
-  apart = record { parameters = refl; prefixes = refl; servers = refl; names = refl; assigned = λ k. refl; solicited = refl; stream = λ start'. refl };
+  apart = record { parameters = refl; prefixes = refl; servers = refl; names = refl; assigned = λ k. refl; solicited = refl; router = λ start'. refl; stream = λ start'. refl };
   routers = refl;
   redirects = refl;
   neighbours = refl;
@@ -275,7 +278,7 @@ all_left start now (e ∷ es) c =
     let row : Chronicle = (now, LeftRouter e.key) ∷ c in
     let d : Chronicle = all_leaving start now es row in
     let rest = all_left start now es row in
-    let first : Apart c row = record { parameters = refl; prefixes = refl; servers = refl; names = refl; assigned = λ k. refl; solicited = refl; stream = λ start'. refl } in
+    let first : Apart c row = record { parameters = refl; prefixes = refl; servers = refl; names = refl; assigned = λ k. refl; solicited = refl; router = λ start'. refl; stream = λ start'. refl } in
     record {
       apart = apart_then c row d first rest.apart;
       routers = rest.routers;
@@ -300,8 +303,8 @@ module _ {R A : Type 0} (stream : R → Stream) (old new : Node R A) (x room y :
         let d : Chronicle = (now, ClearedRedirects) ∷ mid in
         let left = all_left start now es later' in
         let not_past : now ≤ next_of old = omega (arith, settled) in
-        let before : Apart c mid = apart_then c later' mid (record { parameters = refl; prefixes = refl; servers = refl; names = refl; assigned = λ k. refl; solicited = refl; stream = λ start'. refl }) left.apart in
-        let apart : Apart c d = apart_then c mid d before (record { parameters = refl; prefixes = refl; servers = refl; names = refl; assigned = λ k. refl; solicited = refl; stream = λ start'. refl }) in
+        let before : Apart c mid = apart_then c later' mid (record { parameters = refl; prefixes = refl; servers = refl; names = refl; assigned = λ k. refl; solicited = refl; router = λ start'. refl; stream = λ start'. refl }) left.apart in
+        let apart : Apart c d = apart_then c mid d before (record { parameters = refl; prefixes = refl; servers = refl; names = refl; assigned = λ k. refl; solicited = refl; router = λ start'. refl; stream = λ start'. refl }) in
         let ended : choice.Stands new.choice (redirect_rows.Cleared now ∷ redirect_history c) = gains.stands (redirect_history c) s.redirects in
         let redirects' : choice.Stands new.choice (redirect_rows.Cleared now ∷ then_gone now those (redirect_history c)) = record {
           entries_are = ended.entries_are ∙ all_ended now (redirect_history c) (then_gone now those (redirect_history c)) (gone_destinations now those (redirect_history c));

@@ -3,6 +3,8 @@ use Rattle.std.proofs.Common.{◌≡◌, ℕ, ◌<◌, ◌≤◌, List, [], ◌�
 use Rattle.std.specs.List.{flat_map}
 use Rattle.rand_core.specs.Stream.{Stream}
 use Rattle.nd_addr.specs.declared.addr.Addr.{Addr}
+use Rattle.nd_addr.specs.declared.role.Role.{Role}
+use Rattle.nd_addr.specs.declared.role.Role.TheVariants.{Host}
 use Rattle.nd_addr.specs.Number.{number_of}
 use Rattle.nd_neighbour.specs.History as rows
 use Rattle.nd_neighbour.specs.History.{story}
@@ -15,6 +17,7 @@ use Rattle.nd_chronicle.specs.Happening.{Chronicle, Neighbour, Passed, Forgotten
 use Rattle.nd_chronicle.specs.Histories.{neighbour_history, then_failed, then_target}
 use Rattle.nd_chronicle.specs.InForce.{reachable_time}
 use Rattle.nd_chronicle.specs.Packet.{losing}
+use Rattle.nd_chronicle.specs.Refused.{AtRouter}
 use Rattle.nd_chronicle.specs.Event as events
 use Rattle.nd_chronicle.specs.Event.{EventAdds}
 use Rattle.nd_chronicle.specs.Told.{lines_of, text}
@@ -96,7 +99,11 @@ module _ {R A : Type 0} (stream : R → Stream) (old new : Node R A) (now : ℕ)
 
 -- ---- a command of a router
 
+-- a host refuses it
+pub at_host : (now : ℕ) (role : Role) (Adds : Chronicle → Type 0) (c : Chronicle) → role ≡ Host → AtRouter now role Adds c ((now, Refused WrongRole) ∷ c)
+at_host now role Adds c host = subst (λ (r : Role). AtRouter now r Adds c ((now, Refused WrongRole) ∷ c)) (sym host) refl
+
 pub wrong_role : {R A : Type 0} (stream : R → Stream) (old new : Node R A) (x y : List (ℕ × Out A)) (now : ℕ) (event : events.Event)
-    → ((start : Start) (c : Chronicle) → EventAdds start now event c ((now, Refused WrongRole) ∷ c)) → AddsAlone stream old new x y now (Refused WrongRole) → AddsEvent stream old new x y now event
+    → ((start : Start) (c : Chronicle) → start.role ≡ Host → EventAdds start now event c ((now, Refused WrongRole) ∷ c)) → AddsAlone stream old new x y now (Refused WrongRole) → AddsEvent stream old new x y now event
 wrong_role stream old new x y now event refused adds =
-    record { each = λ start c s le. let a = adds.each start c s le in ((now, Refused WrongRole) ∷ (now, Passed) ∷ c, refused start ((now, Passed) ∷ c), a.0, a.1) }
+    record { each = λ start c s le. let a = adds.each start c s le in ((now, Refused WrongRole) ∷ (now, Passed) ∷ c, refused start ((now, Passed) ∷ c) s.host, a.0, a.1) }

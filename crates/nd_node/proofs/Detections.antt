@@ -9,7 +9,6 @@ use Rattle.nd_decode.specs.Message.{Parts}
 use Rattle.nd_decode.specs.Option.{Said}
 use Rattle.nd_decode.specs.declared.body.Body.TheVariants as bodies
 use Rattle.nd_decode.specs.declared.neighbor_solicitation.NeighborSolicitation.{NeighborSolicitation}
-use Rattle.nd_validity.specs.Hearing.{valid}
 use Rattle.nd_slaac.specs.Address as own
 use Rattle.nd_slaac.specs.History as rows
 use Rattle.nd_slaac.specs.History.{story}
@@ -25,7 +24,8 @@ use Rattle.nd_chronicle.specs.LinkLayerAddress.{first_slla}
 use Rattle.nd_chronicle.specs.OwnAddress.{is_assigned, is_tentative}
 use Rattle.nd_chronicle.specs.NeighborSolicitation.{is_router, then_tried, Answers}
 use Rattle.nd_chronicle.specs.Full.{Placed}
-use Rattle.nd_chronicle.specs.Event.{OutcomeAdds}
+use Rattle.nd_chronicle.specs.Event.{VerdictAdds}
+use Rattle.nd_chronicle.specs.Hearing.{hears}
 use Rattle.nd_chronicle.specs.Told.{lines_of, text}
 use Rattle.nd_out.specs.declared.out.Out.{Out}
 use Rattle.nd_out.specs.Out.{happening}
@@ -67,12 +67,13 @@ heard_is_quiet at source destination ns options c from now = record {
   names = refl;
   redirects = refl;
   solicited = refl;
+  router = λ start. refl;
   stream = λ start. refl;
   last = λ start. sym (now start);
 }
 
 conflict_beside : (at key : ℕ) (c : Chronicle) → Beside c ((at, Address key rows.Conflict) ∷ c)
-conflict_beside at key c = record { parameters = refl; routers = refl; prefixes = refl; servers = refl; names = refl; redirects = refl; assigned = λ k. refl; solicited = refl; stream = λ start. refl }
+conflict_beside at key c = record { parameters = refl; routers = refl; prefixes = refl; servers = refl; names = refl; redirects = refl; assigned = λ k. refl; solicited = refl; router = λ start'. refl; stream = λ start. refl }
 
 -- ---- the address
 
@@ -91,7 +92,7 @@ the_other false true tried e not_tentative = let no : ⊥ = cc in absurd no
 
 adds_by : (start : Start) (now : ℕ) (source destination : Addr) (ns : NeighborSolicitation) (options : List Said) (c d : Chronicle) → bytes_eq source.0 unspecified_address ≡ true
     → d ≡ then_tried start now ns.target ((now, Heard source destination (solicitation ns options)) ∷ c)
-    → OutcomeAdds start now [] (valid source destination (solicitation ns options)) c d
+    → VerdictAdds start now [] (hears source destination (solicitation ns options)) c d
 adds_by start now source destination ns options c d from is = (
   None,
   record { neighbours = true; placed = placed_alone; first = refl },

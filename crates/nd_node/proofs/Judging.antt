@@ -5,6 +5,7 @@ use Rattle.std.proofs.lemmas.List.{length-take, length-drop, take_min}
 use Rattle.rand_core.specs.Stream.{Stream}
 use Rattle.nd_addr.specs.declared.addr.Addr.{Addr}
 use Rattle.nd_addr.specs.declared.role.Role.{Role}
+use Rattle.nd_addr.specs.declared.role.Role.TheVariants.{Host, Router}
 use Rattle.nd_addr.specs.declared.why.Why.{Why}
 use Rattle.nd_addr.specs.declared.why.Why.TheVariants.{NotForUs, NotFirstHop}
 use Rattle.nd_addr.specs.Ip6.{PacketParts, ipv6_header_length, payload_length_of}
@@ -19,6 +20,7 @@ use Rattle.nd_validity.specs.Hearing.{Outcome, Hears, valid, other, dropped}
 use Rattle.nd_nexthop.specs.NextHop.{NextHop, via}
 use Rattle.nd_chronicle.specs.Start.{Start}
 use Rattle.nd_chronicle.specs.Happening.{Chronicle, Happening, Dropped, Up, Passed, last_moment}
+use Rattle.nd_chronicle.specs.Hearing as verdicts
 use Rattle.nd_chronicle.specs.Hearing.{FromFirstHop, IsForUs, IsPacketForUs, IsDropped, IsTaken, IsStrange, IsMisdirected, IsPacket, IsStrangePacket, takes_target}
 use Rattle.nd_chronicle.specs.NextHop.{IsNextHop}
 use Rattle.nd_chronicle.specs.Event as events
@@ -52,6 +54,7 @@ dropped_is_quiet now why c is = record {
   names = refl;
   redirects = refl;
   solicited = refl;
+  router = λ start. refl;
   stream = λ start. refl;
   last = λ start. sym (is start);
 }
@@ -67,6 +70,7 @@ up_is_quiet now packet c is = record {
   names = refl;
   redirects = refl;
   solicited = refl;
+  router = λ start. refl;
   stream = λ start. refl;
   last = λ start. sym (is start);
 }
@@ -103,6 +107,7 @@ pub stays_keeps : {R A : Type 0} (stream : R → Stream) (old new : Node R A) �
 stays_keeps stream old new k = record {
   each = λ start c s. record {
     role = k.role ∙ s.role;
+    host = s.host;
     mac = k.mac ∙ s.mac;
     address_mac = rw k.addresses s.address_mac;
     neighbour_limit = k.limit ∙ s.neighbour_limit;
@@ -148,7 +153,7 @@ pub judged : {R A : Type 0} (stream : R → Stream) (old new : Node R A) (x y : 
 judged stream old new x y now source destination message same from adds = record {
   each = λ frame start c s le ours.
       let a = adds.each start c s le (sym (same c) ∙ ours.target) in (
-        valid source destination message,
+        verdicts.hears source destination message,
         a.0,
         IsTaken ours (from c),
         a.1,
@@ -168,7 +173,7 @@ module _ {R A : Type 0} (stream : R → Stream) (old mid new : Node R A) (x y : 
   directed is adds = record {
     each = λ frame start c s le ours.
         let a = adds.each start c (stands start c s) le ours.target in (
-          valid source destination (redirection r options),
+          verdicts.hears source destination (redirection r options),
           a.0,
           IsTaken ours (subst (λ (h : NextHop). IsNextHop ((now, Passed) ∷ c) now r.destination h) is (next_later c now r.destination hop (next start c s le))),
           a.1,
@@ -182,7 +187,7 @@ module _ {R A : Type 0} (stream : R → Stream) (old mid new : Node R A) (x y : 
   misdirected differs adds = record {
     each = λ frame start c s le ours.
         let a = adds.each start c (stands start c s) le in (
-          dropped NotFirstHop,
+          verdicts.drops NotFirstHop,
           (now, Dropped NotFirstHop) ∷ (now, Passed) ∷ c,
           IsMisdirected ours (hop, next_later c now r.destination hop (next start c s le), differs),
           refl,
@@ -192,6 +197,10 @@ module _ {R A : Type 0} (stream : R → Stream) (old mid new : Node R A) (x y : 
   }
 
 -- ---- a frame
+
+-- a host sends no packet on
+not_router : {role : Role} → role ≡ Host → role ≡ Router → ⊥
+not_router host router = let no : ⊥ = cc in no
 
 module _ {R A : Type 0} (stream : R → Stream) (old new : Node R A) (x y : List (ℕ × Out A)) (now : ℕ) (frame : List ℕ) where
   -- what it says by itself, at the role of the node
@@ -204,7 +213,7 @@ module _ {R A : Type 0} (stream : R → Stream) (old new : Node R A) (x y : List
     each = λ start c s le.
         let a = adds.each start c s le in (
           (now, Dropped why) ∷ (now, Passed) ∷ c,
-          record { outcome = dropped why; heard = record { outcome = dropped why; by_frame = by_role start c (dropped why) s h; by_node = IsDropped }; adds = refl },
+          record { verdict = verdicts.drops why; heard = record { outcome = dropped why; by_frame = by_role start c (dropped why) s h; by_node = IsDropped }; adds = refl },
           a.0,
           a.1,
         );
@@ -225,7 +234,7 @@ module _ {R A : Type 0} (stream : R → Stream) (old new : Node R A) (x y : List
           let a = adds.each frame start c s le (for_us_later start c ((says start c s).0 is)) in (
             a.1,
             record {
-              outcome = a.0;
+              verdict = a.0;
               heard = record { outcome = valid source destination message; by_frame = by_role start c (valid source destination message) s h; by_node = a.2 };
               adds = a.3;
             },
@@ -240,7 +249,7 @@ module _ {R A : Type 0} (stream : R → Stream) (old new : Node R A) (x y : List
           let a = adds.each start c s le in (
             (now, Dropped NotForUs) ∷ (now, Passed) ∷ c,
             record {
-              outcome = dropped NotForUs;
+              verdict = verdicts.drops NotForUs;
               heard = record {
                 outcome = valid source destination message;
                 by_frame = by_role start c (valid source destination message) s h;
@@ -260,11 +269,11 @@ module _ {R A : Type 0} (stream : R → Stream) (old new : Node R A) (x y : List
           let a = adds.each start c s le in (
             (now, Dropped NotForUs) ∷ (now, Passed) ∷ c,
             record {
-              outcome = dropped NotForUs;
+              verdict = verdicts.drops NotForUs;
               heard = record {
                 outcome = other packet;
                 by_frame = by_role start c (other packet) s h;
-                by_node = IsStrangePacket (λ f. let yes' = (says start c s).1 (record { destination_is = f.destination_is; up = f.up }) in let never : ⊥ = cc in never);
+                by_node = IsStrangePacket (λ f. let yes' = (says start c s).1 (record { destination_is = f.destination_is; up = f.up }) in let never : ⊥ = cc in never) (λ t. not_router s.host t.role);
               };
               adds = refl;
             },
@@ -280,7 +289,7 @@ module _ {R A : Type 0} (stream : R → Stream) (old new : Node R A) (x y : List
           let f = (says start c s).0 is in (
             (now, Up (take (ipv6_header_length + payload_length_of (packet_in frame)) (packet_in frame))) ∷ (now, Passed) ∷ c,
             record {
-              outcome = other packet;
+              verdict = verdicts.goes_up packet;
               heard = record {
                 outcome = other packet;
                 by_frame = by_role start c (other packet) s h;

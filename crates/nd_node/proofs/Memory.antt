@@ -7,7 +7,7 @@ use Rattle.nd_addr.specs.Number.{number_of}
 use Rattle.nd_decode.specs.Message.{Parts}
 use Rattle.nd_decode.specs.declared.body.Body.TheVariants as bodies
 use Rattle.nd_decode.specs.declared.router_advertisement.RouterAdvertisement.{RouterAdvertisement}
-use Rattle.nd_validity.specs.Hearing.{Outcome, Hears, valid, dropped}
+use Rattle.nd_validity.specs.Hearing.{Outcome, Hears, valid}
 use Rattle.nd_neighbour.specs.declared.news.News.{News}
 use Rattle.nd_neighbour.specs.declared.news.Times.{Times}
 use Rattle.nd_neighbour.specs.Entry as entries
@@ -21,7 +21,7 @@ use Rattle.nd_addr.specs.Ip6.{PacketParts}
 use Rattle.nd_validity.specs.Hearing.{other}
 use Rattle.nd_chronicle.specs.Start.{Start}
 use Rattle.nd_chronicle.specs.Happening.{Chronicle}
-use Rattle.nd_chronicle.specs.Hearing.{IsForUs, IsPacketForUs, IsHeard, Judges, IsStrange, IsMisdirected, IsStrangePacket, NotFromFirstHop}
+use Rattle.nd_chronicle.specs.Hearing.{IsForUs, IsPacketForUs, IsHeard, Judges, IsStrange, IsMisdirected, IsStrangePacket, NotFromFirstHop, drops}
 use Rattle.nd_chronicle.specs.Histories.{given_or_marked}
 use Rattle.nd_effects.specs.LinkLayerAddress.{said_by, waiting_for}
 use Rattle.nd_node.specs.declared.node.Node.{Node}
@@ -47,20 +47,20 @@ waits_for_sender times key mac (Some n) nodes e = ap (λ (k : ℕ). length (wait
 
 -- a message that is for this node is dropped only as a Redirect from another node than the first hop
 pub misdirected : (start : Start) (c : Chronicle) (now : ℕ) (source destination : Addr) (message : Parts) (why : Why) → IsForUs start c source destination message
-    → Judges start c now (valid source destination message) (dropped why) → NotFromFirstHop c now source message.body
+    → Judges start c now (valid source destination message) (drops why) → NotFromFirstHop c now source message.body
 misdirected start c now source destination message why u (IsStrange n) = absurd (n u)
 misdirected start c now source destination message why u (IsMisdirected u' n) = n
 
 -- a packet that is for this node isn't
-pub packet_stays : (start : Start) (c : Chronicle) (now : ℕ) (packet : PacketParts) (why : Why) → IsPacketForUs start c packet → Judges start c now (other packet) (dropped why) → ⊥
-packet_stays start c now packet why u (IsStrangePacket n) = n u
+pub packet_stays : (start : Start) (c : Chronicle) (now : ℕ) (packet : PacketParts) (why : Why) → IsPacketForUs start c packet → Judges start c now (other packet) (drops why) → ⊥
+packet_stays start c now packet why u (IsStrangePacket n no_transit) = n u
 
 -- the node judges what the frame says
 pub judged_by_frame : (start : Start) (c : Chronicle) (now : ℕ) (frame : List ℕ) (role : Role) (said : Outcome) (why : Why) → role ≡ start.role → ((o : Outcome) → Hears frame role o → said ≡ o)
-    → IsHeard start c now frame (dropped why) → Judges start c now said (dropped why)
+    → IsHeard start c now frame (drops why) → Judges start c now said (drops why)
 judged_by_frame start c now frame role said why same only h =
     let is : said ≡ h.outcome = only h.outcome (subst (λ (r : Role). Hears frame r h.outcome) (sym same) h.by_frame) in
-    subst (λ (o : Outcome). Judges start c now o (dropped why)) (sym is) h.by_node
+    subst (λ (o : Outcome). Judges start c now o (drops why)) (sym is) h.by_node
 
 -- ---- a frame says one thing
 

@@ -2,7 +2,10 @@
 use Rattle.std.proofs.Common.{◌≡◌, ℕ, ◌<◌, ◌≤◌, Bool, true, false, List, [], ◌∷◌, ◌++◌, append-nil, Option, Some, None, refl, sym, ◌∙◌, ap, subst}
 use Rattle.std.specs.Prelude.{MatchBool}
 use Rattle.rand_core.specs.Stream.{Stream}
+use Rattle.nd_addr.specs.declared.addr.Addr.{Addr}
 use Rattle.nd_addr.specs.declared.mac.Mac.{Mac}
+use Rattle.nd_addr.specs.declared.role.Role.{Role}
+use Rattle.nd_addr.specs.declared.role.Role.TheVariants.{Host}
 use Rattle.nd_addr.specs.Kind.{multicast_mac_of, multicast_prefix}
 use Rattle.nd_addr.specs.Number.{holds, number_of}
 use Rattle.nd_frames.specs.Frames.{multicast_mac, open_mac}
@@ -12,9 +15,11 @@ use Rattle.nd_nexthop.specs.NextHop.{NextHop, direct, no_route}
 use Rattle.nd_chronicle.specs.Start.{Start}
 use Rattle.nd_chronicle.specs.Happening.{Chronicle, Passed, Refused, Refusal, Full, Neighbours, Lost, Routeless, Sent, last_moment}
 use Rattle.nd_chronicle.specs.Histories.{neighbour_history}
-use Rattle.nd_chronicle.specs.NextHop.{IsNextHop}
+use Rattle.nd_chronicle.specs.NextHop.{IsNextHop, IsHopOf}
 use Rattle.nd_chronicle.specs.Event as events
-use Rattle.nd_chronicle.specs.Event.{GoesIfPlaced, PacketAdds, UnlessRefused, packet_frame, refusal_of_packet}
+use Rattle.nd_chronicle.specs.Event.{PacketAdds, packet_frame, refusal_of_packet}
+use Rattle.nd_chronicle.specs.Packet.{GoesIfPlaced}
+use Rattle.nd_chronicle.specs.Refused.{UnlessRefused}
 use Rattle.nd_out.specs.declared.out.Out.{Out}
 use Rattle.nd_out.specs.Out.{happening}
 use Rattle.nd_effects.specs.declared.outgoing_packet.OutgoingPacket.{OutgoingPacket}
@@ -46,6 +51,7 @@ refused_is_quiet now refusal c is = record {
   names = refl;
   redirects = refl;
   solicited = refl;
+  router = λ start. refl;
   stream = λ start. refl;
   last = λ start. sym (is start);
 }
@@ -61,6 +67,7 @@ lost_is_quiet now packet c is = record {
   names = refl;
   redirects = refl;
   solicited = refl;
+  router = λ start. refl;
   stream = λ start. refl;
   last = λ start. sym (is start);
 }
@@ -76,6 +83,7 @@ sent_is_quiet now packet c is = record {
   names = refl;
   redirects = refl;
   solicited = refl;
+  router = λ start. refl;
   stream = λ start. refl;
   last = λ start. sym (is start);
 }
@@ -176,6 +184,10 @@ module _ {R A : Type 0} (stream : R → Stream) (old new : Node R A) (x y : List
 
 -- ---- the event
 
+-- the next hop of a host
+by_host : {role : Role} {c : Chronicle} {now : ℕ} {destination : Addr} {next : NextHop} → role ≡ Host → IsNextHop c now destination next → IsHopOf role c now destination next
+by_host {role} {c} {now} {destination} {next} host h = subst (λ (r : Role). IsHopOf r c now destination next) (sym host) h
+
 module _ {R A : Type 0} (stream : R → Stream) (old new : Node R A) (x y : List (ℕ × Out A)) (now : ℕ) (packet : OutgoingPacket A) where
   -- it is refused
   pub not_sent : (refusal : Refusal) → ((start : Start) (c : Chronicle) → Stands stream start old c → Some refusal ≡ refusal_of_packet start now packet.source packet.payload.items c)
@@ -186,7 +198,7 @@ module _ {R A : Type 0} (stream : R → Stream) (old new : Node R A) (x y : List
         let later : Chronicle = (now, Passed) ∷ c in
         let d : Chronicle = (now, Refused refusal) ∷ later in (
           d,
-          subst (λ (o : Option Refusal). UnlessRefused start now o (λ e. (next : NextHop) × IsNextHop later now packet.destination next
+          subst (λ (o : Option Refusal). UnlessRefused now o (λ e. (next : NextHop) × IsHopOf start.role later now packet.destination next
               × PacketAdds start now next packet.source packet.destination packet.next_header packet.payload.items later e) later d) (says start c s) refl,
           a.0,
           a.1,
@@ -204,9 +216,9 @@ module _ {R A : Type 0} (stream : R → Stream) (old new : Node R A) (x y : List
         let later : Chronicle = (now, Passed) ∷ c in
         let d : Chronicle = a.0 in (
           d,
-          subst (λ (o : Option Refusal). UnlessRefused start now o (λ e. (next : NextHop) × IsNextHop later now packet.destination next
+          subst (λ (o : Option Refusal). UnlessRefused now o (λ e. (next : NextHop) × IsHopOf start.role later now packet.destination next
               × PacketAdds start now next packet.source packet.destination packet.next_header packet.payload.items later e) later d) (says start c s)
-              (hop, next_later c now packet.destination hop (next start c s le), a.1),
+              (hop, by_host s.host (next_later c now packet.destination hop (next start c s le)), a.1),
           a.2,
           a.3,
         );

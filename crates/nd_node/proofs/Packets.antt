@@ -50,7 +50,7 @@ pushed_addresses at None c = refl
 pushed_addresses at (Some key) c = refl
 
 pushed_beside : (at : ℕ) (pushed : Option ℕ) (c : Chronicle) → Beside c (with_pushed at pushed c)
-pushed_beside at None c = record { parameters = refl; routers = refl; prefixes = refl; servers = refl; names = refl; redirects = refl; assigned = λ k. refl; solicited = refl; stream = λ start. refl }
+pushed_beside at None c = record { parameters = refl; routers = refl; prefixes = refl; servers = refl; names = refl; redirects = refl; assigned = λ k. refl; solicited = refl; router = λ start'. refl; stream = λ start. refl }
 pushed_beside at (Some key) c = beside_neighbour at key (rows.Forgot rows.PushedOut) c (λ h. refl) (λ h. refl)
 
 -- nothing is told of it

@@ -1,8 +1,12 @@
 -- A message that says something of a neighbour, and perhaps redirects a destination, and the chronicle that a node stands for.
 use Rattle.std.proofs.Common.{◌≡◌, ℕ, ◌<◌, ◌≤◌, Bool, true, false, List, [], ◌∷◌, ◌++◌, append-nil, Option, Some, None, refl, sym, ◌∙◌, ap, subst, arith}
+use Rattle.std.specs.Prelude.{◌&&◌}
 use Rattle.std.specs.Option.{option_map}
 use Rattle.rand_core.specs.Stream.{Stream}
 use Rattle.nd_addr.specs.declared.addr.Addr.{Addr}
+use Rattle.nd_addr.specs.declared.role.Role.{Role}
+use Rattle.nd_addr.specs.declared.role.Role.TheVariants.{Host}
+use Rattle.nd_advertiser.specs.Advertising.{wants_draw_of}
 use Rattle.nd_decode.specs.Message.{Parts}
 use Rattle.nd_decode.specs.Option.{Said}
 use Rattle.nd_decode.specs.declared.body.Body.TheVariants as bodies
@@ -19,11 +23,13 @@ use Rattle.nd_nexthop.specs.Choice as choice
 use Rattle.nd_slaac.specs.Table as addresses
 use Rattle.nd_chronicle.specs.Start.{Start}
 use Rattle.nd_chronicle.specs.Happening.{Chronicle, Heard, Passed, Refused, Full, Limit, Neighbours, last_moment}
-use Rattle.nd_chronicle.specs.Histories.{neighbour_history, router_history, redirect_history, said_of_neighbour, then_neighbour, then_redirect}
+use Rattle.nd_chronicle.specs.Histories.{advertising_history, neighbour_history, router_history, redirect_history, said_of_neighbour, then_neighbour, then_redirect}
 use Rattle.nd_chronicle.specs.Due.{assigned_at}
 use Rattle.nd_chronicle.specs.Full.{entering, needs, Placed, MessageFills, Fills}
 use Rattle.nd_chronicle.specs.Message.{said, PlaceFor, releasing}
 use Rattle.nd_chronicle.specs.Event.{MessageAdds}
+use Rattle.nd_chronicle.specs.Advertising.{planning}
+use Rattle.nd_chronicle.specs.NeighborSolicitation.{is_router}
 use Rattle.nd_chronicle.specs.Told.{lines_of, text}
 use Rattle.nd_out.specs.declared.out.Out.{Out}
 use Rattle.nd_out.specs.Out.{happening}
@@ -48,18 +54,22 @@ message_of body options = record { body = body; options = options }
 pub record IsPlain (now : ℕ) (source destination : Addr) (body : Body) (options : List Said) : Type 0 where
   pub needs_is : (c : Chronicle) → needs c source (message_of body options) body ≡ entering (said c source (message_of body options))
   pub fills : (start : Start) (c : Chronicle) (limit : Option Limit) → MessageFills start c now source (message_of body options) limit → Fills start c now source (message_of body options) body limit
-  pub adds : (start : Start) (c placed : Chronicle) → PlaceFor start c now (said c source (message_of body options)) placed
+  pub adds : (start : Start) (c placed : Chronicle) → start.role ≡ Host → PlaceFor start c now (said c source (message_of body options)) placed
       → MessageAdds start now source destination (message_of body options) body c
       (releasing now (said c source (message_of body options)) (neighbour_history placed) ((now, Heard source destination (message_of body options)) ∷ placed))
   pub apart : (c : Chronicle) → Apart c ((now, Heard source destination (message_of body options)) ∷ c)
   pub routers : (c : Chronicle) → router_history ((now, Heard source destination (message_of body options)) ∷ c) ≡ router_history c
 
+-- a host plans no answer
+none_planned : (start : Start) (at : ℕ) (wants : Bool) (c : Chronicle) → start.role ≡ Host → c ≡ planning start at (is_router start.role && wants) c
+none_planned start at wants c host = ap (λ (r : Role). planning start at (is_router r && wants) c) (sym host)
+
 pub plain_redirect : (now : ℕ) (source destination : Addr) (r : Redirect) (options : List Said) → IsPlain now source destination (bodies.Redirect r) options
 plain_redirect now source destination r options = record {
   needs_is = λ c. refl;
   fills = λ start c limit f. f;
-  adds = λ start c placed place. (placed, place, refl);
-  apart = λ c. record { parameters = refl; prefixes = refl; servers = refl; names = refl; assigned = λ k. refl; solicited = refl; stream = λ start. refl };
+  adds = λ start c placed host place. (placed, place, refl);
+  apart = λ c. record { parameters = refl; prefixes = refl; servers = refl; names = refl; assigned = λ k. refl; solicited = refl; router = λ start'. refl; stream = λ start. refl };
   routers = λ c. refl;
 }
 
@@ -67,8 +77,8 @@ pub plain_solicitation : (now : ℕ) (source destination : Addr) (options : List
 plain_solicitation now source destination options = record {
   needs_is = λ c. refl;
   fills = λ start c limit f. f;
-  adds = λ start c placed place. (placed, place, refl);
-  apart = λ c. record { parameters = refl; prefixes = refl; servers = refl; names = refl; assigned = λ k. refl; solicited = refl; stream = λ start. refl };
+  adds = λ start c placed host place. (placed, place, none_planned start now (wants_draw_of (advertising_history start c)) _ host);
+  apart = λ c. record { parameters = refl; prefixes = refl; servers = refl; names = refl; assigned = λ k. refl; solicited = refl; router = λ start'. refl; stream = λ start. refl };
   routers = λ c. refl;
 }
 
@@ -83,6 +93,7 @@ refused_is_quiet at c now = record {
   names = refl;
   redirects = refl;
   solicited = refl;
+  router = λ start. refl;
   stream = λ start. refl;
   last = λ start. sym (now start);
 }
@@ -94,7 +105,7 @@ placed_later start c now (Some said') true h = h
 placed_later start c now (Some said') false h = h
 
 apart_passed : (now : ℕ) (c : Chronicle) → Apart c ((now, Passed) ∷ c)
-apart_passed now c = record { parameters = refl; prefixes = refl; servers = refl; names = refl; assigned = λ k. refl; solicited = refl; stream = λ start. refl }
+apart_passed now c = record { parameters = refl; prefixes = refl; servers = refl; names = refl; assigned = λ k. refl; solicited = refl; router = λ start'. refl; stream = λ start. refl }
 
 apart_others : {c d : Chronicle} → Others c d → Apart c d
 apart_others o = record {
@@ -104,6 +115,7 @@ apart_others o = record {
   names = o.names;
   assigned = λ key. ap (λ l. assigned_at key l) o.addresses;
   solicited = o.solicited;
+  router = o.router;
   stream = o.stream;
 }
 
@@ -188,7 +200,7 @@ module _ {R A : Type 0} (stream : R → Stream) (old : Node R A) (now : ℕ) (so
           let placed' : Placed start later now (entering this) true =
           subst (λ (o : Option (ℕ × rows.RowKind)). Placed start later now (entering o) true) this_is (placed_later start c now (option_map (said_by times) news) true (placed start c s)) in (
             after,
-            (None, plain.fills start later None (record { neighbours = true; placed = rw (plain.needs_is later) placed'; first = refl }), plain.adds start later p.placed p.place),
+            (None, plain.fills start later None (record { neighbours = true; placed = rw (plain.needs_is later) placed'; first = refl }), plain.adds start later p.placed s.host p.place),
             stands_quiet stream start new before after q stands_before,
             Tells-then c before after x y z heard_text frames_text,
           );

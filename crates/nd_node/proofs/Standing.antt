@@ -16,6 +16,7 @@ use Rattle.nd_chronicle.specs.Happening.{Chronicle, last_moment}
 use Rattle.nd_chronicle.specs.Histories.{parameter_history, neighbour_history, router_history, prefix_history, address_history, server_history, name_history, redirect_history}
 use Rattle.nd_chronicle.specs.Generator.{stream_left}
 use Rattle.nd_chronicle.specs.Due.{solicited_routers, assigned_at}
+use Rattle.nd_effects.specs.Router.{router_side}
 use Rattle.nd_effects.proofs.Quiet.{Quiet}
 use Rattle.nd_node.specs.declared.node.Node.{Node}
 use Rattle.nd_node.specs.Node.{Stands, next_of}
@@ -29,6 +30,7 @@ pub record Apart (c d : Chronicle) : Type 0 where
   pub names : name_history d ≡ name_history c
   pub assigned : (key : ℕ) → assigned_at key (address_history d) ≡ assigned_at key (address_history c)
   pub solicited : solicited_routers d ≡ solicited_routers c
+  pub router : (start : Start) → router_side start d ≡ router_side start c
   pub stream : (start : Start) → stream_left start d ≡ stream_left start c
 
 pub apart_quiet : (c d : Chronicle) → Quiet c d → Apart c d
@@ -39,6 +41,7 @@ apart_quiet c d q = record {
   names = q.names;
   assigned = λ key. ap (assigned_at key) q.addresses;
   solicited = q.solicited;
+  router = q.router;
   stream = q.stream;
 }
 
@@ -50,6 +53,7 @@ apart_then c d e b f = record {
   names = f.names ∙ b.names;
   assigned = λ key. f.assigned key ∙ b.assigned key;
   solicited = f.solicited ∙ b.solicited;
+  router = λ start. f.router start ∙ b.router start;
   stream = λ start. f.stream start ∙ b.stream start;
 }
 
@@ -80,6 +84,7 @@ module _ {R A : Type 0} (stream : R → Stream) (start : Start) (old new : Node 
       → choice.Stands new.choice (redirect_history d) → Stands stream start new d
   stands_at routers' later_router addresses' later_address neighbours' later_neighbour redirects' = record {
     role = same.role ∙ s.role;
+    host = s.host;
     mac = same.mac ∙ s.mac;
     address_mac = same.address_mac ∙ s.address_mac;
     neighbour_limit = same.neighbour_limit ∙ s.neighbour_limit;

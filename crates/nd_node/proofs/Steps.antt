@@ -3,6 +3,7 @@ use Rattle.std.proofs.Common.{◌≡◌, ℕ, suc, ◌<◌, ◌≤◌, Bool, tru
 use Rattle.std.specs.Prelude.{nat_lt, MatchBool}
 use Rattle.std.proofs.lemmas.Bool.{lt-ltb}
 use Rattle.rand_core.specs.Stream.{Stream}
+use Rattle.nd_addr.specs.declared.role.Role.TheVariants.{Host}
 use Rattle.nd_chronicle.specs.Start.{Start}
 use Rattle.nd_chronicle.specs.Happening.{Chronicle, Passed, Shown, TooLate, last_moment}
 use Rattle.nd_chronicle.specs.Shown as shown
@@ -31,6 +32,7 @@ pub passed : {R A : Type 0} (stream : R → Stream) (start : Start) (old new : N
     → new ≡ record old { last = now } → Stands stream start new ((now, Passed) ∷ c)
 passed stream start old new c now s le settled is = rw is (record {
   role = s.role;
+  host = s.host;
   mac = s.mac;
   address_mac = s.address_mac;
   neighbour_limit = s.neighbour_limit;
@@ -64,6 +66,7 @@ shown_is_quiet at rows c now = record {
   names = refl;
   redirects = refl;
   solicited = refl;
+  router = λ start. refl;
   stream = λ start. refl;
   last = λ start. sym (now start);
 }
@@ -79,6 +82,7 @@ too_late_is_quiet at last c = record {
   names = refl;
   redirects = refl;
   solicited = refl;
+  router = λ start. refl;
   stream = λ start. refl;
   last = λ start. refl;
 }
@@ -129,11 +133,11 @@ showing stream old new x y now table rows out out_is are settled is told = recor
 -- ---- an event comes
 
 -- the moments of a walk are not above its end
-walk_last : (start : Start) (c d : Chronicle) (moment end : ℕ) → Walk start c moment end d → last_moment start.at c ≤ end → last_moment start.at d ≤ end
-walk_last start c d moment end (over past) le = le
-walk_last start c d moment end (adds what soon due rest) le =
-    walk_last start (comes start moment what c) d moment end rest (rw (last_of start c moment what) soon)
-walk_last start c d moment end (passes soon due rest) le = walk_last start c d (suc moment) end rest le
+walk_last : (start : Start) (c d : Chronicle) (moment end : ℕ) → start.role ≡ Host → Walk start c moment end d → last_moment start.at c ≤ end → last_moment start.at d ≤ end
+walk_last start c d moment end host (over past) le = le
+walk_last start c d moment end host (adds what soon due rest) le =
+    walk_last start (comes start moment what c) d moment end host rest (rw (last_of start c moment what host due) soon)
+walk_last start c d moment end host (passes soon due rest) le = walk_last start c d (suc moment) end host rest le
 
 by_false : (b : Bool) (P Q : Type 0) → b ≡ false → Q → MatchBool b P Q
 by_false b P Q is q = subst (λ (x : Bool). MatchBool x P Q) (sym is) q
@@ -165,7 +169,7 @@ follows stream old mid new x y z now event le settled added = record {
   each = λ start c s.
       let came : last_moment start.at c ≤ now = omega (arith, le, s.last) in
       let e = settled.each start c s in
-      let d = added.each start e.0 e.2 (walk_last start c e.0 (last_moment start.at c) now e.1 came) in (
+      let d = added.each start e.0 e.2 (walk_last start c e.0 (last_moment start.at c) now s.host e.1 came) in (
         d.0,
         by_false (nat_lt now (last_moment start.at c)) _ _ (grind (arith, came)) (e.0, e.1, d.1),
         d.2,

@@ -43,6 +43,7 @@ refused_is_quiet at refusal c now = record {
   names = refl;
   redirects = refl;
   solicited = refl;
+  router = λ start. refl;
   stream = λ start. refl;
   last = λ start. sym (now start);
 }

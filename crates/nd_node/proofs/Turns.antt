@@ -20,13 +20,14 @@ use Rattle.nd_params.specs.History as parameter_rows
 use Rattle.nd_params.specs.History.{redraw_after}
 use Rattle.nd_params.specs.Params as parameters
 use Rattle.nd_nexthop.specs.History as redirect_rows
+use Rattle.nd_advertiser.specs.Advertising as advertising
 use Rattle.nd_nexthop.specs.Choice as choice
 use Rattle.nd_chronicle.specs.Start.{Start, link_local_key}
 use Rattle.nd_chronicle.specs.Happening.{Chronicle, Neighbour, Address, LeftRouter, SolicitedRouters, Unreachable, last_moment}
-use Rattle.nd_chronicle.specs.Histories.{parameter_history, neighbour_history, router_history, prefix_history, address_history, server_history, name_history, redirect_history, then_failed, then_target}
+use Rattle.nd_chronicle.specs.Histories.{advertising_history, parameter_history, neighbour_history, router_history, prefix_history, address_history, server_history, name_history, redirect_history, then_failed, then_target}
 use Rattle.nd_chronicle.specs.InForce.{next_redraw}
 use Rattle.nd_chronicle.specs.Generator.{stream_left, reachable_drawn}
-use Rattle.nd_chronicle.specs.Due.{RouterEnds, AddressFalls, NeighbourFalls, RoutersSolicited, Redraws, comes, max_rtr_solicitations, router_solicitation_date, rtr_solicitation_interval, is_host, solicited_routers, assigned_at}
+use Rattle.nd_chronicle.specs.Due.{NoAdvertisement, RouterEnds, AddressFalls, NeighbourFalls, RoutersSolicited, Redraws, comes, max_rtr_solicitations, router_solicitation_date, rtr_solicitation_interval, is_host, solicited_routers, assigned_at}
 use Rattle.nd_effects.specs.RouterSolicitations as solicitations
 use Rattle.nd_effects.specs.RouterSolicitations.{Solicitations, next_solicitation, after_address}
 use Rattle.nd_effects.specs.LostHop.{Notes, with_failure, with_lost_target}
@@ -76,6 +77,15 @@ solicitation_date stream start node c s =
     ∙ (ap (λ a. date_by start.role a node.solicitations.sent node.solicitations.heard) s.solicitations.assigned
     ∙ (ap (λ n. date_by start.role (assigned_at (link_local_key start) (address_history c)) n node.solicitations.heard) s.solicitations.sent
     ∙ ap (λ h. date_by start.role (assigned_at (link_local_key start) (address_history c)) (solicited_routers c) h) s.solicitations.heard))
+
+-- ---- Router Advertisements
+
+-- a host sends none
+pub no_advertisement : (start : Start) (c : Chronicle) (moment : ℕ) → start.role ≡ Host → NoAdvertisement start c moment
+no_advertisement start c moment host =
+    subst (λ (r : Role). (if is_host r then None else advertising.next_of (advertising_history start c)) ≢ Some moment) (sym host) (λ is. let no : ⊥ = cc in no)
+
+-- ---- Router Solicitations
 
 -- the one after it comes later
 pub solicited_later : (role : Role) (s : Solicitations) (now : ℕ) → next_solicitation role s ≡ Some now → NotBefore now (next_solicitation role (record s { sent = s.sent + 1 }))
@@ -143,6 +153,7 @@ module _ {R A : Type 0} (stream : R → Stream) (start : Start) (old new : Node 
       → stream new.generator ≡ stream_left start d → now ≤ next_of new → Stands stream start new d
   then_row d at p v n params routers' addresses' neighbours' redirects' solicitations' generator' later = record {
     role = turns.role ∙ s.role;
+    host = s.host;
     mac = turns.mac ∙ s.mac;
     address_mac = turns.address_mac ∙ s.address_mac;
     neighbour_limit = turns.neighbour_limit ∙ s.neighbour_limit;
@@ -307,6 +318,7 @@ next_due_at stream start node c s r a n r_is a_is n_is r_due a_due n_due next is
         no_address (address_history c) a (earlier n (earlier date redraw)) moment a_due lt2,
         no_neighbour (neighbour_history c) n (earlier date redraw) moment n_due lt3,
         subst (λ (o : Option ℕ). o ≢ Some moment) (solicitation_date stream start node c s) (none_at moment date redraw lt4),
+        no_advertisement start c moment s.host,
         λ at. absurd (omega (arith, lt5, at, s.params.drawn_at)),
       );
 }

@@ -3,11 +3,11 @@ use Rattle.std.specs.Prelude.{ℕ, List, ◌∷◌, ◌≤◌}
 use Rattle.rand_core.specs.Stream.{Stream}
 use Rattle.nd_addr.specs.declared.addr.Addr.{Addr}
 use Rattle.nd_decode.specs.Message.{Parts}
-use Rattle.nd_validity.specs.Hearing.{Outcome, valid}
+use Rattle.nd_validity.specs.Hearing.{valid}
 use Rattle.nd_chronicle.specs.Start.{Start}
 use Rattle.nd_chronicle.specs.Happening.{Chronicle, Happening, Passed, last_moment}
-use Rattle.nd_chronicle.specs.Hearing.{IsForUs, Judges}
-use Rattle.nd_chronicle.specs.Event.{OutcomeAdds}
+use Rattle.nd_chronicle.specs.Hearing.{IsForUs, Judges, Verdict}
+use Rattle.nd_chronicle.specs.Event.{VerdictAdds}
 use Rattle.nd_out.specs.declared.out.Out.{Out}
 use Rattle.nd_effects.specs.Told.{Tells}
 use Rattle.nd_node.specs.declared.node.Node.{Node}
@@ -22,8 +22,8 @@ pub record AddsAlone {R A : Type 0} (stream : R → Stream) (old new : Node R A)
 -- where it comes from.
 pub record AddsJudged {R A : Type 0} (stream : R → Stream) (old new : Node R A) (before after : List (ℕ × Out A)) (now : ℕ) (source destination : Addr) (message : Parts) : Type 0 where
   pub each : (frame : List ℕ) (start : Start) (c : Chronicle) → Stands stream start old c → last_moment start.at c ≤ now → IsForUs start ((now, Passed) ∷ c) source destination message
-      → (outcome : Outcome) × (d : Chronicle) × Judges start ((now, Passed) ∷ c) now (valid source destination message) outcome
-      × OutcomeAdds start now frame outcome ((now, Passed) ∷ c) d × Stands stream start new d × Tells c d before after
+      → (verdict : Verdict) × (d : Chronicle) × Judges start ((now, Passed) ∷ c) now (valid source destination message) verdict
+      × VerdictAdds start now frame verdict ((now, Passed) ∷ c) d × Stands stream start new d × Tells c d before after
 
 -- the node stands for the same as before
 pub record Stays {R A : Type 0} (stream : R → Stream) (old new : Node R A) : Type 0 where

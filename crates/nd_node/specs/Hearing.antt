@@ -3,11 +3,10 @@ use Rattle.std.specs.Prelude.{◌≡◌, ℕ, true, List, [], ◌∷◌, ◌≤�
 use Rattle.rand_core.specs.Stream.{Stream}
 use Rattle.nd_addr.specs.declared.addr.Addr.{Addr}
 use Rattle.nd_decode.specs.Message.{Parts}
-use Rattle.nd_validity.specs.Hearing.{valid}
 use Rattle.nd_chronicle.specs.Start.{Start}
 use Rattle.nd_chronicle.specs.Happening.{Chronicle, Passed, last_moment}
-use Rattle.nd_chronicle.specs.Hearing.{takes_target}
-use Rattle.nd_chronicle.specs.Event.{OutcomeAdds}
+use Rattle.nd_chronicle.specs.Hearing.{hears, takes_target}
+use Rattle.nd_chronicle.specs.Event.{VerdictAdds}
 use Rattle.nd_out.specs.declared.out.Out.{Out}
 use Rattle.nd_effects.specs.Told.{Tells}
 use Rattle.nd_node.specs.declared.node.Node.{Node}
@@ -17,7 +16,7 @@ use Rattle.nd_node.specs.Node.{Stands}
 -- refusal where a table would be full, and that is told.
 pub record AddsMessage {R A : Type 0} (stream : R → Stream) (old new : Node R A) (before after : List (ℕ × Out A)) (now : ℕ) (source destination : Addr) (message : Parts) : Type 0 where
   pub each : (start : Start) (c : Chronicle) → Stands stream start old c → last_moment start.at c ≤ now → takes_target c source message.body ≡ true
-      → (d : Chronicle) × OutcomeAdds start now [] (valid source destination message) ((now, Passed) ∷ c) d × Stands stream start new d × Tells c d before after
+      → (d : Chronicle) × VerdictAdds start now [] (hears source destination message) ((now, Passed) ∷ c) d × Stands stream start new d × Tells c d before after
 
 -- all is as before, but rings that may be in hand
 pub record Keeps {R A : Type 0} (old new : Node R A) : Type 0 where

@@ -6,20 +6,20 @@ use Rattle.nd_addr.specs.Number.{number_of}
 use Rattle.nd_decode.specs.Option.{Said}
 use Rattle.nd_decode.specs.declared.body.Body.TheVariants as bodies
 use Rattle.nd_decode.specs.declared.router_advertisement.RouterAdvertisement.{RouterAdvertisement}
-use Rattle.nd_validity.specs.Hearing.{Hears, valid, dropped}
+use Rattle.nd_validity.specs.Hearing.{Hears, valid}
 use Rattle.nd_dns.specs.Dns.{new_names}
 use Rattle.nd_neighbour.specs.Removal.{waiting_at}
 use Rattle.nd_neighbour.specs.Table.{node_in}
 use Rattle.nd_chronicle.specs.Start.{Start}
 use Rattle.nd_chronicle.specs.Happening.{Chronicle, Passed}
-use Rattle.nd_chronicle.specs.Hearing.{IsHeard}
+use Rattle.nd_chronicle.specs.Hearing.{IsHeard, drops}
 use Rattle.nd_chronicle.specs.Event as events
 use Rattle.nd_node.specs.declared.node.Node.{Node}
 
 -- the frame is dropped, and there is a place for its reason
 pub record IsDropped (start : Start) (c : Chronicle) (now : ℕ) (frame : List ℕ) (places : ℕ) : Type 0 where
   pub why : Why
-  pub heard : IsHeard start ((now, Passed) ∷ c) now frame (dropped why)
+  pub heard : IsHeard start ((now, Passed) ∷ c) now frame (drops why)
   pub told : 1 ≤ places
 
 -- an advertisement that adds no search name: there are places for itself, a router that leaves, and the packets that wait for its sender

@@ -4,7 +4,8 @@ use Rattle.rand_core.specs.Stream.{Stream}
 use Rattle.nd_nexthop.specs.NextHop.{NextHop}
 use Rattle.nd_chronicle.specs.Start.{Start}
 use Rattle.nd_chronicle.specs.Happening.{Chronicle, Passed, last_moment}
-use Rattle.nd_chronicle.specs.Event.{GoesIfPlaced, PacketAdds}
+use Rattle.nd_chronicle.specs.Event.{PacketAdds}
+use Rattle.nd_chronicle.specs.Packet.{GoesIfPlaced}
 use Rattle.nd_out.specs.declared.out.Out.{Out}
 use Rattle.nd_effects.specs.declared.outgoing_packet.OutgoingPacket.{OutgoingPacket}
 use Rattle.nd_effects.specs.Told.{Tells}

@@ -6,11 +6,11 @@ ghost use Rattle.nd_decode.specs.Message.{parts};
 ghost use Rattle.nd_decode.specs.Pieces.{options_left};
 ghost use Rattle.nd_decode.specs.declared.body.Body.TheVariants as bodies;
 ghost use Rattle.nd_decode.specs.declared.router_advertisement.RouterAdvertisement.{RouterAdvertisement};
-ghost use Rattle.nd_validity.specs.Hearing.{Hears, dropped, other, valid};
+ghost use Rattle.nd_validity.specs.Hearing.{Hears, other, valid};
 ghost use Rattle.nd_addr.specs.declared.why.Why.{Why};
 ghost use Rattle.nd_chronicle.specs.Start.{Start};
 ghost use Rattle.nd_chronicle.specs.Happening.{Chronicle, Passed, last_moment};
-ghost use Rattle.nd_chronicle.specs.Hearing.{Judges};
+ghost use Rattle.nd_chronicle.specs.Hearing.{Judges, drops};
 ghost use Rattle.nd_chronicle.specs.Event as events;
 ghost use Rattle.nd_node.specs.Event.{AddsEvent};
 ghost use Rattle.nd_node.specs.Frame.{Stays};
@@ -40,7 +40,7 @@ impl<R: Rng + Drop, A: Allocator + Clone> Node<R, A> {
         ensures adds { OnOk result (AddsEvent R.stream self.old self.new outs.old.items outs.new.items now (events.Receives frame.now)) }
         ensures stays { OnErr result (Stays R.stream self.old self.new) }
         ensures told { OnErr result (outs.new.items ≡ outs.old.items) }
-        ensures quiet { (why : Why) (start : Start) (c : Chronicle) → Stands R.stream start self.old c → last_moment start.at c ≤ now → Judges start ((now, Passed) ∷ c) now (other (packet_parts packet.entry)) (dropped why) → vec_len outs.old < vec_capacity outs.old → IsOk result }
+        ensures quiet { (why : Why) (start : Start) (c : Chronicle) → Stands R.stream start self.old c → last_moment start.at c ≤ now → Judges start ((now, Passed) ∷ c) now (other (packet_parts packet.entry)) (drops why) → vec_len outs.old < vec_capacity outs.old → IsOk result }
     {
         if !self.is_packet_for_us(packet.header.destination) {
             return self.drop_frame(now, Why::NotForUs, outs);
@@ -65,7 +65,7 @@ impl<R: Rng + Drop, A: Allocator + Clone> Node<R, A> {
         ensures stays { OnErr result (Stays R.stream self.old self.new) }
         ensures told { OnErr result (outs.new.items ≡ outs.old.items) }
         ensures quiet { (ra : RouterAdvertisement) → heard.now.message.body ≡ bodies.Ra ra → AddsNoName self.old now heard.now.source (options_left heard.now.message.options) (vec_capacity outs.old - vec_len outs.old) → IsOk result }
-        ensures dropped { (why : Why) (start : Start) (c : Chronicle) → Stands R.stream start self.old c → last_moment start.at c ≤ now → Judges start ((now, Passed) ∷ c) now (valid heard.now.source heard.now.destination (parts heard.now.message)) (dropped why) → vec_len outs.old < vec_capacity outs.old → IsOk result }
+        ensures dropped { (why : Why) (start : Start) (c : Chronicle) → Stands R.stream start self.old c → last_moment start.at c ≤ now → Judges start ((now, Passed) ∷ c) now (valid heard.now.source heard.now.destination (parts heard.now.message)) (drops why) → vec_len outs.old < vec_capacity outs.old → IsOk result }
     {
         let source = heard.source;
         let destination = heard.destination;

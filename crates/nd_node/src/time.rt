@@ -27,7 +27,7 @@ impl<R: Rng + Drop, A: Allocator + Clone> Node<R, A> {
         outs.reserve(MOST_TOLD)?;
         let turned = self.take_turn(now);
         let own = link_local(&self.addresses);
-        tell(outs, now, room, self.mac, own, turned);
+        tell(outs, now, room, self.mac, own, None, turned);
         Ok(())
     }
 

@@ -1,3 +1,4 @@
 pub mod Out
 pub mod Row
 pub mod Parameters
+pub mod Advertised

@@ -22,6 +22,7 @@ loss_of loss.Unreachable = happenings.Unreachable
 loss_of loss.Replaced = happenings.Replaced
 loss_of loss.Forgotten = happenings.Forgotten
 loss_of loss.NoRoute = happenings.Routeless
+loss_of loss.HopLimit = happenings.Spent
 
 -- the table that has no room
 abbrev pub limit_of : limits.Limit → happenings.Limit
@@ -31,6 +32,8 @@ limit_of limit.Prefixes = happenings.Prefixes
 limit_of limit.Addresses = happenings.Addresses
 limit_of limit.Servers = happenings.Servers
 limit_of limit.Names = happenings.Names
+limit_of limit.Offers = happenings.Offers
+limit_of limit.StaticRoutes = happenings.StaticRoutes
 
 -- why an event was refused
 abbrev pub refusal_of : refusals.Refusal → happenings.Refusal

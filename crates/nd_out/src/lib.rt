@@ -2,6 +2,7 @@
 #![tactic(auto)]
 
 mod addresses;
+mod advertised;
 mod dns;
 mod line;
 mod lines;
@@ -14,8 +15,10 @@ mod reasons;
 mod redirects;
 mod routers;
 mod row;
+mod static_routes;
 
 pub use addresses::address_rows;
+pub use advertised::advertise_rows;
 pub use dns::dns_rows;
 pub use lines::write_outs;
 pub use neighbours::neighbour_rows;
@@ -24,6 +27,7 @@ pub use parameters::parameter_row;
 pub use prefixes::prefix_rows;
 pub use redirects::redirect_rows;
 pub use routers::router_rows;
+pub use static_routes::route_rows;
 
 #[cfg(test)]
 mod tests;

@@ -22,6 +22,7 @@ pub(crate) fn loss_word(why: Loss) -> &'static str
         Loss::Replaced => "replaced",
         Loss::Forgotten => "forgotten",
         Loss::NoRoute => "no-route",
+        Loss::HopLimit => "hop-limit",
     }
 }
 

@@ -14,6 +14,8 @@ pub enum Loss {
     Forgotten,
     /// There is no next hop for it (RFC 4861, section 5.2).
     NoRoute,
+    /// It was to be forwarded, and its hop limit is spent (RFC 8200, section 3).
+    HopLimit,
 }
 
 /// The tables that have a limit, in the order in which they are asked for room.
@@ -31,6 +33,10 @@ pub enum Limit {
     Servers,
     /// The search names (RFC 8106, section 6.1).
     Names,
+    /// The prefixes that a router advertises (RFC 4861, section 6.2.1, AdvPrefixList).
+    Offers,
+    /// The static routes of a router.
+    StaticRoutes,
 }
 
 /// Why an event was refused.

@@ -36,6 +36,8 @@ fn limit_word(limit: Limit) -> &'static str
         Limit::Addresses => "addresses",
         Limit::Servers => "servers",
         Limit::Names => "names",
+        Limit::Offers => "offers",
+        Limit::StaticRoutes => "routes",
     }
 }
 

@@ -1,4 +1,4 @@
-use Rattle.std.proofs.Common.{◌++◌, ◌∙◌, ap}
+use Rattle.std.proofs.Common.{[], ◌++◌, ◌∙◌, ap}
 use Rattle.nd_addr.specs.declared.mac.Mac.{Mac}
 use Rattle.nd_addr.specs.Number.{addr_at}
 use Rattle.nd_slaac.specs.PrefixOption.{link_local_of}
@@ -11,4 +11,4 @@ pub returns-clause-leads : goal.returns-clause-leads
 returns-clause-leads g c =
     turn_leads g.R.Rng.stream c.args.self.now c.take_turn-turned.new.self c.args.outs.now.items c.tell.new.outs.items c.args.now (what_of c.take_turn-turned.result) c.link_local-own.result c.take_turn-turned.ensures.due c.take_turn-turned.ensures.stands
     (λ start m. c.link_local-own.ensures ∙ ap (λ (mac : Mac). addr_at (link_local_of mac)) m)
-    (c.tell.ensures ∙ ap (λ l. happenings l ++ at_moment c.args.now (told_of c.take_turn-turned.new.self.mac c.link_local-own.result (what_of c.take_turn-turned.result))) c.reserve.ensures.items)
+    (c.tell.ensures ∙ ap (λ l. happenings l ++ at_moment c.args.now (told_of c.take_turn-turned.new.self.mac c.link_local-own.result [] (what_of c.take_turn-turned.result))) c.reserve.ensures.items)

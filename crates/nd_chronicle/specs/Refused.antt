@@ -1,0 +1,20 @@
+-- What is refused adds its refusal alone.
+use Rattle.std.specs.Prelude.{◌≡◌, ℕ, ◌∷◌, Option, Some, None}
+use Rattle.std.specs.Option.{option_map}
+use Rattle.nd_chronicle.specs.Happening.{Chronicle, Refused, Refusal, WrongRole, Full, Limit}
+use Rattle.nd_addr.specs.declared.role.Role.{Role}
+use Rattle.nd_addr.specs.declared.role.Role.TheVariants.{Host, Router}
+
+module _ (now : ℕ) where
+  abbrev pub UnlessRefused : Option Refusal → (Chronicle → Type 0) → Chronicle → Chronicle → Type 0
+  UnlessRefused None Adds c d = Adds d
+  UnlessRefused (Some refusal) Adds c d = d ≡ (now, Refused refusal) ∷ c
+
+  -- so does what would fill a table
+  abbrev pub UnlessFull : Option Limit → (Chronicle → Type 0) → Chronicle → Chronicle → Type 0
+  UnlessFull full Adds c d = UnlessRefused (option_map Full full) Adds c d
+
+  -- and what only a router does, at a host
+  abbrev pub AtRouter : Role → (Chronicle → Type 0) → Chronicle → Chronicle → Type 0
+  AtRouter Host Adds c d = d ≡ (now, Refused WrongRole) ∷ c
+  AtRouter Router Adds c d = Adds d
