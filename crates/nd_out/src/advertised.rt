@@ -66,7 +66,11 @@ impl Row for Advertising {
     ghost shown = { λ a. on_text a.0 };
 
     fn write_row<A: Allocator>(&self, text: &mut String<A>) -> Result<(), AllocError> {
-        text.push_str(if self.0 { "advertise on" } else { "advertise off" })
+        text.push_str(if self.0 {
+            "advertise on"
+        } else {
+            "advertise off"
+        })
     }
 }
 

@@ -1,13 +1,15 @@
 ghost use Rattle.std.specs.Prelude.{◌<◌, ◌^◌};
 
 use super::*;
-use nd_addr::{Addr, Mac, Prefix};
+use nd_addr::{Addr, Mac, Prefix, Role};
+use nd_advertiser::{Advertiser, Config, ConfigFlags, Offer, OfferFlags};
 use nd_decode::{MessageRef, PrefixInfo, decode};
 use nd_dns::Dns;
 use nd_neighbour::{Cache, Flags, News, Times};
 use nd_nexthop::Choice;
 use nd_params::Params;
 use nd_routers::{Prefixes, Routers};
+use nd_routes::{Route, Routes};
 use nd_slaac::{AddressRoom, Addresses, Due};
 use nd_waiting::Packet;
 use std::alloc::Global;
@@ -127,6 +129,31 @@ fn a_lost_packet_is_told_by_its_addresses(rt: HostRuntime) -> Result<(), Fail> {
     assert_eq!(rt;
         told(rt.alloc(), 0, Out::Lost(Loss::Forgotten, frame))?.as_str(),
         "0 lost forgotten :: ::\n"
+    );
+    Ok(())
+}
+
+#[test]
+fn a_packet_whose_hop_limit_is_spent_is_told(rt: HostRuntime) -> Result<(), Fail> {
+    let frame = packet(rt.alloc(), &DATAGRAM)?;
+    assert_eq!(rt;
+        told(rt.alloc(), 7000, Out::Lost(Loss::HopLimit, frame))?.as_str(),
+        "7000 lost hop-limit 2001:db8::9 2001:db8:1::5\n"
+    );
+    Ok(())
+}
+
+#[test]
+fn full_tables_of_a_router_are_told(rt: HostRuntime) -> Result<(), Fail> {
+    let mut text = String::new(rt.alloc());
+    let outs: [(u64, Out<Global>); 2] = [
+        (5, Out::Refused(Refusal::Full(Limit::Offers))),
+        (6, Out::Refused(Refusal::Full(Limit::StaticRoutes))),
+    ];
+    write_outs(&mut text, &outs)?;
+    assert_eq!(rt;
+        text.as_str(),
+        "5 refused full offers\n6 refused full routes\n"
     );
     Ok(())
 }
@@ -346,6 +373,97 @@ fn two_addresses_are_shown_in_their_order(rt: HostRuntime) -> Result<(), Fail> {
         told(rt.alloc(), 2200, Out::Shown(rows))?.as_str(),
         "2200 address 2001:db8::3656:78ff:fe9a:bcde preferred 604799000 2591999000\n\
         2200 address fe80::3656:78ff:fe9a:bcde preferred inf inf\n2200 end 2\n"
+    );
+    Ok(())
+}
+
+/// The first bits of 2001:db8:net::.
+fn prefix_of(net: u8, length: u8) -> Option<Prefix> {
+    let first = Addr([0x20, 0x01, 0x0d, 0xb8, 0, net, 0, 0, 0, 0, 0, 0, 0, 0, 0, 0]);
+    Prefix::new(first, length)
+}
+
+/// Offers a prefix for a month and a week, on the link or not, for addresses or not.
+fn offered(
+    advertiser: &mut Advertiser<Global>,
+    prefix: Option<Prefix>,
+    on_link: bool,
+    autonomous: bool,
+) -> bool {
+    let flags = OfferFlags {
+        on_link,
+        autonomous,
+    };
+    let Some(Ok(offer)) = prefix.map(|p| Offer::new(p, 2_592_000, 604_800, flags)) else {
+        return false;
+    };
+    advertiser.put(offer).is_ok()
+}
+
+/// What is shown of an advertiser.
+fn shown_of(alloc: Global, role: Role, advertiser: &Advertiser<Global>) -> Result<String, Fail> {
+    let rows = advertise_rows(&alloc, role, advertiser)?;
+    told(alloc, 10, Out::Shown(rows))
+}
+
+#[test]
+fn what_a_router_advertises_is_shown(rt: HostRuntime) -> Result<(), Fail> {
+    let mut advertiser = Advertiser::new(rt.alloc())?;
+    assert_eq!(rt;
+        shown_of(rt.alloc(), Role::Router, &advertiser)?.as_str(),
+        "10 advertise off\n10 end 1\n"
+    );
+    let flags = ConfigFlags {
+        managed: false,
+        other: false,
+    };
+    advertiser.begin(10, Config::new(200, 600, 1800, 64, flags, 0, 0, 0)?);
+    assert!(rt; offered(&mut advertiser, prefix_of(1, 48), true, false));
+    assert!(rt; offered(&mut advertiser, prefix_of(0, 64), true, true));
+    assert_eq!(rt;
+        shown_of(rt.alloc(), Role::Router, &advertiser)?.as_str(),
+        "10 advertise on\n10 offer 2001:db8:1::/48 2592000 604800 l\n\
+        10 offer 2001:db8::/64 2592000 604800 la\n10 end 3\n"
+    );
+    assert_eq!(rt;
+        shown_of(rt.alloc(), Role::Host, &advertiser)?.as_str(),
+        "10 end 0\n"
+    );
+    // Its prefixes stay when it ceases, and are replaced in their places.
+    assert!(rt; !advertiser.stop(10));
+    assert!(rt; offered(&mut advertiser, prefix_of(1, 48), false, true));
+    assert!(rt; offered(&mut advertiser, prefix_of(0, 64), false, false));
+    assert_eq!(rt;
+        shown_of(rt.alloc(), Role::Router, &advertiser)?.as_str(),
+        "10 advertise off\n10 offer 2001:db8:1::/48 2592000 604800 a\n\
+        10 offer 2001:db8::/64 2592000 604800 -\n10 end 3\n"
+    );
+    Ok(())
+}
+
+/// A route is put.
+fn put_route(routes: &mut Routes<Global>, prefix: Option<Prefix>, route: Route) -> bool {
+    let Some(prefix) = prefix else {
+        return false;
+    };
+    routes.put(prefix, route).is_ok()
+}
+
+#[test]
+fn static_routes_are_shown(rt: HostRuntime) -> Result<(), Fail> {
+    let alloc = rt.alloc();
+    let mut routes = Routes::new(rt.alloc())?;
+    assert!(rt; put_route(&mut routes, prefix_of(1, 64), Route::Via(OTHER_ROUTER)));
+    assert!(rt; put_route(&mut routes, prefix_of(0, 64), Route::Direct));
+    let rows = route_rows(&alloc, Role::Router, &routes)?;
+    assert_eq!(rt;
+        told(rt.alloc(), 10, Out::Shown(rows))?.as_str(),
+        "10 route 2001:db8:1::/64 fe80::2\n10 route 2001:db8::/64 direct\n10 end 2\n"
+    );
+    let rows = route_rows(&alloc, Role::Host, &routes)?;
+    assert_eq!(rt;
+        told(rt.alloc(), 10, Out::Shown(rows))?.as_str(),
+        "10 end 0\n"
     );
     Ok(())
 }
