@@ -10,6 +10,8 @@ mod dns;
 #[cfg(test)]
 mod neighbours;
 #[cfg(test)]
+mod node;
+#[cfg(test)]
 mod redirects;
 #[cfg(test)]
 mod refusing;

@@ -1,0 +1,233 @@
+use linked_list_allocator::LocalHeap;
+use nd_addr::{Addr, Mac, Role};
+use nd_node::{Clearable, Event, Node, OutgoingPacket, Table};
+use nd_out::{Out, write_outs};
+use rand_core::SeedableRng;
+use rand_pcg::Pcg32;
+use std::alloc::{AllocError, Global};
+use std::process::Abort;
+use std::test::*;
+
+/// More than a node and all that comes here take.
+const AMPLE: usize = 1 << 22;
+
+/// The blocks that take what is left of a heap, in bytes.
+const LARGE: usize = 8192;
+
+const SMALL: usize = 16;
+
+/// As many large blocks are parted into small ones.
+const LAST: usize = 2;
+
+/// The most blocks of one size.
+const MOST_BLOCKS: usize = 2048;
+
+const MAC: Mac = Mac([0x34, 0x56, 0x78, 0x9a, 0xbc, 0xde]);
+
+const OWN: Addr = Addr([
+    0xfe, 0x80, 0, 0, 0, 0, 0, 0, 0x36, 0x56, 0x78, 0xff, 0xfe, 0x9a, 0xbc, 0xde,
+]);
+
+const ROUTER: Addr = Addr([0xfe, 0x80, 0, 0, 0, 0, 0, 0, 0, 0, 0, 0xff, 0xfe, 0, 0, 1]);
+
+/// Of which nothing was heard.
+const STRANGER: Addr = Addr([0xfe, 0x80, 0, 0, 0, 0, 0, 0, 0, 0, 0, 0, 0, 0, 0, 9]);
+
+/// Which says nothing: the Ethernet type of IPv6, and no packet.
+const EMPTY: [u8; 14] = [0, 0, 0, 0, 0, 0, 0, 0, 0, 0, 0, 0, 0x86, 0xdd];
+
+/// A Router Advertisement of `ROUTER` with its link-layer address, the prefix 2001:db8::/64 on the link for 30 days, and the server
+/// 2001:db8::53 for 1800 s.
+const ADVERTISEMENT: [u8; 134] = [
+    0x33, 0x33, 0, 0, 0, 1, 2, 0, 0, 0, 0, 1, 0x86, 0xdd, 0x60, 0, 0, 0, 0, 0x50, 0x3a, 0xff, 0xfe,
+    0x80, 0, 0, 0, 0, 0, 0, 0, 0, 0, 0xff, 0xfe, 0, 0, 1, 0xff, 2, 0, 0, 0, 0, 0, 0, 0, 0, 0, 0, 0,
+    0, 0, 1, 0x86, 0, 0xab, 0xdf, 0x40, 0, 7, 8, 0, 0, 0, 0, 0, 0, 0, 0, 1, 1, 2, 0, 0, 0, 0, 1, 3,
+    4, 0x40, 0x80, 0, 0x27, 0x8d, 0, 0, 9, 0x3a, 0x80, 0, 0, 0, 0, 0x20, 1, 0x0d, 0xb8, 0, 0, 0, 0,
+    0, 0, 0, 0, 0, 0, 0, 0, 0x19, 3, 0, 0, 0, 0, 7, 8, 0x20, 1, 0x0d, 0xb8, 0, 0, 0, 0, 0, 0, 0, 0,
+    0, 0, 0, 0x53,
+];
+
+/// A Redirect of `ROUTER`: 2001:db8:1::5 by fe80::2, with the link-layer address of that.
+const REDIRECT: [u8; 102] = [
+    0x34, 0x56, 0x78, 0x9a, 0xbc, 0xde, 2, 0, 0, 0, 0, 1, 0x86, 0xdd, 0x60, 0, 0, 0, 0, 0x30, 0x3a,
+    0xff, 0xfe, 0x80, 0, 0, 0, 0, 0, 0, 0, 0, 0, 0xff, 0xfe, 0, 0, 1, 0xfe, 0x80, 0, 0, 0, 0, 0, 0,
+    0x36, 0x56, 0x78, 0xff, 0xfe, 0x9a, 0xbc, 0xde, 0x89, 0, 0xdf, 0x7d, 0, 0, 0, 0, 0xfe, 0x80, 0,
+    0, 0, 0, 0, 0, 0, 0, 0, 0, 0, 0, 0, 2, 0x20, 1, 0x0d, 0xb8, 0, 1, 0, 0, 0, 0, 0, 0, 0, 0, 0, 5,
+    2, 1, 2, 0, 0, 0, 0, 2,
+];
+
+/// A host, at 3 s, up to which all that is due is done.
+fn host<'h>(heap: &'h LocalHeap) -> Result<Node<Pcg32, &'h LocalHeap>, Fail> {
+    let generator = Pcg32::seed_from_u64(0);
+    let Ok(mut node) = Node::new(heap, Role::Host, MAC, 0, generator) else {
+        return Err(Fail::new("no memory"));
+    };
+    let mut outs = Vec::new(heap);
+    node.event(3000, &Event::Passes, &mut outs)?;
+    Ok(node)
+}
+
+/// A frame comes.
+fn receives<'h>(heap: &'h LocalHeap, bytes: &[u8]) -> Result<Event<&'h LocalHeap>, AllocError> {
+    let mut frame = Vec::new(heap);
+    frame.extend_from_slice(bytes)?;
+    Ok(Event::Receives(frame))
+}
+
+/// A packet without a payload is to be sent.
+fn sends(heap: &LocalHeap, destination: Addr) -> Event<&LocalHeap> {
+    Event::Sends(OutgoingPacket {
+        source: OWN,
+        destination,
+        next_header: 59,
+        payload: Vec::new(heap),
+    })
+}
+
+/// Takes all that is left of a heap, but for the last of it in blocks of 16 bytes.
+fn exhaust(heap: &LocalHeap) -> Result<Vec<Vec<u8, &LocalHeap>, &LocalHeap>, AllocError> {
+    let mut blocks = Vec::with_capacity(heap, 2 * MOST_BLOCKS)?;
+    fill(heap, LARGE, &mut blocks)?;
+    for _ in 0..LAST {
+        let _block = blocks.pop();
+    }
+    fill(heap, SMALL, &mut blocks)?;
+    Ok(blocks)
+}
+
+/// Takes blocks of one size, until there is none any more.
+fn fill<'h>(
+    heap: &'h LocalHeap,
+    size: usize,
+    blocks: &mut Vec<Vec<u8, &'h LocalHeap>, &'h LocalHeap>,
+) -> Result<(), AllocError> {
+    for _ in 0..MOST_BLOCKS {
+        match Vec::with_capacity(heap, size) {
+            Ok(block) => blocks.push(block)?,
+            Err(_) => break,
+        }
+    }
+    Ok(())
+}
+
+/// The rows of all tables of a host.
+fn shown<'h>(
+    node: &Node<Pcg32, &'h LocalHeap>,
+    heap: &'h LocalHeap,
+) -> Result<String<&'h LocalHeap>, AllocError> {
+    let mut text = String::new(heap);
+    let tables = [
+        Table::Neighbours,
+        Table::Routers,
+        Table::Prefixes,
+        Table::Addresses,
+        Table::Dns,
+        Table::Redirects,
+        Table::Params,
+    ];
+    for table in tables {
+        for row in &node.rows(&heap, 3000, table)? {
+            text.push_str(row.as_str())?;
+            text.push_str("\n")?;
+        }
+    }
+    Ok(text)
+}
+
+/// The events that ask for no memory come, while there is none left.
+fn take_without_memory<'h>(
+    rt: &impl Abort,
+    heap: &'h LocalHeap,
+    node: &mut Node<Pcg32, &'h LocalHeap>,
+    advertisement: &Event<&'h LocalHeap>,
+    empty: &Event<&'h LocalHeap>,
+    outs: &mut Vec<(u64, Out<&'h LocalHeap>), &'h LocalHeap>,
+) -> Result<(), AllocError> {
+    let blocks = exhaust(heap)?;
+    assert!(rt; Vec::<u8, &LocalHeap>::with_capacity(heap, 1).is_err());
+    node.settle(3000, outs)?;
+    node.event(3000, &Event::Passes, outs)?;
+    node.event(3000, empty, outs)?;
+    node.event(3000, advertisement, outs)?;
+    node.event(3000, &Event::Confirms(ROUTER), outs)?;
+    node.event(3000, &Event::Forgets(STRANGER), outs)?;
+    node.event(3000, &Event::Clears(Clearable::Prefixes), outs)?;
+    node.event(3000, &Event::Clears(Clearable::Redirects), outs)?;
+    node.event(3000, &Event::Clears(Clearable::Dns), outs)?;
+    node.event(2999, &Event::Passes, outs)?;
+    assert!(rt; !blocks.is_empty());
+    Ok(())
+}
+
+/// The events that ask for no memory: time that passes, a frame that is dropped, an advertisement that adds nothing, a confirmation, a
+/// neighbour that isn't known and is forgotten, tables that are cleared without a word, and an event that comes too late.
+#[test]
+fn a_host_without_memory_takes_what_asks_for_none(rt: HostRuntime) -> Result<(), Fail> {
+    let heap = LocalHeap::new(rt.alloc(), AMPLE)?;
+    let mut node = host(&heap)?;
+    let advertisement = receives(&heap, &ADVERTISEMENT)?;
+    let empty = receives(&heap, &EMPTY)?;
+    let mut outs = Vec::with_capacity(&heap, 8)?;
+    node.event(3000, &advertisement, &mut outs)?;
+    take_without_memory(&rt, &heap, &mut node, &advertisement, &empty, &mut outs)?;
+    let mut text = String::new(&heap);
+    write_outs(&mut text, &outs)?;
+    assert_eq!(rt;
+        text.as_str(),
+        "3000 heard ra\n3000 drop 3 HeaderShort\n3000 heard ra\n2999 refused past 3000\n"
+    );
+    let tables = shown(&node, &heap)?;
+    assert_eq!(rt;
+        tables.as_str(),
+        "neighbour fe80::ff:fe00:1 02:00:00:00:00:01 reachable router\nrouter fe80::ff:fe00:1 1800000\naddress fe80::3656:78ff:fe9a:bcde preferred inf inf\nparams hop 64 mtu 1500 reachable 30000 28151 retrans 1000 managed 0 other 0\n"
+    );
+    Ok(())
+}
+
+/// An event comes while so many blocks of 16 bytes are left.
+fn try_event<'h>(
+    heap: &'h LocalHeap,
+    node: &mut Node<Pcg32, &'h LocalHeap>,
+    event: &Event<&'h LocalHeap>,
+    spare: usize,
+    outs: &mut Vec<(u64, Out<&'h LocalHeap>), &'h LocalHeap>,
+) -> Result<(), AllocError> {
+    let mut blocks = exhaust(heap)?;
+    for _ in 0..spare {
+        let _block = blocks.pop();
+    }
+    node.event(3000, event, outs)
+}
+
+/// Each request of an event is the one that is refused in some try, since each try has 16 bytes more than the one before; and each that is
+/// refused leaves all tables as they were, and tells nothing.
+#[test]
+fn each_request_of_an_event_is_refused_once(rt: HostRuntime) -> Result<(), Fail> {
+    let heap = LocalHeap::new(rt.alloc(), AMPLE)?;
+    let mut node = host(&heap)?;
+    let mut events = Vec::new(&heap);
+    events.push(sends(&heap, STRANGER))?;
+    events.push(receives(&heap, &ADVERTISEMENT)?)?;
+    events.push(receives(&heap, &REDIRECT)?)?;
+    events.push(sends(&heap, Addr::ALL_NODES))?;
+    events.push(Event::Forgets(STRANGER))?;
+    events.push(sends(&heap, STRANGER))?;
+    events.push(Event::Clears(Clearable::Neighbours))?;
+    events.push(Event::Shows(Table::Dns))?;
+    events.push(Event::Clears(Clearable::Routers))?;
+    for event in &events {
+        let before = shown(&node, &heap)?;
+        let mut refused = 0;
+        for spare in 0..MOST_BLOCKS {
+            let mut outs = Vec::new(&heap);
+            if try_event(&heap, &mut node, event, spare, &mut outs).is_ok() {
+                break;
+            }
+            assert!(rt; shown(&node, &heap)?.as_str() == before.as_str());
+            assert!(rt; outs.is_empty());
+            refused = spare + 1;
+        }
+        assert!(rt; refused > 0 && refused < MOST_BLOCKS);
+    }
+    Ok(())
+}
