@@ -1,10 +1,9 @@
 -- What is advertised, as it is kept and as it happened.
-use Rattle.std.proofs.Common.{◌≡◌, Bool, true, false, List, Option, Some, None, refl, sym, ◌∙◌, ap}
+use Rattle.std.proofs.Common.{◌≡◌, Bool, true, false, List, Some, None, refl, ◌∙◌, ap}
 use Rattle.std.specs.Prelude.{if◌then◌else◌, option_map}
 use Rattle.nd_addr.specs.declared.mac.Mac.{Mac}
-use Rattle.nd_advertiser.specs.Config.{Settings}
 use Rattle.nd_advertiser.specs.History.{Row}
-use Rattle.nd_advertiser.specs.Advertising.{is_on, advertised_by, settings_of}
+use Rattle.nd_advertiser.specs.Advertising.{is_on, advertised_by}
 use Rattle.nd_advertiser.specs.Offers.{offers_of}
 use Rattle.nd_advertiser.specs.Calls.{settings_in}
 use Rattle.nd_advertiser.specs.Table.{Table, Advertising, Stands}

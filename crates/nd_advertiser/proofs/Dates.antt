@@ -1,6 +1,6 @@
 -- What happens makes no advertisement due in the past, and none in the moment of the last one.
-use Rattle.std.proofs.Common.{◌≡◌, ◌∙◌, ℕ, ◌+◌, ◌<◌, ◌≤◌, Bool, true, false, List, [], ◌∷◌, Option, Some, None, refl, sym, ap, subst, arith}
-use Rattle.std.specs.Prelude.{is_some, min, nat_lt, not, ◌&&◌, ◌==◌, if◌then◌else◌}
+use Rattle.std.proofs.Common.{◌≡◌, ◌∙◌, ℕ, ◌+◌, ◌<◌, ◌≤◌, Bool, true, false, List, ◌∷◌, Option, Some, None, refl, sym, ap, subst, arith}
+use Rattle.std.specs.Prelude.{is_some, min, if◌then◌else◌}
 use Rattle.std.proofs.lemmas.Bool.Decides.{nat_tests}
 use Rattle.nd_table.specs.Due.{NotBefore}
 use Rattle.nd_advertiser.specs.History.{Row, Advertises, Assigned, Solicited, Sent, Ceased, Offered}

@@ -1,5 +1,5 @@
 -- What a router does where it advertises (RFC 4861, section 6.2), and what its commands add.
-use Rattle.std.specs.Prelude.{ℕ, Bool, true, false, ◌&&◌, if◌then◌else◌, List, ◌∷◌, Option, Some, None}
+use Rattle.std.specs.Prelude.{ℕ, Bool, true, false, ◌&&◌, if◌then◌else◌, ◌∷◌, Option, Some, None}
 use Rattle.nd_addr.specs.Prefix.{PrefixValue}
 use Rattle.nd_decode.specs.Message.{Parts}
 use Rattle.nd_frames.specs.Frames.{router_advertisement_frame}

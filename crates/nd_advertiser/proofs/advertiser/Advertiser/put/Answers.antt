@@ -1,4 +1,4 @@
-use Rattle.std.proofs.Common.{◌≡◌, refl, sym, ◌∙◌, ap, subst}
+use Rattle.std.proofs.Common.{refl, ◌∙◌, ap, subst}
 use Rattle.std.specs.Prelude.{OnOk}
 use Rattle.nd_advertiser.specs.History.{Offered}
 use Rattle.nd_advertiser.specs.Offers.{answer_to}

@@ -1,10 +1,10 @@
-use Rattle.std.proofs.Common.{◌≡◌, ◌+◌, ◌≤◌, true, false, length, Option, Some, None, is_some, hash_map_len, sym, ◌∙◌, ap, subst, arith}
+use Rattle.std.proofs.Common.{◌≡◌, ◌+◌, true, false, is_some, hash_map_len, sym, ◌∙◌, ap, subst, arith}
 use Rattle.std.specs.Prelude.{if◌then◌else◌}
 use Rattle.std.specs.Option.{option_copied_mut}
 use Rattle.std.specs.Map.{lookup, set_value, values_of}
 use Rattle.indexmap.specs.IndexMap.{insert_entry, spare}
 use Rattle.nd_decode.specs.declared.prefix_info.PrefixInfo.{PrefixInfo}
-use Rattle.nd_advertiser.specs.Offers.{is_same, answer_to, max_offers}
+use Rattle.nd_advertiser.specs.Offers.{is_same, answer_to}
 use Rattle.nd_advertiser.specs.Calls.{prefixes_in, with_offer}
 use Rattle.nd_advertiser.proofs.Keyed.{IsKeyed, set_is, set_keyed, put_is, put_keyed, answer_there, answer_full, answer_new}
 use Rattle.nd_advertiser.proofs.offers.Offers.put.Goals as goal
