@@ -13,7 +13,7 @@ settings_kept : (b : Bool) (a : Advertising) → settings_in (if b then Some a e
 settings_kept true a = refl
 settings_kept false a = refl
 
-settings_are : (table : Table) (history : List Row) → Stands table history → settings_in table.advertising ≡ advertised_by history
+pub settings_are : (table : Table) (history : List Row) → Stands table history → settings_in table.advertising ≡ advertised_by history
 settings_are table history s = ap settings_in s.advertising ∙ settings_kept (is_on history) _
 
 pub contents_are : (mac : Mac) (table : Table) (history : List Row) → Stands table history → option_map (contents mac table.offers) (settings_in table.advertising) ≡ contents_of mac history

@@ -1,10 +1,11 @@
 -- What happens makes no advertisement due in the past, and none in the moment of the last one.
-use Rattle.std.proofs.Common.{◌≡◌, ◌∙◌, ℕ, ◌+◌, ◌<◌, ◌≤◌, Bool, true, false, List, ◌∷◌, Option, Some, None, refl, sym, ap, subst, arith}
+use Rattle.std.proofs.Common.{◌≡◌, ◌∙◌, ℕ, ◌+◌, ◌<◌, ◌≤◌, Bool, true, false, List, [], ◌∷◌, Option, Some, None, refl, sym, ap, subst, arith}
 use Rattle.std.specs.Prelude.{is_some, min, if◌then◌else◌}
 use Rattle.std.proofs.lemmas.Bool.Decides.{nat_tests}
 use Rattle.nd_table.specs.Due.{NotBefore}
 use Rattle.nd_advertiser.specs.History.{Row, Advertises, Assigned, Solicited, Sent, Ceased, Offered}
-use Rattle.nd_advertiser.specs.Advertising.{is_on, began_of, assigned_of, sent_of, last_of, planned_of, answer_of, answer_date, first_date, interval_after, next_date, next_of, settings_of, tells_its_end, max_initial_rtr_advertisements}
+use Rattle.nd_advertiser.specs.Advertising.{advertised_by, is_on, began_of, assigned_of, sent_of, last_of, planned_of, answer_of, answer_date, first_date, interval_after, next_date, next_of, settings_of, tells_its_end, max_initial_rtr_advertisements}
+use Rattle.nd_advertiser.specs.Config.{Settings}
 use Rattle.nd_advertiser.specs.Calls.{next}
 use Rattle.nd_advertiser.specs.Table.{Advertising, Table, Stands, advertising_of}
 use Rattle.nd_advertiser.specs.Overdue.{IsOf, IsAfter, IsSpaced}
@@ -135,3 +136,27 @@ spaced now history (Sent at interval) is h =
     sent_after (is_on history) at (first_date (began_of history) (assigned_of history) (Some at)) (interval_after (sent_of history) interval) (interval_stays (sent_of history) interval is.1)
 spaced now history (Ceased at) is h = none_after (if tells_its_end history then Some at else last_of history)
 spaced now history (Offered info) is h = h
+
+-- ---- what an advertisement says that is due
+
+-- it is due where the interface advertises
+pub due_is_on : (history : List Row) (at : ℕ) → next_of history ≡ Some at → is_on history ≡ true
+due_is_on history at due = by (is_on history) (first_date (began_of history) (assigned_of history) (last_of history)) due
+  where
+    by : (on : Bool) (first : Option ℕ) → date_by on first (planned_of history) (answer_of history) ≡ Some at → on ≡ true
+    by true first e = refl
+    by false first e = absurd (let no : ⊥ = cc in no)
+
+-- and it has settings there
+pub has_settings : (history : List Row) → is_on history ≡ true → (s : Settings) × (advertised_by history ≡ Some s)
+has_settings history on =
+    let s = last_ones history on in (s.0, ap (λ (b : Bool). if b then settings_of history else None) on ∙ s.1)
+  where
+    last_ones : (history : List Row) → is_on history ≡ true → (s : Settings) × (settings_of history ≡ Some s)
+    last_ones [] on = absurd (let no : ⊥ = cc in no)
+    last_ones (Advertises at settings ∷ history) on = (settings, refl)
+    last_ones (Assigned at ∷ history) on = last_ones history on
+    last_ones (Solicited at delay ∷ history) on = last_ones history on
+    last_ones (Sent at interval ∷ history) on = last_ones history on
+    last_ones (Ceased at ∷ history) on = absurd (let no : ⊥ = cc in no)
+    last_ones (Offered info ∷ history) on = last_ones history on

@@ -155,6 +155,7 @@ impl<A: Allocator> Advertiser<A> {
     pub fn next_due(&self) -> Option<u64>
         ensures value { result ≡ next self.now.assigned self.now.last self.now.advertising }
         ensures due { (history : List Row) → Stands self.now history → result ≡ next_of history }
+        ensures settings { is_some result ≡ true → is_some (settings_in self.now.advertising) ≡ true }
     {
         match &self.advertising {
             Some(advertising) => advertising.next(self.assigned, self.last),

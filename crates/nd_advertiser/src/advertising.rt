@@ -1,4 +1,4 @@
-ghost use Rattle.std.specs.Prelude.{◌≡◌, ◌<◌, ◌^◌, ◌+◌, Some, not, is_none, ◌==◌, ◌&&◌, IfSome};
+ghost use Rattle.std.specs.Prelude.{◌≡◌, ◌<◌, ◌^◌, ◌+◌, Some, not, is_none, is_some, true, ◌==◌, ◌&&◌, IfSome};
 ghost use Rattle.nd_advertiser.specs.Advertising.{answer_date, first_date, interval_after, next_date};
 
 use crate::config::Config;
@@ -94,7 +94,8 @@ impl Advertising {
     /// The date of the next advertisement.
     pub(crate) fn next(&self, assigned: Option<u64>, last: Option<u64>) -> Option<u64>
         requires last { IfSome last (λ at. at < 2 ^ 62) }
-        ensures { result ≡ next_date (first_date self.now.began assigned last) self.now.planned self.now.answer }
+        ensures date { result ≡ next_date (first_date self.now.began assigned last) self.now.planned self.now.answer }
+        ensures settings { is_some self.now.settings ≡ true }
     {
         match self.planned {
             Some(planned) => lesser(Some(planned), self.answer),

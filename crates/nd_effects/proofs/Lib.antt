@@ -7,3 +7,4 @@ pub mod Ours
 pub mod Forming
 pub mod Measuring
 pub mod Advertisements
+pub mod RouterSide

@@ -46,5 +46,5 @@ pub use prefix_options::hear_prefix_options;
 pub use router_advertisement::{Advertisement, hear_dns, hear_prefixes, tell_left};
 pub use router_solicitations::RouterSolicitations;
 pub use router_tables::RouterTables;
-pub use told::{MOST_TOLD, link_local, tell, tell_lost};
+pub use told::{MOST_TOLD, link_local, tell, tell_advertisement, tell_lost};
 pub use turned::Turned;

@@ -120,8 +120,8 @@ fn tell_neighbour<A: Allocator>(
     }
 }
 
-/// A Router Advertisement that is due is sent.
-fn tell_advertisement<A: Allocator>(
+/// A Router Advertisement goes to the end at a moment, in milliseconds, if there is one. It takes no memory: the room for it was taken before.
+pub fn tell_advertisement<A: Allocator>(
     outs: &mut Vec<(u64, Out<A>), A>,
     at: u64,
     advertisement: Option<Packet<A>>,
