@@ -4,6 +4,9 @@ pub mod Dues
 pub mod Events
 pub mod Growth
 pub mod Pasts
+pub mod OwnRows
 pub mod Tried
+pub mod Named
+pub mod Grounded
 pub mod Idle
 pub mod Rivals

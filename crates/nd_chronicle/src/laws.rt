@@ -1,7 +1,9 @@
 //! Laws of the definitions, each the contract of a function that does nothing.
 
-ghost use Rattle.std.specs.Prelude.{◌≡◌, ◌<◌, ◌≤◌, ◌+◌, ◌++◌, ◌∷◌, ℕ, List, None, false, true};
-ghost use Rattle.nd_addr.specs.Bytes.{AreBytes};
+ghost use Rattle.std.specs.Prelude.{◌≡◌, ◌≢◌, ◌<◌, ◌≤◌, ◌+◌, ◌++◌, ◌∷◌, ℕ, List, None, false, true};
+ghost use Rattle.std.specs.List.{All};
+ghost use Rattle.nd_addr.specs.Bytes.{AreBytes, IsBytes};
+ghost use Rattle.nd_addr.specs.Number.{number_of};
 ghost use Rattle.nd_addr.specs.declared.addr.Addr.{Addr};
 ghost use Rattle.nd_decode.specs.declared.body.Body.TheVariants as bodies;
 ghost use Rattle.nd_frames.specs.Frames.{unspecified, all_nodes, solicited_node};
@@ -9,12 +11,12 @@ ghost use Rattle.nd_frames.specs.Meaning.{IsUnicast, IsDetection, IsDefence};
 ghost use Rattle.nd_slaac.specs.History.{Row, RowKind, Solicited};
 ghost use Rattle.nd_slaac.specs.MayCome as history;
 ghost use Rattle.nd_slaac.specs.MayCome.{Held};
-ghost use Rattle.nd_slaac.specs.State.{is_assigned};
-ghost use Rattle.nd_chronicle.specs.Start.{Start};
+ghost use Rattle.nd_slaac.specs.State.{is_assigned, is_known};
+ghost use Rattle.nd_chronicle.specs.Start.{Start, link_local_key};
 ghost use Rattle.nd_chronicle.specs.Happening.{Address, Chronicle, Heard};
 ghost use Rattle.nd_chronicle.specs.Histories.{address_history};
-ghost use Rattle.nd_chronicle.specs.OwnAddress.{is_own, story_of};
-ghost use Rattle.nd_chronicle.specs.Event.{Event, FrameAdds};
+ghost use Rattle.nd_chronicle.specs.OwnAddress.{is_own, is_up, story_of};
+ghost use Rattle.nd_chronicle.specs.Event.{Event, FrameAdds, Receives};
 ghost use Rattle.nd_chronicle.specs.Hearing.{is_awake};
 ghost use Rattle.nd_chronicle.specs.NeighborAdvertisement.{then_neighbor_advertised};
 ghost use Rattle.nd_chronicle.specs.NeighborSolicitation.{then_tried};
@@ -39,6 +41,20 @@ pub fn only_grows()
 /// place up to its assignment, and was assigned one RetransTimer after the last solicitation for it, that in force when it was formed.
 pub fn none_untried()
     ensures { (start : Start) (events : List (ℕ × Event)) (c : Chronicle) (key : ℕ) → IsChronicle start events c → is_assigned (story_of c key) ≡ true → Held key (address_history c) }
+{}
+
+/// At each place of a chronicle an own address other than the link-local one is known only where that one is assigned, and that one stays so,
+/// whatever bytes come as frames: where it is a duplicate, there is no own address (RFC 4862, sections 5.3, 5.4.5 and 5.5.3).
+pub fn link_local_address_comes_first()
+    ensures known { (start : Start) (events : List (ℕ × Event)) (c d : Chronicle) (key : ℕ) → All (λ event. (frame : List ℕ) → event.1 ≡ Receives frame → IsBytes frame) events
+        → IsChronicle start events c → Past d c → key ≢ link_local_key start → is_known (story_of d key) ≡ true → is_up start d ≡ true }
+    ensures own { (start : Start) (events : List (ℕ × Event)) (c d : Chronicle) (address : List ℕ) → All (λ event. (frame : List ℕ) → event.1 ≡ Receives frame → IsBytes frame) events
+        → IsChronicle start events c → Past d c → number_of address ≢ link_local_key start → is_own d address ≡ true → is_up start d ≡ true }
+    ensures stays { (start : Start) (events : List (ℕ × Event)) (c d e : Chronicle) → All (λ event. (frame : List ℕ) → event.1 ≡ Receives frame → IsBytes frame) events
+        → IsChronicle start events c → Past d c → Past e d → is_up start e ≡ true → is_up start d ≡ true }
+    ensures later { (start : Start) (events later : List (ℕ × Event)) (c d : Chronicle)
+        → All (λ event. (frame : List ℕ) → event.1 ≡ Receives frame → IsBytes frame) events → All (λ event. (frame : List ℕ) → event.1 ≡ Receives frame → IsBytes frame) later
+        → IsChronicle start events c → Runs start c later d → is_up start c ≡ true → is_up start d ≡ true }
 {}
 
 /// What happened to the own addresses stands in the chronicle, row by row, and each solicitation for one is sent in the moment of its row, with

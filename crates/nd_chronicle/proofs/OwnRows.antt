@@ -1,0 +1,329 @@
+-- What happens to the own addresses: what comes, and what falls due, brings them few rows, and most of it none.
+use Rattle.std.proofs.Common.{◌≡◌, ℕ, Bool, true, false, cond, List, [], ◌∷◌, Option, Some, None, refl, ◌∙◌, ap, subst}
+use Rattle.std.specs.Prelude.{MatchBool, bytes_eq, ◌||◌, ◌&&◌}
+use Rattle.std.specs.Option.{option_map, option_to_list}
+use Rattle.nd_addr.specs.declared.addr.Addr.{Addr}
+use Rattle.nd_addr.specs.Kind.{multicast_prefix, unspecified_address}
+use Rattle.nd_addr.specs.Ip6.{PacketParts}
+use Rattle.nd_addr.specs.Number.{number_of, holds}
+use Rattle.nd_addr.specs.Places.{payload_in}
+use Rattle.nd_addr.specs.declared.role.Role.{Role}
+use Rattle.nd_addr.specs.declared.role.Role.TheVariants.{Host, Router}
+use Rattle.nd_advertiser.specs.Advertising.{advertised_by, tells_its_end}
+use Rattle.nd_advertiser.specs.Config.{Settings}
+use Rattle.nd_advertiser.specs.Contents.{last_contents_of}
+use Rattle.nd_routes.specs.Forward.{Fate, lost_no_route, lost_hop_limit, sent, fate}
+use Rattle.nd_routes.specs.Redirect.{last_redirect, redirect}
+use Rattle.nd_routes.specs.Routes.{routes}
+use Rattle.nd_decode.specs.Message.{Parts, Spells}
+use Rattle.nd_decode.specs.declared.body.Body.{Body}
+use Rattle.nd_decode.specs.declared.body.Body.TheVariants as bodies
+use Rattle.nd_decode.specs.declared.router_advertisement.RouterAdvertisement.{RouterAdvertisement}
+use Rattle.nd_lifetime.specs.declared.lasting.Lasting.{Lasting}
+use Rattle.nd_params.specs.Params.{redraws}
+use Rattle.nd_validity.specs.Hearing.{Outcome, Hears}
+use Rattle.nd_neighbour.specs.Due as neighbours_due
+use Rattle.nd_neighbour.specs.Entry.{Node, waiting_in}
+use Rattle.nd_neighbour.specs.History as neighbours
+use Rattle.nd_neighbour.specs.History.{RowKind, story}
+use Rattle.nd_neighbour.specs.News.{released_by}
+use Rattle.nd_neighbour.specs.Sending.{Sending, Sends, Queues}
+use Rattle.nd_neighbour.specs.Story.{mac_of, waits_of}
+use Rattle.nd_nexthop.specs.NextHop.{NextHop, direct, via, no_route}
+use Rattle.nd_slaac.specs.Due as addresses_due
+use Rattle.nd_slaac.specs.Due.{Falls, Ends, Solicits, Assigns, due_row}
+use Rattle.nd_slaac.specs.History as addresses
+use Rattle.nd_slaac.specs.PrefixOption.{prefixes_in}
+use Rattle.nd_slaac.specs.State as states
+use Rattle.nd_chronicle.specs.Start.{Start, link_local}
+use Rattle.nd_chronicle.specs.Happening.{Chronicle, Address, Sent, Heard, Lost, Neighbour, Ceased, RedirectMade, Forgotten, Loss, Refusal, Full}
+use Rattle.nd_chronicle.specs.Histories.{address_history, neighbour_history, advertising_history, route_history}
+use Rattle.nd_chronicle.specs.InForce.{base_reachable_time}
+use Rattle.nd_chronicle.specs.OwnAddress.{story_of, is_assigned, is_own, is_tentative, is_up}
+use Rattle.nd_chronicle.specs.Packet.{losing, sending, with_pushed, MakesPlace, then_packet, Goes, GoesIfPlaced}
+use Rattle.nd_chronicle.specs.Refused.{UnlessRefused, AtRouter}
+use Rattle.nd_chronicle.specs.Advertising.{advertising_by, planning, telling_end, wants_answer, full_of_offers, full_of_routes}
+use Rattle.nd_chronicle.specs.Forwarding.{Redirects, SendsOn, FateAdds}
+use Rattle.nd_chronicle.specs.Hearing.{Verdict, hears, goes_up, goes_on, drops, IsForUs, Judges, IsTaken, takes_target, is_awake}
+use Rattle.nd_chronicle.specs.Message.{said, PlaceFor, sending_if_known, releasing, leaving}
+use Rattle.nd_chronicle.specs.RouterAdvertisement.{redrawing, with_delay, then_options, times_out, then_advertised}
+use Rattle.nd_chronicle.specs.NeighborSolicitation as asked
+use Rattle.nd_chronicle.specs.NeighborSolicitation.{then_tried}
+use Rattle.nd_chronicle.specs.NeighborAdvertisement.{conflicting, ends_in_list, then_neighbor_advertised}
+use Rattle.nd_chronicle.specs.Event as events
+use Rattle.nd_chronicle.specs.Event.{Event, Clearable, packet_bytes, MessageAdds, VerdictAdds, PacketAdds, SendAdds, refusal_of_packet, ClearAdds, clearing, all_leaving, EventAdds}
+use Rattle.nd_chronicle.specs.Due.{What, RouterEnds, AddressFalls, NeighbourFalls, RoutersSolicited, RouterAdvertises, Redraws, Due, then_address, then_neighbour, comes}
+
+-- ---- what doesn't concern the own addresses
+
+abbrev pub Same : Chronicle → Chronicle → Type 0
+Same c d = address_history d ≡ address_history c
+
+module _ (at : ℕ) where
+  losing_same : (why : Loss) (packets : List (List ℕ)) (c : Chronicle) → Same c (losing at why packets c)
+  losing_same why [] c = refl
+  losing_same why (packet ∷ packets) c = losing_same why packets ((at, Lost why packet) ∷ c)
+
+  sending_same : (mac : ℕ) (packets : List (List ℕ)) (c : Chronicle) → Same c (sending at mac packets c)
+  sending_same mac [] c = refl
+  sending_same mac (packet ∷ packets) c = sending_same mac packets _
+
+  pushed_same : (pushed : Option ℕ) (c : Chronicle) → Same c (with_pushed at pushed c)
+  pushed_same None c = refl
+  pushed_same (Some key) c = refl
+
+  known_same : (mac : Option ℕ) (packets : List (List ℕ)) (c : Chronicle) → Same c (sending_if_known at mac packets c)
+  known_same None packets c = refl
+  known_same (Some mac) packets c = sending_same mac packets c
+
+  releasing_same : (news : Option (ℕ × RowKind)) (history : List neighbours.Row) (c : Chronicle) → Same c (releasing at news history c)
+  releasing_same None history c = refl
+  releasing_same (Some news) history c = known_same (mac_of ((at, news.1) ∷ story news.0 history)) (released_by at news.1 (story news.0 history)) c
+
+  leaving_same : (leaves : Bool) (key : ℕ) (c : Chronicle) → Same c (leaving at leaves key c)
+  leaving_same true key c = refl
+  leaving_same false key c = refl
+
+  module _ (start : Start) where
+    packet_same : (key retrans : ℕ) (packet : List ℕ) (s : Sending) (c : Chronicle) → Same c (then_packet start at key retrans packet s c)
+    packet_same key retrans packet (Sends mac frame) c = refl
+    packet_same key retrans packet (Queues true replaced) c = refl
+    packet_same key retrans packet (Queues false replaced) c = losing_same _ (option_to_list replaced) _
+
+    redrawing_same : (base : ℕ) (draws : Bool) (c : Chronicle) → Same c (redrawing start at base draws c)
+    redrawing_same base true c = refl
+    redrawing_same base false c = refl
+
+    pub delay_same : (to_all : Bool) (c : Chronicle) → Same c (with_delay start at to_all c)
+    delay_same true c = refl
+    delay_same false c = refl
+
+    pub neighbour_same : (falls : neighbours_due.Falls) (c : Chronicle) → Same c (then_neighbour start at falls c)
+    neighbour_same (neighbours_due.Multicasts key) c = refl
+    neighbour_same (neighbours_due.Unicasts key mac) c = refl
+    neighbour_same (neighbours_due.Fails key packets) c = losing_same _ packets _
+    neighbour_same (neighbours_due.Ages key) c = refl
+
+    pub advertising_same : (settings : Option Settings) (c : Chronicle) → Same c (advertising_by start at settings c)
+    advertising_same None c = refl
+    advertising_same (Some settings) c = refl
+
+    planning_same : (wants : Bool) (c : Chronicle) → Same c (planning start at wants c)
+    planning_same true c = refl
+    planning_same false c = refl
+
+    telling_same : (tells : Bool) (message : Option Parts) (c : Chronicle) → Same c (telling_end start at tells message c)
+    telling_same true (Some message) c = refl
+    telling_same true None c = refl
+    telling_same false message c = refl
+
+    clearing_same : (nodes : List Node) (c : Chronicle) → Same c (clearing start at nodes c)
+    clearing_same [] c = refl
+    clearing_same (n ∷ nodes) c = clearing_same nodes _ ∙ losing_same _ (waiting_in n.stage) _
+
+    all_leaving_same : (entries : List (Lasting ℕ)) (c : Chronicle) → Same c (all_leaving start at entries c)
+    all_leaving_same [] c = refl
+    all_leaving_same (e ∷ entries) c = all_leaving_same entries _
+
+place_same : (start : Start) (c : Chronicle) (at key : ℕ) (enters : Bool) (d : Chronicle) → MakesPlace start c at key enters d → Same c d
+place_same start c at key enters d m = ap address_history m.with_it ∙ pushed_same at m.pushed c
+
+place_for_same : (start : Start) (c : Chronicle) (at : ℕ) (news : Option (ℕ × RowKind)) (d : Chronicle) → PlaceFor start c at news d → Same c d
+place_for_same start c at None d m = ap address_history m
+place_for_same start c at (Some news) d m = place_same start c at news.0 _ d m
+
+goes_same : (start : Start) (c : Chronicle) (at key : ℕ) (packet : List ℕ) (d : Chronicle) → Goes start c at key packet d → Same c d
+goes_same start c at key packet d g = ap address_history g.goes ∙ packet_same at start key _ packet _ g.placed ∙ place_same start c at key true g.placed g.place
+
+-- ---- what an event brings
+
+-- What an event brings the own addresses.
+pub data Brings (start : Start) (now : ℕ) (event : Event) (c d : Chronicle) : Type 0 where
+  -- no row
+  Nothing : Same c d → Brings start now event c d
+  -- a conflict of one that is tentative
+  Conflicts : (key : ℕ) → states.is_tentative (story_of c key) ≡ true → address_history d ≡ (now, key, addresses.Conflict) ∷ address_history c → Brings start now event c d
+  -- what the prefix options of a Router Advertisement name, which is heard only where the link-local address is assigned
+  Announces : (frame : List ℕ) (message : Parts) (to_all : Bool) (e : Chronicle) → event ≡ events.Receives frame → Spells (payload_in frame) message → is_up start c ≡ true
+      → Same c e → d ≡ then_options start now to_all (prefixes_in message.options) e → Brings start now event c d
+
+module _ (start : Start) (now : ℕ) (event : Event) (c : Chronicle) where
+  brings_refused : (r : Option Refusal) (A : Chronicle → Type 0) (d : Chronicle) → (A d → Brings start now event c d) → UnlessRefused now r A c d → Brings start now event c d
+  brings_refused None A d g h = g h
+  brings_refused (Some refusal) A d g h = Nothing (ap address_history h)
+
+  brings_at_router : (role : Role) (A : Chronicle → Type 0) (d : Chronicle) → (A d → Brings start now event c d) → AtRouter now role A c d → Brings start now event c d
+  brings_at_router Host A d g h = Nothing (ap address_history h)
+  brings_at_router Router A d g h = g h
+
+  -- ---- a message is heard
+
+  module _ (source destination : Addr) (message : Parts) where
+    tentative_else : (a t u : Bool) → (a || (t && u)) ≡ true → a ≡ false → t ≡ true
+    tentative_else true t u h e = absurd (let no : ⊥ = cc in no)
+    tentative_else false true u h e = refl
+    tentative_else false false u h e = absurd (let no : ⊥ = cc in no)
+
+    brings_tried : (target : Addr) (frame : List ℕ) (d : Chronicle) (assigned : Bool) → is_assigned c target.0 ≡ assigned → (is_assigned c target.0 ≡ false → is_tentative c target.0 ≡ true)
+        → d ≡ cond assigned ((now, Sent frame) ∷ (now, Heard source destination message) ∷ c) ((now, Address (number_of target.0) addresses.Conflict) ∷ (now, Heard source destination message) ∷ c)
+        → Brings start now event c d
+    brings_tried target frame d true is tentative h = Nothing (ap address_history h)
+    brings_tried target frame d false is tentative h = Conflicts (number_of target.0) (tentative is) (ap address_history h)
+
+    brings_answer : (target : Addr) (d : Chronicle) → asked.Answers start now source destination target message c d → Brings start now event c d
+    brings_answer target d h =
+        let row = (now, Heard source destination message) ∷ h.placed in
+        Nothing (goes_same start (releasing now (said c source message) (neighbour_history h.placed) row) now _ _ d h.answer
+        ∙ releasing_same now (said c source message) (neighbour_history h.placed) row
+        ∙ place_for_same start c now (said c source message) h.placed h.place)
+
+    brings_solicited : (t : Bool) (target : Addr) (d : Chronicle) → (is_assigned c target.0 ≡ false → is_tentative c target.0 ≡ true)
+        → MatchBool t (d ≡ then_tried start now target ((now, Heard source destination message) ∷ c)) (asked.Answers start now source destination target message c d) → Brings start now event c d
+    brings_solicited true target d tentative h = brings_tried target _ d (is_assigned c target.0) refl tentative h
+    brings_solicited false target d tentative h = brings_answer target d h
+
+    known_place : (placed : Chronicle) → PlaceFor start c now (said c source message) placed
+        → Same c (releasing now (said c source message) (neighbour_history placed) ((now, Heard source destination message) ∷ placed))
+    known_place placed p =
+        releasing_same now (said c source message) (neighbour_history placed) ((now, Heard source destination message) ∷ placed) ∙ place_for_same start c now (said c source message) placed p
+
+    brings_conflict : (target : Addr) (placed d : Chronicle) (t : Bool) → is_tentative placed target.0 ≡ t → Same c placed
+        → Same (conflicting now t (number_of target.0) ((now, Heard source destination message) ∷ placed)) d → Brings start now event c d
+    brings_conflict target placed d true is same h =
+        Conflicts (number_of target.0) (subst (λ (l : List addresses.Row). states.is_tentative (addresses.story (number_of target.0) l) ≡ true) same is)
+        (h ∙ ap (λ (l : List addresses.Row). (now, number_of target.0, addresses.Conflict) ∷ l) same)
+    brings_conflict target placed d false is same h = Nothing (h ∙ same)
+
+    brings_advertised : (target : Addr) (placed d : Chronicle) → PlaceFor start c now (said c source message) placed
+        → d ≡ then_neighbor_advertised now source destination target message placed → Brings start now event c d
+    brings_advertised target placed d p h =
+        let third = conflicting now (is_tentative placed target.0) (number_of target.0) ((now, Heard source destination message) ∷ placed) in
+        let second = releasing now (said placed source message) (neighbour_history placed) third in
+        brings_conflict target placed d (is_tentative placed target.0) refl (place_for_same start c now (said c source message) placed p)
+        (ap address_history h
+        ∙ leaving_same now (ends_in_list now placed (said placed source message)) (number_of target.0) second
+        ∙ releasing_same now (said placed source message) (neighbour_history placed) third)
+
+    -- no Router Advertisement conflicts with an address
+    up_by : (up t : Bool) → (up || (t && false)) ≡ true → up ≡ true
+    up_by true t h = refl
+    up_by false true h = absurd (let no : ⊥ = cc in no)
+    up_by false false h = absurd (let no : ⊥ = cc in no)
+
+    module _ (frame : List ℕ) (received : event ≡ events.Receives frame) (spelled : Spells (payload_in frame) message) where
+      brings_names : (ra : RouterAdvertisement) (placed d : Chronicle) → is_up start c ≡ true → PlaceFor start c now (said c source message) placed
+          → d ≡ then_advertised start now source destination ra message placed → Brings start now event c d
+      brings_names ra placed d up p h =
+          let row = (now, Heard source destination message) ∷ placed in
+          let third = redrawing start now ra.reachable_time (redraws (base_reachable_time placed) ra.reachable_time) row in
+          let second = releasing now (said placed source message) (neighbour_history placed) third in
+          Announces frame message (holds multicast_prefix destination.0) (leaving now (times_out start now placed source ra) (number_of source.0) second) received spelled up
+          (leaving_same now (times_out start now placed source ra) (number_of source.0) second
+          ∙ releasing_same now (said placed source message) (neighbour_history placed) third
+          ∙ redrawing_same now start ra.reachable_time (redraws (base_reachable_time placed) ra.reachable_time) row
+          ∙ place_for_same start c now (said c source message) placed p)
+          h
+
+      brings_message : (body : Body) → takes_target c source body ≡ true → is_awake start c source body ≡ true → (d : Chronicle) → MessageAdds start now source destination message body c d → Brings start now event c d
+      brings_message (bodies.Ns ns) takes awake d h =
+          brings_solicited (bytes_eq source.0 unspecified_address) ns.target d (tentative_else (is_assigned c ns.target.0) (is_tentative c ns.target.0) (bytes_eq source.0 unspecified_address) takes) h
+      brings_message (bodies.Ra ra) takes awake d h = brings_names ra h.0 d (up_by (is_up start c) (is_tentative c (link_local start).0) awake) h.1 h.2
+      brings_message (bodies.Na na) takes awake d h = brings_advertised na.target h.0 d h.1 h.2
+      brings_message bodies.Rs takes awake d h =
+          Nothing (ap address_history h.2 ∙ planning_same now start (wants_answer start c) _ ∙ known_place h.0 h.1)
+      brings_message (bodies.Redirect r) takes awake d h = Nothing (ap address_history h.2 ∙ known_place h.0 h.1)
+
+    -- what is heard is for this node, and the frame spells it
+    heard : {outcome : Outcome} (frame : List ℕ) → Judges start c now outcome (hears source destination message) → Hears frame start.role outcome
+        → IsForUs start c source destination message × Spells (payload_in frame) message
+    heard frame (IsTaken u first) says = (u, says.4)
+
+  -- ---- a packet goes
+
+  brings_placed : (key : ℕ) (packet : List ℕ) (d : Chronicle) → GoesIfPlaced start now key packet c d → Brings start now event c d
+  brings_placed key packet d h = brings_refused _ (Goes start c now key packet) d (λ g. Nothing (goes_same start c now key packet d g)) h.2
+
+  redirects_same : (target : Addr) (packet : PacketParts) (bytes : List ℕ) (key : ℕ) (d : Chronicle) → Redirects start now target packet bytes key c d → Same c d
+  redirects_same target packet bytes key d h = goes_same start h.told now key _ d h.behind ∙ goes_same start ((now, RedirectMade) ∷ c) now _ _ h.told h.redirect
+
+  brings_sends_on : (target : Option Addr) (packet : PacketParts) (bytes : List ℕ) (key : ℕ) (d : Chronicle) → SendsOn start now target packet bytes key c d → Brings start now event c d
+  brings_sends_on None packet bytes key d h = brings_placed key _ d h
+  brings_sends_on (Some target) packet bytes key d h =
+      brings_refused _ (Redirects start now target packet bytes key c) d (λ r. Nothing (redirects_same target packet bytes key d r)) h.2
+
+  brings_fate : (fate : Fate) (packet : PacketParts) (bytes : List ℕ) (d : Chronicle) → FateAdds start now fate packet bytes c d → Brings start now event c d
+  brings_fate lost_no_route packet bytes d h = Nothing (ap address_history h)
+  brings_fate lost_hop_limit packet bytes d h = Nothing (ap address_history h)
+  brings_fate (sent next) packet bytes d h = brings_sends_on (redirect (is_own c) (routes (route_history c)) (last_redirect (route_history c)) now packet.header) packet bytes _ d h
+
+  brings_verdict : (frame : List ℕ) → event ≡ events.Receives frame → (outcome : Outcome) (v : Verdict) (d : Chronicle) → Hears frame start.role outcome → Judges start c now outcome v
+      → VerdictAdds start now frame v c d → Brings start now event c d
+  brings_verdict frame received outcome (drops why) d says j h = Nothing (ap address_history h)
+  brings_verdict frame received outcome (goes_up packet) d says j h = Nothing (ap address_history h)
+  brings_verdict frame received outcome (goes_on packet) d says j h = brings_fate (fate (is_own c) (routes (route_history c)) packet.header) packet (packet_bytes frame) d h
+  brings_verdict frame received outcome (hears source destination message) d says j h =
+      let u = heard source destination message frame j says in
+      brings_refused (option_map Full h.0) (MessageAdds start now source destination message message.body c) d
+      (brings_message source destination message frame received u.1 message.body u.0.target u.0.awake d) h.2
+
+  -- ---- a packet is to be sent
+
+  module _ (source destination : Addr) (next_header : ℕ) (payload : List ℕ) where
+    brings_direct : (t : Bool) (frame : List ℕ) (key : ℕ) (packet : List ℕ) (d : Chronicle)
+        → MatchBool t (d ≡ (now, Sent frame) ∷ c) (GoesIfPlaced start now key packet c d) → Brings start now event c d
+    brings_direct true frame key packet d h = Nothing (ap address_history h)
+    brings_direct false frame key packet d h = brings_placed key packet d h
+
+    brings_packet : (next : NextHop) (d : Chronicle) → PacketAdds start now next source destination next_header payload c d → Brings start now event c d
+    brings_packet no_route d h = Nothing (ap address_history h)
+    brings_packet direct d h = brings_direct (holds multicast_prefix destination.0) _ _ _ d h
+    brings_packet (via key) d h = brings_placed key _ d h
+
+  -- ---- any event
+
+  brings_clear : (table : Clearable) (d : Chronicle) → ClearAdds start now table c d → Brings start now event c d
+  brings_clear events.ClearNeighbours d h = Nothing (ap address_history h.2 ∙ clearing_same now start h.0 c)
+  brings_clear events.ClearRouters d h = Nothing (ap address_history h.2 ∙ all_leaving_same now start h.0 c)
+  brings_clear events.ClearPrefixes d h = Nothing (ap address_history h)
+  brings_clear events.ClearRedirects d h = Nothing (ap address_history h)
+  brings_clear events.ClearDns d h = Nothing (ap address_history h)
+
+pub event_brings : (start : Start) (now : ℕ) (event : Event) (c d : Chronicle) → EventAdds start now event c d → Brings start now event c d
+event_brings start now events.Passes c d h = Nothing (ap address_history h)
+event_brings start now (events.Receives frame) c d h = brings_verdict start now (events.Receives frame) c frame refl h.heard.outcome h.verdict d h.heard.by_frame h.heard.by_node h.adds
+event_brings start now (events.Sends source destination next_header payload) c d h =
+    let event = events.Sends source destination next_header payload in
+    brings_refused start now event c (refusal_of_packet start now source payload c) _ d (λ x. brings_packet start now event c source destination next_header payload x.0 d x.2) h
+event_brings start now (events.Confirms neighbour) c d h = Nothing (ap address_history h)
+event_brings start now (events.Forgets neighbour) c d h =
+    Nothing (ap address_history h ∙ losing_same now Forgotten (waits_of (story (number_of neighbour.0) (neighbour_history c))) ((now, Neighbour (number_of neighbour.0) (neighbours.Forgot neighbours.Removed)) ∷ c))
+event_brings start now (events.Clears table) c d h = brings_clear start now (events.Clears table) c table d h
+event_brings start now (events.Shows table) c d h = Nothing (ap address_history h.2)
+event_brings start now (events.Advertises settings) c d h = brings_at_router start now (events.Advertises settings) c start.role _ d (λ x. Nothing (ap address_history x)) h
+event_brings start now (events.Offers info) c d h =
+    brings_at_router start now (events.Offers info) c start.role _ d (λ x. brings_refused start now (events.Offers info) c (option_map Full (full_of_offers start info.prefix c)) _ d (λ y. Nothing (ap address_history y)) x) h
+event_brings start now (events.Routes prefix route) c d h =
+    brings_at_router start now (events.Routes prefix route) c start.role _ d (λ x. brings_refused start now (events.Routes prefix route) c (option_map Full (full_of_routes prefix c)) _ d (λ y. Nothing (ap address_history y)) x) h
+event_brings start now events.Stops c d h =
+    brings_at_router start now events.Stops c start.role _ d (λ x. Nothing (ap address_history x ∙ telling_same now start (tells_its_end (advertising_history start c)) (last_contents_of start.mac (advertising_history start c)) ((now, Ceased) ∷ c))) h
+
+-- ---- what falls due
+
+-- What falls due brings the own addresses no row, or it is of one of them and brings its own.
+pub data BringsDue (m : ℕ) (c d : Chronicle) : Type 0 where
+  NoRow : Same c d → BringsDue m c d
+  ItsRow : (falls : Falls) → addresses_due.FirstDue (address_history c) m (Some falls) → address_history d ≡ due_row m falls ∷ address_history c → BringsDue m c d
+
+module _ (start : Start) (m : ℕ) (c : Chronicle) where
+  address_row : (falls : Falls) → address_history (then_address start m falls c) ≡ due_row m falls ∷ address_history c
+  address_row (Ends key) = refl
+  address_row (Solicits key) = refl
+  address_row (Assigns key) = refl
+
+  pub comes_brings : (what : What) → Due start c m (Some what) → BringsDue m c (comes start m what c)
+  comes_brings (RouterEnds key) due = NoRow refl
+  comes_brings (AddressFalls falls) due = ItsRow falls due.1 (address_row falls)
+  comes_brings (NeighbourFalls falls) due = NoRow (neighbour_same m start falls c)
+  comes_brings RoutersSolicited due = NoRow refl
+  comes_brings RouterAdvertises due = NoRow (advertising_same m start (advertised_by (advertising_history start c)) c)
+  comes_brings Redraws due = NoRow refl
