@@ -8,3 +8,4 @@ pub mod Forming
 pub mod Measuring
 pub mod Advertisements
 pub mod RouterSide
+pub mod Transit

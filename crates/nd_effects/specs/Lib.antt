@@ -14,3 +14,4 @@ pub mod RouterAdvertisement
 pub mod NeighborAdvertisement
 pub mod OutgoingPacket
 pub mod Router
+pub mod Forwarding

@@ -2,7 +2,7 @@
 //! events, each over the one or two tables that it changes.
 //!
 //! Each moment, `now` or `at`, is in milliseconds from a beginning that is the caller's. What is told goes to the end of `outs`, with its
-//! moment, into places that were taken before: only `ready_for` and what makes a frame take memory.
+//! moment, into places that were taken before: only `ready_for`, `ready_for_two` and what makes a frame take memory.
 #![tactic(auto)]
 
 mod clearing;
@@ -10,6 +10,7 @@ mod default_router;
 mod draw;
 mod first_hop;
 mod for_us;
+mod forwarding;
 mod frame;
 mod link_layer_address;
 mod link_parameters;
@@ -33,6 +34,7 @@ pub use draw::{
 };
 pub use first_hop::Tables;
 pub use for_us::{is_awake, is_to_nodes, is_to_routers, takes_target};
+pub use forwarding::{better_hop_frame, frame_as_it_came, frame_sent_on, ready_for_two};
 pub use frame::packet_in;
 pub use link_layer_address::{hear_of_neighbour, news_of, waiting_for};
 pub use link_parameters::hear_parameters;

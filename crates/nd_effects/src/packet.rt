@@ -1,4 +1,4 @@
-ghost use Rattle.std.specs.Prelude.{◌≡◌, ◌++◌, ◌<◌, ◌^◌, vec_len, vec_capacity};
+ghost use Rattle.std.specs.Prelude.{◌≡◌, ◌+◌, ◌++◌, ◌<◌, ◌≤◌, ◌^◌, vec_len, vec_capacity};
 ghost use Rattle.nd_addr.specs.Number.{number_of};
 ghost use Rattle.nd_neighbour.specs.View.{sending_of};
 ghost use Rattle.nd_effects.specs.Packet.{told_of_packet};
@@ -25,7 +25,7 @@ pub fn times_in_force(params: &Params) -> Times
 }
 
 /// What became of a packet to a neighbour at a moment, in milliseconds, goes to the end, for a node with a link-layer address and a
-/// link-local one (RFC 4861, sections 7.2.2 and 7.3.3). It takes no memory: the room for it was taken before.
+/// link-local one (RFC 4861, sections 7.2.2 and 7.3.3): at most one row. It takes no memory: the room for it was taken before.
 pub fn tell_use<A: Allocator>(
     outs: &mut Vec<(u64, Out<A>), A>,
     at: u64,
@@ -36,7 +36,9 @@ pub fn tell_use<A: Allocator>(
     used: Use<A>,
 )
     requires { vec_len outs.old < vec_capacity outs.old }
-    ensures { happenings outs.new.items ≡ happenings outs.old.items ++ at_moment at (told_of_packet mac own (number_of to.0) (sending_of used)) }
+    ensures told { happenings outs.new.items ≡ happenings outs.old.items ++ at_moment at (told_of_packet mac own (number_of to.0) (sending_of used)) }
+    ensures one { vec_len outs.new ≤ vec_len outs.old + 1 }
+    ensures capacity { vec_capacity outs.new ≡ vec_capacity outs.old }
 {
     addresses_are_told_by_numbers();
     match used {

@@ -11,13 +11,13 @@ use Rattle.nd_effects.specs.Told.{at_moment, happenings}
 use Rattle.nd_effects.proofs.Telling.{one_told}
 use Rattle.nd_effects.proofs.packet.tell_use.Goals as goal
 
-pub returns-in-Send : goal.returns-in-Send
-returns-in-Send g c =
+pub returns-in-Send-clause-told : goal.returns-in-Send-clause-told
+returns-in-Send-clause-told g c =
     rw c.in-Send.is (one_told c.args.outs.now.items _ c.args.at _ _ c.push_reserved.ensures.items
     (ap Sent (c.addressed.ensures ∙ sym (ap (λ (m : Mac). addressed m c.in-Send.packet) (c.addresses_are_told_by_numbers.ensures.mac c.in-Send.destination c.as_bytes-bytes.ensures.bytes)))))
 
-pub returns-in-Queued-true-default : goal.returns-in-Queued-true-default
-returns-in-Queued-true-default g c =
+pub returns-in-Queued-true-default-clause-told : goal.returns-in-Queued-true-default-clause-told
+returns-in-Queued-true-default-clause-told g c =
     let q = c.in-Queued-true-default in
     let new = c.push_reserved-in-Queued-true-default.new.self.items in
     rw q.is (subst
