@@ -1,6 +1,7 @@
 ghost use Rattle.std.specs.Prelude.{◌≡◌, ◌<◌, ◌≤◌, ◌^◌, List, length, Some, true, is_some, None, [], IfOk, OnOk, OnErr, option_map};
 ghost use Rattle.nd_advertiser.specs.Config.{interval_range};
 ghost use Rattle.nd_advertiser.specs.Calls.{has_sent, settings_in, wants_draw, next, prefixes_in};
+ghost use Rattle.nd_advertiser.specs.Overdue.{IsAfter};
 
 use crate::advertising::Advertising;
 use crate::config::Config;
@@ -23,13 +24,16 @@ pub struct Advertiser<A: Allocator> {
 
 impl<A: Allocator> Model for Advertiser<A> {
     ghost use Rattle.std.specs.Prelude.{◌<◌, ◌^◌, IfSome};
+    ghost use Rattle.nd_advertiser.specs.Calls.{next};
+    ghost use Rattle.nd_advertiser.specs.Overdue.{IsAfter};
     ghost use Rattle.nd_advertiser.specs.Table.{Table};
 
     ghost Value = { Table };
 
     ghost view = { λ a. record { assigned = a.assigned; last = a.last; advertising = a.advertising; offers = a.offers } };
 
-    ghost invariant = { λ a. IfSome a.last (λ at. at < 2 ^ 62) };
+    // The next advertisement comes after the last one.
+    ghost invariant = { λ a. IfSome a.last (λ at. at < 2 ^ 62) × IsAfter a.last (next a.assigned a.last a.advertising) };
 }
 
 impl<A: Allocator + Copy> Advertiser<A> {
@@ -92,6 +96,7 @@ impl<A: Allocator> Advertiser<A> {
     pub fn assigned(&mut self, now: u64)
         requires { now < 2 ^ 62 }
         ensures stands { GainsRow self.old self.new (Assigned now) }
+        ensures last { self.new.last ≡ self.old.last }
     {
         self.assigned = Some(now);
     }
@@ -156,6 +161,7 @@ impl<A: Allocator> Advertiser<A> {
         ensures value { result ≡ next self.now.assigned self.now.last self.now.advertising }
         ensures due { (history : List Row) → Stands self.now history → result ≡ next_of history }
         ensures settings { is_some result ≡ true → is_some (settings_in self.now.advertising) ≡ true }
+        ensures after { IsAfter self.now.last result }
     {
         match &self.advertising {
             Some(advertising) => advertising.next(self.assigned, self.last),
@@ -167,7 +173,9 @@ impl<A: Allocator> Advertiser<A> {
     pub fn turn(&mut self, now: u64, interval: u32)
         requires moment { now < 2 ^ 62 }
         requires due { next self.old.assigned self.old.last self.old.advertising ≡ Some now }
+        requires positive { 0 < interval }
         ensures stands { GainsRow self.old self.new (Sent now interval) }
+        ensures last { self.new.last ≡ Some now }
     {
         if let Some(advertising) = &mut self.advertising {
             advertising.send(now, interval);

@@ -1,5 +1,5 @@
 -- What only a router has: what it advertises, and its static routes.
-use Rattle.std.specs.Prelude.{◌≡◌, ◌<◌, ℕ, Bool, ◌&&◌, MatchBool, List, map, Option, Some, None, if◌then◌else◌}
+use Rattle.std.specs.Prelude.{◌≡◌, ◌<◌, ◌≤◌, ◌+◌, ℕ, Bool, ◌&&◌, MatchBool, List, map, Option, Some, None, if◌then◌else◌}
 use Rattle.std.specs.Option.{option_map, option_to_list}
 use Rattle.rand_core.specs.Stream.{Stream, next_u32}
 use Rattle.nd_addr.specs.declared.role.Role.{Role}
@@ -37,12 +37,19 @@ pub record Stands {A : Type 0} (start : Start) (tables : RouterTables A) (c : Ch
   pub routes : routes.Stands tables.routes (route_history c)
   pub spaced : IsSpaced (advertising_history start c)
 
+-- the earliest moment of another advertisement: behind the last one, if there was one
+abbrev pub after_last : Option ℕ → ℕ
+after_last None = 0
+after_last (Some last) = last + 1
+
 -- An advertisement is sent, and the time until the next one is drawn by the next word of a generator.
 pub record Advertises {A : Type 0} (now : ℕ) (words left : Stream) (old new : RouterTables A) : Type 0 where
   pub settings : Settings
   pub in_force : settings_in old.advertiser.advertising ≡ Some settings
   pub gains : advertising.GainsRow old.advertiser new.advertiser (advertising_rows.Sent now (interval_drawn settings words))
   pub positive : 0 < interval_drawn settings words
+  pub after_last : after_last old.advertiser.last ≤ now
+  pub last : new.advertiser.last ≡ Some now
   pub routes : new.routes ≡ old.routes
   pub drawn : left ≡ (next_u32 words).1
 
@@ -60,6 +67,7 @@ pub record Plans {A : Type 0} (now : ℕ) (wants : Bool) (words left : Stream) (
 pub record NotesAddress {A : Type 0} (link_local now : ℕ) (falls : Falls) (old new : RouterTables A) : Type 0 where
   pub advertiser : (history : List advertising_rows.Row) → advertising.Stands old.advertiser history
       → advertising.Stands new.advertiser (then_assigned link_local now (key_in falls) (happens falls) history)
+  pub last : new.advertiser.last ≡ old.advertiser.last
   pub routes : new.routes ≡ old.routes
 
 -- the frame of an advertisement that is due, where the interface advertises

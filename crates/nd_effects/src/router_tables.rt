@@ -3,6 +3,7 @@ ghost use Rattle.nd_addr.specs.Number.{number_of};
 ghost use Rattle.nd_advertiser.specs.Calls.{settings_in};
 ghost use Rattle.nd_advertiser.specs.Contents.{contents_of, last_contents_of};
 ghost use Rattle.nd_advertiser.specs.History.{Row};
+ghost use Rattle.nd_advertiser.specs.Overdue.{IsAfter};
 ghost use Rattle.nd_advertiser.specs.Table as advertising;
 ghost use Rattle.nd_frames.specs.Frames.{router_advertisement_frame};
 ghost use Rattle.nd_message.specs.Owned.{whole};
@@ -104,6 +105,7 @@ impl<A: Allocator> RouterTables<A> {
     pub fn next_due(&self, role: Role) -> Option<u64>
         ensures value { result ≡ next_advertisement role self.now }
         ensures settings { is_some result ≡ true → is_some (settings_in self.now.advertiser.advertising) ≡ true }
+        ensures after { IsAfter self.now.advertiser.last result }
     {
         if role == Role::Host {
             return None;

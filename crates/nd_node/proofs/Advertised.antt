@@ -67,14 +67,17 @@ use Rattle.nd_effects.specs.RouterSolicitations as soliciting
 use Rattle.nd_effects.specs.RouterSolicitations.{Solicitations, next_solicitation}
 use Rattle.nd_effects.specs.Told.{at_moment, Tells}
 use Rattle.nd_effects.specs.Told as told
-use Rattle.nd_effects.specs.Router.{router_side}
+use Rattle.nd_effects.specs.Router as router_only
+use Rattle.nd_effects.specs.Router.{next_advertisement, router_side}
+use Rattle.nd_effects.specs.declared.router_tables.RouterTables.{RouterTables}
+use Rattle.nd_effects.proofs.RouterSide.{side_stands}
 use Rattle.nd_effects.proofs.Quiet.{Quiet}
 use Rattle.nd_effects.proofs.Saying.{OneGoes, OverdueByTable, NoneOverdueStill, Placed, placed_by, none_before_said, releasing_is_quiet, releasing_text, released_kept}
 use Rattle.nd_effects.proofs.Telling.{Tells-then}
 use Rattle.nd_node.specs.declared.node.Node.{Node}
 use Rattle.nd_node.specs.Node.{Stands, next_of}
 use Rattle.nd_node.specs.RouterAdvertisement.{advertised, Advertises, TakesAdvertisement}
-use Rattle.nd_node.proofs.Turns.{all_later, addresses_before, neighbours_before, solicitation_before, redraw_before}
+use Rattle.nd_node.proofs.Turns.{all_later, addresses_before, neighbours_before, solicitation_before, advertisement_before, redraw_before}
 
 -- laws of the own addresses
 abbrev pub AddressesOverdue : Type 0
@@ -349,6 +352,7 @@ pub record Takes {R A : Type 0} (stream : R → Stream) (old new : Node R A) (be
   -- what the generator will answer between a redraw and the first delay
   pub left : Stream
   pub params : HearsParameters old.params new.params (stream old.generator) left now ra options
+  pub router : new.router ≡ old.router
   pub solicitations : new.solicitations ≡ record old.solicitations { heard = not (ra.router_lifetime == 0) || old.solicitations.heard }
   pub between : List (ℕ × Out A)
   pub ends : Bool
@@ -515,6 +519,12 @@ module _ {R A : Type 0} (stream : R → Stream) (old new : Node R A) (before aft
     heard = ap (λ (x : Solicitations). x.heard) t.solicitations ∙ (ap (λ (x : Bool). not (ra.router_lifetime == 0) || x) s.solicitations.heard ∙ sym heard_is);
   }
 
+  -- ---- what only a router has
+
+  router_stands : router_only.Stands start new.router all
+  router_stands = subst (λ (tables : RouterTables A). router_only.Stands start tables all) (sym t.router) (side_stands start old.router c all
+      (options_add.router start ∙ (leaving_adds.router start ∙ (frames_add.router start ∙ (message_adds.router start ∙ place.others.router start)))) (side_stands start old.router below c refl s.router))
+
   -- ---- nothing is due in the past
 
   not_past : now ≤ next_of old
@@ -539,8 +549,12 @@ module _ {R A : Type 0} (stream : R → Stream) (old new : Node R A) (before aft
   solicits_in_time : NotBefore now (next_solicitation new.role new.solicitations)
   solicits_in_time = rw (t.role, t.solicitations) (heard_later old.role now (not (ra.router_lifetime == 0)) old.solicitations (solicitation_before old now not_past))
 
+  advertises_in_time : NotBefore now (next_advertisement new.role new.router)
+  advertises_in_time = rw (t.role, t.router) (advertisement_before old now not_past)
+
   in_time : now ≤ next_of new
-  in_time = all_later new now (settled_before now (router_list.next_end new.routers.entries) t.routers_settled) addresses_in_time neighbours_in_time solicits_in_time draws_in_time
+  in_time =
+      all_later new now (settled_before now (router_list.next_end new.routers.entries) t.routers_settled) addresses_in_time neighbours_in_time solicits_in_time advertises_in_time draws_in_time
 
   -- ---- what is told
 
@@ -583,6 +597,7 @@ module _ {R A : Type 0} (stream : R → Stream) (old new : Node R A) (before aft
         (subst (λ (h : List (lifetimes.Row (List ℕ))). known.Stands new.dns (then_announced now (servers_told options) (server_history c)) h) (sym names_are) (t.dns (server_history c) (name_history c) servers_came names_came s.dns));
     redirects = subst (λ (h : List redirect_rows.RedirectRow). choice.Stands new.choice h) (sym redirects_are) (t.redirects (redirect_history c) s.redirects);
     solicitations = solicitations_stand;
+    router = router_stands;
     generator = forms_all.generator;
     last = t.last ∙ sym (all_last start.at);
     prefixes_by_then = rw (prefixes_are, all_last start.at) (last_announced now (on_link.prefixes_in options) (prefix_history c) prefixes_came);

@@ -1,5 +1,6 @@
 -- A node that starts stands for the beginning.
-use Rattle.std.proofs.Common.{◌≡◌, ℕ, [], ◌∷◌, None, false, ap, arith}
+use Rattle.std.proofs.Common.{◌≡◌, ℕ, [], ◌∷◌, None, false, refl, ap, arith}
+use Rattle.std.specs.Prelude.{if◌then◌else◌}
 use Rattle.rand_core.specs.Stream.{Stream}
 use Rattle.nd_addr.specs.declared.role.Role.{Role}
 use Rattle.nd_addr.specs.declared.role.Role.TheVariants.{Host, Router}
@@ -15,6 +16,7 @@ use Rattle.nd_dns.specs.Dns as dns
 use Rattle.nd_nexthop.specs.Choice as choice
 use Rattle.nd_chronicle.specs.Start.{Start, link_local_key}
 use Rattle.nd_chronicle.specs.Histories.{parameter_history, address_history}
+use Rattle.nd_chronicle.specs.Due.{is_host}
 use Rattle.nd_chronicle.specs.Generator.{stream_left}
 use Rattle.nd_chronicle.specs.History.{beginning}
 use Rattle.nd_effects.specs.RouterSolicitations.{Solicitations, next_solicitation}
@@ -28,6 +30,10 @@ none_sent = record { assigned = None; sent = 0; heard = false }
 none_is_due : (role : Role) (now : ℕ) → NotBefore now (next_solicitation role none_sent)
 none_is_due Host now = tt
 none_is_due Router now = tt
+
+none_advertised : (role : Role) (now : ℕ) → NotBefore now (if is_host role then None else None)
+none_advertised Host now = tt
+none_advertised Router now = tt
 
 -- the values of a node that starts
 pub record Starts {R A : Type 0} (stream : R → Stream) (start : Start) (node : Node R A) : Type 0 where
@@ -43,6 +49,8 @@ pub record Starts {R A : Type 0} (stream : R → Stream) (start : Start) (node :
   pub routers : node.routers ≡ record { limit = start.limits.routers; entries = []; failed = [] }
   pub neighbours : node.neighbours ≡ record { limit = start.limits.neighbours; nodes = []; rings = 0 }
   pub solicitations : node.solicitations ≡ none_sent
+  pub advertiser : node.router.advertiser ≡ record { assigned = None; last = None; advertising = None; offers = [] }
+  pub routes : node.router.routes ≡ record { entries = []; redirected = None }
 
 pub stands_beginning : {R A : Type 0} (stream : R → Stream) (start : Start) (node : Node R A) → Starts stream start node
     → parameters.Stands node.params (parameter_history (beginning start)) → routers.Stands node.routers [] → lists.Stands same_prefix node.prefixes []
@@ -67,10 +75,11 @@ stands_beginning stream start node v params routers' prefixes addresses' neighbo
     sent = ap (λ (s : Solicitations). s.sent) v.solicitations;
     heard = ap (λ (s : Solicitations). s.heard) v.solicitations;
   };
+  router = record { advertiser = rw v.advertiser (record { assigned = refl; last = refl; advertising = refl; offers = refl }); routes = rw v.routes (record { entries_are = refl; redirected_is = refl }); spaced = tt };
   generator = generator;
   last = v.last;
   prefixes_by_then = omega arith;
   servers_by_then = omega arith;
   names_by_then = omega arith;
-  in_time = all_later node start.at (rw v.routers tt) (rw v.formed (omega arith)) (rw v.neighbours tt) (rw v.solicitations (none_is_due node.role start.at)) (omega (arith, v.drawn_at));
+  in_time = all_later node start.at (rw v.routers tt) (rw v.formed (omega arith)) (rw v.neighbours tt) (rw v.solicitations (none_is_due node.role start.at)) (rw v.advertiser (none_advertised node.role start.at)) (omega (arith, v.drawn_at));
 }

@@ -38,6 +38,7 @@ use Rattle.nd_node.specs.declared.node.Node.{Node}
 use Rattle.nd_node.specs.Event.{AddsEvent}
 use Rattle.nd_node.specs.Node.{Stands, next_of}
 use Rattle.nd_node.proofs.Beside.{Beside, Same, beside_neighbour, beside_quiet, beside_then, stands_neighbours}
+use Rattle.nd_effects.proofs.RouterSide.{side_stands}
 use Rattle.nd_node.proofs.NextHops.{routers_listed}
 use Rattle.nd_node.proofs.Standing.{Apart, Still, apart_then, stands_at}
 use Rattle.nd_node.proofs.Steps.{passed}
@@ -84,6 +85,7 @@ module _ {R A : Type 0} (stream : R → Stream) (start : Start) (old : Node R A)
       sent = rw (silent.solicited later) s.solicitations.sent;
       heard = rw (silent.parameters later) s.solicitations.heard;
     };
+    router = side_stands start old.router c ((now, what) ∷ later) (silent.router start later) s.router;
     generator = s.generator ∙ sym (silent.stream start later);
     last = sym (silent.last start.at later);
     prefixes_by_then = rw (silent.last start.at later) prefixes_by;

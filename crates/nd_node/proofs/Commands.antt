@@ -103,7 +103,7 @@ module _ {R A : Type 0} (stream : R → Stream) (old new : Node R A) (now : ℕ)
 pub at_host : (now : ℕ) (role : Role) (Adds : Chronicle → Type 0) (c : Chronicle) → role ≡ Host → AtRouter now role Adds c ((now, Refused WrongRole) ∷ c)
 at_host now role Adds c host = subst (λ (r : Role). AtRouter now r Adds c ((now, Refused WrongRole) ∷ c)) (sym host) refl
 
-pub wrong_role : {R A : Type 0} (stream : R → Stream) (old new : Node R A) (x y : List (ℕ × Out A)) (now : ℕ) (event : events.Event)
+pub wrong_role : {R A : Type 0} (stream : R → Stream) (old new : Node R A) (x y : List (ℕ × Out A)) (now : ℕ) (event : events.Event) → old.role ≡ Host
     → ((start : Start) (c : Chronicle) → start.role ≡ Host → EventAdds start now event c ((now, Refused WrongRole) ∷ c)) → AddsAlone stream old new x y now (Refused WrongRole) → AddsEvent stream old new x y now event
-wrong_role stream old new x y now event refused adds =
-    record { each = λ start c s le. let a = adds.each start c s le in ((now, Refused WrongRole) ∷ (now, Passed) ∷ c, refused start ((now, Passed) ∷ c) s.host, a.0, a.1) }
+wrong_role stream old new x y now event host refused adds =
+    record { each = λ start c s le. let a = adds.each start c s le in ((now, Refused WrongRole) ∷ (now, Passed) ∷ c, refused start ((now, Passed) ∷ c) (sym s.role ∙ host), a.0, a.1) }

@@ -120,12 +120,13 @@ stays_keeps stream old new k = record {
     dns = rw k.dns s.dns;
     redirects = rw k.choice s.redirects;
     solicitations = rw k.solicitations s.solicitations;
+    router = rw k.router s.router;
     generator = ap stream k.generator ∙ s.generator;
     last = k.last ∙ s.last;
     prefixes_by_then = s.prefixes_by_then;
     servers_by_then = s.servers_by_then;
     names_by_then = s.names_by_then;
-    in_time = rw (k.role, k.params, k.routers, k.addresses, k.nodes, k.solicitations) s.in_time;
+    in_time = rw (k.role, k.params, k.routers, k.addresses, k.nodes, k.solicitations, k.router) s.in_time;
   };
 }
 

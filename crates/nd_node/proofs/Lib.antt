@@ -22,3 +22,5 @@ pub mod Memory
 pub mod OutgoingPackets
 pub mod Commands
 pub mod ClearedTables
+pub mod RouterRows
+pub mod RouterCommands

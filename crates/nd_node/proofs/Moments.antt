@@ -52,40 +52,47 @@ pub before_second : (moment : ℕ) (o : Option ℕ) (n : ℕ) → moment < earli
 before_second moment None n h = h
 before_second moment (Some m) n h = omega arith
 
-module _ (now : ℕ) (r a n s : Option ℕ) (d : ℕ) where
-  pub none_before : NotBefore now r → NotBefore now a → NotBefore now n → NotBefore now s → now ≤ d → now ≤ earliest r a n s d
-  none_before hr ha hn hs hd =
-      earlier_from now r (earlier a (earlier n (earlier s d))) hr (earlier_from now a (earlier n (earlier s d)) ha (earlier_from now n (earlier s d) hn (earlier_from now s d hs hd)))
+module _ (now : ℕ) (r a n s v : Option ℕ) (d : ℕ) where
+  pub none_before : NotBefore now r → NotBefore now a → NotBefore now n → NotBefore now s → NotBefore now v → now ≤ d → now ≤ earliest r a n s v d
+  none_before hr ha hn hs hv hd =
+      earlier_from now r (earlier a (earlier n (earlier s (earlier v d)))) hr (earlier_from now a (earlier n (earlier s (earlier v d))) ha
+      (earlier_from now n (earlier s (earlier v d)) hn (earlier_from now s (earlier v d) hs (earlier_from now v d hv hd))))
 
-  module _ (h : now ≤ earliest r a n s d) where
-    after_routers : now ≤ earlier a (earlier n (earlier s d))
-    after_routers = earlier_second now r (earlier a (earlier n (earlier s d))) h
+  module _ (h : now ≤ earliest r a n s v d) where
+    after_routers : now ≤ earlier a (earlier n (earlier s (earlier v d)))
+    after_routers = earlier_second now r (earlier a (earlier n (earlier s (earlier v d)))) h
 
-    after_addresses : now ≤ earlier n (earlier s d)
-    after_addresses = earlier_second now a (earlier n (earlier s d)) after_routers
+    after_addresses : now ≤ earlier n (earlier s (earlier v d))
+    after_addresses = earlier_second now a (earlier n (earlier s (earlier v d))) after_routers
 
-    after_neighbours : now ≤ earlier s d
-    after_neighbours = earlier_second now n (earlier s d) after_addresses
+    after_neighbours : now ≤ earlier s (earlier v d)
+    after_neighbours = earlier_second now n (earlier s (earlier v d)) after_addresses
+
+    after_solicitation : now ≤ earlier v d
+    after_solicitation = earlier_second now s (earlier v d) after_neighbours
 
     pub before_routers : NotBefore now r
-    before_routers = earlier_first now r (earlier a (earlier n (earlier s d))) h
+    before_routers = earlier_first now r (earlier a (earlier n (earlier s (earlier v d)))) h
 
     pub before_addresses : NotBefore now a
-    before_addresses = earlier_first now a (earlier n (earlier s d)) after_routers
+    before_addresses = earlier_first now a (earlier n (earlier s (earlier v d))) after_routers
 
     pub before_neighbours : NotBefore now n
-    before_neighbours = earlier_first now n (earlier s d) after_addresses
+    before_neighbours = earlier_first now n (earlier s (earlier v d)) after_addresses
 
     pub before_solicitation : NotBefore now s
-    before_solicitation = earlier_first now s d after_neighbours
+    before_solicitation = earlier_first now s (earlier v d) after_neighbours
+
+    pub before_advertisement : NotBefore now v
+    before_advertisement = earlier_first now v d after_solicitation
 
     pub before_redraw : now ≤ d
-    before_redraw = earlier_second now s d after_neighbours
+    before_redraw = earlier_second now v d after_solicitation
 
-  -- where no table has something due now, a Router Solicitation or the redraw is
-  pub at_solicitation : now ≡ earliest r a n s d → (r ≡ Some now → ⊥) → (a ≡ Some now → ⊥) → (n ≡ Some now → ⊥) → now ≡ earlier s d
+  -- where no table has something due now, a Router Solicitation, a Router Advertisement or the redraw is
+  pub at_solicitation : now ≡ earliest r a n s v d → (r ≡ Some now → ⊥) → (a ≡ Some now → ⊥) → (n ≡ Some now → ⊥) → now ≡ earlier s (earlier v d)
   at_solicitation is hr ha hn =
-      earlier_at now n (earlier s d) (earlier_at now a (earlier n (earlier s d)) (earlier_at now r (earlier a (earlier n (earlier s d))) is hr) ha) hn
+      earlier_at now n (earlier s (earlier v d)) (earlier_at now a (earlier n (earlier s (earlier v d))) (earlier_at now r (earlier a (earlier n (earlier s (earlier v d)))) is hr) ha) hn
 
-  pub at_redraw : now ≡ earliest r a n s d → (r ≡ Some now → ⊥) → (a ≡ Some now → ⊥) → (n ≡ Some now → ⊥) → (s ≡ Some now → ⊥) → now ≡ d
-  at_redraw is hr ha hn hs = earlier_at now s d (at_solicitation is hr ha hn) hs
+  pub at_redraw : now ≡ earliest r a n s v d → (r ≡ Some now → ⊥) → (a ≡ Some now → ⊥) → (n ≡ Some now → ⊥) → (s ≡ Some now → ⊥) → (v ≡ Some now → ⊥) → now ≡ d
+  at_redraw is hr ha hn hs hv = earlier_at now v d (earlier_at now s (earlier v d) (at_solicitation is hr ha hn) hs) hv

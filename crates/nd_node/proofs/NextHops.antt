@@ -1,11 +1,13 @@
 -- The next hop by what a node keeps is that of the chronicle.
-use Rattle.std.proofs.Common.{◌≡◌, ◌<◌, ◌≤◌, ℕ, Bool, true, false, List, [], ◌∷◌, map, Option, Some, None, refl, sym, ◌∙◌, ap, arith}
+use Rattle.std.proofs.Common.{◌≡◌, ◌<◌, ◌≤◌, ℕ, Bool, true, false, List, [], ◌∷◌, map, Option, Some, None, refl, sym, ◌∙◌, ap, subst, arith}
 use Rattle.std.specs.Prelude.{◌||◌, ◌+◌, IsTrue, is_some, if◌then◌else◌, bytes_eq}
 use Rattle.std.proofs.lemmas.Bool.Decides.{eqb_tells}
 use Rattle.std.proofs.lemmas.Bool.{lt-ltb}
 use Rattle.nd_addr.specs.declared.addr.Addr.{Addr}
 use Rattle.nd_addr.specs.Kind.{multicast_prefix, unspecified_address, loopback_address}
 use Rattle.nd_addr.specs.Number.{number_of, holds}
+use Rattle.nd_addr.specs.declared.role.Role.{Role}
+use Rattle.nd_addr.specs.declared.role.Role.TheVariants.{Host, Router}
 use Rattle.nd_lifetime.specs.declared.lasting.Lasting.{Lasting}
 use Rattle.nd_lifetime.specs.Listing.{Lists, open_at}
 use Rattle.nd_lifetime.proofs.Behind.{open_all}
@@ -28,6 +30,10 @@ use Rattle.nd_nexthop.specs.DefaultRouter.{DefaultRouter}
 use Rattle.nd_nexthop.specs.History.{kept}
 use Rattle.nd_nexthop.specs.NextHop.{NextHop, hop, direct, no_route, unless_redirected, by_router}
 use Rattle.nd_nexthop.specs.DefaultRouter.{chosen_router}
+use Rattle.nd_routes.specs.History as route_rows
+use Rattle.nd_routes.specs.NextHop as by_routes
+use Rattle.nd_routes.specs.Routes.{routes}
+use Rattle.nd_routes.specs.Table as routing
 use Rattle.nd_slaac.specs.declared.destination.Counted.TheVariants.{Own}
 use Rattle.nd_slaac.specs.Destination.{counted_in}
 use Rattle.nd_slaac.specs.Table.{address_in}
@@ -35,9 +41,10 @@ use Rattle.nd_slaac.proofs.Destinations.{counted_by_history}
 use Rattle.rand_core.specs.Stream.{Stream}
 use Rattle.nd_chronicle.specs.Start.{Start}
 use Rattle.nd_chronicle.specs.Happening.{Chronicle, last_moment}
-use Rattle.nd_chronicle.specs.Histories.{neighbour_history, router_history, address_history, redirect_history}
-use Rattle.nd_chronicle.specs.NextHop.{candidate, IsNextHop}
+use Rattle.nd_chronicle.specs.Histories.{neighbour_history, router_history, address_history, redirect_history, route_history}
+use Rattle.nd_chronicle.specs.NextHop.{candidate, IsHopOf, IsNextHop}
 use Rattle.nd_chronicle.specs.OwnAddress.{is_own}
+use Rattle.nd_effects.specs.Router.{next_advertisement}
 use Rattle.nd_effects.specs.RouterSolicitations.{next_solicitation}
 use Rattle.nd_effects.specs.FirstHop.{is_resolved, candidate_in, candidates_in}
 use Rattle.nd_node.specs.declared.node.Node as nodes
@@ -92,7 +99,7 @@ before_next (Some end) rest now lt = lt-ltb now end (omega (arith, lt))
 -- no router's lifetime has ended at a node at which nothing is due
 pub settled_routers : {R A : Type 0} (node : nodes.Node R A) (now : ℕ) → now < next_of node → routers.IsSettled node.routers.entries now
 settled_routers node now settled =
-    before_next (routers.next_end node.routers.entries) (earlier (address_dates.next_in node.addresses.addresses) (earlier (neighbour_dates.next_in node.neighbours.nodes) (earlier (next_solicitation node.role node.solicitations) (node.params.drawn_at + redraw_after)))) now settled
+    before_next (routers.next_end node.routers.entries) (earlier (address_dates.next_in node.addresses.addresses) (earlier (neighbour_dates.next_in node.neighbours.nodes) (earlier (next_solicitation node.role node.solicitations) (earlier (next_advertisement node.role node.router) (node.params.drawn_at + redraw_after))))) now settled
 
 module _ {R A : Type 0} (stream : R → Stream) (start : Start) (node : nodes.Node R A) (c : Chronicle) (now : ℕ) (s : Stands stream start node c) (le : last_moment start.at c ≤ now) (settled : now < next_of node) where
   open_routers : open_at now node.routers.entries ≡ node.routers.entries
@@ -119,3 +126,16 @@ module _ {R A : Type 0} (stream : R → Stream) (start : Start) (node : nodes.No
     next_is = is ∙ hop_by_own (λ (a : List ℕ). counted_in Own (address_in (number_of a) node.addresses.addresses)) (is_own c) (λ (a : List ℕ). is_held a (open_at now node.prefixes)) (candidates_in node.neighbours.nodes node.routers) (kept (number_of destination.0) (redirect_history c)) destination.0
         (counted_by_history Own (number_of destination.0) node.addresses.addresses (address_history c) s.addresses);
   }
+
+-- ---- a packet of a node of either role
+
+pub hop_of_host : (role start_role : Role) → role ≡ start_role → role ≡ Host → (c : Chronicle) (now : ℕ) (destination : Addr) (next : NextHop) → IsNextHop c now destination next → IsHopOf start_role c now destination next
+hop_of_host role start_role is host c now destination next h = subst (λ (r : Role). IsHopOf r c now destination next) (sym host ∙ is) h
+
+-- a router's goes by its routes
+pub hop_of_router : {R A : Type 0} (stream : R → Stream) (start : Start) (node : nodes.Node R A) (c : Chronicle) (now : ℕ) → Stands stream start node c → node.role ≡ Router → (destination : Addr) (own : Bool) (next : NextHop)
+    → own ≡ counted_in Own (address_in (number_of destination.0) node.addresses.addresses)
+    → ((is : List ℕ → Bool) → is destination.0 ≡ own → (history : List route_rows.Row) → routing.Stands node.router.routes history → next ≡ by_routes.hop is (routes history) destination.0)
+    → IsHopOf start.role c now destination next
+hop_of_router stream start node c now s router destination own next own_is by_history = subst (λ (r : Role). IsHopOf r c now destination next) (sym router ∙ s.role)
+    (by_history (is_own c) (sym (own_is ∙ counted_by_history Own (number_of destination.0) node.addresses.addresses (address_history c) s.addresses)) (route_history c) s.router.routes)

@@ -5,7 +5,7 @@ use Rattle.rand_core.specs.Stream.{Stream}
 use Rattle.nd_addr.specs.declared.addr.Addr.{Addr}
 use Rattle.nd_addr.specs.declared.mac.Mac.{Mac}
 use Rattle.nd_addr.specs.declared.role.Role.{Role}
-use Rattle.nd_addr.specs.declared.role.Role.TheVariants.{Host}
+use Rattle.nd_addr.specs.declared.role.Role.TheVariants.{Host, Router}
 use Rattle.nd_addr.specs.Kind.{multicast_mac_of, multicast_prefix}
 use Rattle.nd_addr.specs.Number.{holds, number_of}
 use Rattle.nd_frames.specs.Frames.{multicast_mac, open_mac}
@@ -15,7 +15,7 @@ use Rattle.nd_nexthop.specs.NextHop.{NextHop, direct, no_route}
 use Rattle.nd_chronicle.specs.Start.{Start}
 use Rattle.nd_chronicle.specs.Happening.{Chronicle, Passed, Refused, Refusal, Full, Neighbours, Lost, Routeless, Sent, last_moment}
 use Rattle.nd_chronicle.specs.Histories.{neighbour_history}
-use Rattle.nd_chronicle.specs.NextHop.{IsNextHop, IsHopOf}
+use Rattle.nd_chronicle.specs.NextHop.{IsHopOf}
 use Rattle.nd_chronicle.specs.Event as events
 use Rattle.nd_chronicle.specs.Event.{PacketAdds, packet_frame, refusal_of_packet}
 use Rattle.nd_chronicle.specs.Packet.{GoesIfPlaced}
@@ -184,9 +184,10 @@ module _ {R A : Type 0} (stream : R → Stream) (old new : Node R A) (x y : List
 
 -- ---- the event
 
--- the next hop of a host
-by_host : {role : Role} {c : Chronicle} {now : ℕ} {destination : Addr} {next : NextHop} → role ≡ Host → IsNextHop c now destination next → IsHopOf role c now destination next
-by_host {role} {c} {now} {destination} {next} host h = subst (λ (r : Role). IsHopOf r c now destination next) (sym host) h
+-- the next hop is the same once time has passed
+hop_later : (role : Role) (c : Chronicle) (now : ℕ) (destination : Addr) (next : NextHop) → IsHopOf role c now destination next → IsHopOf role ((now, Passed) ∷ c) now destination next
+hop_later Host c now destination next h = next_later c now destination next h
+hop_later Router c now destination next h = h
 
 module _ {R A : Type 0} (stream : R → Stream) (old new : Node R A) (x y : List (ℕ × Out A)) (now : ℕ) (packet : OutgoingPacket A) where
   -- it is refused
@@ -208,7 +209,7 @@ module _ {R A : Type 0} (stream : R → Stream) (old new : Node R A) (x y : List
   -- it goes to its next hop
   pub sent : (mid : Node R A) (hop : NextHop) → ((start : Start) (c : Chronicle) → Stands stream start old c → None ≡ refusal_of_packet start now packet.source packet.payload.items c)
       → ((start : Start) (c : Chronicle) → Stands stream start old c → Stands stream start mid c)
-      → ((start : Start) (c : Chronicle) → Stands stream start old c → last_moment start.at c ≤ now → IsNextHop c now packet.destination hop)
+      → ((start : Start) (c : Chronicle) → Stands stream start old c → last_moment start.at c ≤ now → IsHopOf start.role c now packet.destination hop)
       → AddsPacket stream mid new x y now hop packet → AddsEvent stream old new x y now (events.Sends packet.source packet.destination packet.next_header packet.payload.items)
   sent mid hop says stands next adds = record {
     each = λ start c s le.
@@ -218,7 +219,7 @@ module _ {R A : Type 0} (stream : R → Stream) (old new : Node R A) (x y : List
           d,
           subst (λ (o : Option Refusal). UnlessRefused now o (λ e. (next : NextHop) × IsHopOf start.role later now packet.destination next
               × PacketAdds start now next packet.source packet.destination packet.next_header packet.payload.items later e) later d) (says start c s)
-              (hop, by_host s.host (next_later c now packet.destination hop (next start c s le)), a.1),
+              (hop, hop_later start.role c now packet.destination hop (next start c s le), a.1),
           a.2,
           a.3,
         );

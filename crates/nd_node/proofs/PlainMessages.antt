@@ -1,12 +1,15 @@
 -- A message that says something of a neighbour, and perhaps redirects a destination, and the chronicle that a node stands for.
 use Rattle.std.proofs.Common.{◌≡◌, ℕ, ◌<◌, ◌≤◌, Bool, true, false, List, [], ◌∷◌, ◌++◌, append-nil, Option, Some, None, refl, sym, ◌∙◌, ap, subst, arith}
-use Rattle.std.specs.Prelude.{◌&&◌}
+use Rattle.std.specs.Prelude.{◌&&◌, MatchBool, if◌then◌else◌}
 use Rattle.std.specs.Option.{option_map}
-use Rattle.rand_core.specs.Stream.{Stream}
+use Rattle.rand_core.specs.Stream.{Stream, next_u32}
 use Rattle.nd_addr.specs.declared.addr.Addr.{Addr}
 use Rattle.nd_addr.specs.declared.role.Role.{Role}
-use Rattle.nd_addr.specs.declared.role.Role.TheVariants.{Host}
 use Rattle.nd_advertiser.specs.Advertising.{wants_draw_of}
+use Rattle.nd_advertiser.specs.Calls.{wants_draw}
+use Rattle.nd_advertiser.specs.History as advertising_rows
+use Rattle.nd_advertiser.specs.Table as advertising
+use Rattle.nd_advertiser.proofs.ByRows.{draw_wanted}
 use Rattle.nd_decode.specs.Message.{Parts}
 use Rattle.nd_decode.specs.Option.{Said}
 use Rattle.nd_decode.specs.declared.body.Body.TheVariants as bodies
@@ -20,20 +23,24 @@ use Rattle.nd_params.specs.History.{reachable_of}
 use Rattle.nd_routers.specs.Routers as routers
 use Rattle.nd_nexthop.specs.History as redirect_rows
 use Rattle.nd_nexthop.specs.Choice as choice
+use Rattle.nd_routes.specs.History as route_rows
 use Rattle.nd_slaac.specs.Table as addresses
 use Rattle.nd_chronicle.specs.Start.{Start}
-use Rattle.nd_chronicle.specs.Happening.{Chronicle, Heard, Passed, Refused, Full, Limit, Neighbours, last_moment}
+use Rattle.nd_chronicle.specs.Happening.{Chronicle, Drew, ForAnswer, Heard, Passed, Planned, Refused, Full, Limit, Neighbours, last_moment}
 use Rattle.nd_chronicle.specs.Histories.{advertising_history, neighbour_history, router_history, redirect_history, said_of_neighbour, then_neighbour, then_redirect}
 use Rattle.nd_chronicle.specs.Due.{assigned_at}
 use Rattle.nd_chronicle.specs.Full.{entering, needs, Placed, MessageFills, Fills}
 use Rattle.nd_chronicle.specs.Message.{said, PlaceFor, releasing}
 use Rattle.nd_chronicle.specs.Event.{MessageAdds}
-use Rattle.nd_chronicle.specs.Advertising.{planning}
+use Rattle.nd_chronicle.specs.Advertising.{planning, wants_answer}
+use Rattle.nd_chronicle.specs.Generator.{answer_delay_drawn, stream_left}
 use Rattle.nd_chronicle.specs.NeighborSolicitation.{is_router}
 use Rattle.nd_chronicle.specs.Told.{lines_of, text}
 use Rattle.nd_out.specs.declared.out.Out.{Out}
 use Rattle.nd_out.specs.Out.{happening}
 use Rattle.nd_effects.specs.LinkLayerAddress.{said_by, HearsOf, released_frames}
+use Rattle.nd_effects.specs.Router.{Plans, plans}
+use Rattle.nd_effects.specs.declared.router_tables.RouterTables.{RouterTables}
 use Rattle.nd_effects.specs.Told.{at_moment, happenings, Tells}
 use Rattle.nd_effects.proofs.Quiet.{Quiet}
 use Rattle.nd_effects.proofs.Saying.{NoneOverdueStill, OneGoes, Others, OverdueByTable, none_before_said, placed_by, released_kept, releasing_is_quiet, releasing_text}
@@ -42,42 +49,47 @@ use Rattle.nd_node.specs.declared.node.Node.{Node}
 use Rattle.nd_node.specs.Hearing.{AddsMessage}
 use Rattle.nd_node.specs.Node.{Stands, next_of}
 use Rattle.nd_node.proofs.Quiet.{stands_quiet}
+use Rattle.nd_node.proofs.RouterRows.{DrawsDelay, PlansAnswer, aside, aside_same, aside_then, stands_advertising, stands_aside}
 use Rattle.nd_node.proofs.Standing.{Apart, Still, apart_then, stands_at}
 use Rattle.nd_node.proofs.Steps.{passed}
-use Rattle.nd_node.proofs.Turns.{addresses_before, neighbours_before, routers_before}
+use Rattle.nd_node.proofs.Turns.{addresses_before, advertisement_before, neighbours_before, routers_before}
 
 -- a message
 abbrev pub message_of : Body → List Said → Parts
 message_of body options = record { body = body; options = options }
 
--- a message that wants place for a neighbour alone, and concerns the neighbours and the redirects alone
-pub record IsPlain (now : ℕ) (source destination : Addr) (body : Body) (options : List Said) : Type 0 where
+-- a message that wants place for a neighbour alone, concerns the neighbours and the redirects alone, and has something happen behind it
+pub record IsPlain (now : ℕ) (source destination : Addr) (body : Body) (options : List Said) (behind : Start → Chronicle → Chronicle → Chronicle) : Type 0 where
   pub needs_is : (c : Chronicle) → needs c source (message_of body options) body ≡ entering (said c source (message_of body options))
   pub fills : (start : Start) (c : Chronicle) (limit : Option Limit) → MessageFills start c now source (message_of body options) limit → Fills start c now source (message_of body options) body limit
-  pub adds : (start : Start) (c placed : Chronicle) → start.role ≡ Host → PlaceFor start c now (said c source (message_of body options)) placed
+  pub adds : (start : Start) (c placed : Chronicle) → PlaceFor start c now (said c source (message_of body options)) placed
       → MessageAdds start now source destination (message_of body options) body c
-      (releasing now (said c source (message_of body options)) (neighbour_history placed) ((now, Heard source destination (message_of body options)) ∷ placed))
+      (behind start c (releasing now (said c source (message_of body options)) (neighbour_history placed) ((now, Heard source destination (message_of body options)) ∷ placed)))
   pub apart : (c : Chronicle) → Apart c ((now, Heard source destination (message_of body options)) ∷ c)
   pub routers : (c : Chronicle) → router_history ((now, Heard source destination (message_of body options)) ∷ c) ≡ router_history c
 
--- a host plans no answer
-none_planned : (start : Start) (at : ℕ) (wants : Bool) (c : Chronicle) → start.role ≡ Host → c ≡ planning start at (is_router start.role && wants) c
-none_planned start at wants c host = ap (λ (r : Role). planning start at (is_router r && wants) c) (sym host)
+-- nothing happens behind it
+abbrev pub nothing : Start → Chronicle → Chronicle → Chronicle
+nothing start before c = c
 
-pub plain_redirect : (now : ℕ) (source destination : Addr) (r : Redirect) (options : List Said) → IsPlain now source destination (bodies.Redirect r) options
+-- the answer to a Router Solicitation is planned, where it has to be
+abbrev pub planned : ℕ → Start → Chronicle → Chronicle → Chronicle
+planned now start before c = planning start now (wants_answer start before) c
+
+pub plain_redirect : (now : ℕ) (source destination : Addr) (r : Redirect) (options : List Said) → IsPlain now source destination (bodies.Redirect r) options nothing
 plain_redirect now source destination r options = record {
   needs_is = λ c. refl;
   fills = λ start c limit f. f;
-  adds = λ start c placed host place. (placed, place, refl);
+  adds = λ start c placed place. (placed, place, refl);
   apart = λ c. record { parameters = refl; prefixes = refl; servers = refl; names = refl; assigned = λ k. refl; solicited = refl; router = λ start'. refl; stream = λ start. refl };
   routers = λ c. refl;
 }
 
-pub plain_solicitation : (now : ℕ) (source destination : Addr) (options : List Said) → IsPlain now source destination bodies.Rs options
+pub plain_solicitation : (now : ℕ) (source destination : Addr) (options : List Said) → IsPlain now source destination bodies.Rs options (planned now)
 plain_solicitation now source destination options = record {
   needs_is = λ c. refl;
   fills = λ start c limit f. f;
-  adds = λ start c placed host place. (placed, place, none_planned start now (wants_draw_of (advertising_history start c)) _ host);
+  adds = λ start c placed place. (placed, place, refl);
   apart = λ c. record { parameters = refl; prefixes = refl; servers = refl; names = refl; assigned = λ k. refl; solicited = refl; router = λ start'. refl; stream = λ start. refl };
   routers = λ c. refl;
 }
@@ -119,7 +131,44 @@ apart_others o = record {
   stream = o.stream;
 }
 
-module _ {R A : Type 0} (stream : R → Stream) (old : Node R A) (now : ℕ) (source destination : Addr) (body : Body) (options : List Said) (plain : IsPlain now source destination body options)
+-- what is told of a chronicle is told of one with the same text
+told_too : {A : Type 0} {c d : Chronicle} {x z : List (ℕ × Out A)} (e : Chronicle) → text e ≡ text d → Tells c d x z → Tells c e x z
+told_too e same t = record { newer = t.newer; text = same ∙ t.text; outs = t.outs }
+
+-- ---- the answer to a Router Solicitation
+
+pub text_planned : (now : ℕ) (start : Start) (before c : Chronicle) → text (planned now start before c) ≡ text c
+text_planned now start before c = by (wants_answer start before)
+  where
+    by : (wants : Bool) → text (planning start now wants c) ≡ text c
+    by true = append-nil (text c ++ []) ∙ append-nil (text c)
+    by false = refl
+
+-- a node that planned it, or had none to plan, stands for the chronicle
+pub stands_planned : {R A : Type 0} (stream : R → Stream) (start : Start) (old new : Node R A) (before c : Chronicle) (now : ℕ) (r : RouterTables A) (g : R) → new ≡ record old { router = r; generator = g } → advertising_history start c ≡ advertising_history start before
+    → Plans now (plans old.role old.router) (stream old.generator) (stream g) old.router r → last_moment start.at c ≡ now → Stands stream start old c → Stands stream start new (planned now start before c)
+stands_planned {R} {A} stream start old new before c now r g is same p at s = rw (is, sym wants_are) (by (plans old.role old.router) p.advertiser p.drawn)
+  where
+    wants_are : plans old.role old.router ≡ wants_answer start before
+    wants_are = ap (λ (role : Role). is_router role && wants_draw old.router.advertiser.advertising) s.role
+        ∙ ap (λ (wants : Bool). is_router start.role && wants) (draw_wanted old.router.advertiser (advertising_history start c) s.router.advertiser
+        ∙ ap wants_draw_of same)
+
+    by : (wants : Bool) → MatchBool wants (advertising.GainsRow old.router.advertiser r.advertiser (advertising_rows.Solicited now (answer_delay_drawn (stream old.generator)))) (r.advertiser ≡ old.router.advertiser)
+        → stream g ≡ (if wants then (next_u32 (stream old.generator)).1 else stream old.generator) → Stands stream start (record old { router = r; generator = g }) (planning start now wants c)
+    by true gains left =
+        let delay = answer_delay_drawn (stream_left start c) in
+        let drew : answer_delay_drawn (stream old.generator) ≡ delay = ap answer_delay_drawn s.generator in
+        let below : Chronicle = (now, Drew ForAnswer delay) ∷ c in
+        let d : Chronicle = (now, Planned delay) ∷ below in
+        stands_advertising stream start old c d
+        (aside_then start.at c below d (aside (DrawsDelay delay) now start.at c at) (aside (PlansAnswer delay) now start.at below refl)) s r g (advertising_rows.Solicited now delay) (sym at)
+        (subst (λ (x : ℕ). advertising.GainsRow old.router.advertiser r.advertiser (advertising_rows.Solicited now x)) drew gains) p.routes refl refl (left ∙ ap (λ (x : Stream). (next_u32 x).1) s.generator)
+    by false kept left = stands_aside stream start old c c (aside_same start.at c) s r g
+        (record { advertiser = rw kept s.router.advertiser; routes = rw p.routes s.router.routes; spaced = s.router.spaced }) (left ∙ s.generator)
+        (rw kept (advertisement_before old (last_moment start.at c) s.in_time))
+
+module _ {R A : Type 0} (stream : R → Stream) (old : Node R A) (now : ℕ) (source destination : Addr) (body : Body) (options : List Said) (behind : Start → Chronicle → Chronicle → Chronicle) (plain : IsPlain now source destination body options behind)
     (settled : now < next_of old) (times : Times) (news : Option News)
     (news_is : option_map (said_by times) news ≡ said_of_neighbour source body options times.reachable) (reachable_is : times.reachable ≡ old.params.reachable_time) where
   -- what is said is that of the chronicle
@@ -148,13 +197,15 @@ module _ {R A : Type 0} (stream : R → Stream) (old : Node R A) (now : ℕ) (so
         );
   }
 
-  module _ (new : Node R A) (x room y z : List (ℕ × Out A)) (ends : Bool) (heard : Out A)
+  module _ (new final : Node R A) (x room y z : List (ℕ × Out A)) (ends : Bool) (heard : Out A)
       (still : NoneOverdueStill) (table : OverdueByTable) (one_goes : OneGoes) (same : Still old new now) (routers_same : new.routers ≡ old.routers) (addresses_same : new.addresses ≡ old.addresses)
       (placed : (start : Start) (c : Chronicle) → Stands stream start old c → Placed start c now (entering (option_map (said_by times) news)) true)
       (reserved : room ≡ x) (told : y ≡ room ++ (now, heard) ∷ []) (heard_is : happening heard ≡ Heard source destination (record { body = body; options = [] }))
       (redirects : (history : List redirect_rows.RedirectRow) → choice.Stands old.choice history → choice.Stands new.choice (then_redirect now body history))
-      (hears : HearsOf old.neighbours.limit now (option_map (said_by times) news) old.neighbours.nodes new.neighbours.nodes y z ends) where
-    pub adds_message : AddsMessage stream old new x z now source destination (message_of body options)
+      (hears : HearsOf old.neighbours.limit now (option_map (said_by times) news) old.neighbours.nodes new.neighbours.nodes y z ends)
+      (follows : (start : Start) (before d : Chronicle) → advertising_history start d ≡ advertising_history start before → last_moment start.at d ≡ now → Stands stream start new d → Stands stream start final (behind start before d))
+      (silent : (start : Start) (before d : Chronicle) → text (behind start before d) ≡ text d) where
+    pub adds_message : AddsMessage stream old final x z now source destination (message_of body options)
     adds_message = record {
       each = λ start c s le takes.
           let later : Chronicle = (now, Passed) ∷ c in
@@ -199,9 +250,9 @@ module _ {R A : Type 0} (stream : R → Stream) (old : Node R A) (now : ℕ) (so
           } in
           let placed' : Placed start later now (entering this) true =
           subst (λ (o : Option (ℕ × rows.RowKind)). Placed start later now (entering o) true) this_is (placed_later start c now (option_map (said_by times) news) true (placed start c s)) in (
-            after,
-            (None, plain.fills start later None (record { neighbours = true; placed = rw (plain.needs_is later) placed'; first = refl }), plain.adds start later p.placed s.host p.place),
-            stands_quiet stream start new before after q stands_before,
-            Tells-then c before after x y z heard_text frames_text,
+            behind start later after,
+            (None, plain.fills start later None (record { neighbours = true; placed = rw (plain.needs_is later) placed'; first = refl }), plain.adds start later p.placed p.place),
+            follows start later after (ap (λ (p : List advertising_rows.Row × List route_rows.Row). p.0) (q.router start ∙ apart.router start)) (q.last start.at) (stands_quiet stream start new before after q stands_before),
+            told_too (behind start later after) (silent start later after) (Tells-then c before after x y z heard_text frames_text),
           );
     }

@@ -4,6 +4,7 @@ use Rattle.rand_core.specs.Stream.{Stream}
 use Rattle.nd_chronicle.specs.Start.{Start}
 use Rattle.nd_chronicle.specs.Happening.{Chronicle}
 use Rattle.nd_effects.proofs.Quiet.{Quiet}
+use Rattle.nd_effects.proofs.RouterSide.{side_stands}
 use Rattle.nd_node.specs.declared.node.Node.{Node}
 use Rattle.nd_node.specs.Node.{Stands}
 
@@ -28,6 +29,7 @@ stands_quiet stream start node c d q s = record {
     sent = rw q.solicited s.solicitations.sent;
     heard = rw q.parameters s.solicitations.heard;
   };
+  router = side_stands start node.router c d (q.router start) s.router;
   generator = s.generator ∙ sym (q.stream start);
   last = s.last ∙ sym (q.last start.at);
   prefixes_by_then = rw (q.prefixes, q.last start.at) s.prefixes_by_then;

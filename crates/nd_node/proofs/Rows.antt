@@ -12,6 +12,10 @@ pub on_ok : {T E : Type 0} (r : Result T E) (P Q : Type 0) → (P → Q) → OnO
 on_ok (Ok x) P Q f h = f h
 on_ok (Err e) P Q f h = tt
 
+pub if_ok : {T E : Type 0} (r : Result T E) (P Q : T → Type 0) → ((x : T) → P x → Q x) → IfOk r P → IfOk r Q
+if_ok (Ok x) P Q f h = f x h
+if_ok (Err e) P Q f h = tt
+
 module _ {R A V E : Type 0} (stream : R → Stream) (node : Node R A) (now : ℕ) (shown table : Table) (same : shown ≡ table) (bytes : V → List (List ℕ)) (Given : Start → Chronicle → Type 0) where
   -- rows of a table that stands for its history are those of a node that stands for the chronicle
   pub rows_shown : (result : Result V E) → IfOk result (λ rows. (start : Start) (c : Chronicle) → Given start c → AreRows start c now table (bytes rows))

@@ -18,9 +18,10 @@ use Rattle.nd_chronicle.specs.Generator.{stream_left}
 use Rattle.nd_chronicle.specs.Due.{solicited_routers, assigned_at}
 use Rattle.nd_effects.specs.Router.{router_side}
 use Rattle.nd_effects.proofs.Quiet.{Quiet}
+use Rattle.nd_effects.proofs.RouterSide.{side_stands}
 use Rattle.nd_node.specs.declared.node.Node.{Node}
 use Rattle.nd_node.specs.Node.{Stands, next_of}
-use Rattle.nd_node.proofs.Turns.{all_later, solicitation_before, redraw_before}
+use Rattle.nd_node.proofs.Turns.{all_later, solicitation_before, advertisement_before, redraw_before}
 
 -- what happened between the two concerns none of these, assigned no address, and drew nothing
 pub record Apart (c d : Chronicle) : Type 0 where
@@ -66,6 +67,7 @@ pub record Still {R A : Type 0} (old new : Node R A) (now : ℕ) : Type 0 where
   pub prefixes : new.prefixes ≡ old.prefixes
   pub dns : new.dns ≡ old.dns
   pub solicitations : new.solicitations ≡ old.solicitations
+  pub router : new.router ≡ old.router
   pub address_mac : new.addresses.mac ≡ old.addresses.mac
   pub neighbour_limit : new.neighbours.limit ≡ old.neighbours.limit
   pub router_limit : new.routers.limit ≡ old.routers.limit
@@ -101,11 +103,12 @@ module _ {R A : Type 0} (stream : R → Stream) (start : Start) (old new : Node 
       sent = s.solicitations.sent ∙ sym b.solicited;
       heard = rw b.parameters s.solicitations.heard;
     });
+    router = rw same.router (side_stands start old.router c d (b.router start) s.router);
     generator = ap stream same.generator ∙ (s.generator ∙ sym (b.stream start));
     last = same.last ∙ sym end;
     prefixes_by_then = rw (b.prefixes, end) (omega (arith, s.prefixes_by_then, came));
     servers_by_then = rw (b.servers, end) (omega (arith, s.servers_by_then, came));
     names_by_then = rw (b.names, end) (omega (arith, s.names_by_then, came));
     in_time = rw end (all_later new now later_router later_address later_neighbour
-        (rw (same.role, same.solicitations) (solicitation_before old now not_past)) (rw same.params (redraw_before old now not_past)));
+        (rw (same.role, same.solicitations) (solicitation_before old now not_past)) (rw (same.role, same.router) (advertisement_before old now not_past)) (rw same.params (redraw_before old now not_past)));
   }

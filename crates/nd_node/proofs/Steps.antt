@@ -3,7 +3,6 @@ use Rattle.std.proofs.Common.{◌≡◌, ℕ, suc, ◌<◌, ◌≤◌, Bool, tru
 use Rattle.std.specs.Prelude.{nat_lt, MatchBool}
 use Rattle.std.proofs.lemmas.Bool.{lt-ltb}
 use Rattle.rand_core.specs.Stream.{Stream}
-use Rattle.nd_addr.specs.declared.role.Role.TheVariants.{Host}
 use Rattle.nd_chronicle.specs.Start.{Start}
 use Rattle.nd_chronicle.specs.Happening.{Chronicle, Passed, Shown, TooLate, last_moment}
 use Rattle.nd_chronicle.specs.Shown as shown
@@ -17,6 +16,7 @@ use Rattle.nd_out.specs.declared.out.Out.{Out}
 use Rattle.nd_out.specs.Out.{happening}
 use Rattle.nd_effects.specs.Told.{happenings}
 use Rattle.nd_effects.proofs.Quiet.{Quiet}
+use Rattle.nd_effects.proofs.RouterSide.{side_stands}
 use Rattle.nd_effects.proofs.Telling.{one, above_silent, Tells-then, one_more}
 use Rattle.nd_node.specs.declared.node.Node.{Node}
 use Rattle.nd_node.specs.Node.{Stands, next_of}
@@ -45,6 +45,7 @@ passed stream start old new c now s le settled is = rw is (record {
   dns = s.dns;
   redirects = s.redirects;
   solicitations = record { assigned = s.solicitations.assigned; sent = s.solicitations.sent; heard = s.solicitations.heard };
+  router = side_stands start old.router c ((now, Passed) ∷ c) refl s.router;
   generator = s.generator;
   last = refl;
   prefixes_by_then = omega (arith, s.prefixes_by_then, le);
@@ -133,11 +134,14 @@ showing stream old new x y now table rows out out_is are settled is told = recor
 -- ---- an event comes
 
 -- the moments of a walk are not above its end
-walk_last : (start : Start) (c d : Chronicle) (moment end : ℕ) → start.role ≡ Host → Walk start c moment end d → last_moment start.at c ≤ end → last_moment start.at d ≤ end
-walk_last start c d moment end host (over past) le = le
-walk_last start c d moment end host (adds what soon due rest) le =
-    walk_last start (comes start moment what c) d moment end host rest (rw (last_of start c moment what host due) soon)
-walk_last start c d moment end host (passes soon due rest) le = walk_last start c d (suc moment) end host rest le
+walk_last : (start : Start) (c d : Chronicle) (moment end : ℕ) → Walk start c moment end d → last_moment start.at c ≤ end → last_moment start.at d ≤ end
+walk_last start c d moment end (over past) le = le
+walk_last start c d moment end (adds what soon due rest) le =
+    walk_last start (comes start moment what c) d moment end rest (rw (last_of start c moment what due) soon)
+walk_last start c d moment end (passes soon due rest) le = walk_last start c d (suc moment) end rest le
+
+not_before : (now last : ℕ) → last ≤ now → nat_lt now last ≡ false
+not_before now last le = grind (arith, le)
 
 by_false : (b : Bool) (P Q : Type 0) → b ≡ false → Q → MatchBool b P Q
 by_false b P Q is q = subst (λ (x : Bool). MatchBool x P Q) (sym is) q
@@ -169,9 +173,9 @@ follows stream old mid new x y z now event le settled added = record {
   each = λ start c s.
       let came : last_moment start.at c ≤ now = omega (arith, le, s.last) in
       let e = settled.each start c s in
-      let d = added.each start e.0 e.2 (walk_last start c e.0 (last_moment start.at c) now s.host e.1 came) in (
+      let d = added.each start e.0 e.2 (walk_last start c e.0 (last_moment start.at c) now e.1 came) in (
         d.0,
-        by_false (nat_lt now (last_moment start.at c)) _ _ (grind (arith, came)) (e.0, e.1, d.1),
+        by_false (nat_lt now (last_moment start.at c)) _ _ (not_before now (last_moment start.at c) came) (e.0, e.1, d.1),
         d.2,
         Tells-then c e.0 d.0 x y z e.3 d.3,
       );

@@ -20,22 +20,31 @@ use Rattle.nd_params.specs.History as parameter_rows
 use Rattle.nd_params.specs.History.{redraw_after}
 use Rattle.nd_params.specs.Params as parameters
 use Rattle.nd_nexthop.specs.History as redirect_rows
-use Rattle.nd_advertiser.specs.Advertising as advertising
+use Rattle.nd_advertiser.proofs.ByRows.{settings_are}
+use Rattle.nd_advertiser.specs.Advertising.{advertised_by}
+use Rattle.nd_advertiser.specs.Config.{Settings}
+use Rattle.nd_advertiser.specs.History as advertising_rows
+use Rattle.nd_advertiser.specs.Overdue.{IsOf}
+use Rattle.nd_advertiser.specs.Table as advertising
 use Rattle.nd_nexthop.specs.Choice as choice
 use Rattle.nd_chronicle.specs.Start.{Start, link_local_key}
-use Rattle.nd_chronicle.specs.Happening.{Chronicle, Neighbour, Address, LeftRouter, SolicitedRouters, Unreachable, last_moment}
+use Rattle.nd_chronicle.specs.Advertising.{advertising_by}
+use Rattle.nd_chronicle.specs.Happening.{Advertised, Chronicle, Drew, ForInterval, Neighbour, Address, LeftRouter, SolicitedRouters, Unreachable, last_moment}
 use Rattle.nd_chronicle.specs.Histories.{advertising_history, parameter_history, neighbour_history, router_history, prefix_history, address_history, server_history, name_history, redirect_history, then_failed, then_target}
 use Rattle.nd_chronicle.specs.InForce.{next_redraw}
-use Rattle.nd_chronicle.specs.Generator.{stream_left, reachable_drawn}
-use Rattle.nd_chronicle.specs.Due.{NoAdvertisement, RouterEnds, AddressFalls, NeighbourFalls, RoutersSolicited, Redraws, comes, max_rtr_solicitations, router_solicitation_date, rtr_solicitation_interval, is_host, solicited_routers, assigned_at}
+use Rattle.nd_chronicle.specs.Generator.{stream_left, interval_drawn, reachable_drawn}
+use Rattle.nd_chronicle.specs.Due.{RouterEnds, AddressFalls, NeighbourFalls, RoutersSolicited, RouterAdvertises, Redraws, comes, max_rtr_solicitations, router_solicitation_date, rtr_solicitation_interval, is_host, solicited_routers, assigned_at}
 use Rattle.nd_effects.specs.RouterSolicitations as solicitations
 use Rattle.nd_effects.specs.RouterSolicitations.{Solicitations, next_solicitation, after_address}
+use Rattle.nd_effects.specs.Router as router_only
+use Rattle.nd_effects.specs.Router.{Advertises, NotesAddress, next_advertisement}
 use Rattle.nd_effects.specs.LostHop.{Notes, with_failure, with_lost_target}
+use Rattle.nd_effects.proofs.RouterSide.{advertisement_date, later_row, side_stands, stands_address, stands_row}
 use Rattle.nd_effects.proofs.Quiet.{sent_is_quiet, losing_is_quiet}
 use Rattle.nd_node.specs.declared.node.Node.{Node}
 use Rattle.nd_node.specs.Moments.{earlier}
 use Rattle.nd_node.specs.Node.{Stands, NextDue, next_of}
-use Rattle.nd_node.proofs.Moments.{no_router, no_address, no_neighbour, none_at, before_second, none_before, before_routers, before_addresses, before_neighbours, before_solicitation, before_redraw, at_redraw}
+use Rattle.nd_node.proofs.Moments.{no_router, no_address, no_neighbour, none_at, before_second, none_before, before_routers, before_addresses, before_neighbours, before_solicitation, before_advertisement, before_redraw, at_redraw}
 use Rattle.nd_node.proofs.Quiet.{stands_quiet}
 
 -- ---- the dates of a node
@@ -43,27 +52,30 @@ use Rattle.nd_node.proofs.Quiet.{stands_quiet}
 module _ {R A : Type 0} (node : Node R A) (now : ℕ) where
   -- nothing is due at a node before the moment
   pub all_later : routers.NoneBefore node.routers.entries now → address_dates.NoneBefore node.addresses.addresses now → neighbours_due.NoneBefore node.neighbours.nodes now
-      → NotBefore now (next_solicitation node.role node.solicitations) → now ≤ node.params.drawn_at + redraw_after → now ≤ next_of node
-  all_later r a n s d =
+      → NotBefore now (next_solicitation node.role node.solicitations) → NotBefore now (next_advertisement node.role node.router) → now ≤ node.params.drawn_at + redraw_after → now ≤ next_of node
+  all_later r a n s v d =
       none_before now (routers.next_end node.routers.entries) (address_dates.next_in node.addresses.addresses) (neighbours_due.next_in node.neighbours.nodes)
-      (next_solicitation node.role node.solicitations) (node.params.drawn_at + redraw_after) r a n s d
+      (next_solicitation node.role node.solicitations) (next_advertisement node.role node.router) (node.params.drawn_at + redraw_after) r a n s v d
 
 -- the dates of a node at which something is due, or of which nothing was due before
 module _ {R A : Type 0} (node : Node R A) (now : ℕ) (h : now ≤ next_of node) where
   pub routers_before : routers.NoneBefore node.routers.entries now
-  routers_before = before_routers now (routers.next_end node.routers.entries) (address_dates.next_in node.addresses.addresses) (neighbours_due.next_in node.neighbours.nodes) (next_solicitation node.role node.solicitations) (node.params.drawn_at + redraw_after) h
+  routers_before = before_routers now (routers.next_end node.routers.entries) (address_dates.next_in node.addresses.addresses) (neighbours_due.next_in node.neighbours.nodes) (next_solicitation node.role node.solicitations) (next_advertisement node.role node.router) (node.params.drawn_at + redraw_after) h
 
   pub addresses_before : address_dates.NoneBefore node.addresses.addresses now
-  addresses_before = before_addresses now (routers.next_end node.routers.entries) (address_dates.next_in node.addresses.addresses) (neighbours_due.next_in node.neighbours.nodes) (next_solicitation node.role node.solicitations) (node.params.drawn_at + redraw_after) h
+  addresses_before = before_addresses now (routers.next_end node.routers.entries) (address_dates.next_in node.addresses.addresses) (neighbours_due.next_in node.neighbours.nodes) (next_solicitation node.role node.solicitations) (next_advertisement node.role node.router) (node.params.drawn_at + redraw_after) h
 
   pub neighbours_before : neighbours_due.NoneBefore node.neighbours.nodes now
-  neighbours_before = before_neighbours now (routers.next_end node.routers.entries) (address_dates.next_in node.addresses.addresses) (neighbours_due.next_in node.neighbours.nodes) (next_solicitation node.role node.solicitations) (node.params.drawn_at + redraw_after) h
+  neighbours_before = before_neighbours now (routers.next_end node.routers.entries) (address_dates.next_in node.addresses.addresses) (neighbours_due.next_in node.neighbours.nodes) (next_solicitation node.role node.solicitations) (next_advertisement node.role node.router) (node.params.drawn_at + redraw_after) h
 
   pub solicitation_before : NotBefore now (next_solicitation node.role node.solicitations)
-  solicitation_before = before_solicitation now (routers.next_end node.routers.entries) (address_dates.next_in node.addresses.addresses) (neighbours_due.next_in node.neighbours.nodes) (next_solicitation node.role node.solicitations) (node.params.drawn_at + redraw_after) h
+  solicitation_before = before_solicitation now (routers.next_end node.routers.entries) (address_dates.next_in node.addresses.addresses) (neighbours_due.next_in node.neighbours.nodes) (next_solicitation node.role node.solicitations) (next_advertisement node.role node.router) (node.params.drawn_at + redraw_after) h
+
+  pub advertisement_before : NotBefore now (next_advertisement node.role node.router)
+  advertisement_before = before_advertisement now (routers.next_end node.routers.entries) (address_dates.next_in node.addresses.addresses) (neighbours_due.next_in node.neighbours.nodes) (next_solicitation node.role node.solicitations) (next_advertisement node.role node.router) (node.params.drawn_at + redraw_after) h
 
   pub redraw_before : now ≤ node.params.drawn_at + redraw_after
-  redraw_before = before_redraw now (routers.next_end node.routers.entries) (address_dates.next_in node.addresses.addresses) (neighbours_due.next_in node.neighbours.nodes) (next_solicitation node.role node.solicitations) (node.params.drawn_at + redraw_after) h
+  redraw_before = before_redraw now (routers.next_end node.routers.entries) (address_dates.next_in node.addresses.addresses) (neighbours_due.next_in node.neighbours.nodes) (next_solicitation node.role node.solicitations) (next_advertisement node.role node.router) (node.params.drawn_at + redraw_after) h
 
 -- ---- Router Solicitations
 
@@ -77,15 +89,6 @@ solicitation_date stream start node c s =
     ∙ (ap (λ a. date_by start.role a node.solicitations.sent node.solicitations.heard) s.solicitations.assigned
     ∙ (ap (λ n. date_by start.role (assigned_at (link_local_key start) (address_history c)) n node.solicitations.heard) s.solicitations.sent
     ∙ ap (λ h. date_by start.role (assigned_at (link_local_key start) (address_history c)) (solicited_routers c) h) s.solicitations.heard))
-
--- ---- Router Advertisements
-
--- a host sends none
-pub no_advertisement : (start : Start) (c : Chronicle) (moment : ℕ) → start.role ≡ Host → NoAdvertisement start c moment
-no_advertisement start c moment host =
-    subst (λ (r : Role). (if is_host r then None else advertising.next_of (advertising_history start c)) ≢ Some moment) (sym host) (λ is. let no : ⊥ = cc in no)
-
--- ---- Router Solicitations
 
 -- the one after it comes later
 pub solicited_later : (role : Role) (s : Solicitations) (now : ℕ) → next_solicitation role s ≡ Some now → NotBefore now (next_solicitation role (record s { sent = s.sent + 1 }))
@@ -149,9 +152,9 @@ module _ {R A : Type 0} (stream : R → Stream) (start : Start) (old new : Node 
   -- the tables stand for one more row that tells nothing of prefixes, servers and names
   then_row : (d : Chronicle) → last_moment start.at d ≡ now → prefix_history d ≡ prefix_history c → server_history d ≡ server_history c → name_history d ≡ name_history c
       → parameters.Stands new.params (parameter_history d) → routers.Stands new.routers (router_history d) → addresses.Stands new.addresses.addresses (address_history d)
-      → neighbours.Stands new.neighbours.nodes (neighbour_history d) → choice.Stands new.choice (redirect_history d) → solicitations.Stands start new.solicitations d
+      → neighbours.Stands new.neighbours.nodes (neighbour_history d) → choice.Stands new.choice (redirect_history d) → solicitations.Stands start new.solicitations d → router_only.Stands start new.router d
       → stream new.generator ≡ stream_left start d → now ≤ next_of new → Stands stream start new d
-  then_row d at p v n params routers' addresses' neighbours' redirects' solicitations' generator' later = record {
+  then_row d at p v n params routers' addresses' neighbours' redirects' solicitations' router' generator' later = record {
     role = turns.role ∙ s.role;
     host = s.host;
     mac = turns.mac ∙ s.mac;
@@ -166,6 +169,7 @@ module _ {R A : Type 0} (stream : R → Stream) (start : Start) (old new : Node 
     dns = rw (turns.dns, v, n) s.dns;
     redirects = redirects';
     solicitations = solicitations';
+    router = router';
     generator = generator';
     last = turns.last ∙ sym at;
     prefixes_by_then = rw (p, at) (omega (arith, s.prefixes_by_then, came));
@@ -177,9 +181,9 @@ module _ {R A : Type 0} (stream : R → Stream) (start : Start) (old new : Node 
   -- a router's lifetime ended
   pub router_ended : (key : ℕ) → routers.GainsRow old.routers new.routers (router_rows.LeftList now key) → routers.NoneBefore new.routers.entries now
       → choice.GainsRow old.choice new.choice (redirect_rows.TargetGone now key)
-      → new.addresses ≡ old.addresses → new.neighbours ≡ old.neighbours → new.params ≡ old.params → new.solicitations ≡ old.solicitations → stream new.generator ≡ stream old.generator
+      → new.addresses ≡ old.addresses → new.neighbours ≡ old.neighbours → new.params ≡ old.params → new.solicitations ≡ old.solicitations → new.router ≡ old.router → stream new.generator ≡ stream old.generator
       → Stands stream start new (comes start now (RouterEnds key) c)
-  router_ended key gains later redirects' addresses' neighbours' params' solicitations' generator =
+  router_ended key gains later redirects' addresses' neighbours' params' solicitations' side generator =
       then_row ((now, LeftRouter key) ∷ c) refl refl refl refl
       (rw params' s.params)
       (gains.stands (router_history c) s.routers)
@@ -187,15 +191,18 @@ module _ {R A : Type 0} (stream : R → Stream) (start : Start) (old new : Node 
       (rw neighbours' s.neighbours)
       (redirects'.stands (redirect_history c) s.redirects)
       (rw solicitations' (record { assigned = s.solicitations.assigned; sent = s.solicitations.sent; heard = s.solicitations.heard }))
+      (rw side (side_stands start old.router c ((now, LeftRouter key) ∷ c) refl s.router))
       (generator ∙ s.generator)
-      (all_later new now later (rw addresses' (addresses_before old now not_past)) (rw neighbours' (neighbours_before old now not_past)) (rw (turns.role, solicitations') (solicitation_before old now not_past)) (rw params' (redraw_before old now not_past)))
+      (all_later new now later (rw addresses' (addresses_before old now not_past)) (rw neighbours' (neighbours_before old now not_past)) (rw (turns.role, solicitations') (solicitation_before old now not_past))
+      (rw (turns.role, side) (advertisement_before old now not_past)) (rw params' (redraw_before old now not_past)))
 
   -- an own address ended, or its detection took a step
   address_row : (falls : addresses_due.Falls) → new.routers ≡ old.routers → new.choice ≡ old.choice
       → addresses.GainsRow old.addresses.addresses new.addresses.addresses (addresses_due.due_row now falls) → address_dates.NoneBefore new.addresses.addresses now
-      → new.neighbours ≡ old.neighbours → new.params ≡ old.params → new.solicitations ≡ after_address (link_local_key start) now falls old.solicitations → stream new.generator ≡ stream old.generator
+      → new.neighbours ≡ old.neighbours → new.params ≡ old.params → new.solicitations ≡ after_address (link_local_key start) now falls old.solicitations → NotesAddress (link_local_key start) now falls old.router new.router → stream new.generator ≡ stream old.generator
       → Stands stream start new ((now, Address (addresses_due.key_in falls) (addresses_due.happens falls)) ∷ c)
-  address_row falls routers' choice' gains later neighbours' params' solicitations' generator =
+  address_row falls routers' choice' gains later neighbours' params' solicitations' notes generator =
+      let side = stands_address start old.role old.router new.router c now falls s.role notes s.router (advertisement_before old now not_past) in
       then_row ((now, Address (addresses_due.key_in falls) (addresses_due.happens falls)) ∷ c) refl refl refl refl
       (rw params' s.params)
       (rw routers' s.routers)
@@ -203,26 +210,27 @@ module _ {R A : Type 0} (stream : R → Stream) (start : Start) (old new : Node 
       (rw neighbours' s.neighbours)
       (rw choice' s.redirects)
       (rw solicitations' (addressed_stands start now falls old.solicitations c s.solicitations))
+      side.0
       (generator ∙ s.generator)
       (all_later new now (rw routers' (routers_before old now not_past)) later (rw neighbours' (neighbours_before old now not_past))
-      (rw (turns.role, solicitations') (addressed_later old.role (link_local_key start) now falls old.solicitations (solicitation_before old now not_past))) (rw params' (redraw_before old now not_past)))
+      (rw (turns.role, solicitations') (addressed_later old.role (link_local_key start) now falls old.solicitations (solicitation_before old now not_past))) (rw turns.role side.1) (rw params' (redraw_before old now not_past)))
 
   pub address_fell : (falls : addresses_due.Falls) → new.routers ≡ old.routers → new.choice ≡ old.choice
       → addresses.GainsRow old.addresses.addresses new.addresses.addresses (addresses_due.due_row now falls) → address_dates.NoneBefore new.addresses.addresses now
-      → new.neighbours ≡ old.neighbours → new.params ≡ old.params → new.solicitations ≡ after_address (link_local_key start) now falls old.solicitations → stream new.generator ≡ stream old.generator
+      → new.neighbours ≡ old.neighbours → new.params ≡ old.params → new.solicitations ≡ after_address (link_local_key start) now falls old.solicitations → NotesAddress (link_local_key start) now falls old.router new.router → stream new.generator ≡ stream old.generator
       → Stands stream start new (comes start now (AddressFalls falls) c)
-  address_fell (addresses_due.Ends key) r ch g l n p sol gen = address_row (addresses_due.Ends key) r ch g l n p sol gen
-  address_fell (addresses_due.Solicits key) r ch g l n p sol gen =
-      stands_quiet stream start new _ _ (sent_is_quiet now _ _ (λ at. refl)) (address_row (addresses_due.Solicits key) r ch g l n p sol gen)
-  address_fell (addresses_due.Assigns key) r ch g l n p sol gen = address_row (addresses_due.Assigns key) r ch g l n p sol gen
+  address_fell (addresses_due.Ends key) r ch g l n p sol notes gen = address_row (addresses_due.Ends key) r ch g l n p sol notes gen
+  address_fell (addresses_due.Solicits key) r ch g l n p sol notes gen =
+      stands_quiet stream start new _ _ (sent_is_quiet now _ _ (λ at. refl)) (address_row (addresses_due.Solicits key) r ch g l n p sol notes gen)
+  address_fell (addresses_due.Assigns key) r ch g l n p sol notes gen = address_row (addresses_due.Assigns key) r ch g l n p sol notes gen
 
   -- a row of a neighbour
   neighbour_row : (key : ℕ) (kind : neighbour_rows.RowKind) (mid : routers.Table) → mid.entries ≡ old.routers.entries → new.routers.entries ≡ mid.entries
       → routers.Stands new.routers (then_failed now key kind (router_history c)) → choice.Stands new.choice (then_target now key kind (redirect_history c))
       → neighbours.GainsRow old.neighbours.nodes new.neighbours.nodes (now, key, kind) → neighbours_due.NoneBefore new.neighbours.nodes now
-      → new.addresses ≡ old.addresses → new.params ≡ old.params → new.solicitations ≡ old.solicitations → stream new.generator ≡ stream old.generator
+      → new.addresses ≡ old.addresses → new.params ≡ old.params → new.solicitations ≡ old.solicitations → new.router ≡ old.router → stream new.generator ≡ stream old.generator
       → Stands stream start new ((now, Neighbour key kind) ∷ c)
-  neighbour_row key kind mid mid_is entries routers' redirects' gains later addresses' params' solicitations' generator =
+  neighbour_row key kind mid mid_is entries routers' redirects' gains later addresses' params' solicitations' side generator =
       then_row ((now, Neighbour key kind) ∷ c) refl refl refl refl
       (rw params' s.params)
       routers'
@@ -230,33 +238,34 @@ module _ {R A : Type 0} (stream : R → Stream) (start : Start) (old new : Node 
       (gains.stands (neighbour_history c) s.neighbours)
       redirects'
       (rw solicitations' (record { assigned = s.solicitations.assigned; sent = s.solicitations.sent; heard = s.solicitations.heard }))
+      (rw side (side_stands start old.router c ((now, Neighbour key kind) ∷ c) refl s.router))
       (generator ∙ s.generator)
       (all_later new now (rw (entries, mid_is) (routers_before old now not_past)) (rw addresses' (addresses_before old now not_past)) later
-      (rw (turns.role, solicitations') (solicitation_before old now not_past)) (rw params' (redraw_before old now not_past)))
+      (rw (turns.role, solicitations') (solicitation_before old now not_past)) (rw (turns.role, side) (advertisement_before old now not_past)) (rw params' (redraw_before old now not_past)))
 
   -- a neighbour is asked once more, or is gone
   pub neighbour_fell : (falls : neighbours_due.Falls) (mid : routers.Table) (kept : List (ℕ × Option ℕ)) → mid ≡ old.routers → kept ≡ old.choice → Notes now falls mid new.routers kept new.choice → new.routers.entries ≡ mid.entries
       → new.addresses ≡ old.addresses → neighbours.GainsRow old.neighbours.nodes new.neighbours.nodes (neighbours_due.due_row now falls) → neighbours_due.NoneBefore new.neighbours.nodes now
-      → new.params ≡ old.params → new.solicitations ≡ old.solicitations → stream new.generator ≡ stream old.generator
+      → new.params ≡ old.params → new.solicitations ≡ old.solicitations → new.router ≡ old.router → stream new.generator ≡ stream old.generator
       → Stands stream start new (comes start now (NeighbourFalls falls) c)
-  neighbour_fell falls mid kept mid_is kept_is notes entries addresses' gains later params' solicitations' generator = by_kind falls gains (notes.routers (router_history c) (rw mid_is s.routers)) (notes.redirects (redirect_history c) (rw kept_is s.redirects))
+  neighbour_fell falls mid kept mid_is kept_is notes entries addresses' gains later params' solicitations' side generator = by_kind falls gains (notes.routers (router_history c) (rw mid_is s.routers)) (notes.redirects (redirect_history c) (rw kept_is s.redirects))
     where
       by_kind : (falls : neighbours_due.Falls) → neighbours.GainsRow old.neighbours.nodes new.neighbours.nodes (neighbours_due.due_row now falls)
           → routers.Stands new.routers (with_failure now falls (router_history c)) → choice.Stands new.choice (with_lost_target now falls (redirect_history c))
           → Stands stream start new (comes start now (NeighbourFalls falls) c)
       by_kind (neighbours_due.Multicasts key) g r t =
-          stands_quiet stream start new _ _ (sent_is_quiet now _ _ (λ at. refl)) (neighbour_row key neighbour_rows.Solicited mid (ap (λ (x : routers.Table). x.entries) mid_is) entries r t g later addresses' params' solicitations' generator)
+          stands_quiet stream start new _ _ (sent_is_quiet now _ _ (λ at. refl)) (neighbour_row key neighbour_rows.Solicited mid (ap (λ (x : routers.Table). x.entries) mid_is) entries r t g later addresses' params' solicitations' side generator)
       by_kind (neighbours_due.Unicasts key mac) g r t =
-          stands_quiet stream start new _ _ (sent_is_quiet now _ _ (λ at. refl)) (neighbour_row key neighbour_rows.Probed mid (ap (λ (x : routers.Table). x.entries) mid_is) entries r t g later addresses' params' solicitations' generator)
+          stands_quiet stream start new _ _ (sent_is_quiet now _ _ (λ at. refl)) (neighbour_row key neighbour_rows.Probed mid (ap (λ (x : routers.Table). x.entries) mid_is) entries r t g later addresses' params' solicitations' side generator)
       by_kind (neighbours_due.Fails key packets) g r t =
-          stands_quiet stream start new _ _ (losing_is_quiet now Unreachable packets _ (λ at. refl)) (neighbour_row key (neighbour_rows.Forgot neighbour_rows.Failed) mid (ap (λ (x : routers.Table). x.entries) mid_is) entries r t g later addresses' params' solicitations' generator)
-      by_kind (neighbours_due.Ages key) g r t = neighbour_row key (neighbour_rows.Forgot neighbour_rows.Aged) mid (ap (λ (x : routers.Table). x.entries) mid_is) entries r t g later addresses' params' solicitations' generator
+          stands_quiet stream start new _ _ (losing_is_quiet now Unreachable packets _ (λ at. refl)) (neighbour_row key (neighbour_rows.Forgot neighbour_rows.Failed) mid (ap (λ (x : routers.Table). x.entries) mid_is) entries r t g later addresses' params' solicitations' side generator)
+      by_kind (neighbours_due.Ages key) g r t = neighbour_row key (neighbour_rows.Forgot neighbour_rows.Aged) mid (ap (λ (x : routers.Table). x.entries) mid_is) entries r t g later addresses' params' solicitations' side generator
 
   -- a Router Solicitation is sent
   pub routers_solicited : next_solicitation old.role old.solicitations ≡ Some now → new.routers ≡ old.routers → new.choice ≡ old.choice → new.addresses ≡ old.addresses → new.neighbours ≡ old.neighbours → new.params ≡ old.params
-      → new.solicitations ≡ record old.solicitations { sent = old.solicitations.sent + 1 } → stream new.generator ≡ stream old.generator
+      → new.solicitations ≡ record old.solicitations { sent = old.solicitations.sent + 1 } → new.router ≡ old.router → stream new.generator ≡ stream old.generator
       → Stands stream start new (comes start now RoutersSolicited c)
-  routers_solicited date routers' choice' addresses' neighbours' params' solicitations' generator =
+  routers_solicited date routers' choice' addresses' neighbours' params' solicitations' side generator =
       stands_quiet stream start new _ _ (sent_is_quiet now _ _ (λ at. refl))
       (then_row ((now, SolicitedRouters) ∷ c) refl refl refl refl
       (rw params' s.params)
@@ -265,16 +274,45 @@ module _ {R A : Type 0} (stream : R → Stream) (start : Start) (old new : Node 
       (rw neighbours' s.neighbours)
       (rw choice' s.redirects)
       (rw solicitations' (record { assigned = s.solicitations.assigned; sent = ap (λ n. n + 1) s.solicitations.sent; heard = s.solicitations.heard }))
+      (rw side (side_stands start old.router c ((now, SolicitedRouters) ∷ c) refl s.router))
       (generator ∙ s.generator)
       (all_later new now (rw routers' (routers_before old now not_past)) (rw addresses' (addresses_before old now not_past)) (rw neighbours' (neighbours_before old now not_past))
-      (rw (turns.role, solicitations') (solicited_later old.role old.solicitations now date)) (rw params' (redraw_before old now not_past))))
+      (rw (turns.role, solicitations') (solicited_later old.role old.solicitations now date)) (rw (turns.role, side) (advertisement_before old now not_past)) (rw params' (redraw_before old now not_past))))
+
+  -- a Router Advertisement is sent, and the time until the next one is drawn
+  pub router_advertised : next_advertisement old.role old.router ≡ Some now → new.routers ≡ old.routers → new.choice ≡ old.choice → new.addresses ≡ old.addresses → new.neighbours ≡ old.neighbours → new.params ≡ old.params
+      → new.solicitations ≡ old.solicitations → Advertises now (stream old.generator) (stream new.generator) old.router new.router → Stands stream start new (comes start now RouterAdvertises c)
+  router_advertised date routers' choice' addresses' neighbours' params' solicitations' sent =
+      let in_force : advertised_by (advertising_history start c) ≡ Some sent.settings = sym (settings_are old.router.advertiser (advertising_history start c) s.router.advertiser) ∙ sent.in_force in
+      let drew : interval_drawn sent.settings (stream old.generator) ≡ interval_drawn sent.settings (stream_left start c) = ap (λ (x : Stream). interval_drawn sent.settings x) s.generator in
+      let interval = interval_drawn sent.settings (stream_left start c) in
+      let row = advertising_rows.Sent now interval in
+      let is : IsOf now row = (refl, subst (λ (x : ℕ). 0 < x) drew sent.positive) in
+      let below : Chronicle = (now, Advertised interval) ∷ (now, Drew ForInterval interval) ∷ c in
+      let side : router_only.Stands start new.router below = stands_row start old.router new.router c below now row is
+      (subst (λ (x : ℕ). advertising.GainsRow old.router.advertiser new.router.advertiser (advertising_rows.Sent now x)) drew sent.gains) sent.routes refl refl s.router in
+      subst (λ (x : Option Settings). Stands stream start new (advertising_by start now x c)) (sym in_force)
+      (stands_quiet stream start new _ _ (sent_is_quiet now _ _ (λ at. refl))
+      (then_row below refl refl refl refl
+      (rw params' s.params)
+      (rw routers' s.routers)
+      (rw addresses' s.addresses)
+      (rw neighbours' s.neighbours)
+      (rw choice' s.redirects)
+      (rw solicitations' (record { assigned = s.solicitations.assigned; sent = s.solicitations.sent; heard = s.solicitations.heard }))
+      side
+      (sent.drawn ∙ ap (λ (x : Stream). (next_u32 x).1) s.generator)
+      (all_later new now (rw routers' (routers_before old now not_past)) (rw addresses' (addresses_before old now not_past)) (rw neighbours' (neighbours_before old now not_past))
+      (rw (turns.role, solicitations') (solicitation_before old now not_past))
+      (rw turns.role (later_row start old.role old.router new.router c below now row is s.role refl s.router side (advertisement_before old now not_past)))
+      (rw params' (redraw_before old now not_past)))))
 
   -- ReachableTime is drawn again
-  pub redrawn : new.routers ≡ old.routers → new.choice ≡ old.choice → new.addresses ≡ old.addresses → new.neighbours ≡ old.neighbours → new.solicitations ≡ old.solicitations
+  pub redrawn : new.routers ≡ old.routers → new.choice ≡ old.choice → new.addresses ≡ old.addresses → new.neighbours ≡ old.neighbours → new.solicitations ≡ old.solicitations → new.router ≡ old.router
       → parameters.GainsRows old.params new.params (λ history. parameter_rows.Drew now (reachable_drawn old.params.base_reachable_time (stream old.generator)) ∷ history) → new.params.drawn_at ≡ now
       → stream new.generator ≡ (next_u32 (stream old.generator)).1
       → Stands stream start new (comes start now Redraws c)
-  redrawn routers' choice' addresses' neighbours' solicitations' leads drawn_at generator =
+  redrawn routers' choice' addresses' neighbours' solicitations' side leads drawn_at generator =
       then_row (comes start now Redraws c) refl refl refl refl
       (subst (λ (v : ℕ). parameters.Stands new.params (parameter_rows.Drew now v ∷ parameter_history c)) value_is (leads.stands (parameter_history c) s.params))
       (rw routers' s.routers)
@@ -282,9 +320,10 @@ module _ {R A : Type 0} (stream : R → Stream) (start : Start) (old new : Node 
       (rw neighbours' s.neighbours)
       (rw choice' s.redirects)
       (rw solicitations' (record { assigned = s.solicitations.assigned; sent = s.solicitations.sent; heard = s.solicitations.heard }))
+      (rw side (side_stands start old.router c (comes start now Redraws c) refl s.router))
       (generator ∙ ap (λ (x : Stream). (next_u32 x).1) s.generator)
       (all_later new now (rw routers' (routers_before old now not_past)) (rw addresses' (addresses_before old now not_past)) (rw neighbours' (neighbours_before old now not_past))
-      (rw (turns.role, solicitations') (solicitation_before old now not_past)) (omega (arith, drawn_at)))
+      (rw (turns.role, solicitations') (solicitation_before old now not_past)) (rw (turns.role, side) (advertisement_before old now not_past)) (omega (arith, drawn_at)))
     where
       value_is : reachable_drawn old.params.base_reachable_time (stream old.generator) ≡ reachable_drawn (parameter_rows.base_of (parameter_history c)) (stream_left start c)
       value_is = ap (λ (x : Stream). reachable_drawn old.params.base_reachable_time x) s.generator ∙ ap (λ (b : ℕ). reachable_drawn b (stream_left start c)) s.params.base_reachable_time
@@ -292,11 +331,11 @@ module _ {R A : Type 0} (stream : R → Stream) (start : Start) (old new : Node 
 -- ---- what is due
 
 module _ {R A : Type 0} (stream : R → Stream) (start : Start) (old : Node R A) (c : Chronicle) (now : ℕ) (s : Stands stream start old c) (is : now ≡ next_of old) where
-  -- where no table has something due now, a Router Solicitation or the redraw is
+  -- where nothing else is due now, the redraw is
   pub redraw_is_due : (routers.next_end old.routers.entries ≡ Some now → ⊥) → (address_dates.next_in old.addresses.addresses ≡ Some now → ⊥) → (neighbours_due.next_in old.neighbours.nodes ≡ Some now → ⊥)
-      → (next_solicitation old.role old.solicitations ≡ Some now → ⊥) → next_redraw c ≡ now
-  redraw_is_due hr ha hn hs =
-      let at = at_redraw now (routers.next_end old.routers.entries) (address_dates.next_in old.addresses.addresses) (neighbours_due.next_in old.neighbours.nodes) (next_solicitation old.role old.solicitations) (old.params.drawn_at + redraw_after) is hr ha hn hs in
+      → (next_solicitation old.role old.solicitations ≡ Some now → ⊥) → (next_advertisement old.role old.router ≡ Some now → ⊥) → next_redraw c ≡ now
+  redraw_is_due hr ha hn hs hv =
+      let at = at_redraw now (routers.next_end old.routers.entries) (address_dates.next_in old.addresses.addresses) (neighbours_due.next_in old.neighbours.nodes) (next_solicitation old.role old.solicitations) (next_advertisement old.role old.router) (old.params.drawn_at + redraw_after) is hr ha hn hs hv in
       omega (arith, at, s.params.drawn_at)
 
 -- before the earliest of the dates nothing is due
@@ -308,17 +347,20 @@ next_due_at stream start node c s r a n r_is a_is n_is r_due a_due n_due next is
   not_past = rw is s.in_time;
   nothing_before = λ moment lt.
       let date = next_solicitation node.role node.solicitations in
+      let advertisement = next_advertisement node.role node.router in
       let redraw = node.params.drawn_at + redraw_after in
-      let lt1 : moment < earlier r (earlier a (earlier n (earlier date redraw))) = rw (r_is, a_is, n_is) (subst (λ (x : ℕ). moment < x) is lt) in
-      let lt2 = before_second moment r (earlier a (earlier n (earlier date redraw))) lt1 in
-      let lt3 = before_second moment a (earlier n (earlier date redraw)) lt2 in
-      let lt4 = before_second moment n (earlier date redraw) lt3 in
-      let lt5 : moment < node.params.drawn_at + redraw_after = before_second moment date redraw lt4 in (
-        no_router (router_history c) r (earlier a (earlier n (earlier date redraw))) moment r_due lt1,
-        no_address (address_history c) a (earlier n (earlier date redraw)) moment a_due lt2,
-        no_neighbour (neighbour_history c) n (earlier date redraw) moment n_due lt3,
-        subst (λ (o : Option ℕ). o ≢ Some moment) (solicitation_date stream start node c s) (none_at moment date redraw lt4),
-        no_advertisement start c moment s.host,
-        λ at. absurd (omega (arith, lt5, at, s.params.drawn_at)),
+      let rest = earlier date (earlier advertisement redraw) in
+      let lt1 : moment < earlier r (earlier a (earlier n rest)) = rw (r_is, a_is, n_is) (subst (λ (x : ℕ). moment < x) is lt) in
+      let lt2 = before_second moment r (earlier a (earlier n rest)) lt1 in
+      let lt3 = before_second moment a (earlier n rest) lt2 in
+      let lt4 = before_second moment n rest lt3 in
+      let lt5 = before_second moment date (earlier advertisement redraw) lt4 in
+      let lt6 : moment < node.params.drawn_at + redraw_after = before_second moment advertisement redraw lt5 in (
+        no_router (router_history c) r (earlier a (earlier n rest)) moment r_due lt1,
+        no_address (address_history c) a (earlier n rest) moment a_due lt2,
+        no_neighbour (neighbour_history c) n rest moment n_due lt3,
+        subst (λ (o : Option ℕ). o ≢ Some moment) (solicitation_date stream start node c s) (none_at moment date (earlier advertisement redraw) lt4),
+        subst (λ (o : Option ℕ). o ≢ Some moment) (advertisement_date start node.role node.router c s.role s.router) (none_at moment advertisement redraw lt5),
+        λ at. absurd (omega (arith, lt6, at, s.params.drawn_at)),
       );
 }

@@ -33,3 +33,4 @@ pub record Keeps {R A : Type 0} (old new : Node R A) : Type 0 where
   pub dns : new.dns ≡ old.dns
   pub choice : new.choice ≡ old.choice
   pub solicitations : new.solicitations ≡ old.solicitations
+  pub router : new.router ≡ old.router

@@ -1,5 +1,5 @@
 -- A node stands for a chronicle.
-use Rattle.std.specs.Prelude.{◌≡◌, ℕ, ◌+◌, ◌-◌, ◌<◌, ◌≤◌, length, Option, None}
+use Rattle.std.specs.Prelude.{◌≡◌, ℕ, ◌+◌, ◌-◌, ◌<◌, ◌≤◌, length, Option, Some, None}
 use Rattle.rand_core.specs.Stream.{Stream}
 use Rattle.nd_addr.specs.declared.mac.Mac.{Mac}
 use Rattle.nd_addr.specs.declared.role.Role.{Role}
@@ -21,6 +21,8 @@ use Rattle.nd_chronicle.specs.Happening.{Chronicle, last_moment}
 use Rattle.nd_chronicle.specs.Histories.{parameter_history, neighbour_history, router_history, prefix_history, address_history, server_history, name_history, redirect_history}
 use Rattle.nd_chronicle.specs.Generator.{stream_left}
 use Rattle.nd_chronicle.specs.Due.{Due, max_rtr_solicitations}
+use Rattle.nd_effects.specs.Router as router
+use Rattle.nd_effects.specs.Router.{after_last, next_advertisement}
 use Rattle.nd_effects.specs.RouterSolicitations as solicitations
 use Rattle.nd_effects.specs.RouterSolicitations.{next_solicitation}
 use Rattle.nd_node.specs.Moments.{earlier}
@@ -33,15 +35,16 @@ usual_limits = record { neighbours = 512; routers = 16 }
 abbrev pub starting : ℕ → Role → Mac → Stream → Start
 starting at role mac stream = record { at = at; role = role; mac = mac; stream = stream; limits = usual_limits }
 
--- the earliest of the routers', the addresses', the neighbours', the Router Solicitations' and the redraw's
-abbrev pub earliest : Option ℕ → Option ℕ → Option ℕ → Option ℕ → ℕ → ℕ
-earliest routers addresses neighbours solicitation redraw = earlier routers (earlier addresses (earlier neighbours (earlier solicitation redraw)))
+-- the earliest of the routers', the addresses', the neighbours', the Router Solicitations', the Router Advertisements' and the redraw's
+abbrev pub earliest : Option ℕ → Option ℕ → Option ℕ → Option ℕ → Option ℕ → ℕ → ℕ
+earliest routers addresses neighbours solicitation advertisement redraw =
+    earlier routers (earlier addresses (earlier neighbours (earlier solicitation (earlier advertisement redraw))))
 
 -- the moment at which something falls due next
 abbrev pub next_of : {R A : Type 0} → Node R A → ℕ
 next_of node =
     earliest (routers.next_end node.routers.entries) (address_dates.next_in node.addresses.addresses) (neighbour_dates.next_in node.neighbours.nodes)
-    (next_solicitation node.role node.solicitations) (node.params.drawn_at + redraw_after)
+    (next_solicitation node.role node.solicitations) (next_advertisement node.role node.router) (node.params.drawn_at + redraw_after)
 
 -- Each table of the node stands for what the chronicle tells it, the generator is that of the start after as many words as were drawn,
 -- and nothing that is due has been passed over.
@@ -60,6 +63,7 @@ pub record Stands {R A : Type 0} (stream : R → Stream) (start : Start) (node :
   pub dns : dns.Stands node.dns (server_history c) (name_history c)
   pub redirects : choice.Stands node.choice (redirect_history c)
   pub solicitations : solicitations.Stands start node.solicitations c
+  pub router : router.Stands start node.router c
   pub generator : stream node.generator ≡ stream_left start c
   pub last : node.last ≡ last_moment start.at c
   pub prefixes_by_then : lifetimes.last_moment (prefix_history c) ≤ last_moment start.at c
@@ -72,8 +76,8 @@ pub record NextDue (start : Start) (c : Chronicle) (next : ℕ) : Type 0 where
   pub not_past : last_moment start.at c ≤ next
   pub nothing_before : (moment : ℕ) → moment < next → Due start c moment None
 
--- how many turns are left up to a moment, where nothing else happens, and the time up to the last redraw
+-- how many turns are left up to a moment, where nothing else happens, and the time since the last redraw and the last advertisement
 abbrev pub turns_left : {R A : Type 0} → ℕ → Node R A → ℕ
 turns_left end node =
     length node.routers.entries + address_dates.turns_left node.addresses.addresses + neighbour_dates.turns_left node.neighbours.nodes
-    + (max_rtr_solicitations - node.solicitations.sent) + (end + redraw_after - node.params.drawn_at)
+    + (max_rtr_solicitations - node.solicitations.sent) + (end + redraw_after - node.params.drawn_at) + (end + 1 - after_last node.router.advertiser.last)

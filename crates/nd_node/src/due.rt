@@ -29,7 +29,8 @@ impl<R: Rng + Drop, A: Allocator + Clone> Node<R, A> {
         ensures due { (start : Start) (c : Chronicle) → Stands R.stream start self.now c → NextDue start c result }
     {
         let redraw = self.params.next_due();
-        let solicitation = earlier(self.solicitations.next_due(self.role), redraw);
+        let advertisement = earlier(self.router.next_due(self.role), redraw);
+        let solicitation = earlier(self.solicitations.next_due(self.role), advertisement);
         let neighbour = earlier(self.neighbours.next_due(), solicitation);
         let address = earlier(self.addresses.next_due(), neighbour);
         earlier(self.routers.next_due(), address)
@@ -43,7 +44,8 @@ impl<R: Rng + Drop, A: Allocator + Clone> Node<R, A> {
     }
 
     /// Does what is due first at the moment, which is the next at which something is: the ends of routers, of own addresses, their
-    /// detections, the neighbours, Router Solicitations, a redraw of ReachableTime, each in the order of addresses. It takes no memory.
+    /// detections, the neighbours, Router Solicitations, Router Advertisements, a redraw of ReachableTime, each in the order of addresses. It
+    /// takes no memory.
     pub(crate) fn take_turn(&mut self, now: u64) -> Turned<A>
         requires moment { now < 2 ^ 62 }
         requires due { now ≡ next_of self.old }
@@ -62,12 +64,9 @@ impl<R: Rng + Drop, A: Allocator + Clone> Node<R, A> {
         }
         match self.addresses.turn(now) {
             Some(due) => {
-                note_address(
-                    &mut self.solicitations,
-                    self.addresses.link_local(),
-                    now,
-                    due,
-                );
+                let own = self.addresses.link_local();
+                note_address(&mut self.solicitations, own, now, due);
+                self.router.note_address(own, now, due);
                 return Turned::Address(due);
             }
             None => {}
@@ -81,6 +80,9 @@ impl<R: Rng + Drop, A: Allocator + Clone> Node<R, A> {
         }
         if self.solicitations.turn(self.role, now) {
             return Turned::SolicitedRouters;
+        }
+        if self.router.turn(self.role, now, &mut self.generator) {
+            return Turned::RouterAdvertised;
         }
         redraw(&mut self.params, &mut self.generator, now);
         Turned::Redrawn

@@ -148,9 +148,10 @@ impl<R: Rng + Drop, A: Allocator + Clone> Node<R, A> {
                 self.last = now;
                 Ok(())
             }
-            Event::Advertises(_) | Event::Offers(_) | Event::PutsRoute(_) | Event::Stops => {
-                self.refuse(now, Refusal::WrongRole, outs)
-            }
+            Event::Advertises(config) => self.advertise(now, *config, outs),
+            Event::Offers(offer) => self.offer(now, *offer, outs),
+            Event::PutsRoute(kept) => self.put_route(now, *kept, outs),
+            Event::Stops => self.cease(now, outs),
         }
     }
 }

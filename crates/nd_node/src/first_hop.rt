@@ -5,18 +5,20 @@ ghost use Rattle.nd_chronicle.specs.Happening.{Chronicle, last_moment};
 ghost use Rattle.nd_chronicle.specs.Start.{Start};
 
 use crate::node::Node;
-use nd_addr::Addr;
+use nd_addr::{Addr, Role};
 use nd_effects::Tables;
 use nd_nexthop::Hop;
+use nd_slaac::Counted;
 use rand_core::Rng;
 use std::alloc::Allocator;
 
 impl<R: Rng + Drop, A: Allocator + Clone> Node<R, A> {
     ghost use Rattle.nd_nexthop.specs.NextHop.{hop_of};
-    ghost use Rattle.nd_chronicle.specs.NextHop.{IsNextHop};
+    ghost use Rattle.nd_chronicle.specs.NextHop.{IsHopOf, IsNextHop};
     ghost use Rattle.nd_node.specs.Node.{Stands, next_of};
 
-    /// The next hop of a packet to a destination at a moment up to which nothing is due (RFC 4861, section 5.2). It takes no memory.
+    /// The next hop that a host would choose for a packet to a destination at a moment, in milliseconds, up to which nothing is due (RFC 4861,
+    /// section 5.2). It takes no memory.
     pub(crate) fn next_hop(&mut self, now: u64, destination: Addr) -> Hop
         requires settled { now < next_of self.old }
         ensures next { (start : Start) (c : Chronicle) → Stands R.stream start self.old c → last_moment start.at c ≤ now → IsNextHop c now destination (hop_of result) }
@@ -31,5 +33,22 @@ impl<R: Rng + Drop, A: Allocator + Clone> Node<R, A> {
             neighbours: &self.neighbours,
         };
         self.choice.next_hop(destination, &tables)
+    }
+
+    /// The next hop of a packet of this node to a destination at a moment, in milliseconds, up to which nothing is due: at a host the choice
+    /// among its tables, at a router its longest route (RFC 4861, section 5.2). It takes no memory.
+    pub(crate) fn hop_of_packet(&mut self, now: u64, destination: Addr) -> Hop
+        requires settled { now < next_of self.old }
+        ensures next { (start : Start) (c : Chronicle) → Stands R.stream start self.old c → last_moment start.at c ≤ now → IsHopOf start.role c now destination (hop_of result) }
+        ensures stands { (start : Start) (c : Chronicle) → Stands R.stream start self.old c → Stands R.stream start self.new c }
+        ensures due { next_of self.new ≡ next_of self.old }
+    {
+        match self.role {
+            Role::Host => self.next_hop(now, destination),
+            Role::Router => {
+                let is_own = self.addresses.counts(Counted::Own, destination);
+                self.router.routes.next_hop(destination, is_own)
+            }
+        }
     }
 }

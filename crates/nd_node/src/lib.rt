@@ -2,6 +2,7 @@
 //! RFC 4862, RFC 8106).
 #![tactic(auto)]
 
+mod advertising;
 mod clearing;
 mod counts;
 mod due;
@@ -24,6 +25,7 @@ mod room;
 mod router_advertisement;
 mod router_solicitation;
 mod shown;
+mod static_route;
 mod time;
 
 pub use clearing::Clearable;

@@ -4,7 +4,9 @@ ghost use Rattle.nd_addr.specs.declared.role.Role.TheVariants.{Host};
 use crate::room::Room;
 use nd_addr::{Mac, Role};
 use nd_dns::Dns;
-use nd_effects::{MAX_RTR_SOLICITATION_DELAY, RouterSolicitations, drawn_from, reachable_drawn};
+use nd_effects::{
+    MAX_RTR_SOLICITATION_DELAY, RouterSolicitations, RouterTables, drawn_from, reachable_drawn,
+};
 use nd_neighbour::Cache;
 use nd_nexthop::Choice;
 use nd_params::Params;
@@ -32,9 +34,10 @@ pub struct Node<R, A: Allocator> {
     pub(crate) dns: Dns<A>,
     pub(crate) choice: Choice<A>,
     pub(crate) solicitations: RouterSolicitations,
+    pub(crate) router: RouterTables<A>,
 }
 
-impl<R: Rng + Drop, A: Allocator + Clone> Node<R, A> {
+impl<R: Rng + Drop, A: Allocator + Copy> Node<R, A> {
     ghost use Rattle.nd_chronicle.specs.History.{beginning};
     ghost use Rattle.nd_node.specs.Node.{Stands, starting};
 
@@ -67,6 +70,7 @@ impl<R: Rng + Drop, A: Allocator + Clone> Node<R, A> {
             dns: room.dns,
             choice: room.choice,
             solicitations: RouterSolicitations::new(),
+            router: room.router,
         })
     }
 }

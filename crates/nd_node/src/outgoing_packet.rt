@@ -189,7 +189,7 @@ impl<R: Rng + Drop, A: Allocator + Clone> Node<R, A> {
         match self.refusal_of(outgoing) {
             Some(refusal) => self.refuse(now, refusal, outs),
             None => {
-                let hop = self.next_hop(now, outgoing.destination);
+                let hop = self.hop_of_packet(now, outgoing.destination);
                 self.send_by_hop(now, hop, outgoing, outs)
             }
         }

@@ -1,4 +1,4 @@
-ghost use Rattle.std.specs.Prelude.{◌≡◌, [], IfOk};
+ghost use Rattle.std.specs.Prelude.{◌≡◌, [], None, IfOk};
 ghost use Rattle.nd_lifetime.specs.Listing as lists;
 ghost use Rattle.nd_lifetime.specs.Same.{same_prefix};
 ghost use Rattle.nd_neighbour.specs.Table as neighbours;
@@ -8,6 +8,7 @@ ghost use Rattle.nd_nexthop.specs.Choice as choice;
 ghost use Rattle.nd_node.specs.Node.{usual_limits};
 
 use nd_dns::Dns;
+use nd_effects::RouterTables;
 use nd_neighbour::Cache;
 use nd_nexthop::Choice;
 use nd_routers::{Prefixes, Routers};
@@ -29,9 +30,10 @@ pub(crate) struct Room<A: Allocator> {
     pub(crate) neighbours: Cache<A>,
     pub(crate) dns: Dns<A>,
     pub(crate) choice: Choice<A>,
+    pub(crate) router: RouterTables<A>,
 }
 
-impl<A: Allocator + Clone> Room<A> {
+impl<A: Allocator + Copy> Room<A> {
     /// Takes the room. The error is want of memory.
     pub(crate) fn new(alloc: A) -> Result<Self, AllocError>
         ensures routers { IfOk result (λ room. room.routers ≡ record { limit = usual_limits.routers; entries = []; failed = [] }) }
@@ -41,14 +43,17 @@ impl<A: Allocator + Clone> Room<A> {
         ensures neighbour_history { IfOk result (λ room. neighbours.Stands room.neighbours.nodes []) }
         ensures dns { IfOk result (λ room. dns.Stands room.dns [] []) }
         ensures redirects { IfOk result (λ room. choice.Stands room.choice []) }
+        ensures advertiser { IfOk result (λ room. room.router.advertiser ≡ record { assigned = None; last = None; advertising = None; offers = [] }) }
+        ensures routes { IfOk result (λ room. room.router.routes ≡ record { entries = []; redirected = None }) }
     {
         Ok(Room {
-            routers: Routers::new(alloc.clone()?, MAX_ROUTERS)?,
-            prefixes: Prefixes::new(alloc.clone()?)?,
-            addresses: AddressRoom::new(alloc.clone()?)?,
-            neighbours: Cache::new(alloc.clone()?, MAX_NEIGHBOURS)?,
-            dns: Dns::new(alloc.clone()?)?,
+            routers: Routers::new(alloc, MAX_ROUTERS)?,
+            prefixes: Prefixes::new(alloc)?,
+            addresses: AddressRoom::new(alloc)?,
+            neighbours: Cache::new(alloc, MAX_NEIGHBOURS)?,
+            dns: Dns::new(alloc)?,
             choice: Choice::new(alloc)?,
+            router: RouterTables::new(alloc)?,
         })
     }
 }

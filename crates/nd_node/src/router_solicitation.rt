@@ -17,8 +17,9 @@ const MOST_SOLICITED: usize = 1;
 impl<R: Rng + Drop, A: Allocator + Clone> Node<R, A> {
     ghost use Rattle.nd_node.specs.Node.{next_of};
 
-    /// A Router Solicitation is heard at a moment, in milliseconds: what it says of its sender is taken (RFC 4861, section 6.2.6). It is
-    /// refused where the sender has no place among the neighbours. The error is want of memory, and then nothing has changed.
+    /// A Router Solicitation is heard at a moment, in milliseconds: what it says of its sender is taken, and a router plans its answer
+    /// (RFC 4861, section 6.2.6). It is refused where the sender has no place among the neighbours. The error is want of memory, and then
+    /// nothing has changed.
     pub(crate) fn hear_router_solicitation(
         &mut self,
         now: u64,
@@ -56,6 +57,8 @@ impl<R: Rng + Drop, A: Allocator + Clone> Node<R, A> {
         ));
         let times = times_in_force(&self.params);
         hear_of_neighbour(&mut self.neighbours, now, news, times, outs);
+        self.router
+            .hear_solicitation(self.role, now, &mut self.generator);
         Ok(())
     }
 }

@@ -4,7 +4,7 @@ ghost use Rattle.nd_node.specs.Event.{table_of};
 use crate::event::Table;
 use crate::node::Node;
 use nd_out::{
-    address_rows, dns_rows, neighbour_rows, parameter_row, prefix_rows, redirect_rows, router_rows,
+    address_rows, advertise_rows, dns_rows, neighbour_rows, parameter_row, prefix_rows, redirect_rows, route_rows, router_rows,
 };
 use rand_core::Rng;
 use std::alloc::{AllocError, Allocator};
@@ -29,7 +29,8 @@ impl<R: Rng + Drop, A: Allocator + Clone> Node<R, A> {
             Table::Dns => dns_rows(alloc, &self.dns, now),
             Table::Redirects => redirect_rows(alloc, &self.choice),
             Table::Params => parameter_row(alloc, &self.params),
-            Table::Advertise | Table::Routes => Ok(Vec::new(alloc.clone()?)),
+            Table::Advertise => advertise_rows(alloc, self.role, &self.router.advertiser),
+            Table::Routes => route_rows(alloc, self.role, &self.router.routes),
         }
     }
 }

@@ -13,8 +13,8 @@ impl<R: Rng + Drop, A: Allocator + Clone> Node<R, A> {
     ghost use Rattle.nd_node.specs.Node.{next_of, turns_left};
 
     /// Does what is due first at the moment, which is the next at which something is, and tells it: the ends of routers, of own addresses,
-    /// their detections, the neighbours, Router Solicitations, a redraw of ReachableTime, each in the order of addresses. The error is
-    /// want of memory, and then nothing has changed.
+    /// their detections, the neighbours, Router Solicitations, Router Advertisements, a redraw of ReachableTime, each in the order of
+    /// addresses. The error is want of memory, and then nothing has changed.
     pub fn turn(&mut self, now: u64, outs: &mut Vec<(u64, Out<A>), A>) -> Result<(), AllocError>
         requires moment { now < 2 ^ 62 }
         requires due { now ≡ next_of self.old }
@@ -24,10 +24,14 @@ impl<R: Rng + Drop, A: Allocator + Clone> Node<R, A> {
         ensures told { OnErr result (outs.new.items ≡ outs.old.items) }
     {
         let room = FrameRoom::new(outs.allocator().clone()?)?;
+        let own = link_local(&self.addresses);
+        let alloc = outs.allocator().clone()?;
+        let advertisement = self
+            .router
+            .advertisement_due(alloc, self.role, now, self.mac, own)?;
         outs.reserve(MOST_TOLD)?;
         let turned = self.take_turn(now);
-        let own = link_local(&self.addresses);
-        tell(outs, now, room, self.mac, own, None, turned);
+        tell(outs, now, room, self.mac, own, advertisement, turned);
         Ok(())
     }
 

@@ -8,5 +8,5 @@ pub returns : goal.returns
 returns g c =
     packet_leads g.R.Rng.stream c.args.self.now _ c.args.outs.now.items _ c.args.now (number_of c.args.to.0) _ c.args.packet c.none_overdue.ensures.still c.none_overdue.ensures.table c.one_is_pushed_out.ensures
     c.requires.last
-    (record { role = refl; mac = refl; generator = refl; last = refl; params = refl; routers = refl; prefixes = refl; dns = refl; choice = refl; solicitations = refl; address_mac = refl; neighbour_limit = c.in-Ok.ensures.limit })
-    refl c.times_in_force-times.ensures.retrans c.in-Ok.ensures.stands _ refl _ c.link_local-own.ensures (sending_of c.in-Ok.used) c.in-Ok.ensures.sending c.tell_use.ensures
+    (record { role = refl; mac = refl; generator = refl; last = refl; params = refl; routers = refl; prefixes = refl; dns = refl; choice = refl; solicitations = refl; router = refl; address_mac = refl; neighbour_limit = c.in-Ok.ensures.limit })
+    refl c.times_in_force-times.ensures.retrans c.in-Ok.ensures.stands _ refl _ c.link_local-own.ensures (sending_of c.in-Ok.used) c.in-Ok.ensures.sending c.tell_use.ensures.told

@@ -28,7 +28,7 @@ returns-clause-adds g c =
     answered g.R.Rng.stream c.args.self.now (record c.args.self.now { last = c.args.now; neighbours = heard.new.neighbours }) c.args.outs.now.items c.make_room.new.outs.items before after
     c.args.now c.args.source c.args.destination c.args.ns.now (options_left c.args.options) c.requires.settled times c.news_of-news.result heard.result _
     c.none_overdue.ensures.still c.none_overdue.ensures.table c.one_is_pushed_out.ensures
-    (record { role = refl; mac = refl; generator = refl; last = refl; params = refl; routers = refl; prefixes = refl; dns = refl; choice = refl; solicitations = refl; address_mac = refl; neighbour_limit = heard.ensures.limit ∙ c.make_room.ensures.limit })
+    (record { role = refl; mac = refl; generator = refl; last = refl; params = refl; routers = refl; prefixes = refl; dns = refl; choice = refl; solicitations = refl; router = refl; address_mac = refl; neighbour_limit = heard.ensures.limit ∙ c.make_room.ensures.limit })
     refl (c.news_of-news.ensures times) c.times_in_force-times.ensures.reachable
     (subst (λ (limit : ℕ). HearsOf limit c.args.now (option_map (said_by times) c.news_of-news.result) c.args.self.now.neighbours.nodes heard.new.neighbours.nodes before after heard.result) c.make_room.ensures.limit
     (subst (λ (nodes : List entries.Node). HearsOf c.make_room.new.neighbours.limit c.args.now (option_map (said_by times) c.news_of-news.result) nodes heard.new.neighbours.nodes before after heard.result) c.make_room.ensures.nodes heard.ensures.hears))

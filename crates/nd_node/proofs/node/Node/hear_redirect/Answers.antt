@@ -6,13 +6,13 @@ use Rattle.nd_neighbour.specs.declared.news.Times.{Times}
 use Rattle.nd_chronicle.specs.Full.{entering, Placed}
 use Rattle.nd_effects.specs.LinkLayerAddress.{said_by}
 use Rattle.nd_decode.specs.declared.body.Body.TheVariants as bodies
-use Rattle.nd_node.proofs.PlainMessages.{plain_redirect, message_refused, adds_message}
+use Rattle.nd_node.proofs.PlainMessages.{adds_message, message_refused, nothing, plain_redirect}
 use Rattle.nd_node.proofs.node.Node.hear_redirect.Goals as goal
 
 pub returns-then-not-has_place-clause-adds : goal.returns-then-not-has_place-clause-adds
 returns-then-not-has_place-clause-adds g c =
     let times : Times = record { retrans = 0; reachable = c.args.self.now.params.reachable_time } in
-    message_refused g.R.Rng.stream c.args.self.now c.args.now c.args.source c.args.destination (bodies.Redirect c.args.redirect.now) (options_left c.args.options) (plain_redirect c.args.now c.args.source c.args.destination c.args.redirect.now (options_left c.args.options)) c.requires.settled times c.news_of-news.result
+    message_refused g.R.Rng.stream c.args.self.now c.args.now c.args.source c.args.destination (bodies.Redirect c.args.redirect.now) (options_left c.args.options) nothing (plain_redirect c.args.now c.args.source c.args.destination c.args.redirect.now (options_left c.args.options)) c.requires.settled times c.news_of-news.result
     (c.news_of-news.ensures times) refl _ c.args.outs.now.items c.push.new.self.items _
     (λ start c' s. subst (λ (b : Bool). Placed start c' c.args.now (entering (option_map (said_by times) c.news_of-news.result)) b) c.if-not-has_place.true (c.has_place.ensures.placed start c' times s.neighbour_limit s.neighbours))
     refl refl c.in_ok-push.ensures.items
@@ -20,10 +20,10 @@ returns-then-not-has_place-clause-adds g c =
 pub returns-clause-adds : goal.returns-clause-adds
 returns-clause-adds g c =
     let times : Times = c.times_in_force-times.result in
-    adds_message g.R.Rng.stream c.args.self.now c.args.now c.args.source c.args.destination (bodies.Redirect c.args.redirect.now) (options_left c.args.options) (plain_redirect c.args.now c.args.source c.args.destination c.args.redirect.now (options_left c.args.options)) c.requires.settled times c.news_of-news.result
-    (c.news_of-news.ensures times) c.times_in_force-times.ensures.reachable _ c.args.outs.now.items c.reserve.new.self.items c.push_reserved.new.self.items c.hear_of_neighbour.new.outs.items c.hear_of_neighbour.result _
+    adds_message g.R.Rng.stream c.args.self.now c.args.now c.args.source c.args.destination (bodies.Redirect c.args.redirect.now) (options_left c.args.options) nothing (plain_redirect c.args.now c.args.source c.args.destination c.args.redirect.now (options_left c.args.options)) c.requires.settled times c.news_of-news.result
+    (c.news_of-news.ensures times) c.times_in_force-times.ensures.reachable _ _ c.args.outs.now.items c.reserve.new.self.items c.push_reserved.new.self.items c.hear_of_neighbour.new.outs.items c.hear_of_neighbour.result _
     c.none_overdue.ensures.still c.none_overdue.ensures.table c.one_is_pushed_out.ensures
-    (record { role = refl; mac = refl; generator = refl; params = refl; prefixes = refl; dns = refl; solicitations = refl; address_mac = refl; neighbour_limit = c.hear_of_neighbour.ensures.limit; router_limit = refl; last = refl })
+    (record { role = refl; mac = refl; generator = refl; params = refl; prefixes = refl; dns = refl; solicitations = refl; router = refl; address_mac = refl; neighbour_limit = c.hear_of_neighbour.ensures.limit; router_limit = refl; last = refl })
     refl refl
     (λ start c' s. subst (λ (b : Bool). Placed start c' c.args.now (entering (option_map (said_by times) c.news_of-news.result)) b) c.if-not-has_place.false (c.has_place.ensures.placed start c' times s.neighbour_limit s.neighbours))
-    c.reserve.ensures.items c.push_reserved.ensures.items refl (c.in_ok-redirected.ensures.stands c.args.now).stands c.hear_of_neighbour.ensures.hears
+    c.reserve.ensures.items c.push_reserved.ensures.items refl (c.in_ok-redirected.ensures.stands c.args.now).stands c.hear_of_neighbour.ensures.hears (λ start before d same at s. s) (λ start before d. refl)

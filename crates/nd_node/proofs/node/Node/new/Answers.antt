@@ -33,6 +33,8 @@ returns-clause-stands g c =
       routers = c.in-Ok.ensures.routers;
       neighbours = c.in-Ok.ensures.neighbours;
       solicitations = c.new-2.ensures;
+      advertiser = c.in-Ok.ensures.advertiser;
+      routes = c.in-Ok.ensures.routes;
     })
     (subst (λ (v : ℕ). parameters.Stands c.new-params.result (Drew at v ∷ [])) c.reachable_drawn-reachable.ensures.value c.new-params.ensures.stands)
     c.in-Ok.ensures.router_history

@@ -1,13 +1,15 @@
-use Rattle.std.proofs.Common.{ap}
+use Rattle.std.proofs.Common.{◌≡◌, ap}
+use Rattle.nd_advertiser.specs.Table as advertising
+use Rattle.nd_routes.specs.Table as routing
 use Rattle.nd_neighbour.specs.Table as neighbours
 use Rattle.nd_slaac.specs.Table as addresses
 use Rattle.nd_routers.specs.Routers as routers
 use Rattle.nd_params.specs.Params as parameters
 use Rattle.nd_nexthop.specs.Choice as choice
-use Rattle.nd_chronicle.specs.Histories.{neighbour_history, router_history, address_history, parameter_history, redirect_history}
-use Rattle.nd_chronicle.specs.Shown.{NeighbourTable, RouterTable, AddressTable, RedirectTable, ParameterTable}
+use Rattle.nd_chronicle.specs.Histories.{neighbour_history, router_history, address_history, parameter_history, redirect_history, advertising_history, route_history}
+use Rattle.nd_chronicle.specs.Shown.{NeighbourTable, RouterTable, AddressTable, RedirectTable, ParameterTable, AdvertiseTable, RouteTable}
 use Rattle.nd_node.specs.Event.{table_of}
-use Rattle.nd_node.proofs.Rows.{rows_shown, rows_shown_always}
+use Rattle.nd_node.proofs.Rows.{if_ok, rows_shown, rows_shown_always}
 use Rattle.nd_node.proofs.node.Node.rows.Goals as goal
 
 pub returns-in-Neighbours : goal.returns-in-Neighbours
@@ -29,3 +31,15 @@ returns-in-Redirects g c =
 pub returns-in-Params : goal.returns-in-Params
 returns-in-Params g c =
     rows_shown_always g.R.Rng.stream c.args.self.now c.args.now (table_of c.args.table) ParameterTable (ap table_of c.in-Params.is) _ (λ start c'. parameters.Stands c.args.self.now.params (parameter_history c')) c.parameter_row.result c.parameter_row.ensures.rows (λ start c' s le. s.params)
+
+pub returns-in-Advertise : goal.returns-in-Advertise
+returns-in-Advertise g c =
+    rows_shown_always g.R.Rng.stream c.args.self.now c.args.now (table_of c.args.table) AdvertiseTable (ap table_of c.in-Advertise.is) _
+    (λ start c'. (c.args.self.now.role ≡ start.role) × advertising.Stands c.args.self.now.router.advertiser (advertising_history start c'))
+    c.advertise_rows.result (if_ok c.advertise_rows.result _ _ (λ rows given start c' now h. given start c' now h.0 h.1) c.advertise_rows.ensures.rows) (λ start c' s le. (s.role, s.router.advertiser))
+
+pub returns-in-Routes : goal.returns-in-Routes
+returns-in-Routes g c =
+    rows_shown_always g.R.Rng.stream c.args.self.now c.args.now (table_of c.args.table) RouteTable (ap table_of c.in-Routes.is) _
+    (λ start c'. (c.args.self.now.role ≡ start.role) × routing.Stands c.args.self.now.router.routes (route_history c'))
+    c.route_rows.result (if_ok c.route_rows.result _ _ (λ rows given start c' now h. given start c' now h.0 h.1) c.route_rows.ensures.rows) (λ start c' s le. (s.role, s.router.routes))

@@ -13,6 +13,6 @@ returns-in-Some-clause-adds g c =
 pub returns-in-None-clause-adds : goal.returns-in-None-clause-adds
 returns-in-None-clause-adds g c =
     on_ok c.send_by_hop.result _ _ (λ adds. sent g.R.Rng.stream c.args.self.now c.send_by_hop.new.self c.args.outs.now.items c.send_by_hop.new.outs.items c.args.now c.args.outgoing.now
-    c.next_hop-hop.new.self (hop_of c.next_hop-hop.result) (λ start c' s. c.in-None.ensures.says start c.args.now c' s)
-    c.next_hop-hop.ensures.stands c.next_hop-hop.ensures.next adds)
+    c.hop_of_packet-hop.new.self (hop_of c.hop_of_packet-hop.result) (λ start c' s. c.in-None.ensures.says start c.args.now c' s)
+    c.hop_of_packet-hop.ensures.stands c.hop_of_packet-hop.ensures.next adds)
     c.send_by_hop.ensures.adds

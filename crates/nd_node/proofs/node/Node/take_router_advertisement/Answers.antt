@@ -23,6 +23,7 @@ returns g c =
       last = refl;
       left = _;
       params = c.hear_parameters.ensures;
+      router = refl;
       solicitations = c.heard_router.ensures;
       between = _;
       ends = _;

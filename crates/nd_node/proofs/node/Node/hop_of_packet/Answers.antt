@@ -1,0 +1,11 @@
+use Rattle.nd_nexthop.specs.NextHop.{hop_of}
+use Rattle.nd_node.proofs.NextHops.{hop_of_host, hop_of_router}
+use Rattle.nd_node.proofs.node.Node.hop_of_packet.Goals as goal
+
+pub returns-in-Host-clause-next : goal.returns-in-Host-clause-next
+returns-in-Host-clause-next g c = λ start c' s le.
+    hop_of_host c.args.self.now.role start.role s.role c.in-Host.is c' c.args.now c.args.destination (hop_of c.next_hop.result) (c.next_hop.ensures.next start c' s le)
+
+pub returns-in-Router-clause-next : goal.returns-in-Router-clause-next
+returns-in-Router-clause-next g c = λ start c' s le.
+    hop_of_router g.R.Rng.stream start c.args.self.now c' c.args.now s c.in-Router.is c.args.destination c.counts-is_own.result (hop_of c.next_hop-in-Router.result) c.counts-is_own.ensures.value c.next_hop-in-Router.ensures.by_history

@@ -1,0 +1,92 @@
+//! What a router is told to advertise (RFC 4861, section 6.2).
+
+ghost use Rattle.std.specs.Prelude.{◌≡◌, ◌<◌, ◌^◌, OnErr, OnOk};
+ghost use Rattle.nd_chronicle.specs.Event as events;
+ghost use Rattle.nd_node.specs.Event.{AddsEvent};
+ghost use Rattle.nd_node.specs.Frame.{Stays};
+
+use crate::node::Node;
+use nd_addr::Role;
+use nd_advertiser::{Config, Offer};
+use nd_effects::{link_local, tell_advertisement};
+use nd_out::{Limit, Out, Refusal};
+use rand_core::Rng;
+use std::alloc::{AllocError, Allocator};
+
+impl<R: Rng + Drop, A: Allocator + Clone> Node<R, A> {
+    ghost use Rattle.nd_node.specs.Node.{next_of};
+
+    /// A router is to advertise so from a moment on, in milliseconds (RFC 4861, section 6.2.1). A host refuses it. The error is want of
+    /// memory, and then nothing has changed.
+    pub(crate) fn advertise(
+        &mut self,
+        now: u64,
+        config: Config,
+        outs: &mut Vec<(u64, Out<A>), A>,
+    ) -> Result<(), AllocError>
+        requires moment { now < 2 ^ 62 }
+        requires settled { now < next_of self.old }
+        ensures adds { OnOk result (AddsEvent R.stream self.old self.new outs.old.items outs.new.items now (events.Advertises config)) }
+        ensures stays { OnErr result (Stays R.stream self.old self.new) }
+        ensures told { OnErr result (outs.new.items ≡ outs.old.items) }
+    {
+        if self.role == Role::Host {
+            return self.refuse(now, Refusal::WrongRole, outs);
+        }
+        self.last = now;
+        self.router.advertiser.begin(now, config);
+        Ok(())
+    }
+
+    /// A router is to advertise a prefix, too, or one that it advertises is to have these lifetimes (RFC 4861, section 6.2.1). It is refused where
+    /// it is one too many, and by a host. The error is want of memory, and then nothing has changed.
+    pub(crate) fn offer(
+        &mut self,
+        now: u64,
+        offer: Offer,
+        outs: &mut Vec<(u64, Out<A>), A>,
+    ) -> Result<(), AllocError>
+        requires settled { now < next_of self.old }
+        ensures adds { OnOk result (AddsEvent R.stream self.old self.new outs.old.items outs.new.items now (events.Offers offer)) }
+        ensures stays { OnErr result (Stays R.stream self.old self.new) }
+        ensures told { OnErr result (outs.new.items ≡ outs.old.items) }
+    {
+        if self.role == Role::Host {
+            return self.refuse(now, Refusal::WrongRole, outs);
+        }
+        match self.router.advertiser.put(offer) {
+            Ok(()) => {
+                self.last = now;
+                Ok(())
+            }
+            Err(_) => self.refuse(now, Refusal::Full(Limit::Offers), outs),
+        }
+    }
+
+    /// A router is to cease advertising (RFC 4861, section 6.2.5): where it has sent an advertisement since it began, it sends a last one, with
+    /// a router lifetime of 0. A host refuses it. The error is want of memory, and then nothing has changed.
+    pub(crate) fn cease(
+        &mut self,
+        now: u64,
+        outs: &mut Vec<(u64, Out<A>), A>,
+    ) -> Result<(), AllocError>
+        requires moment { now < 2 ^ 62 }
+        requires settled { now < next_of self.old }
+        ensures adds { OnOk result (AddsEvent R.stream self.old self.new outs.old.items outs.new.items now events.Stops) }
+        ensures stays { OnErr result (Stays R.stream self.old self.new) }
+        ensures told { OnErr result (outs.new.items ≡ outs.old.items) }
+    {
+        if self.role == Role::Host {
+            return self.refuse(now, Refusal::WrongRole, outs);
+        }
+        let own = link_local(&self.addresses);
+        let alloc = outs.allocator().clone()?;
+        let last = self.router.last_advertisement(alloc, self.mac, own)?;
+        outs.reserve(1)?;
+        self.last = now;
+        if self.router.advertiser.stop(now) {
+            tell_advertisement(outs, now, last);
+        }
+        Ok(())
+    }
+}

@@ -1,0 +1,42 @@
+//! A static route of a router (RFC 4861, section 5.2).
+
+ghost use Rattle.std.specs.Prelude.{◌≡◌, ◌<◌, OnErr, OnOk};
+ghost use Rattle.nd_chronicle.specs.Event as events;
+ghost use Rattle.nd_node.specs.Event.{AddsEvent};
+ghost use Rattle.nd_node.specs.Frame.{Stays};
+
+use crate::node::Node;
+use nd_addr::Role;
+use nd_out::{Limit, Out, Refusal};
+use nd_routes::KeptRoute;
+use rand_core::Rng;
+use std::alloc::{AllocError, Allocator};
+
+impl<R: Rng + Drop, A: Allocator + Clone> Node<R, A> {
+    ghost use Rattle.nd_node.specs.Node.{next_of};
+
+    /// A router is to have this route, in place of that of its prefix, if one is there. It is refused where it is one too many, and by a host.
+    /// The error is want of memory, and then nothing has changed.
+    pub(crate) fn put_route(
+        &mut self,
+        now: u64,
+        kept: KeptRoute,
+        outs: &mut Vec<(u64, Out<A>), A>,
+    ) -> Result<(), AllocError>
+        requires settled { now < next_of self.old }
+        ensures adds { OnOk result (AddsEvent R.stream self.old self.new outs.old.items outs.new.items now (events.Routes kept.prefix kept.route)) }
+        ensures stays { OnErr result (Stays R.stream self.old self.new) }
+        ensures told { OnErr result (outs.new.items ≡ outs.old.items) }
+    {
+        if self.role == Role::Host {
+            return self.refuse(now, Refusal::WrongRole, outs);
+        }
+        match self.router.routes.put(kept.prefix, kept.route) {
+            Ok(()) => {
+                self.last = now;
+                Ok(())
+            }
+            Err(_) => self.refuse(now, Refusal::Full(Limit::StaticRoutes), outs),
+        }
+    }
+}
