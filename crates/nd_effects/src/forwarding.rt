@@ -116,46 +116,24 @@ pub fn better_hop_frame<A: Allocator + Clone>(
     )
 }
 
-/// How many rings have to be in hand at a moment, in milliseconds, for a packet to one neighbour and then one to a second. One that
-/// enters may push the second out.
-fn rings_for_two<A: Allocator>(neighbours: &Cache<A>, now: u64, first: Addr, second: Addr) -> usize
-    ensures first { node_in (number_of first.0) neighbours.now.nodes ≡ None → 2 ≤ result }
-    ensures second { node_in (number_of second.0) neighbours.now.nodes ≡ None → 0 < result }
-    ensures most { result ≤ 2 }
-{
-    if neighbours.entry(now, first).is_none() {
-        2
-    } else if neighbours.entry(now, second).is_none() {
-        1
-    } else {
-        0
-    }
-}
-
-/// Makes room for a packet to one neighbour and then one to a second, at a moment, in milliseconds: the solicitation of the link-layer
-/// address of each, a place for what is told of each, and rings for those that aren't there. A neighbour that enters may push the second
-/// one out, so where the first isn't there, there are two rings in any case. The error is want of memory, and then no more than room has
-/// been made.
+/// Makes room for a packet to one neighbour and then one to a second: the solicitation of the link-layer
+/// address of each, a place for what is told of each, and a ring for each, whoever is there, since the first may push the second out. The error
+/// is want of memory, and then no more than room has been made.
 pub fn ready_for_two<A: Allocator + Clone>(
     neighbours: &mut Cache<A>,
-    now: u64,
-    first: Addr,
-    second: Addr,
     outs: &mut Vec<(u64, Out<A>), A>,
 ) -> Result<(FrameRoom<A>, FrameRoom<A>), AllocError>
     ensures place { OnOk result (vec_len outs.new + 2 ≤ vec_capacity outs.new) }
-    ensures two_rings { OnOk result (node_in (number_of first.0) neighbours.old.nodes ≡ None → 2 ≤ neighbours.new.rings) }
-    ensures one_ring { OnOk result (node_in (number_of second.0) neighbours.old.nodes ≡ None → 0 < neighbours.new.rings) }
+    ensures rings { OnOk result (2 ≤ neighbours.new.rings) }
     ensures nodes { neighbours.new.nodes ≡ neighbours.old.nodes }
     ensures limit { neighbours.new.limit ≡ neighbours.old.limit }
     ensures same { outs.new.items ≡ outs.old.items }
 {
-    let first_solicitation = FrameRoom::new(outs.allocator().clone()?)?;
-    let second_solicitation = FrameRoom::new(outs.allocator().clone()?)?;
+    let first = FrameRoom::new(outs.allocator().clone()?)?;
+    let second = FrameRoom::new(outs.allocator().clone()?)?;
     outs.reserve(2)?;
-    let rings = rings_for_two(neighbours, now, first, second);
-    if neighbours.ready(rings).is_err() {
+    if neighbours.ready(2).is_err() {
         return Err(AllocError);
     }
-    Ok((first_solicitation, second_solicitation))
+    Ok((first, second))
 }
