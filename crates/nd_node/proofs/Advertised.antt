@@ -583,7 +583,6 @@ module _ {R A : Type 0} (stream : R → Stream) (old new : Node R A) (before aft
   stands_all : Stands stream start new all
   stands_all = record {
     role = t.role ∙ s.role;
-    host = s.host;
     mac = t.mac ∙ s.mac;
     address_mac = forms_all.mac;
     neighbour_limit = t.neighbour_limit ∙ s.neighbour_limit;

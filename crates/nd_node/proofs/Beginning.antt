@@ -38,7 +38,6 @@ none_advertised Router now = tt
 -- the values of a node that starts
 pub record Starts {R A : Type 0} (stream : R → Stream) (start : Start) (node : Node R A) : Type 0 where
   pub role : node.role ≡ start.role
-  pub host : start.role ≡ Host
   pub mac : node.mac ≡ start.mac
   pub last : node.last ≡ start.at
   pub drawn_at : node.params.drawn_at ≡ start.at
@@ -58,7 +57,6 @@ pub stands_beginning : {R A : Type 0} (stream : R → Stream) (start : Start) (n
     → stream node.generator ≡ stream_left start (beginning start) → Stands stream start node (beginning start)
 stands_beginning stream start node v params routers' prefixes addresses' neighbours' dns' redirects generator = record {
   role = v.role;
-  host = v.host;
   mac = v.mac;
   address_mac = v.address_mac;
   neighbour_limit = ap (λ (t : neighbours.Table). t.limit) v.neighbours;

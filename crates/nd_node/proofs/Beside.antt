@@ -124,7 +124,6 @@ module _ {R A : Type 0} (stream : R → Stream) (start : Start) (old new : Node 
       → Stands stream start new d
   stands_beside addresses' later_address neighbours' later_neighbour = record {
     role = same.role ∙ s.role;
-    host = s.host;
     mac = same.mac ∙ s.mac;
     address_mac = same.address_mac ∙ s.address_mac;
     neighbour_limit = same.neighbour_limit ∙ s.neighbour_limit;

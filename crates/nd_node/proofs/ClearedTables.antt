@@ -68,7 +68,6 @@ module _ {R A : Type 0} (stream : R → Stream) (start : Start) (old : Node R A)
       → Stands stream start (record old { last = now; prefixes = ps; dns = ds; choice = rs }) ((now, what) ∷ later)
   silent_stands prefixes' dns' redirects' prefixes_by servers_by names_by = record {
     role = s.role;
-    host = s.host;
     mac = s.mac;
     address_mac = s.address_mac;
     neighbour_limit = s.neighbour_limit;

@@ -5,7 +5,6 @@ use Rattle.std.proofs.lemmas.List.{length-take, length-drop, take_min}
 use Rattle.rand_core.specs.Stream.{Stream}
 use Rattle.nd_addr.specs.declared.addr.Addr.{Addr}
 use Rattle.nd_addr.specs.declared.role.Role.{Role}
-use Rattle.nd_addr.specs.declared.role.Role.TheVariants.{Host, Router}
 use Rattle.nd_addr.specs.declared.why.Why.{Why}
 use Rattle.nd_addr.specs.declared.why.Why.TheVariants.{NotForUs, NotFirstHop}
 use Rattle.nd_addr.specs.Ip6.{PacketParts, ipv6_header_length, payload_length_of}
@@ -21,7 +20,7 @@ use Rattle.nd_nexthop.specs.NextHop.{NextHop, via}
 use Rattle.nd_chronicle.specs.Start.{Start}
 use Rattle.nd_chronicle.specs.Happening.{Chronicle, Happening, Dropped, Up, Passed, last_moment}
 use Rattle.nd_chronicle.specs.Hearing as verdicts
-use Rattle.nd_chronicle.specs.Hearing.{FromFirstHop, IsForUs, IsPacketForUs, IsDropped, IsTaken, IsStrange, IsMisdirected, IsPacket, IsStrangePacket, takes_target}
+use Rattle.nd_chronicle.specs.Hearing.{FromFirstHop, IsForUs, IsPacketForUs, IsInTransit, IsDropped, IsTaken, IsStrange, IsMisdirected, IsPacket, IsPassing, IsStrangePacket, takes_target}
 use Rattle.nd_chronicle.specs.NextHop.{IsNextHop}
 use Rattle.nd_chronicle.specs.Event as events
 use Rattle.nd_chronicle.specs.Told.{lines_of, text}
@@ -32,6 +31,7 @@ use Rattle.nd_effects.proofs.Quiet.{Quiet}
 use Rattle.nd_effects.proofs.Telling.{above_silent, one_more}
 use Rattle.nd_node.specs.declared.node.Node.{Node}
 use Rattle.nd_node.specs.Event.{AddsEvent}
+use Rattle.nd_node.specs.Forwarding.{AddsForwarded}
 use Rattle.nd_node.specs.Frame.{AddsAlone, AddsJudged, Stays}
 use Rattle.nd_node.specs.Hearing.{AddsMessage, Keeps}
 use Rattle.nd_node.specs.Node.{Stands, next_of}
@@ -107,7 +107,6 @@ pub stays_keeps : {R A : Type 0} (stream : R → Stream) (old new : Node R A) �
 stays_keeps stream old new k = record {
   each = λ start c s. record {
     role = k.role ∙ s.role;
-    host = s.host;
     mac = k.mac ∙ s.mac;
     address_mac = rw k.addresses s.address_mac;
     neighbour_limit = k.limit ∙ s.neighbour_limit;
@@ -199,9 +198,15 @@ module _ {R A : Type 0} (stream : R → Stream) (old mid new : Node R A) (x y : 
 
 -- ---- a frame
 
--- a host sends no packet on
-not_router : {role : Role} → role ≡ Host → role ≡ Router → ⊥
-not_router host router = let no : ⊥ = cc in no
+-- whether a packet is in transit is the same once time has passed
+pub in_transit_later : (start : Start) (c : Chronicle) (now : ℕ) (packet : PacketParts) → IsInTransit start c packet → IsInTransit start ((now, Passed) ∷ c) packet
+in_transit_later start c now packet t = record { role = t.role; not_ours = λ f. t.not_ours (record { destination_is = f.destination_is; up = f.up }); may = t.may; up = t.up }
+
+in_transit_before : (start : Start) (c : Chronicle) (now : ℕ) (packet : PacketParts) → IsInTransit start ((now, Passed) ∷ c) packet → IsInTransit start c packet
+in_transit_before start c now packet t = record { role = t.role; not_ours = λ f. t.not_ours (record { destination_is = f.destination_is; up = f.up }); may = t.may; up = t.up }
+
+pub is_not : (answer : Bool) (P : Type 0) → answer ≡ true ↔ P → answer ≡ false → P → ⊥
+is_not answer P says is p = let yes' = says.1 p in let never : ⊥ = cc in never
 
 module _ {R A : Type 0} (stream : R → Stream) (old new : Node R A) (x y : List (ℕ × Out A)) (now : ℕ) (frame : List ℕ) where
   -- what it says by itself, at the role of the node
@@ -264,24 +269,49 @@ module _ {R A : Type 0} (stream : R → Stream) (old new : Node R A) (x y : List
     }
 
   module _ (packet : PacketParts) (h : Hears frame old.role (other packet)) (ours : Bool) (says : (start : Start) (c : Chronicle) → Stands stream start old c → ours ≡ true ↔ IsPacketForUs start c packet) where
-    pub packet_is_strange : ours ≡ false → AddsAlone stream old new x y now (Dropped NotForUs) → AddsEvent stream old new x y now (events.Receives frame)
-    packet_is_strange is adds = record {
-      each = λ start c s le.
-          let a = adds.each start c s le in (
-            (now, Dropped NotForUs) ∷ (now, Passed) ∷ c,
-            record {
-              verdict = verdicts.drops NotForUs;
-              heard = record {
-                outcome = other packet;
-                by_frame = by_role start c (other packet) s h;
-                by_node = IsStrangePacket (λ f. let yes' = (says start c s).1 (record { destination_is = f.destination_is; up = f.up }) in let never : ⊥ = cc in never) (λ t. not_router s.host t.role);
-              };
-              adds = refl;
-            },
-            a.0,
-            a.1,
-          );
-    }
+    -- it is to be sent on
+    module _ (stranger : ours ≡ false) (passes : Bool) (in_transit : (start : Start) (c : Chronicle) → Stands stream start old c → (IsPacketForUs start c packet → ⊥) → passes ≡ true ↔ IsInTransit start c packet) where
+      not_ours : (start : Start) (c : Chronicle) → Stands stream start old c → IsPacketForUs start c packet → ⊥
+      not_ours start c s = is_not ours (IsPacketForUs start c packet) (says start c s) stranger
+
+      pub packet_is_strange : passes ≡ false → AddsAlone stream old new x y now (Dropped NotForUs) → AddsEvent stream old new x y now (events.Receives frame)
+      packet_is_strange is adds = record {
+        each = λ start c s le.
+            let a = adds.each start c s le in (
+              (now, Dropped NotForUs) ∷ (now, Passed) ∷ c,
+              record {
+                verdict = verdicts.drops NotForUs;
+                heard = record {
+                  outcome = other packet;
+                  by_frame = by_role start c (other packet) s h;
+                  by_node = IsStrangePacket (λ f. not_ours start c s (record { destination_is = f.destination_is; up = f.up }))
+                      (λ t. is_not passes (IsInTransit start c packet) (in_transit start c s (not_ours start c s)) is (in_transit_before start c now packet t));
+                };
+                adds = refl;
+              },
+              a.0,
+              a.1,
+            );
+      }
+
+      pub packet_goes_on : passes ≡ true → AddsForwarded stream old new x y now packet (events.packet_bytes frame) → AddsEvent stream old new x y now (events.Receives frame)
+      packet_goes_on is adds = record {
+        each = λ start c s le.
+            let a = adds.each start c s le in (
+              a.0,
+              record {
+                verdict = verdicts.goes_on packet;
+                heard = record {
+                  outcome = other packet;
+                  by_frame = by_role start c (other packet) s h;
+                  by_node = IsPassing (in_transit_later start c now packet ((in_transit start c s (not_ours start c s)).0 is));
+                };
+                adds = a.1;
+              },
+              a.2,
+              a.3,
+            );
+      }
 
     pub packet_goes_up : ours ≡ true → AddsAlone stream old new x y now (Up (take (ipv6_header_length + payload_length_of (packet_in frame)) (packet_in frame))) → AddsEvent stream old new x y now (events.Receives frame)
     packet_goes_up is adds = record {

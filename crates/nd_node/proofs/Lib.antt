@@ -24,3 +24,4 @@ pub mod Commands
 pub mod ClearedTables
 pub mod RouterRows
 pub mod RouterCommands
+pub mod InTransit

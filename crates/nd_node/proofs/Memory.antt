@@ -21,7 +21,7 @@ use Rattle.nd_addr.specs.Ip6.{PacketParts}
 use Rattle.nd_validity.specs.Hearing.{other}
 use Rattle.nd_chronicle.specs.Start.{Start}
 use Rattle.nd_chronicle.specs.Happening.{Chronicle}
-use Rattle.nd_chronicle.specs.Hearing.{IsForUs, IsPacketForUs, IsHeard, Judges, IsStrange, IsMisdirected, IsStrangePacket, NotFromFirstHop, drops}
+use Rattle.nd_chronicle.specs.Hearing.{IsForUs, IsInTransit, IsPacketForUs, IsHeard, Judges, IsStrange, IsMisdirected, IsStrangePacket, NotFromFirstHop, drops}
 use Rattle.nd_chronicle.specs.Histories.{given_or_marked}
 use Rattle.nd_effects.specs.LinkLayerAddress.{said_by, waiting_for}
 use Rattle.nd_node.specs.declared.node.Node.{Node}
@@ -54,6 +54,10 @@ misdirected start c now source destination message why u (IsMisdirected u' n) = 
 -- a packet that is for this node isn't
 pub packet_stays : (start : Start) (c : Chronicle) (now : ℕ) (packet : PacketParts) (why : Why) → IsPacketForUs start c packet → Judges start c now (other packet) (drops why) → ⊥
 packet_stays start c now packet why u (IsStrangePacket n no_transit) = n u
+
+-- nor is one that is in transit
+pub passing_stays : (start : Start) (c : Chronicle) (now : ℕ) (packet : PacketParts) (why : Why) → IsInTransit start c packet → Judges start c now (other packet) (drops why) → ⊥
+passing_stays start c now packet why u (IsStrangePacket n no_transit) = no_transit u
 
 -- the node judges what the frame says
 pub judged_by_frame : (start : Start) (c : Chronicle) (now : ℕ) (frame : List ℕ) (role : Role) (said : Outcome) (why : Why) → role ≡ start.role → ((o : Outcome) → Hears frame role o → said ≡ o)

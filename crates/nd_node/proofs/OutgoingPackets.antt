@@ -13,7 +13,7 @@ use Rattle.nd_neighbour.specs.Place.{WouldBeFull}
 use Rattle.nd_neighbour.specs.Room.{has_room}
 use Rattle.nd_nexthop.specs.NextHop.{NextHop, direct, no_route}
 use Rattle.nd_chronicle.specs.Start.{Start}
-use Rattle.nd_chronicle.specs.Happening.{Chronicle, Passed, Refused, Refusal, Full, Neighbours, Lost, Routeless, Sent, last_moment}
+use Rattle.nd_chronicle.specs.Happening.{Chronicle, Passed, Refused, Refusal, Full, Neighbours, Loss, Lost, Routeless, Sent, last_moment}
 use Rattle.nd_chronicle.specs.Histories.{neighbour_history}
 use Rattle.nd_chronicle.specs.NextHop.{IsHopOf}
 use Rattle.nd_chronicle.specs.Event as events
@@ -56,8 +56,8 @@ refused_is_quiet now refusal c is = record {
   last = λ start. sym (is start);
 }
 
-lost_is_quiet : (now : ℕ) (packet : List ℕ) → IsQuiet now (Lost Routeless packet)
-lost_is_quiet now packet c is = record {
+lost_is_quiet : (now : ℕ) (why : Loss) (packet : List ℕ) → IsQuiet now (Lost why packet)
+lost_is_quiet now why packet c is = record {
   parameters = refl;
   neighbours = refl;
   routers = refl;
@@ -92,8 +92,8 @@ module _ {R A : Type 0} (stream : R → Stream) (old new : Node R A) (x y : List
   pub refuses : (refusal : Refusal) → happening out ≡ Refused refusal → AddsAlone stream old new x y now (Refused refusal)
   refuses refusal out_is = alone stream old new x y now out settled is told (Refused refusal) (refused_is_quiet now refusal) out_is
 
-  pub loses : (packet : List ℕ) → happening out ≡ Lost Routeless packet → AddsAlone stream old new x y now (Lost Routeless packet)
-  loses packet out_is = alone stream old new x y now out settled is told (Lost Routeless packet) (lost_is_quiet now packet) out_is
+  pub loses : (why : Loss) (packet : List ℕ) → happening out ≡ Lost why packet → AddsAlone stream old new x y now (Lost why packet)
+  loses why packet out_is = alone stream old new x y now out settled is told (Lost why packet) (lost_is_quiet now why packet) out_is
 
   pub sends : (packet : List ℕ) → happening out ≡ Sent packet → AddsAlone stream old new x y now (Sent packet)
   sends packet out_is = alone stream old new x y now out settled is told (Sent packet) (sent_is_quiet now packet) out_is

@@ -253,6 +253,6 @@ module _ {R A : Type 0} (stream : R → Stream) (old : Node R A) (now : ℕ) (so
             behind start later after,
             (None, plain.fills start later None (record { neighbours = true; placed = rw (plain.needs_is later) placed'; first = refl }), plain.adds start later p.placed p.place),
             follows start later after (ap (λ (p : List advertising_rows.Row × List route_rows.Row). p.0) (q.router start ∙ apart.router start)) (q.last start.at) (stands_quiet stream start new before after q stands_before),
-            told_too (behind start later after) (silent start later after) (Tells-then c before after x y z heard_text frames_text),
+            told_too {d = after} (behind start later after) (silent start later after) (Tells-then c before after x y z heard_text frames_text),
           );
     }

@@ -12,7 +12,6 @@ use Rattle.nd_node.specs.Node.{Stands}
 pub stands_quiet : {R A : Type 0} (stream : R → Stream) (start : Start) (node : Node R A) (c d : Chronicle) → Quiet c d → Stands stream start node c → Stands stream start node d
 stands_quiet stream start node c d q s = record {
   role = s.role;
-  host = s.host;
   mac = s.mac;
   address_mac = s.address_mac;
   neighbour_limit = s.neighbour_limit;

@@ -157,7 +157,7 @@ module _ {R A : Type 0} (stream : R → Stream) (old new : Node R A) (now : ℕ)
 -- ---- it ceases to advertise
 
 -- what is told of it
-abbrev told_end : Bool → Option (List ℕ) → List Happening
+abbrev pub told_end : Bool → Option (List ℕ) → List Happening
 told_end tells made = if tells then advertised_by made else []
 
 end_is_quiet : (start : Start) (at : ℕ) (tells : Bool) (message : Option Parts) (c : Chronicle) → ((s : ℕ) → last_moment s c ≡ at) → Quiet c (telling_end start at tells message c)

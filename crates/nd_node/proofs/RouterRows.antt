@@ -89,7 +89,6 @@ module _ {R A : Type 0} (stream : R → Stream) (start : Start) (old : Node R A)
       → Stands stream start (record old { router = r; generator = g }) d
   stands_aside r g stands' generator later = record {
     role = s.role;
-    host = s.host;
     mac = s.mac;
     address_mac = s.address_mac;
     neighbour_limit = s.neighbour_limit;

@@ -86,7 +86,6 @@ module _ {R A : Type 0} (stream : R → Stream) (start : Start) (old new : Node 
       → choice.Stands new.choice (redirect_history d) → Stands stream start new d
   stands_at routers' later_router addresses' later_address neighbours' later_neighbour redirects' = record {
     role = same.role ∙ s.role;
-    host = s.host;
     mac = same.mac ∙ s.mac;
     address_mac = same.address_mac ∙ s.address_mac;
     neighbour_limit = same.neighbour_limit ∙ s.neighbour_limit;

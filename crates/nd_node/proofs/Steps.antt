@@ -32,7 +32,6 @@ pub passed : {R A : Type 0} (stream : R → Stream) (start : Start) (old new : N
     → new ≡ record old { last = now } → Stands stream start new ((now, Passed) ∷ c)
 passed stream start old new c now s le settled is = rw is (record {
   role = s.role;
-  host = s.host;
   mac = s.mac;
   address_mac = s.address_mac;
   neighbour_limit = s.neighbour_limit;

@@ -156,7 +156,6 @@ module _ {R A : Type 0} (stream : R → Stream) (start : Start) (old new : Node 
       → stream new.generator ≡ stream_left start d → now ≤ next_of new → Stands stream start new d
   then_row d at p v n params routers' addresses' neighbours' redirects' solicitations' router' generator' later = record {
     role = turns.role ∙ s.role;
-    host = s.host;
     mac = turns.mac ∙ s.mac;
     address_mac = turns.address_mac ∙ s.address_mac;
     neighbour_limit = turns.neighbour_limit ∙ s.neighbour_limit;

@@ -10,3 +10,4 @@ pub mod Memory
 pub mod Event
 pub mod Frame
 pub mod OutgoingPacket
+pub mod Forwarding

@@ -3,7 +3,6 @@ use Rattle.std.specs.Prelude.{◌≡◌, ℕ, ◌+◌, ◌-◌, ◌<◌, ◌≤�
 use Rattle.rand_core.specs.Stream.{Stream}
 use Rattle.nd_addr.specs.declared.mac.Mac.{Mac}
 use Rattle.nd_addr.specs.declared.role.Role.{Role}
-use Rattle.nd_addr.specs.declared.role.Role.TheVariants.{Host}
 use Rattle.nd_lifetime.specs.History as lifetimes
 use Rattle.nd_lifetime.specs.Listing as lists
 use Rattle.nd_lifetime.specs.Same.{same_prefix}
@@ -50,7 +49,6 @@ next_of node =
 -- and nothing that is due has been passed over.
 pub record Stands {R A : Type 0} (stream : R → Stream) (start : Start) (node : Node R A) (c : Chronicle) : Type 0 where
   pub role : node.role ≡ start.role
-  pub host : start.role ≡ Host
   pub mac : node.mac ≡ start.mac
   pub address_mac : node.addresses.mac ≡ start.mac
   pub neighbour_limit : node.neighbours.limit ≡ start.limits.neighbours

@@ -30,8 +30,9 @@ impl<R: Rng + Drop, A: Allocator + Clone> Node<R, A> {
         ensures stays { OnErr result (Stays R.stream self.old self.new) }
         ensures told { OnErr result (outs.new.items ≡ outs.old.items) }
     {
-        if self.role == Role::Host {
-            return self.refuse(now, Refusal::WrongRole, outs);
+        match self.role {
+            Role::Host => return self.refuse(now, Refusal::WrongRole, outs),
+            Role::Router => {}
         }
         self.last = now;
         self.router.advertiser.begin(now, config);
@@ -51,8 +52,9 @@ impl<R: Rng + Drop, A: Allocator + Clone> Node<R, A> {
         ensures stays { OnErr result (Stays R.stream self.old self.new) }
         ensures told { OnErr result (outs.new.items ≡ outs.old.items) }
     {
-        if self.role == Role::Host {
-            return self.refuse(now, Refusal::WrongRole, outs);
+        match self.role {
+            Role::Host => return self.refuse(now, Refusal::WrongRole, outs),
+            Role::Router => {}
         }
         match self.router.advertiser.put(offer) {
             Ok(()) => {
@@ -76,8 +78,9 @@ impl<R: Rng + Drop, A: Allocator + Clone> Node<R, A> {
         ensures stays { OnErr result (Stays R.stream self.old self.new) }
         ensures told { OnErr result (outs.new.items ≡ outs.old.items) }
     {
-        if self.role == Role::Host {
-            return self.refuse(now, Refusal::WrongRole, outs);
+        match self.role {
+            Role::Host => return self.refuse(now, Refusal::WrongRole, outs),
+            Role::Router => {}
         }
         let own = link_local(&self.addresses);
         let alloc = outs.allocator().clone()?;

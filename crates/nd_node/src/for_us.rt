@@ -1,4 +1,4 @@
-//! Whether what comes is for this node.
+//! Whether what comes is for this node, or is to be sent on.
 
 ghost use Rattle.std.specs.Prelude.{◌≡◌, ◌↔◌, true};
 ghost use Rattle.nd_addr.specs.Ip6.{PacketParts};
@@ -7,16 +7,17 @@ ghost use Rattle.nd_chronicle.specs.Happening.{Chronicle};
 ghost use Rattle.nd_chronicle.specs.Start.{Start};
 
 use crate::node::Node;
-use nd_addr::Addr;
 use nd_addr::laws::addresses_are_told_by_numbers;
+use nd_addr::{Addr, Ip6, Role};
 use nd_decode::Body;
 use nd_effects::{is_awake, is_to_nodes, is_to_routers, takes_target};
+use nd_routes::may_be_forwarded;
 use nd_slaac::Counted;
 use rand_core::Rng;
 use std::alloc::Allocator;
 
 impl<R: Rng + Drop, A: Allocator + Clone> Node<R, A> {
-    ghost use Rattle.nd_chronicle.specs.Hearing.{IsOurs, IsForUs, IsPacketForUs};
+    ghost use Rattle.nd_chronicle.specs.Hearing.{IsOurs, IsForUs, IsInTransit, IsPacketForUs};
     ghost use Rattle.nd_chronicle.specs.OwnAddress.{is_up};
     ghost use Rattle.nd_effects.specs.ForUs.{counting};
     ghost use Rattle.nd_node.specs.Node.{Stands};
@@ -65,5 +66,19 @@ impl<R: Rng + Drop, A: Allocator + Clone> Node<R, A> {
             return false;
         }
         self.is_ours(Counted::Assigned, destination)
+    }
+
+    /// Whether a packet that isn't for this node is to be sent on: the node is a router whose link-local address is assigned, and neither the
+    /// source nor the destination keeps the packet on its link (RFC 4291, section 2.5.6).
+    pub(crate) fn is_in_transit(&self, header: &Ip6) -> bool
+        ensures { (start : Start) (c : Chronicle) (packet : PacketParts) → Stands R.stream start self.now c → packet.header ≡ header.now → (IsPacketForUs start c packet → ⊥) → result ≡ true ↔ IsInTransit start c packet }
+    {
+        if self.role == Role::Host {
+            return false;
+        }
+        if !self.is_up() {
+            return false;
+        }
+        may_be_forwarded(header)
     }
 }

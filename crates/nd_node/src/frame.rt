@@ -27,7 +27,8 @@ use std::alloc::{AllocError, Allocator};
 impl<R: Rng + Drop, A: Allocator + Clone> Node<R, A> {
     ghost use Rattle.nd_node.specs.Node.{Stands, next_of};
 
-    /// A packet that is no message of Neighbor Discovery goes to the upper layer, if it is for an assigned address.
+    /// A packet that is no message of Neighbor Discovery goes to the upper layer, if it is for an assigned address, and on to another node, if
+    /// it is in transit (RFC 8200, section 3).
     fn hear_packet(
         &mut self,
         now: u64,
@@ -35,6 +36,7 @@ impl<R: Rng + Drop, A: Allocator + Clone> Node<R, A> {
         packet: Ip6Ref<'_>,
         outs: &mut Vec<(u64, Out<A>), A>,
     ) -> Result<(), AllocError>
+        requires moment { now < 2 ^ 62 }
         requires settled { now < next_of self.old }
         requires by_frame { Hears frame.now self.old.role (other (packet_parts packet)) }
         ensures adds { OnOk result (AddsEvent R.stream self.old self.new outs.old.items outs.new.items now (events.Receives frame.now)) }
@@ -43,6 +45,9 @@ impl<R: Rng + Drop, A: Allocator + Clone> Node<R, A> {
         ensures quiet { (why : Why) (start : Start) (c : Chronicle) → Stands R.stream start self.old c → last_moment start.at c ≤ now → Judges start ((now, Passed) ∷ c) now (other (packet_parts packet.entry)) (drops why) → vec_len outs.old < vec_capacity outs.old → IsOk result }
     {
         if !self.is_packet_for_us(packet.header.destination) {
+            if self.is_in_transit(&packet.header) {
+                return self.forward(now, frame, &packet, outs);
+            }
             return self.drop_frame(now, Why::NotForUs, outs);
         }
         let mut up = Vec::new(outs.allocator().clone()?);

@@ -9,6 +9,7 @@ mod due;
 mod event;
 mod first_hop;
 mod for_us;
+mod forwarding;
 mod frame;
 mod fullness;
 mod message;

@@ -1,5 +1,4 @@
 ghost use Rattle.std.specs.Prelude.{◌≡◌, ◌^◌, ◌<◌, IfOk, IfErr};
-ghost use Rattle.nd_addr.specs.declared.role.Role.TheVariants.{Host};
 
 use crate::room::Room;
 use nd_addr::{Mac, Role};
@@ -45,8 +44,7 @@ impl<R: Rng + Drop, A: Allocator + Copy> Node<R, A> {
     /// forms (RFC 4861, section 6.3.2; RFC 4862, sections 5.3 and 5.4.2). The error is want of memory: it hands the generator back, of
     /// which no word was taken.
     pub fn new(alloc: A, role: Role, mac: Mac, start: u64, mut generator: R) -> Result<Self, R>
-        requires early { start < 2 ^ 62 }
-        requires host { role ≡ Host }
+        requires { start < 2 ^ 62 }
         ensures stands { IfOk result (λ node. let first = starting start role mac (R.stream generator) in Stands R.stream first node (beginning first)) }
         ensures kept { IfErr result (λ rest. R.stream rest ≡ R.stream generator) }
     {

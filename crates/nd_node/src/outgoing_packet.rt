@@ -4,14 +4,14 @@ ghost use Rattle.std.specs.Prelude.{◌≡◌, ◌<◌, ◌≤◌, ◌^◌, leng
 ghost use Rattle.nd_addr.specs.Number.{number_of};
 ghost use Rattle.nd_chronicle.specs.Event as events;
 ghost use Rattle.nd_chronicle.specs.Event.{refusal_of_packet};
-ghost use Rattle.nd_chronicle.specs.Happening.{Chronicle, Lost, Routeless, Sent};
+ghost use Rattle.nd_chronicle.specs.Happening.{Chronicle, Lost, Sent};
 ghost use Rattle.nd_chronicle.specs.Start.{Start};
 ghost use Rattle.nd_nexthop.specs.NextHop.{hop_of, direct};
 ghost use Rattle.nd_node.specs.Event.{AddsEvent};
 ghost use Rattle.nd_node.specs.Frame.{AddsAlone, Stays};
 ghost use Rattle.nd_node.specs.Hearing.{Keeps};
 ghost use Rattle.nd_node.specs.OutgoingPacket.{AddsPacket, AddsToNeighbour};
-ghost use Rattle.nd_out.specs.Out.{refusal_of};
+ghost use Rattle.nd_out.specs.Out.{loss_of, refusal_of};
 
 use crate::node::Node;
 use nd_addr::{Addr, Mac};
@@ -49,19 +49,20 @@ impl<R: Rng + Drop, A: Allocator + Clone> Node<R, A> {
         None
     }
 
-    /// A packet without a next hop is lost (RFC 4861, section 5.2). The error is want of memory, and then nothing has changed.
-    fn lose(
+    /// A packet is lost for a reason (RFC 4861, section 5.2; RFC 8200, section 3). The error is want of memory, and then nothing has changed.
+    pub(crate) fn lose(
         &mut self,
         now: u64,
+        why: Loss,
         packet: Packet<A>,
         outs: &mut Vec<(u64, Out<A>), A>,
     ) -> Result<(), AllocError>
         requires settled { now < next_of self.old }
-        ensures adds { OnOk result (AddsAlone R.stream self.old self.new outs.old.items outs.new.items now (Lost Routeless packet)) }
+        ensures adds { OnOk result (AddsAlone R.stream self.old self.new outs.old.items outs.new.items now (Lost (loss_of why) packet)) }
         ensures keeps { OnErr result (Keeps self.old self.new) }
         ensures told { OnErr result (outs.new.items ≡ outs.old.items) }
     {
-        outs.push((now, Out::Lost(Loss::NoRoute, packet)))?;
+        outs.push((now, Out::Lost(why, packet)))?;
         self.last = now;
         Ok(())
     }
@@ -86,7 +87,7 @@ impl<R: Rng + Drop, A: Allocator + Clone> Node<R, A> {
 
     /// A packet goes to a neighbour, and is refused where that has no place (RFC 4861, sections 7.2.2 and 7.3.3). The error is want of
     /// memory, and then nothing has changed.
-    fn send_to(
+    pub(crate) fn send_to(
         &mut self,
         now: u64,
         to: Addr,
@@ -167,7 +168,7 @@ impl<R: Rng + Drop, A: Allocator + Clone> Node<R, A> {
             Hop::NoRoute => {
                 let alloc = outs.allocator().clone()?;
                 let packet = outgoing.frame(alloc, OPEN_MAC, self.mac, hop_limit)?;
-                self.lose(now, packet, outs)
+                self.lose(now, Loss::NoRoute, packet, outs)
             }
         }
     }

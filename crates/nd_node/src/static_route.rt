@@ -28,8 +28,9 @@ impl<R: Rng + Drop, A: Allocator + Clone> Node<R, A> {
         ensures stays { OnErr result (Stays R.stream self.old self.new) }
         ensures told { OnErr result (outs.new.items ≡ outs.old.items) }
     {
-        if self.role == Role::Host {
-            return self.refuse(now, Refusal::WrongRole, outs);
+        match self.role {
+            Role::Host => return self.refuse(now, Refusal::WrongRole, outs),
+            Role::Router => {}
         }
         match self.router.routes.put(kept.prefix, kept.route) {
             Ok(()) => {

@@ -4,8 +4,8 @@ use Rattle.nd_neighbour.specs.View.{sending_of}
 use Rattle.nd_node.proofs.Packets.{packet_leads}
 use Rattle.nd_node.proofs.node.Node.go.Goals as goal
 
-pub returns : goal.returns
-returns g c =
+pub returns-clause-leads : goal.returns-clause-leads
+returns-clause-leads g c =
     packet_leads g.R.Rng.stream c.args.self.now _ c.args.outs.now.items _ c.args.now (number_of c.args.to.0) _ c.args.packet c.none_overdue.ensures.still c.none_overdue.ensures.table c.one_is_pushed_out.ensures
     c.requires.last
     (record { role = refl; mac = refl; generator = refl; last = refl; params = refl; routers = refl; prefixes = refl; dns = refl; choice = refl; solicitations = refl; router = refl; address_mac = refl; neighbour_limit = c.in-Ok.ensures.limit })

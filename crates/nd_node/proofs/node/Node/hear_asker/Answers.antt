@@ -34,4 +34,4 @@ returns-clause-adds g c =
     (subst (λ (nodes : List entries.Node). HearsOf c.make_room.new.neighbours.limit c.args.now (option_map (said_by times) c.news_of-news.result) nodes heard.new.neighbours.nodes before after heard.result) c.make_room.ensures.nodes heard.ensures.hears))
     c.make_room.ensures.same c.push_reserved.ensures.items refl
     c.go.new.self c.go.new.outs.items c.requires.specified c.room_is_place.ensures c.full_by_history.ensures (sym c.if-not-room.ensures.value)
-    c.is_router-router.result c.is_router-router.ensures _ c.answer-answer.ensures c.go.ensures
+    c.is_router-router.result c.is_router-router.ensures _ c.answer-answer.ensures c.go.ensures.leads

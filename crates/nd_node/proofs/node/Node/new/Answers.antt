@@ -22,7 +22,6 @@ returns-clause-stands g c =
     stands_beginning stream first _
     (record {
       role = refl;
-      host = c.requires.host;
       mac = refl;
       last = refl;
       drawn_at = ap (λ (v : parameters.Values). v.drawn_at) c.new-params.ensures.value;

@@ -1,0 +1,21 @@
+use Rattle.std.proofs.Common.{Bool, [], ◌++◌, append-nil, refl, sym, ◌∙◌, ap}
+use Rattle.nd_addr.specs.declared.mac.Mac.{Mac}
+use Rattle.nd_addr.specs.Number.{addr_at}
+use Rattle.nd_slaac.specs.PrefixOption.{link_local_of}
+use Rattle.nd_effects.specs.Told.{advertised_by, at_moment, happenings}
+use Rattle.nd_node.proofs.RouterCommands.{ceases, told_end}
+use Rattle.nd_node.proofs.node.Node.cease.Goals as goal
+
+pub returns-then-stop-clause-adds : goal.returns-then-stop-clause-adds
+returns-then-stop-clause-adds g c =
+    ceases g.R.Rng.stream c.args.self.now _ c.args.now c.requires.settled c.in-Router.is (record c.args.self.now.router { advertiser = c.stop.new.self }) refl c.args.outs.now.items c.tell_advertisement.new.outs.items
+    c.link_local-own.result (λ start m. c.link_local-own.ensures ∙ ap (λ (mac : Mac). addr_at (link_local_of mac)) m) c.in_ok-last.last c.in_ok-last.ensures c.stop.result c.stop.ensures.by_history c.stop.ensures.stands refl
+    (advertised_by c.in_ok-last.last) (sym (ap (λ (b : Bool). told_end b c.in_ok-last.last) c.if-stop.true))
+    (c.tell_advertisement.ensures ∙ ap (λ l. happenings l ++ at_moment c.args.now (advertised_by c.in_ok-last.last)) c.in_ok-reserve.ensures.items)
+
+pub returns-else-stop-clause-adds : goal.returns-else-stop-clause-adds
+returns-else-stop-clause-adds g c =
+    ceases g.R.Rng.stream c.args.self.now _ c.args.now c.requires.settled c.in-Router.is (record c.args.self.now.router { advertiser = c.stop.new.self }) refl c.args.outs.now.items c.reserve.new.self.items
+    c.link_local-own.result (λ start m. c.link_local-own.ensures ∙ ap (λ (mac : Mac). addr_at (link_local_of mac)) m) c.in_ok-last.last c.in_ok-last.ensures c.stop.result c.stop.ensures.by_history c.stop.ensures.stands refl
+    [] (sym (ap (λ (b : Bool). told_end b c.in_ok-last.last) c.if-stop.false))
+    (ap happenings c.in_ok-reserve.ensures.items ∙ sym (append-nil _))

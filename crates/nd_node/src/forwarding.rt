@@ -1,0 +1,142 @@
+//! A packet in transit, which a router sends on (RFC 8200, section 3; RFC 4861, section 8.2).
+
+ghost use Rattle.std.specs.Prelude.{◌≡◌, ◌<◌, ◌≤◌, ◌^◌, None, OnErr, OnOk, Some, length};
+ghost use Rattle.nd_addr.specs.Ip6.{packet_parts};
+ghost use Rattle.nd_addr.specs.Number.{number_of};
+ghost use Rattle.nd_chronicle.specs.Event.{packet_bytes};
+ghost use Rattle.nd_node.specs.Forwarding.{AddsForwarded, AddsLostInTransit, AddsOnward, AddsSentOn};
+ghost use Rattle.nd_node.specs.Hearing.{Keeps};
+ghost use Rattle.nd_out.specs.Out.{loss_of};
+ghost use Rattle.nd_validity.specs.Hearing.{Hears, other};
+
+use crate::node::Node;
+use nd_addr::{Addr, Ip6Ref};
+use nd_effects::{
+    better_hop_frame, frame_as_it_came, frame_sent_on, link_local, packet_in, ready_for_two,
+};
+use nd_out::{Limit, Loss, Out, Refusal};
+use nd_routes::Fate;
+use nd_slaac::Counted;
+use rand_core::Rng;
+use std::alloc::{AllocError, Allocator};
+
+impl<R: Rng + Drop, A: Allocator + Clone> Node<R, A> {
+    ghost use Rattle.nd_node.specs.Node.{next_of};
+
+    /// A packet in transit comes in a frame, at a moment, in milliseconds, up to which nothing is due: it is sent on to its next hop, or lost
+    /// where there is none or its hop limit is spent (RFC 8200, section 3). The error is want of memory, and then nothing has changed.
+    pub(crate) fn forward(
+        &mut self,
+        now: u64,
+        frame: &[u8],
+        packet: &Ip6Ref<'_>,
+        outs: &mut Vec<(u64, Out<A>), A>,
+    ) -> Result<(), AllocError>
+        requires moment { now < 2 ^ 62 }
+        requires settled { now < next_of self.old }
+        requires by_frame { Hears frame.now self.old.role (other (packet_parts packet.now)) }
+        ensures adds { OnOk result (AddsForwarded R.stream self.old self.new outs.old.items outs.new.items now (packet_parts packet.now) (packet_bytes frame.now)) }
+        ensures keeps { OnErr result (Keeps self.old self.new) }
+        ensures told { OnErr result (outs.new.items ≡ outs.old.items) }
+    {
+        let header = &packet.header;
+        let own = self.addresses.counts(Counted::Own, header.destination);
+        let bytes = packet_in(frame, packet.payload.len());
+        match self.router.routes.forward(header, own) {
+            Fate::NoRoute => self.lose_in_transit(now, Loss::NoRoute, packet, outs),
+            Fate::HopLimit => self.lose_in_transit(now, Loss::HopLimit, packet, outs),
+            Fate::Direct => self.send_on(now, header.destination, own, packet, bytes, outs),
+            Fate::Via(router) => self.send_on(now, router, own, packet, bytes, outs),
+        }
+    }
+
+    /// A packet in transit that isn't sent on is lost for a reason, and told of as it came. The error is want of memory, and then nothing
+    /// has changed.
+    fn lose_in_transit(
+        &mut self,
+        now: u64,
+        why: Loss,
+        packet: &Ip6Ref<'_>,
+        outs: &mut Vec<(u64, Out<A>), A>,
+    ) -> Result<(), AllocError>
+        requires settled { now < next_of self.old }
+        requires short { length packet.now.payload.now ≤ 65535 }
+        ensures adds { OnOk result (AddsLostInTransit R.stream self.old self.new outs.old.items outs.new.items now (loss_of why) (packet_parts packet.now)) }
+        ensures keeps { OnErr result (Keeps self.old self.new) }
+        ensures told { OnErr result (outs.new.items ≡ outs.old.items) }
+    {
+        let frame = frame_as_it_came(outs.allocator().clone()?, self.mac, packet)?;
+        self.lose(now, why, frame, outs)
+    }
+
+    /// A packet whose destination is an own address or isn't is sent on to its next hop, behind a Redirect where who sent it has a better
+    /// first hop (RFC 4861, section 8.2). It is in a frame from whose IPv6 header on there are these bytes. The error is want of memory, and
+    /// then nothing has changed.
+    fn send_on(
+        &mut self,
+        now: u64,
+        hop: Addr,
+        own: bool,
+        packet: &Ip6Ref<'_>,
+        bytes: &[u8],
+        outs: &mut Vec<(u64, Out<A>), A>,
+    ) -> Result<(), AllocError>
+        requires moment { now < 2 ^ 62 }
+        requires settled { now < next_of self.old }
+        requires short { length packet.now.payload.now ≤ 65535 }
+        ensures adds { OnOk result (AddsOnward R.stream self.old self.new outs.old.items outs.new.items now (number_of hop.0) own (packet_parts packet.now) bytes.now) }
+        ensures keeps { OnErr result (Keeps self.old self.new) }
+        ensures told { OnErr result (outs.new.items ≡ outs.old.items) }
+    {
+        match self.router.routes.redirect_for(now, &packet.header, own) {
+            None => {
+                let frame = frame_sent_on(outs.allocator().clone()?, self.mac, packet)?;
+                self.send_to(now, hop, frame, outs)
+            }
+            Some(target) => self.redirect_and_send(now, hop, target, packet, bytes, outs),
+        }
+    }
+
+    /// A packet is sent on to its next hop behind a Redirect of a target to who sent it, or both are refused where one of the two neighbours
+    /// has no place (RFC 4861, section 8.2). The error is want of memory, and then nothing has changed.
+    fn redirect_and_send(
+        &mut self,
+        now: u64,
+        hop: Addr,
+        target: Addr,
+        packet: &Ip6Ref<'_>,
+        bytes: &[u8],
+        outs: &mut Vec<(u64, Out<A>), A>,
+    ) -> Result<(), AllocError>
+        requires moment { now < 2 ^ 62 }
+        requires settled { now < next_of self.old }
+        requires short { length packet.now.payload.now ≤ 65535 }
+        ensures adds { OnOk result (AddsSentOn R.stream self.old self.new outs.old.items outs.new.items now (number_of hop.0) (Some target) (packet_parts packet.now) bytes.now) }
+        ensures keeps { OnErr result (Keeps self.old self.new) }
+        ensures told { OnErr result (outs.new.items ≡ outs.old.items) }
+    {
+        let source = packet.header.source;
+        if !self.neighbours.room(now, source, Some(hop)) {
+            return self.refuse(now, Refusal::Full(Limit::Neighbours), outs);
+        }
+        let alloc = outs.allocator().clone()?;
+        let own = link_local(&self.addresses);
+        let redirect = better_hop_frame(
+            &alloc,
+            self.mac,
+            own,
+            &self.neighbours,
+            now,
+            target,
+            packet,
+            bytes,
+        )?;
+        let frame = frame_sent_on(alloc, self.mac, packet)?;
+        let (first, second) = ready_for_two(&mut self.neighbours, outs)?;
+        self.last = now;
+        self.router.routes.redirected(now);
+        self.go(now, source, redirect, first, outs);
+        self.go(now, hop, frame, second, outs);
+        Ok(())
+    }
+}
