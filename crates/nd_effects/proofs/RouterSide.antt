@@ -1,13 +1,11 @@
 -- What only a router has stands for a chronicle with more.
-use Rattle.std.proofs.Common.{◌≡◌, ℕ, ◌<◌, ◌≤◌, ◌∷◌, Bool, true, false, List, Option, Some, None, refl, sym, ◌∙◌, ap, subst, arith}
+use Rattle.std.proofs.Common.{◌≡◌, ℕ, ◌≤◌, ◌∷◌, Bool, true, false, List, Option, Some, None, refl, ◌∙◌, ap, subst, arith}
 use Rattle.std.specs.Prelude.{◌==◌, if◌then◌else◌}
-use Rattle.std.specs.Option.{option_map, option_to_list}
-use Rattle.rand_core.specs.Stream.{Stream, next_u32}
 use Rattle.nd_addr.specs.declared.role.Role.{Role}
 use Rattle.nd_addr.specs.declared.role.Role.TheVariants.{Host, Router}
 use Rattle.nd_table.specs.Due.{NotBefore}
 use Rattle.nd_advertiser.specs.Advertising.{advertised_by, next_of}
-use Rattle.nd_advertiser.specs.Calls.{next, settings_in}
+use Rattle.nd_advertiser.specs.Calls.{next}
 use Rattle.nd_advertiser.specs.Config.{Settings}
 use Rattle.nd_advertiser.specs.History as advertising_rows
 use Rattle.nd_advertiser.specs.Overdue.{IsAfter, IsOf}
@@ -17,7 +15,7 @@ use Rattle.nd_slaac.specs.Due.{Falls, Ends, Solicits, Assigns, key_in, happens}
 use Rattle.nd_slaac.specs.History as address_rows
 use Rattle.nd_chronicle.specs.Start.{Start, link_local_key}
 use Rattle.nd_chronicle.specs.Happening.{Chronicle, Address}
-use Rattle.nd_chronicle.specs.Histories.{advertising_history, route_history, then_assigned}
+use Rattle.nd_chronicle.specs.Histories.{advertising_history, route_history}
 use Rattle.nd_chronicle.specs.Due.{is_host, router_advertisement_date}
 use Rattle.nd_effects.specs.declared.router_tables.RouterTables.{RouterTables}
 use Rattle.nd_effects.specs.Router.{NotesAddress, Stands, after_last, next_advertisement, router_side}

@@ -1,9 +1,8 @@
 -- Rows of what only a router has, and the chronicle that a node stands for.
-use Rattle.std.proofs.Common.{◌≡◌, ℕ, ◌<◌, ◌≤◌, Bool, true, false, List, [], ◌∷◌, ◌++◌, append-nil, Option, Some, None, refl, sym, ◌∙◌, ap, subst, arith}
-use Rattle.rand_core.specs.Stream.{Stream, next_u32}
+use Rattle.std.proofs.Common.{◌≡◌, ℕ, ◌∷◌, refl, sym, ◌∙◌}
+use Rattle.rand_core.specs.Stream.{Stream}
 use Rattle.nd_table.specs.Due.{NotBefore}
 use Rattle.nd_addr.specs.Prefix.{PrefixValue}
-use Rattle.nd_addr.specs.declared.role.Role.{Role}
 use Rattle.nd_advertiser.specs.Config.{Settings}
 use Rattle.nd_advertiser.specs.History as advertising_rows
 use Rattle.nd_advertiser.specs.Overdue.{IsOf}
@@ -20,9 +19,9 @@ use Rattle.nd_chronicle.specs.Due.{solicited_routers}
 use Rattle.nd_effects.specs.Router as router_only
 use Rattle.nd_effects.specs.Router.{next_advertisement}
 use Rattle.nd_effects.specs.declared.router_tables.RouterTables.{RouterTables}
-use Rattle.nd_effects.proofs.RouterSide.{advertisement_date, later_row, stands_row}
+use Rattle.nd_effects.proofs.RouterSide.{later_row, stands_row}
 use Rattle.nd_node.specs.declared.node.Node.{Node}
-use Rattle.nd_node.specs.Node.{Stands, next_of}
+use Rattle.nd_node.specs.Node.{Stands}
 use Rattle.nd_node.proofs.Turns.{advertisement_before, all_later, addresses_before, neighbours_before, redraw_before, routers_before, solicitation_before}
 
 -- what happened between the two concerns none of the tables that a host has, and no time passed

@@ -1,5 +1,5 @@
 -- The walk over the milliseconds, and the turns that make it.
-use Rattle.std.proofs.Common.{◌≡◌, ℕ, ◌+◌, ◌<◌, ◌≤◌, List, [], ◌++◌, Option, Some, None, refl, ◌∙◌, ap, subst, arith, ⊎_elim}
+use Rattle.std.proofs.Common.{◌≡◌, ℕ, ◌+◌, ◌<◌, ◌≤◌, List, ◌++◌, Option, Some, None, refl, ◌∙◌, ap, subst, arith, ⊎_elim}
 use Rattle.std.proofs.lemmas.Bool.{cases_lt}
 use Rattle.std.specs.Option.{option_map}
 use Rattle.rand_core.specs.Stream.{Stream}
@@ -57,7 +57,7 @@ told_of_due start c now mac own made Redraws due frame = refl
 -- the frame that a node made of an advertisement that is due is that of the chronicle
 made_before : {R A : Type 0} (stream : R → Stream) (start : Start) (node : Node R A) (c : Chronicle) (now : ℕ) (own : Addr) (made : Option (List ℕ)) → Stands stream start node c → own ≡ link_local start
     → ((history : List advertising_rows.Row) → advertising.Stands node.router.advertiser history → next_advertisement node.role node.router ≡ Some now
-        → made ≡ option_map (router_advertisement_frame node.mac own) (contents_of node.mac history))
+    → made ≡ option_map (router_advertisement_frame node.mac own) (contents_of node.mac history))
     → router_advertisement_date start c ≡ Some now → made ≡ frame_of start (contents_of start.mac (advertising_history start c))
 made_before stream start node c now own made s own_is by_history date =
     by_history (advertising_history start c) s.router.advertiser (advertisement_date start node.role node.router c s.role s.router ∙ date)
@@ -70,7 +70,7 @@ pub turn_leads : {R A : Type 0} (stream : R → Stream) (old new : Node R A) (x 
     → ((start : Start) (c : Chronicle) → Stands stream start old c → Stands stream start new (comes start now what c))
     → ((start : Start) → old.addresses.mac ≡ start.mac → own ≡ link_local start)
     → ((history : List advertising_rows.Row) → advertising.Stands old.router.advertiser history → next_advertisement old.role old.router ≡ Some now
-        → made ≡ option_map (router_advertisement_frame old.mac own) (contents_of old.mac history))
+    → made ≡ option_map (router_advertisement_frame old.mac own) (contents_of old.mac history))
     → happenings y ≡ happenings x ++ at_moment now (told_of new.mac own (advertised_by made) what) → Leads stream old new x y (Comes now)
 turn_leads stream old new x y now what own made due stands own_is by_history told = record {
   each = λ start c s.

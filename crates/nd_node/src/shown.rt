@@ -4,7 +4,8 @@ ghost use Rattle.nd_node.specs.Event.{table_of};
 use crate::event::Table;
 use crate::node::Node;
 use nd_out::{
-    address_rows, advertise_rows, dns_rows, neighbour_rows, parameter_row, prefix_rows, redirect_rows, route_rows, router_rows,
+    address_rows, advertise_rows, dns_rows, neighbour_rows, parameter_row, prefix_rows,
+    redirect_rows, route_rows, router_rows,
 };
 use rand_core::Rng;
 use std::alloc::{AllocError, Allocator};
