@@ -43,7 +43,7 @@ AreArguments Advertise words event = (settings : Settings) × (event ≡ Adverti
 AreArguments Prefix words event = (info : PrefixInfo) × (event ≡ Offers info) × IsOffer words info
 AreArguments Route words event = (prefix : PrefixValue) × (route : routes.Route) × (event ≡ Routes prefix route) × IsRoute words prefix route
 
--- the word is a command that acts on nothing: `at`, by which time passes, or `stop`, which a host refuses
+-- the word is a command that acts on nothing: `at`, by which time passes, or `stop`, by which a router ceases to advertise
 abbrev pub IsWholeCommand : List ℕ → Event → Type 0
 IsWholeCommand word event = ((word ≡ codes "at") × (event ≡ Passes)) ⊎ ((word ≡ codes "stop") × (event ≡ Stops))
 

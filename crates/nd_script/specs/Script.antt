@@ -1,4 +1,4 @@
--- What the lines of a script lead a host to.
+-- What the lines of a script lead a node to.
 use Rattle.std.specs.Prelude.{◌≡◌, ◌≤◌, ℕ, ◌+◌, List, [], ◌∷◌, ◌++◌, length, Option, Some, None}
 use Rattle.rand_core.specs.Stream.{Stream}
 use Rattle.nd_io.specs.Lines.{longest_line}

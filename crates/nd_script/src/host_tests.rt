@@ -3,7 +3,7 @@
 use crate::run_script;
 use crate::source::Source;
 use crate::tests::told;
-use nd_addr::Mac;
+use nd_addr::{Mac, Role};
 use nd_io::input::Pieces;
 use nd_io::output::Writing;
 use std::test::*;
@@ -174,7 +174,7 @@ fn a_513th_neighbour_has_no_place(rt: HostRuntime) -> Result<(), Fail> {
     let mut reader = Pieces::new(script.as_bytes(), 4096);
     let mut writer = Writing::new(Vec::new(rt.alloc()));
     let zeros = Source::Constant(0);
-    let done = run_script(rt.alloc(), &mut reader, &mut writer, mac, zeros);
+    let done = run_script(rt.alloc(), &mut reader, &mut writer, Role::Host, mac, zeros);
     assert_eq!(rt; done, Ok(()));
     let text = writer.into_inner();
     let refused = b"3000 refused full neighbours\n".as_slice();

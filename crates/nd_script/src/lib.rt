@@ -31,4 +31,6 @@ mod host_tests;
 #[cfg(test)]
 mod router_command_tests;
 #[cfg(test)]
+mod router_tests;
+#[cfg(test)]
 mod tests;

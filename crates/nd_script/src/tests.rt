@@ -1,5 +1,5 @@
 use super::*;
-use nd_addr::{Addr, Mac};
+use nd_addr::{Addr, Mac, Role};
 use nd_io::input::Pieces;
 use nd_io::output::Writing;
 use nd_io::tool_fault::ToolFault;
@@ -416,8 +416,29 @@ fn other_texts_name_no_source(rt: HostRuntime) {
     assert_eq!(rt; words(b"word:4294967296"), None);
 }
 
-/// What a host of 34:56:78:9a:bc:de tells whose generator answers 0 to each word, where its script is read in pieces of one byte, and in
-/// long ones.
+/// What a node tells whose generator answers one word, where its script is read in pieces of one byte, and in long ones.
+pub(crate) fn told_by(
+    rt: &impl Abort,
+    alloc: Global,
+    role: Role,
+    mac: Mac,
+    word: u32,
+    script: &[u8],
+    ended: Result<(), ToolFault>,
+    wanted: &str,
+) -> Result<(), Fail> {
+    for piece in [1, 4096] {
+        let mut reader = Pieces::new(script, piece);
+        let mut writer = Writing::new(Vec::new(alloc));
+        let words = Source::Constant(word);
+        let done = run_script(alloc, &mut reader, &mut writer, role, mac, words);
+        assert_eq!(rt; done, ended);
+        assert_eq!(rt; writer.into_inner().as_slice(), wanted.as_bytes());
+    }
+    Ok(())
+}
+
+/// What a host of 34:56:78:9a:bc:de tells whose generator answers 0 to each word.
 pub(crate) fn told(
     rt: &impl Abort,
     alloc: Global,
@@ -426,15 +447,7 @@ pub(crate) fn told(
     wanted: &str,
 ) -> Result<(), Fail> {
     let mac = Mac([0x34, 0x56, 0x78, 0x9a, 0xbc, 0xde]);
-    for piece in [1, 4096] {
-        let mut reader = Pieces::new(script, piece);
-        let mut writer = Writing::new(Vec::new(alloc));
-        let zeros = Source::Constant(0);
-        let done = run_script(alloc, &mut reader, &mut writer, mac, zeros);
-        assert_eq!(rt; done, ended);
-        assert_eq!(rt; writer.into_inner().as_slice(), wanted.as_bytes());
-    }
-    Ok(())
+    told_by(rt, alloc, Role::Host, mac, 0, script, ended, wanted)
 }
 
 /// The solicitation that tries the link-local address, and a Router Solicitation, each with its moment.
