@@ -1,7 +1,9 @@
 use linked_list_allocator::LocalHeap;
-use nd_addr::{Addr, Mac, Role};
+use nd_addr::{Addr, Mac, Prefix, Role};
+use nd_advertiser::{Config, ConfigFlags};
 use nd_node::{Clearable, Event, Node, OutgoingPacket, Table};
 use nd_out::{Out, write_outs};
+use nd_routes::{KeptRoute, Route};
 use rand_core::SeedableRng;
 use rand_pcg::Pcg32;
 use std::alloc::{AllocError, Global};
@@ -54,6 +56,13 @@ const REDIRECT: [u8; 102] = [
     0x36, 0x56, 0x78, 0xff, 0xfe, 0x9a, 0xbc, 0xde, 0x89, 0, 0xdf, 0x7d, 0, 0, 0, 0, 0xfe, 0x80, 0,
     0, 0, 0, 0, 0, 0, 0, 0, 0, 0, 0, 0, 2, 0x20, 1, 0x0d, 0xb8, 0, 1, 0, 0, 0, 0, 0, 0, 0, 0, 0, 5,
     2, 1, 2, 0, 0, 0, 0, 2,
+];
+
+/// A packet of 2001:db8::9 to 2001:db8:1::5, which a router sends on, and tells its sender of a better hop.
+const TRANSIT: [u8; 54] = [
+    0x34, 0x56, 0x78, 0x9a, 0xbc, 0xde, 2, 0, 0, 0, 0, 9, 0x86, 0xdd, 0x60, 0, 0, 0, 0, 0, 0x11,
+    0x40, 0x20, 1, 0x0d, 0xb8, 0, 0, 0, 0, 0, 0, 0, 0, 0, 0, 0, 9, 0x20, 1, 0x0d, 0xb8, 0, 1, 0, 0,
+    0, 0, 0, 0, 0, 0, 0, 5,
 ];
 
 /// A host, at 3 s, up to which all that is due is done.
@@ -110,7 +119,7 @@ fn fill<'h>(
     Ok(())
 }
 
-/// The rows of all tables of a host.
+/// The rows of all tables of a node.
 fn shown<'h>(
     node: &Node<Pcg32, &'h LocalHeap>,
     heap: &'h LocalHeap,
@@ -124,6 +133,8 @@ fn shown<'h>(
         Table::Dns,
         Table::Redirects,
         Table::Params,
+        Table::Advertise,
+        Table::Routes,
     ];
     for table in tables {
         for row in &node.rows(&heap, 3000, table)? {
@@ -189,6 +200,7 @@ fn try_event<'h>(
     heap: &'h LocalHeap,
     node: &mut Node<Pcg32, &'h LocalHeap>,
     event: &Event<&'h LocalHeap>,
+    now: u64,
     spare: usize,
     outs: &mut Vec<(u64, Out<&'h LocalHeap>), &'h LocalHeap>,
 ) -> Result<(), AllocError> {
@@ -196,13 +208,35 @@ fn try_event<'h>(
     for _ in 0..spare {
         let _block = blocks.pop();
     }
-    node.event(3000, event, outs)
+    node.event(now, event, outs)
 }
 
 /// Each request of an event is the one that is refused in some try, since each try has 16 bytes more than the one before; and each that is
 /// refused leaves all tables as they were, and tells nothing.
+fn refuse_each<'h>(
+    rt: &impl Abort,
+    heap: &'h LocalHeap,
+    node: &mut Node<Pcg32, &'h LocalHeap>,
+    now: u64,
+    event: &Event<&'h LocalHeap>,
+) -> Result<(), AllocError> {
+    let before = shown(node, heap)?;
+    let mut refused = 0;
+    for spare in 0..MOST_BLOCKS {
+        let mut outs = Vec::new(heap);
+        if try_event(heap, node, event, now, spare, &mut outs).is_ok() {
+            break;
+        }
+        assert!(rt; shown(node, heap)?.as_str() == before.as_str());
+        assert!(rt; outs.is_empty());
+        refused = spare + 1;
+    }
+    assert!(rt; refused > 0 && refused < MOST_BLOCKS);
+    Ok(())
+}
+
 #[test]
-fn each_request_of_an_event_is_refused_once(rt: HostRuntime) -> Result<(), Fail> {
+fn each_request_of_a_hosts_event_is_refused_once(rt: HostRuntime) -> Result<(), Fail> {
     let heap = LocalHeap::new(rt.alloc(), AMPLE)?;
     let mut node = host(&heap)?;
     let mut events = Vec::new(&heap);
@@ -216,18 +250,66 @@ fn each_request_of_an_event_is_refused_once(rt: HostRuntime) -> Result<(), Fail>
     events.push(Event::Shows(Table::Dns))?;
     events.push(Event::Clears(Clearable::Routers))?;
     for event in &events {
-        let before = shown(&node, &heap)?;
-        let mut refused = 0;
-        for spare in 0..MOST_BLOCKS {
-            let mut outs = Vec::new(&heap);
-            if try_event(&heap, &mut node, event, spare, &mut outs).is_ok() {
-                break;
-            }
-            assert!(rt; shown(&node, &heap)?.as_str() == before.as_str());
-            assert!(rt; outs.is_empty());
-            refused = spare + 1;
-        }
-        assert!(rt; refused > 0 && refused < MOST_BLOCKS);
+        refuse_each(&rt, &heap, &mut node, 3000, event)?;
     }
+    Ok(())
+}
+
+/// 2001:db8::/64 on the link, and 2001:db8:1::/64 behind fe80::2.
+fn routes() -> Option<[KeptRoute; 2]> {
+    let on_link = Addr([0x20, 1, 0x0d, 0xb8, 0, 0, 0, 0, 0, 0, 0, 0, 0, 0, 0, 0]);
+    let behind = Addr([0x20, 1, 0x0d, 0xb8, 0, 1, 0, 0, 0, 0, 0, 0, 0, 0, 0, 0]);
+    let hop = Addr([0xfe, 0x80, 0, 0, 0, 0, 0, 0, 0, 0, 0, 0, 0, 0, 0, 2]);
+    Some([
+        KeptRoute {
+            prefix: Prefix::new(on_link, 64)?,
+            route: Route::Direct,
+        },
+        KeptRoute {
+            prefix: Prefix::new(behind, 64)?,
+            route: Route::Via(hop),
+        },
+    ])
+}
+
+/// A router that advertises, at 3 s, up to which all that is due is done: its first advertisement was sent.
+fn router<'h>(heap: &'h LocalHeap) -> Result<Node<Pcg32, &'h LocalHeap>, Fail> {
+    let generator = Pcg32::seed_from_u64(0);
+    let Ok(mut node) = Node::new(heap, Role::Router, MAC, 0, generator) else {
+        return Err(Fail::new("no memory"));
+    };
+    let flags = ConfigFlags {
+        managed: false,
+        other: false,
+    };
+    let config = Config::new(200, 600, 1800, 64, flags, 0, 0, 0)?;
+    let mut outs = Vec::new(heap);
+    node.event(0, &Event::Advertises(config), &mut outs)?;
+    let [on_link, behind] = routes().ok_or("routes")?;
+    node.event(0, &Event::PutsRoute(on_link), &mut outs)?;
+    node.event(0, &Event::PutsRoute(behind), &mut outs)?;
+    node.event(3000, &Event::Passes, &mut outs)?;
+    Ok(node)
+}
+
+/// A packet that is sent on, and the Redirect before it; what is shown; an advertisement that falls due, 16 s after the first at most, and
+/// the last one.
+#[test]
+fn each_request_of_a_routers_event_is_refused_once(rt: HostRuntime) -> Result<(), Fail> {
+    let heap = LocalHeap::new(rt.alloc(), AMPLE)?;
+    let mut node = router(&heap)?;
+    let transit = receives(&heap, &TRANSIT)?;
+    refuse_each(&rt, &heap, &mut node, 3000, &transit)?;
+    refuse_each(&rt, &heap, &mut node, 3000, &Event::Shows(Table::Advertise))?;
+    refuse_each(&rt, &heap, &mut node, 3000, &Event::Shows(Table::Routes))?;
+    refuse_each(
+        &rt,
+        &heap,
+        &mut node,
+        3000,
+        &Event::Clears(Clearable::Neighbours),
+    )?;
+    refuse_each(&rt, &heap, &mut node, 20_000, &Event::Passes)?;
+    refuse_each(&rt, &heap, &mut node, 20_000, &Event::Stops)?;
     Ok(())
 }
