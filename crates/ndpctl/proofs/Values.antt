@@ -1,6 +1,9 @@
 -- What the getters of `clap` read of the options of a subcommand.
-use Rattle.std.proofs.Common.{◌≡◌, ◌∙◌, List, [], refl, sym, ap, subst, option_map, Option, Some, None, IsSomeAnd, is_some, true≢false}
+use Rattle.std.proofs.Common.{◌≡◌, ◌∙◌, Bool, List, [], codes, refl, sym, ap, subst, option_map, Option, Some, None, IsSomeAnd, is_some, true≢false}
 use Rattle.std.specs.Option.{option_map_or}
+use Rattle.nd_addr.specs.declared.role.Role.{Role}
+use Rattle.nd_addr.specs.declared.role.Role.TheVariants.{Host, Router}
+use Rattle.ndpctl.specs.CommandLine.{role_named}
 use Rattle.clap.specs.Matches.{first_value, subcommand_name_of}
 use Rattle.clap.specs.Simple.{subcommand_rows, subcommand_rows_of}
 use Rattle.clap.specs.Walk.{Row, Text, first_of, rows_of}
@@ -10,7 +13,7 @@ use Rattle.clap.specs.declared.parser.matches.Found.{Found}
 use Rattle.clap.specs.declared.parser.matches.SubCommand.{SubCommand}
 use Rattle.clap.proofs.WalkLemmas.{first_value-rows}
 use Rattle.std.specs.Borrow.{Bor}
-use Rattle.std.specs.Prelude.{Box}
+use Rattle.std.specs.Prelude.{Box, bytes_eq, if◌then◌else◌}
 
 -- an option without a value, and one with it
 pub none_given : (f : Found) (id : Text) (P : Text → Type 0) → None ≡ first_value f id → IsSomeAnd (first_of id (rows_of f)) P → ⊥
@@ -21,6 +24,18 @@ other_given f id text P e not h = not (subst (λ o. IsSomeAnd o P) (sym (e ∙ f
 
 pub is_given : (f : Found) (id text : Text) (P : Text → Type 0) → Some text ≡ first_value f id → P text → IsSomeAnd (first_of id (rows_of f)) P
 is_given f id text P e h = subst (λ o. IsSomeAnd o P) (e ∙ first_value-rows f id) h
+
+-- the role, by the value of its option
+
+abbrev pub role_by : Bool → Role
+role_by is_router = if is_router then Router else Host
+
+pub host_unnamed : (f : Found) → None ≡ first_value f (codes "role") → Host ≡ role_named (first_of (codes "role") (rows_of f))
+host_unnamed f e = ap role_named (e ∙ first_value-rows f (codes "role"))
+
+pub named_role : (f : Found) (text : Text) (is_router : Bool) → Some text ≡ first_value f (codes "role") → is_router ≡ bytes_eq text (codes "router")
+    → role_by is_router ≡ role_named (first_of (codes "role") (rows_of f))
+named_role f text is_router e is = ap role_by is ∙ ap role_named (e ∙ first_value-rows f (codes "role"))
 
 -- the name of the subcommand, by its rows
 pub name_in_rows : (m : ArgMatches) → subcommand_name_of m ≡ option_map (λ p. p.0) (subcommand_rows_of m)

@@ -1,5 +1,5 @@
 -- What the words of the command line ask for, and which of them are wrong, by the grammar of `clap`.
-use Rattle.std.specs.Prelude.{◌≡◌, ◌≢◌, ◌∷◌, ℕ, true, List, [], Option, Some, codes, map, option_map, IsSomeAnd}
+use Rattle.std.specs.Prelude.{◌≡◌, ◌≢◌, ◌∷◌, ℕ, true, List, [], Option, Some, None, codes, map, option_map, IsSomeAnd, bytes_eq, if◌then◌else◌}
 use Rattle.std.specs.Option.{option_map_or}
 use Rattle.std.specs.Borrow.{Bor}
 use Rattle.clap.specs.Words.{App, Row, Rule, new_app, new_rule, with_rule, with_subcommand, first_of, subcommand_of, fault_of}
@@ -11,7 +11,7 @@ use Rattle.clap.specs.declared.error.kind.ErrorKind.TheVariants as kind
 use Rattle.nd_addr.specs.Spelling.{SpellsMac}
 use Rattle.nd_addr.specs.declared.mac.Mac.{Mac}
 use Rattle.nd_addr.specs.declared.role.Role.{Role}
-use Rattle.nd_addr.specs.declared.role.Role.TheVariants.{Host}
+use Rattle.nd_addr.specs.declared.role.Role.TheVariants.{Host, Router}
 use Rattle.nd_script.specs.Source.{IsSource}
 use Rattle.nd_script.specs.declared.source.Source.{Source}
 use Rattle.ndpctl.specs.declared.command_line.Asked.{Asked}
@@ -42,10 +42,10 @@ the_command roles =
     let top = on_top (λ s. record s { subcommand_required = true }) (new_app (codes "ndpctl")) in
     with_subcommand (with_subcommand top (new_shape (codes "check"))) (the_run roles).top
 
--- the names of the roles that a node may have, wherever they lie in memory: `host` alone
+-- the names of the roles that a node may have, wherever they lie in memory
 pub record RoleNames : Type 0 where
   pub list : NameList
-  pub host_alone : map (λ name. name.now) list.now ≡ codes "host" ∷ []
+  pub both : map (λ name. name.now) list.now ≡ codes "host" ∷ codes "router" ∷ []
 
 -- the kinds of fault that `clap` finds in the words, the path of the program being the first; none where they are right
 abbrev pub faults_of : RoleNames → List (List ℕ) → Kinds
@@ -59,6 +59,11 @@ named_in roles words = option_map (λ p. p.0) (subcommand_of (the_command roles.
 abbrev pub given_in : RoleNames → List (List ℕ) → List Row
 given_in roles words = option_map_or (λ p. p.1) (subcommand_of (the_command roles.list) words) []
 
+-- the role that the value of `--role` names; `clap` lets no word through but `host` and `router`
+abbrev pub role_named : Option (List ℕ) → Role
+role_named (Some text) = if bytes_eq text (codes "router") then Router else Host
+role_named None = Host
+
 -- the value of `--mac` spells the address
 abbrev pub GivesMac : List Row → List ℕ → Type 0
 GivesMac given bytes = IsSomeAnd (first_of (codes "mac") given) (λ text. SpellsMac text bytes)
@@ -67,9 +72,9 @@ GivesMac given bytes = IsSomeAnd (first_of (codes "mac") given) (λ text. Spells
 abbrev pub GivesDraws : List Row → Source → Type 0
 GivesDraws given source = IsSomeAnd (first_of (codes "draws") given) (λ text. IsSource text source)
 
--- what the values of the options of `run` ask for; the role is the one that there is
+-- what the values of the options of `run` ask for
 pub record GivesRun (given : List Row) (role : Role) (mac : Mac) (source : Source) : Type 0 where
-  pub role_is : role ≡ Host
+  pub role_is : role ≡ role_named (first_of (codes "role") given)
   pub mac_is : GivesMac given mac.0
   pub source_is : GivesDraws given source
 

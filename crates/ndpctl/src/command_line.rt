@@ -1,10 +1,10 @@
 //! The words of the command line.
 
 ghost use Rattle.std.specs.Prelude.{◌≡◌, ◌∷◌, ℕ, List, [], codes, map, false, IfOk, IfErr, string_bytes};
-ghost use Rattle.clap.specs.Words.{app_of, found_of, rows_of};
+ghost use Rattle.clap.specs.Words.{app_of, first_of, found_of, rows_of};
 ghost use Rattle.clap.specs.declared.builder.command.Command.TheViews.{out-Command};
 ghost use Rattle.ndpctl.specs.CommandLine.{RoleNames, the_command, the_run, faults_of, Asks, Refuses};
-ghost use Rattle.ndpctl.specs.CommandLine.{GivesAsked, RefusesGiven};
+ghost use Rattle.ndpctl.specs.CommandLine.{GivesAsked, RefusesGiven, role_named};
 
 use clap::error::ErrorKind;
 use clap::{Arg, ArgMatches, Command, Error};
@@ -13,7 +13,10 @@ use nd_script::Source;
 use std::alloc::{AllocError, Global};
 
 /// The roles that a node may have.
-static ROLES: [&str; 1] = ["host"];
+static ROLES: [&str; 2] = ["host", ROUTER];
+
+/// The name of a router's role.
+const ROUTER: &str = "router";
 
 /// The source of random words where none is named.
 const DEFAULT_DRAWS: &str = "seed:0";
@@ -80,6 +83,19 @@ fn command<'a>(alloc: Global, roles: &'a [&'a str]) -> Result<Command<'a>, Alloc
         .subcommand(run)
 }
 
+/// The role that the value of `--role` names: `clap` lets no word through but its names.
+fn read_role(given: &ArgMatches<'_>) -> Role
+    ensures { result ≡ role_named (first_of (codes "role") (rows_of (found_of given.now))) }
+{
+    let Some(name) = given.get_str("role") else {
+        return Role::Host;
+    };
+    if name == ROUTER {
+        return Role::Router;
+    }
+    Role::Host
+}
+
 /// What the values of the options of `run` ask for. The address is judged before the source.
 fn read_run(given: &ArgMatches<'_>) -> Result<Asked, Refused>
     ensures right { IfOk result (GivesAsked (rows_of (found_of given.now))) }
@@ -97,7 +113,7 @@ fn read_run(given: &ArgMatches<'_>) -> Result<Asked, Refused>
     let Some(source) = Source::parse(draws.as_bytes()) else {
         return Err(Refused::Draws);
     };
-    Ok(Asked::Run(Role::Host, mac, source))
+    Ok(Asked::Run(read_role(given), mac, source))
 }
 
 /// What the words ask for, the first being the program's path.

@@ -14,7 +14,7 @@ use nd_script::run_script;
 use std::alloc::Allocator;
 
 /// Does what is asked, over a reader and a writer.
-pub fn run<R: Input, W: Output, A: Allocator + Clone>(
+pub fn run<R: Input, W: Output, A: Allocator + Copy>(
     alloc: A,
     asked: Asked,
     reader: &mut R,
@@ -31,6 +31,6 @@ pub fn run<R: Input, W: Output, A: Allocator + Clone>(
 {
     match asked {
         Asked::Check => run_check(alloc, reader, writer),
-        Asked::Run(_, mac, source) => run_script(alloc, reader, writer, mac, source),
+        Asked::Run(role, mac, source) => run_script(alloc, reader, writer, role, mac, source),
     }
 }

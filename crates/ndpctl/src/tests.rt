@@ -53,6 +53,16 @@ fn run_is_read(rt: HostRuntime) -> Result<(), Fail> {
 }
 
 #[test]
+fn a_router_runs(rt: HostRuntime) -> Result<(), Fail> {
+    let words = ["run", "--role=router", "--mac=02:00:00:00:00:01"];
+    match read(rt.alloc(), words.as_slice())? {
+        Ok(Asked::Run(role, _, _)) => assert_eq!(rt; role, Role::Router),
+        _ => return Err("a router runs")?,
+    }
+    Ok(())
+}
+
+#[test]
 fn draws_have_a_default(rt: HostRuntime) -> Result<(), Fail> {
     let words = ["run", "--mac=02:00:00:00:00:01", "--role=host"];
     let asked = read(rt.alloc(), words.as_slice())?;
@@ -88,8 +98,8 @@ fn the_mac_is_judged_before_the_draws(rt: HostRuntime) -> Result<(), Fail> {
 fn clap_tells_first(rt: HostRuntime) -> Result<(), Fail> {
     let no_mac = ["run", "--role", "host", "--draws", "seed:01"];
     assert_eq!(rt; told(rt.alloc(), no_mac.as_slice())?, Some(2));
-    let router = ["run", "--role", "router", "--mac", "02:00"];
-    assert_eq!(rt; told(rt.alloc(), router.as_slice())?, Some(2));
+    let bridge = ["run", "--role", "bridge", "--mac", "02:00:00:00:00:01"];
+    assert_eq!(rt; told(rt.alloc(), bridge.as_slice())?, Some(2));
     let twice = ["run", "--role", "host", "--mac", "02:00", "--mac", "02:00"];
     assert_eq!(rt; told(rt.alloc(), twice.as_slice())?, Some(2));
     assert_eq!(rt; told(rt.alloc(), [].as_slice())?, Some(2));

@@ -1,4 +1,4 @@
-use Rattle.std.proofs.Common.{codes, refl, sym, subst}
+use Rattle.std.proofs.Common.{codes, sym, subst}
 use Rattle.clap.specs.Words.{found_of}
 use Rattle.nd_addr.specs.Spelling.{SpellsMac}
 use Rattle.nd_script.specs.Source.{IsSource}
@@ -31,7 +31,7 @@ returns-in_default-parse-2-clause-wrong c = record {
 
 pub returns-clause-right : goal.returns-clause-right
 returns-clause-right c = record {
-  role_is = refl;
+  role_is = c.read_role.ensures;
   mac_is = is_given (found_of c.args.given.now) (codes "mac") c.in-Some.mac.now (λ text. SpellsMac text c.in-Ok.mac.0) c.in-Some.ensures
       (subst (λ text. SpellsMac text c.in-Ok.mac.0) c.as_bytes.ensures.value c.in-Ok.ensures.found);
   source_is = is_given (found_of c.args.given.now) (codes "draws") c.in-Some-get_str.draws.now (λ text. IsSource text c.in-Some-parse.source) c.in-Some-get_str.ensures

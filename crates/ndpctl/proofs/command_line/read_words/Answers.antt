@@ -7,8 +7,8 @@ use Rattle.ndpctl.specs.CommandLine.{RoleNames}
 use Rattle.ndpctl.proofs.Words.{same_name, same_given, asks, refuses}
 use Rattle.ndpctl.proofs.command_line.read_words.Goals as goal
 
-abbrev names_at : (list : Bor (List (Bor (List ℕ)))) → map (λ name. name.now) list.now ≡ codes "host" ∷ [] → RoleNames
-names_at list host = record { list = list; host_alone = host }
+abbrev names_at : (list : Bor (List (Bor (List ℕ)))) → map (λ name. name.now) list.now ≡ codes "host" ∷ codes "router" ∷ [] → RoleNames
+names_at list both = record { list = list; both = both }
 
 pub returns-in-Err-clause-wrong : goal.returns-in-Err-clause-wrong
 returns-in-Err-clause-wrong c =
