@@ -1,0 +1,4 @@
+pub mod Pasts
+pub mod Frames
+pub mod Texts
+pub mod Holding

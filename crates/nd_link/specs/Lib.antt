@@ -1,0 +1,6 @@
+pub mod Log
+pub mod Event
+pub mod History
+pub mod Told
+pub mod Holding
+pub mod Sound
