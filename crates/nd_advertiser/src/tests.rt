@@ -149,7 +149,8 @@ fn begin(advertiser: &mut Advertiser<Global>, min: u16, max: u16, now: u64) -> b
 
 /// The next advertisement is due at this moment, and is sent.
 fn send(rt: &impl Abort, advertiser: &mut Advertiser<Global>, now: u64, interval: u32)
-    requires { now < 2 ^ 62 }
+    requires moment { now < 2 ^ 62 }
+    requires positive { 0 < interval }
 {
     let next = advertiser.next_due();
     assert_eq!(rt; next, Some(now));
