@@ -1,3 +1,5 @@
+ghost use Rattle.std.specs.Prelude.{◌<◌, ◌^◌};
+
 use linked_list_allocator::LocalHeap;
 use nd_addr::{Addr, Mac, Prefix, Role};
 use nd_advertiser::{Config, ConfigFlags};
@@ -203,7 +205,9 @@ fn try_event<'h>(
     now: u64,
     spare: usize,
     outs: &mut Vec<(u64, Out<&'h LocalHeap>), &'h LocalHeap>,
-) -> Result<(), AllocError> {
+) -> Result<(), AllocError>
+    requires { now < 2 ^ 62 }
+{
     let mut blocks = exhaust(heap)?;
     for _ in 0..spare {
         let _block = blocks.pop();
@@ -219,7 +223,9 @@ fn refuse_each<'h>(
     node: &mut Node<Pcg32, &'h LocalHeap>,
     now: u64,
     event: &Event<&'h LocalHeap>,
-) -> Result<(), AllocError> {
+) -> Result<(), AllocError>
+    requires { now < 2 ^ 62 }
+{
     let before = shown(node, heap)?;
     let mut refused = 0;
     for spare in 0..MOST_BLOCKS {
