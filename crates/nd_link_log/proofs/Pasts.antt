@@ -2,7 +2,7 @@
 use Rattle.std.proofs.Common.{◌≡◌, ◌⊎◌, inl, inr, ℕ, true, false, Bool, [], ◌∷◌, Option, Some, refl, sym, subst, ⊎_elim}
 use Rattle.std.specs.Prelude.{◌==◌, is_some, if◌then◌else◌}
 use Rattle.nd_chronicle.specs.Start.{Start}
-use Rattle.nd_link.specs.Log.{Entry, Log, Past, Begins, Adds, Carries, Reaches, Refuses, start_of}
+use Rattle.nd_link_log.specs.Log.{Entry, Log, Past, Begins, Adds, Carries, Reaches, Refuses, start_of}
 
 pub past_self : (log : Log) → Past log log
 past_self [] = refl

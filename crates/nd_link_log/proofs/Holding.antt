@@ -6,11 +6,11 @@ use Rattle.nd_slaac.specs.History.{Assigned, Conflict, Story}
 use Rattle.nd_slaac.specs.State.{is_assigned, is_known, is_tentative, was_assigned}
 use Rattle.nd_chronicle.specs.Happening.{Address, Chronicle, Happening, Sent}
 use Rattle.nd_chronicle.specs.OwnAddress.{story_of}
-use Rattle.nd_link.specs.Log.{Log, Past, Adds, Carries, chronicle_of, last_moment, sent, start_of}
-use Rattle.nd_link.specs.Holding.{Arrives, HasOneHolder, Holds, IsTimely, IsTrying}
-use Rattle.nd_link.specs.Sound.{Brings, Claims, Gains, IsSound, Tried, Tries, formed_entry}
-use Rattle.nd_link.proofs.Frames.{one_frame}
-use Rattle.nd_link.proofs.Pasts.{past_linear, past_self, past_tail, past_then, there_past}
+use Rattle.nd_link_log.specs.Log.{Log, Past, Adds, Carries, chronicle_of, last_moment, sent, start_of}
+use Rattle.nd_link_log.specs.Holding.{Arrives, HasOneHolder, Holds, IsTimely, IsTrying}
+use Rattle.nd_link_log.specs.Sound.{Brings, Claims, Gains, IsSound, Tried, Tries, formed_entry}
+use Rattle.nd_link_log.proofs.Frames.{one_frame}
+use Rattle.nd_link_log.proofs.Pasts.{past_linear, past_self, past_tail, past_then, there_past}
 
 -- ---- a conflict
 

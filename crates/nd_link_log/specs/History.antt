@@ -3,8 +3,8 @@ use Rattle.std.specs.Prelude.{◌≡◌, ℕ, suc, ◌<◌, ◌≤◌, nat_lt, M
 use Rattle.nd_chronicle.specs.Start.{Limits, Start}
 use Rattle.nd_chronicle.specs.Happening.{Chronicle}
 use Rattle.nd_chronicle.specs.Due.{What, Due, comes}
-use Rattle.nd_link.specs.Log.{Log, TooLate, Reaches, Refuses, nodes, start_of, chronicle_of, adding, last_moment}
-use Rattle.nd_link.specs.Event.{Event, EventHappens, passing}
+use Rattle.nd_link_log.specs.Log.{Log, TooLate, Reaches, Refuses, nodes, start_of, chronicle_of, adding, last_moment}
+use Rattle.nd_link_log.specs.Event.{Event, EventHappens, passing}
 
 -- nothing is due at a node at the moment
 abbrev pub IsIdle : ℕ → Log → ℕ → Type 0

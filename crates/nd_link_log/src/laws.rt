@@ -2,10 +2,10 @@
 
 ghost use Rattle.std.specs.Prelude.{◌≡◌, ◌++◌, ◌∷◌, ℕ, List};
 ghost use Rattle.nd_chronicle.specs.Happening.{Sent};
-ghost use Rattle.nd_link.specs.Log.{Adds, Entry, Log, Past, sent};
-ghost use Rattle.nd_link.specs.Holding.{HasOneHolder, IsTimely};
-ghost use Rattle.nd_link.specs.Sound.{IsSound};
-ghost use Rattle.nd_link.specs.Told.{text};
+ghost use Rattle.nd_link_log.specs.Log.{Adds, Entry, Log, Past, sent};
+ghost use Rattle.nd_link_log.specs.Holding.{HasOneHolder, IsTimely};
+ghost use Rattle.nd_link_log.specs.Sound.{IsSound};
+ghost use Rattle.nd_link_log.specs.Told.{text};
 
 /// A number names one frame: of two that were sent with the same number both are the same one, with its sender and its moment.
 pub fn one_frame()

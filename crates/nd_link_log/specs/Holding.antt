@@ -4,7 +4,7 @@ use Rattle.nd_slaac.specs.History as addresses
 use Rattle.nd_slaac.specs.State.{is_assigned, is_tentative}
 use Rattle.nd_chronicle.specs.Happening.{Address, Sent}
 use Rattle.nd_chronicle.specs.OwnAddress.{story_of}
-use Rattle.nd_link.specs.Log.{Log, Past, Adds, Carries, start_of, chronicle_of, last_moment, sent}
+use Rattle.nd_link_log.specs.Log.{Log, Past, Adds, Carries, start_of, chronicle_of, last_moment, sent}
 
 -- the address, by its number, is preferred or deprecated at a node
 abbrev pub Holds : ℕ → ℕ → Log → Type 0

@@ -3,7 +3,7 @@ use Rattle.std.specs.Prelude.{ℕ, List, [], ◌∷◌, ◌++◌, codes}
 use Rattle.std.specs.Fmt.{decimal}
 use Rattle.std.specs.List.{flat_map}
 use Rattle.nd_chronicle.specs.Told.{line_at, told_of}
-use Rattle.nd_link.specs.Log.{Entry, Log, Refusal, TooLate, NoNode, NoFrame, Own, Full, Begins, Adds, Carries, Reaches, Refuses}
+use Rattle.nd_link_log.specs.Log.{Entry, Log, Refusal, TooLate, NoNode, NoFrame, Own, Full, Begins, Adds, Carries, Reaches, Refuses}
 
 abbrev pub refusal_text : Refusal → List ℕ
 refusal_text (TooLate last) = codes "past " ++ decimal last

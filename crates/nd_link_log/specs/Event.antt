@@ -8,7 +8,7 @@ use Rattle.nd_chronicle.specs.Happening.{Chronicle, Passed}
 use Rattle.nd_chronicle.specs.History.{beginning}
 use Rattle.nd_chronicle.specs.Event as nodes
 use Rattle.nd_chronicle.specs.Event.{EventAdds}
-use Rattle.nd_link.specs.Log.{Log, NoNode, NoFrame, Own, Full, Begins, Adds, Carries, Refuses, nodes, start_of, chronicle_of, adding, sent, IsFrame}
+use Rattle.nd_link_log.specs.Log.{Log, NoNode, NoFrame, Own, Full, Begins, Adds, Carries, Refuses, nodes, start_of, chronicle_of, adding, sent, IsFrame}
 
 -- how many nodes there may be (our choice)
 abbrev pub max_nodes : ℕ

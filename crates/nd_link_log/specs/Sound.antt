@@ -5,8 +5,8 @@ use Rattle.nd_addr.specs.Number.{number_of}
 use Rattle.nd_frames.specs.Meaning.{IsDefence, IsDetection}
 use Rattle.nd_slaac.specs.History.{Assigned, Conflict, Formed, Lifetimes}
 use Rattle.nd_chronicle.specs.Happening.{Address, Happening, Sent}
-use Rattle.nd_link.specs.Log.{Entry, Log, Past, Adds, Carries, IsFrame, last_moment, start_of}
-use Rattle.nd_link.specs.Holding.{Holds, IsTrying}
+use Rattle.nd_link_log.specs.Log.{Entry, Log, Past, Adds, Carries, IsFrame, last_moment, start_of}
+use Rattle.nd_link_log.specs.Holding.{Holds, IsTrying}
 
 -- the frame tries the address of this number, or tells all nodes that it is held (RFC 4862, section 5.4.2; RFC 4861, section 7.2.4)
 abbrev pub Tries : ℕ → List ℕ → Type 0
