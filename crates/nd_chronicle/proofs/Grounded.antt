@@ -119,7 +119,7 @@ abbrev IsOfBytes : Event → Type 0
 IsOfBytes event = (frame : List ℕ) → event ≡ Receives frame → IsBytes frame
 
 -- an own address is known
-own_known : (s : Story) → (is_tentative s || is_assigned s) ≡ true → is_known s ≡ true
+pub own_known : (s : Story) → (is_tentative s || is_assigned s) ≡ true → is_known s ≡ true
 own_known s h = by_parts (is_known s) (not (has_conflict s)) (was_assigned s) h
   where
     by_parts : (known free assigned : Bool) → ((known && free && not assigned) || (known && free && assigned)) ≡ true → known ≡ true

@@ -118,11 +118,11 @@ module _ (at : ℕ) {c : Chronicle} where
   known_grows None packets d g = g
   known_grows (Some mac) packets d g = sending_grows mac packets d g
 
-  releasing_grows : (news : Option (ℕ × RowKind)) (history : List neighbours.Row) (d : Chronicle) → GrowsAt at c d → GrowsAt at c (releasing at news history d)
+  pub releasing_grows : (news : Option (ℕ × RowKind)) (history : List neighbours.Row) (d : Chronicle) → GrowsAt at c d → GrowsAt at c (releasing at news history d)
   releasing_grows None history d g = g
   releasing_grows (Some news) history d g = known_grows (mac_of ((at, news.1) ∷ story news.0 history)) (released_by at news.1 (story news.0 history)) d g
 
-  leaving_grows : (leaves : Bool) (key : ℕ) (d : Chronicle) → GrowsAt at c d → GrowsAt at c (leaving at leaves key d)
+  pub leaving_grows : (leaves : Bool) (key : ℕ) (d : Chronicle) → GrowsAt at c d → GrowsAt at c (leaving at leaves key d)
   leaving_grows true key d g = grows_by _ refl g
   leaving_grows false key d g = g
 

@@ -6,7 +6,9 @@ pub mod Growth
 pub mod Pasts
 pub mod OwnRows
 pub mod Tried
+pub mod Holding
 pub mod Named
 pub mod Grounded
+pub mod OwnKeys
 pub mod Idle
 pub mod Rivals

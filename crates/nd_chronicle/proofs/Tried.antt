@@ -139,5 +139,8 @@ module _ (start : Start) where
     none = still_none [] start.at (link_local_key start) _ (record { none = λ moment falls due. none_yet falls moment due });
   }
 
+  pub rows_may_come : (history : List (ℕ × Event)) (c : Chronicle) → Runs start (beginning start) history c → IsHistory (address_history c)
+  rows_may_come history c h = (fine_run history (beginning start) c h fine_beginning).history
+
   pub untried_none : (history : List (ℕ × Event)) (c : Chronicle) (key : ℕ) → Runs start (beginning start) history c → states.is_assigned (story_of c key) ≡ true → Held key (address_history c)
-  untried_none history c key h assigned = held (address_history c) key (fine_run history (beginning start) c h fine_beginning).history assigned
+  untried_none history c key h assigned = held (address_history c) key (rows_may_come history c h) assigned

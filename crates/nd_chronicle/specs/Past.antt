@@ -1,11 +1,13 @@
 -- Places of a chronicle: what it was at some time.
-use Rattle.std.specs.Prelude.{◌≡◌, ◌⊎◌, ℕ, List, [], ◌∷◌}
+use Rattle.std.specs.Prelude.{◌≡◌, ◌⊎◌, ℕ, ◌+◌, true, List, [], ◌∷◌, Option}
 use Rattle.nd_addr.specs.Number.{addr_at}
 use Rattle.nd_frames.specs.Frames.{detection_frame}
-use Rattle.nd_slaac.specs.History.{Row, RowKind, Solicited}
+use Rattle.nd_slaac.specs.History.{Row, RowKind, Lifetimes, Formed, Solicited, Assigned}
+use Rattle.nd_slaac.specs.State.{is_assigned, is_tentative}
 use Rattle.nd_chronicle.specs.Start.{Start}
 use Rattle.nd_chronicle.specs.Happening.{Chronicle, Address, Sent}
 use Rattle.nd_chronicle.specs.Histories.{address_history}
+use Rattle.nd_chronicle.specs.OwnAddress.{story_of}
 
 -- the one is what the other was at some time, or is now
 abbrev pub Past : Chronicle → Chronicle → Type 0
@@ -21,3 +23,26 @@ pub record PlaceOf (at key : ℕ) (kind : RowKind) (below : List Row) (c : Chron
 -- a solicitation for an own address, and the frame that is sent with it
 abbrev pub solicited_with : Start → ℕ → ℕ → Chronicle → Chronicle
 solicited_with start at key c = (at, Sent (detection_frame start.mac (addr_at key))) ∷ (at, Address key Solicited) ∷ c
+
+-- an own address is formed
+abbrev pub formed_with : ℕ → ℕ → ℕ → ℕ → Option Lifetimes → Chronicle → Chronicle
+formed_with at key delay retrans lifetimes c = (at, Address key (Formed delay retrans lifetimes)) ∷ c
+
+-- how an own address came to be held, in rows of the chronicle: it was formed, was tried from then on until it was assigned, and is held since;
+-- a solicitation for it was sent, one RetransTimer before it was assigned (RFC 4862, section 5.4)
+pub record HeldInRows (start : Start) (key : ℕ) (c : Chronicle) : Type 0 where
+  pub formed : ℕ
+  pub delay : ℕ
+  pub retrans : ℕ
+  pub lifetimes : Option Lifetimes
+  pub below : Chronicle
+  pub sent : ℕ
+  pub earlier : Chronicle
+  pub assigned : ℕ
+  pub over : Chronicle
+  pub formed_at : Past (formed_with formed key delay retrans lifetimes below) earlier
+  pub solicited : Past (solicited_with start sent key earlier) over
+  pub assigned_at : Past ((assigned, Address key Assigned) ∷ over) c
+  pub wait : assigned ≡ sent + retrans
+  pub trying : (d : Chronicle) → Past d over → Past (formed_with formed key delay retrans lifetimes below) d → is_tentative (story_of d key) ≡ true
+  pub since : (d : Chronicle) → Past d c → Past ((assigned, Address key Assigned) ∷ over) d → is_assigned (story_of d key) ≡ true

@@ -3,7 +3,7 @@
 ghost use Rattle.std.specs.Prelude.{◌≡◌, ◌≢◌, ◌<◌, ◌≤◌, ◌+◌, ◌++◌, ◌∷◌, ℕ, List, None, false, true};
 ghost use Rattle.std.specs.List.{All};
 ghost use Rattle.nd_addr.specs.Bytes.{AreBytes, IsBytes};
-ghost use Rattle.nd_addr.specs.Number.{number_of};
+ghost use Rattle.nd_addr.specs.Number.{addr_at, number_of};
 ghost use Rattle.nd_addr.specs.declared.addr.Addr.{Addr};
 ghost use Rattle.nd_decode.specs.declared.body.Body.TheVariants as bodies;
 ghost use Rattle.nd_frames.specs.Frames.{unspecified, all_nodes, solicited_node};
@@ -23,7 +23,7 @@ ghost use Rattle.nd_chronicle.specs.NeighborSolicitation.{then_tried};
 ghost use Rattle.nd_chronicle.specs.Due.{Due};
 ghost use Rattle.nd_chronicle.specs.Growth.{Grows};
 ghost use Rattle.nd_chronicle.specs.History.{IsChronicle, Runs, Walk};
-ghost use Rattle.nd_chronicle.specs.Past.{Past, PlaceOf, solicited_with};
+ghost use Rattle.nd_chronicle.specs.Past.{HeldInRows, Past, PlaceOf, solicited_with};
 ghost use Rattle.nd_chronicle.specs.Told.{text};
 
 /// A history has one chronicle.
@@ -41,6 +41,22 @@ pub fn only_grows()
 /// place up to its assignment, and was assigned one RetransTimer after the last solicitation for it, that in force when it was formed.
 pub fn none_untried()
     ensures { (start : Start) (events : List (ℕ × Event)) (c : Chronicle) (key : ℕ) → IsChronicle start events c → is_assigned (story_of c key) ≡ true → Held key (address_history c) }
+{}
+
+/// The same at each place of a chronicle, and in its rows.
+pub fn tried_before_held()
+    ensures history { (start : Start) (events : List (ℕ × Event)) (c d : Chronicle) (key : ℕ) → IsChronicle start events c → Past d c → is_assigned (story_of d key) ≡ true → Held key (address_history d) }
+    ensures rows { (start : Start) (events : List (ℕ × Event)) (c d : Chronicle) (key : ℕ) → IsChronicle start events c → Past d c → is_assigned (story_of d key) ≡ true → HeldInRows start key d }
+{}
+
+/// The number of an own address is that of an address, and of no multicast address, whatever bytes come as frames (RFC 4862, section 5.5.3).
+pub fn own_addresses_are_unicast()
+    ensures number { (start : Start) (events : List (ℕ × Event)) (c d : Chronicle) (key : ℕ) → AreBytes 6 start.mac.0
+        → All (λ event. (frame : List ℕ) → event.1 ≡ Receives frame → IsBytes frame) events → IsChronicle start events c → Past d c → is_known (story_of d key) ≡ true
+        → number_of (addr_at key).0 ≡ key }
+    ensures unicast { (start : Start) (events : List (ℕ × Event)) (c d : Chronicle) (key : ℕ) → AreBytes 6 start.mac.0
+        → All (λ event. (frame : List ℕ) → event.1 ≡ Receives frame → IsBytes frame) events → IsChronicle start events c → Past d c → is_known (story_of d key) ≡ true
+        → IsUnicast (addr_at key) }
 {}
 
 /// At each place of a chronicle an own address other than the link-local one is known only where that one is assigned, and that one stays so,
