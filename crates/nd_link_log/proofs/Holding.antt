@@ -9,16 +9,11 @@ use Rattle.nd_chronicle.specs.OwnAddress.{story_of}
 use Rattle.nd_link_log.specs.Log.{Log, Past, Adds, Carries, chronicle_of, last_moment, sent, start_of}
 use Rattle.nd_link_log.specs.Holding.{Arrives, HasOneHolder, Holds, IsTimely, IsTrying}
 use Rattle.nd_link_log.specs.Sound.{Brings, Claims, Gains, IsSound, Tried, Tries, formed_entry}
+use Rattle.nd_link_log.proofs.Chronicles.{own_row, same_number}
 use Rattle.nd_link_log.proofs.Frames.{one_frame}
 use Rattle.nd_link_log.proofs.Pasts.{past_linear, past_self, past_tail, past_then, there_past}
 
 -- ---- a conflict
-
-same_number : (n : ℕ) → (n == n) ≡ true
-same_number n = (Decides-eqb n n).1 refl
-
-own_row : (node at : ℕ) (what : Happening) (log : Log) → chronicle_of node (Adds node at what ∷ log) ≡ (at, what) ∷ chronicle_of node log
-own_row node at what log = ap (λ (own : Bool). if own then (at, what) ∷ chronicle_of node log else chronicle_of node log) (same_number node)
 
 conflict_story : (key at : ℕ) (c : Chronicle) → story_of ((at, Address key Conflict) ∷ c) key ≡ (at, Conflict) ∷ story_of c key
 conflict_story key at c = ap (λ (own : Bool). if own then (at, Conflict) ∷ story_of c key else story_of c key) (same_number key)

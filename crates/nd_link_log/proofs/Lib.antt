@@ -1,4 +1,15 @@
 pub mod Pasts
+pub mod Chronicles
+pub mod Nodes
+pub mod Moments
+pub mod Lives
+pub mod Seen
+pub mod Rivals
+pub mod Carried
+pub mod Tried
+pub mod Grown
+pub mod Standing
+pub mod Sound
 pub mod Frames
 pub mod Texts
 pub mod Holding

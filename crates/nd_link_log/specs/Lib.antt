@@ -1,5 +1,6 @@
 pub mod Log
 pub mod Event
+pub mod Bytes
 pub mod History
 pub mod Told
 pub mod Holding

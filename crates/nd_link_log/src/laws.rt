@@ -1,8 +1,15 @@
 //! Laws of the definitions, each the contract of a function that does nothing.
 
-ghost use Rattle.std.specs.Prelude.{◌≡◌, ◌++◌, ◌∷◌, ℕ, List};
+ghost use Rattle.std.specs.Prelude.{◌≡◌, ◌++◌, ◌∷◌, ℕ, List, Some};
+ghost use Rattle.std.specs.List.{All};
+ghost use Rattle.nd_chronicle.specs.Start.{Limits, Start};
 ghost use Rattle.nd_chronicle.specs.Happening.{Sent};
-ghost use Rattle.nd_link_log.specs.Log.{Adds, Entry, Log, Past, sent};
+ghost use Rattle.nd_chronicle.specs.Event as nodes;
+ghost use Rattle.nd_chronicle.specs.History.{IsChronicle};
+ghost use Rattle.nd_link_log.specs.Log.{Adds, Entry, Log, Past, chronicle_of, sent, start_of};
+ghost use Rattle.nd_link_log.specs.Event.{Event};
+ghost use Rattle.nd_link_log.specs.Bytes.{AreOfBytes, ComesAsBytes, SendsBytes};
+ghost use Rattle.nd_link_log.specs.History.{IsLog};
 ghost use Rattle.nd_link_log.specs.Holding.{HasOneHolder, IsTimely};
 ghost use Rattle.nd_link_log.specs.Sound.{IsSound};
 ghost use Rattle.nd_link_log.specs.Told.{text};
@@ -18,8 +25,21 @@ pub fn text_only_grows()
     ensures { (newer log : List Entry) → text (newer ++ log) ≡ text log ++ text newer }
 {}
 
+/// Each node of a link lives a history of its own, of bytes: its chronicle in the log is the one of that history.
+pub fn nodes_have_histories()
+    ensures { (limits : Limits) (events : List (ℕ × Event)) (log : Log) (node : ℕ) (start : Start) → AreOfBytes events → SendsBytes log → IsLog limits events log
+        → start_of node log ≡ Some start → (history : List (ℕ × nodes.Event)) × All (λ event. ComesAsBytes event.1) history × IsChronicle start history (chronicle_of node log) }
+{}
+
+/// The log of each link is sound: whatever events come, in whatever order, its nodes and the link itself do what they owe.
+pub fn links_are_sound()
+    ensures { (limits : Limits) (events : List (ℕ × Event)) (log : Log) → AreOfBytes events → SendsBytes log → IsLog limits events log → IsSound log }
+{}
+
 /// On a timely link no address is preferred or deprecated at two nodes, at no place of its log (RFC 4862, section 5.4), by what the nodes and
-/// the link owe alone: how an address comes to be held, and what comes of a frame that is carried.
+/// the link owe alone: how an address comes to be held, and what comes of a frame that is carried. So it is on each link.
 pub fn one_holder()
-    ensures { (log : Log) (within : ℕ) → IsSound log → IsTimely within log → HasOneHolder log }
+    ensures where_sound { (log : Log) (within : ℕ) → IsSound log → IsTimely within log → HasOneHolder log }
+    ensures on_links { (limits : Limits) (events : List (ℕ × Event)) (log : Log) (within : ℕ) → AreOfBytes events → SendsBytes log → IsLog limits events log
+        → IsTimely within log → HasOneHolder log }
 {}

@@ -1,0 +1,97 @@
+-- What each log is, whatever has been added to it up to a moment.
+use Rattle.std.proofs.Common.{◌≡◌, inr, ℕ, zero, suc, ◌<◌, ◌≤◌, Bool, true, false, [], ◌∷◌, refl, sym, ◌∙◌, ap, arith, ⊎_elim}
+use Rattle.std.specs.Prelude.{◌==◌, is_some}
+use Rattle.std.proofs.lemmas.Bool.{cases_lt, true≢false}
+use Rattle.std.proofs.lemmas.Bool.Decides.{Decides-eqb}
+use Rattle.nd_chronicle.specs.Happening.{Chronicle, Passed}
+use Rattle.nd_link_log.specs.Log.{Log, Past, adding, chronicle_of, last_moment, nodes, start_of}
+use Rattle.nd_link_log.specs.Event.{passing}
+use Rattle.nd_link_log.specs.History.{Walk, over, adds, passes}
+use Rattle.nd_link_log.proofs.Carried.{AllBring, bring_with}
+use Rattle.nd_link_log.proofs.Chronicles.{past_with, row_of, start_with}
+use Rattle.nd_link_log.proofs.Moments.{EachAt, RisesTo, due_at, rises_with}
+use Rattle.nd_link_log.proofs.Nodes.{Numbered, RowsThere, is_there, numbered_with, there_with}
+use Rattle.nd_link_log.proofs.Pasts.{past_self, past_then}
+
+-- its moments rise up to this one, its nodes are numbered, who has a row is there, and each frame that was carried brought what it had to
+pub record Grown (log : Log) (at : ℕ) : Type 0 where
+  pub rises : RisesTo at log
+  pub numbered : Numbered log
+  pub there : RowsThere log
+  pub bring : AllBring log
+
+pub grown_with : (at node : ℕ) (rows : Chronicle) (log : Log) → EachAt at rows → is_some (start_of node log) ≡ true → Grown log at → Grown (adding node rows log) at
+grown_with at node rows log each here g = record {
+  rises = rises_with at node rows log each g.rises;
+  numbered = numbered_with node rows log g.numbered;
+  there = there_with node rows log here g.there;
+  bring = bring_with node rows log g.bring;
+}
+
+grown_later : (log : Log) (at later : ℕ) → at ≤ later → Grown log at → Grown log later
+grown_later log at later le g = record {
+  rises = record { rising = g.rises.rising; by = let by = g.rises.by in omega (arith, by, le) };
+  numbered = g.numbered;
+  there = g.there;
+  bring = g.bring;
+}
+
+-- ---- a walk
+
+pub walk_past : {log d : Log} {moment end : ℕ} → Walk log moment end d → Past log d
+walk_past {log = log} (over lt) = past_self log
+walk_past {log = log} {d = d} (adds node start what rows le is due idle gives w) = past_then log (adding node rows log) d (past_with node rows log) (walk_past w)
+walk_past (passes le idle w) = walk_past w
+
+pub walk_start : {log d : Log} {moment end : ℕ} → Walk log moment end d → (i : ℕ) → start_of i d ≡ start_of i log
+walk_start (over lt) i = refl
+walk_start {log = log} (adds node start what rows le is due idle gives w) i = walk_start w i ∙ start_with i node rows log
+walk_start (passes le idle w) i = walk_start w i
+
+pub grown_walk : {log d : Log} {moment end : ℕ} → Walk log moment end d → (last : ℕ) → last ≤ moment → last ≤ end → Grown log last → Grown d end
+grown_walk {log = log} {end = end} (over lt) last le more g = grown_later log last end more g
+grown_walk {log = log} {moment = moment} {end = end} (adds node start what rows within is due idle gives w) last le more g =
+    grown_walk w moment (omega arith) within
+    (grown_with moment node rows log (due_at start moment (chronicle_of node log) what rows gives) (ap is_some is) (grown_later log last moment le g))
+grown_walk (passes within idle w) last le more g = grown_walk w last (omega (arith, le)) more g
+
+-- ---- time passes at each node
+
+module _ (now : ℕ) (log : Log) where
+  pub start_passing : (k i : ℕ) → start_of i (passing now k log) ≡ start_of i log
+  start_passing zero i = refl
+  start_passing (suc k) i = start_passing k i
+
+  pub past_passing : (k : ℕ) → Past log (passing now k log)
+  past_passing zero = past_self log
+  past_passing (suc k) = inr (past_passing k)
+
+  pub moment_passing : (k : ℕ) → last_moment log ≡ now → last_moment (passing now k log) ≡ now
+  moment_passing zero e = e
+  moment_passing (suc k) e = refl
+
+  pub grown_passing : (k : ℕ) → k ≤ nodes log → Grown log now → Grown (passing now k log) now
+  grown_passing zero le g = g
+  grown_passing (suc k) le g =
+      grown_with now k ((now, Passed) ∷ []) (passing now k log) (refl, tt) (ap is_some (start_passing k k) ∙ is_there k log g.numbered (omega (arith, le))) (grown_passing k (omega (arith, le)) g)
+
+  still : (k i : ℕ) → k ≤ i → chronicle_of i (passing now k log) ≡ chronicle_of i log
+  still zero i le = refl
+  still (suc k) i le = by (k == i) refl (still k i (omega (arith, le)))
+    where
+      by : (own : Bool) → (k == i) ≡ own → chronicle_of i (passing now k log) ≡ chronicle_of i log → chronicle_of i (passing now (suc k) log) ≡ chronicle_of i log
+      by true e below = absurd (let same = (Decides-eqb k i).0 e in omega (arith, same, le))
+      by false e below = row_of false i k now Passed (passing now k log) e ∙ below
+
+  pub passed : (k i : ℕ) → i < k → chronicle_of i (passing now k log) ≡ (now, Passed) ∷ chronicle_of i log
+  passed zero i lt = absurd (omega (arith, lt))
+  passed (suc k) i lt = by (k == i) refl (passed k i)
+    where
+      by : (own : Bool) → (k == i) ≡ own → (i < k → chronicle_of i (passing now k log) ≡ (now, Passed) ∷ chronicle_of i log) → chronicle_of i (passing now (suc k) log) ≡ (now, Passed) ∷ chronicle_of i log
+      by true e below =
+          let same = (Decides-eqb k i).0 e in
+          row_of true i k now Passed (passing now k log) e ∙ ap (λ (c : Chronicle). (now, Passed) ∷ c) (still k i (omega (arith, same)))
+      by false e below =
+          row_of false i k now Passed (passing now k log) e
+          ∙ below (⊎_elim (λ less. less) (λ more. absurd (let is : k ≡ i = omega (arith, lt, more) in true≢false (sym ((Decides-eqb k i).1 is) ∙ e))) (cases_lt i k))
+

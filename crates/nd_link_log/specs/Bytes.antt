@@ -1,0 +1,26 @@
+-- What is handed to a link is bytes, and so is what its nodes send.
+use Rattle.std.specs.Prelude.{◌≡◌, ℕ, List, ◌∷◌}
+use Rattle.std.specs.List.{All}
+use Rattle.nd_addr.specs.Bytes.{IsBytes, AreBytes}
+use Rattle.nd_chronicle.specs.Happening.{Sent}
+use Rattle.nd_chronicle.specs.Event as nodes
+use Rattle.nd_link_log.specs.Log.{Log, Past, Adds}
+use Rattle.nd_link_log.specs.Event.{Event, Passes, Starts, Comes, Delivers}
+
+-- a frame that comes is bytes
+abbrev pub ComesAsBytes : nodes.Event → Type 0
+ComesAsBytes event = (frame : List ℕ) → event ≡ nodes.Receives frame → IsBytes frame
+
+-- the link-layer address of a node that starts is six bytes, and a frame that comes is bytes
+abbrev pub IsOfBytes : Event → Type 0
+IsOfBytes Passes = Unit {0}
+IsOfBytes (Starts role mac stream) = AreBytes 6 mac.0
+IsOfBytes (Comes node event) = ComesAsBytes event
+IsOfBytes (Delivers node number) = Unit {0}
+
+abbrev pub AreOfBytes : List (ℕ × Event) → Type 0
+AreOfBytes events = All (λ event. IsOfBytes event.1) events
+
+-- each frame that a node sent is bytes
+abbrev pub SendsBytes : Log → Type 0
+SendsBytes log = (node at : ℕ) (frame : List ℕ) (before : Log) → Past (Adds node at (Sent frame) ∷ before) log → IsBytes frame
