@@ -57,9 +57,11 @@ module _ (node now number : ℕ) (before : Log) (rows : Chronicle) where
         let whole = tries_address frame address bytes t in
         let assigned : is_assigned c address.0 ≡ true = subst (λ (n : ℕ). states.is_assigned (story_of c n) ≡ true) (sym tries.1) holds in
         let own : is_own c address.0 ≡ true = own_by_assigned (is_tentative c address.0) (is_assigned c address.0) assigned in
-        let answer : List ℕ = defence_frame (is_router start.role) start.mac address in
-        (answer, (address, tries.1, defence_sent start.mac l.mac (is_router start.role) address whole),
-        gains (Sent answer) [] ((now, Heard unspecified (solicited_node address) t.message) ∷ []) (defends start c now l address whole own frame (rows ++ c) adds t assigned))
+        let answer : List ℕ = defence_frame (is_router start.role) start.mac address in (
+          answer,
+          (address, tries.1, defence_sent start.mac l.mac (is_router start.role) address whole),
+          gains (Sent answer) [] ((now, Heard unspecified (solicited_node address) t.message) ∷ []) (defends start c now l address whole own frame (rows ++ c) adds t assigned),
+        )
 
     clashes : (key : ℕ) → Tries key frame ⊎ Claims key frame → IsTrying node key before → Gains after before node now (Address key Conflict)
     clashes key (inl tries) trying =

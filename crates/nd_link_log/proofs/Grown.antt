@@ -94,4 +94,3 @@ module _ (now : ℕ) (log : Log) where
       by false e below =
           row_of false i k now Passed (passing now k log) e
           ∙ below (⊎_elim (λ less. less) (λ more. absurd (let is : k ≡ i = omega (arith, lt, more) in true≢false (sym ((Decides-eqb k i).1 is) ∙ e))) (cases_lt i k))
-

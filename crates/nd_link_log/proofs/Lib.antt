@@ -10,6 +10,8 @@ pub mod Tried
 pub mod Grown
 pub mod Standing
 pub mod Sound
+pub mod Places
+pub mod Bound
 pub mod Frames
 pub mod Texts
 pub mod Holding

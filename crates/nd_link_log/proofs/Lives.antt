@@ -88,7 +88,7 @@ module _ (start : Start) (c : Chronicle) (now : ℕ) (r : Reached start c now) w
         events = l.events ++ ((now, event) ∷ []);
         bytes = All-append each l.events ((now, event) ∷ []) l.bytes (All-from_recursion each ((now, event) ∷ []) (bytes, tt));
         runs = runs_further start l.events ((now, event) ∷ []) _ r.before d l.runs
-        (d, not_late (nat_lt now (chronicle.last_moment start.at r.before)) (d ≡ (now, TooLate (chronicle.last_moment start.at r.before)) ∷ r.before) _ late (r.over, walked, more), refl);
+            (d, not_late (nat_lt now (chronicle.last_moment start.at r.before)) (d ≡ (now, TooLate (chronicle.last_moment start.at r.before)) ∷ r.before) _ late (r.over, walked, more), refl);
         last_is = ap (chronicle.last_moment start.at) g.all ∙ newest_moment start.at now g.newer ((now, Passed) ∷ r.over) (each_in now g.newer g.each) refl;
       }
 

@@ -50,17 +50,17 @@ reaching log e now in_time w s =
       moment = moment_passing now (Reaches now ∷ e) (nodes e) refl;
       grown = grown_passing now (Reaches now ∷ e) (nodes e) (omega arith) r;
       reached = λ i start is.
-      let at : start_of i e ≡ Some start = sym (start_passing now (Reaches now ∷ e) (nodes e) i) ∙ is in
-      let was : start_of i log ≡ Some start = sym (walk_start w i) ∙ at in
-      let lt : i < nodes e = ⊎_elim (λ less. less) (λ more. absurd (true≢false (sym (ap is_some at) ∙ none_there i e g.numbered more))) (cases_lt i (nodes e)) in record {
-        before = chronicle_of i log;
-        last = last_moment log;
-        lives = s.lives i start was;
-        in_time = in_time;
-        over = chronicle_of i e;
-        walked = walk_at w i start was;
-        passed = passed now (Reaches now ∷ e) (nodes e) i lt;
-      };
+          let at : start_of i e ≡ Some start = sym (start_passing now (Reaches now ∷ e) (nodes e) i) ∙ is in
+          let was : start_of i log ≡ Some start = sym (walk_start w i) ∙ at in
+          let lt : i < nodes e = ⊎_elim (λ less. less) (λ more. absurd (true≢false (sym (ap is_some at) ∙ none_there i e g.numbered more))) (cases_lt i (nodes e)) in record {
+            before = chronicle_of i log;
+            last = last_moment log;
+            lives = s.lives i start was;
+            in_time = in_time;
+            over = chronicle_of i e;
+            walked = walk_at w i start was;
+            passed = passed now (Reaches now ∷ e) (nodes e) i lt;
+          };
     }
 
 -- ---- an event
@@ -173,4 +173,3 @@ module _ (now : ℕ) (log : Log) (r : Reaching log now) where
       (stands_at (adding at rows carrying) now (moment_with now at rows carrying each refl)
       (record { rises = rises_with now at rows carrying each rises; numbered = numbered_with at rows carrying g.numbered; there = there_with at rows carrying (ap is_some is) g.there; bring = all })
       (lives_after at (nodes.Receives frame) start rows is (λ f e. let one : frame ≡ f = cc in subst IsBytes one bytes) gained carrying (λ i. refl) (λ i. refl)))
-

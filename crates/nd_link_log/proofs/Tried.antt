@@ -46,7 +46,7 @@ module _ (log : Log) (node : ℕ) (start : Start) (last : ℕ) (l : Lives start 
         assigned_at = a.there;
         wait = let w = h.wait in omega (arith, w);
         trying = λ e p q. h.trying (chronicle_of node e) (subst (chronicle.Past (chronicle_of node e)) a.chronicle_is (past_of node e a.below p))
-        (row_below e h.formed (Address key (Formed h.delay h.retrans h.lifetimes)) f.below h.below f.chronicle_is q);
+            (row_below e h.formed (Address key (Formed h.delay h.retrans h.lifetimes)) f.below h.below f.chronicle_is q);
         since = λ e p q. h.since (chronicle_of node e) (past_of node e d p) (row_below e h.assigned (Address key Assigned) a.below h.over a.chronicle_is q);
       }
     where

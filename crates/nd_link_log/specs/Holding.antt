@@ -22,11 +22,20 @@ pub record Arrives (log : Log) (node number from within : ℕ) : Type 0 where
   pub not_before : from ≤ at
   pub in_time : at ≤ from + within
 
--- Each frame arrives within its time at each other node that was there when it was sent, but for those whose time isn't over; and a tentative
--- address waits for more than twice that time, as RetransTimer says where it is formed.
+-- each frame arrives within its time at each other node that was there when it was sent, but for those whose time isn't over
+abbrev pub AllArrive : ℕ → Log → Type 0
+AllArrive within log = (sender at : ℕ) (frame : List ℕ) (before : Log) → Past (Adds sender at (Sent frame) ∷ before) log → at + within < last_moment log
+    → (node : ℕ) → node ≢ sender → is_some (start_of node before) ≡ true → Arrives log node (sent before) at within
+
+-- a tentative address waits for so many milliseconds, or longer, as RetransTimer says where it is formed
+abbrev pub AllWait : ℕ → Log → Type 0
+AllWait least log = (node at key delay retrans : ℕ) (lifetimes : Option addresses.Lifetimes) (before : Log)
+    → Past (Adds node at (Address key (addresses.Formed delay retrans lifetimes)) ∷ before) log → least ≤ retrans
+
+-- A link is timely where each frame arrives so, and a tentative address waits for more than twice that time, as RetransTimer says where it is
+-- formed.
 pub record IsTimely (within : ℕ) (log : Log) : Type 0 where
-  pub arrives : (sender at : ℕ) (frame : List ℕ) (before : Log) → Past (Adds sender at (Sent frame) ∷ before) log → at + within < last_moment log
-      → (node : ℕ) → node ≢ sender → is_some (start_of node before) ≡ true → Arrives log node (sent before) at within
+  pub arrives : AllArrive within log
   pub waits : (node at key delay retrans : ℕ) (lifetimes : Option addresses.Lifetimes) (before : Log)
       → Past (Adds node at (Address key (addresses.Formed delay retrans lifetimes)) ∷ before) log → 2 * within < retrans
 

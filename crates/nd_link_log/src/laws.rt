@@ -1,16 +1,17 @@
 //! Laws of the definitions, each the contract of a function that does nothing.
 
-ghost use Rattle.std.specs.Prelude.{◌≡◌, ◌++◌, ◌∷◌, ℕ, List, Some};
+ghost use Rattle.std.specs.Prelude.{◌≡◌, ◌*◌, ◌++◌, ◌∷◌, ℕ, List, Some};
 ghost use Rattle.std.specs.List.{All};
+ghost use Rattle.nd_addr.specs.Bytes.{AreBytes};
 ghost use Rattle.nd_chronicle.specs.Start.{Limits, Start};
 ghost use Rattle.nd_chronicle.specs.Happening.{Sent};
-ghost use Rattle.nd_chronicle.specs.Event as nodes;
+ghost use Rattle.nd_chronicle.specs.Event as chronicle;
 ghost use Rattle.nd_chronicle.specs.History.{IsChronicle};
-ghost use Rattle.nd_link_log.specs.Log.{Adds, Entry, Log, Past, chronicle_of, sent, start_of};
+ghost use Rattle.nd_link_log.specs.Log.{Adds, Entry, Log, Past, chronicle_of, nodes, sent, start_of};
 ghost use Rattle.nd_link_log.specs.Event.{Event};
 ghost use Rattle.nd_link_log.specs.Bytes.{AreOfBytes, ComesAsBytes, SendsBytes};
 ghost use Rattle.nd_link_log.specs.History.{IsLog};
-ghost use Rattle.nd_link_log.specs.Holding.{HasOneHolder, IsTimely};
+ghost use Rattle.nd_link_log.specs.Holding.{AllArrive, AllWait, Arrives, HasOneHolder, Holds, IsTimely};
 ghost use Rattle.nd_link_log.specs.Sound.{IsSound};
 ghost use Rattle.nd_link_log.specs.Told.{text};
 
@@ -28,7 +29,7 @@ pub fn text_only_grows()
 /// Each node of a link lives a history of its own, of bytes: its chronicle in the log is the one of that history.
 pub fn nodes_have_histories()
     ensures { (limits : Limits) (events : List (ℕ × Event)) (log : Log) (node : ℕ) (start : Start) → AreOfBytes events → SendsBytes log → IsLog limits events log
-        → start_of node log ≡ Some start → (history : List (ℕ × nodes.Event)) × All (λ event. ComesAsBytes event.1) history × IsChronicle start history (chronicle_of node log) }
+        → start_of node log ≡ Some start → (history : List (ℕ × chronicle.Event)) × All (λ event. ComesAsBytes event.1) history × IsChronicle start history (chronicle_of node log) }
 {}
 
 /// The log of each link is sound: whatever events come, in whatever order, its nodes and the link itself do what they owe.
@@ -42,4 +43,16 @@ pub fn one_holder()
     ensures where_sound { (log : Log) (within : ℕ) → IsSound log → IsTimely within log → HasOneHolder log }
     ensures on_links { (limits : Limits) (events : List (ℕ × Event)) (log : Log) (within : ℕ) → AreOfBytes events → SendsBytes log → IsLog limits events log
         → IsTimely within log → HasOneHolder log }
+{}
+
+/// The premises can be met: on a log of two nodes that is sound and timely a frame was carried, and one of them holds an address.
+pub fn premises_are_met()
+    ensures { (start : Start) → start.at ≡ 0 → AreBytes 6 start.mac.0
+        → (log : Log) × (key : ℕ) × (nodes log ≡ 2) × IsSound log × IsTimely 1 log × Arrives log 1 0 0 1 × Holds 0 key log }
+{}
+
+/// The bound is sharp: on a sound log where each frame arrives in 2 milliseconds and a tentative address waits for 4, two nodes hold an address.
+pub fn bound_is_sharp()
+    ensures { (start : Start) → start.at ≡ 0 → AreBytes 6 start.mac.0
+        → (log : Log) × (key : ℕ) × IsSound log × AllArrive 2 log × AllWait (2 * 2) log × Holds 0 key log × Holds 1 key log }
 {}
