@@ -84,10 +84,10 @@ in_rows start c d key paired p h =
       assigned_at = a.there;
       wait = h.wait;
       trying = λ e q r. h.tried.tentative (address_history e) (subst (λ (x : List Row). rows.Past (address_history e) x) a.history (history_past e a.before q))
-      (subst (λ (x : List Row). rows.Past ((h.formed, key, Formed h.delay h.retrans h.lifetimes) ∷ x) (address_history e)) f.history
-      (history_past (formed_with h.formed key h.delay h.retrans h.lifetimes f.before) e r));
+          (subst (λ (x : List Row). rows.Past ((h.formed, key, Formed h.delay h.retrans h.lifetimes) ∷ x) (address_history e)) f.history
+          (history_past (formed_with h.formed key h.delay h.retrans h.lifetimes f.before) e r));
       since = λ e q r. h.since (address_history e) (history_past e d q)
-      (subst (λ (x : List Row). rows.Past ((h.assigned, key, Assigned) ∷ x) (address_history e)) a.history (history_past ((h.assigned, Address key Assigned) ∷ a.before) e r));
+          (subst (λ (x : List Row). rows.Past ((h.assigned, key, Assigned) ∷ x) (address_history e)) a.history (history_past ((h.assigned, Address key Assigned) ∷ a.before) e r));
     }
   where
     self : (x : Chronicle) → Past x x

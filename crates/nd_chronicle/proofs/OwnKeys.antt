@@ -49,7 +49,7 @@ identifier_small mac m = (xor_lt 8 (slice_index mac 0) 2 (m 0) (omega arith), (m
 formed_bytes : (prefix mac : List ℕ) → AreBytes 16 prefix → AreBytes 6 mac → AreBytes 16 (address_from_mac prefix mac)
 formed_bytes prefix mac p m = record {
   len_is = let l = length-append (take 8 prefix) (bit_xor (slice_index mac 0) 2 ∷ slice_index mac 1 ∷ slice_index mac 2 ∷ 0xff ∷ 0xfe ∷ slice_index mac 3 ∷ slice_index mac 4 ∷ slice_index mac 5 ∷ []) in
-  omega (arith, l, length-take 8 prefix, p.len_is);
+      omega (arith, l, length-take 8 prefix, p.len_is);
   each = IsBytes-from _ (AreSmall-append (take 8 prefix) _ (AreSmall-from (take 8 prefix) (IsBytes-take 8 prefix p.each)) (identifier_small mac m.each));
 }
 
