@@ -135,10 +135,10 @@ module _ (start : Start) (c : Chronicle) (m : ℕ) where
   one_due a b h k =
       by_router a b h k (router_in a) refl (sym (one_router (router_history c) m (router_in a) (router_in b) (router_due a h) (router_due b k)))
 
-same_in : (a b : What) → Some a ≡ Some b → a ≡ b
+pub same_in : (a b : What) → Some a ≡ Some b → a ≡ b
 same_in a b h = cc
 
-none_in : (a : What) → Some a ≡ None → ⊥
+pub none_in : (a : What) → Some a ≡ None → ⊥
 none_in a h = cc
 
 module _ (start : Start) where

@@ -51,7 +51,7 @@ use Rattle.nd_chronicle.proofs.Hops.{one_router_list, one_hop, one_heard}
 use Rattle.nd_chronicle.proofs.Dues.{one_walk}
 
 -- by a test, or by a refusal
-by_test : (t : Bool) {A B A' B' : Type 0} {X : Type 0} → (A → A' → X) → (B → B' → X) → MatchBool t A B → MatchBool t A' B' → X
+pub by_test : (t : Bool) {A B A' B' : Type 0} {X : Type 0} → (A → A' → X) → (B → B' → X) → MatchBool t A B → MatchBool t A' B' → X
 by_test true f g a b = f a b
 by_test false f g a b = g a b
 
@@ -188,7 +188,7 @@ module _ (start : Start) (c : Chronicle) (now : ℕ) where
   one_rows tables.AdvertiseTable a b h k = h ∙ sym k
   one_rows tables.RouteTable a b h k = h ∙ sym k
 
-  one_event : (event : Event) (d e : Chronicle) → EventAdds start now event c d → EventAdds start now event c e → d ≡ e
+  pub one_event : (event : Event) (d e : Chronicle) → EventAdds start now event c d → EventAdds start now event c e → d ≡ e
   one_event events.Passes d e h k = h ∙ sym k
   one_event (events.Receives frame) d e h k = one_frame frame d e h k
   one_event (events.Sends source destination next_header payload) d e h k = one_send source destination next_header payload d e h k

@@ -1,17 +1,16 @@
 -- What each log is, whatever has been added to it up to a moment.
-use Rattle.std.proofs.Common.{◌≡◌, inr, ℕ, zero, suc, ◌<◌, ◌≤◌, Bool, true, false, [], ◌∷◌, refl, sym, ◌∙◌, ap, arith, ⊎_elim}
+use Rattle.std.proofs.Common.{◌≡◌, ℕ, zero, suc, ◌<◌, ◌≤◌, Bool, true, false, [], ◌∷◌, refl, sym, ◌∙◌, ap, arith, ⊎_elim}
 use Rattle.std.specs.Prelude.{◌==◌, is_some}
 use Rattle.std.proofs.lemmas.Bool.{cases_lt, true≢false}
 use Rattle.std.proofs.lemmas.Bool.Decides.{Decides-eqb}
 use Rattle.nd_chronicle.specs.Happening.{Chronicle, Passed}
-use Rattle.nd_link_log.specs.Log.{Log, Past, adding, chronicle_of, last_moment, nodes, start_of}
+use Rattle.nd_link_log.specs.Log.{Log, adding, chronicle_of, last_moment, nodes, start_of}
 use Rattle.nd_link_log.specs.Event.{passing}
 use Rattle.nd_link_log.specs.History.{Walk, over, adds, passes}
 use Rattle.nd_link_log.proofs.Carried.{AllBring, bring_with}
-use Rattle.nd_link_log.proofs.Chronicles.{past_with, row_of, start_with}
+use Rattle.nd_link_log.proofs.Chronicles.{row_of, start_with}
 use Rattle.nd_link_log.proofs.Moments.{EachAt, RisesTo, due_at, rises_with}
 use Rattle.nd_link_log.proofs.Nodes.{Numbered, RowsThere, is_there, numbered_with, there_with}
-use Rattle.nd_link_log.proofs.Pasts.{past_self, past_then}
 
 -- its moments rise up to this one, its nodes are numbered, who has a row is there, and each frame that was carried brought what it had to
 pub record Grown (log : Log) (at : ℕ) : Type 0 where
@@ -38,11 +37,6 @@ grown_later log at later le g = record {
 
 -- ---- a walk
 
-pub walk_past : {log d : Log} {moment end : ℕ} → Walk log moment end d → Past log d
-walk_past {log = log} (over lt) = past_self log
-walk_past {log = log} {d = d} (adds node start what rows le is due idle gives w) = past_then log (adding node rows log) d (past_with node rows log) (walk_past w)
-walk_past (passes le idle w) = walk_past w
-
 pub walk_start : {log d : Log} {moment end : ℕ} → Walk log moment end d → (i : ℕ) → start_of i d ≡ start_of i log
 walk_start (over lt) i = refl
 walk_start {log = log} (adds node start what rows le is due idle gives w) i = walk_start w i ∙ start_with i node rows log
@@ -61,10 +55,6 @@ module _ (now : ℕ) (log : Log) where
   pub start_passing : (k i : ℕ) → start_of i (passing now k log) ≡ start_of i log
   start_passing zero i = refl
   start_passing (suc k) i = start_passing k i
-
-  pub past_passing : (k : ℕ) → Past log (passing now k log)
-  past_passing zero = past_self log
-  past_passing (suc k) = inr (past_passing k)
 
   pub moment_passing : (k : ℕ) → last_moment log ≡ now → last_moment (passing now k log) ≡ now
   moment_passing zero e = e

@@ -2,6 +2,8 @@ pub mod Pasts
 pub mod Chronicles
 pub mod Nodes
 pub mod Moments
+pub mod Growth
+pub mod Unique
 pub mod Lives
 pub mod Seen
 pub mod Rivals

@@ -10,7 +10,7 @@ ghost use Rattle.nd_chronicle.specs.History.{IsChronicle};
 ghost use Rattle.nd_link_log.specs.Log.{Adds, Entry, Log, Past, chronicle_of, nodes, sent, start_of};
 ghost use Rattle.nd_link_log.specs.Event.{Event};
 ghost use Rattle.nd_link_log.specs.Bytes.{AreOfBytes, ComesAsBytes, SendsBytes};
-ghost use Rattle.nd_link_log.specs.History.{IsLog};
+ghost use Rattle.nd_link_log.specs.History.{IsLog, Runs};
 ghost use Rattle.nd_link_log.specs.Holding.{AllArrive, AllWait, Arrives, HasOneHolder, Holds, IsTimely};
 ghost use Rattle.nd_link_log.specs.Sound.{IsSound};
 ghost use Rattle.nd_link_log.specs.Told.{text};
@@ -19,6 +19,16 @@ ghost use Rattle.nd_link_log.specs.Told.{text};
 pub fn one_frame()
     ensures { (log a b : Log) (i j at when : ℕ) (frame other : List ℕ) → Past (Adds i at (Sent frame) ∷ a) log → Past (Adds j when (Sent other) ∷ b) log
         → sent a ≡ sent b → Adds i at (Sent frame) ∷ a ≡ Adds j when (Sent other) ∷ b }
+{}
+
+/// A list of events has one log.
+pub fn one_log()
+    ensures { (limits : Limits) (events : List (ℕ × Event)) (c d : Log) → IsLog limits events c → IsLog limits events d → c ≡ d }
+{}
+
+/// Nothing that happened on a link is lost: whatever happens further, its log grows.
+pub fn log_only_grows()
+    ensures { (limits : Limits) (events : List (ℕ × Event)) (log d : Log) → Runs limits log events d → (newer : List Entry) × (d ≡ newer ++ log) }
 {}
 
 /// What is told of a log is told behind the text of what it was before.
