@@ -46,7 +46,7 @@ module _ (node now number : ℕ) (before : Log) (rows : Chronicle) where
         above = past_then before carrying (adding node more carrying) (inr (past_self before)) (past_with node more carrying);
       }
 
-  module _ (start : Start) (l : Lives start (chronicle_of node before) now) (frame : List ℕ) (bytes : IsBytes frame) (adds : FrameAdds start now frame (chronicle_of node before) (rows ++ chronicle_of node before)) where
+  module _ (Bytes : Type 0) (b : Bytes) (start : Start) (l : Lives Bytes start (chronicle_of node before) now) (frame : List ℕ) (bytes : IsBytes frame) (adds : FrameAdds start now frame (chronicle_of node before) (rows ++ chronicle_of node before)) where
     abbrev c : Chronicle
     c = chronicle_of node before
 
@@ -59,8 +59,8 @@ module _ (node now number : ℕ) (before : Log) (rows : Chronicle) where
         let own : is_own c address.0 ≡ true = own_by_assigned (is_tentative c address.0) (is_assigned c address.0) assigned in
         let answer : List ℕ = defence_frame (is_router start.role) start.mac address in (
           answer,
-          (address, tries.1, defence_sent start.mac l.mac (is_router start.role) address whole),
-          gains (Sent answer) [] ((now, Heard unspecified (solicited_node address) t.message) ∷ []) (defends start c now l address whole own frame (rows ++ c) adds t assigned),
+          (address, tries.1, defence_sent start.mac (l.mac b) (is_router start.role) address whole),
+          gains (Sent answer) [] ((now, Heard unspecified (solicited_node address) t.message) ∷ []) (defends Bytes b start c now l address whole own frame (rows ++ c) adds t assigned),
         )
 
     clashes : (key : ℕ) → Tries key frame ⊎ Claims key frame → IsTrying node key before → Gains after before node now (Address key Conflict)
@@ -71,14 +71,14 @@ module _ (node now number : ℕ) (before : Log) (rows : Chronicle) where
         let tentative : is_tentative c address.0 ≡ true = subst (λ (n : ℕ). states.is_tentative (story_of c n) ≡ true) (sym tries.1) trying in
         let own : is_own c address.0 ≡ true = own_by_tentative (is_tentative c address.0) (is_assigned c address.0) tentative in
         subst (λ (n : ℕ). Gains after before node now (Address n Conflict)) tries.1
-        (gains (Address (number_of address.0) Conflict) [] ((now, Heard unspecified (solicited_node address) t.message) ∷ []) (gives_way start c now l address whole own frame (rows ++ c) adds t tentative))
+        (gains (Address (number_of address.0) Conflict) [] ((now, Heard unspecified (solicited_node address) t.message) ∷ []) (gives_way Bytes b start c now l address whole own frame (rows ++ c) adds t tentative))
     clashes key (inr claims) trying =
         let address : Addr = claims.0 in
         let t : IsDefence frame address = claims.2 in
         let whole = claims_address frame address bytes t in
         let tentative : is_tentative c address.0 ≡ true = subst (λ (n : ℕ). states.is_tentative (story_of c n) ≡ true) (sym claims.1) trying in
         let own : is_own c address.0 ≡ true = own_by_tentative (is_tentative c address.0) (is_assigned c address.0) tentative in
-        let y = yields start c now l address whole own frame (rows ++ c) adds t tentative in
+        let y = yields Bytes b start c now l address whole own frame (rows ++ c) adds t tentative in
         subst (λ (n : ℕ). Gains after before node now (Address n Conflict)) claims.1
         (gains (Address (number_of address.0) Conflict) y.0 ((now, Heard address all_nodes t.message) ∷ []) y.1)
 

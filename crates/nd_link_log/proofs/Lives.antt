@@ -20,19 +20,19 @@ use Rattle.nd_link_log.specs.History.{Walk, over, adds, passes}
 use Rattle.nd_link_log.proofs.Chronicles.{other_rows, own_rows, start_with}
 use Rattle.nd_link_log.proofs.Moments.{each_in, newest_moment}
 
--- it is the chronicle of a history of the node, up to a moment
-pub record Lives (start : Start) (c : Chronicle) (last : ℕ) : Type 0 where
-  pub mac : AreBytes 6 start.mac.0
+-- It is the chronicle of a history of the node, up to a moment; and if what is handed in is bytes, so are its events.
+pub record Lives (Bytes : Type 0) (start : Start) (c : Chronicle) (last : ℕ) : Type 0 where
+  pub mac : Bytes → AreBytes 6 start.mac.0
   pub events : List (ℕ × nodes.Event)
-  pub bytes : All (λ event. ComesAsBytes event.1) events
+  pub bytes : Bytes → All (λ event. ComesAsBytes event.1) events
   pub runs : IsChronicle start events c
   pub last_is : chronicle.last_moment start.at c ≡ last
 
 -- it is that of one that an event reaches: time has passed up to it
-pub record Reached (start : Start) (c : Chronicle) (now : ℕ) : Type 0 where
+pub record Reached (Bytes : Type 0) (start : Start) (c : Chronicle) (now : ℕ) : Type 0 where
   pub before : Chronicle
   pub last : ℕ
-  pub lives : Lives start before last
+  pub lives : Lives Bytes start before last
   pub in_time : nat_lt now last ≡ false
   pub over : Chronicle
   pub walked : node.Walk start before last now over
@@ -75,8 +75,8 @@ not_late : (t : Bool) (P Q : Type 0) → t ≡ false → Q → MatchBool t P Q
 not_late true P Q e q = absurd (let no : ⊥ = cc in no)
 not_late false P Q e q = q
 
-module _ (start : Start) (c : Chronicle) (now : ℕ) (r : Reached start c now) where
-  pub lives_then : (event : nodes.Event) (d : Chronicle) → ComesAsBytes event → EventAdds start now event c d → Lives start d now
+module _ (Bytes : Type 0) (start : Start) (c : Chronicle) (now : ℕ) (r : Reached Bytes start c now) where
+  pub lives_then : (event : nodes.Event) (d : Chronicle) → (Bytes → ComesAsBytes event) → EventAdds start now event c d → Lives Bytes start d now
   lives_then event d bytes h =
       let l = r.lives in
       let each : ℕ × nodes.Event → Type 0 = λ x. ComesAsBytes x.1 in
@@ -86,11 +86,11 @@ module _ (start : Start) (c : Chronicle) (now : ℕ) (r : Reached start c now) w
       let late = ap (nat_lt now) l.last_is ∙ r.in_time in record {
         mac = l.mac;
         events = l.events ++ ((now, event) ∷ []);
-        bytes = All-append each l.events ((now, event) ∷ []) l.bytes (All-from_recursion each ((now, event) ∷ []) (bytes, tt));
+        bytes = λ b. All-append each l.events ((now, event) ∷ []) (l.bytes b) (All-from_recursion each ((now, event) ∷ []) (bytes b, tt));
         runs = runs_further start l.events ((now, event) ∷ []) _ r.before d l.runs
             (d, not_late (nat_lt now (chronicle.last_moment start.at r.before)) (d ≡ (now, TooLate (chronicle.last_moment start.at r.before)) ∷ r.before) _ late (r.over, walked, more), refl);
         last_is = ap (chronicle.last_moment start.at) g.all ∙ newest_moment start.at now g.newer ((now, Passed) ∷ r.over) (each_in now g.newer g.each) refl;
       }
 
-  pub lives_on : Lives start c now
-  lives_on = lives_then nodes.Passes c (λ frame e. absurd (let no : ⊥ = cc in no)) refl
+  pub lives_on : Lives Bytes start c now
+  lives_on = lives_then nodes.Passes c (λ b frame e. absurd (let no : ⊥ = cc in no)) refl

@@ -68,14 +68,14 @@ awake_by t true k h e = refl
 awake_by true false k h e = e
 awake_by false false k h e = absurd (let no : ⊥ = cc in no)
 
-module _ (start : Start) (c : Chronicle) (now : ℕ) (l : Lives start c now) (address : Addr) (bytes : AreBytes 16 address.0) (own : is_own c address.0 ≡ true) where
+module _ (Bytes : Type 0) (b : Bytes) (start : Start) (c : Chronicle) (now : ℕ) (l : Lives Bytes start c now) (address : Addr) (bytes : AreBytes 16 address.0) (own : is_own c address.0 ≡ true) where
   self : (x : Chronicle) → chronicle.Past x x
   self [] = refl
   self (row ∷ x) = inl refl
 
   unicast : IsUnicast address
   unicast =
-      let u : IsUsable (number_of address.0) = own_usable start l.mac l.events c c (number_of address.0) l.bytes l.runs (self c) (own_known (story_of c (number_of address.0)) own) in
+      let u : IsUsable (number_of address.0) = own_usable start (l.mac b) l.events c c (number_of address.0) (l.bytes b) l.runs (self c) (own_known (story_of c (number_of address.0)) own) in
       subst IsUnicast (addr_back address bytes) u.unicast
 
   -- it hears what makes its link-local address a duplicate, and all else where that is assigned
@@ -94,27 +94,29 @@ module _ (start : Start) (c : Chronicle) (now : ℕ) (l : Lives start c now) (ad
           (awake_by (is_tentative c address.0) (is_assigned c address.0) k own (conflicts same)))
       by (inr e) =
           let other : number_of address.0 ≢ link_local_key start = λ key. let is = (Decides-eqb (number_of address.0) (link_local_key start)).1 key in let no : ⊥ = cc in no in
-          ap (λ (u : Bool). u || (is_tentative c (link_local start).0 && conflicts_with (link_local start).0 source body)) (own_behind start l.events c l.bytes l.runs c address.0 (self c) other own)
+          ap (λ (u : Bool). u || (is_tentative c (link_local start).0 && conflicts_with (link_local start).0 source body)) (own_behind start l.events c (l.bytes b) l.runs c address.0 (self c) other own)
 
   itself : address ≡ link_local start → bytes_eq address.0 (link_local start).0 ≡ true
   itself same = (bytes_eq-Decides address.0 (link_local start).0).1 (ap (λ (a : Addr). a.0) same)
 
   module _ (frame : List ℕ) (d : Chronicle) (adds : FrameAdds start now frame c d) where
+    by_state : (t : IsDetection frame address) (assigned : Bool) → is_assigned c address.0 ≡ assigned
+        → d ≡ (if assigned then (now, Sent (defence_frame (is_router start.role) start.mac address)) ∷ (now, Heard unspecified (solicited_node address) t.message) ∷ c
+        else (now, Address (number_of address.0) Conflict) ∷ (now, Heard unspecified (solicited_node address) t.message) ∷ c)
+    by_state t assigned e =
+        tried start c now frame address bytes d unicast t own (awake unspecified (bodies.Ns (record { target = address })) (λ same. ap (λ (k : Bool). k && true) (itself same))) adds
+        ∙ ap (λ (k : Bool). if k then (now, Sent (defence_frame (is_router start.role) start.mac address)) ∷ (now, Heard unspecified (solicited_node address) t.message) ∷ c
+        else (now, Address (number_of address.0) Conflict) ∷ (now, Heard unspecified (solicited_node address) t.message) ∷ c) e
+
     -- who has the address tells all nodes
     pub defends : (t : IsDetection frame address) → is_assigned c address.0 ≡ true
         → d ≡ (now, Sent (defence_frame (is_router start.role) start.mac address)) ∷ (now, Heard unspecified (solicited_node address) t.message) ∷ c
-    defends t assigned =
-        tried start c now frame address bytes d unicast t own (awake unspecified (bodies.Ns (record { target = address })) (λ same. ap (λ (b : Bool). b && true) (itself same))) adds
-        ∙ ap (λ (b : Bool). if b then (now, Sent (defence_frame (is_router start.role) start.mac address)) ∷ (now, Heard unspecified (solicited_node address) t.message) ∷ c
-        else (now, Address (number_of address.0) Conflict) ∷ (now, Heard unspecified (solicited_node address) t.message) ∷ c) assigned
+    defends t assigned = by_state t true assigned
 
     -- who tries it finds it a duplicate
     pub gives_way : (t : IsDetection frame address) → is_tentative c address.0 ≡ true
         → d ≡ (now, Address (number_of address.0) Conflict) ∷ (now, Heard unspecified (solicited_node address) t.message) ∷ c
-    gives_way t trying =
-        tried start c now frame address bytes d unicast t own (awake unspecified (bodies.Ns (record { target = address })) (λ same. ap (λ (b : Bool). b && true) (itself same))) adds
-        ∙ ap (λ (b : Bool). if b then (now, Sent (defence_frame (is_router start.role) start.mac address)) ∷ (now, Heard unspecified (solicited_node address) t.message) ∷ c
-        else (now, Address (number_of address.0) Conflict) ∷ (now, Heard unspecified (solicited_node address) t.message) ∷ c) (not_assigned (story_of c (number_of address.0)) trying)
+    gives_way t trying = by_state t false (not_assigned (story_of c (number_of address.0)) trying)
 
     -- and so it does where another node has it
     pub yields : (t : IsDefence frame address) → is_tentative c address.0 ≡ true
@@ -127,5 +129,5 @@ module _ (start : Start) (c : Chronicle) (now : ℕ) (l : Lives start c now) (ad
         (releasing_grows now (said c address t.message) (neighbour_history c) conflict (stays now conflict)) in (
           g.newer,
           told start c now frame address bytes d unicast t (awake address (bodies.Na (record { router = t.router; solicited = false; override_flag = t.overrides; target = address })) itself) adds
-              ∙ ap (λ (b : Bool). more (conflicting now b (number_of address.0) heard)) trying ∙ g.all,
+              ∙ ap (λ (t : Bool). more (conflicting now t (number_of address.0) heard)) trying ∙ g.all,
         )

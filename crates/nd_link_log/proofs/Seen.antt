@@ -11,35 +11,36 @@ use Rattle.nd_link_log.specs.Log.{Log, Refusal, NoNode, NoFrame, Own, Full, Begi
 use Rattle.nd_link_log.specs.Event.{Event, Passes, Starts, Comes, Delivers, AddsRows, AddsDelivery, EventHappens, max_nodes}
 use Rattle.nd_link_log.specs.Bytes.{ComesAsBytes, IsOfBytes}
 
-pub data Seen (now : ℕ) (before d : Log) : Type 0 where
+-- what is handed in may be bytes
+pub data Seen (Bytes : Type 0) (now : ℕ) (before d : Log) : Type 0 where
   -- nothing
-  Nothing : d ≡ before → Seen now before d
+  Nothing : d ≡ before → Seen Bytes now before d
   -- it is refused
-  Refused : (why : Refusal) → last_moment (Refuses now why ∷ before) ≡ now → d ≡ Refuses now why ∷ before → Seen now before d
+  Refused : (why : Refusal) → last_moment (Refuses now why ∷ before) ≡ now → d ≡ Refuses now why ∷ before → Seen Bytes now before d
   -- a node starts
-  Started : (start : Start) → start.at ≡ now → AreBytes 6 start.mac.0 → d ≡ adding (nodes before) (beginning start) (Begins (nodes before) start ∷ before) → Seen now before d
+  Started : (start : Start) → start.at ≡ now → (Bytes → AreBytes 6 start.mac.0) → d ≡ adding (nodes before) (beginning start) (Begins (nodes before) start ∷ before) → Seen Bytes now before d
   -- an event comes to a node
-  Came : (node : ℕ) (start : Start) (event : nodes.Event) (rows : Chronicle) → ComesAsBytes event → start_of node before ≡ Some start
-      → EventAdds start now event (chronicle_of node before) (rows ++ chronicle_of node before) → d ≡ adding node rows before → Seen now before d
+  Came : (node : ℕ) (start : Start) (event : nodes.Event) (rows : Chronicle) → (Bytes → ComesAsBytes event) → start_of node before ≡ Some start
+      → EventAdds start now event (chronicle_of node before) (rows ++ chronicle_of node before) → d ≡ adding node rows before → Seen Bytes now before d
   -- a frame is carried to a node
   Carried : (node number sender at : ℕ) (frame : List ℕ) (start : Start) (rows : Chronicle) → IsFrame before number sender at frame → start_of node before ≡ Some start
       → EventAdds start now (nodes.Receives frame) (chronicle_of node before) (rows ++ chronicle_of node before) → d ≡ adding node rows (Carries node now number ∷ before)
-      → Seen now before d
+      → Seen Bytes now before d
 
 either : (t : Bool) {P Q X : Type 0} → (P → X) → (Q → X) → MatchBool t P Q → X
 either true f g h = f h
 either false f g h = g h
 
-module _ (limits : Limits) (now : ℕ) (before d : Log) where
-  came : (node : ℕ) (event : nodes.Event) → ComesAsBytes event → AddsRows limits now node event before d → Seen now before d
+module _ (Bytes : Type 0) (limits : Limits) (now : ℕ) (before d : Log) where
+  came : (node : ℕ) (event : nodes.Event) → (Bytes → ComesAsBytes event) → AddsRows limits now node event before d → Seen Bytes now before d
   came node event bytes r = Came node r.start event r.rows bytes r.starts r.adds r.all
 
-  carried : (node number : ℕ) → AddsDelivery limits now node number before d → Seen now before d
+  carried : (node number : ℕ) → AddsDelivery limits now node number before d → Seen Bytes now before d
   carried node number r = either (r.sender == node)
       (λ own. Refused Own refl own)
       (λ a. Carried node number r.sender r.at r.frame a.start a.rows r.is_frame a.starts a.adds a.all) r.adds
 
-  pub seen : (event : Event) → IsOfBytes event → EventHappens limits now event before d → Seen now before d
+  pub seen : (event : Event) → (Bytes → IsOfBytes event) → EventHappens limits now event before d → Seen Bytes now before d
   seen Passes bytes h = Nothing h
   seen (Starts role mac stream) bytes h = either (nat_lt (nodes before) max_nodes)
       (λ more. Started (record { at = now; role = role; mac = mac; stream = stream; limits = limits }) refl bytes more)

@@ -25,49 +25,56 @@ use Rattle.nd_link_log.proofs.Tried.{tried}
 use Rattle.nd_link_log.proofs.Growth.{runs_past}
 use Rattle.nd_link_log.proofs.Standing.{Stands, reaching, stands_seen}
 
-module _ (limits : Limits) where
-  late : (log : Log) (now : ℕ) → Stands log → Stands (Refuses now (TooLate (last_moment log)) ∷ log)
+module _ (Bytes : Type 0) (limits : Limits) where
+  late : (log : Log) (now : ℕ) → Stands Bytes log → Stands Bytes (Refuses now (TooLate (last_moment log)) ∷ log)
   late log now s =
       let g = s.grown in record {
         grown = record {
           rises = record { rising = (omega arith, g.rises.rising); by = omega arith };
           numbered = g.numbered;
           there = g.there;
-          bring = bring_entry (Refuses now (TooLate (last_moment log))) log refl g.bring;
+          bring = λ b. bring_entry (Refuses now (TooLate (last_moment log))) log refl (g.bring b);
         };
         lives = s.lives;
       }
 
-  stands_follows : (log : Log) (now : ℕ) (event : Event) (d : Log) (t : Bool) → nat_lt now (last_moment log) ≡ t → IsOfBytes event → SendsBytes d → Stands log
-      → MatchBool t (d ≡ Refuses now (TooLate (last_moment log)) ∷ log) ((e : Log) × Walk log (last_moment log) now e × EventHappens limits now event (passing now (nodes e) (Reaches now ∷ e)) d) → Stands d
-  stands_follows log now event d true in_time bytes sends s h = subst Stands (sym h) (late log now s)
+  stands_follows : (log : Log) (now : ℕ) (event : Event) (d : Log) (t : Bool) → nat_lt now (last_moment log) ≡ t → (Bytes → IsOfBytes event) → (Bytes → SendsBytes d) → Stands Bytes log
+      → MatchBool t (d ≡ Refuses now (TooLate (last_moment log)) ∷ log) ((e : Log) × Walk log (last_moment log) now e × EventHappens limits now event (passing now (nodes e) (Reaches now ∷ e)) d)
+      → Stands Bytes d
+  stands_follows log now event d true in_time bytes sends s h = subst (Stands Bytes) (sym h) (late log now s)
   stands_follows log now event d false in_time bytes sends s h =
-      stands_seen now (passing now (nodes h.0) (Reaches now ∷ h.0)) (reaching log h.0 now in_time h.1 s) d sends (seen limits now _ d event bytes h.2)
+      stands_seen Bytes now (passing now (nodes h.0) (Reaches now ∷ h.0)) (reaching Bytes log h.0 now in_time h.1 s) d sends (seen Bytes limits now _ d event bytes h.2)
 
-  stands_runs : (events : List (ℕ × Event)) (log d : Log) → AllByRecursion (λ event. IsOfBytes event.1) events → SendsBytes d → Runs limits log events d → Stands log → Stands d
-  stands_runs [] log d bytes sends h s = subst Stands (sym h) s
+  stands_runs : (events : List (ℕ × Event)) (log d : Log) → (Bytes → AllByRecursion (λ event. IsOfBytes event.1) events) → (Bytes → SendsBytes d) → Runs limits log events d → Stands Bytes log
+      → Stands Bytes d
+  stands_runs [] log d bytes sends h s = subst (Stands Bytes) (sym h) s
   stands_runs (event ∷ events) log d bytes sends h s =
-      let more : SendsBytes h.0 = λ i at frame before p. sends i at frame before (past_then _ h.0 d p (runs_past limits events h.0 d h.2)) in
-      stands_runs events h.0 d bytes.1 sends h.2 (stands_follows log event.0 event.1 h.0 (nat_lt event.0 (last_moment log)) refl bytes.0 more s h.1)
+      let more : Bytes → SendsBytes h.0 = λ b i at frame before p. sends b i at frame before (past_then _ h.0 d p (runs_past limits events h.0 d h.2)) in
+      stands_runs events h.0 d (λ b. (bytes b).1) sends h.2 (stands_follows log event.0 event.1 h.0 (nat_lt event.0 (last_moment log)) refl (λ b. (bytes b).0) more s h.1)
 
-  empty : Stands []
+  empty : Stands Bytes []
   empty = record {
     grown = record {
       rises = record { rising = tt; by = omega arith };
       numbered = tt;
       there = tt;
-      bring = λ i at number before p. absurd (let no : ⊥ = cc in no);
+      bring = λ b i at number before p. absurd (let no : ⊥ = cc in no);
     };
     lives = λ i start e. absurd (let no : ⊥ = cc in no);
   }
 
-  module _ (events : List (ℕ × Event)) (log : Log) (bytes : AreOfBytes events) (sends : SendsBytes log) (runs : IsLog limits events log) where
-    pub stands : Stands log
-    stands = stands_runs events [] log (recursion_from_All _ events bytes) sends runs empty
+module _ (limits : Limits) (events : List (ℕ × Event)) (log : Log) (runs : IsLog limits events log) where
+  -- what is handed in and sent is bytes
+  abbrev pub AreBytes : Type 0
+  AreBytes = AreOfBytes events × SendsBytes log
 
+  pub stands : Stands AreBytes log
+  stands = stands_runs AreBytes limits events [] log (λ b. recursion_from_All _ events b.0) (λ b. b.1) runs (empty AreBytes limits)
+
+  module _ (bytes : AreBytes) where
     -- who holds an address is there
     holder : (i key : ℕ) (d : Log) → Past d log → Holds i key d → (o : Option Start) → start_of i log ≡ o → Tried i key d
-    holder i key d p holds (Some start) is = tried log i start (last_moment log) (stands.lives i start is) key d p holds
+    holder i key d p holds (Some start) is = tried AreBytes bytes log i start (last_moment log) (stands.lives i start is) key d p holds
     holder i key d p holds None is =
         let none : chronicle_of i log ≡ [] = no_rows i log stands.grown.there (ap is_some is) in
         let rows : chronicle_of i d ≡ [] = subst (chronicle.Past (chronicle_of i d)) none (past_of i d log p) in
@@ -78,6 +85,6 @@ module _ (limits : Limits) where
       in_order = in_order log stands.grown.rises.rising;
       by_then = by_then log stands.grown.rises.rising;
       there = there_at log stands.grown.there;
-      brings = stands.grown.bring;
+      brings = stands.grown.bring bytes;
       tried = λ i key d p holds. holder i key d p holds (start_of i log) refl;
     }

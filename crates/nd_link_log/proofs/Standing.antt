@@ -1,5 +1,5 @@
 -- A log between two events: each node lives its own history up to the last moment.
-use Rattle.std.proofs.Common.{◌≡◌, inr, ℕ, ◌<◌, ◌≤◌, Bool, true, false, List, [], ◌∷◌, ◌++◌, Some, refl, sym, ◌∙◌, ap, subst, arith, ⊎_elim}
+use Rattle.std.proofs.Common.{◌≡◌, inr, ℕ, ◌<◌, ◌≤◌, Bool, true, false, [], ◌∷◌, ◌++◌, Some, refl, sym, ◌∙◌, ap, subst, arith, ⊎_elim}
 use Rattle.std.specs.Prelude.{◌==◌, is_some, nat_lt, if◌then◌else◌}
 use Rattle.std.proofs.lemmas.Bool.{cases_lt, ltb-false, true≢false}
 use Rattle.std.proofs.lemmas.Bool.Decides.{Decides-eqb}
@@ -13,7 +13,7 @@ use Rattle.nd_chronicle.specs.History.{beginning}
 use Rattle.nd_chronicle.proofs.Growth.{event_grows}
 use Rattle.nd_link_log.specs.Log.{Entry, Log, Past, Begins, Carries, Reaches, Refuses, adding, chronicle_of, last_moment, nodes, start_of}
 use Rattle.nd_link_log.specs.Event.{passing}
-use Rattle.nd_link_log.specs.Bytes.{SendsBytes}
+use Rattle.nd_link_log.specs.Bytes.{ComesAsBytes, SendsBytes}
 use Rattle.nd_link_log.specs.History.{Walk}
 use Rattle.nd_link_log.proofs.Carried.{AllBring, bring_carried, bring_entry, brings}
 use Rattle.nd_link_log.proofs.Chronicles.{other_rows, own_rows, past_with, start_with}
@@ -26,29 +26,29 @@ use Rattle.nd_link_log.proofs.Grown.{Grown, grown_walk, grown_with, grown_passin
 
 -- ---- between events
 
-pub record Stands (log : Log) : Type 0 where
-  pub grown : Grown log (last_moment log)
-  pub lives : (i : ℕ) (start : Start) → start_of i log ≡ Some start → Lives start (chronicle_of i log) (last_moment log)
+pub record Stands (Bytes : Type 0) (log : Log) : Type 0 where
+  pub grown : Grown Bytes log (last_moment log)
+  pub lives : (i : ℕ) (start : Start) → start_of i log ≡ Some start → Lives Bytes start (chronicle_of i log) (last_moment log)
 
 -- an event has been reached: time has passed up to it
-pub record Reaching (log : Log) (now : ℕ) : Type 0 where
+pub record Reaching (Bytes : Type 0) (log : Log) (now : ℕ) : Type 0 where
   pub moment : last_moment log ≡ now
-  pub grown : Grown log now
-  pub reached : (i : ℕ) (start : Start) → start_of i log ≡ Some start → Reached start (chronicle_of i log) now
+  pub grown : Grown Bytes log now
+  pub reached : (i : ℕ) (start : Start) → start_of i log ≡ Some start → Reached Bytes start (chronicle_of i log) now
 
-pub reaching : (log e : Log) (now : ℕ) → nat_lt now (last_moment log) ≡ false → Walk log (last_moment log) now e → Stands log → Reaching (passing now (nodes e) (Reaches now ∷ e)) now
-reaching log e now in_time w s =
+pub reaching : (Bytes : Type 0) (log e : Log) (now : ℕ) → nat_lt now (last_moment log) ≡ false → Walk log (last_moment log) now e → Stands Bytes log → Reaching Bytes (passing now (nodes e) (Reaches now ∷ e)) now
+reaching Bytes log e now in_time w s =
     let le : last_moment log ≤ now = ltb-false now (last_moment log) in_time in
-    let g : Grown e now = grown_walk w (last_moment log) (omega arith) le s.grown in
+    let g : Grown Bytes e now = grown_walk Bytes w (last_moment log) (omega arith) le s.grown in
     let by = g.rises.by in
-    let r : Grown (Reaches now ∷ e) now = record {
+    let r : Grown Bytes (Reaches now ∷ e) now = record {
       rises = record { rising = (by, g.rises.rising); by = omega arith };
       numbered = g.numbered;
       there = g.there;
-      bring = bring_entry (Reaches now) e refl g.bring;
+      bring = λ b. bring_entry (Reaches now) e refl (g.bring b);
     } in record {
       moment = moment_passing now (Reaches now ∷ e) (nodes e) refl;
-      grown = grown_passing now (Reaches now ∷ e) (nodes e) (omega arith) r;
+      grown = grown_passing now (Reaches now ∷ e) Bytes (nodes e) (omega arith) r;
       reached = λ i start is.
           let at : start_of i e ≡ Some start = sym (start_passing now (Reaches now ∷ e) (nodes e) i) ∙ is in
           let was : start_of i log ≡ Some start = sym (walk_start w i) ∙ at in
@@ -65,17 +65,17 @@ reaching log e now in_time w s =
 
 -- ---- an event
 
-stands_at : (d : Log) (now : ℕ) → last_moment d ≡ now → Grown d now → ((i : ℕ) (start : Start) → start_of i d ≡ Some start → Lives start (chronicle_of i d) now) → Stands d
-stands_at d now moment grown lives = record {
-  grown = subst (Grown d) (sym moment) grown;
-  lives = λ i start is. subst (Lives start (chronicle_of i d)) (sym moment) (lives i start is);
+stands_at : (Bytes : Type 0) (d : Log) (now : ℕ) → last_moment d ≡ now → Grown Bytes d now → ((i : ℕ) (start : Start) → start_of i d ≡ Some start → Lives Bytes start (chronicle_of i d) now) → Stands Bytes d
+stands_at Bytes d now moment grown lives = record {
+  grown = subst (Grown Bytes d) (sym moment) grown;
+  lives = λ i start is. subst (Lives Bytes start (chronicle_of i d)) (sym moment) (lives i start is);
 }
 
-module _ (now : ℕ) (log : Log) (r : Reaching log now) where
-  lives_still : (i : ℕ) (start : Start) → start_of i log ≡ Some start → Lives start (chronicle_of i log) now
-  lives_still i start is = lives_on start (chronicle_of i log) now (r.reached i start is)
+module _ (Bytes : Type 0) (now : ℕ) (log : Log) (r : Reaching Bytes log now) where
+  lives_still : (i : ℕ) (start : Start) → start_of i log ≡ Some start → Lives Bytes start (chronicle_of i log) now
+  lives_still i start is = lives_on Bytes start (chronicle_of i log) now (r.reached i start is)
 
-  grown_entry : (entry : Entry) → last_moment (entry ∷ log) ≡ now → AllBring (entry ∷ log) → Numbered (entry ∷ log) → RowsThere (entry ∷ log) → Grown (entry ∷ log) now
+  grown_entry : (entry : Entry) → last_moment (entry ∷ log) ≡ now → (Bytes → AllBring (entry ∷ log)) → Numbered (entry ∷ log) → RowsThere (entry ∷ log) → Grown Bytes (entry ∷ log) now
   grown_entry entry moment bring numbered there =
       let g = r.grown in
       let by = g.rises.by in record {
@@ -91,36 +91,36 @@ module _ (now : ℕ) (log : Log) (r : Reaching log now) where
     rows_at : EachAt now rows
     rows_at = gained_at now rows (chronicle_of at log) _ (event_grows start now (chronicle_of at log) event _ adds) refl
 
-  module _ (at : ℕ) (event : nodes.Event) (start : Start) (rows : Chronicle) (is : start_of at log ≡ Some start) (bytes : (frame : List ℕ) → event ≡ nodes.Receives frame → IsBytes frame)
+  module _ (at : ℕ) (event : nodes.Event) (start : Start) (rows : Chronicle) (is : start_of at log ≡ Some start) (bytes : Bytes → ComesAsBytes event)
       (adds : EventAdds start now event (chronicle_of at log) (rows ++ chronicle_of at log)) (d : Log) (same_start : (i : ℕ) → start_of i d ≡ start_of i log)
       (same_rows : (i : ℕ) → chronicle_of i d ≡ chronicle_of i log) where
-    lives_after : (i : ℕ) (other : Start) → start_of i (adding at rows d) ≡ Some other → Lives other (chronicle_of i (adding at rows d)) now
+    lives_after : (i : ℕ) (other : Start) → start_of i (adding at rows d) ≡ Some other → Lives Bytes other (chronicle_of i (adding at rows d)) now
     lives_after i other there = by (at == i) refl
       where
         here : start_of i log ≡ Some other
         here = sym (same_start i) ∙ sym (start_with i at rows d) ∙ there
 
-        by : (own : Bool) → (at == i) ≡ own → Lives other (chronicle_of i (adding at rows d)) now
+        by : (own : Bool) → (at == i) ≡ own → Lives Bytes other (chronicle_of i (adding at rows d)) now
         by true e =
             let same : at ≡ i = (Decides-eqb at i).0 e in
             let both : Some start ≡ Some other = sym is ∙ ap (λ (x : ℕ). start_of x log) same ∙ here in
             let one : start ≡ other = cc in
-            subst (λ (x : ℕ). Lives other (chronicle_of x (adding at rows d)) now) same
-            (subst (λ (x : Start). Lives x (chronicle_of at (adding at rows d)) now) one
-            (subst (λ (c : Chronicle). Lives start c now) (sym (own_rows at rows d ∙ ap (λ (c : Chronicle). rows ++ c) (same_rows at)))
-            (lives_then start (chronicle_of at log) now (r.reached at start is) event (rows ++ chronicle_of at log) bytes adds)))
-        by false e = subst (λ (c : Chronicle). Lives other c now) (sym (other_rows i at rows d e ∙ same_rows i)) (lives_still i other here)
+            subst (λ (x : ℕ). Lives Bytes other (chronicle_of x (adding at rows d)) now) same
+            (subst (λ (x : Start). Lives Bytes x (chronicle_of at (adding at rows d)) now) one
+            (subst (λ (c : Chronicle). Lives Bytes start c now) (sym (own_rows at rows d ∙ ap (λ (c : Chronicle). rows ++ c) (same_rows at)))
+            (lives_then Bytes start (chronicle_of at log) now (r.reached at start is) event (rows ++ chronicle_of at log) bytes adds)))
+        by false e = subst (λ (c : Chronicle). Lives Bytes other c now) (sym (other_rows i at rows d e ∙ same_rows i)) (lives_still i other here)
 
   -- a node that starts
-  module _ (start : Start) (moment : start.at ≡ now) (mac : AreBytes 6 start.mac.0) where
+  module _ (start : Start) (moment : start.at ≡ now) (mac : Bytes → AreBytes 6 start.mac.0) where
     abbrev begun : Log
     begun = Begins (nodes log) start ∷ log
 
     fresh : chronicle_of (nodes log) log ≡ []
     fresh = no_rows (nodes log) log r.grown.there (none_there (nodes log) log r.grown.numbered (omega arith))
 
-    first : Lives start (beginning start) now
-    first = record { mac = mac; events = []; bytes = All-from_recursion _ [] tt; runs = refl; last_is = moment }
+    first : Lives Bytes start (beginning start) now
+    first = record { mac = mac; events = []; bytes = λ b. All-from_recursion _ [] tt; runs = refl; last_is = moment }
 
     here_now : is_some (start_of (nodes log) begun) ≡ true
     here_now = by (nodes log == nodes log) ((Decides-eqb (nodes log) (nodes log)).1 refl)
@@ -129,47 +129,47 @@ module _ (now : ℕ) (log : Log) (r : Reaching log now) where
         by true e = refl
         by false e = absurd (true≢false (sym e))
 
-    lives_begun : (i : ℕ) (other : Start) → start_of i (adding (nodes log) (beginning start) begun) ≡ Some other → Lives other (chronicle_of i (adding (nodes log) (beginning start) begun)) now
+    lives_begun : (i : ℕ) (other : Start) → start_of i (adding (nodes log) (beginning start) begun) ≡ Some other → Lives Bytes other (chronicle_of i (adding (nodes log) (beginning start) begun)) now
     lives_begun i other there = by (nodes log == i) refl (sym (start_with i (nodes log) (beginning start) begun) ∙ there)
       where
-        by : (own : Bool) → (nodes log == i) ≡ own → (if own then Some start else start_of i log) ≡ Some other → Lives other (chronicle_of i (adding (nodes log) (beginning start) begun)) now
+        by : (own : Bool) → (nodes log == i) ≡ own → (if own then Some start else start_of i log) ≡ Some other → Lives Bytes other (chronicle_of i (adding (nodes log) (beginning start) begun)) now
         by true e is =
             let same : nodes log ≡ i = (Decides-eqb (nodes log) i).0 e in
             let one : start ≡ other = cc in
-            subst (λ (x : ℕ). Lives other (chronicle_of x (adding (nodes log) (beginning start) begun)) now) same
-            (subst (λ (x : Start). Lives x (chronicle_of (nodes log) (adding (nodes log) (beginning start) begun)) now) one
-            (subst (λ (c : Chronicle). Lives start c now)
+            subst (λ (x : ℕ). Lives Bytes other (chronicle_of x (adding (nodes log) (beginning start) begun)) now) same
+            (subst (λ (x : Start). Lives Bytes x (chronicle_of (nodes log) (adding (nodes log) (beginning start) begun)) now) one
+            (subst (λ (c : Chronicle). Lives Bytes start c now)
             (sym (own_rows (nodes log) (beginning start) begun ∙ ap (λ (c : Chronicle). beginning start ++ c) fresh)) first))
-        by false e is = subst (λ (c : Chronicle). Lives other c now) (sym (other_rows i (nodes log) (beginning start) begun e)) (lives_still i other is)
+        by false e is = subst (λ (c : Chronicle). Lives Bytes other c now) (sym (other_rows i (nodes log) (beginning start) begun e)) (lives_still i other is)
 
-    stands_begun : Stands (adding (nodes log) (beginning start) begun)
-    stands_begun = stands_at _ now (moment_with now (nodes log) (beginning start) begun each moment)
-        (grown_with now (nodes log) (beginning start) begun each here_now (grown_entry (Begins (nodes log) start) moment (bring_entry (Begins (nodes log) start) log refl r.grown.bring) (refl, r.grown.numbered) r.grown.there))
+    stands_begun : Stands Bytes (adding (nodes log) (beginning start) begun)
+    stands_begun = stands_at Bytes _ now (moment_with now (nodes log) (beginning start) begun each moment)
+        (grown_with Bytes now (nodes log) (beginning start) begun each here_now (grown_entry (Begins (nodes log) start) moment (λ b. bring_entry (Begins (nodes log) start) log refl (r.grown.bring b)) (refl, r.grown.numbered) r.grown.there))
         lives_begun
       where
         each : EachAt now (beginning start)
         each = (moment, (moment, (moment, tt)))
 
-  pub stands_seen : (d : Log) → SendsBytes d → Seen now log d → Stands d
-  stands_seen d sends (Nothing same) = subst Stands (sym same) (stands_at log now r.moment r.grown lives_still)
+  pub stands_seen : (d : Log) → (Bytes → SendsBytes d) → Seen Bytes now log d → Stands Bytes d
+  stands_seen d sends (Nothing same) = subst (Stands Bytes) (sym same) (stands_at Bytes log now r.moment r.grown lives_still)
   stands_seen d sends (Refused why moment same) =
-      subst Stands (sym same)
-      (stands_at (Refuses now why ∷ log) now moment (grown_entry (Refuses now why) moment (bring_entry (Refuses now why) log refl r.grown.bring) r.grown.numbered r.grown.there) lives_still)
-  stands_seen d sends (Started start moment mac same) = subst Stands (sym same) (stands_begun start moment mac)
+      subst (Stands Bytes) (sym same)
+      (stands_at Bytes (Refuses now why ∷ log) now moment (grown_entry (Refuses now why) moment (λ b. bring_entry (Refuses now why) log refl (r.grown.bring b)) r.grown.numbered r.grown.there) lives_still)
+  stands_seen d sends (Started start moment mac same) = subst (Stands Bytes) (sym same) (stands_begun start moment mac)
   stands_seen d sends (Came at start event rows bytes is gained same) =
       let each = rows_at at event start rows is gained in
-      subst Stands (sym same)
-      (stands_at (adding at rows log) now (moment_with now at rows log each r.moment) (grown_with now at rows log each (ap is_some is) r.grown)
+      subst (Stands Bytes) (sym same)
+      (stands_at Bytes (adding at rows log) now (moment_with now at rows log each r.moment) (grown_with Bytes now at rows log each (ap is_some is) r.grown)
       (lives_after at event start rows is bytes gained log (λ i. refl) (λ i. refl)))
   stands_seen d sends (Carried at number sender when frame start rows is_frame is gained same) =
       let carrying : Log = Carries at now number ∷ log in
       let whole : Past log (adding at rows carrying) = past_then log carrying (adding at rows carrying) (inr (past_self log)) (past_with at rows carrying) in
-      let bytes : IsBytes frame = subst SendsBytes same sends sender when frame is_frame.before (past_then _ log (adding at rows carrying) is_frame.there whole) in
+      let bytes : Bytes → IsBytes frame = λ b. subst SendsBytes same (sends b) sender when frame is_frame.before (past_then _ log (adding at rows carrying) is_frame.there whole) in
       let each = rows_at at (nodes.Receives frame) start rows is gained in
-      let all : AllBring (adding at rows carrying) = bring_carried at now number rows log r.grown.bring (brings at now number log rows start (lives_still at start is) frame bytes gained sender when is_frame) in
+      let all : Bytes → AllBring (adding at rows carrying) = λ b. bring_carried at now number rows log (r.grown.bring b) (brings at now number log rows Bytes b start (lives_still at start is) frame (bytes b) gained sender when is_frame) in
       let g = r.grown in
       let rises : RisesTo now carrying = record { rising = (g.rises.by, g.rises.rising); by = omega arith } in
-      subst Stands (sym same)
-      (stands_at (adding at rows carrying) now (moment_with now at rows carrying each refl)
+      subst (Stands Bytes) (sym same)
+      (stands_at Bytes (adding at rows carrying) now (moment_with now at rows carrying each refl)
       (record { rises = rises_with now at rows carrying each rises; numbered = numbered_with at rows carrying g.numbered; there = there_with at rows carrying (ap is_some is) g.there; bring = all })
-      (lives_after at (nodes.Receives frame) start rows is (λ f e. let one : frame ≡ f = cc in subst IsBytes one bytes) gained carrying (λ i. refl) (λ i. refl)))
+      (lives_after at (nodes.Receives frame) start rows is (λ b f e. let one : frame ≡ f = cc in subst IsBytes one (bytes b)) gained carrying (λ i. refl) (λ i. refl)))

@@ -20,7 +20,7 @@ use Rattle.nd_link_log.proofs.Chronicles.{Lifted, lift, own_row, past_of}
 use Rattle.nd_link_log.proofs.Lives.{Lives}
 use Rattle.nd_link_log.proofs.Rivals.{own_by_assigned}
 
-module _ (log : Log) (node : ℕ) (start : Start) (last : ℕ) (l : Lives start (chronicle_of node log) last) (key : ℕ) where
+module _ (Bytes : Type 0) (b : Bytes) (log : Log) (node : ℕ) (start : Start) (last : ℕ) (l : Lives Bytes start (chronicle_of node log) last) (key : ℕ) where
   in_log : (d : Log) → IsUsable key → HeldInRows start key (chronicle_of node d) → Tried node key d
   in_log d usable h =
       let a : Lifted node h.assigned (Address key Assigned) h.over d = lift node h.assigned (Address key Assigned) h.over d h.assigned_at in
@@ -42,7 +42,7 @@ module _ (log : Log) (node : ℕ) (start : Start) (last : ℕ) (l : Lives start 
         over = a.below;
         formed_at = f.there;
         solicited = s.there;
-        tries = (addr_at key, usable.number, detection_sent start.mac l.mac (addr_at key) (sixteen key));
+        tries = (addr_at key, usable.number, detection_sent start.mac (l.mac b) (addr_at key) (sixteen key));
         assigned_at = a.there;
         wait = let w = h.wait in omega (arith, w);
         trying = λ e p q. h.trying (chronicle_of node e) (subst (chronicle.Past (chronicle_of node e)) a.chronicle_is (past_of node e a.below p))
@@ -59,5 +59,5 @@ module _ (log : Log) (node : ℕ) (start : Start) (last : ℕ) (l : Lives start 
   tried d p holds =
       let place = past_of node d log p in
       in_log d
-      (own_usable start l.mac l.events (chronicle_of node log) (chronicle_of node d) key l.bytes l.runs place (own_known (story_of (chronicle_of node d) key) (own_by_assigned _ _ holds)))
+      (own_usable start (l.mac b) l.events (chronicle_of node log) (chronicle_of node d) key (l.bytes b) l.runs place (own_known (story_of (chronicle_of node d) key) (own_by_assigned _ _ holds)))
       (tried_in_rows start l.events (chronicle_of node log) l.runs (chronicle_of node d) place key holds)

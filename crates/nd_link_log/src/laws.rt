@@ -36,10 +36,10 @@ pub fn text_only_grows()
     ensures { (newer log : List Entry) → text (newer ++ log) ≡ text log ++ text newer }
 {}
 
-/// Each node of a link lives a history of its own, of bytes: its chronicle in the log is the one of that history.
+/// Each node of a link lives a history of its own: its chronicle in the log is the one of that history, which is of bytes if the link's is.
 pub fn nodes_have_histories()
-    ensures { (limits : Limits) (events : List (ℕ × Event)) (log : Log) (node : ℕ) (start : Start) → AreOfBytes events → SendsBytes log → IsLog limits events log
-        → start_of node log ≡ Some start → (history : List (ℕ × chronicle.Event)) × All (λ event. ComesAsBytes event.1) history × IsChronicle start history (chronicle_of node log) }
+    ensures { (limits : Limits) (events : List (ℕ × Event)) (log : Log) (node : ℕ) (start : Start) → IsLog limits events log → start_of node log ≡ Some start
+        → (history : List (ℕ × chronicle.Event)) × IsChronicle start history (chronicle_of node log) × (AreOfBytes events → SendsBytes log → All (λ event. ComesAsBytes event.1) history) }
 {}
 
 /// The log of each link is sound: whatever events come, in whatever order, its nodes and the link itself do what they owe.

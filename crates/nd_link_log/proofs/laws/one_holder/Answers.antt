@@ -6,4 +6,4 @@ pub returns-clause-where_sound : goal.returns-clause-where_sound
 returns-clause-where_sound c = λ log within sound timely. one_holder log sound within timely
 
 pub returns-clause-on_links : goal.returns-clause-on_links
-returns-clause-on_links c = λ limits events log within bytes sends runs timely. one_holder log (sound limits events log bytes sends runs) within timely
+returns-clause-on_links c = λ limits events log within bytes sends runs timely. one_holder log (sound limits events log runs (bytes, sends)) within timely
