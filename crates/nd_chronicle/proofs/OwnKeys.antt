@@ -89,7 +89,31 @@ named_usable mac info m p taken =
 link_local_bytes : AreBytes 16 link_local_address
 link_local_bytes = record {
   len_is = refl;
-  each = IsBytes-from link_local_address (omega arith, (omega arith, (omega arith, (omega arith, (omega arith, (omega arith, (omega arith, (omega arith, (omega arith, (omega arith, (omega arith, (omega arith, (omega arith, (omega arith, (omega arith, (omega arith, tt))))))))))))))));
+  each = IsBytes-from link_local_address (
+    omega arith,
+    (
+      omega arith,
+      (
+        omega arith,
+        (
+          omega arith,
+          (
+            omega arith,
+            (
+              omega arith,
+              (
+                omega arith,
+                (
+                  omega arith,
+                  (omega arith, (omega arith, (omega arith, (omega arith, (omega arith, (omega arith, (omega arith, (omega arith, tt)))))))),
+                ),
+              ),
+            ),
+          ),
+        ),
+      ),
+    ),
+  );
 }
 
 link_local_usable : (mac : Mac) → AreBytes 6 mac.0 → IsUsable (link_local_of mac)
@@ -141,7 +165,8 @@ module _ (start : Start) (mac : AreBytes 6 start.mac.0) where
     usable_if true c d u v = u
     usable_if false c d u v = v
 
-    usable_naming : (known : Bool) (info : PrefixInfo) (c : Chronicle) → IsUsable (named_by start.mac info) → AllUsable (address_history c) → AllUsable (address_history (naming start now to_all known info c))
+    usable_naming : (known : Bool) (info : PrefixInfo) (c : Chronicle) → IsUsable (named_by start.mac info) → AllUsable (address_history c)
+        → AllUsable (address_history (naming start now to_all known info c))
     usable_naming true info c key u = (tt, u)
     usable_naming false info c key u =
         usable_if (info.valid_lifetime == 0) c (forming start now to_all (named_by start.mac info) _ c) u (key, subst AllUsable (sym (delay_same now start to_all c)) u)
@@ -151,7 +176,8 @@ module _ (start : Start) (mac : AreBytes 6 start.mac.0) where
     usable_option true info c taken f u = usable_naming (is_known (story_of c (named_by start.mac info))) info c (named_usable start.mac info mac f.prefix_is.address_is taken) u
     usable_option false info c taken f u = u
 
-    usable_options : (infos : List PrefixInfo) (c : Chronicle) → AllByRecursion FitsPrefix infos → AllUsable (address_history c) → AllUsable (address_history (then_options start now to_all infos c))
+    usable_options : (infos : List PrefixInfo) (c : Chronicle) → AllByRecursion FitsPrefix infos → AllUsable (address_history c)
+        → AllUsable (address_history (then_options start now to_all infos c))
     usable_options [] c f u = u
     usable_options (info ∷ infos) c f u = usable_options infos (then_option start now to_all info c) f.1 (usable_option (is_taken info) info c refl f.0 u)
 
@@ -174,11 +200,13 @@ module _ (start : Start) (mac : AreBytes 6 start.mac.0) where
       (usable_options now to_all (prefixes_in message.options) e (heard_fit frame message (bytes frame received) spelled) (subst AllUsable (sym same) u))
 
   usable_follows : (t : Bool) (c : Chronicle) (now last : ℕ) (event : Event) (d : Chronicle) → IsOfBytes event → AllUsable (address_history c)
-      → MatchBool t (d ≡ (now, TooLate last) ∷ c) ((e : Chronicle) × Walk start c (last_moment start.at c) now e × EventAdds start now event ((now, Passed) ∷ e) d) → AllUsable (address_history d)
+      → MatchBool t (d ≡ (now, TooLate last) ∷ c) ((e : Chronicle) × Walk start c (last_moment start.at c) now e × EventAdds start now event ((now, Passed) ∷ e) d)
+      → AllUsable (address_history d)
   usable_follows true c now last event d bytes u h = subst AllUsable (sym (ap address_history h)) u
   usable_follows false c now last event d bytes u h = usable_event bytes (event_brings start now event ((now, Passed) ∷ h.0) d h.2) (usable_walk h.1 u)
 
-  usable_run : (events : List (ℕ × Event)) (c d : Chronicle) → AllByRecursion (λ event. IsOfBytes event.1) events → Runs start c events d → AllUsable (address_history c) → AllUsable (address_history d)
+  usable_run : (events : List (ℕ × Event)) (c d : Chronicle) → AllByRecursion (λ event. IsOfBytes event.1) events → Runs start c events d → AllUsable (address_history c)
+      → AllUsable (address_history d)
   usable_run [] c d bytes h u = subst AllUsable (sym (ap address_history h)) u
   usable_run (event ∷ events) c d bytes h u =
       usable_run events h.0 d bytes.1 h.2 (usable_follows (nat_lt event.0 (last_moment start.at c)) c event.0 (last_moment start.at c) event.1 h.0 bytes.0 u h.1)

@@ -71,8 +71,8 @@ module _ (start : Start) (first : start.at ≡ 0) (mac : AreBytes 6 start.mac.0)
   abbrev answer : List ℕ
   answer = defence_frame false start.mac (addr_at the_key)
 
-  number : Tries the_key solicitation × Claims the_key answer
-  number =
+  meanings : Tries the_key solicitation × Claims the_key answer
+  meanings =
       let same = addr_number_back the_key (omega arith) in
       ((addr_at the_key, same, detection_sent start.mac mac (addr_at the_key) (sixteen the_key)), (addr_at the_key, same, defence_sent start.mac mac false (addr_at the_key) (sixteen the_key)))
 
@@ -138,7 +138,7 @@ module _ (start : Start) (first : start.at ≡ 0) (mac : AreBytes 6 start.mac.0)
     over = carried;
     formed_at = inl refl;
     solicited = inr (inl refl);
-    tries = number.0;
+    tries = meanings.0;
     assigned_at = p;
     wait = omega arith;
     trying = since_more formed (Carries 1 1 0) sending (λ e. IsTrying 0 the_key e) refl
@@ -161,7 +161,7 @@ module _ (start : Start) (first : start.at ≡ 0) (mac : AreBytes 6 start.mac.0)
     over = answering;
     formed_at = inl refl;
     solicited = inr (inr (inl refl));
-    tries = number.0;
+    tries = meanings.0;
     assigned_at = p;
     wait = omega arith;
     trying = since_more formed_again (Adds 0 6 (Sent answer)) carried_back (λ e. IsTrying 1 the_key e) refl
@@ -224,7 +224,7 @@ module _ (start : Start) (first : start.at ≡ 0) (mac : AreBytes 6 start.mac.0)
         let row = assigned_row key 0 sending_again holds in
         let same : the_key ≡ key = key_of row.0 key 0 row.1 row.2 in
         let gains : Gains answering sending_again 0 6 (Sent answer) = record { below = carried_back; gained = inl refl; above = inr (inl refl) } in
-        (answer, subst (λ (n : ℕ). Claims n answer) same number.1, gains);
+        (answer, subst (λ (n : ℕ). Claims n answer) same meanings.1, gains);
     clashes = λ key says trying. absurd (not_trying (the_key == key) trying);
   }
 

@@ -46,7 +46,8 @@ module _ (node now number : ℕ) (before : Log) (rows : Chronicle) where
         above = past_then before carrying (adding node more carrying) (inr (past_self before)) (past_with node more carrying);
       }
 
-  module _ (Bytes : Type 0) (b : Bytes) (start : Start) (l : Lives Bytes start (chronicle_of node before) now) (frame : List ℕ) (bytes : IsBytes frame) (adds : FrameAdds start now frame (chronicle_of node before) (rows ++ chronicle_of node before)) where
+  module _ (Bytes : Type 0) (b : Bytes) (start : Start) (l : Lives Bytes start (chronicle_of node before) now) (frame : List ℕ) (bytes : IsBytes frame)
+      (adds : FrameAdds start now frame (chronicle_of node before) (rows ++ chronicle_of node before)) where
     abbrev c : Chronicle
     c = chronicle_of node before
 
@@ -108,7 +109,8 @@ carries (Carries node at number) = true
 carries _ = false
 
 -- rows are no frames that are carried
-carried_below : (node : ℕ) (rows : Chronicle) (log : Log) (i at number : ℕ) (before : Log) → Past (Carries i at number ∷ before) (adding node rows log) → Past (Carries i at number ∷ before) log
+carried_below : (node : ℕ) (rows : Chronicle) (log : Log) (i at number : ℕ) (before : Log) → Past (Carries i at number ∷ before) (adding node rows log)
+    → Past (Carries i at number ∷ before) log
 carried_below node [] log i at number before p = p
 carried_below node (row ∷ rows) log i at number before p = ⊎_elim
     (λ same. absurd (let e : Carries i at number ≡ Adds node row.0 row.1 = cc in true≢false (ap carries e)))

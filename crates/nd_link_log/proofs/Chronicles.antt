@@ -46,13 +46,16 @@ past_with node (row ∷ rows) log = inr (past_with node rows log)
 -- what the log was, the chronicle was
 pub past_of : (i : ℕ) (d log : Log) → Past d log → chronicle.Past (chronicle_of i d) (chronicle_of i log)
 past_of i d [] p = ap (chronicle_of i) p
-past_of i d (entry ∷ log) p = ⊎_elim (λ same. subst (λ (x : Log). chronicle.Past (chronicle_of i x) (chronicle_of i (entry ∷ log))) (sym same) (self (chronicle_of i (entry ∷ log)))) (λ below. by entry (past_of i d log below)) p
+past_of i d (entry ∷ log) p = ⊎_elim
+    (λ same. subst (λ (x : Log). chronicle.Past (chronicle_of i x) (chronicle_of i (entry ∷ log))) (sym same) (self (chronicle_of i (entry ∷ log))))
+    (λ below. by entry (past_of i d log below)) p
   where
     self : (c : Chronicle) → chronicle.Past c c
     self [] = refl
     self (row ∷ c) = inl refl
 
-    either : (own : Bool) (row : ℕ × Happening) → chronicle.Past (chronicle_of i d) (chronicle_of i log) → chronicle.Past (chronicle_of i d) (if own then row ∷ chronicle_of i log else chronicle_of i log)
+    either : (own : Bool) (row : ℕ × Happening) → chronicle.Past (chronicle_of i d) (chronicle_of i log)
+        → chronicle.Past (chronicle_of i d) (if own then row ∷ chronicle_of i log else chronicle_of i log)
     either true row q = inr q
     either false row q = q
 

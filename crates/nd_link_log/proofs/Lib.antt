@@ -9,7 +9,7 @@ pub mod Seen
 pub mod Rivals
 pub mod Carried
 pub mod Tried
-pub mod Grown
+pub mod Kept
 pub mod Standing
 pub mod Sound
 pub mod Places

@@ -55,11 +55,13 @@ module _ (log d : Log) (moment end : ℕ) (at : ℕ) (other : Start) (what : Wha
       → node.Walk start (chronicle_of i log) moment end (chronicle_of i d)
   one_step i start true e is there due gives rest =
       let same : at ≡ i = (Decides-eqb at i).0 e in
-      subst (λ (x : ℕ). start_of x log ≡ Some start → node.Walk start (chronicle_of x (adding at rows log)) moment end (chronicle_of x d) → node.Walk start (chronicle_of x log) moment end (chronicle_of x d)) same
+      subst (λ (x : ℕ). start_of x log ≡ Some start → node.Walk start (chronicle_of x (adding at rows log)) moment end (chronicle_of x d)
+      → node.Walk start (chronicle_of x log) moment end (chronicle_of x d)) same
       (λ there rest. own_step start is there due gives rest) there rest
   one_step i start false e is there due gives rest = subst (λ (c : Chronicle). node.Walk start c moment end (chronicle_of i d)) (other_rows i at rows log e) rest
 
-pub walk_at : {log d : Log} {moment end : ℕ} → Walk log moment end d → (i : ℕ) (start : Start) → start_of i log ≡ Some start → node.Walk start (chronicle_of i log) moment end (chronicle_of i d)
+pub walk_at : {log d : Log} {moment end : ℕ} → Walk log moment end d → (i : ℕ) (start : Start) → start_of i log ≡ Some start
+    → node.Walk start (chronicle_of i log) moment end (chronicle_of i d)
 walk_at (over lt) i start there = node.over lt
 walk_at {log = log} {d = d} {moment = moment} {end = end} (adds at other what rows le is due idle gives w) i start there =
     one_step log d moment end at other what rows le i start (at == i) refl is there due gives (walk_at w i start (start_with i at rows log ∙ there))

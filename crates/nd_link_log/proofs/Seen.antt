@@ -18,7 +18,8 @@ pub data Seen (Bytes : Type 0) (now : ℕ) (before d : Log) : Type 0 where
   -- it is refused
   Refused : (why : Refusal) → last_moment (Refuses now why ∷ before) ≡ now → d ≡ Refuses now why ∷ before → Seen Bytes now before d
   -- a node starts
-  Started : (start : Start) → start.at ≡ now → (Bytes → AreBytes 6 start.mac.0) → d ≡ adding (nodes before) (beginning start) (Begins (nodes before) start ∷ before) → Seen Bytes now before d
+  Started : (start : Start) → start.at ≡ now → (Bytes → AreBytes 6 start.mac.0) → d ≡ adding (nodes before) (beginning start) (Begins (nodes before) start ∷ before)
+      → Seen Bytes now before d
   -- an event comes to a node
   Came : (node : ℕ) (start : Start) (event : nodes.Event) (rows : Chronicle) → (Bytes → ComesAsBytes event) → start_of node before ≡ Some start
       → EventAdds start now event (chronicle_of node before) (rows ++ chronicle_of node before) → d ≡ adding node rows before → Seen Bytes now before d

@@ -28,8 +28,8 @@ use Rattle.nd_link_log.proofs.Standing.{Stands, reaching, stands_seen}
 module _ (Bytes : Type 0) (limits : Limits) where
   late : (log : Log) (now : ℕ) → Stands Bytes log → Stands Bytes (Refuses now (TooLate (last_moment log)) ∷ log)
   late log now s =
-      let g = s.grown in record {
-        grown = record {
+      let g = s.kept in record {
+        kept = record {
           rises = record { rising = (omega arith, g.rises.rising); by = omega arith };
           numbered = g.numbered;
           there = g.there;
@@ -45,7 +45,8 @@ module _ (Bytes : Type 0) (limits : Limits) where
   stands_follows log now event d false in_time bytes sends s h =
       stands_seen Bytes now (passing now (nodes h.0) (Reaches now ∷ h.0)) (reaching Bytes log h.0 now in_time h.1 s) d sends (seen Bytes limits now _ d event bytes h.2)
 
-  stands_runs : (events : List (ℕ × Event)) (log d : Log) → (Bytes → AllByRecursion (λ event. IsOfBytes event.1) events) → (Bytes → SendsBytes d) → Runs limits log events d → Stands Bytes log
+  stands_runs : (events : List (ℕ × Event)) (log d : Log) → (Bytes → AllByRecursion (λ event. IsOfBytes event.1) events) → (Bytes → SendsBytes d) → Runs limits log events d
+      → Stands Bytes log
       → Stands Bytes d
   stands_runs [] log d bytes sends h s = subst (Stands Bytes) (sym h) s
   stands_runs (event ∷ events) log d bytes sends h s =
@@ -54,7 +55,7 @@ module _ (Bytes : Type 0) (limits : Limits) where
 
   empty : Stands Bytes []
   empty = record {
-    grown = record {
+    kept = record {
       rises = record { rising = tt; by = omega arith };
       numbered = tt;
       there = tt;
@@ -76,15 +77,15 @@ module _ (limits : Limits) (events : List (ℕ × Event)) (log : Log) (runs : Is
     holder : (i key : ℕ) (d : Log) → Past d log → Holds i key d → (o : Option Start) → start_of i log ≡ o → Tried i key d
     holder i key d p holds (Some start) is = tried AreBytes bytes log i start (last_moment log) (stands.lives i start is) key d p holds
     holder i key d p holds None is =
-        let none : chronicle_of i log ≡ [] = no_rows i log stands.grown.there (ap is_some is) in
+        let none : chronicle_of i log ≡ [] = no_rows i log stands.kept.there (ap is_some is) in
         let rows : chronicle_of i d ≡ [] = subst (chronicle.Past (chronicle_of i d)) none (past_of i d log p) in
         absurd (true≢false (sym holds ∙ ap (λ (c : Chronicle). states.is_assigned (story_of c key)) rows))
 
     pub sound : IsSound log
     sound = record {
-      in_order = in_order log stands.grown.rises.rising;
-      by_then = by_then log stands.grown.rises.rising;
-      there = there_at log stands.grown.there;
-      brings = stands.grown.bring bytes;
+      in_order = in_order log stands.kept.rises.rising;
+      by_then = by_then log stands.kept.rises.rising;
+      there = there_at log stands.kept.there;
+      brings = stands.kept.bring bytes;
       tried = λ i key d p holds. holder i key d p holds (start_of i log) refl;
     }

@@ -22,33 +22,34 @@ use Rattle.nd_link_log.proofs.Moments.{EachAt, RisesTo, gained_at, moment_with, 
 use Rattle.nd_link_log.proofs.Nodes.{Numbered, RowsThere, no_rows, none_there, numbered_with, there_with}
 use Rattle.nd_link_log.proofs.Pasts.{past_self, past_then}
 use Rattle.nd_link_log.proofs.Seen.{Seen, Nothing, Refused, Started, Came, Carried}
-use Rattle.nd_link_log.proofs.Grown.{Grown, grown_walk, grown_with, grown_passing, moment_passing, passed, start_passing, walk_start}
+use Rattle.nd_link_log.proofs.Kept.{Kept, kept_walk, kept_with, kept_passing, moment_passing, passed, start_passing, walk_start}
 
 -- ---- between events
 
 pub record Stands (Bytes : Type 0) (log : Log) : Type 0 where
-  pub grown : Grown Bytes log (last_moment log)
+  pub kept : Kept Bytes log (last_moment log)
   pub lives : (i : ℕ) (start : Start) → start_of i log ≡ Some start → Lives Bytes start (chronicle_of i log) (last_moment log)
 
 -- an event has been reached: time has passed up to it
 pub record Reaching (Bytes : Type 0) (log : Log) (now : ℕ) : Type 0 where
   pub moment : last_moment log ≡ now
-  pub grown : Grown Bytes log now
+  pub kept : Kept Bytes log now
   pub reached : (i : ℕ) (start : Start) → start_of i log ≡ Some start → Reached Bytes start (chronicle_of i log) now
 
-pub reaching : (Bytes : Type 0) (log e : Log) (now : ℕ) → nat_lt now (last_moment log) ≡ false → Walk log (last_moment log) now e → Stands Bytes log → Reaching Bytes (passing now (nodes e) (Reaches now ∷ e)) now
+pub reaching : (Bytes : Type 0) (log e : Log) (now : ℕ) → nat_lt now (last_moment log) ≡ false → Walk log (last_moment log) now e → Stands Bytes log
+    → Reaching Bytes (passing now (nodes e) (Reaches now ∷ e)) now
 reaching Bytes log e now in_time w s =
     let le : last_moment log ≤ now = ltb-false now (last_moment log) in_time in
-    let g : Grown Bytes e now = grown_walk Bytes w (last_moment log) (omega arith) le s.grown in
+    let g : Kept Bytes e now = kept_walk Bytes w (last_moment log) (omega arith) le s.kept in
     let by = g.rises.by in
-    let r : Grown Bytes (Reaches now ∷ e) now = record {
+    let r : Kept Bytes (Reaches now ∷ e) now = record {
       rises = record { rising = (by, g.rises.rising); by = omega arith };
       numbered = g.numbered;
       there = g.there;
       bring = λ b. bring_entry (Reaches now) e refl (g.bring b);
     } in record {
       moment = moment_passing now (Reaches now ∷ e) (nodes e) refl;
-      grown = grown_passing now (Reaches now ∷ e) Bytes (nodes e) (omega arith) r;
+      kept = kept_passing now (Reaches now ∷ e) Bytes (nodes e) (omega arith) r;
       reached = λ i start is.
           let at : start_of i e ≡ Some start = sym (start_passing now (Reaches now ∷ e) (nodes e) i) ∙ is in
           let was : start_of i log ≡ Some start = sym (walk_start w i) ∙ at in
@@ -65,9 +66,10 @@ reaching Bytes log e now in_time w s =
 
 -- ---- an event
 
-stands_at : (Bytes : Type 0) (d : Log) (now : ℕ) → last_moment d ≡ now → Grown Bytes d now → ((i : ℕ) (start : Start) → start_of i d ≡ Some start → Lives Bytes start (chronicle_of i d) now) → Stands Bytes d
-stands_at Bytes d now moment grown lives = record {
-  grown = subst (Grown Bytes d) (sym moment) grown;
+stands_at : (Bytes : Type 0) (d : Log) (now : ℕ) → last_moment d ≡ now → Kept Bytes d now
+    → ((i : ℕ) (start : Start) → start_of i d ≡ Some start → Lives Bytes start (chronicle_of i d) now) → Stands Bytes d
+stands_at Bytes d now moment kept lives = record {
+  kept = subst (Kept Bytes d) (sym moment) kept;
   lives = λ i start is. subst (Lives Bytes start (chronicle_of i d)) (sym moment) (lives i start is);
 }
 
@@ -75,9 +77,9 @@ module _ (Bytes : Type 0) (now : ℕ) (log : Log) (r : Reaching Bytes log now) w
   lives_still : (i : ℕ) (start : Start) → start_of i log ≡ Some start → Lives Bytes start (chronicle_of i log) now
   lives_still i start is = lives_on Bytes start (chronicle_of i log) now (r.reached i start is)
 
-  grown_entry : (entry : Entry) → last_moment (entry ∷ log) ≡ now → (Bytes → AllBring (entry ∷ log)) → Numbered (entry ∷ log) → RowsThere (entry ∷ log) → Grown Bytes (entry ∷ log) now
-  grown_entry entry moment bring numbered there =
-      let g = r.grown in
+  kept_entry : (entry : Entry) → last_moment (entry ∷ log) ≡ now → (Bytes → AllBring (entry ∷ log)) → Numbered (entry ∷ log) → RowsThere (entry ∷ log) → Kept Bytes (entry ∷ log) now
+  kept_entry entry moment bring numbered there =
+      let g = r.kept in
       let by = g.rises.by in record {
         rises = record { rising = (omega (arith, by, moment), g.rises.rising); by = omega (arith, moment) };
         numbered = numbered;
@@ -117,7 +119,7 @@ module _ (Bytes : Type 0) (now : ℕ) (log : Log) (r : Reaching Bytes log now) w
     begun = Begins (nodes log) start ∷ log
 
     fresh : chronicle_of (nodes log) log ≡ []
-    fresh = no_rows (nodes log) log r.grown.there (none_there (nodes log) log r.grown.numbered (omega arith))
+    fresh = no_rows (nodes log) log r.kept.there (none_there (nodes log) log r.kept.numbered (omega arith))
 
     first : Lives Bytes start (beginning start) now
     first = record { mac = mac; events = []; bytes = λ b. All-from_recursion _ [] tt; runs = refl; last_is = moment }
@@ -129,10 +131,12 @@ module _ (Bytes : Type 0) (now : ℕ) (log : Log) (r : Reaching Bytes log now) w
         by true e = refl
         by false e = absurd (true≢false (sym e))
 
-    lives_begun : (i : ℕ) (other : Start) → start_of i (adding (nodes log) (beginning start) begun) ≡ Some other → Lives Bytes other (chronicle_of i (adding (nodes log) (beginning start) begun)) now
+    lives_begun : (i : ℕ) (other : Start) → start_of i (adding (nodes log) (beginning start) begun) ≡ Some other
+        → Lives Bytes other (chronicle_of i (adding (nodes log) (beginning start) begun)) now
     lives_begun i other there = by (nodes log == i) refl (sym (start_with i (nodes log) (beginning start) begun) ∙ there)
       where
-        by : (own : Bool) → (nodes log == i) ≡ own → (if own then Some start else start_of i log) ≡ Some other → Lives Bytes other (chronicle_of i (adding (nodes log) (beginning start) begun)) now
+        by : (own : Bool) → (nodes log == i) ≡ own → (if own then Some start else start_of i log) ≡ Some other
+            → Lives Bytes other (chronicle_of i (adding (nodes log) (beginning start) begun)) now
         by true e is =
             let same : nodes log ≡ i = (Decides-eqb (nodes log) i).0 e in
             let one : start ≡ other = cc in
@@ -144,30 +148,32 @@ module _ (Bytes : Type 0) (now : ℕ) (log : Log) (r : Reaching Bytes log now) w
 
     stands_begun : Stands Bytes (adding (nodes log) (beginning start) begun)
     stands_begun = stands_at Bytes _ now (moment_with now (nodes log) (beginning start) begun each moment)
-        (grown_with Bytes now (nodes log) (beginning start) begun each here_now (grown_entry (Begins (nodes log) start) moment (λ b. bring_entry (Begins (nodes log) start) log refl (r.grown.bring b)) (refl, r.grown.numbered) r.grown.there))
+        (kept_with Bytes now (nodes log) (beginning start) begun each here_now
+        (kept_entry (Begins (nodes log) start) moment (λ b. bring_entry (Begins (nodes log) start) log refl (r.kept.bring b)) (refl, r.kept.numbered) r.kept.there))
         lives_begun
       where
         each : EachAt now (beginning start)
         each = (moment, (moment, (moment, tt)))
 
   pub stands_seen : (d : Log) → (Bytes → SendsBytes d) → Seen Bytes now log d → Stands Bytes d
-  stands_seen d sends (Nothing same) = subst (Stands Bytes) (sym same) (stands_at Bytes log now r.moment r.grown lives_still)
+  stands_seen d sends (Nothing same) = subst (Stands Bytes) (sym same) (stands_at Bytes log now r.moment r.kept lives_still)
   stands_seen d sends (Refused why moment same) =
       subst (Stands Bytes) (sym same)
-      (stands_at Bytes (Refuses now why ∷ log) now moment (grown_entry (Refuses now why) moment (λ b. bring_entry (Refuses now why) log refl (r.grown.bring b)) r.grown.numbered r.grown.there) lives_still)
+      (stands_at Bytes (Refuses now why ∷ log) now moment (kept_entry (Refuses now why) moment (λ b. bring_entry (Refuses now why) log refl (r.kept.bring b)) r.kept.numbered r.kept.there) lives_still)
   stands_seen d sends (Started start moment mac same) = subst (Stands Bytes) (sym same) (stands_begun start moment mac)
   stands_seen d sends (Came at start event rows bytes is gained same) =
       let each = rows_at at event start rows is gained in
       subst (Stands Bytes) (sym same)
-      (stands_at Bytes (adding at rows log) now (moment_with now at rows log each r.moment) (grown_with Bytes now at rows log each (ap is_some is) r.grown)
+      (stands_at Bytes (adding at rows log) now (moment_with now at rows log each r.moment) (kept_with Bytes now at rows log each (ap is_some is) r.kept)
       (lives_after at event start rows is bytes gained log (λ i. refl) (λ i. refl)))
   stands_seen d sends (Carried at number sender when frame start rows is_frame is gained same) =
       let carrying : Log = Carries at now number ∷ log in
       let whole : Past log (adding at rows carrying) = past_then log carrying (adding at rows carrying) (inr (past_self log)) (past_with at rows carrying) in
       let bytes : Bytes → IsBytes frame = λ b. subst SendsBytes same (sends b) sender when frame is_frame.before (past_then _ log (adding at rows carrying) is_frame.there whole) in
       let each = rows_at at (nodes.Receives frame) start rows is gained in
-      let all : Bytes → AllBring (adding at rows carrying) = λ b. bring_carried at now number rows log (r.grown.bring b) (brings at now number log rows Bytes b start (lives_still at start is) frame (bytes b) gained sender when is_frame) in
-      let g = r.grown in
+      let all : Bytes → AllBring (adding at rows carrying) = λ b. bring_carried at now number rows log (r.kept.bring b)
+      (brings at now number log rows Bytes b start (lives_still at start is) frame (bytes b) gained sender when is_frame) in
+      let g = r.kept in
       let rises : RisesTo now carrying = record { rising = (g.rises.by, g.rises.rising); by = omega arith } in
       subst (Stands Bytes) (sym same)
       (stands_at Bytes (adding at rows carrying) now (moment_with now at rows carrying each refl)

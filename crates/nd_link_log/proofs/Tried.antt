@@ -50,7 +50,8 @@ module _ (Bytes : Type 0) (b : Bytes) (log : Log) (node : ℕ) (start : Start) (
         since = λ e p q. h.since (chronicle_of node e) (past_of node e d p) (row_below e h.assigned (Address key Assigned) a.below h.over a.chronicle_is q);
       }
     where
-      row_below : (e : Log) (at : ℕ) (what : _) (below : Log) (c : Chronicle) → chronicle_of node below ≡ c → Past (Adds node at what ∷ below) e → chronicle.Past ((at, what) ∷ c) (chronicle_of node e)
+      row_below : (e : Log) (at : ℕ) (what : _) (below : Log) (c : Chronicle) → chronicle_of node below ≡ c → Past (Adds node at what ∷ below) e
+          → chronicle.Past ((at, what) ∷ c) (chronicle_of node e)
       row_below e at what below c is q =
           subst (λ (x : Chronicle). chronicle.Past ((at, what) ∷ x) (chronicle_of node e)) is
           (subst (λ (x : Chronicle). chronicle.Past x (chronicle_of node e)) (own_row node at what below) (past_of node (Adds node at what ∷ below) e q))

@@ -1,4 +1,4 @@
--- What each log is, whatever has been added to it up to a moment.
+-- What is kept, whatever is added to a log up to a moment.
 use Rattle.std.proofs.Common.{◌≡◌, ℕ, zero, suc, ◌<◌, ◌≤◌, Bool, true, false, [], ◌∷◌, refl, sym, ◌∙◌, ap, arith, ⊎_elim}
 use Rattle.std.specs.Prelude.{◌==◌, is_some}
 use Rattle.std.proofs.lemmas.Bool.{cases_lt, true≢false}
@@ -14,22 +14,23 @@ use Rattle.nd_link_log.proofs.Nodes.{Numbered, RowsThere, is_there, numbered_wit
 
 -- Its moments rise up to this one, its nodes are numbered, and who has a row is there; and if what is handed in is bytes, each frame that was
 -- carried brought what it had to.
-pub record Grown (Bytes : Type 0) (log : Log) (at : ℕ) : Type 0 where
+pub record Kept (Bytes : Type 0) (log : Log) (at : ℕ) : Type 0 where
   pub rises : RisesTo at log
   pub numbered : Numbered log
   pub there : RowsThere log
   pub bring : Bytes → AllBring log
 
-pub grown_with : (Bytes : Type 0) (at node : ℕ) (rows : Chronicle) (log : Log) → EachAt at rows → is_some (start_of node log) ≡ true → Grown Bytes log at → Grown Bytes (adding node rows log) at
-grown_with Bytes at node rows log each here g = record {
+pub kept_with : (Bytes : Type 0) (at node : ℕ) (rows : Chronicle) (log : Log) → EachAt at rows → is_some (start_of node log) ≡ true → Kept Bytes log at
+    → Kept Bytes (adding node rows log) at
+kept_with Bytes at node rows log each here g = record {
   rises = rises_with at node rows log each g.rises;
   numbered = numbered_with node rows log g.numbered;
   there = there_with node rows log here g.there;
   bring = λ b. bring_with node rows log (g.bring b);
 }
 
-grown_later : (Bytes : Type 0) (log : Log) (at later : ℕ) → at ≤ later → Grown Bytes log at → Grown Bytes log later
-grown_later Bytes log at later le g = record {
+kept_later : (Bytes : Type 0) (log : Log) (at later : ℕ) → at ≤ later → Kept Bytes log at → Kept Bytes log later
+kept_later Bytes log at later le g = record {
   rises = record { rising = g.rises.rising; by = let by = g.rises.by in omega (arith, by, le) };
   numbered = g.numbered;
   there = g.there;
@@ -43,12 +44,12 @@ walk_start (over lt) i = refl
 walk_start {log = log} (adds node start what rows le is due idle gives w) i = walk_start w i ∙ start_with i node rows log
 walk_start (passes le idle w) i = walk_start w i
 
-pub grown_walk : (Bytes : Type 0) {log d : Log} {moment end : ℕ} → Walk log moment end d → (last : ℕ) → last ≤ moment → last ≤ end → Grown Bytes log last → Grown Bytes d end
-grown_walk Bytes {log = log} {end = end} (over lt) last le more g = grown_later Bytes log last end more g
-grown_walk Bytes {log = log} {moment = moment} {end = end} (adds node start what rows within is due idle gives w) last le more g =
-    grown_walk Bytes w moment (omega arith) within
-    (grown_with Bytes moment node rows log (due_at start moment (chronicle_of node log) what rows gives) (ap is_some is) (grown_later Bytes log last moment le g))
-grown_walk Bytes (passes within idle w) last le more g = grown_walk Bytes w last (omega (arith, le)) more g
+pub kept_walk : (Bytes : Type 0) {log d : Log} {moment end : ℕ} → Walk log moment end d → (last : ℕ) → last ≤ moment → last ≤ end → Kept Bytes log last → Kept Bytes d end
+kept_walk Bytes {log = log} {end = end} (over lt) last le more g = kept_later Bytes log last end more g
+kept_walk Bytes {log = log} {moment = moment} {end = end} (adds node start what rows within is due idle gives w) last le more g =
+    kept_walk Bytes w moment (omega arith) within
+    (kept_with Bytes moment node rows log (due_at start moment (chronicle_of node log) what rows gives) (ap is_some is) (kept_later Bytes log last moment le g))
+kept_walk Bytes (passes within idle w) last le more g = kept_walk Bytes w last (omega (arith, le)) more g
 
 -- ---- time passes at each node
 
@@ -61,10 +62,10 @@ module _ (now : ℕ) (log : Log) where
   moment_passing zero e = e
   moment_passing (suc k) e = refl
 
-  pub grown_passing : (Bytes : Type 0) (k : ℕ) → k ≤ nodes log → Grown Bytes log now → Grown Bytes (passing now k log) now
-  grown_passing Bytes zero le g = g
-  grown_passing Bytes (suc k) le g =
-      grown_with Bytes now k ((now, Passed) ∷ []) (passing now k log) (refl, tt) (ap is_some (start_passing k k) ∙ is_there k log g.numbered (omega (arith, le))) (grown_passing Bytes k (omega (arith, le)) g)
+  pub kept_passing : (Bytes : Type 0) (k : ℕ) → k ≤ nodes log → Kept Bytes log now → Kept Bytes (passing now k log) now
+  kept_passing Bytes zero le g = g
+  kept_passing Bytes (suc k) le g =
+      kept_with Bytes now k ((now, Passed) ∷ []) (passing now k log) (refl, tt) (ap is_some (start_passing k k) ∙ is_there k log g.numbered (omega (arith, le))) (kept_passing Bytes k (omega (arith, le)) g)
 
   still : (k i : ℕ) → k ≤ i → chronicle_of i (passing now k log) ≡ chronicle_of i log
   still zero i le = refl
@@ -78,7 +79,8 @@ module _ (now : ℕ) (log : Log) where
   passed zero i lt = absurd (omega (arith, lt))
   passed (suc k) i lt = by (k == i) refl (passed k i)
     where
-      by : (own : Bool) → (k == i) ≡ own → (i < k → chronicle_of i (passing now k log) ≡ (now, Passed) ∷ chronicle_of i log) → chronicle_of i (passing now (suc k) log) ≡ (now, Passed) ∷ chronicle_of i log
+      by : (own : Bool) → (k == i) ≡ own → (i < k → chronicle_of i (passing now k log) ≡ (now, Passed) ∷ chronicle_of i log)
+          → chronicle_of i (passing now (suc k) log) ≡ (now, Passed) ∷ chronicle_of i log
       by true e below =
           let same = (Decides-eqb k i).0 e in
           row_of true i k now Passed (passing now k log) e ∙ ap (λ (c : Chronicle). (now, Passed) ∷ c) (still k i (omega (arith, same)))
