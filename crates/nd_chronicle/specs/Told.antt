@@ -1,5 +1,6 @@
 -- The text of a chronicle: what is told of each row, and nothing of what has no text (the texts are this project's own).
-use Rattle.std.specs.Prelude.{ℕ, List, [], ◌∷◌, ◌++◌, length, codes}
+-- What is told of it is a list of items too, of which both the text and the frames that were sent can be read off.
+use Rattle.std.specs.Prelude.{ℕ, List, [], ◌∷◌, ◌++◌, length, map, codes}
 use Rattle.std.specs.Fmt.{decimal}
 use Rattle.std.specs.List.{flat_map}
 use Rattle.nd_addr.specs.Ip6.{header_of}
@@ -99,3 +100,31 @@ lines_of row = flat_map (line_at row.0) (told_of row.1)
 abbrev pub text : Chronicle → List ℕ
 text [] = []
 text (row ∷ c) = text c ++ lines_of row
+
+-- what is told of a row: a frame that was sent as it is, all else by its text
+pub data Told : Type 0 where
+  Frame : (frame : List ℕ) → Told
+  Words : (words : List ℕ) → Told
+
+-- what is told of what happened
+abbrev pub items_of : Happening → List Told
+items_of (Sent frame) = Frame frame ∷ []
+items_of what = map (λ t. Words t) (told_of what)
+
+-- and with the moment
+abbrev pub items_at : ℕ × Happening → List (ℕ × Told)
+items_at row = map (λ t. (row.0, t)) (items_of row.1)
+
+-- of it all, the oldest row first
+abbrev pub items : Chronicle → List (ℕ × Told)
+items [] = []
+items (row ∷ c) = items c ++ items_at row
+
+-- the text of an item
+abbrev pub words_of : Told → List ℕ
+words_of (Frame frame) = codes "tx " ++ hex_text frame
+words_of (Words words) = words
+
+-- and its line
+abbrev pub line_of : ℕ × Told → List ℕ
+line_of item = line_at item.0 (words_of item.1)

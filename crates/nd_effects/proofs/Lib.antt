@@ -1,5 +1,6 @@
 pub mod Quiet
 pub mod Telling
+pub mod Reading
 pub mod Released
 pub mod Saying
 pub mod Placing

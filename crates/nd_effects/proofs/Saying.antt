@@ -18,7 +18,7 @@ use Rattle.nd_chronicle.specs.Generator.{stream_left}
 use Rattle.nd_chronicle.specs.Due.{solicited_routers}
 use Rattle.nd_chronicle.specs.Message.{lets_enter, PlaceFor, releasing, sending_if_known}
 use Rattle.nd_chronicle.specs.Packet.{with_pushed, sending}
-use Rattle.nd_chronicle.specs.Told.{lines_of, text}
+use Rattle.nd_chronicle.specs.Told.{items_at, items}
 use Rattle.nd_effects.specs.LinkLayerAddress.{PreparesFor, sent_if_known, released_frames}
 use Rattle.nd_effects.specs.Router.{router_side}
 use Rattle.nd_effects.specs.Told.{at_moment}
@@ -68,7 +68,7 @@ pub record Others (c d : Chronicle) : Type 0 where
   pub router : (start : Start) → router_side start d ≡ router_side start c
   pub stream : (start : Start) → stream_left start d ≡ stream_left start c
   pub last : (at : ℕ) → last_moment at d ≡ last_moment at c
-  pub text : text d ≡ text c
+  pub told : items d ≡ items c
 
 others_same : (c : Chronicle) → Others c c
 others_same c = record {
@@ -83,7 +83,7 @@ others_same c = record {
   router = λ start. refl;
   stream = λ start. refl;
   last = λ at. refl;
-  text = refl;
+  told = refl;
 }
 
 others_pushed : (now : ℕ) (pushed : Option ℕ) (c : Chronicle) → ((at : ℕ) → last_moment at c ≡ now) → Others c (with_pushed now pushed c)
@@ -100,7 +100,7 @@ others_pushed now (Some key) c is = record {
   router = λ start. refl;
   stream = λ start. refl;
   last = λ at. sym (is at);
-  text = append-nil (text c);
+  told = append-nil (items c);
 }
 
 pushed_history : (now : ℕ) (pushed : Option ℕ) (c : Chronicle) → neighbour_history (with_pushed now pushed c) ≡ pushing now pushed (neighbour_history c)
@@ -196,19 +196,19 @@ releasing_is_quiet at (Some said) history c now =
     let s = story said.0 history in
     sending_if_known_is_quiet at (mac_of ((at, said.1) ∷ s)) (released_by at said.1 s) c now
 
-sending_text : (at mac : ℕ) (packets : List (List ℕ)) (c : Chronicle) → text (sending at mac packets c) ≡ text c ++ flat_map lines_of (at_moment at (map (λ packet. Sent (addressed (mac_at mac) packet)) packets))
-sending_text at mac [] c = sym (append-nil (text c))
-sending_text at mac (packet ∷ packets) c =
+sending_items : (at mac : ℕ) (packets : List (List ℕ)) (c : Chronicle) → items (sending at mac packets c) ≡ items c ++ flat_map items_at (at_moment at (map (λ packet. Sent (addressed (mac_at mac) packet)) packets))
+sending_items at mac [] c = sym (append-nil (items c))
+sending_items at mac (packet ∷ packets) c =
     let frame = addressed (mac_at mac) packet in
-    sending_text at mac packets ((at, Sent frame) ∷ c) ∙ append_assoc (text c) (lines_of (at, Sent frame)) (flat_map lines_of (at_moment at (map (λ p. Sent (addressed (mac_at mac) p)) packets)))
+    sending_items at mac packets ((at, Sent frame) ∷ c) ∙ append_assoc (items c) (items_at (at, Sent frame)) (flat_map items_at (at_moment at (map (λ p. Sent (addressed (mac_at mac) p)) packets)))
 
-sending_if_known_text : (at : ℕ) (known : Option ℕ) (packets : List (List ℕ)) (c : Chronicle) → text (sending_if_known at known packets c) ≡ text c ++ flat_map lines_of (at_moment at (sent_if_known known packets))
-sending_if_known_text at None packets c = sym (append-nil (text c))
-sending_if_known_text at (Some mac) packets c = sending_text at mac packets c
+sending_if_known_items : (at : ℕ) (known : Option ℕ) (packets : List (List ℕ)) (c : Chronicle) → items (sending_if_known at known packets c) ≡ items c ++ flat_map items_at (at_moment at (sent_if_known known packets))
+sending_if_known_items at None packets c = sym (append-nil (items c))
+sending_if_known_items at (Some mac) packets c = sending_items at mac packets c
 
 -- and is told by its frames
-pub releasing_text : (at : ℕ) (said : Option (ℕ × RowKind)) (history : List Row) (c : Chronicle) → text (releasing at said history c) ≡ text c ++ flat_map lines_of (at_moment at (released_frames at said history))
-releasing_text at None history c = sym (append-nil (text c))
-releasing_text at (Some said) history c =
+pub releasing_items : (at : ℕ) (said : Option (ℕ × RowKind)) (history : List Row) (c : Chronicle) → items (releasing at said history c) ≡ items c ++ flat_map items_at (at_moment at (released_frames at said history))
+releasing_items at None history c = sym (append-nil (items c))
+releasing_items at (Some said) history c =
     let s = story said.0 history in
-    sending_if_known_text at (mac_of ((at, said.1) ∷ s)) (released_by at said.1 s) c
+    sending_if_known_items at (mac_of ((at, said.1) ∷ s)) (released_by at said.1 s) c

@@ -1,5 +1,6 @@
--- What is told of what falls due is at the end of the text.
+-- What falls due is told at the end of what is told.
 use Rattle.std.proofs.Common.{◌≡◌, ℕ, List, [], ◌∷◌, ◌++◌, append-nil, append_assoc, map, Option, Some, None, refl, sym, ◌∙◌, ap}
+use Rattle.std.proofs.lemmas.Grind.{flat_map-append}
 use Rattle.std.specs.Prelude.{slice_get, drop}
 use Rattle.std.specs.List.{flat_map}
 use Rattle.std.specs.Option.{option_map, option_to_list}
@@ -18,19 +19,19 @@ use Rattle.nd_chronicle.specs.Histories.{advertising_history}
 use Rattle.nd_chronicle.specs.Advertising.{advertising_by}
 use Rattle.nd_chronicle.specs.Due.{What, RouterEnds, AddressFalls, NeighbourFalls, RoutersSolicited, RouterAdvertises, Redraws, comes}
 use Rattle.nd_chronicle.specs.Packet.{losing}
-use Rattle.nd_chronicle.specs.Told.{lines_of, text}
+use Rattle.nd_chronicle.specs.Told.{Told, items_at, items}
 use Rattle.nd_out.specs.declared.out.Out.{Out}
 use Rattle.nd_out.specs.Out.{happening}
 use Rattle.nd_effects.specs.Router.{frame_of, advertised}
 use Rattle.nd_effects.specs.Told.{told_of, at_moment, happenings, Tells}
 
--- one row with a text
-pub one : (t : List ℕ) (lines : List ℕ) → t ++ lines ≡ t ++ (lines ++ [])
-one t lines = ap (λ l. t ++ l) (sym (append-nil lines))
+-- one row that is told
+pub one : {A : Type 0} (before row : List A) → before ++ row ≡ before ++ (row ++ [])
+one before row = ap (λ r. before ++ r) (sym (append-nil row))
 
--- and one without a text below it
-pub above_silent : (t : List ℕ) (lines : List ℕ) → (t ++ []) ++ lines ≡ t ++ (lines ++ [])
-above_silent t lines = ap (λ l. l ++ lines) (append-nil t) ∙ one t lines
+-- and one that isn't below it
+pub above_silent : {A : Type 0} (before row : List A) → (before ++ []) ++ row ≡ before ++ (row ++ [])
+above_silent before row = ap (λ b. b ++ row) (append-nil before) ∙ one before row
 
 -- packets that are lost at the moment, for a reason
 abbrev pub lost_at : ℕ → Loss → List (List ℕ) → List (ℕ × Happening)
@@ -66,40 +67,36 @@ pub one_told : {A : Type 0} (x y : List (ℕ × Out A)) (at : ℕ) (out : Out A)
 one_told x y at out told is out_is =
     ap happenings is ∙ (sym (append-nil _) ∙ (handed_out x at out [] ∙ ap (λ (h : Happening). happenings x ++ (at, h) ∷ []) out_is))
 
-pub lost_text : (at : ℕ) (why : Loss) (packets : List (List ℕ)) (c : Chronicle) → text (losing at why packets c) ≡ text c ++ flat_map lines_of (lost_at at why packets)
-lost_text at why [] c = sym (append-nil (text c))
-lost_text at why (packet ∷ packets) c =
-    lost_text at why packets ((at, Lost why packet) ∷ c) ∙ append_assoc (text c) (lines_of (at, Lost why packet)) (flat_map lines_of (lost_at at why packets))
+pub lost_items : (at : ℕ) (why : Loss) (packets : List (List ℕ)) (c : Chronicle) → items (losing at why packets c) ≡ items c ++ flat_map items_at (lost_at at why packets)
+lost_items at why [] c = sym (append-nil (items c))
+lost_items at why (packet ∷ packets) c =
+    lost_items at why packets ((at, Lost why packet) ∷ c) ∙ append_assoc (items c) (items_at (at, Lost why packet)) (flat_map items_at (lost_at at why packets))
 
 -- an advertisement that is sent
-advertising_text : (start : Start) (c : Chronicle) (at : ℕ) (settings : Option Settings)
-    → text (advertising_by start at settings c) ≡ text c ++ flat_map lines_of (at_moment at (map (λ frame. Sent frame) (option_to_list (frame_of start (option_map (contents start.mac (offers_of (advertising_history start c))) settings)))))
-advertising_text start c at None = sym (append-nil (text c))
-advertising_text start c at (Some settings) = ap (λ (t : List ℕ). t ++ lines_of (at, Sent (router_advertisement_frame start.mac (link_local start) (contents start.mac (offers_of (advertising_history start c)) settings)))) (append-nil (text c ++ []) ∙ append-nil (text c)) ∙ one (text c) _
+advertising_items : (start : Start) (c : Chronicle) (at : ℕ) (settings : Option Settings)
+    → items (advertising_by start at settings c) ≡ items c ++ flat_map items_at (at_moment at (map (λ frame. Sent frame) (option_to_list (frame_of start (option_map (contents start.mac (offers_of (advertising_history start c))) settings)))))
+advertising_items start c at None = sym (append-nil (items c))
+advertising_items start c at (Some settings) = ap (λ (t : List (ℕ × Told)). t ++ items_at (at, Sent (router_advertisement_frame start.mac (link_local start) (contents start.mac (offers_of (advertising_history start c)) settings)))) (append-nil (items c ++ []) ∙ append-nil (items c)) ∙ one (items c) _
 
-pub text_of : (start : Start) (c : Chronicle) (at : ℕ) (what : What) → text (comes start at what c) ≡ text c ++ flat_map lines_of (at_moment at (told_of start.mac (link_local start) (advertised start c) what))
-text_of start c at (RouterEnds key) = one (text c) _
-text_of start c at (AddressFalls (addresses.Ends key)) = one (text c) _
-text_of start c at (AddressFalls (addresses.Solicits key)) = above_silent (text c) _
-text_of start c at (AddressFalls (addresses.Assigns key)) = one (text c) _
-text_of start c at (NeighbourFalls (neighbours.Multicasts key)) = above_silent (text c) _
-text_of start c at (NeighbourFalls (neighbours.Unicasts key mac)) = above_silent (text c) _
-text_of start c at (NeighbourFalls (neighbours.Fails key packets)) = lost_text at Unreachable packets _ ∙ append_assoc (text c) _ _
-text_of start c at (NeighbourFalls (neighbours.Ages key)) = refl
-text_of start c at RoutersSolicited = above_silent (text c) _
-text_of start c at RouterAdvertises = advertising_text start c at (advertised_by (advertising_history start c))
-text_of start c at Redraws = refl
-
-pub flat_map-append : (xs ys : List (ℕ × Happening)) → flat_map lines_of (xs ++ ys) ≡ flat_map lines_of xs ++ flat_map lines_of ys
-flat_map-append [] ys = refl
-flat_map-append (x ∷ xs) ys = ap (λ l. lines_of x ++ l) (flat_map-append xs ys) ∙ sym (append_assoc (lines_of x) (flat_map lines_of xs) (flat_map lines_of ys))
+pub due_items : (start : Start) (c : Chronicle) (at : ℕ) (what : What) → items (comes start at what c) ≡ items c ++ flat_map items_at (at_moment at (told_of start.mac (link_local start) (advertised start c) what))
+due_items start c at (RouterEnds key) = one (items c) _
+due_items start c at (AddressFalls (addresses.Ends key)) = one (items c) _
+due_items start c at (AddressFalls (addresses.Solicits key)) = above_silent (items c) _
+due_items start c at (AddressFalls (addresses.Assigns key)) = one (items c) _
+due_items start c at (NeighbourFalls (neighbours.Multicasts key)) = above_silent (items c) _
+due_items start c at (NeighbourFalls (neighbours.Unicasts key mac)) = above_silent (items c) _
+due_items start c at (NeighbourFalls (neighbours.Fails key packets)) = lost_items at Unreachable packets _ ∙ append_assoc (items c) _ _
+due_items start c at (NeighbourFalls (neighbours.Ages key)) = refl
+due_items start c at RoutersSolicited = above_silent (items c) _
+due_items start c at RouterAdvertises = advertising_items start c at (advertised_by (advertising_history start c))
+due_items start c at Redraws = refl
 
 pub Tells-same : {A : Type 0} (c : Chronicle) (outs : List (ℕ × Out A)) → Tells c c outs outs
-Tells-same c outs = record { newer = []; text = sym (append-nil _); outs = sym (append-nil _) }
+Tells-same c outs = record { newer = []; told = sym (append-nil _); outs = sym (append-nil _) }
 
 pub Tells-then : {A : Type 0} (c d e : Chronicle) (x y z : List (ℕ × Out A)) → Tells c d x y → Tells d e y z → Tells c e x z
 Tells-then c d e x y z s t = record {
   newer = s.newer ++ t.newer;
-  text = t.text ∙ (ap (λ l. l ++ flat_map lines_of t.newer) s.text ∙ (append_assoc (text c) (flat_map lines_of s.newer) (flat_map lines_of t.newer) ∙ ap (λ l. text c ++ l) (sym (flat_map-append s.newer t.newer))));
+  told = t.told ∙ (ap (λ l. l ++ flat_map items_at t.newer) s.told ∙ (append_assoc (items c) (flat_map items_at s.newer) (flat_map items_at t.newer) ∙ ap (λ l. items c ++ l) (sym (flat_map-append items_at s.newer t.newer))));
   outs = t.outs ∙ (ap (λ l. l ++ t.newer) s.outs ∙ append_assoc (happenings x) s.newer t.newer);
 }

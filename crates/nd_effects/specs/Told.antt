@@ -12,7 +12,7 @@ use Rattle.nd_neighbour.specs.Due as neighbours
 use Rattle.nd_frames.specs.Frames.{detection_frame, resolution_frame, probe_frame, router_solicitation_frame}
 use Rattle.nd_chronicle.specs.Happening.{Chronicle, Happening, Address, Neighbour, LeftRouter, Sent, Lost, Unreachable}
 use Rattle.nd_chronicle.specs.Due.{What, RouterEnds, AddressFalls, NeighbourFalls, RoutersSolicited, RouterAdvertises, Redraws}
-use Rattle.nd_chronicle.specs.Told.{lines_of, text}
+use Rattle.nd_chronicle.specs.Told.{items, items_at}
 use Rattle.nd_out.specs.declared.out.Out.{Out}
 use Rattle.nd_out.specs.Out.{happening}
 
@@ -53,5 +53,19 @@ happenings outs = map (λ o. (o.0, happening o.1)) outs
 -- What is handed out more is what is told of the one more than of the other.
 pub record Tells {A : Type 0} (c d : Chronicle) (old new : List (ℕ × Out A)) : Type 0 where
   pub newer : List (ℕ × Happening)
-  pub text : text d ≡ text c ++ flat_map lines_of newer
+  pub told : items d ≡ items c ++ flat_map items_at newer
   pub outs : happenings new ≡ happenings old ++ newer
+
+-- the frame that was sent, if one was
+abbrev pub frame_sent : Happening → List (List ℕ)
+frame_sent (Sent frame) = frame ∷ []
+frame_sent _ = []
+
+-- the frames that were sent among what happened
+abbrev pub frames_in : List (ℕ × Happening) → List (List ℕ)
+frames_in rows = flat_map (λ row. frame_sent row.1) rows
+
+-- the frames that a node sent, the oldest first
+abbrev pub sent_in : Chronicle → List (List ℕ)
+sent_in [] = []
+sent_in (row ∷ c) = sent_in c ++ frame_sent row.1
