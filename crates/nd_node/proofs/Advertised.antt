@@ -56,7 +56,7 @@ use Rattle.nd_chronicle.specs.Due.{solicited_routers, assigned_at, max_rtr_solic
 use Rattle.nd_chronicle.specs.Due as chronicle_due
 use Rattle.nd_chronicle.specs.Message.{releasing, leaving}
 use Rattle.nd_chronicle.specs.RouterAdvertisement.{redrawing, with_delay, forming, naming, then_option, then_options, times_out}
-use Rattle.nd_chronicle.specs.Told.{lines_of, text}
+use Rattle.nd_chronicle.specs.Told.{Told, items_at, items}
 use Rattle.nd_out.specs.declared.out.Out.{Out}
 use Rattle.nd_effects.specs.DefaultRouter.{with_left, with_gone}
 use Rattle.nd_effects.specs.LinkLayerAddress.{PreparesFor, released_frames, HearsOf}
@@ -72,7 +72,7 @@ use Rattle.nd_effects.specs.Router.{next_advertisement, router_side}
 use Rattle.nd_effects.specs.declared.router_tables.RouterTables.{RouterTables}
 use Rattle.nd_effects.proofs.RouterSide.{side_stands}
 use Rattle.nd_effects.proofs.Quiet.{Quiet}
-use Rattle.nd_effects.proofs.Saying.{OneGoes, OverdueByTable, NoneOverdueStill, Placed, placed_by, none_before_said, releasing_is_quiet, releasing_text, released_kept}
+use Rattle.nd_effects.proofs.Saying.{OneGoes, OverdueByTable, NoneOverdueStill, Placed, placed_by, none_before_said, releasing_is_quiet, releasing_items, released_kept}
 use Rattle.nd_effects.proofs.Telling.{Tells-then}
 use Rattle.nd_node.specs.declared.node.Node.{Node}
 use Rattle.nd_node.specs.Node.{Stands, next_of}
@@ -102,7 +102,7 @@ module _ (now : ℕ) (still : AddressesStill) where
     assigned : (key : ℕ) → assigned_at key (address_history d) ≡ assigned_at key (address_history c)
     in_time : address_due.NoneOverdue (address_history c) now → address_due.NoneOverdue (address_history d) now
     last : ((at : ℕ) → last_moment at c ≡ now) → (at : ℕ) → last_moment at d ≡ now
-    text : text d ≡ text c
+    told : items d ≡ items c
 
   beside_same : (c : Chronicle) → Beside c c
   beside_same c = record {
@@ -118,7 +118,7 @@ module _ (now : ℕ) (still : AddressesStill) where
     assigned = λ key. refl;
     in_time = λ h. h;
     last = λ h. h;
-    text = refl;
+    told = refl;
   }
 
   beside_then : {c d e : Chronicle} → Beside c d → Beside d e → Beside c e
@@ -135,7 +135,7 @@ module _ (now : ℕ) (still : AddressesStill) where
     assigned = λ key. y.assigned key ∙ x.assigned key;
     in_time = λ h. y.in_time (x.in_time h);
     last = λ h. y.last (x.last h);
-    text = y.text ∙ x.text;
+    told = y.told ∙ x.told;
   }
 
   delay_beside : (start : Start) (to_all : Bool) (c : Chronicle) → Beside c (with_delay start now to_all c)
@@ -152,7 +152,7 @@ module _ (now : ℕ) (still : AddressesStill) where
     assigned = λ key. refl;
     in_time = λ h. h;
     last = λ h at. refl;
-    text = append-nil (text c);
+    told = append-nil (items c);
   }
   delay_beside start false c = beside_same c
 
@@ -170,7 +170,7 @@ module _ (now : ℕ) (still : AddressesStill) where
     assigned = λ key. refl;
     in_time = λ h. still (address_history c) now key (address_rows.Formed delay retrans lifetimes) h;
     last = λ h at. refl;
-    text = append-nil (text c);
+    told = append-nil (items c);
   }
 
   announced_beside : (key : ℕ) (lifetimes : Lifetimes) (c : Chronicle) → Beside c ((now, happenings.Address key (address_rows.Announced lifetimes)) ∷ c)
@@ -187,7 +187,7 @@ module _ (now : ℕ) (still : AddressesStill) where
     assigned = λ key. refl;
     in_time = λ h. still (address_history c) now key (address_rows.Announced lifetimes) h;
     last = λ h at. refl;
-    text = append-nil (text c);
+    told = append-nil (items c);
   }
 
   module _ (start : Start) (to_all : Bool) where
@@ -229,7 +229,7 @@ module _ (start : Start) (now : ℕ) (source destination : Addr) (ra : RouterAdv
     solicited : solicited_routers d ≡ solicited_routers c
     router : (start : Start) → router_side start d ≡ router_side start c
     last : (at : ℕ) → last_moment at d ≡ now
-    text : text d ≡ text c ++ lines_of (now, Heard source destination (advertised ra options))
+    told : items d ≡ items c ++ items_at (now, Heard source destination (advertised ra options))
 
   begun_by : (draws : Bool) (c : Chronicle) → Begun c (redrawing start now ra.reachable_time draws ((now, Heard source destination (advertised ra options)) ∷ c))
   begun_by true c = record {
@@ -243,7 +243,7 @@ module _ (start : Start) (now : ℕ) (source destination : Addr) (ra : RouterAdv
     solicited = refl;
     router = λ start. refl;
     last = λ at. refl;
-    text = append-nil _;
+    told = append-nil _;
   }
   begun_by false c = record {
     neighbours = refl;
@@ -256,7 +256,7 @@ module _ (start : Start) (now : ℕ) (source destination : Addr) (ra : RouterAdv
     solicited = refl;
     router = λ start. refl;
     last = λ at. refl;
-    text = refl;
+    told = refl;
   }
 
 -- ---- a router that is timed out
@@ -275,7 +275,7 @@ module _ (now key : ℕ) where
     router : (start : Start) → router_side start d ≡ router_side start c
     stream : (start : Start) → stream_left start d ≡ stream_left start c
     last : ((at : ℕ) → last_moment at c ≡ now) → (at : ℕ) → last_moment at d ≡ now
-    text : text d ≡ text c ++ flat_map lines_of (at_moment now (left_told b key))
+    told : items d ≡ items c ++ flat_map items_at (at_moment now (left_told b key))
 
   leaves_by : (b : Bool) (c : Chronicle) → Leaves b c (leaving now b key c)
   leaves_by true c = record {
@@ -291,7 +291,7 @@ module _ (now key : ℕ) where
     router = λ start. refl;
     stream = λ start. refl;
     last = λ h at. refl;
-    text = ap (λ (l : List ℕ). text c ++ l) (sym (append-nil _));
+    told = ap (λ (l : List (ℕ × Told)). items c ++ l) (sym (append-nil _));
   }
   leaves_by false c = record {
     parameters = refl;
@@ -306,7 +306,7 @@ module _ (now key : ℕ) where
     router = λ start. refl;
     stream = λ start. refl;
     last = λ h. h;
-    text = sym (append-nil (text c));
+    told = sym (append-nil (items c));
   }
 
 -- ---- dates
@@ -558,15 +558,15 @@ module _ {R A : Type 0} (stream : R → Stream) (old new : Node R A) (before aft
 
   -- ---- what is told
 
-  text_begun : text begun ≡ text ((now, Heard source destination (advertised ra options)) ∷ c)
-  text_begun = message_adds.text ∙ ap (λ (x : List ℕ). x ++ lines_of (now, Heard source destination (advertised ra options))) place.others.text
+  items_begun : items begun ≡ items ((now, Heard source destination (advertised ra options)) ∷ c)
+  items_begun = message_adds.told ∙ ap (λ (x : List (ℕ × Told)). x ++ items_at (now, Heard source destination (advertised ra options))) place.others.told
 
   tells_released : Tells ((now, Heard source destination (advertised ra options)) ∷ c) released before t.between
   tells_released = record {
     newer = at_moment now (released_frames now of_sender (neighbour_history c));
-    text = releasing_text now of_sender (neighbour_history placed) begun
-        ∙ (ap (λ (x : List ℕ). x ++ flat_map lines_of (at_moment now (released_frames now of_sender (neighbour_history placed)))) text_begun
-        ∙ ap (λ (f : List Happening). text ((now, Heard source destination (advertised ra options)) ∷ c) ++ flat_map lines_of (at_moment now f))
+    told = releasing_items now of_sender (neighbour_history placed) begun
+        ∙ (ap (λ (x : List (ℕ × Told)). x ++ flat_map items_at (at_moment now (released_frames now of_sender (neighbour_history placed)))) items_begun
+        ∙ ap (λ (f : List Happening). items ((now, Heard source destination (advertised ra options)) ∷ c) ++ flat_map items_at (at_moment now f))
         (ap (λ (h : List neighbour_rows.Row). released_frames now of_sender h) place.history ∙ released_kept start.limits.neighbours now of_sender (neighbour_history c) meets.0 meets.1));
     outs = meets.3;
   }
@@ -574,7 +574,7 @@ module _ {R A : Type 0} (stream : R → Stream) (old new : Node R A) (before aft
   tells_left : Tells released all t.between after
   tells_left = record {
     newer = at_moment now (left_told t.left_list source_key);
-    text = options_add.text ∙ (leaving_adds.text ∙ ap (λ (x : Bool). text released ++ flat_map lines_of (at_moment now (left_told x source_key))) (sym leaves_is));
+    told = options_add.told ∙ (leaving_adds.told ∙ ap (λ (x : Bool). items released ++ flat_map items_at (at_moment now (left_told x source_key))) (sym leaves_is));
     outs = t.left_is_told;
   }
 

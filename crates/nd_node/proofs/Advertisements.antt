@@ -34,7 +34,7 @@ use Rattle.nd_chronicle.specs.LinkLayerAddress.{first_tlla}
 use Rattle.nd_chronicle.specs.Message.{said, releasing, leaving}
 use Rattle.nd_chronicle.specs.NeighborAdvertisement.{conflicting, ends_in_list}
 use Rattle.nd_chronicle.specs.OwnAddress.{is_tentative}
-use Rattle.nd_chronicle.specs.Told.{lines_of, text}
+use Rattle.nd_chronicle.specs.Told.{items_at, items}
 use Rattle.nd_out.specs.declared.out.Out.{Out}
 use Rattle.nd_out.specs.Out.{happening}
 use Rattle.nd_effects.specs.DefaultRouter.{with_left, with_gone}
@@ -42,7 +42,7 @@ use Rattle.nd_effects.specs.LinkLayerAddress.{said_by, HasPlace, HearsOf, releas
 use Rattle.nd_effects.specs.NeighborAdvertisement.{Conflicts, Leaves, with_conflict, told_conflict, told_left}
 use Rattle.nd_effects.specs.Told.{at_moment, happenings, Tells}
 use Rattle.nd_effects.proofs.Quiet.{Quiet}
-use Rattle.nd_effects.proofs.Saying.{NoneOverdueStill, OneGoes, OverdueByTable, none_before_said, releasing_is_quiet, releasing_text}
+use Rattle.nd_effects.proofs.Saying.{NoneOverdueStill, OneGoes, OverdueByTable, none_before_said, releasing_is_quiet, releasing_items}
 use Rattle.nd_effects.proofs.Telling.{one, above_silent, Tells-then, one_more}
 use Rattle.nd_node.specs.declared.node.Node.{Node}
 use Rattle.nd_node.specs.Hearing.{AddsMessage}
@@ -79,7 +79,7 @@ record Conflicted (now : ℕ) (b : Bool) (key : ℕ) (c d : Chronicle) : Type 0 
   neighbours : neighbour_history d ≡ neighbour_history c
   addresses : address_history d ≡ with_conflict now b key (address_history c)
   last : (at : ℕ) → last_moment at d ≡ now
-  told : text d ≡ text c ++ flat_map lines_of (told_conflict now b key)
+  told : items d ≡ items c ++ flat_map items_at (told_conflict now b key)
 
 conflicted : (now : ℕ) (b : Bool) (key : ℕ) (c : Chronicle) → ((at : ℕ) → last_moment at c ≡ now) → Conflicted now b key c (conflicting now b key c)
 conflicted now true key c is = record {
@@ -89,7 +89,7 @@ conflicted now true key c is = record {
   neighbours = refl;
   addresses = refl;
   last = λ at. refl;
-  told = one (text c) _;
+  told = one (items c) _;
 }
 conflicted now false key c is = record {
   apart = record { parameters = refl; prefixes = refl; servers = refl; names = refl; assigned = λ k. refl; solicited = refl; router = λ start'. refl; stream = λ start. refl };
@@ -98,7 +98,7 @@ conflicted now false key c is = record {
   neighbours = refl;
   addresses = refl;
   last = is;
-  told = sym (append-nil (text c));
+  told = sym (append-nil (items c));
 }
 
 pub record Left (now : ℕ) (b : Bool) (key : ℕ) (c d : Chronicle) : Type 0 where
@@ -108,7 +108,7 @@ pub record Left (now : ℕ) (b : Bool) (key : ℕ) (c d : Chronicle) : Type 0 wh
   pub neighbours : neighbour_history d ≡ neighbour_history c
   pub addresses : address_history d ≡ address_history c
   pub last : (at : ℕ) → last_moment at d ≡ now
-  pub told : text d ≡ text c ++ flat_map lines_of (told_left now b key)
+  pub told : items d ≡ items c ++ flat_map items_at (told_left now b key)
 
 pub left_list : (now : ℕ) (b : Bool) (key : ℕ) (c : Chronicle) → ((at : ℕ) → last_moment at c ≡ now) → Left now b key c (leaving now b key c)
 left_list now true key c is = record {
@@ -118,7 +118,7 @@ left_list now true key c is = record {
   neighbours = refl;
   addresses = refl;
   last = λ at. refl;
-  told = one (text c) _;
+  told = one (items c) _;
 }
 left_list now false key c is = record {
   apart = record { parameters = refl; prefixes = refl; servers = refl; names = refl; assigned = λ k. refl; solicited = refl; router = λ start'. refl; stream = λ start. refl };
@@ -127,7 +127,7 @@ left_list now false key c is = record {
   neighbours = refl;
   addresses = refl;
   last = is;
-  told = sym (append-nil (text c));
+  told = sym (append-nil (items c));
 }
 
 -- ---- what it adds
@@ -201,14 +201,14 @@ module _ {R A : Type 0} (stream : R → Stream) (old new : Node R A) (x room y1 
         let none_neighbour = none_before_said table still one_goes limit now this old.neighbours.nodes new.neighbours.nodes history h.0 s.neighbours h.1 h.2 (neighbours_before old now not_past) in
         let stands' = stands_at stream start old new c d now same' apart s le not_past (k3.last start.at)
         routers' (settled_none now (routers.next_end new.routers.entries) routers_settled) addresses' none_address neighbours' none_neighbour redirects' in
-        let heard_text : Tells c e0 x y1 = record {
+        let heard_items : Tells c e0 x y1 = record {
           newer = (now, Heard source destination (record { body = bodies.Na na; options = [] })) ∷ [];
-          text = above_silent (text c) (lines_of (now, Heard source destination message));
+          told = above_silent (items c) (items_at (now, Heard source destination message));
           outs = ap happenings told ∙ (ap (λ r. happenings (r ++ (now, heard) ∷ [])) reserved ∙ (one_more x (x ++ (now, heard) ∷ []) now heard refl ∙ ap (λ w. happenings x ++ (now, w) ∷ []) heard_is));
         } in
-        let conflict_text : Tells e0 e1 y1 y2 = record { newer = told_conflict now t key; text = k1.told; outs = conflicts.told ∙ ap (λ (b : Bool). happenings y1 ++ told_conflict now b key) cf.0 } in
-        let frames_text : Tells e1 e2 y2 y3 = record { newer = at_moment now (released_frames now this history); text = releasing_text now this history e1; outs = h.3 } in
-        let left_text : Tells e2 d y3 z = record { newer = told_left now l key; text = k3.told; outs = leaves.told ∙ ap (λ (b : Bool). happenings y3 ++ told_left now b key) left_is } in (
+        let conflict_items : Tells e0 e1 y1 y2 = record { newer = told_conflict now t key; told = k1.told; outs = conflicts.told ∙ ap (λ (b : Bool). happenings y1 ++ told_conflict now b key) cf.0 } in
+        let frames_items : Tells e1 e2 y2 y3 = record { newer = at_moment now (released_frames now this history); told = releasing_items now this history e1; outs = h.3 } in
+        let left_items : Tells e2 d y3 z = record { newer = told_left now l key; told = k3.told; outs = leaves.told ∙ ap (λ (b : Bool). happenings y3 ++ told_left now b key) left_is } in (
           d,
           (
             None,
@@ -216,6 +216,6 @@ module _ {R A : Type 0} (stream : R → Stream) (old new : Node R A) (x room y1 
             (later, record { pushed = None; place = refl; with_it = refl }, refl),
           ),
           stands',
-          Tells-then c e0 d x y1 z heard_text (Tells-then e0 e1 d y1 y2 z conflict_text (Tells-then e1 e2 d y2 y3 z frames_text left_text)),
+          Tells-then c e0 d x y1 z heard_items (Tells-then e0 e1 d y1 y2 z conflict_items (Tells-then e1 e2 d y2 y3 z frames_items left_items)),
         );
   }

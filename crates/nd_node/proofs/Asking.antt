@@ -36,13 +36,13 @@ use Rattle.nd_chronicle.specs.Packet as packets
 use Rattle.nd_chronicle.specs.Event.{VerdictAdds}
 use Rattle.nd_chronicle.specs.Hearing.{hears}
 use Rattle.nd_chronicle.specs.Due.{assigned_at}
-use Rattle.nd_chronicle.specs.Told.{lines_of, text}
+use Rattle.nd_chronicle.specs.Told.{Told, items_at, items}
 use Rattle.nd_out.specs.declared.out.Out.{Out}
 use Rattle.nd_out.specs.Out.{happening}
 use Rattle.nd_effects.specs.LinkLayerAddress.{said_by, HasPlace, HearsOf, released_frames}
 use Rattle.nd_effects.specs.Told.{at_moment, happenings, Tells}
 use Rattle.nd_effects.proofs.Quiet.{Quiet}
-use Rattle.nd_effects.proofs.Saying.{NoneOverdueStill, OneGoes, Others, OverdueByTable, none_before_said, placed_by, released_kept, releasing_is_quiet, releasing_text}
+use Rattle.nd_effects.proofs.Saying.{NoneOverdueStill, OneGoes, Others, OverdueByTable, none_before_said, placed_by, released_kept, releasing_is_quiet, releasing_items}
 use Rattle.nd_effects.proofs.Telling.{handed_out, Tells-then, one_told}
 use Rattle.nd_node.specs.declared.node.Node.{Node}
 use Rattle.nd_node.specs.Node.{Stands, next_of}
@@ -153,12 +153,12 @@ refused_is_quiet at c now = record {
 
 -- ---- what is told
 
--- a line, and what is released behind it
-text_behind : (at : ℕ) (t u lines v : List ℕ) (told released : List Happening) → u ≡ t → released ≡ told → v ≡ (u ++ lines) ++ flat_map lines_of (at_moment at released)
-    → v ≡ t ++ (lines ++ flat_map lines_of (at_moment at told))
-text_behind at t u lines v told released same kept is =
-    let frames : List ℕ = flat_map lines_of (at_moment at told) in
-    is ∙ (ap (λ (f : List Happening). (u ++ lines) ++ flat_map lines_of (at_moment at f)) kept ∙ (ap (λ (w : List ℕ). (w ++ lines) ++ frames) same ∙ append_assoc t lines frames))
+-- a row, and what is released behind it
+items_behind : (at : ℕ) (t u row v : List (ℕ × Told)) (told released : List Happening) → u ≡ t → released ≡ told → v ≡ (u ++ row) ++ flat_map items_at (at_moment at released)
+    → v ≡ t ++ (row ++ flat_map items_at (at_moment at told))
+items_behind at t u row v told released same kept is =
+    let frames : List (ℕ × Told) = flat_map items_at (at_moment at told) in
+    is ∙ (ap (λ (f : List Happening). (u ++ row) ++ flat_map items_at (at_moment at f)) kept ∙ (ap (λ (w : List (ℕ × Told)). (w ++ row) ++ frames) same ∙ append_assoc t row frames))
 
 told_behind : {A : Type 0} (x room y z : List (ℕ × Out A)) (at : ℕ) (out : Out A) (what : Happening) (rest : List (ℕ × Happening)) → room ≡ x → y ≡ room ++ (at, out) ∷ [] → happening out ≡ what
     → happenings z ≡ happenings y ++ rest → happenings z ≡ happenings x ++ (at, what) ∷ rest
@@ -200,7 +200,7 @@ module _ {R A : Type 0} (stream : R → Stream) (old new : Node R A) (x y : List
           stands_quiet stream start new later d (refused_is_quiet now later (λ a. refl)) (passed stream start old new c now s le settled is),
           record {
             newer = (now, Refused (Full Neighbours)) ∷ [];
-            text = ap (λ t. t ++ lines_of (now, Refused (Full Neighbours))) (append-nil (text c)) ∙ ap (λ l. text c ++ l) (sym (append-nil (lines_of (now, Refused (Full Neighbours)))));
+            told = ap (λ t. t ++ items_at (now, Refused (Full Neighbours))) (append-nil (items c)) ∙ ap (λ l. items c ++ l) (sym (append-nil (items_at (now, Refused (Full Neighbours)))));
             outs = one_told x y now out (Refused (Full Neighbours)) told out_is;
           },
         );
@@ -253,15 +253,15 @@ module _ {R A : Type 0} (stream : R → Stream) (old mid : Node R A) (x room y z
       stands_neighbours stream start base mid later before now same b stands_base refl refl addresses_same p.others.addresses n none in
       let kept : released_frames now this (neighbour_history p.placed) ≡ released_frames now this history =
       ap (λ (l : List rows.Row). released_frames now this l) p.history ∙ released_kept limit now this history made h.1 in
-      let lines : List ℕ = lines_of (now, Heard source destination message) in
+      let row : List (ℕ × Told) = items_at (now, Heard source destination message) in
       record {
         placed = p.placed;
         place = p.place;
         stands = stands_quiet stream start mid before after q stands_before;
         tells = record {
           newer = (now, Heard source destination (record { body = bodies.Ns ns; options = [] })) ∷ at_moment now (released_frames now this history);
-          text = text_behind now (text c) (text p.placed) lines (text after) (released_frames now this history) (released_frames now this (neighbour_history p.placed))
-              (p.others.text ∙ append-nil (text c)) kept (releasing_text now this (neighbour_history p.placed) before);
+          told = items_behind now (items c) (items p.placed) row (items after) (released_frames now this history) (released_frames now this (neighbour_history p.placed))
+              (p.others.told ∙ append-nil (items c)) kept (releasing_items now this (neighbour_history p.placed) before);
           outs = told_behind x room y z now heard (Heard source destination (record { body = bodies.Ns ns; options = [] })) (at_moment now (released_frames now this history)) reserved told heard_is h.3;
         };
       }

@@ -1,5 +1,6 @@
 -- A table that is cleared, and the chronicle that a node stands for.
 use Rattle.std.proofs.Common.{◌≡◌, ℕ, ◌<◌, ◌≤◌, List, [], ◌∷◌, ◌++◌, append-nil, append_assoc, map, take, Option, Some, None, refl, sym, ◌∙◌, ap, subst, arith}
+use Rattle.std.proofs.lemmas.Grind.{flat_map-append}
 use Rattle.std.specs.List.{flat_map}
 use Rattle.rand_core.specs.Stream.{Stream}
 use Rattle.nd_addr.specs.declared.addr.Addr.{Addr}
@@ -28,12 +29,12 @@ use Rattle.nd_chronicle.specs.Due.{solicited_routers}
 use Rattle.nd_chronicle.specs.Packet.{losing}
 use Rattle.nd_chronicle.specs.Event as events
 use Rattle.nd_chronicle.specs.Event.{all_leaving, clearing}
-use Rattle.nd_chronicle.specs.Told.{lines_of, text}
+use Rattle.nd_chronicle.specs.Told.{Told, items_at, items}
 use Rattle.nd_out.specs.declared.out.Out.{Out}
 use Rattle.nd_effects.specs.Told.{happenings}
 use Rattle.nd_effects.specs.Router.{router_side}
 use Rattle.nd_effects.proofs.Quiet.{losing_is_quiet}
-use Rattle.nd_effects.proofs.Telling.{flat_map-append, lost_at, lost_text, left_at, numbers}
+use Rattle.nd_effects.proofs.Telling.{lost_at, lost_items, left_at, numbers}
 use Rattle.nd_node.specs.declared.node.Node.{Node}
 use Rattle.nd_node.specs.Event.{AddsEvent}
 use Rattle.nd_node.specs.Node.{Stands, next_of}
@@ -113,7 +114,7 @@ module _ {R A : Type 0} (stream : R → Stream) (old new : Node R A) (outs : Lis
           refl,
           rw is (silent_stands stream start old c now ClearedPrefixes (cleared_prefixes now) s settled ps old.dns old.choice
               (stands now (prefix_history c)) s.dns s.redirects (omega arith) (omega (arith, s.servers_by_then, le)) (omega (arith, s.names_by_then, le))),
-          record { newer = []; text = append-nil (text later'); outs = sym (append-nil (happenings outs)) },
+          record { newer = []; told = append-nil (items later'); outs = sym (append-nil (happenings outs)) },
         );
   }
 
@@ -127,7 +128,7 @@ module _ {R A : Type 0} (stream : R → Stream) (old new : Node R A) (outs : Lis
           rw is (silent_stands stream start old c now ClearedRedirects (cleared_redirects now) s settled old.prefixes old.dns rs
               s.prefixes s.dns (gains.stands (redirect_history c) s.redirects)
               (omega (arith, s.prefixes_by_then, le)) (omega (arith, s.servers_by_then, le)) (omega (arith, s.names_by_then, le))),
-          record { newer = []; text = append-nil (text later'); outs = sym (append-nil (happenings outs)) },
+          record { newer = []; told = append-nil (items later'); outs = sym (append-nil (happenings outs)) },
         );
   }
 
@@ -141,7 +142,7 @@ module _ {R A : Type 0} (stream : R → Stream) (old new : Node R A) (outs : Lis
           refl,
           rw is (silent_stands stream start old c now ClearedDns (cleared_dns now) s settled old.prefixes ds old.choice
               s.prefixes (stands now (server_history c) (name_history c)) s.redirects (omega (arith, s.prefixes_by_then, le)) (omega arith) (omega arith)),
-          record { newer = []; text = append-nil (text later'); outs = sym (append-nil (happenings outs)) },
+          record { newer = []; told = append-nil (items later'); outs = sym (append-nil (happenings outs)) },
         );
   }
 
@@ -157,8 +158,8 @@ module _ (start : Start) (now : ℕ) where
   abbrev going : entries.Node → Chronicle → Chronicle
   going n c = losing now Forgotten (waiting_in n.stage) ((now, Neighbour n.key (rows.Forgot rows.Cleared)) ∷ c)
 
-  abbrev forgotten_text : List entries.Node → List ℕ
-  forgotten_text nodes = flat_map lines_of (lost_at now Forgotten (all_waiting nodes))
+  abbrev forgotten_items : List entries.Node → List (ℕ × Told)
+  forgotten_items nodes = flat_map items_at (lost_at now Forgotten (all_waiting nodes))
 
   clearing_beside : (nodes : List entries.Node) (c : Chronicle) → Beside c (clearing start now nodes c)
   clearing_beside [] c = record { parameters = refl; routers = refl; prefixes = refl; servers = refl; names = refl; redirects = refl; assigned = λ key. refl; solicited = refl; router = λ start'. refl; stream = λ start'. refl }
@@ -186,15 +187,15 @@ module _ (start : Start) (now : ℕ) where
       let row : Chronicle = (now, Neighbour n.key (rows.Forgot rows.Cleared)) ∷ c in
       clearing_last nodes (going n c) at ((losing_is_quiet now Forgotten (waiting_in n.stage) row (λ at'. refl)).last at)
 
-  clearing_text : (nodes : List entries.Node) (c : Chronicle) → text (clearing start now nodes c) ≡ text c ++ forgotten_text nodes
-  clearing_text [] c = sym (append-nil (text c))
-  clearing_text (n ∷ nodes) c =
+  clearing_items : (nodes : List entries.Node) (c : Chronicle) → items (clearing start now nodes c) ≡ items c ++ forgotten_items nodes
+  clearing_items [] c = sym (append-nil (items c))
+  clearing_items (n ∷ nodes) c =
       let row : Chronicle = (now, Neighbour n.key (rows.Forgot rows.Cleared)) ∷ c in
-      let these : List ℕ = flat_map lines_of (lost_at now Forgotten (waiting_in n.stage)) in
-      let first : text (going n c) ≡ text c ++ these = lost_text now Forgotten (waiting_in n.stage) row ∙ ap (λ (t : List ℕ). t ++ these) (append-nil (text c)) in
-      let both : forgotten_text (n ∷ nodes) ≡ these ++ forgotten_text nodes =
-      ap (λ l. flat_map lines_of l) (lost_both now (waiting_in n.stage) (all_waiting nodes)) ∙ flat_map-append (lost_at now Forgotten (waiting_in n.stage)) (lost_at now Forgotten (all_waiting nodes)) in
-      clearing_text nodes (going n c) ∙ (ap (λ (t : List ℕ). t ++ forgotten_text nodes) first ∙ (append_assoc (text c) these (forgotten_text nodes) ∙ ap (λ (t : List ℕ). text c ++ t) (sym both)))
+      let these : List (ℕ × Told) = flat_map items_at (lost_at now Forgotten (waiting_in n.stage)) in
+      let first : items (going n c) ≡ items c ++ these = lost_items now Forgotten (waiting_in n.stage) row ∙ ap (λ (t : List (ℕ × Told)). t ++ these) (append-nil (items c)) in
+      let both : forgotten_items (n ∷ nodes) ≡ these ++ forgotten_items nodes =
+      ap (λ l. flat_map items_at l) (lost_both now (waiting_in n.stage) (all_waiting nodes)) ∙ flat_map-append items_at (lost_at now Forgotten (waiting_in n.stage)) (lost_at now Forgotten (all_waiting nodes)) in
+      clearing_items nodes (going n c) ∙ (ap (λ (t : List (ℕ × Told)). t ++ forgotten_items nodes) first ∙ (append_assoc (items c) these (forgotten_items nodes) ∙ ap (λ (t : List (ℕ × Told)). items c ++ t) (sym both)))
 
 module _ {R A : Type 0} (stream : R → Stream) (old new : Node R A) (x room y : List (ℕ × Out A)) (now : ℕ) (settled : now < next_of old)
     (same : Same (record old { last = now }) new) (is : new.addresses ≡ old.addresses) where
@@ -215,7 +216,7 @@ module _ {R A : Type 0} (stream : R → Stream) (old new : Node R A) (x room y :
               (clearing_last start now nodes later' start.at refl) is (clearing_addresses start now nodes later') neighbours' (rw none tt),
           record {
             newer = lost_at now Forgotten (all_waiting nodes);
-            text = clearing_text start now nodes later' ∙ ap (λ (t : List ℕ). t ++ forgotten_text start now nodes) (append-nil (text c));
+            told = clearing_items start now nodes later' ∙ ap (λ (t : List (ℕ × Told)). t ++ forgotten_items start now nodes) (append-nil (items c));
             outs = told ∙ (ap (λ (r : List (ℕ × Out A)). happenings r ++ lost_at now Forgotten packets) reserved
                 ∙ ap (λ (p : List (List ℕ)). happenings x ++ lost_at now Forgotten p) packets_are);
           },
@@ -264,7 +265,7 @@ record Left (now : ℕ) (those : List ℕ) (c d : Chronicle) : Type 0 where
   redirects : redirect_history d ≡ then_gone now those (redirect_history c)
   neighbours : neighbour_history d ≡ neighbour_history c
   addresses : address_history d ≡ address_history c
-  told : text d ≡ text c ++ flat_map lines_of (left_at now those)
+  told : items d ≡ items c ++ flat_map items_at (left_at now those)
 
 all_left : (start : Start) (now : ℕ) (es : List (Lasting ℕ)) (c : Chronicle) → Left now (keys es) c (all_leaving start now es c)
 all_left start now [] c = record {
@@ -273,7 +274,7 @@ all_left start now [] c = record {
   redirects = refl;
   neighbours = refl;
   addresses = refl;
-  told = sym (append-nil (text c));
+  told = sym (append-nil (items c));
 }
 all_left start now (e ∷ es) c =
     let row : Chronicle = (now, LeftRouter e.key) ∷ c in
@@ -286,7 +287,7 @@ all_left start now (e ∷ es) c =
       redirects = rest.redirects;
       neighbours = rest.neighbours;
       addresses = rest.addresses;
-      told = rest.told ∙ append_assoc (text c) (lines_of (now, LeftRouter e.key)) (flat_map lines_of (left_at now (keys es)));
+      told = rest.told ∙ append_assoc (items c) (items_at (now, LeftRouter e.key)) (flat_map items_at (left_at now (keys es)));
     }
 
 module _ {R A : Type 0} (stream : R → Stream) (old new : Node R A) (x room y : List (ℕ × Out A)) (now : ℕ) (settled : now < next_of old)
@@ -320,7 +321,7 @@ module _ {R A : Type 0} (stream : R → Stream) (old new : Node R A) (x room y :
               (subst (λ (h : List RedirectRow). choice.Stands new.choice h) (sym redirects_are) redirects'),
           record {
             newer = left_at now those;
-            text = append-nil (text mid) ∙ (left.told ∙ ap (λ (t : List ℕ). t ++ flat_map lines_of (left_at now those)) (append-nil (text c)));
+            told = append-nil (items mid) ∙ (left.told ∙ ap (λ (t : List (ℕ × Told)). t ++ flat_map items_at (left_at now those)) (append-nil (items c)));
             outs = told ∙ (ap (λ (r : List (ℕ × Out A)). happenings r ++ left_at now (numbers addrs)) reserved ∙ ap (λ (l : List ℕ). happenings x ++ left_at now l) addrs_are);
           },
         );

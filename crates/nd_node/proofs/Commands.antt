@@ -20,12 +20,12 @@ use Rattle.nd_chronicle.specs.Packet.{losing}
 use Rattle.nd_chronicle.specs.Refused.{AtRouter}
 use Rattle.nd_chronicle.specs.Event as events
 use Rattle.nd_chronicle.specs.Event.{EventAdds}
-use Rattle.nd_chronicle.specs.Told.{lines_of, text}
+use Rattle.nd_chronicle.specs.Told.{Told, items_at, items}
 use Rattle.nd_out.specs.declared.out.Out.{Out}
 use Rattle.nd_effects.specs.Told.{happenings}
 use Rattle.nd_effects.proofs.Quiet.{losing_is_quiet}
 use Rattle.nd_effects.proofs.Saying.{NoneOverdueStill, OverdueByTable}
-use Rattle.nd_effects.proofs.Telling.{lost_at, lost_text}
+use Rattle.nd_effects.proofs.Telling.{lost_at, lost_items}
 use Rattle.nd_node.specs.declared.node.Node.{Node}
 use Rattle.nd_node.specs.Event.{AddsEvent}
 use Rattle.nd_node.specs.Frame.{AddsAlone}
@@ -69,7 +69,7 @@ module _ {R A : Type 0} (stream : R → Stream) (old new : Node R A) (now : ℕ)
           (now, Neighbour key kind) ∷ later,
           refl,
           row_stands kind (λ h. refl) (λ h. refl) start c s le stands',
-          record { newer = []; text = append-nil (text later); outs = sym (append-nil (happenings outs)) },
+          record { newer = []; told = append-nil (items later); outs = sym (append-nil (happenings outs)) },
         );
   }
 
@@ -90,7 +90,7 @@ module _ {R A : Type 0} (stream : R → Stream) (old new : Node R A) (now : ℕ)
           stands_quiet stream start new row (losing now Forgotten waited row) (losing_is_quiet now Forgotten waited row (λ at. refl)) gone,
           record {
             newer = lost_at now Forgotten waited;
-            text = lost_text now Forgotten waited row ∙ ap (λ (t : List ℕ). t ++ flat_map lines_of (lost_at now Forgotten waited)) (append-nil (text later) ∙ append-nil (text c));
+            told = lost_items now Forgotten waited row ∙ ap (λ (t : List (ℕ × Told)). t ++ flat_map items_at (lost_at now Forgotten waited)) (append-nil (items later) ∙ append-nil (items c));
             outs = told ∙ (ap (λ (r : List (ℕ × Out A)). happenings r ++ lost_at now Forgotten packets) reserved
                 ∙ ap (λ (p : List (List ℕ)). happenings x ++ lost_at now Forgotten p) (packets_are (neighbour_history c) s.neighbours));
           },

@@ -26,7 +26,7 @@ use Rattle.nd_chronicle.specs.NeighborSolicitation.{is_router, then_tried, Answe
 use Rattle.nd_chronicle.specs.Full.{Placed}
 use Rattle.nd_chronicle.specs.Event.{VerdictAdds}
 use Rattle.nd_chronicle.specs.Hearing.{hears}
-use Rattle.nd_chronicle.specs.Told.{lines_of, text}
+use Rattle.nd_chronicle.specs.Told.{items_at, items}
 use Rattle.nd_out.specs.declared.out.Out.{Out}
 use Rattle.nd_out.specs.Out.{happening}
 use Rattle.nd_effects.specs.Told.{happenings, Tells}
@@ -102,10 +102,10 @@ adds_by start now source destination ns options c d from is = (
     placed_alone : Placed start c now (if bytes_eq source.0 unspecified_address then None else Some (number_of source.0, true)) true
     placed_alone = subst (λ (b : Bool). Placed start c now (if b then None else Some (number_of source.0, true)) true) (sym from) refl
 
--- a row without a text, and two with one
-two : (t first second : List ℕ) → ((t ++ []) ++ first) ++ second ≡ t ++ (first ++ (second ++ []))
-two t first second =
-    ap (λ u. (u ++ first) ++ second) (append-nil t) ∙ (append_assoc t first second ∙ ap (λ l. t ++ (first ++ l)) (sym (append-nil second)))
+-- a row that isn't told, and two that are
+two : {A : Type 0} (before first second : List A) → ((before ++ []) ++ first) ++ second ≡ before ++ (first ++ (second ++ []))
+two before first second =
+    ap (λ b. (b ++ first) ++ second) (append-nil before) ∙ (append_assoc before first second ∙ ap (λ l. before ++ (first ++ l)) (sym (append-nil second)))
 
 -- two are handed out
 two_more : {A : Type 0} (x room y z : List (ℕ × Out A)) (at : ℕ) (first second : Out A) → room ≡ x → y ≡ room ++ (at, first) ∷ [] → z ≡ y ++ (at, second) ∷ []
@@ -127,7 +127,7 @@ module _ {R A : Type 0} (stream : R → Stream) (old new : Node R A) (x room y z
       → Tells c ((now, what) ∷ (now, Heard source destination (solicitation ns options)) ∷ (now, Passed) ∷ c) x z
   tells start c what is = record {
     newer = (now, Heard source destination (record { body = bodies.Ns ns; options = [] })) ∷ (now, what) ∷ [];
-    text = two (text c) (lines_of (now, Heard source destination (solicitation ns options))) (lines_of (now, what));
+    told = two (items c) (items_at (now, Heard source destination (solicitation ns options))) (items_at (now, what));
     outs = two_more x room y z now first second reserved told_first told_second ∙ (ap (λ (h : Happening). happenings x ++ (now, h) ∷ (now, happening second) ∷ []) heard
         ∙ ap (λ (h : Happening). happenings x ++ (now, Heard source destination (record { body = bodies.Ns ns; options = [] })) ∷ (now, h) ∷ []) is);
   }

@@ -147,7 +147,7 @@ module _ {R A : Type 0} (stream : R → Stream) (old mid made sent new : Node R 
         let own_is' : own ≡ link_local start = own_is ∙ ap (λ (m : Mac). addr_at (link_local_of m)) s.address_mac in
         let has : HasRoom start.limits.neighbours now first (Some key) (neighbour_history c) =
         subst (λ (limit : ℕ). HasRoom limit now first (Some key) (neighbour_history c)) s.neighbour_limit ((says (neighbour_history c) s.neighbours).0 is) in
-        let nothing : Tells c redirected x w = record { newer = []; text = append-nil _; outs = ap happenings same ∙ sym (append-nil _) } in (
+        let nothing : Tells c redirected x w = record { newer = []; told = append-nil _; outs = ap happenings same ∙ sym (append-nil _) } in (
           d,
           (
             true,

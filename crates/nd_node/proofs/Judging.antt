@@ -23,7 +23,7 @@ use Rattle.nd_chronicle.specs.Hearing as verdicts
 use Rattle.nd_chronicle.specs.Hearing.{FromFirstHop, IsForUs, IsPacketForUs, IsInTransit, IsDropped, IsTaken, IsStrange, IsMisdirected, IsPacket, IsPassing, IsStrangePacket, takes_target}
 use Rattle.nd_chronicle.specs.NextHop.{IsNextHop}
 use Rattle.nd_chronicle.specs.Event as events
-use Rattle.nd_chronicle.specs.Told.{lines_of, text}
+use Rattle.nd_chronicle.specs.Told.{items_at, items}
 use Rattle.nd_out.specs.declared.out.Out.{Out}
 use Rattle.nd_out.specs.Out.{happening}
 use Rattle.nd_effects.specs.Told.{happenings}
@@ -82,7 +82,7 @@ module _ {R A : Type 0} (stream : R → Stream) (old new : Node R A) (x y : List
       stands_quiet stream start new ((now, Passed) ∷ c) ((now, what) ∷ (now, Passed) ∷ c) (quiet ((now, Passed) ∷ c) (λ at. refl)) (passed stream start old new c now s le settled is),
       record {
         newer = (now, what) ∷ [];
-        text = above_silent (text c) (lines_of (now, what));
+        told = above_silent (items c) (items_at (now, what));
         outs = one_more x y now out told ∙ ap (λ w. happenings x ++ (now, w) ∷ []) out_is;
       },
     );

@@ -125,7 +125,7 @@ module _ {R A : Type 0} (stream : R → Stream) (old new : Node R A) (x y : List
         let base : Node R A = record old { last = now } in
         let kept = stays_keeps stream base mid keeps in
         let g = goes.each start later (kept.each start later (passed stream start old base c now s le settled refl)) in
-        let nothing : Tells c later x room = record { newer = []; text = refl; outs = ap happenings same ∙ sym (append-nil _) } in (
+        let nothing : Tells c later x room = record { newer = []; told = refl; outs = ap happenings same ∙ sym (append-nil _) } in (
           g.0,
           (true, has_place_for stream start old c now key room_is_place full_by_history s has, g.1),
           g.2,

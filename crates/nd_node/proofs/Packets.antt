@@ -25,7 +25,7 @@ use Rattle.nd_chronicle.specs.Happening.{Chronicle, Neighbour, Sent, Lost, Repla
 use Rattle.nd_chronicle.specs.Histories.{neighbour_history, address_history}
 use Rattle.nd_chronicle.specs.InForce.{retrans_timer}
 use Rattle.nd_chronicle.specs.Packet.{losing, with_pushed, then_packet}
-use Rattle.nd_chronicle.specs.Told.{lines_of, text}
+use Rattle.nd_chronicle.specs.Told.{items_at, items}
 use Rattle.nd_out.specs.declared.out.Out.{Out}
 use Rattle.nd_effects.specs.Packet.{told_of_packet}
 use Rattle.nd_effects.specs.Told.{at_moment, happenings}
@@ -54,35 +54,35 @@ pushed_beside at None c = record { parameters = refl; routers = refl; prefixes =
 pushed_beside at (Some key) c = beside_neighbour at key (rows.Forgot rows.PushedOut) c (λ h. refl) (λ h. refl)
 
 -- nothing is told of it
-pushed_text : (at : ℕ) (pushed : Option ℕ) (c : Chronicle) → text (with_pushed at pushed c) ≡ text c
-pushed_text at None c = refl
-pushed_text at (Some key) c = append-nil (text c)
+pushed_items : (at : ℕ) (pushed : Option ℕ) (c : Chronicle) → items (with_pushed at pushed c) ≡ items c
+pushed_items at None c = refl
+pushed_items at (Some key) c = append-nil (items c)
 
 pushed_later : NoneOverdueStill → (at : ℕ) (pushed : Option ℕ) (history : List rows.Row) → NoneOverdue history at → NoneOverdue (pushing at pushed history) at
 pushed_later still at None history none = none
 pushed_later still at (Some key) history none = still history at key (rows.Forgot rows.PushedOut) none
 
--- ---- the text
+-- ---- what is told
 
--- a row with a text, and rows without one around it
-below_silent : (t u lines : List ℕ) → u ≡ t → (u ++ lines) ++ [] ≡ t ++ (lines ++ [])
-below_silent t u lines same = append-nil (u ++ lines) ∙ (ap (λ l. l ++ lines) same ∙ one t lines)
+-- a row that is told, and rows that aren't around it
+below_silent : {A : Type 0} (t u row : List A) → u ≡ t → (u ++ row) ++ [] ≡ t ++ (row ++ [])
+below_silent t u row same = append-nil (u ++ row) ∙ (ap (λ l. l ++ row) same ∙ one t row)
 
-above_silent : (t u lines : List ℕ) → u ≡ t → (u ++ []) ++ lines ≡ t ++ (lines ++ [])
-above_silent t u lines same = ap (λ l. l ++ lines) (append-nil u ∙ same) ∙ one t lines
+above_silent : {A : Type 0} (t u row : List A) → u ≡ t → (u ++ []) ++ row ≡ t ++ (row ++ [])
+above_silent t u row same = ap (λ l. l ++ row) (append-nil u ∙ same) ∙ one t row
 
-among_silent : (t u lines : List ℕ) → u ≡ t → ((u ++ []) ++ lines) ++ [] ≡ t ++ (lines ++ [])
-among_silent t u lines same = append-nil ((u ++ []) ++ lines) ∙ above_silent t u lines same
+among_silent : {A : Type 0} (t u row : List A) → u ≡ t → ((u ++ []) ++ row) ++ [] ≡ t ++ (row ++ [])
+among_silent t u row same = append-nil ((u ++ []) ++ row) ∙ above_silent t u row same
 
-packet_text : (start : Start) (c placed : Chronicle) (at key retrans : ℕ) (packet : List ℕ) (sending : Sending) → text placed ≡ text c
-    → text (then_packet start at key retrans packet sending placed) ≡ text c ++ flat_map lines_of (at_moment at (told_of_packet start.mac (link_local start) key sending))
-packet_text start c placed at key retrans packet (Sends to sent) same =
-    below_silent (text c) (text placed) (lines_of (at, Sent (addressed (mac_at to) sent))) same
-packet_text start c placed at key retrans packet (Queues true replaced) same =
-    among_silent (text c) (text placed) (lines_of (at, Sent (resolution_frame start.mac (link_local start) (addr_at key)))) same
-packet_text start c placed at key retrans packet (Queues false None) same = append-nil (text placed) ∙ (same ∙ sym (append-nil (text c)))
-packet_text start c placed at key retrans packet (Queues false (Some oldest)) same =
-    above_silent (text c) (text placed) (lines_of (at, Lost Replaced oldest)) same
+packet_items : (start : Start) (c placed : Chronicle) (at key retrans : ℕ) (packet : List ℕ) (sending : Sending) → items placed ≡ items c
+    → items (then_packet start at key retrans packet sending placed) ≡ items c ++ flat_map items_at (at_moment at (told_of_packet start.mac (link_local start) key sending))
+packet_items start c placed at key retrans packet (Sends to sent) same =
+    below_silent (items c) (items placed) (items_at (at, Sent (addressed (mac_at to) sent))) same
+packet_items start c placed at key retrans packet (Queues true replaced) same =
+    among_silent (items c) (items placed) (items_at (at, Sent (resolution_frame start.mac (link_local start) (addr_at key)))) same
+packet_items start c placed at key retrans packet (Queues false None) same = append-nil (items placed) ∙ (same ∙ sym (append-nil (items c)))
+packet_items start c placed at key retrans packet (Queues false (Some oldest)) same =
+    above_silent (items c) (items placed) (items_at (at, Lost Replaced oldest)) same
 
 -- ---- the tables
 
@@ -168,7 +168,7 @@ module _ {R A : Type 0} (stream : R → Stream) (old new : Node R A) (x y : List
               (is_present this) (mac_of this) (waiting_of this) key timer packet n,
           record {
             newer = at_moment now (told_of_packet start.mac (link_local start) key sent);
-            text = packet_text start c placed now key timer packet sent (pushed_text now up.0 c);
+            told = packet_items start c placed now key timer packet sent (pushed_items now up.0 c);
             outs = told ∙ (ap (λ (m : Mac). happenings x ++ at_moment now (told_of_packet m own key sending)) mac_is'
                 ∙ (ap (λ (a : Addr). happenings x ++ at_moment now (told_of_packet start.mac a key sending)) own_is'
                 ∙ ap (λ (w : Sending). happenings x ++ at_moment now (told_of_packet start.mac (link_local start) key w)) (sending_is history s.neighbours)));

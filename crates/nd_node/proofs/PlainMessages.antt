@@ -35,7 +35,7 @@ use Rattle.nd_chronicle.specs.Event.{MessageAdds}
 use Rattle.nd_chronicle.specs.Advertising.{planning, wants_answer}
 use Rattle.nd_chronicle.specs.Generator.{answer_delay_drawn, stream_left}
 use Rattle.nd_chronicle.specs.NeighborSolicitation.{is_router}
-use Rattle.nd_chronicle.specs.Told.{lines_of, text}
+use Rattle.nd_chronicle.specs.Told.{items_at, items}
 use Rattle.nd_out.specs.declared.out.Out.{Out}
 use Rattle.nd_out.specs.Out.{happening}
 use Rattle.nd_effects.specs.LinkLayerAddress.{said_by, HearsOf, released_frames}
@@ -43,7 +43,7 @@ use Rattle.nd_effects.specs.Router.{Plans, plans}
 use Rattle.nd_effects.specs.declared.router_tables.RouterTables.{RouterTables}
 use Rattle.nd_effects.specs.Told.{at_moment, happenings, Tells}
 use Rattle.nd_effects.proofs.Quiet.{Quiet}
-use Rattle.nd_effects.proofs.Saying.{NoneOverdueStill, OneGoes, Others, OverdueByTable, none_before_said, placed_by, released_kept, releasing_is_quiet, releasing_text}
+use Rattle.nd_effects.proofs.Saying.{NoneOverdueStill, OneGoes, Others, OverdueByTable, none_before_said, placed_by, released_kept, releasing_is_quiet, releasing_items}
 use Rattle.nd_effects.proofs.Telling.{one, above_silent, Tells-then, one_more}
 use Rattle.nd_node.specs.declared.node.Node.{Node}
 use Rattle.nd_node.specs.Hearing.{AddsMessage}
@@ -131,17 +131,17 @@ apart_others o = record {
   stream = o.stream;
 }
 
--- what is told of a chronicle is told of one with the same text
-told_too : {A : Type 0} {c d : Chronicle} {x z : List (ℕ × Out A)} (e : Chronicle) → text e ≡ text d → Tells c d x z → Tells c e x z
-told_too e same t = record { newer = t.newer; text = same ∙ t.text; outs = t.outs }
+-- what is told of a chronicle is told of one with the same items
+told_too : {A : Type 0} {c d : Chronicle} {x z : List (ℕ × Out A)} (e : Chronicle) → items e ≡ items d → Tells c d x z → Tells c e x z
+told_too e same t = record { newer = t.newer; told = same ∙ t.told; outs = t.outs }
 
 -- ---- the answer to a Router Solicitation
 
-pub text_planned : (now : ℕ) (start : Start) (before c : Chronicle) → text (planned now start before c) ≡ text c
-text_planned now start before c = by (wants_answer start before)
+pub items_planned : (now : ℕ) (start : Start) (before c : Chronicle) → items (planned now start before c) ≡ items c
+items_planned now start before c = by (wants_answer start before)
   where
-    by : (wants : Bool) → text (planning start now wants c) ≡ text c
-    by true = append-nil (text c ++ []) ∙ append-nil (text c)
+    by : (wants : Bool) → items (planning start now wants c) ≡ items c
+    by true = append-nil (items c ++ []) ∙ append-nil (items c)
     by false = refl
 
 -- a node that planned it, or had none to plan, stands for the chronicle
@@ -191,7 +191,7 @@ module _ {R A : Type 0} (stream : R → Stream) (old : Node R A) (now : ℕ) (so
           stands_quiet stream start new later ((now, Refused (Full Neighbours)) ∷ later) (refused_is_quiet now later (λ at. refl)) stands',
           record {
             newer = (now, Refused (Full Neighbours)) ∷ [];
-            text = above_silent (text c) (lines_of (now, Refused (Full Neighbours)));
+            told = above_silent (items c) (items_at (now, Refused (Full Neighbours)));
             outs = one_more x y now out told ∙ ap (λ w. happenings x ++ (now, w) ∷ []) out_is;
           },
         );
@@ -204,7 +204,7 @@ module _ {R A : Type 0} (stream : R → Stream) (old : Node R A) (now : ℕ) (so
       (redirects : (history : List redirect_rows.RedirectRow) → choice.Stands old.choice history → choice.Stands new.choice (then_redirect now body history))
       (hears : HearsOf old.neighbours.limit now (option_map (said_by times) news) old.neighbours.nodes new.neighbours.nodes y z ends)
       (follows : (start : Start) (before d : Chronicle) → advertising_history start d ≡ advertising_history start before → last_moment start.at d ≡ now → Stands stream start new d → Stands stream start final (behind start before d))
-      (silent : (start : Start) (before d : Chronicle) → text (behind start before d) ≡ text d) where
+      (silent : (start : Start) (before d : Chronicle) → items (behind start before d) ≡ items d) where
     pub adds_message : AddsMessage stream old final x z now source destination (message_of body options)
     adds_message = record {
       each = λ start c s le takes.
@@ -238,14 +238,14 @@ module _ {R A : Type 0} (stream : R → Stream) (old : Node R A) (now : ℕ) (so
           neighbours' none redirects' in
           let kept : released_frames now this (neighbour_history p.placed) ≡ released_frames now this history =
           ap (λ (l : List rows.Row). released_frames now this l) p.history ∙ released_kept limit now this history made h.1 in
-          let heard_text : Tells c before x y = record {
+          let heard_items : Tells c before x y = record {
             newer = (now, Heard source destination (record { body = body; options = [] })) ∷ [];
-            text = ap (λ t. t ++ lines_of (now, Heard source destination message)) (p.others.text ∙ append-nil (text c)) ∙ one (text c) (lines_of (now, Heard source destination message));
+            told = ap (λ t. t ++ items_at (now, Heard source destination message)) (p.others.told ∙ append-nil (items c)) ∙ one (items c) (items_at (now, Heard source destination message));
             outs = ap happenings told ∙ (ap (λ l. happenings (l ++ (now, heard) ∷ [])) reserved ∙ (one_more x (x ++ (now, heard) ∷ []) now heard refl ∙ ap (λ w. happenings x ++ (now, w) ∷ []) heard_is));
           } in
-          let frames_text : Tells before after y z = record {
+          let frames_items : Tells before after y z = record {
             newer = at_moment now (released_frames now this (neighbour_history p.placed));
-            text = releasing_text now this (neighbour_history p.placed) before;
+            told = releasing_items now this (neighbour_history p.placed) before;
             outs = h.3 ∙ ap (λ l. happenings y ++ at_moment now l) (sym kept);
           } in
           let placed' : Placed start later now (entering this) true =
@@ -253,6 +253,6 @@ module _ {R A : Type 0} (stream : R → Stream) (old : Node R A) (now : ℕ) (so
             behind start later after,
             (None, plain.fills start later None (record { neighbours = true; placed = rw (plain.needs_is later) placed'; first = refl }), plain.adds start later p.placed p.place),
             follows start later after (ap (λ (p : List advertising_rows.Row × List route_rows.Row). p.0) (q.router start ∙ apart.router start)) (q.last start.at) (stands_quiet stream start new before after q stands_before),
-            told_too {d = after} (behind start later after) (silent start later after) (Tells-then c before after x y z heard_text frames_text),
+            told_too {d = after} (behind start later after) (silent start later after) (Tells-then c before after x y z heard_items frames_items),
           );
     }

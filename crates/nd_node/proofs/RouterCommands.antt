@@ -30,7 +30,7 @@ use Rattle.nd_chronicle.specs.Histories.{advertising_history, route_history}
 use Rattle.nd_chronicle.specs.Advertising.{telling_end}
 use Rattle.nd_chronicle.specs.Refused.{AtRouter, UnlessFull}
 use Rattle.nd_chronicle.specs.Event as events
-use Rattle.nd_chronicle.specs.Told.{lines_of, text}
+use Rattle.nd_chronicle.specs.Told.{Told, items_at, items}
 use Rattle.nd_out.specs.declared.out.Out.{Out}
 use Rattle.nd_effects.specs.Told.{advertised_by, at_moment, happenings}
 use Rattle.nd_effects.specs.declared.router_tables.RouterTables.{RouterTables}
@@ -75,7 +75,7 @@ module _ {R A : Type 0} (stream : R → Stream) (old new : Node R A) (now : ℕ)
             d,
             at_router now start.role (λ (e : Chronicle). e ≡ d) later d (sym s.role ∙ role) refl,
             rw is (stands_advertising stream start base later d (aside (Configures settings) now start.at later refl) p r old.generator (advertising_rows.Advertises now settings) refl gains same refl refl p.generator),
-            record { newer = []; text = append-nil (text later); outs = sym (append-nil (happenings outs)) },
+            record { newer = []; told = append-nil (items later); outs = sym (append-nil (happenings outs)) },
           );
     }
 
@@ -94,7 +94,7 @@ module _ {R A : Type 0} (stream : R → Stream) (old new : Node R A) (now : ℕ)
             at_router now start.role (λ (e : Chronicle). UnlessFull now (if many then Some happening.Offers else None) (λ (x : Chronicle). x ≡ d) later e) later d (sym s.role ∙ role)
                 (subst (λ (b : Bool). UnlessFull now (if b then Some happening.Offers else None) (λ (x : Chronicle). x ≡ d) later d) (sym fits') refl),
             rw is (stands_advertising stream start base later d (aside (Offers info) now start.at later refl) p r old.generator (advertising_rows.Offered info) tt gains same refl refl p.generator),
-            record { newer = []; text = append-nil (text later); outs = sym (append-nil (happenings outs)) },
+            record { newer = []; told = append-nil (items later); outs = sym (append-nil (happenings outs)) },
           );
     }
 
@@ -112,7 +112,7 @@ module _ {R A : Type 0} (stream : R → Stream) (old new : Node R A) (now : ℕ)
             at_router now start.role (λ (e : Chronicle). UnlessFull now (if room then None else Some happening.StaticRoutes) (λ (x : Chronicle). x ≡ d) later e) later d (sym s.role ∙ role)
                 (subst (λ (b : Bool). UnlessFull now (if b then None else Some happening.StaticRoutes) (λ (x : Chronicle). x ≡ d) later d) fits' refl),
             rw is (stands_routes stream start base later d (aside (PutsRoute prefix route) now start.at later refl) p r (route_rows.RoutePut prefix route) same gains refl refl refl),
-            record { newer = []; text = append-nil (text later); outs = sym (append-nil (happenings outs)) },
+            record { newer = []; told = append-nil (items later); outs = sym (append-nil (happenings outs)) },
           );
     }
 
@@ -165,11 +165,11 @@ end_is_quiet start at true (Some message) c now = sent_is_quiet at _ c now
 end_is_quiet start at true None c now = quiet_same c
 end_is_quiet start at false message c now = quiet_same c
 
-text_of_end : (start : Start) (at : ℕ) (tells : Bool) (message : Option Parts) (c : Chronicle)
-    → text (telling_end start at tells message c) ≡ text c ++ flat_map lines_of (at_moment at (told_end tells (option_map (router_advertisement_frame start.mac (link_local start)) message)))
-text_of_end start at true (Some message) c = one (text c) (lines_of (at, Sent (router_advertisement_frame start.mac (link_local start) message)))
-text_of_end start at true None c = sym (append-nil (text c))
-text_of_end start at false message c = sym (append-nil (text c))
+items_of_end : (start : Start) (at : ℕ) (tells : Bool) (message : Option Parts) (c : Chronicle)
+    → items (telling_end start at tells message c) ≡ items c ++ flat_map items_at (at_moment at (told_end tells (option_map (router_advertisement_frame start.mac (link_local start)) message)))
+items_of_end start at true (Some message) c = one (items c) (items_at (at, Sent (router_advertisement_frame start.mac (link_local start) message)))
+items_of_end start at true None c = sym (append-nil (items c))
+items_of_end start at false message c = sym (append-nil (items c))
 
 pub ceases : {R A : Type 0} (stream : R → Stream) (old new : Node R A) (now : ℕ) → now < next_of old → old.role ≡ Router → (r : RouterTables A) → new ≡ record old { last = now; router = r } → (x y : List (ℕ × Out A))
     → (own : Addr) → ((start : Start) → old.addresses.mac ≡ start.mac → own ≡ link_local start) → (made : Option (List ℕ))
@@ -197,10 +197,10 @@ ceases {R} {A} stream old new now settled role r is x y own own_is made made_is 
             (stands_advertising stream start base later row (aside Ceases now start.at later refl) p r old.generator (advertising_rows.Ceased now) refl gains same refl refl p.generator)),
         record {
           newer = at_moment now newer;
-          text = text_of_end start now (tells_its_end history) message row
-              ∙ (ap (λ (t : List ℕ). t ++ flat_map lines_of (at_moment now (told_end (tells_its_end history) (option_map (router_advertisement_frame start.mac (link_local start)) message))))
-              (append-nil (text later) ∙ append-nil (text c))
-              ∙ ap (λ (l : List Happening). text c ++ flat_map lines_of (at_moment now l)) (sym those));
+          told = items_of_end start now (tells_its_end history) message row
+              ∙ (ap (λ (t : List (ℕ × Told)). t ++ flat_map items_at (at_moment now (told_end (tells_its_end history) (option_map (router_advertisement_frame start.mac (link_local start)) message))))
+              (append-nil (items later) ∙ append-nil (items c))
+              ∙ ap (λ (l : List Happening). items c ++ flat_map items_at (at_moment now l)) (sym those));
           outs = told;
         },
       );

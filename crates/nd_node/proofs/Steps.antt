@@ -7,7 +7,7 @@ use Rattle.nd_chronicle.specs.Start.{Start}
 use Rattle.nd_chronicle.specs.Happening.{Chronicle, Passed, Shown, TooLate, last_moment}
 use Rattle.nd_chronicle.specs.Shown as shown
 use Rattle.nd_chronicle.specs.Shown.{AreRows}
-use Rattle.nd_chronicle.specs.Told.{lines_of, text}
+use Rattle.nd_chronicle.specs.Told.{items_at, items}
 use Rattle.nd_chronicle.specs.Due.{comes}
 use Rattle.nd_chronicle.specs.Event as events
 use Rattle.nd_chronicle.specs.Event.{EventAdds}
@@ -96,7 +96,7 @@ passing stream old new outs now settled is = record {
     (now, Passed) ∷ c,
     refl,
     passed stream start old new c now s le settled is,
-    record { newer = []; text = refl; outs = sym (append-nil _) },
+    record { newer = []; told = refl; outs = sym (append-nil _) },
   );
 }
 
@@ -112,7 +112,7 @@ showing stream old new x y now table rows out out_is are settled is told = recor
         stands_quiet stream start new _ _ (shown_is_quiet now rows _ (λ at. refl)) later,
         record {
           newer = (now, Shown rows) ∷ [];
-          text = above_silent (text c) (lines_of (now, Shown rows));
+          told = above_silent (items c) (items_at (now, Shown rows));
           outs = one_more x y now out told ∙ ap (λ h. happenings x ++ (now, h) ∷ []) out_is;
         },
       );
@@ -159,7 +159,7 @@ too_late stream node x y now event out out_is lt told = record {
         stands_quiet stream start node _ _ (too_late_is_quiet now last c) s,
         record {
           newer = (now, TooLate last) ∷ [];
-          text = one (text c) (lines_of (now, TooLate last));
+          told = one (items c) (items_at (now, TooLate last));
           outs = one_more x y now out told ∙ ap (λ h. happenings x ++ (now, h) ∷ []) (out_is ∙ ap TooLate s.last);
         },
       );

@@ -16,7 +16,7 @@ use Rattle.nd_chronicle.specs.Happening.{Chronicle, Happening, Passed, Heard, Re
 use Rattle.nd_chronicle.specs.Histories.{neighbour_history, said_of_neighbour}
 use Rattle.nd_chronicle.specs.Full.{entering, needs, Placed, AdvertisementFills}
 use Rattle.nd_chronicle.specs.RouterAdvertisement.{then_advertised}
-use Rattle.nd_chronicle.specs.Told.{lines_of, text}
+use Rattle.nd_chronicle.specs.Told.{Told, items_at, items}
 use Rattle.nd_out.specs.declared.out.Out.{Out}
 use Rattle.nd_out.specs.declared.out.Out.TheVariants as outs
 use Rattle.nd_out.specs.Out.{happening}
@@ -49,11 +49,11 @@ refused_is_quiet at refusal c now = record {
 }
 
 -- one is handed out, which is told as this
-tells_one : {A : Type 0} (c : Chronicle) (now : ℕ) (told_is what : Happening) (x y : List (ℕ × Out A)) (out : Out A) → happening out ≡ told_is → lines_of (now, what) ≡ lines_of (now, told_is) → y ≡ x ++ (now, out) ∷ []
+tells_one : {A : Type 0} (c : Chronicle) (now : ℕ) (told_is what : Happening) (x y : List (ℕ × Out A)) (out : Out A) → happening out ≡ told_is → items_at (now, what) ≡ items_at (now, told_is) → y ≡ x ++ (now, out) ∷ []
     → Tells c ((now, what) ∷ (now, Passed) ∷ c) x y
 tells_one c now told_is what x y out out_is same is = record {
   newer = (now, told_is) ∷ [];
-  text = ap (λ (l : List ℕ). (text c ++ []) ++ l) same ∙ above_silent (text c) (lines_of (now, told_is));
+  told = ap (λ (l : List (ℕ × Told)). (items c ++ []) ++ l) same ∙ above_silent (items c) (items_at (now, told_is));
   outs = ap told.happenings is ∙ (sym (append-nil _) ∙ (handed_out x now out [] ∙ ap (λ (h : Happening). told.happenings x ++ (now, h) ∷ []) out_is));
 }
 

@@ -23,7 +23,7 @@ use Rattle.nd_effects.specs.Router.{advertised, frame_of, next_advertisement}
 use Rattle.nd_effects.specs.Told.{advertised_by, told_of, at_moment, happenings}
 use Rattle.nd_effects.proofs.RouterSide.{advertisement_date, due_has_settings}
 use Rattle.nd_effects.proofs.Quiet.{losing_is_quiet}
-use Rattle.nd_effects.proofs.Telling.{text_of, Tells-same, Tells-then}
+use Rattle.nd_effects.proofs.Telling.{due_items, Tells-same, Tells-then}
 use Rattle.nd_node.specs.declared.node.Node.{Node}
 use Rattle.nd_node.specs.Node.{Stands, NextDue}
 use Rattle.nd_node.specs.Time.{Leads, Comes, Passes, Onward}
@@ -81,7 +81,7 @@ turn_leads stream old new x y now what own made due stands own_is by_history tol
         n,
         record {
           newer = at_moment now (told_of start.mac (link_local start) (advertised start c) what);
-          text = text_of start c now what;
+          told = due_items start c now what;
           outs = told ∙ (ap (λ mac. happenings x ++ at_moment now (told_of mac own (advertised_by made) what)) n.mac
               ∙ (ap (λ (a : Addr). happenings x ++ at_moment now (told_of start.mac a (advertised_by made) what)) own'
               ∙ ap (λ (l : List Happening). happenings x ++ at_moment now l)

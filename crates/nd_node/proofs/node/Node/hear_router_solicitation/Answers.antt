@@ -6,7 +6,7 @@ use Rattle.nd_neighbour.specs.declared.news.Times.{Times}
 use Rattle.nd_chronicle.specs.Full.{entering, Placed}
 use Rattle.nd_effects.specs.LinkLayerAddress.{said_by}
 use Rattle.nd_decode.specs.declared.body.Body.TheVariants as bodies
-use Rattle.nd_node.proofs.PlainMessages.{adds_message, message_refused, plain_solicitation, planned, stands_planned, text_planned}
+use Rattle.nd_node.proofs.PlainMessages.{adds_message, items_planned, message_refused, plain_solicitation, planned, stands_planned}
 use Rattle.nd_node.proofs.node.Node.hear_router_solicitation.Goals as goal
 
 pub returns-then-not-has_place-clause-adds : goal.returns-then-not-has_place-clause-adds
@@ -27,4 +27,4 @@ returns-clause-adds g c =
     refl refl
     (λ start c' s. subst (λ (b : Bool). Placed start c' c.args.now (entering (option_map (said_by times) c.news_of-news.result)) b) c.if-not-has_place.false (c.has_place.ensures.placed start c' times s.neighbour_limit s.neighbours))
     c.reserve.ensures.items c.push_reserved.ensures.items refl (λ history h. h) c.hear_of_neighbour.ensures.hears
-    (λ start before d same at s. stands_planned g.R.Rng.stream start (record c.args.self.now { last = c.args.now; neighbours = c.hear_of_neighbour.new.neighbours }) _ before d c.args.now c.hear_solicitation.new.self c.hear_solicitation.new.generator refl same c.hear_solicitation.ensures at s) (text_planned c.args.now)
+    (λ start before d same at s. stands_planned g.R.Rng.stream start (record c.args.self.now { last = c.args.now; neighbours = c.hear_of_neighbour.new.neighbours }) _ before d c.args.now c.hear_solicitation.new.self c.hear_solicitation.new.generator refl same c.hear_solicitation.ensures at s) (items_planned c.args.now)
