@@ -18,6 +18,7 @@ use Rattle.nd_chronicle.specs.Told.{text}
 use Rattle.nd_out.specs.declared.out.Out.{Out}
 use Rattle.nd_out.specs.Out.{told, happening}
 use Rattle.nd_effects.specs.Told.{happenings}
+use Rattle.nd_effects.proofs.Reading.{Tells-text}
 use Rattle.nd_node.specs.declared.node.Node.{Node}
 use Rattle.nd_node.specs.Event.{FollowsBy}
 use Rattle.nd_node.specs.Node.{Stands}
@@ -48,7 +49,7 @@ event_answered stream old new at event outs before after leads written = record 
   written = written;
   each = λ start c s.
       let l = leads.each start c s in
-      (l.0, l.1, l.2, l.3.text ∙ ap (λ t. text c ++ t) (ap (flat_map chronicle.lines_of) (sym l.3.outs) ∙ sym (told_is outs)));
+      (l.0, l.1, l.2, Tells-text c l.0 [] outs l.3 ∙ ap (λ t. text c ++ t) (ap (flat_map chronicle.lines_of) (sym l.3.outs) ∙ sym (told_is outs)));
 }
 
 -- a line that says an event comes before what later lines say
