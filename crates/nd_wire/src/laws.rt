@@ -1,0 +1,17 @@
+//! What is true of all frames.
+
+ghost use Rattle.nd_wire.specs.Wire.{IsFaithful};
+
+use crate::failing_wire::FailingWire;
+use crate::memory_wire::MemoryWire;
+use crate::wire::Wire;
+
+/// Over memory each frame arrives as it was sent.
+pub fn memory_is_faithful()
+    ensures { IsFaithful ⟦<MemoryWire as Wire>⟧.arrives }
+{}
+
+/// One call that fails changes no frame that arrives.
+pub fn failing_is_faithful<W: Wire>()
+    ensures { IsFaithful W.arrives → IsFaithful ⟦<FailingWire<W> as Wire>⟧.arrives }
+{}

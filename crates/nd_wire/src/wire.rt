@@ -1,0 +1,39 @@
+//! What every wire owes.
+
+ghost use Rattle.std.specs.Prelude.{◌≡◌, ◌≤◌, [], ℕ, List, length, OnOk, OnErr, vec_capacity};
+ghost use Rattle.nd_io.specs.Counts.{HasRisen};
+
+use std::alloc::Allocator;
+
+/// A frame that was not carried: a call of the system failed, or what arrived can't be what was sent. Which it was a wire
+/// doesn't tell; it counts it.
+#[derive(Clone, Copy, Debug, PartialEq, Eq)]
+pub struct WireFault;
+
+/// What carries one frame after the other to nodes, and counts how often it failed (this project's own).
+pub trait Wire {
+    /// Which bytes may arrive where a frame is sent: first the frame, then what arrives.
+    ghost arrives: { List ℕ → List ℕ → Type 0 };
+
+    /// How many calls failed so far, up to the greatest number of 64 bits.
+    ghost failed: { Self → ℕ };
+
+    /// Carries a frame to the node of a number. What arrives is put into an empty vector with room for the frame: it
+    /// is no longer, so a wire asks for no memory that could be refused. The one error is `WireFault`, and it is counted.
+    fn carry<A: Allocator>(
+        &mut self,
+        to: usize,
+        frame: &[u8],
+        into: &mut Vec<u8, A>,
+    ) -> Result<(), WireFault>
+        requires empty { into.old.items ≡ [] }
+        requires room { length frame.now ≤ vec_capacity into.old }
+        ensures arrives { OnOk result (arrives frame.now into.new.items) }
+        ensures length { OnOk result (length into.new.items ≤ length frame.now) }
+        ensures fault { OnErr result (HasRisen (failed self.old) (failed self.new)) }
+        ensures never_falls { failed self.old ≤ failed self.new };
+
+    /// How many calls failed, up to the greatest number of 64 bits.
+    fn failures(&self) -> u64
+        ensures { result ≡ failed self.now };
+}
