@@ -4,10 +4,12 @@
 mod failing_wire;
 pub mod laws;
 mod memory_wire;
+mod udp_wire;
 mod wire;
 
 pub use failing_wire::FailingWire;
 pub use memory_wire::MemoryWire;
+pub use udp_wire::UdpWire;
 pub use wire::{Wire, WireFault};
 
 #[cfg(test)]
