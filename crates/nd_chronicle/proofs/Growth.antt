@@ -201,7 +201,7 @@ goes_grows : (start : Start) (c : Chronicle) (at key : ℕ) (packet : List ℕ) 
 goes_grows start c at key packet d g = grows_to (packet_grows at start key _ packet _ g.placed (place_grows start c at key true g.placed g.place)) g.goes
 
 -- what falls due adds rows of its moment
-comes_grows : (at : ℕ) (start : Start) (what : What) (c : Chronicle) → Grows c (comes start at what c)
+pub comes_grows : (at : ℕ) (start : Start) (what : What) (c : Chronicle) → Grows c (comes start at what c)
 comes_grows at start (RouterEnds key) c = grows (grows_by {at = at} _ refl (stays at c))
 comes_grows at start (AddressFalls (addresses_due.Ends key)) c = grows (grows_by {at = at} _ refl (stays at c))
 comes_grows at start (AddressFalls (addresses_due.Solicits key)) c =

@@ -67,7 +67,7 @@ module _ (now : ℕ) (log : Log) where
   kept_passing Bytes (suc k) le g =
       kept_with Bytes now k ((now, Passed) ∷ []) (passing now k log) (refl, tt) (ap is_some (start_passing k k) ∙ is_there k log g.numbered (omega (arith, le))) (kept_passing Bytes k (omega (arith, le)) g)
 
-  still : (k i : ℕ) → k ≤ i → chronicle_of i (passing now k log) ≡ chronicle_of i log
+  pub still : (k i : ℕ) → k ≤ i → chronicle_of i (passing now k log) ≡ chronicle_of i log
   still zero i le = refl
   still (suc k) i le = by (k == i) refl (still k i (omega (arith, le)))
     where

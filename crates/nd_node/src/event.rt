@@ -115,8 +115,9 @@ impl<R: Rng + Drop, A: Allocator + Clone> Node<R, A> {
         Ok(())
     }
 
-    /// What an event adds, once all that is due up to it is done. The error is want of memory, and then nothing has happened.
-    fn add(
+    /// What an event adds, once all that is due up to it is done: a link, whose nodes take their turns together, asks for it. The error is
+    /// want of memory, and then nothing has happened.
+    pub fn add(
         &mut self,
         now: u64,
         event: &Event<A>,
