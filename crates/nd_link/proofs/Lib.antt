@@ -1,0 +1,11 @@
+pub mod Lists
+pub mod Telling
+pub mod FirstNode
+pub mod Standing
+pub mod Walks
+pub mod Turning
+pub mod Passage
+pub mod Arriving
+pub mod Starting
+pub mod Sending
+pub mod Answering

@@ -1,0 +1,13 @@
+use Rattle.std.proofs.Common.{◌<◌, length, subst, arith}
+use Rattle.nd_link.proofs.Lists.{get_is}
+use Rattle.nd_link.proofs.link.Link.carried.Goals as goal
+
+pub returns-clause-arrives : goal.returns-clause-arrives
+returns-clause-arrives g c =
+    let ok = c.args.self.now.frames.ok.0 in
+    let there = c.requires.there in
+    let within : c.args.sent < length c.args.self.now.frames.items = omega (arith, ok, there) in record {
+      sent = c.index.result.now;
+      is = get_is c.args.self.now.frames.items c.args.sent c.index.result.now within c.index.ensures;
+      arrived = subst (λ frame. g.W.Wire.arrives frame c.carry.new.into.items) c.deref.ensures.value c.in_ok-carry.ensures.arrives;
+    }

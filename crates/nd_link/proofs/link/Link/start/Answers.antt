@@ -1,0 +1,13 @@
+use Rattle.std.proofs.Common.{◌<◌, length, refl, arith}
+use Rattle.nd_link_log.specs.Event.{max_nodes}
+use Rattle.nd_link.proofs.Answering.{start_leads}
+use Rattle.nd_link.proofs.link.Link.start.Goals as goal
+
+pub returns-clause-leads : goal.returns-clause-leads
+returns-clause-leads g c =
+    let ok = c.args.self.now.nodes.ok.0 in
+    let few = c.args.self.now.few in
+    let e = c.len.ensures in
+    let ne = c.if-len-eq-MAX_NODES.false in
+    let less : length c.args.self.now.nodes.items < max_nodes = omega (arith, ok, few, e, ne) in
+    start_leads g.R.Rng.stream c.args.self.now c.reach.new.self _ c.args.told.now.items c.in-Ok.node c.args.now c.args.role c.args.mac (g.R.Rng.stream c.args.generator) less c.in_ok-reach.ensures.reaches c.in-Ok.ensures.stands c.in_ok-push.ensures.items refl refl

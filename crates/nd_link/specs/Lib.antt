@@ -1,0 +1,10 @@
+pub mod Event
+pub mod Told
+pub mod Frames
+pub mod Due
+pub mod Link
+pub mod Passing
+pub mod Arrival
+pub mod Time
+pub mod Run
+pub mod Delivery

@@ -1,0 +1,84 @@
+ghost use Rattle.std.specs.Prelude.{◌≡◌, ◌≢◌, ◌^◌, ◌<◌, ◌≤◌, ℕ, List, OnErr, OnOk, Option, vec_len};
+ghost use Rattle.nd_node.specs.Event.{event_of};
+ghost use Rattle.nd_link_log.specs.Log.{Log};
+ghost use Rattle.nd_link_log.specs.Event as links;
+ghost use Rattle.nd_link.specs.Arrival.{Arrives, Happens, IsRefused, reached};
+ghost use Rattle.nd_link.specs.Due.{AreSettled};
+ghost use Rattle.nd_link.specs.Link.{Stands};
+ghost use Rattle.nd_link.specs.Time.{Leads};
+ghost use Rattle.nd_link.specs.Told.{refusal_of};
+
+use crate::frames::keep_frames;
+use crate::link::{Link, MAX_NODES};
+use crate::passing::pass_others;
+use crate::refusal::Refusal;
+use crate::told::{Told, tell, tell_refused};
+use nd_addr::{Mac, Role};
+use nd_node::{Event, Node};
+use rand_core::Rng;
+use std::alloc::{AllocError, Allocator};
+
+impl<W, R: Rng + Drop, A: Allocator + Copy> Link<W, R, A> {
+    /// Time passes up to a moment at all nodes. The error is want of memory.
+    pub(crate) fn reach(&mut self, now: u64) -> Result<(), AllocError>
+        requires moment { now < 2 ^ 62 }
+        requires settled { AreSettled now self.old.nodes.items }
+        requires in_time { self.old.last ≤ now }
+        ensures reaches { OnOk result ((log : Log) → Stands R.stream self.old log → Stands R.stream self.new (reached now log)) }
+        ensures count { vec_len self.new.nodes ≡ vec_len self.old.nodes }
+        ensures wire { self.new.wire ≡ self.old.wire }
+        ensures spent { self.new.spent ≡ self.old.spent }
+    {
+        let none = self.nodes.len();
+        pass_others(&mut self.nodes, self.alloc, now, none)?;
+        self.last = now;
+        Ok(())
+    }
+
+    /// The link refuses an event. The error is want of memory, and then nothing is told.
+    pub(crate) fn refuse(
+        &mut self,
+        now: u64,
+        why: Refusal,
+        told: &mut Vec<Told<A>, A>,
+    ) -> Result<(), AllocError>
+        requires moment { now < 2 ^ 62 }
+        requires settled { AreSettled now self.old.nodes.items }
+        requires in_time { self.old.last ≤ now }
+        requires not_late { (last : ℕ) → why ≢ Refusal.TooLate last }
+        ensures leads { OnOk result (Leads R.stream self.old self.new told.old.items told.new.items (IsRefused now (refusal_of why))) }
+        ensures told { OnErr result (told.new.items ≡ told.old.items) }
+        ensures wire { self.new.wire ≡ self.old.wire }
+        ensures spent { self.new.spent ≡ self.old.spent }
+    {
+        self.reach(now)?;
+        tell_refused(told, now, why)
+    }
+
+    /// An event comes to a node that is there. The error is want of memory, and then nothing is told.
+    pub(crate) fn arrive(
+        &mut self,
+        now: u64,
+        place: usize,
+        event: &Event<A>,
+        told: &mut Vec<Told<A>, A>,
+    ) -> Result<(), AllocError>
+        requires moment { now < 2 ^ 62 }
+        requires settled { AreSettled now self.old.nodes.items }
+        requires in_time { self.old.last ≤ now }
+        requires there { place < vec_len self.old.nodes }
+        ensures leads { OnOk result ((carried : Option ℕ) → Leads R.stream self.old self.new told.old.items told.new.items (Arrives now place (event_of event.now) carried)) }
+        ensures told { OnErr result (told.new.items ≡ told.old.items) }
+        ensures wire { self.new.wire ≡ self.old.wire }
+        ensures spent { self.new.spent ≡ self.old.spent }
+    {
+        pass_others(&mut self.nodes, self.alloc, now, place)?;
+        let mut outs = Vec::new(self.alloc);
+        let node = &mut self.nodes[place];
+        node.add(now, event, &mut outs)?;
+        keep_frames(&mut self.frames, self.alloc, place, &outs)?;
+        tell(told, place, outs)?;
+        self.last = now;
+        Ok(())
+    }
+}

@@ -1,0 +1,126 @@
+ghost use Rattle.std.specs.Prelude.{◌≡◌, ◌^◌, ◌<◌, ◌≤◌, IfNone, IfOk, IfSome, IsErrOf, OnErr, OnOk, vec_len};
+ghost use Rattle.nd_io.specs.Counts.{HasRisen};
+ghost use Rattle.nd_node.specs.Event.{event_of};
+ghost use Rattle.nd_wire.specs.Wire.{IsFaithful};
+ghost use Rattle.nd_link_log.specs.Log.{Log};
+ghost use Rattle.nd_link_log.specs.Event.{Comes, Delivers};
+ghost use Rattle.nd_link.specs.Arrival.{Happens};
+ghost use Rattle.nd_link.specs.Delivery.{IsWay};
+ghost use Rattle.nd_link.specs.Due.{AreSettled};
+ghost use Rattle.nd_link.specs.Frames.{Arrived};
+ghost use Rattle.nd_link.specs.Link.{Stands};
+ghost use Rattle.nd_link.specs.Time.{Leads};
+
+use crate::fault::LinkFault;
+use crate::frames::SentFrame;
+use crate::link::Link;
+use crate::refusal::Refusal;
+use crate::told::Told;
+use nd_node::Event;
+use nd_wire::Wire;
+use rand_core::Rng;
+use std::alloc::{AllocError, Allocator};
+
+impl<W, R: Rng + Drop, A: Allocator + Copy> Link<W, R, A> {
+    /// An event comes to a node, if that is there. The error is want of memory, and then nothing is told.
+    pub(crate) fn come(
+        &mut self,
+        now: u64,
+        node: u64,
+        event: &Event<A>,
+        told: &mut Vec<Told<A>, A>,
+    ) -> Result<(), AllocError>
+        requires moment { now < 2 ^ 62 }
+        requires settled { AreSettled now self.old.nodes.items }
+        requires in_time { self.old.last ≤ now }
+        ensures leads { OnOk result (Leads R.stream self.old self.new told.old.items told.new.items (Happens now (Comes node (event_of event.now)))) }
+        ensures told { OnErr result (told.new.items ≡ told.old.items) }
+        ensures wire { self.new.wire ≡ self.old.wire }
+        ensures spent { self.new.spent ≡ self.old.spent }
+    {
+        match place_of(node, self.nodes.len()) {
+            Some(place) => self.arrive(now, place, event, told),
+            None => self.refuse(now, Refusal::NoNode, told),
+        }
+    }
+}
+
+impl<W: Wire, R: Rng + Drop, A: Allocator + Copy> Link<W, R, A> {
+    /// A frame is carried to a node, if both are there and the node isn't its sender. Where an error comes, nothing is told; where it is the
+    /// wire's, the receiver has heard nothing.
+    pub(crate) fn deliver(
+        &mut self,
+        now: u64,
+        node: u64,
+        number: u64,
+        told: &mut Vec<Told<A>, A>,
+    ) -> Result<(), LinkFault>
+        requires moment { now < 2 ^ 62 }
+        requires settled { AreSettled now self.old.nodes.items }
+        requires in_time { self.old.last ≤ now }
+        ensures leads { IsFaithful W.arrives → OnOk result (Leads R.stream self.old self.new told.old.items told.new.items (Happens now (Delivers node number))) }
+        ensures told { OnErr result (told.new.items ≡ told.old.items) }
+        ensures stands { IsErrOf result LinkFault.Wire → (log : Log) → Stands R.stream self.old log → Stands R.stream self.new log }
+        ensures fault { IsErrOf result LinkFault.Wire → HasRisen (W.failed self.old.wire) (W.failed self.new.wire) }
+        ensures never_falls { W.failed self.old.wire ≤ W.failed self.new.wire }
+        ensures spent { self.new.spent ≡ self.old.spent }
+    {
+        match way(node, number, self.nodes.len(), &self.frames) {
+            Ok((place, sent)) => {
+                let frame = self.carried(place, sent)?;
+                Ok(self.arrive(now, place, &Event::Receives(frame), told)?)
+            }
+            Err(why) => Ok(self.refuse(now, why, told)?),
+        }
+    }
+
+    /// What arrives at a node of a frame that was sent.
+    fn carried(&mut self, to: usize, sent: usize) -> Result<Vec<u8, A>, LinkFault>
+        requires there { sent < vec_len self.old.frames }
+        ensures arrives { IfOk result (λ frame. Arrived W.arrives self.old.frames.items sent frame.items) }
+        ensures same { self.new.nodes ≡ self.old.nodes }
+        ensures frames { self.new.frames ≡ self.old.frames }
+        ensures last { self.new.last ≡ self.old.last }
+        ensures spent { self.new.spent ≡ self.old.spent }
+        ensures fault { IsErrOf result LinkFault.Wire → HasRisen (W.failed self.old.wire) (W.failed self.new.wire) }
+        ensures never_falls { W.failed self.old.wire ≤ W.failed self.new.wire }
+    {
+        let sent = &self.frames[sent].frame;
+        let mut frame = Vec::with_capacity(self.alloc, sent.len())?;
+        self.wire.carry(to, sent, &mut frame)?;
+        Ok(frame)
+    }
+}
+
+/// The places of the node and of the frame that a delivery names, or the first reason why it is refused.
+fn way<A: Allocator>(
+    node: u64,
+    number: u64,
+    nodes: usize,
+    frames: &[SentFrame<A>],
+) -> Result<(usize, usize), Refusal>
+    ensures { IsWay nodes frames.now node number result }
+{
+    let Some(place) = place_of(node, nodes) else {
+        return Err(Refusal::NoNode);
+    };
+    let Some(sent) = place_of(number, frames.len()) else {
+        return Err(Refusal::NoFrame);
+    };
+    if frames[sent].sender == place {
+        return Err(Refusal::Own);
+    }
+    Ok((place, sent))
+}
+
+/// The place that a number names among so many.
+fn place_of(number: u64, count: usize) -> Option<usize>
+    ensures some { IfSome result (λ place. (place ≡ number) × (place < count)) }
+    ensures none { IfNone result (count ≤ number) }
+{
+    if number < count as u64 {
+        Some(number as usize)
+    } else {
+        None
+    }
+}

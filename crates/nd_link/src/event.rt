@@ -1,0 +1,115 @@
+ghost use Rattle.std.specs.Prelude.{◌≡◌, ◌≤◌, ◌<◌, ◌^◌, Err, IsErrOf, OnErr, OnOk, true};
+ghost use Rattle.nd_io.specs.Counts.{HasRisen};
+ghost use Rattle.nd_wire.specs.Wire.{IsFaithful};
+ghost use Rattle.nd_link_log.specs.Log.{Log};
+ghost use Rattle.nd_link.specs.Arrival.{Happens};
+ghost use Rattle.nd_link.specs.Due.{AreSettled};
+ghost use Rattle.nd_link.specs.Event.{link_event};
+ghost use Rattle.nd_link.specs.Link.{Stands};
+ghost use Rattle.nd_link.specs.Run.{FollowsBy};
+ghost use Rattle.nd_link.specs.Time.{Leads, Onward, TellsOf};
+
+use crate::fault::LinkFault;
+use crate::link::Link;
+use crate::refusal::Refusal;
+use crate::told::{Told, tell_refused};
+use nd_addr::{Mac, Role};
+use nd_node::Event;
+use nd_wire::Wire;
+use rand_core::Rng;
+use std::alloc::Allocator;
+
+/// What comes to a link from outside.
+#[derive(Drop)]
+pub enum LinkEvent<R, A: Allocator> {
+    /// Time passes.
+    Passes,
+    /// Another node starts, with its role, its link-layer address and the generator of its random words, which it keeps.
+    Starts(Role, Mac, R),
+    /// An event comes to a node, by its number.
+    Comes(u64, Event<A>),
+    /// A frame is carried to a node: the number of the node, and that of the frame.
+    Delivers(u64, u64),
+}
+
+impl<W: Wire, R: Rng + Drop, A: Allocator + Copy> Link<W, R, A> {
+    /// An event comes at a moment, in milliseconds. All that is due up to it comes first, its own millisecond included, at the node of the
+    /// least number where several have something due; then it adds what it adds. One that comes too late is refused alone. What happened is
+    /// told at the end.
+    ///
+    /// Where memory is refused the link is spent. Where its wire fails, all that was due has come, and nothing else.
+    pub fn event(
+        &mut self,
+        now: u64,
+        event: LinkEvent<R, A>,
+        told: &mut Vec<Told<A>, A>,
+    ) -> Result<(), LinkFault>
+        requires { now < 2 ^ 62 }
+        ensures follows { IsFaithful W.arrives → OnOk result (Leads R.stream self.old self.new told.old.items told.new.items (FollowsBy now (link_event R.stream event))) }
+        ensures told { OnErr result (TellsOf R.stream self.old told.old.items told.new.items (Onward now)) }
+        ensures onward { IsErrOf result LinkFault.Wire → Leads R.stream self.old self.new told.old.items told.new.items (Onward now) }
+        ensures wire_failed { IsErrOf result LinkFault.Wire → HasRisen (W.failed self.old.wire) (W.failed self.new.wire) }
+        ensures never_falls { W.failed self.old.wire ≤ W.failed self.new.wire }
+        ensures spent { IsErrOf result LinkFault.Memory → self.new.spent ≡ true }
+        ensures stays_spent { self.old.spent ≡ true → result ≡ Err LinkFault.Memory }
+    {
+        if self.spent {
+            return Err(LinkFault::Memory);
+        }
+        let answer = self.answer(now, event, told);
+        if answer == Err(LinkFault::Memory) {
+            self.spent = true;
+        }
+        answer
+    }
+
+    /// The same, but that the link isn't spent by want of memory.
+    fn answer(
+        &mut self,
+        now: u64,
+        event: LinkEvent<R, A>,
+        told: &mut Vec<Told<A>, A>,
+    ) -> Result<(), LinkFault>
+        requires { now < 2 ^ 62 }
+        ensures follows { IsFaithful W.arrives → OnOk result (Leads R.stream self.old self.new told.old.items told.new.items (FollowsBy now (link_event R.stream event))) }
+        ensures told { OnErr result (TellsOf R.stream self.old told.old.items told.new.items (Onward now)) }
+        ensures onward { IsErrOf result LinkFault.Wire → Leads R.stream self.old self.new told.old.items told.new.items (Onward now) }
+        ensures wire_failed { IsErrOf result LinkFault.Wire → HasRisen (W.failed self.old.wire) (W.failed self.new.wire) }
+        ensures never_falls { W.failed self.old.wire ≤ W.failed self.new.wire }
+        ensures spent { self.new.spent ≡ self.old.spent }
+    {
+        if now < self.last {
+            tell_refused(told, now, Refusal::TooLate(self.last))?;
+            return Ok(());
+        }
+        self.settle(now, told)?;
+        self.add(now, event, told)
+    }
+
+    /// What an event adds, once all that is due up to it is done. Where an error comes, nothing is told.
+    fn add(
+        &mut self,
+        now: u64,
+        event: LinkEvent<R, A>,
+        told: &mut Vec<Told<A>, A>,
+    ) -> Result<(), LinkFault>
+        requires moment { now < 2 ^ 62 }
+        requires settled { AreSettled now self.old.nodes.items }
+        requires in_time { self.old.last ≤ now }
+        ensures leads { IsFaithful W.arrives → OnOk result (Leads R.stream self.old self.new told.old.items told.new.items (Happens now (link_event R.stream event))) }
+        ensures told { OnErr result (told.new.items ≡ told.old.items) }
+        ensures stands { IsErrOf result LinkFault.Wire → (log : Log) → Stands R.stream self.old log → Stands R.stream self.new log }
+        ensures fault { IsErrOf result LinkFault.Wire → HasRisen (W.failed self.old.wire) (W.failed self.new.wire) }
+        ensures never_falls { W.failed self.old.wire ≤ W.failed self.new.wire }
+        ensures spent { self.new.spent ≡ self.old.spent }
+    {
+        match event {
+            LinkEvent::Passes => Ok(self.reach(now)?),
+            LinkEvent::Starts(role, mac, generator) => {
+                Ok(self.start(now, role, mac, generator, told)?)
+            }
+            LinkEvent::Comes(node, event) => Ok(self.come(now, node, &event, told)?),
+            LinkEvent::Delivers(node, number) => self.deliver(now, node, number, told),
+        }
+    }
+}

@@ -1,0 +1,48 @@
+ghost use Rattle.std.specs.Prelude.{◌≡◌, ◌++◌, OnOk};
+ghost use Rattle.nd_effects.specs.Told.{frame_sent, frames_in, happenings};
+ghost use Rattle.nd_out.specs.Out.{happening};
+ghost use Rattle.nd_link.specs.Frames.{kept_frames, of_sender};
+
+use nd_out::Out;
+use std::alloc::{AllocError, Allocator};
+
+/// A frame that a node of a link sent, by the number of the node.
+#[derive(Drop)]
+pub(crate) struct SentFrame<A: Allocator> {
+    pub(crate) sender: usize,
+    pub(crate) frame: Vec<u8, A>,
+}
+
+/// The frames among what a node tells are kept, each at the place of its number. The error is want of memory.
+pub(crate) fn keep_frames<A: Allocator + Copy>(
+    frames: &mut Vec<SentFrame<A>, A>,
+    alloc: A,
+    sender: usize,
+    outs: &[(u64, Out<A>)],
+) -> Result<(), AllocError>
+    ensures { OnOk result (kept_frames frames.new.items ≡ kept_frames frames.old.items ++ of_sender sender (frames_in (happenings outs.now))) }
+{
+    for (_, out) in outs {
+        keep_frame(frames, alloc, sender, out)?;
+    }
+    Ok(())
+}
+
+/// The same for one that may be a frame.
+fn keep_frame<A: Allocator + Copy>(
+    frames: &mut Vec<SentFrame<A>, A>,
+    alloc: A,
+    sender: usize,
+    out: &Out<A>,
+) -> Result<(), AllocError>
+    ensures { OnOk result (kept_frames frames.new.items ≡ kept_frames frames.old.items ++ of_sender sender (frame_sent (happening out.now))) }
+{
+    let Out::Frame(packet) = out else {
+        return Ok(());
+    };
+    let bytes = packet.as_bytes();
+    let mut frame = Vec::with_capacity(alloc, bytes.len())?;
+    frame.extend_from_slice(bytes)?;
+    frames.push(SentFrame { sender, frame })?;
+    Ok(())
+}

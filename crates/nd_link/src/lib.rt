@@ -1,0 +1,23 @@
+//! Nodes on one link that hear one another (RFC 4861, section 2.1): each event turns the nodes at which something is due, carries what it
+//! carries, and tells what happened, so that all of it is decided by the events alone.
+#![tactic(auto)]
+
+mod arrival;
+mod delivery;
+mod due;
+mod event;
+mod fault;
+mod frames;
+mod link;
+mod passing;
+mod refusal;
+mod start;
+mod told;
+mod turn;
+
+pub use event::LinkEvent;
+pub use fault::LinkFault;
+pub use link::{Link, MAX_NODES};
+pub use nd_wire::{FailingWire, MemoryWire, UdpWire, Wire, WireFault};
+pub use refusal::Refusal;
+pub use told::Told;

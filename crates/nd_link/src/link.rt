@@ -1,0 +1,55 @@
+ghost use Rattle.std.specs.Prelude.{◌≡◌, ◌≤◌, ◌<◌, ◌^◌, [], vec_len};
+ghost use Rattle.nd_link_log.specs.Event.{max_nodes};
+
+use crate::frames::SentFrame;
+use nd_node::Node;
+use nd_wire::Wire;
+use rand_core::Rng;
+use std::alloc::Allocator;
+
+/// How many nodes a link may have (our choice).
+pub const MAX_NODES: usize = 16;
+
+/// Nodes on one link, where the frames of each can be carried to the others (RFC 4861, section 2.1). Each moment that it takes is in
+/// milliseconds, and it starts at 0.
+#[derive(Drop)]
+pub struct Link<W, R, A: Allocator> {
+    pub(crate) alloc: A,
+    pub(crate) wire: W,
+    /// Each at the place of its number.
+    pub(crate) nodes: Vec<Node<R, A>, A>,
+    /// Each at the place of its number.
+    pub(crate) frames: Vec<SentFrame<A>, A>,
+    /// The moment up to which time has passed.
+    pub(crate) last: u64,
+    /// Whether memory was refused.
+    pub(crate) spent: bool,
+    ghost few: { vec_len nodes ≤ max_nodes },
+    ghost early: { last < 2 ^ 62 },
+}
+
+impl<W: Wire, R: Rng + Drop, A: Allocator + Copy> Link<W, R, A> {
+    ghost use Rattle.nd_link.specs.Link.{Stands};
+
+    /// A link on which no node has started.
+    pub fn new(alloc: A, wire: W) -> Self
+        ensures stands { Stands R.stream result [] }
+        ensures wire { result.wire ≡ wire }
+    {
+        Link {
+            alloc,
+            wire,
+            nodes: Vec::new(alloc),
+            frames: Vec::new(alloc),
+            last: 0,
+            spent: false,
+        }
+    }
+
+    /// How many calls of its wire failed, up to the greatest number of 64 bits.
+    pub fn failures(&self) -> u64
+        ensures { result ≡ W.failed self.now.wire }
+    {
+        self.wire.failures()
+    }
+}

@@ -1,0 +1,43 @@
+ghost use Rattle.std.specs.Prelude.{◌≡◌, ◌^◌, ◌<◌, ◌≤◌, OnErr, OnOk};
+ghost use Rattle.nd_link_log.specs.Event.{Starts};
+ghost use Rattle.nd_link.specs.Arrival.{Happens};
+ghost use Rattle.nd_link.specs.Due.{AreSettled};
+ghost use Rattle.nd_link.specs.Time.{Leads};
+
+use crate::link::{Link, MAX_NODES};
+use crate::refusal::Refusal;
+use crate::told::Told;
+use nd_addr::{Mac, Role};
+use nd_node::Node;
+use rand_core::Rng;
+use std::alloc::{AllocError, Allocator};
+
+impl<W, R: Rng + Drop, A: Allocator + Copy> Link<W, R, A> {
+    /// Another node starts, if there may be one more. The error is want of memory, and then nothing is told.
+    pub(crate) fn start(
+        &mut self,
+        now: u64,
+        role: Role,
+        mac: Mac,
+        generator: R,
+        told: &mut Vec<Told<A>, A>,
+    ) -> Result<(), AllocError>
+        requires moment { now < 2 ^ 62 }
+        requires settled { AreSettled now self.old.nodes.items }
+        requires in_time { self.old.last ≤ now }
+        ensures leads { OnOk result (Leads R.stream self.old self.new told.old.items told.new.items (Happens now (Starts role mac (R.stream generator)))) }
+        ensures told { OnErr result (told.new.items ≡ told.old.items) }
+        ensures wire { self.new.wire ≡ self.old.wire }
+        ensures spent { self.new.spent ≡ self.old.spent }
+    {
+        if self.nodes.len() == MAX_NODES {
+            return self.refuse(now, Refusal::Full, told);
+        }
+        let Ok(node) = Node::new(self.alloc, role, mac, now, generator) else {
+            return Err(AllocError);
+        };
+        self.reach(now)?;
+        self.nodes.push(node)?;
+        Ok(())
+    }
+}

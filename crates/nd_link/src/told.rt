@@ -1,0 +1,48 @@
+ghost use Rattle.std.specs.Prelude.{◌≡◌, OnErr, OnOk};
+ghost use Rattle.std.specs.List.{flat_map};
+ghost use Rattle.nd_effects.specs.Told.{happenings};
+ghost use Rattle.nd_link_log.specs.Log.{Refuses};
+ghost use Rattle.nd_link_log.specs.Told.{lines_of};
+ghost use Rattle.nd_link.specs.Told.{TellsLines, node_lines, refusal_of};
+
+use crate::refusal::Refusal;
+use nd_out::Out;
+use std::alloc::{AllocError, Allocator};
+
+/// What a link tells.
+#[derive(Drop)]
+pub enum Told<A: Allocator> {
+    /// What happened at a node, by its number, with the moments, in milliseconds, the oldest first.
+    Node(usize, Vec<(u64, Out<A>), A>),
+    /// The link refused an event that came at this moment, in milliseconds.
+    Refused(u64, Refusal),
+}
+
+/// What happened at a node goes to the end, if anything did. The error is want of memory, and then nothing is told.
+pub(crate) fn tell<A: Allocator>(
+    told: &mut Vec<Told<A>, A>,
+    node: usize,
+    outs: Vec<(u64, Out<A>), A>,
+) -> Result<(), AllocError>
+    ensures tells { OnOk result (TellsLines told.old.items told.new.items (flat_map (node_lines node) (happenings outs.items))) }
+    ensures same { OnErr result (told.new.items ≡ told.old.items) }
+{
+    if outs.is_empty() {
+        return Ok(());
+    }
+    told.push(Told::Node(node, outs))?;
+    Ok(())
+}
+
+/// A refusal goes to the end. The error is want of memory, and then nothing is told.
+pub(crate) fn tell_refused<A: Allocator>(
+    told: &mut Vec<Told<A>, A>,
+    at: u64,
+    why: Refusal,
+) -> Result<(), AllocError>
+    ensures tells { OnOk result (TellsLines told.old.items told.new.items (lines_of (Refuses at (refusal_of why)))) }
+    ensures same { OnErr result (told.new.items ≡ told.old.items) }
+{
+    told.push(Told::Refused(at, why))?;
+    Ok(())
+}

@@ -1,0 +1,55 @@
+ghost use Rattle.std.specs.Prelude.{◌≡◌, ℕ, ◌^◌, ◌<◌, ◌≤◌, OnOk, OnErr};
+ghost use Rattle.nd_link.specs.Due.{AreSettled, IsFirst};
+ghost use Rattle.nd_link.specs.Time.{Leads, TellsOf, Onward, Passes, Turns, turns_left};
+
+use crate::due::first_due;
+use crate::frames::keep_frames;
+use crate::link::Link;
+use crate::told::{Told, tell};
+use rand_core::Rng;
+use std::alloc::{AllocError, Allocator};
+
+impl<W, R: Rng + Drop, A: Allocator + Copy> Link<W, R, A> {
+    /// Does all that is due up to a moment, at one node after the other, and tells it. The error is want of memory.
+    pub(crate) fn settle(&mut self, now: u64, told: &mut Vec<Told<A>, A>) -> Result<(), AllocError>
+        requires moment { now < 2 ^ 62 }
+        requires in_time { self.old.last ≤ now }
+        ensures onward { OnOk result (Leads R.stream self.old self.new told.old.items told.new.items (Onward now)) }
+        ensures passes { OnOk result (Leads R.stream self.old self.new told.old.items told.new.items (Passes now)) }
+        ensures settled { OnOk result (AreSettled now self.new.nodes.items) }
+        ensures in_time { OnOk result (self.new.last ≤ now) }
+        ensures told { OnErr result (TellsOf R.stream self.old told.old.items told.new.items (Onward now)) }
+        ensures wire { self.new.wire ≡ self.old.wire }
+        ensures spent { self.new.spent ≡ self.old.spent }
+    {
+        loop {
+            let Some((place, due)) = first_due(&self.nodes) else {
+                return Ok(());
+            };
+            if due > now {
+                return Ok(());
+            }
+            self.turn(place, due, told)?;
+        }
+    }
+
+    /// Does what is due first at the node that turns first. The error is want of memory, and then nothing is told.
+    fn turn(&mut self, place: usize, due: u64, told: &mut Vec<Told<A>, A>) -> Result<(), AllocError>
+        requires moment { due < 2 ^ 62 }
+        requires first { IsFirst R.stream self.old.nodes.items place due }
+        ensures leads { OnOk result (Leads R.stream self.old self.new told.old.items told.new.items (Turns due)) }
+        ensures fewer { OnOk result ((end : ℕ) → due ≤ end → turns_left end self.new.nodes.items < turns_left end self.old.nodes.items) }
+        ensures told { OnErr result (told.new.items ≡ told.old.items) }
+        ensures last { OnOk result (self.new.last ≡ due) }
+        ensures wire { self.new.wire ≡ self.old.wire }
+        ensures spent { self.new.spent ≡ self.old.spent }
+    {
+        let mut outs = Vec::new(self.alloc);
+        let node = &mut self.nodes[place];
+        node.turn(due, &mut outs)?;
+        keep_frames(&mut self.frames, self.alloc, place, &outs)?;
+        tell(told, place, outs)?;
+        self.last = due;
+        Ok(())
+    }
+}
