@@ -20,7 +20,7 @@ mod static_routes;
 pub use addresses::address_rows;
 pub use advertised::advertise_rows;
 pub use dns::dns_rows;
-pub use lines::write_outs;
+pub use lines::{write_node_out, write_outs};
 pub use neighbours::neighbour_rows;
 pub use out::{Limit, Loss, Out, Refusal};
 pub use parameters::parameter_row;
@@ -29,5 +29,7 @@ pub use redirects::redirect_rows;
 pub use routers::router_rows;
 pub use static_routes::route_rows;
 
+#[cfg(test)]
+mod node_line_tests;
 #[cfg(test)]
 mod tests;

@@ -3,6 +3,7 @@ ghost use Rattle.std.specs.Fmt.{decimal};
 ghost use Rattle.nd_addr.specs.Number.{number_of};
 ghost use Rattle.nd_chronicle.specs.Shown.{key_text};
 ghost use Rattle.nd_chronicle.specs.Told.{line_at};
+ghost use Rattle.nd_out.specs.NodeLine.{front};
 
 use itoa::Buffer;
 use nd_addr::Addr;
@@ -23,6 +24,21 @@ pub(crate) fn write_moment<A: Allocator>(text: &mut String<A>, at: u64) -> Resul
     ensures { OnOk result (string_bytes text.new ≡ string_bytes text.old ++ decimal at ++ codes " ") }
 {
     write_number(text, at)?;
+    text.push_str(" ")
+}
+
+/// Writes what a line begins with: of a node of a link its number, and else nothing.
+pub(crate) fn write_front<A: Allocator>(
+    text: &mut String<A>,
+    node: Option<usize>,
+) -> Result<(), AllocError>
+    ensures { OnOk result (string_bytes text.new ≡ string_bytes text.old ++ front node) }
+{
+    let Some(node) = node else {
+        return Ok(());
+    };
+    text.push_str("n")?;
+    write_number(text, node as u64)?;
     text.push_str(" ")
 }
 

@@ -6,10 +6,11 @@ ghost use Rattle.nd_text.specs.Digits.{hex_text};
 ghost use Rattle.nd_chronicle.specs.Shown.{key_text};
 ghost use Rattle.std.specs.Fmt.{decimal};
 ghost use Rattle.nd_chronicle.specs.Happening.{Lost, Shown};
-ghost use Rattle.nd_chronicle.specs.Told.{line_at, lines_of};
-ghost use Rattle.nd_out.specs.Out.{loss_of, out_lines, told};
+ghost use Rattle.nd_chronicle.specs.Told.{line_at, lines_of, told_of};
+ghost use Rattle.nd_out.specs.NodeLine.{line_from, node_lines};
+ghost use Rattle.nd_out.specs.Out.{happening, loss_of, out_lines, told};
 
-use crate::line::{write_address, write_line, write_moment, write_number};
+use crate::line::{write_address, write_front, write_line, write_moment, write_number};
 use crate::lost::{loss_word, write_way};
 use crate::out::{Loss, Out};
 use crate::reasons::{write_dropped, write_heard, write_refused};
@@ -67,15 +68,17 @@ fn write_counted<A: Allocator>(
     text.push_str("\n")
 }
 
-/// Writes the lines of rows that were shown.
+/// Writes the lines of rows that were shown, of a node of a link each with its number.
 fn write_each_row<A: Allocator, B: Allocator>(
     text: &mut String<A>,
+    node: Option<usize>,
     at: u64,
     rows: &[String<B>],
 ) -> Result<(), AllocError>
-    ensures { OnOk result (string_bytes text.new ≡ string_bytes text.old ++ flat_map (line_at at) (map string_bytes rows.now)) }
+    ensures { OnOk result (string_bytes text.new ≡ string_bytes text.old ++ flat_map (line_from node at) (map string_bytes rows.now)) }
 {
     for row in rows {
+        write_front(text, node)?;
         write_line(text, at, row.as_str())?;
     }
     Ok(())
@@ -84,12 +87,14 @@ fn write_each_row<A: Allocator, B: Allocator>(
 /// Writes rows that were shown, and how many there are.
 fn write_rows<A: Allocator, B: Allocator>(
     text: &mut String<A>,
+    node: Option<usize>,
     at: u64,
     rows: &[String<B>],
 ) -> Result<(), AllocError>
-    ensures { OnOk result (string_bytes text.new ≡ string_bytes text.old ++ lines_of (at, Shown (map string_bytes rows.now))) }
+    ensures { OnOk result (string_bytes text.new ≡ string_bytes text.old ++ flat_map (line_from node at) (told_of (Shown (map string_bytes rows.now)))) }
 {
-    write_each_row(text, at, rows)?;
+    write_each_row(text, node, at, rows)?;
+    write_front(text, node)?;
     write_counted(text, at, "end ", rows.len() as u64)
 }
 
@@ -130,9 +135,28 @@ fn write_out<A: Allocator, B: Allocator>(
         Out::EndedRouter(addr) => write_named(text, at, "ended router ", *addr),
         Out::Failed(addr) => write_named(text, at, "failed ", *addr),
         Out::Lost(why, packet) => write_lost(text, at, *why, packet.as_bytes()),
-        Out::Shown(rows) => write_rows(text, at, rows),
+        Out::Shown(rows) => write_rows(text, None, at, rows),
         Out::Refused(why) => write_refused(text, at, *why),
         Out::Past(last) => write_counted(text, at, "refused past ", *last),
+    }
+}
+
+/// Writes the lines of what happened at a node of a link, at a moment in milliseconds: those of the node alone, each with its number
+/// before it. The error is want of memory.
+pub fn write_node_out<A: Allocator, B: Allocator>(
+    text: &mut String<A>,
+    node: usize,
+    at: u64,
+    out: &Out<B>,
+) -> Result<(), AllocError>
+    ensures { OnOk result (string_bytes text.new ≡ string_bytes text.old ++ node_lines node (at, happening out.now)) }
+{
+    match out {
+        Out::Shown(rows) => write_rows(text, Some(node), at, rows),
+        _ => {
+            write_front(text, Some(node))?;
+            write_out(text, at, out)
+        }
     }
 }
 
