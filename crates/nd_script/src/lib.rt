@@ -20,9 +20,11 @@ mod table;
 mod words;
 
 pub use command::{Command, read_command};
-pub use line::{Line, read_line};
+pub use line::{Line, read_line, split_moment};
+pub use number::{read_number, split_number};
 pub use run::run_script;
 pub use source::Source;
+pub use words::split_word;
 
 #[cfg(test)]
 mod frame_tests;

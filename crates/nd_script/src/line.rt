@@ -1,14 +1,15 @@
 //! The lines of a script.
 
-ghost use Rattle.std.specs.Prelude.{◌≡◌, ℕ, None, Ok, IfSome, IfOk};
+ghost use Rattle.std.specs.Prelude.{◌≡◌, ◌^◌, ℕ, List, None, Ok, IfSome, IfOk};
 ghost use Rattle.std.specs.Option.{IsSomeAnd};
 ghost use Rattle.nd_chronicle.specs.Event as events;
 ghost use Rattle.nd_node.specs.Event.{event_of};
 ghost use Rattle.nd_script.specs.Line.{IsLine};
+ghost use Rattle.nd_script.specs.Number.{IsNumberWord};
+ghost use Rattle.nd_script.specs.Words.{Parts};
 
 use crate::command::read_command;
-use crate::number::read_number;
-use crate::words::split_word;
+use crate::number::split_number;
 use nd_node::Event;
 use std::alloc::{AllocError, Allocator};
 
@@ -24,8 +25,22 @@ pub struct Line<A: Allocator> {
 /// The moments of a script are below this (our choice).
 const MOMENTS: u64 = 1 << 62;
 
-/// The line that some bytes spell: a moment in decimal digits with no sign and no leading zero, one space, and a command. The bytes are
-/// those before the line feed. Any other line is malformed: it spells none, and takes no memory. The error is want of memory.
+/// The moment that a line begins with, in milliseconds, and what follows its space: decimal digits with no sign and no leading zero, of a
+/// number below 2^62.
+pub fn split_moment(line: &[u8]) -> Option<(u64, &[u8])>
+    ensures found { IfSome result (λ parts. Parts line.now (λ word. IsNumberWord (2 ^ 62) word parts.0) (λ rest. rest ≡ parts.1.now)) }
+    ensures only { (at : ℕ) (rest : List ℕ) → Parts line.now (λ word. IsNumberWord (2 ^ 62) word at) (λ r. r ≡ rest)
+        → IsSomeAnd result (λ parts. (parts.0 ≡ at) × (parts.1.now ≡ rest)) }
+{
+    let (at, rest) = split_number(line)?;
+    if at >= MOMENTS {
+        return None;
+    }
+    Some((at, rest))
+}
+
+/// The line that some bytes spell: a moment as `split_moment` reads it, and a command. The bytes are those before the line feed. Any other
+/// line is malformed: it spells none, and takes no memory. The error is want of memory.
 pub fn read_line<A: Allocator + Clone>(
     alloc: &A,
     line: &[u8],
@@ -35,15 +50,9 @@ pub fn read_line<A: Allocator + Clone>(
         → IfOk result (λ spelled. IsSomeAnd spelled (λ read. (read.at ≡ at) × (event_of read.event ≡ event))) }
     ensures malformed { ((at : ℕ) (event : events.Event) → IsLine line.now at event → ⊥) → result ≡ Ok None }
 {
-    let Some((word, rest)) = split_word(line) else {
+    let Some((at, rest)) = split_moment(line) else {
         return Ok(None);
     };
-    let Some(at) = read_number(word) else {
-        return Ok(None);
-    };
-    if at >= MOMENTS {
-        return Ok(None);
-    }
     match read_command(alloc, rest)? {
         Some(event) => Ok(Some(Line { at, event })),
         None => Ok(None),

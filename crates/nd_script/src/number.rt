@@ -1,8 +1,11 @@
 //! Numbers in decimal digits, with no sign and no leading zero.
 
-ghost use Rattle.std.specs.Prelude.{◌≡◌, ◌↔◌, ◌<◌, ◌^◌, ◌++◌, ℕ, IsTrue, Some, IfSome, decimal};
+ghost use Rattle.std.specs.Prelude.{◌≡◌, ◌↔◌, ◌<◌, ◌^◌, ◌++◌, List, ℕ, IsTrue, Some, IfSome, decimal};
+ghost use Rattle.std.specs.Option.{IsSomeAnd};
 ghost use Rattle.nd_script.specs.Number.{IsNumberOr, IsNumberWord};
+ghost use Rattle.nd_script.specs.Words.{Parts};
 
+use crate::words::split_word;
 use itoa::Buffer;
 
 /// The number in some decimal digits, if they are those of one below 2^64. Of other texts nothing is said.
@@ -26,12 +29,23 @@ fn is_decimal(text: &[u8], number: u64) -> bool
 }
 
 /// The number below 2^64 that a text spells in decimal digits, with no sign and no leading zero.
-pub(crate) fn read_number(text: &[u8]) -> Option<u64>
+pub fn read_number(text: &[u8]) -> Option<u64>
     ensures found { IfSome result (λ n. text.now ≡ decimal n) }
     ensures only { (n : ℕ) → n < 2 ^ 64 → text.now ≡ decimal n → result ≡ Some n }
 {
     let number = number_in(text)?;
     is_decimal(text, number).then_some(number)
+}
+
+/// The number below 2^64 that the first word of a text spells, and what follows its space.
+pub fn split_number(text: &[u8]) -> Option<(u64, &[u8])>
+    ensures found { IfSome result (λ parts. Parts text.now (λ word. IsNumberWord (2 ^ 64) word parts.0) (λ rest. rest ≡ parts.1.now)) }
+    ensures only { (number : ℕ) (rest : List ℕ) → Parts text.now (λ word. IsNumberWord (2 ^ 64) word number) (λ r. r ≡ rest)
+        → IsSomeAnd result (λ parts. (parts.0 ≡ number) × (parts.1.now ≡ rest)) }
+{
+    let (word, rest) = split_word(text)?;
+    let number = read_number(word)?;
+    Some((number, rest))
 }
 
 /// The number below 2^8 that a word spells in decimal digits, with no sign and no leading zero.

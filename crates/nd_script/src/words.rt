@@ -4,7 +4,7 @@ ghost use Rattle.std.specs.Prelude.{◌≡◌, [], ◌∷◌, length, IsSome, If
 ghost use Rattle.nd_script.specs.Words.{HasNoSpace, IsParted, words_of};
 
 /// The first word of a text and what follows its space, where the text has a space.
-pub(crate) fn split_word(text: &[u8]) -> Option<(&[u8], &[u8])>
+pub fn split_word(text: &[u8]) -> Option<(&[u8], &[u8])>
     ensures { MatchOption result (HasNoSpace text.now) (λ parts. IsParted text.now parts.0.now parts.1.now) }
 {
     for (i, byte) in text.iter().enumerate() {
