@@ -1,0 +1,5 @@
+pub mod StartWords
+pub mod NodeCommandWords
+pub mod DeliveryWords
+pub mod LinkCommandWords
+pub mod LinkLines

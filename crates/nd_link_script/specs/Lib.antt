@@ -1,0 +1,8 @@
+pub mod Event
+pub mod Told
+pub mod Role
+pub mod Start
+pub mod NodeCommand
+pub mod Delivery
+pub mod Command
+pub mod Line

@@ -1,0 +1,33 @@
+-- What a link hands out, and its text: that of what happened at its nodes and of what it refused, the oldest first.
+use Rattle.std.specs.Prelude.{ℕ, List}
+use Rattle.std.specs.List.{flat_map}
+use Rattle.nd_chronicle.specs.Happening.{Happening}
+use Rattle.nd_effects.specs.Told.{happenings}
+use Rattle.nd_link_log.specs.Log as log
+use Rattle.nd_link_log.specs.Log.{Adds, Refuses}
+use Rattle.nd_link_log.specs.Told.{lines_of}
+use Rattle.nd_link_script.specs.declared.refusal.Refusal.{Refusal}
+use Rattle.nd_link_script.specs.declared.refusal.Refusal.TheVariants as refusals
+use Rattle.nd_link_script.specs.declared.told.Told.{Told}
+use Rattle.nd_link_script.specs.declared.told.Told.TheVariants.{Node, Refused}
+
+-- why the link refuses an event
+abbrev pub refusal_of : Refusal → log.Refusal
+refusal_of (refusals.TooLate last) = log.TooLate last
+refusal_of refusals.NoNode = log.NoNode
+refusal_of refusals.NoFrame = log.NoFrame
+refusal_of refusals.Own = log.Own
+refusal_of refusals.Full = log.Full
+
+-- the lines of what happened at a node
+abbrev pub node_lines : ℕ → ℕ × Happening → List ℕ
+node_lines node row = lines_of (Adds node row.0 row.1)
+
+-- the lines of what is handed out at once
+abbrev pub told_lines : {A : Type 0} → Told A → List ℕ
+told_lines (Node node outs) = flat_map (node_lines node) (happenings outs.items)
+told_lines (Refused at why) = lines_of (Refuses at (refusal_of why))
+
+-- the text of it all
+abbrev pub told_text : {A : Type 0} → List (Told A) → List ℕ
+told_text told = flat_map told_lines told
