@@ -3,3 +3,4 @@ pub mod NodeCommandWords
 pub mod DeliveryWords
 pub mod LinkCommandWords
 pub mod LinkLines
+pub mod LinkRuns

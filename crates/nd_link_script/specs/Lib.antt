@@ -1,8 +1,10 @@
-pub mod Event
-pub mod Told
 pub mod Role
 pub mod Start
 pub mod NodeCommand
 pub mod Delivery
 pub mod Command
 pub mod Line
+pub mod Script
+pub mod ScriptLaws
+pub mod Answer
+pub mod Fault

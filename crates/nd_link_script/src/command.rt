@@ -5,12 +5,12 @@ ghost use Rattle.std.specs.Option.{option_map};
 ghost use Rattle.nd_script.specs.Source.{stream_of_source};
 ghost use Rattle.nd_link_log.specs.Event.{Event};
 ghost use Rattle.nd_link_script.specs.Command.{AreLinkArguments, IsLinkCommand, link_word};
-ghost use Rattle.nd_link_script.specs.Event.{link_event};
+ghost use Rattle.nd_link.specs.Event.{link_event};
 
 use crate::delivery::read_delivery;
-use crate::event::LinkEvent;
 use crate::node_command::read_node_command;
 use crate::start::read_start;
+use nd_link::LinkEvent;
 use nd_script::{Source, split_word};
 use std::alloc::{AllocError, Allocator};
 

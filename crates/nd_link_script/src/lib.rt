@@ -3,20 +3,20 @@
 
 mod command;
 mod delivery;
-mod event;
 pub mod laws;
 mod line;
 mod node_command;
-mod refusal;
 mod role;
+mod run;
+mod script;
 mod start;
 mod told;
 
 pub use command::LinkCommand;
-pub use event::LinkEvent;
 pub use line::{LinkLine, read_line};
-pub use refusal::Refusal;
-pub use told::{Told, write_told};
+pub use run::run_link;
+pub use script::LinkScript;
+pub use told::write_told;
 
 #[cfg(test)]
 mod line_tests;

@@ -5,21 +5,12 @@ ghost use Rattle.std.specs.List.{flat_map};
 ghost use Rattle.nd_effects.specs.Told.{happenings};
 ghost use Rattle.nd_link_log.specs.Log.{Refuses};
 ghost use Rattle.nd_link_log.specs.Told.{lines_of, refusal_text};
-ghost use Rattle.nd_link_script.specs.Told.{node_lines, refusal_of, told_lines, told_text};
+ghost use Rattle.nd_link.specs.Told.{node_lines, refusal_of, told_lines, told_text};
 
-use crate::refusal::Refusal;
 use itoa::Buffer;
+use nd_link::{Refusal, Told};
 use nd_out::{Out, write_node_out};
 use std::alloc::{AllocError, Allocator};
-
-/// What a link tells.
-#[derive(Drop)]
-pub enum Told<A: Allocator> {
-    /// What happened at a node, by its number, with the moments, in milliseconds, the oldest first.
-    Node(usize, Vec<(u64, Out<A>), A>),
-    /// The link refused an event that came at this moment, in milliseconds.
-    Refused(u64, Refusal),
-}
 
 /// Writes the lines of what happened at a node.
 fn write_node_outs<A: Allocator, B: Allocator>(

@@ -3,7 +3,7 @@ use Rattle.nd_script.specs.Source.{stream_of_source}
 use Rattle.nd_script.proofs.Partings.{in_front, with_rest}
 use Rattle.nd_script.proofs.Readings.{mapped, not_mapped, some_is}
 use Rattle.nd_link_script.specs.Command.{IsLinkCommand}
-use Rattle.nd_link_script.specs.Event.{link_event}
+use Rattle.nd_link.specs.Event.{link_event}
 use Rattle.nd_link_script.proofs.line.read_line.Goals as goal
 
 pub returns-in_default-clause-only : goal.returns-in_default-clause-only

@@ -1,6 +1,6 @@
 use Rattle.std.proofs.Common.{◌≡◌, ◌++◌, drop}
 use Rattle.std.specs.Prelude.{string_bytes}
-use Rattle.nd_link_script.specs.Told.{told_text}
+use Rattle.nd_link.specs.Told.{told_text}
 use Rattle.nd_link_script.proofs.told.write_told.Given as goal
 
 -- what is written, and the text of what is left

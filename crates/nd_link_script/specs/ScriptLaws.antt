@@ -1,0 +1,23 @@
+-- What holds of lines that lead a link nowhere, for the laws of what answers lines.
+use Rattle.std.specs.Prelude.{◌<◌, ℕ, List, [], length, refl}
+use Rattle.std.proofs.Common.{sym, append-nil, arith}
+use Rattle.rand_core.specs.Stream.{Stream}
+use Rattle.nd_io.specs.Answers.{EndsWell, IsMalformed}
+use Rattle.nd_io.specs.Lines.{longest_line}
+use Rattle.nd_link_log.specs.Told.{text}
+use Rattle.nd_link.specs.declared.link.Link.{Link}
+use Rattle.nd_link_script.specs.Script.{SaysNothing, stops, Leads}
+
+module _ {W R A : Type 0} (arrives : List ℕ → List ℕ → Type 0) (stream : R → Stream) (link : Link W R A) where
+  -- no line leads nowhere
+  pub no_line : EndsWell (Leads arrives stream link)
+  no_line n = record { each = λ faithful log s. record { said = []; say = (refl, refl); end = log; runs = refl; text_is = sym (append-nil (text log)) } }
+
+  -- a malformed line leads nowhere
+  pub malformed_line : (line : List ℕ) → SaysNothing line → IsMalformed (Leads arrives stream link) line
+  malformed_line line nothing n lines =
+      record { each = λ faithful log s. record { said = []; say = stops nothing; end = log; runs = refl; text_is = sym (append-nil (text log)) } }
+
+  -- a line that is too long is malformed
+  pub long_line : (line : List ℕ) → longest_line < length line → IsMalformed (Leads arrives stream link) line
+  long_line line long = malformed_line line (λ at event says. absurd (omega (arith, long, says.short)))
