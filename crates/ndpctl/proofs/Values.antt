@@ -3,7 +3,9 @@ use Rattle.std.proofs.Common.{◌≡◌, ◌∙◌, Bool, List, [], codes, refl,
 use Rattle.std.specs.Option.{option_map_or}
 use Rattle.nd_addr.specs.declared.role.Role.{Role}
 use Rattle.nd_addr.specs.declared.role.Role.TheVariants.{Host, Router}
-use Rattle.ndpctl.specs.CommandLine.{role_named}
+use Rattle.ndpctl.specs.CommandLine.{carrier_named, role_named}
+use Rattle.ndpctl.specs.declared.command_line.Carrier.{Carrier}
+use Rattle.ndpctl.specs.declared.command_line.Carrier.TheVariants.{Memory, Udp}
 use Rattle.clap.specs.Matches.{first_value, subcommand_name_of}
 use Rattle.clap.specs.Simple.{subcommand_rows, subcommand_rows_of}
 use Rattle.clap.specs.Walk.{Row, Text, first_of, rows_of}
@@ -36,6 +38,18 @@ host_unnamed f e = ap role_named (e ∙ first_value-rows f (codes "role"))
 pub named_role : (f : Found) (text : Text) (is_router : Bool) → Some text ≡ first_value f (codes "role") → is_router ≡ bytes_eq text (codes "router")
     → role_by is_router ≡ role_named (first_of (codes "role") (rows_of f))
 named_role f text is_router e is = ap role_by is ∙ ap role_named (e ∙ first_value-rows f (codes "role"))
+
+-- and what carries the frames of a link
+
+abbrev pub carrier_by : Bool → Carrier
+carrier_by is_udp = if is_udp then Udp else Memory
+
+pub memory_unnamed : (f : Found) → None ≡ first_value f (codes "wire") → Memory ≡ carrier_named (first_of (codes "wire") (rows_of f))
+memory_unnamed f e = ap carrier_named (e ∙ first_value-rows f (codes "wire"))
+
+pub named_carrier : (f : Found) (text : Text) (is_udp : Bool) → Some text ≡ first_value f (codes "wire") → is_udp ≡ bytes_eq text (codes "udp")
+    → carrier_by is_udp ≡ carrier_named (first_of (codes "wire") (rows_of f))
+named_carrier f text is_udp e is = ap carrier_by is ∙ ap carrier_named (e ∙ first_value-rows f (codes "wire"))
 
 -- the name of the subcommand, by its rows
 pub name_in_rows : (m : ArgMatches) → subcommand_name_of m ≡ option_map (λ p. p.0) (subcommand_rows_of m)

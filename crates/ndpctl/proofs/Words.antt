@@ -5,36 +5,37 @@ use Rattle.clap.specs.Simple.{App, HasMatchesOf, app_of, subcommand_of, subcomma
 use Rattle.clap.specs.Walk.{Row}
 use Rattle.clap.specs.declared.builder.command.Command.{Command}
 use Rattle.clap.specs.declared.parser.matches.ArgMatches.{ArgMatches}
-use Rattle.ndpctl.specs.CommandLine.{RoleNames, the_command, faults_of, named_in, given_in, GivesAsked, GivesRun, RefusesGiven, MacIsBad, DrawsAreBad, Asks, Refuses}
+use Rattle.ndpctl.specs.CommandLine.{Names, the_command, faults_of, named_in, given_in, GivesAsked, GivesRun, RefusesGiven, MacIsBad, DrawsAreBad, Asks, Refuses}
 use Rattle.ndpctl.specs.declared.command_line.Asked.{Asked}
 use Rattle.ndpctl.specs.declared.command_line.Asked.TheVariants as asked
 use Rattle.ndpctl.specs.declared.command_line.Refused.{Refused}
 use Rattle.ndpctl.specs.declared.command_line.Refused.TheVariants as refused
 use Rattle.ndpctl.proofs.Values.{name_in_rows, rows_in}
 
-module _ (roles : RoleNames) (words : List (List ℕ)) (command : Command) (m : ArgMatches) (is : app_of command ≡ the_command roles.list)
+module _ (names : Names) (words : List (List ℕ)) (command : Command) (m : ArgMatches) (is : app_of command ≡ the_command names.roles names.wires)
     (matches : HasMatchesOf (app_of command) words m) where
-  same_rows : subcommand_rows_of m ≡ subcommand_of (the_command roles.list) words
+  same_rows : subcommand_rows_of m ≡ subcommand_of (the_command names.roles names.wires) words
   same_rows = (subst (λ (a : App). HasMatchesOf a words m) is matches refl).1
 
-  pub same_name : subcommand_name_of m ≡ named_in roles words
+  pub same_name : subcommand_name_of m ≡ named_in names words
   same_name = name_in_rows m ∙ ap (option_map (λ p. p.0)) same_rows
 
-  pub same_given : (rows : List Row) → option_map (λ p. p.1) (subcommand_rows_of m) ≡ Some rows → rows ≡ given_in roles words
-  same_given rows e = rows_in (subcommand_of (the_command roles.list) words) rows (sym (ap (option_map (λ p. p.1)) same_rows) ∙ e)
+  pub same_given : (rows : List Row) → option_map (λ p. p.1) (subcommand_rows_of m) ≡ Some rows → rows ≡ given_in names words
+  same_given rows e = rows_in (subcommand_of (the_command names.roles names.wires) words) rows (sym (ap (option_map (λ p. p.1)) same_rows) ∙ e)
 
-module _ (roles : RoleNames) (words : List (List ℕ)) (rows : List Row) (faultless : faults_of roles words ≡ []) (named : named_in roles words ≡ Some (codes "run"))
-    (given : rows ≡ given_in roles words) where
+module _ (names : Names) (words : List (List ℕ)) (rows : List Row) (faultless : faults_of names words ≡ []) (named : named_in names words ≡ Some (codes "run"))
+    (given : rows ≡ given_in names words) where
   pub asks : (what : Asked) → GivesAsked rows what → Asks words what
   asks asked.Check h = absurd h
   asks (asked.Run role mac source) h = record {
-    roles = roles;
+    names = names;
     faultless = faultless;
     asked = (named, subst (λ g. GivesRun g role mac source) given h);
   }
+  asks (asked.Link carrier) h = absurd h
 
   pub refuses : (why : Refused) → RefusesGiven rows why → Refuses words why
   refuses (refused.Told error) h = absurd h
-  refuses refused.Mac h = (roles, record { faultless = faultless; named = named; bad = subst MacIsBad given h })
-  refuses refused.Draws h = (roles, record { faultless = faultless; named = named; bad = subst DrawsAreBad given h })
+  refuses refused.Mac h = (names, record { faultless = faultless; named = named; bad = subst MacIsBad given h })
+  refuses refused.Draws h = (names, record { faultless = faultless; named = named; bad = subst DrawsAreBad given h })
   refuses refused.Memory h = absurd h

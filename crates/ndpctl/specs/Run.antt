@@ -6,10 +6,18 @@ use Rattle.nd_node.specs.Node.{starting}
 use Rattle.nd_script.specs.Script.{IsText}
 use Rattle.nd_script.specs.Source.{stream_of_source}
 use Rattle.ndpctl.specs.declared.command_line.Asked.{Asked}
-use Rattle.ndpctl.specs.declared.command_line.Asked.TheVariants.{Check, Run}
+use Rattle.ndpctl.specs.declared.command_line.Asked.TheVariants.{Check, Run, Link}
+use Rattle.ndpctl.specs.declared.command_line.Carrier.TheVariants.{Udp}
+use Rattle.nd_link_script.specs.Script.{IsLinkText}
 
 -- Which text the lines of the input have: of `check`, what each frame is; of `run`, the text of the chronicle of what they say to a node of
--- the role.
+-- the role; of `link`, that of the log of what they say.
 abbrev pub texts_asked : Asked → Texts
 texts_asked Check = Only (text_of_each answer_to) (malformed_of_each answer_to)
 texts_asked (Run role mac source) = IsText (starting 0 role mac (stream_of_source source))
+texts_asked (Link carrier) = IsLinkText
+
+-- the text is claimed: that of a link over datagrams isn't
+abbrev pub IsClaimed : Asked → Type 0
+IsClaimed (Link Udp) = ⊥
+IsClaimed _ = Unit {0}

@@ -3,8 +3,8 @@
 ghost use Rattle.std.specs.Prelude.{◌≡◌, ◌∷◌, ℕ, List, [], codes, map, false, IfOk, IfErr, string_bytes};
 ghost use Rattle.clap.specs.Words.{app_of, first_of, found_of, rows_of};
 ghost use Rattle.clap.specs.declared.builder.command.Command.TheViews.{out-Command};
-ghost use Rattle.ndpctl.specs.CommandLine.{RoleNames, the_command, the_run, faults_of, Asks, Refuses};
-ghost use Rattle.ndpctl.specs.CommandLine.{GivesAsked, RefusesGiven, role_named};
+ghost use Rattle.ndpctl.specs.CommandLine.{Names, the_command, the_link, the_run, faults_of, Asks, Refuses};
+ghost use Rattle.ndpctl.specs.CommandLine.{GivesAsked, RefusesGiven, carrier_named, role_named};
 
 use clap::error::ErrorKind;
 use clap::{Arg, ArgMatches, Command, Error};
@@ -18,8 +18,26 @@ static ROLES: [&str; 2] = ["host", ROUTER];
 /// The name of a router's role.
 const ROUTER: &str = "router";
 
+/// The wires that a link may have.
+static WIRES: [&str; 2] = ["memory", UDP];
+
+/// The name of the wire over sockets of this machine.
+const UDP: &str = "udp";
+
+/// The wire where none is named.
+const DEFAULT_WIRE: &str = "memory";
+
 /// The source of random words where none is named.
 const DEFAULT_DRAWS: &str = "seed:0";
+
+/// What carries the frames of a link.
+#[derive(Clone, Copy, Debug, PartialEq, Eq)]
+pub enum Carrier {
+    /// The memory of the program.
+    Memory,
+    /// Datagrams between sockets of this machine.
+    Udp,
+}
 
 /// What the words ask for.
 #[derive(Drop)]
@@ -28,6 +46,8 @@ pub enum Asked {
     Check,
     /// To be a node of this role and Ethernet address, whose random words come from this source, on the lines of standard input.
     Run(Role, Mac, Source),
+    /// To be a link, whose frames are carried so, on the lines of standard input.
+    Link(Carrier),
 }
 
 /// Why nothing is done.
@@ -68,19 +88,40 @@ fn run_command<'a>(alloc: Global, roles: &'a [&'a str]) -> Result<Command<'a>, A
         .arg(draws)
 }
 
-/// The command with its subcommands, where a node has one of these roles.
-fn command<'a>(alloc: Global, roles: &'a [&'a str]) -> Result<Command<'a>, AllocError>
-    ensures { IfOk result (λ command. app_of command ≡ the_command roles.entry) }
+/// The subcommand `link` with its option, where a link has one of these wires.
+fn link_command<'a>(alloc: Global, wires: &'a [&'a str]) -> Result<Command<'a>, AllocError>
+    ensures shape { IfOk result (λ command. app_of command ≡ the_link wires.entry) }
+    ensures local { IfOk result (λ command. (out-Command command).has_globals ≡ false) }
+{
+    let wire = Arg::new(alloc, "wire")
+        .long("wire")
+        .default_value(DEFAULT_WIRE)
+        .value_parser(wires)
+        .help("What carries its frames");
+    Command::new(alloc, "link")
+        .about("Answers each line, an event at a moment, with what the nodes of a link do")
+        .arg(wire)
+}
+
+/// The command with its subcommands, where a node has one of these roles, and a link one of these wires.
+fn command<'a>(
+    alloc: Global,
+    roles: &'a [&'a str],
+    wires: &'a [&'a str],
+) -> Result<Command<'a>, AllocError>
+    ensures { IfOk result (λ command. app_of command ≡ the_command roles.entry wires.entry) }
 {
     let check = Command::new(alloc, "check").about(
         "Tells of each line, a frame in hexadecimal, what the frame is",
     );
     let run = run_command(alloc, roles)?;
+    let link = link_command(alloc, wires)?;
     Command::new(alloc, "ndpctl")
         .about("IPv6 Neighbor Discovery on one link")
         .subcommand_required(true)
         .subcommand(check)?
-        .subcommand(run)
+        .subcommand(run)?
+        .subcommand(link)
 }
 
 /// The role that the value of `--role` names: `clap` lets no word through but its names.
@@ -116,6 +157,19 @@ fn read_run(given: &ArgMatches<'_>) -> Result<Asked, Refused>
     Ok(Asked::Run(read_role(given), mac, source))
 }
 
+/// What the value of `--wire` names: `clap` lets no word through but its names.
+fn read_wire(given: &ArgMatches<'_>) -> Carrier
+    ensures { result ≡ carrier_named (first_of (codes "wire") (rows_of (found_of given.now))) }
+{
+    let Some(name) = given.get_str("wire") else {
+        return Carrier::Memory;
+    };
+    if name == UDP {
+        return Carrier::Udp;
+    }
+    Carrier::Memory
+}
+
 /// What the words ask for, the first being the program's path.
 ///
 /// They are refused for the first of these: a fault that `clap` finds in them, no Ethernet address after `--mac`, no source after
@@ -124,7 +178,7 @@ pub fn read_words<'a>(alloc: Global, words: &'a [String]) -> Result<Asked, Refus
     ensures right { IfOk result (Asks (map (λ word. string_bytes word) words.now)) }
     ensures wrong { IfErr result (Refuses (map (λ word. string_bytes word) words.now)) }
 {
-    let Ok(command) = command(alloc, ROLES.as_slice()) else {
+    let Ok(command) = command(alloc, ROLES.as_slice(), WIRES.as_slice()) else {
         return Err(Refused::Memory);
     };
     let matches = match command.try_get_matches_from(words) {
@@ -136,13 +190,16 @@ pub fn read_words<'a>(alloc: Global, words: &'a [String]) -> Result<Asked, Refus
             return Err(Refused::Told(error));
         }
     };
-    match matches.subcommand_matches("run") {
-        Some(given) => read_run(given),
+    if let Some(given) = matches.subcommand_matches("run") {
+        return read_run(given);
+    }
+    match matches.subcommand_matches("link") {
+        Some(given) => Ok(Asked::Link(read_wire(given))),
         None => Ok(Asked::Check),
     }
 }
 
 /// The one word `check` is right, whatever the program's path is.
 fn check_is_right()
-    ensures { (roles : RoleNames) → (path : List ℕ) → faults_of roles (path ∷ codes "check" ∷ []) ≡ [] }
+    ensures { (names : Names) → (path : List ℕ) → faults_of names (path ∷ codes "check" ∷ []) ≡ [] }
 {}

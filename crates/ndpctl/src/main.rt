@@ -3,6 +3,7 @@
 
 mod command_line;
 mod exit_status;
+mod link;
 mod run;
 #[cfg(test)]
 mod tests;
@@ -30,6 +31,6 @@ fn main(rt: HostRuntime) -> ExitCode {
     };
     let mut reader = Reading::new(rt.reader());
     let mut writer = Writing::new(io::writer(&rt));
-    let done = run(rt.alloc(), asked, &mut reader, &mut writer);
+    let done = run(&rt, rt.alloc(), asked, &mut reader, &mut writer);
     end(&rt, done)
 }

@@ -3,34 +3,39 @@
 ghost use Rattle.std.specs.Prelude.{◌≢◌, ◌⊎◌, ℕ, OnOk, OnErr, IsErrOf, Some, None, Err};
 ghost use Rattle.nd_io.specs.Counts.{HasRisen, HasGrownBy, most_reads};
 ghost use Rattle.nd_io.specs.Told.{TellsAll, TellsBeginning, TellsAsRead};
-ghost use Rattle.ndpctl.specs.Run.{texts_asked};
+ghost use Rattle.ndpctl.specs.Run.{IsClaimed, texts_asked};
 
-use crate::command_line::Asked;
+use crate::command_line::{Asked, Carrier};
+use crate::link::{link_over_datagrams, link_over_memory};
 use nd_check::run_check;
 use nd_io::input::Input;
 use nd_io::output::Output;
 use nd_io::tool_fault::ToolFault;
 use nd_script::run_script;
 use std::alloc::Allocator;
+use std::net::Net;
 
-/// Does what is asked, over a reader and a writer.
-pub fn run<R: Input, W: Output, A: Allocator + Copy>(
+/// Does what is asked, over a reader and a writer. Of a link whose frames are datagrams the bytes aren't claimed, and so neither is its text.
+pub fn run<N: Net, R: Input, W: Output, A: Allocator + Copy>(
+    net: &N,
     alloc: A,
     asked: Asked,
     reader: &mut R,
     writer: &mut W,
 ) -> Result<(), ToolFault>
-    ensures ok { OnOk result (TellsAll (texts_asked asked) (R.remaining reader.old) (W.contents writer.old) (W.contents writer.new) None) }
-    ensures line { (n : ℕ) → IsErrOf result (ToolFault.Line n) → TellsAll (texts_asked asked) (R.remaining reader.old) (W.contents writer.old) (W.contents writer.new) (Some n) }
-    ensures front { OnErr result (TellsBeginning (texts_asked asked) (R.remaining reader.old) (W.contents writer.old) (W.contents writer.new)) }
+    ensures ok { IsClaimed asked → OnOk result (TellsAll (texts_asked asked) (R.remaining reader.old) (W.contents writer.old) (W.contents writer.new) None) }
+    ensures line { IsClaimed asked → (n : ℕ) → IsErrOf result (ToolFault.Line n) → TellsAll (texts_asked asked) (R.remaining reader.old) (W.contents writer.old) (W.contents writer.new) (Some n) }
+    ensures front { IsClaimed asked → OnErr result (TellsBeginning (texts_asked asked) (R.remaining reader.old) (W.contents writer.old) (W.contents writer.new)) }
     ensures read_failed { IsErrOf result ToolFault.Read → HasRisen (R.failed reader.old) (R.failed reader.new) ⊎ HasGrownBy most_reads (R.given reader.old) (R.given reader.new) }
     // Where a read fails, the answers to all lines that were read before it are written.
-    ensures answered { IsErrOf result ToolFault.Read → TellsAsRead (texts_asked asked) (R.remaining reader.old) (R.remaining reader.new) (W.contents writer.old) (W.contents writer.new) }
+    ensures answered { IsClaimed asked → IsErrOf result ToolFault.Read → TellsAsRead (texts_asked asked) (R.remaining reader.old) (R.remaining reader.new) (W.contents writer.old) (W.contents writer.new) }
     ensures write_failed { IsErrOf result ToolFault.Write → HasRisen (W.failed writer.old) (W.failed writer.new) }
-    ensures never_wire { result ≢ Err ToolFault.Wire }
+    ensures never_wire { IsClaimed asked → result ≢ Err ToolFault.Wire }
 {
     match asked {
         Asked::Check => run_check(alloc, reader, writer),
         Asked::Run(role, mac, source) => run_script(alloc, reader, writer, role, mac, source),
+        Asked::Link(Carrier::Memory) => link_over_memory(alloc, reader, writer),
+        Asked::Link(Carrier::Udp) => link_over_datagrams(net, alloc, reader, writer),
     }
 }

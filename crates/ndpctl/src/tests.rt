@@ -1,4 +1,4 @@
-use crate::command_line::{Asked, Refused, read_words};
+use crate::command_line::{Asked, Carrier, Refused, read_words};
 use nd_addr::{Mac, Role};
 use nd_script::Source;
 use std::alloc::Global;
@@ -59,6 +59,25 @@ fn a_router_runs(rt: HostRuntime) -> Result<(), Fail> {
         Ok(Asked::Run(role, _, _)) => assert_eq!(rt; role, Role::Router),
         _ => return Err("a router runs")?,
     }
+    Ok(())
+}
+
+#[test]
+fn link_is_read(rt: HostRuntime) -> Result<(), Fail> {
+    let asked = read(rt.alloc(), ["link"].as_slice())?;
+    assert!(rt; matches!(asked, Ok(Asked::Link(Carrier::Memory))));
+    let asked = read(rt.alloc(), ["link", "--wire", "memory"].as_slice())?;
+    assert!(rt; matches!(asked, Ok(Asked::Link(Carrier::Memory))));
+    let asked = read(rt.alloc(), ["link", "--wire=udp"].as_slice())?;
+    assert!(rt; matches!(asked, Ok(Asked::Link(Carrier::Udp))));
+    assert_eq!(rt;
+        told(rt.alloc(), ["link", "--wire", "radio"].as_slice())?,
+        Some(2)
+    );
+    assert_eq!(rt;
+        told(rt.alloc(), ["link", "--role", "host"].as_slice())?,
+        Some(2)
+    );
     Ok(())
 }
 

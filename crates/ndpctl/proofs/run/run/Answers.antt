@@ -10,4 +10,4 @@ on_err (Ok x) P Q f h = tt
 on_err (Err e) P Q f h = f h
 
 pub returns-in-Check-clause-front : goal.returns-in-Check-clause-front
-returns-in-Check-clause-front g c = rw c.in-Check.is (on_err c.run_check.result _ _ (wrote_beginning (text_of_each answer_to) (malformed_of_each answer_to) _ _ _) c.run_check.ensures.front)
+returns-in-Check-clause-front g c = rw c.in-Check.is (λ claimed. on_err c.run_check.result _ _ (wrote_beginning (text_of_each answer_to) (malformed_of_each answer_to) _ _ _) c.run_check.ensures.front)

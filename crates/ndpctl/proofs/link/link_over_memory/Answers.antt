@@ -1,0 +1,14 @@
+use Rattle.std.proofs.Common.{[]}
+use Rattle.ndpctl.proofs.link.link_over_memory.Goals as goal
+
+pub returns-clause-ok : goal.returns-clause-ok
+returns-clause-ok g c = c.run_link.ensures.ok c.memory_is_faithful.ensures [] c.new-script.ensures.stands
+
+pub returns-clause-line : goal.returns-clause-line
+returns-clause-line g c = λ n is. c.run_link.ensures.line n is c.memory_is_faithful.ensures [] c.new-script.ensures.stands
+
+pub returns-clause-front : goal.returns-clause-front
+returns-clause-front g c = c.run_link.ensures.beginning c.memory_is_faithful.ensures [] c.new-script.ensures.stands
+
+pub returns-clause-answered : goal.returns-clause-answered
+returns-clause-answered g c = λ is. c.run_link.ensures.answered is c.memory_is_faithful.ensures [] c.new-script.ensures.stands
