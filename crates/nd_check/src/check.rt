@@ -31,7 +31,7 @@ impl AnsweringEach for Check {
         text: &mut String<A>,
     ) -> Result<(), Unanswered> {
         let frame = &mut self.frame[..line.len() / 2];
-        match hex::decode_to_slice(line, frame) {
+        match nd_hex::decode_to_slice(line, frame) {
             Ok(()) => {}
             Err(_) => return Err(Unanswered::Malformed),
         }
