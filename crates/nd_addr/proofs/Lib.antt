@@ -1,5 +1,5 @@
 pub mod ByteLists
-pub mod Folding
+pub mod WordSums
 pub mod Masking
 pub mod Numbers
 pub mod Numbered

@@ -1,6 +1,6 @@
 -- The ICMPv6 checksum (RFC 4443, section 2.3; RFC 8200, section 8.1) with no carries: a plain sum of numbers, and
 -- its rest by 65535.
-use Rattle.std.specs.Prelude.{◌≡◌, ℕ, ◌+◌, ◌-◌, ◌*◌, ◌%◌, ◌<◌, ◌≤◌, ◌↔◌, List, [], ◌∷◌, ◌++◌, length, take, drop, nat_lt, if◌then◌else◌}
+use Rattle.std.specs.Prelude.{◌≡◌, ℕ, ◌+◌, ◌-◌, ◌*◌, ◌%◌, ◌<◌, List, [], ◌∷◌, ◌++◌, length, take, drop, nat_lt, if◌then◌else◌}
 use Rattle.byteorder.specs.Endian.{big_bytes}
 use Rattle.nd_addr.specs.Ip6.{next_header_icmpv6}
 
@@ -18,6 +18,10 @@ pseudo_header source destination len = source ++ destination ++ big_bytes 4 len 
 unfoldable pub total : List ℕ → List ℕ → List ℕ → ℕ
 total source destination message = word_sum (pseudo_header source destination (length message) ++ message)
 
+-- The same rest by 65535. A carry that is brought back in keeps it, and so does one that is left in the sum.
+abbrev pub HasRestOf : ℕ → ℕ → Type 0
+HasRestOf sum plain = sum % 65535 ≡ plain % 65535
+
 -- a good checksum: the total is positive and a multiple of 65535
 abbrev pub IsGoodSum : List ℕ → List ℕ → List ℕ → Type 0
 IsGoodSum source destination message =
@@ -31,10 +35,3 @@ with_sum field message = if nat_lt (length message) 4 then message else take 2 m
 abbrev pub sum_to_write : List ℕ → List ℕ → List ℕ → ℕ
 sum_to_write source destination message =
     (65535 - total source destination (with_sum (0 ∷ 0 ∷ []) message) % 65535) % 65535
-
--- What adding with carries keeps of a plain sum: a number up to 65535 that has the rest of the total by 65535, and
--- is 0 only where the total is.
-pub record IsFolded (n total : ℕ) : Type 0 where
-  pub small : n ≤ 65535
-  pub rest : n % 65535 ≡ total % 65535
-  pub zero : (n ≡ 0) ↔ (total ≡ 0)

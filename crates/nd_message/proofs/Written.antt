@@ -4,7 +4,7 @@ use Rattle.std.specs.List.{flat_map}
 use Rattle.std.proofs.lemmas.List.{length-append, drop_at, set-append_right}
 use Rattle.nd_addr.specs.declared.addr.Addr.{Addr}
 use Rattle.nd_addr.specs.Checksum.{IsGoodSum, sum_to_write}
-use Rattle.nd_addr.proofs.Folding.{written_is_good}
+use Rattle.nd_addr.proofs.WordSums.{written_is_good}
 use Rattle.nd_decode.specs.Message.{Parts, Spells}
 use Rattle.nd_message.specs.Spelling.{piece_of, fields_of, spelling, written_length, written_message}
 use Rattle.nd_message.specs.WellFormed.{IsWellFormed}
