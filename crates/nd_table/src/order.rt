@@ -3,13 +3,11 @@ ghost use Rattle.std.specs.Ordering.{nat_cmp};
 ghost use Rattle.nd_addr.specs.Number.{number_of};
 
 use nd_addr::Addr;
-use nd_addr::laws::order_is_of_numbers;
 use std::cmp::Ordering;
 
 /// The order of two addresses, which is that of their numbers.
 pub fn compare(a: Addr, b: Addr) -> Ordering
     ensures { result ≡ nat_cmp (number_of a.0) (number_of b.0) }
 {
-    order_is_of_numbers(a, b);
-    a.cmp(&b)
+    a.to_bits().cmp(&b.to_bits())
 }
