@@ -1,5 +1,5 @@
 -- The values of digits, lane by lane.
-use Rattle.std.proofs.Common.{◌≡◌, ℕ, zero, suc, ◌+◌, ◌-◌, ◌*◌, ◌%◌, ◌^◌, ◌<◌, Bool, true, false, ◌&&◌, cond, T, eqb, leb, List, [], ◌∷◌, ◌++◌, map, length, get_or, replicate, bit_or, refl, sym, ap, ◌∙◌, subst, inl, inr, arith, w8, Fits, eqb→eq, leb-false, eqb-true, eq-zero-or-pos}
+use Rattle.std.proofs.Common.{◌≡◌, ℕ, zero, suc, ◌+◌, ◌-◌, ◌*◌, ◌%◌, ◌^◌, ◌<◌, ◌↔◌, Bool, true, false, ◌&&◌, cond, T, eqb, leb, List, [], ◌∷◌, ◌++◌, map, length, get_or, replicate, bit_or, refl, sym, ap, ◌∙◌, subst, inl, inr, arith, w8, Fits, eqb→eq, leb-false, leb-true, eqb-true, eq-eqb, eq-zero-or-pos}
 use Rattle.std.proofs.lemmas.Simd.{length-zip2, mask_l-mod, get_or-zip2, get_or-replicate}
 use Rattle.std.proofs.lemmas.List.{length-map, get_or-map, get_or_append_left}
 use lib.Ieee.Fits.{and_l, and_r}
@@ -58,20 +58,28 @@ values_are (suc n) (x ∷ xs) e fits =
 abbrev pub at_least : ℕ → ℕ → ℕ
 at_least a b = cond (leb a b) 255 0
 
-none_high : (xs : List ℕ) → mask_l (map (top 7) (zip2 at_least (replicate (length xs) 128) xs)) ≡ 0 → (i : ℕ) → get_or xs i 0 < 128
-none_high [] e i = omega arith
-none_high (x ∷ xs) e zero = go (leb 128 x) refl (omega arith)
+one_high : (x : ℕ) → (◌≡◌ {A = ℕ} (cond (top 7 (at_least 128 x)) 1 0) 0) ↔ (x < 128)
+one_high x = go (leb 128 x) refl
   where
-    go : (t : Bool) → leb 128 x ≡ t → ◌≡◌ {A = ℕ} (cond (top 7 (cond t 255 0)) 1 0) 0 → x < 128
-    go true p q = absurd (omega arith)
-    go false p q = leb-false _ _ p
-none_high (x ∷ xs) e (suc i) = none_high xs (omega arith) i
+    go : (t : Bool) → leb 128 x ≡ t → (◌≡◌ {A = ℕ} (cond (top 7 (cond t 255 0)) 1 0) 0) ↔ (x < 128)
+    go true e = (λ q. absurd (omega arith), λ lt. absurd (omega (arith, leb-true _ _ e, lt)))
+    go false e = (λ _. leb-false _ _ e, λ _. refl)
 
-pub none_high_in_mask : (xs : List ℕ) → length xs ≡ 32 → eqb (mask_l (map (top 7) (zip2 at_least (replicate 32 128) xs)) % 2 ^ 64) 0 ≡ true → (i : ℕ) → get_or xs i 0 < 128
-none_high_in_mask xs long e =
+none_high : (xs : List ℕ) → (mask_l (map (top 7) (zip2 at_least (replicate (length xs) 128) xs)) ≡ 0) ↔ ((i : ℕ) → get_or xs i 0 < 128)
+none_high [] = (λ _ i. omega arith, λ _. refl)
+none_high (x ∷ xs) =
+    let one = one_high x in
+    let more = none_high xs in (
+      λ e. elim [ zero ↦ one.0 (omega arith) | suc i ↦ more.0 (omega arith) i ],
+      λ h. omega (arith, one.1 (h 0), more.1 (λ i. h (suc i))),
+    )
+
+pub none_high_in_mask : (xs : List ℕ) → length xs ≡ 32 → (eqb (mask_l (map (top 7) (zip2 at_least (replicate 32 128) xs)) % 2 ^ 64) 0 ≡ true) ↔ ((i : ℕ) → get_or xs i 0 < 128)
+none_high_in_mask xs long =
     let small : mask_l (map (top 7) (zip2 at_least (replicate 32 128) xs)) % 2 ^ 64 ≡ mask_l (map (top 7) (zip2 at_least (replicate 32 128) xs)) =
     mask_l-mod _ 64 (omega (arith, length-map (zip2 at_least (replicate 32 128) xs) (top 7), length-zip2 at_least (replicate 32 128) xs (sym long))) in
-    none_high xs (ap (λ n. mask_l (map (top 7) (zip2 at_least (replicate n 128) xs))) long ∙ sym small ∙ eqb-true _ _ e)
+    let same = small ∙ ap (λ n. mask_l (map (top 7) (zip2 at_least (replicate n 128) xs))) (sym long) in
+    (λ e. (none_high xs).0 (sym same ∙ eqb-true _ _ e), λ h. eq-eqb _ _ (same ∙ (none_high xs).1 h))
 
 -- ---- pairs of values
 

@@ -1,2 +1,3 @@
 mod Lanes
 mod Spelled
+mod Passed

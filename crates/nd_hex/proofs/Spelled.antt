@@ -7,7 +7,7 @@ use lib.Lanes.{put_chunk, chunk}
 use Rattle.hex.specs.Hex.{decode_of, decode_pairs, digit_or_error, hex_digit_value, pair_value, value_at}
 use Rattle.hex.proofs.HexLemmas.{decode_of-even}
 use Rattle.hex.proofs.Pairs.{decode_pairs-ok_pair, cons_byte}
-use Rattle.nd_hex.specs.Digits.{value_or_none, AreDigits, SpellsByte, SpellsFirst}
+use Rattle.nd_hex.specs.Digits.{value_or_none, AreValues, SpellsByte, SpellsFirst}
 
 -- a value below 128 is that of a digit
 pub value_small : (c : ℕ) → value_or_none c < 128 → value_or_none c < 16
@@ -52,7 +52,7 @@ spelled_is_decoded digits bytes e s = decode_of-even digits (omega (arith, e)) �
 
 -- one step more
 pub step_spells : (digits bytes values step : List ℕ) (at : ℕ) → length digits ≡ 2 * length bytes → at + 16 ≤ length bytes → length step ≡ 16
-    → values ≡ map value_or_none (chunk (2 * at) 32 digits) → AreDigits values
+    → values ≡ map value_or_none (chunk (2 * at) 32 digits) → AreValues values
     → ((i : ℕ) → i < 16 → slice_index step i ≡ (slice_index values (2 * i) * 16 + slice_index values (2 * i + 1)) % 256)
     → SpellsFirst at digits bytes → SpellsFirst (at + 16) digits (put_chunk at bytes step)
 step_spells digits bytes values step at e room long are all pairs s k lt =

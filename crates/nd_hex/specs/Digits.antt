@@ -6,9 +6,9 @@ use Rattle.hex.specs.Hex.{hex_digit_value}
 abbrev pub value_or_none : ℕ → ℕ
 value_or_none c = unwrap_or (hex_digit_value c) 255
 
--- none of some values is that of no digit
-abbrev pub AreDigits : List ℕ → Type 0
-AreDigits values = (i : ℕ) → slice_index values i < 128
+-- all are values of digits
+abbrev pub AreValues : List ℕ → Type 0
+AreValues values = (i : ℕ) → slice_index values i < 128
 
 -- two digits spell the byte at a place
 pub record SpellsByte (digits bytes : List ℕ) (place : ℕ) : Type 0 where

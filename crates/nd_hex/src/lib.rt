@@ -1,13 +1,17 @@
 //! Bytes from hexadecimal digits, as the library `hex` reads them, and faster.
 #![tactic(auto)]
 
-ghost use Rattle.std.specs.Prelude.{◌≡◌, length, MatchResult, Ok, Err};
-ghost use Rattle.hex.specs.Hex.{decode_sized};
+ghost use Rattle.std.specs.Prelude.{◌≡◌, ◌⊎◌, length, MatchResult, IfOk, IfErr, Ok, Err};
+ghost use Rattle.hex.specs.Hex.{decode_of, decode_sized};
+ghost use Rattle.hex.specs.declared.error.FromHexError.TheVariants.{OutOfMemory};
 
+mod digits;
 mod steps;
 
 use crate::steps::decode_quickly;
+pub use digits::are_digits;
 pub use hex::FromHexError;
+use std::alloc::Allocator;
 
 #[cfg(test)]
 mod tests;
@@ -21,4 +25,17 @@ pub fn decode_to_slice(digits: &[u8], bytes: &mut [u8]) -> Result<(), FromHexErr
     }
     // Few digits are left to the library, and so are those of which one is none: it finds that one.
     hex::decode_to_slice(digits, bytes)
+}
+
+/// The bytes that digits spell, in either case, as the library gives them.
+pub fn decode<A: Allocator>(alloc: A, digits: &[u8]) -> Result<Vec<u8, A>, FromHexError>
+    ensures ok { IfOk result (λ bytes. decode_of digits.now ≡ Ok bytes.items) }
+    ensures err { IfErr result (λ e. (e ≡ OutOfMemory) ⊎ (decode_of digits.now ≡ Err e)) }
+{
+    if digits.len() % 2 != 0 {
+        return Err(FromHexError::OddLength);
+    }
+    let mut bytes = vec![in alloc; 0u8; digits.len() / 2]?;
+    decode_to_slice(digits, bytes.as_mut_slice())?;
+    Ok(bytes)
 }

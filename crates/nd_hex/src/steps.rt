@@ -1,8 +1,8 @@
 //! Hexadecimal digits, 32 at a time.
 
-ghost use Rattle.std.specs.Prelude.{◌≡◌, ◌≤◌, ◌<◌, ◌+◌, ◌*◌, ◌%◌, ℕ, length, map, slice_index, slice_range, IsTrue, Ok};
+ghost use Rattle.std.specs.Prelude.{◌≡◌, ◌↔◌, ◌≤◌, ◌<◌, ◌+◌, ◌*◌, ◌%◌, ℕ, length, map, slice_index, slice_range, IsTrue, Ok};
 ghost use Rattle.hex.specs.Hex.{decode_of};
-ghost use Rattle.nd_hex.specs.Digits.{value_or_none, AreDigits, SpellsFirst};
+ghost use Rattle.nd_hex.specs.Digits.{value_or_none, AreValues, SpellsFirst};
 
 use std::simd::prelude::*;
 
@@ -10,7 +10,7 @@ use std::simd::prelude::*;
 const STEP_BYTES: usize = 16;
 
 /// The values of digits in either case, and 255 for what is none.
-fn values_of(digits: u8x32) -> u8x32
+pub(crate) fn values_of(digits: u8x32) -> u8x32
     ensures { result ≡ map value_or_none digits }
 {
     let decimal = digits - u8x32::splat(b'0');
@@ -22,8 +22,8 @@ fn values_of(digits: u8x32) -> u8x32
 }
 
 /// Whether all are values of digits.
-fn are_digits(values: u8x32) -> bool
-    ensures { IsTrue result → AreDigits values }
+pub(crate) fn are_values(values: u8x32) -> bool
+    ensures { IsTrue result ↔ AreValues values }
 {
     values.simd_ge(u8x32::splat(0x80)).to_bitmask() == 0
 }
@@ -47,7 +47,7 @@ fn decode_step(digits: &[u8], bytes: &mut [u8], at: usize) -> bool
     ensures decoded { IsTrue result → SpellsFirst at digits.now bytes.old → SpellsFirst (at + 16) digits.now bytes.new }
 {
     let values = values_of(u8x32::from_slice(&digits[2 * at..]));
-    if !are_digits(values) {
+    if !are_values(values) {
         return false;
     }
     paired(values).copy_to_slice(&mut bytes[at..]);
