@@ -19,7 +19,7 @@ fn is_hexadecimal(word: &[u8]) -> bool
 fn are_digits(word: &[u8]) -> bool
     ensures { IsTrue result ↔ AllPass is_hex_digit word.now }
 {
-    word.iter().all(|byte| byte.is_ascii_hexdigit())
+    nd_hex::are_digits(word)
 }
 
 /// The bytes that a word spells: `-` stands for none, and else each byte is two hexadecimal digits, in either case. No other word spells
@@ -38,7 +38,7 @@ pub(crate) fn read_bytes<A: Allocator + Clone>(
     if !is_hexadecimal(word) {
         return Ok(None);
     }
-    match hex::decode(alloc.clone()?, word) {
+    match nd_hex::decode(alloc.clone()?, word) {
         Ok(bytes) => Ok(Some(bytes)),
         Err(_) => Err(AllocError),
     }
