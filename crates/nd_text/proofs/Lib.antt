@@ -1,4 +1,5 @@
 pub mod DigitLemmas
+pub mod HexTexts
 pub mod LongestRun
 pub mod Words
 pub mod Gaps

@@ -1,18 +1,17 @@
 //! Digits at the end of a text.
 
-ghost use Rattle.std.specs.Prelude.{◌≡◌, ◌<◌, [], ◌∷◌, ◌++◌, OnOk, string_bytes, false};
+ghost use Rattle.std.specs.Prelude.{◌≡◌, ◌<◌, ◌≤◌, ◌*◌, [], ◌∷◌, ◌++◌, length, OnOk, string_bytes, false, IsAscii};
 ghost use Rattle.std.specs.Fmt.{digits, digit_glyph};
 ghost use Rattle.nd_text.specs.Digits.{byte_text, digit_at, hex_text};
 
 use std::alloc::{AllocError, Allocator};
 
 /// The digit of a number below 16, in lower case.
-fn hex_digit(n: u16) -> char
+fn hex_digit(n: u8) -> u8
     requires { n < 16 }
     ensures { result ≡ digit_glyph false n }
 {
-    let n = n as u8;
-    char::from(if n < 10 { b'0' + n } else { b'a' - 10 + n })
+    if n < 10 { b'0' + n } else { b'a' - 10 + n }
 }
 
 /// Writes the digit of a number below 16.
@@ -20,7 +19,7 @@ fn push_digit<A: Allocator>(text: &mut String<A>, n: u16) -> Result<(), AllocErr
     requires { n < 16 }
     ensures { OnOk result (string_bytes text.new ≡ string_bytes text.old ++ digit_glyph false n ∷ []) }
 {
-    text.push(hex_digit(n))
+    text.push(char::from(hex_digit(n as u8)))
 }
 
 /// Writes the digit of a number at a place, 16, 256 or 4096, unless it is a leading zero.
@@ -59,13 +58,48 @@ pub fn push_byte<A: Allocator>(text: &mut String<A>, byte: u8) -> Result<(), All
     Ok(())
 }
 
+/// The two hexadecimal digits of a byte, in lower case.
+pub fn byte_digits(byte: u8) -> [u8; 2]
+    ensures { result ≡ byte_text byte }
+{
+    [hex_digit(byte / 16), hex_digit(byte % 16)]
+}
+
+/// Writes ASCII characters as one piece at the end. The error is want of memory.
+pub fn push_ascii<A: Allocator>(text: &mut String<A>, characters: &[u8]) -> Result<(), AllocError>
+    requires { IsAscii characters.now }
+    ensures { OnOk result (string_bytes text.new ≡ string_bytes text.old ++ characters.now) }
+{
+    match std::str::from_utf8(characters) {
+        Ok(piece) => text.push_str(piece),
+        Err(_) => unreachable!(),
+    }
+}
+
+/// How many bytes are written as one piece.
+const PIECE: usize = 64;
+
+/// Writes a few bytes as one piece.
+fn push_piece<A: Allocator>(text: &mut String<A>, piece: &[u8]) -> Result<(), AllocError>
+    requires { length piece.now ≤ 64 }
+    ensures { OnOk result (string_bytes text.new ≡ string_bytes text.old ++ hex_text piece.now) }
+{
+    let mut room = [0; 2 * PIECE];
+    let digits = &mut room[..2 * piece.len()];
+    match hex::encode_to_slice(piece, digits) {
+        Ok(()) => push_ascii(text, digits),
+        Err(_) => unreachable!(),
+    }
+}
+
 /// Writes bytes as two hexadecimal digits each, in lower case, at the end. The error is want of memory.
 pub fn write_hex<A: Allocator>(text: &mut String<A>, bytes: &[u8]) -> Result<(), AllocError>
     ensures { OnOk result (string_bytes text.new ≡ string_bytes text.old ++ hex_text bytes.now) }
 {
     let mut rest = bytes;
-    while let [byte, after @ ..] = rest {
-        push_byte(text, *byte)?;
+    while !rest.is_empty() {
+        let (piece, after) = rest.split_at(rest.len().min(PIECE));
+        push_piece(text, piece)?;
         rest = after;
     }
     Ok(())

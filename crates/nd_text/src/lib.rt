@@ -8,7 +8,7 @@ pub mod laws;
 mod parse;
 mod text;
 
-pub use digits::{push_byte, write_hex};
+pub use digits::{byte_digits, push_ascii, push_byte, write_hex};
 pub use groups::known_groups;
 pub use parse::parse_groups;
 pub use text::write_groups;
