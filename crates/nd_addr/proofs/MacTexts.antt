@@ -1,10 +1,13 @@
 -- Reading an Ethernet address, pair by pair.
-use Rattle.std.proofs.Common.{◌≡◌, ℕ, zero, suc, ◌+◌, ◌*◌, ◌/◌, ◌%◌, ◌<◌, ◌≤◌, false, List, [], ◌∷◌, length, get_or, set, refl, sym, ap, subst, ◌∙◌, arith, inl, inr}
+use Rattle.std.proofs.Common.{◌≡◌, ℕ, zero, suc, ◌+◌, ◌*◌, ◌/◌, ◌%◌, ◌<◌, ◌≤◌, false, List, [], ◌∷◌, ◌++◌, length, get_or, set, refl, sym, ap, subst, ◌∙◌, arith, inl, inr}
 use Rattle.std.specs.Char.{digit_value}
 use Rattle.std.proofs.lemmas.Bool.{cases_lt}
 use Rattle.std.proofs.lemmas.List.{length-set, get_or-set_same, get_or-set_other}
 use Rattle.std.proofs.lemmas.Grind.{same_number_lists}
 use Rattle.std.specs.Fmt.{digit_glyph}
+use Rattle.std.specs.Str.{IsAscii}
+use Rattle.std.proofs.lemmas.Str.Ascii.{IsAscii-nil, IsAscii-cons}
+use Rattle.nd_text.specs.Digits.{byte_text}
 use Rattle.nd_addr.specs.Bytes.{IsBytes, AreBytes}
 use Rattle.nd_addr.specs.Spelling.{IsPairAt, SpellsMac}
 use Rattle.nd_addr.specs.Text.{mac_text}
@@ -69,6 +72,21 @@ pair_back text place b small high low =
     let h : digit_value (get_or text place 0) ≡ b / 16 = ap digit_value high ∙ glyph_back (b / 16) (omega arith) in
     let l : digit_value (get_or text (place + 1) 0) ≡ b % 16 = ap digit_value low ∙ glyph_back (b % 16) (omega arith) in
     record { high = omega (arith, h); low = omega (arith, l); value = omega (arith, h, l) }
+
+glyph_is_ascii : (d : ℕ) → d < 16 → digit_glyph false d < 128
+glyph_is_ascii d lt = grind (arith)
+
+-- two digits in front of ASCII characters
+digits_before : (b : ℕ) (rest : List ℕ) → b < 256 → IsAscii rest → IsAscii (byte_text b ++ rest)
+digits_before b rest small h =
+    IsAscii-cons (digit_glyph false (b / 16)) (digit_glyph false (b % 16) ∷ rest) (glyph_is_ascii (b / 16) (omega arith))
+    (IsAscii-cons (digit_glyph false (b % 16)) rest (glyph_is_ascii (b % 16) (omega arith)) h)
+
+pub mac_text_is_ascii : (bytes : List ℕ) → IsBytes bytes → IsAscii (mac_text bytes)
+mac_text_is_ascii [] small = IsAscii-nil
+mac_text_is_ascii (b ∷ []) small = digits_before b [] (small 0) IsAscii-nil
+mac_text_is_ascii (b ∷ c ∷ bytes) small =
+    digits_before b (58 ∷ mac_text (c ∷ bytes)) (small 0) (IsAscii-cons 58 (mac_text (c ∷ bytes)) (omega arith) (mac_text_is_ascii (c ∷ bytes) (λ k. small (suc k))))
 
 pub mac_text_spells : (bytes : List ℕ) → AreBytes 6 bytes → SpellsMac (mac_text bytes) bytes
 mac_text_spells ([]) s = absurd (omega (arith, s.len_is))

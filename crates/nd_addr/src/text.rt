@@ -8,7 +8,7 @@ use crate::addr::Addr;
 use crate::mac::Mac;
 use crate::prefix::Prefix;
 use byteorder::{BigEndian, ByteOrder};
-use nd_text::{push_byte, write_groups};
+use nd_text::{byte_digits, push_ascii, write_groups};
 use std::alloc::{AllocError, Allocator};
 use std::fmt::Write;
 
@@ -42,21 +42,32 @@ impl Addr {
     }
 }
 
+/// The six pairs of digits of an Ethernet address, in lower case with colons between them.
+fn mac_digits(mac: &Mac) -> [u8; 17]
+    ensures { result ≡ mac_text mac.now.0 }
+{
+    let [a, b, c, d, e, f] = mac.0;
+    let ([a, b], [c, d], [e, f], [g, h], [i, j], [k, l]) = (
+        byte_digits(a),
+        byte_digits(b),
+        byte_digits(c),
+        byte_digits(d),
+        byte_digits(e),
+        byte_digits(f),
+    );
+    [
+        a, b, b':', c, d, b':', e, f, b':', g, h, b':', i, j, b':', k, l,
+    ]
+}
+
 impl Mac {
     /// Writes six pairs of digits in lower case with colons between them. The error is want of memory.
     pub fn write_text<A: Allocator>(&self, text: &mut String<A>) -> Result<(), AllocError>
         ensures written { OnOk result (string_bytes text.new ≡ string_bytes text.old ++ mac_text self.now.0) }
         ensures spelled { SpellsMac (mac_text self.now.0) self.now.0 }
     {
-        let mut rest: &[u8] = self.as_bytes();
-        while let [byte, after @ ..] = rest {
-            push_byte(text, *byte)?;
-            if !after.is_empty() {
-                text.push(':')?;
-            }
-            rest = after;
-        }
-        Ok(())
+        let _bytes = self.as_bytes();
+        push_ascii(text, &mac_digits(self))
     }
 }
 
