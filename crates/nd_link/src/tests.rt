@@ -1,0 +1,151 @@
+use crate::*;
+use nd_addr::{Mac, Role};
+use nd_node::Event;
+use nd_out::write_node_out;
+use rand_core::SeedableRng;
+use rand_pcg::Pcg32;
+use std::alloc::Global;
+use std::process::Abort;
+use std::test::*;
+
+const MAC: Mac = Mac([0x34, 0x56, 0x78, 0x9a, 0xbc, 0xde]);
+
+/// The solicitation for the link-local address of `MAC`, and the Router Solicitation from it.
+const F1: &str =
+    "3333ff9abcde3456789abcde86dd6000000000183aff00000000000000000000000000000000ff0200000000000000000001ff9abcde870053df00000000fe80000000000000365678fffe9abcde";
+
+const F2: &str =
+    "3333000000023456789abcde86dd6000000000103afffe80000000000000365678fffe9abcdeff0200000000000000000000000000028500a78f0000000001013456789abcde";
+
+/// The answer to that solicitation by who holds the address.
+const F9: &str =
+    "3333000000013456789abcde86dd6000000000203afffe80000000000000365678fffe9abcdeff02000000000000000000000000000188001a3020000000fe80000000000000365678fffe9abcde02013456789abcde";
+
+/// A host that starts: the second word of the generator of seed 0 is 0xfc843fd7, which delays its first solicitation by 234 ms.
+fn host() -> LinkEvent<Pcg32, Global> {
+    LinkEvent::Starts(Role::Host, MAC, Pcg32::seed_from_u64(0))
+}
+
+/// The lines of what is told, each behind the number of its node.
+fn write_lines(text: &mut String<Global>, told: &[Told<Global>]) -> Result<(), Fail> {
+    for one in told {
+        match one {
+            Told::Node(node, outs) => {
+                for (at, out) in outs {
+                    write_node_out(text, *node, *at, out)?;
+                }
+            }
+            Told::Refused(2799, Refusal::TooLate(2800)) => {
+                text.push_str("link 2799 refused past 2800\n")?;
+            }
+            Told::Refused(2800, Refusal::NoNode) => text.push_str("link 2800 refused no-node\n")?,
+            Told::Refused(2800, Refusal::NoFrame) => text.push_str("link 2800 refused no-frame\n")?,
+            Told::Refused(2800, Refusal::Own) => text.push_str("link 2800 refused own\n")?,
+            Told::Refused(..) => return Err(Fail::new("another refusal")),
+        }
+    }
+    Ok(())
+}
+
+/// Two hosts that try one address at a time find it a duplicate (RFC 4862, section 5.4.3).
+fn two_try<W: Wire + Drop>(rt: &impl Abort, alloc: Global, wire: W) -> Result<(), Fail> {
+    let mut link = Link::new(alloc, wire);
+    let mut told = Vec::new(alloc);
+    link.event(0, host(), &mut told)?;
+    link.event(0, host(), &mut told)?;
+    link.event(400, LinkEvent::Delivers(1, 0), &mut told)?;
+    link.event(400, LinkEvent::Delivers(0, 1), &mut told)?;
+    let mut text = String::new(alloc);
+    write_lines(&mut text, &told)?;
+    let wanted = format!(in alloc;
+        "n0 234 tx {F1}\nn1 234 tx {F1}\nn1 400 heard ns\nn1 400 duplicate fe80::3656:78ff:fe9a:bcde\nn0 400 heard ns\nn0 400 duplicate fe80::3656:78ff:fe9a:bcde\n"
+    )?;
+    assert_eq!(rt; text.as_str(), wanted.as_str());
+    assert_eq!(rt; link.failures(), 0);
+    Ok(())
+}
+
+#[test]
+fn two_hosts_that_try_one_address_find_it_a_duplicate(rt: HostRuntime) -> Result<(), Fail> {
+    two_try(&rt, rt.alloc(), MemoryWire)
+}
+
+#[test]
+fn over_datagrams_they_find_it_too(rt: HostRuntime) -> Result<(), Fail> {
+    let wire = UdpWire::new(&rt, rt.alloc(), 2)?;
+    two_try(&rt, rt.alloc(), wire)
+}
+
+/// Who holds an address answers who tries it later (RFC 4861, section 7.2.4); and each refusal of the link.
+#[test]
+fn a_holder_answers(rt: HostRuntime) -> Result<(), Fail> {
+    let mut link = Link::new(rt.alloc(), MemoryWire);
+    let mut told = Vec::new(rt.alloc());
+    link.event(0, host(), &mut told)?;
+    link.event(2000, host(), &mut told)?;
+    link.event(2400, LinkEvent::Delivers(0, 2), &mut told)?;
+    link.event(2800, LinkEvent::Delivers(1, 3), &mut told)?;
+    link.event(2800, LinkEvent::Delivers(0, 9), &mut told)?;
+    link.event(2800, LinkEvent::Delivers(0, 3), &mut told)?;
+    link.event(2800, LinkEvent::Delivers(2, 0), &mut told)?;
+    link.event(2800, LinkEvent::Comes(2, Event::Passes), &mut told)?;
+    link.event(2799, LinkEvent::Passes, &mut told)?;
+    let mut text = String::new(rt.alloc());
+    write_lines(&mut text, &told)?;
+    let wanted = format!(in rt.alloc();
+        "n0 234 tx {F1}\nn0 1234 assigned fe80::3656:78ff:fe9a:bcde\nn0 1234 tx {F2}\nn1 2234 tx {F1}\nn0 2400 heard ns\nn0 2400 tx {F9}\nn1 2800 heard na\nn1 2800 duplicate fe80::3656:78ff:fe9a:bcde\nlink 2800 refused no-frame\nlink 2800 refused own\nlink 2800 refused no-node\nlink 2800 refused no-node\nlink 2799 refused past 2800\n"
+    )?;
+    assert_eq!(rt; text.as_str(), wanted.as_str());
+    Ok(())
+}
+
+/// A frame that comes twice is heard twice, and one that comes late is heard.
+#[test]
+fn repeated_and_late_frames_are_heard(rt: HostRuntime) -> Result<(), Fail> {
+    let mut link = Link::new(rt.alloc(), MemoryWire);
+    let mut told = Vec::new(rt.alloc());
+    link.event(0, host(), &mut told)?;
+    link.event(0, host(), &mut told)?;
+    link.event(1100, LinkEvent::Delivers(1, 0), &mut told)?;
+    link.event(1100, LinkEvent::Delivers(1, 0), &mut told)?;
+    let mut text = String::new(rt.alloc());
+    write_lines(&mut text, &told)?;
+    let wanted = format!(in rt.alloc();
+        "n0 234 tx {F1}\nn1 234 tx {F1}\nn1 1100 heard ns\nn1 1100 duplicate fe80::3656:78ff:fe9a:bcde\nn1 1100 drop 19 NotForUs\n"
+    )?;
+    assert_eq!(rt; text.as_str(), wanted.as_str());
+    Ok(())
+}
+
+#[test]
+fn a_seventeenth_node_is_refused(rt: HostRuntime) -> Result<(), Fail> {
+    let mut link = Link::new(rt.alloc(), MemoryWire);
+    let mut told = Vec::new(rt.alloc());
+    for _ in 0..MAX_NODES {
+        link.event(7, host(), &mut told)?;
+    }
+    assert!(rt; told.is_empty());
+    link.event(7, host(), &mut told)?;
+    assert!(rt; matches!(&told[..], [Told::Refused(7, Refusal::Full)]));
+    Ok(())
+}
+
+/// Where the wire fails all that was due has come, the receiver has heard nothing, and the same delivery may be tried again.
+#[test]
+fn a_fault_of_the_wire_leaves_the_turns(rt: HostRuntime) -> Result<(), Fail> {
+    let mut link = Link::new(rt.alloc(), FailingWire::new(MemoryWire, 0));
+    let mut told = Vec::new(rt.alloc());
+    link.event(0, host(), &mut told)?;
+    link.event(0, host(), &mut told)?;
+    assert!(rt; link.event(400, LinkEvent::Delivers(1, 0), &mut told) == Err(LinkFault::Wire));
+    assert_eq!(rt; link.failures(), 1);
+    link.event(400, LinkEvent::Delivers(1, 0), &mut told)?;
+    let mut text = String::new(rt.alloc());
+    write_lines(&mut text, &told)?;
+    let wanted = format!(in rt.alloc();
+        "n0 234 tx {F1}\nn1 234 tx {F1}\nn1 400 heard ns\nn1 400 duplicate fe80::3656:78ff:fe9a:bcde\n"
+    )?;
+    assert_eq!(rt; text.as_str(), wanted.as_str());
+    assert_eq!(rt; link.failures(), 1);
+    Ok(())
+}
