@@ -9,3 +9,4 @@ pub mod Arriving
 pub mod Starting
 pub mod Sending
 pub mod Answering
+pub mod Coming

@@ -4,9 +4,9 @@ ghost use Rattle.nd_wire.specs.Wire.{IsFaithful};
 ghost use Rattle.nd_link_log.specs.Log.{Log};
 ghost use Rattle.nd_link.specs.Arrival.{Happens};
 ghost use Rattle.nd_link.specs.Due.{AreSettled};
-ghost use Rattle.nd_link.specs.Event.{link_event};
+ghost use Rattle.nd_link.specs.Event.{AreEarly, link_event, link_events};
 ghost use Rattle.nd_link.specs.Link.{Stands};
-ghost use Rattle.nd_link.specs.Run.{FollowsBy};
+ghost use Rattle.nd_link.specs.Run.{FollowsBy, RunsBy, RunsInPart};
 ghost use Rattle.nd_link.specs.Time.{Leads, Onward, TellsOf};
 
 use crate::fault::LinkFault;
@@ -52,6 +52,8 @@ impl<W: Wire, R: Rng + Drop, A: Allocator + Copy> Link<W, R, A> {
         ensures never_falls { W.failed self.old.wire ≤ W.failed self.new.wire }
         ensures spent { IsErrOf result LinkFault.Memory → self.new.spent ≡ true }
         ensures stays_spent { self.old.spent ≡ true → result ≡ Err LinkFault.Memory }
+        ensures unspent { OnOk result (self.new.spent ≡ self.old.spent) }
+        ensures unspent_by_wire { IsErrOf result LinkFault.Wire → self.new.spent ≡ self.old.spent }
     {
         if self.spent {
             return Err(LinkFault::Memory);
@@ -61,6 +63,25 @@ impl<W: Wire, R: Rng + Drop, A: Allocator + Copy> Link<W, R, A> {
             self.spent = true;
         }
         answer
+    }
+
+    /// Events come, one after the other, each at its moment, in milliseconds. A fault ends them: then some have come, the first ones, and of what
+    /// is due up to the next one a part may have come too; all that is told.
+    pub fn run(
+        &mut self,
+        events: Vec<(u64, LinkEvent<R, A>), A>,
+        told: &mut Vec<Told<A>, A>,
+    ) -> Result<(), LinkFault>
+        requires { AreEarly events.items }
+        ensures runs { IsFaithful W.arrives → OnOk result (Leads R.stream self.old self.new told.old.items told.new.items (RunsBy (link_events R.stream events.items))) }
+        ensures in_part { IsFaithful W.arrives → OnErr result (TellsOf R.stream self.old told.old.items told.new.items (RunsInPart (link_events R.stream events.items))) }
+        ensures wire_failed { IsErrOf result LinkFault.Wire → HasRisen (W.failed self.old.wire) (W.failed self.new.wire) }
+        ensures never_falls { W.failed self.old.wire ≤ W.failed self.new.wire }
+    {
+        for (at, event) in events {
+            self.event(at, event, told)?;
+        }
+        Ok(())
     }
 
     /// The same, but that the link isn't spent by want of memory.

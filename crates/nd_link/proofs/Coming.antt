@@ -1,0 +1,82 @@
+-- Events that come to a link, one after the other.
+use Rattle.std.proofs.Common.{◌≡◌, ℕ, List, [], ◌∷◌, ◌++◌, append-nil, append_assoc, length, take, refl, sym, ◌∙◌, ap, subst}
+use Rattle.std.proofs.lemmas.List.{map-append}
+use Rattle.rand_core.specs.Stream.{Stream}
+use Rattle.nd_node.specs.Node.{usual_limits}
+use Rattle.nd_link_log.specs.Log.{Log}
+use Rattle.nd_link_log.specs.Event.{Event}
+use Rattle.nd_link_log.specs.History.{Follows, Runs}
+use Rattle.nd_link.specs.declared.event.LinkEvent.{LinkEvent}
+use Rattle.nd_link.specs.declared.link.Link.{Link}
+use Rattle.nd_link.specs.declared.told.Told.{Told}
+use Rattle.nd_link.specs.Event.{AreEarly, link_event, link_events}
+use Rattle.nd_link.specs.Run.{FollowsBy, RunsBy, RunsInPart}
+use Rattle.nd_link.specs.Time.{Leads, Onward, TellsOf}
+use Rattle.nd_link.proofs.Walks.{told_same, told_then}
+
+-- one more comes behind those that came
+one_more_event : (events : List (ℕ × Event)) (at : ℕ) (event : Event) (log d e : Log) → Runs usual_limits log events d → Follows usual_limits d at event e → Runs usual_limits log (events ++ (at, event) ∷ []) e
+one_more_event [] at event log d e runs follows = (e, subst (λ (x : Log). Follows usual_limits x at event e) runs follows, refl)
+one_more_event (first ∷ events) at event log d e runs follows = (runs.0, runs.1, one_more_event events at event runs.0 d e runs.2 follows)
+
+take_front : {X : Type 0} (xs ys : List X) → take (length xs) (xs ++ ys) ≡ xs
+take_front [] ys = refl
+take_front (x ∷ xs) ys = ap (λ l. x ∷ l) (take_front xs ys)
+
+early_rest : {R A : Type 0} (e : ℕ × LinkEvent R A) (rest all : List (ℕ × LinkEvent R A)) → all ≡ e ∷ rest → AreEarly all → AreEarly rest
+early_rest {R} {A} e rest all is early = (subst (λ (l : List (ℕ × LinkEvent R A)). AreEarly l) is early).1
+
+-- of the events these came, and those are left
+pub record Came {W R A : Type 0} (Faithful : Type 0) (stream : R → Stream) (origin link : Link W R A) (x y : List (Told A)) (all rest : List (ℕ × LinkEvent R A)) : Type 0 where
+  pub came : List (ℕ × LinkEvent R A)
+  pub all_is : all ≡ came ++ rest
+  pub early : AreEarly rest
+  pub sofar : Faithful → Leads stream origin link x y (RunsBy (link_events stream came))
+
+module _ {W R A : Type 0} (Faithful : Type 0) (stream : R → Stream) where
+  pub none_came : (link : Link W R A) (told : List (Told A)) (all rest : List (ℕ × LinkEvent R A)) → all ≡ rest → AreEarly all → Came Faithful stream link link told told all rest
+  none_came link told all rest is early = record {
+    came = [];
+    all_is = is;
+    early = subst (λ (l : List (ℕ × LinkEvent R A)). AreEarly l) is early;
+    sofar = λ faithful. record { each = λ log s. (log, refl, s, told_same log told) };
+  }
+
+  module _ (origin old new : Link W R A) (x y z : List (Told A)) (all before rest : List (ℕ × LinkEvent R A)) (e : ℕ × LinkEvent R A) (is : before ≡ e ∷ rest) (c : Came Faithful stream origin old x y all before) where
+    pub one_came : (Faithful → Leads stream old new y z (FollowsBy e.0 (link_event stream e.1))) → Came Faithful stream origin new x z all rest
+    one_came next = record {
+      came = c.came ++ e ∷ [];
+      all_is = c.all_is ∙ (ap (λ (l : List (ℕ × LinkEvent R A)). c.came ++ l) is ∙ sym (append_assoc c.came (e ∷ []) rest));
+      early = early_rest e rest before is c.early;
+      sofar = λ faithful. record {
+        each = λ log s.
+            let l = (c.sofar faithful).each log s in
+            let n = (next faithful).each l.0 l.2 in (
+              n.0,
+              subst (λ (events : List (ℕ × Event)). Runs usual_limits log events n.0) (sym (map-append (λ (v : ℕ × LinkEvent R A). (v.0, link_event stream v.1)) c.came (e ∷ [])))
+                  (one_more_event (link_events stream c.came) e.0 (link_event stream e.1) log l.0 n.0 l.1 n.1),
+              n.2,
+              told_then log l.0 n.0 x y z l.3 n.3,
+            );
+      };
+    }
+
+    pub came_in_part : Faithful → TellsOf stream old y z (Onward e.0) → TellsOf stream origin x z (RunsInPart (link_events stream all))
+    came_in_part faithful next = record {
+      each = λ log s.
+          let l = (c.sofar faithful).each log s in
+          let n = next.each l.0 l.2 in
+          let events = link_events stream c.came in
+          let split : link_events stream all ≡ events ++ link_events stream before = ap (link_events stream) c.all_is ∙ map-append (λ (v : ℕ × LinkEvent R A). (v.0, link_event stream v.1)) c.came before in
+          let few : events ≡ take (length events) (link_events stream all) = sym (take_front events (link_events stream before)) ∙ ap (take (length events)) (sym split) in (
+            n.0,
+            (length events, e.0, l.0, subst (λ (v : List (ℕ × Event)). Runs usual_limits log v l.0) few l.1, n.1),
+            told_then log l.0 n.0 x y z l.3 n.2,
+          );
+    }
+
+  -- all came where none is left
+  pub all_came : (origin link : Link W R A) (x y : List (Told A)) (all rest : List (ℕ × LinkEvent R A)) → rest ≡ [] → Came Faithful stream origin link x y all rest → Faithful → Leads stream origin link x y (RunsBy (link_events stream all))
+  all_came origin link x y all rest none c faithful =
+      let whole : c.came ≡ all = sym (c.all_is ∙ (ap (λ (l : List (ℕ × LinkEvent R A)). c.came ++ l) none ∙ append-nil c.came)) in
+      subst (λ (l : List (ℕ × LinkEvent R A)). Leads stream origin link x y (RunsBy (link_events stream l))) whole (c.sofar faithful)

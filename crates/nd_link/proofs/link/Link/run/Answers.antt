@@ -1,0 +1,36 @@
+use Rattle.std.proofs.Common.{◌≡◌, length, sym, arith}
+use Rattle.std.proofs.lemmas.List.{nil_from_length}
+use Rattle.std.specs.Vec.Iter.{into_iter_items}
+use Rattle.nd_wire.specs.Wire.{IsFaithful}
+use Rattle.nd_node.proofs.Running.{on_err_any}
+use Rattle.nd_link.proofs.Coming.{all_came, came_in_part, none_came, one_came}
+use Rattle.nd_link.proofs.link.Link.run.Goals as goal
+
+pub loop-at-init : goal.loop-at-init
+loop-at-init g c = record {
+  came = none_came (IsFaithful g.W.Wire.arrives) g.R.Rng.stream c.args.self.now c.args.told.now.items c.args.events.items (into_iter_items c.into_iter-at-iterator.result) (sym c.into_iter-at-iterator.ensures.into_iter_gives.0) c.requires;
+  never_falls = omega arith;
+}
+
+pub loop-at-preserved : goal.loop-at-preserved
+loop-at-preserved g c =
+    let inv = c.loop-at.invariant in
+    let before = inv.never_falls in
+    let more = c.in_ok-event.ensures.never_falls in record {
+      came = one_came (IsFaithful g.W.Wire.arrives) g.R.Rng.stream c.args.self.now c.loop-at.self c.event.new.self c.args.told.now.items c.loop-at.told.items c.event.new.told.items c.args.events.items
+          (into_iter_items c.loop-at.at-iterator) (into_iter_items c.next.new.self) (c.in-Some.at, c.in-Some.event) c.in-Some.ensures.steps.0 inv.came c.in_ok-event.ensures.follows;
+      never_falls = omega (arith, before, more);
+    }
+
+pub returns-in_err-event-clause-in_part : goal.returns-in_err-event-clause-in_part
+returns-in_err-event-clause-in_part g c = λ faithful.
+    on_err_any c.from_residual.result _
+    (came_in_part (IsFaithful g.W.Wire.arrives) g.R.Rng.stream c.args.self.now c.loop-at.self c.event.new.self c.args.told.now.items c.loop-at.told.items c.event.new.told.items c.args.events.items
+    (into_iter_items c.loop-at.at-iterator) (into_iter_items c.next.new.self) (c.in-Some.at, c.in-Some.event) c.in-Some.ensures.steps.0 c.loop-at.invariant.came faithful c.in_err-event.ensures.told)
+
+pub returns-clause-runs : goal.returns-clause-runs
+returns-clause-runs g c = λ faithful.
+    let ok = c.loop-at.at-iterator.rest.ok.0 in
+    let none = c.in-None.ensures.steps.0 in
+    let len : length (into_iter_items c.loop-at.at-iterator) ≡ 0 = omega (arith, ok, none) in
+    all_came (IsFaithful g.W.Wire.arrives) g.R.Rng.stream c.args.self.now c.loop-at.self c.args.told.now.items c.loop-at.told.items c.args.events.items (into_iter_items c.loop-at.at-iterator) (nil_from_length (into_iter_items c.loop-at.at-iterator) len) c.loop-at.invariant.came faithful
