@@ -21,4 +21,6 @@ pub use told::write_told;
 #[cfg(test)]
 mod line_tests;
 #[cfg(test)]
+mod run_tests;
+#[cfg(test)]
 mod told_tests;

@@ -1,0 +1,97 @@
+use super::*;
+use nd_io::input::Pieces;
+use nd_io::output::Writing;
+use nd_io::tool_fault::ToolFault;
+use nd_link::{FailingWire, MemoryWire, UdpWire, Wire};
+use std::alloc::Global;
+use std::test::*;
+
+/// Two hosts try one address at a time, and find it a duplicate (RFC 4862, section 5.4.3).
+const TWO_TRY: &str =
+    "0 node host 34:56:78:9a:bc:de word:0\n0 node host 34:56:78:9a:bc:de word:0\n400 deliver 1 0\n400 deliver 0 1\n";
+
+const BOTH_SENT: &str =
+    "n0 0 tx 3333ff9abcde3456789abcde86dd6000000000183aff00000000000000000000000000000000ff0200000000000000000001ff9abcde870053df00000000fe80000000000000365678fffe9abcde\nn1 0 tx 3333ff9abcde3456789abcde86dd6000000000183aff00000000000000000000000000000000ff0200000000000000000001ff9abcde870053df00000000fe80000000000000365678fffe9abcde\n";
+
+const FIRST_HEARD: &str = "n1 400 heard ns\nn1 400 duplicate fe80::3656:78ff:fe9a:bcde\n";
+
+const SECOND_HEARD: &str = "n0 400 heard ns\nn0 400 duplicate fe80::3656:78ff:fe9a:bcde\n";
+
+/// One host tries an address that another holds, which answers (RFC 4861, section 7.2.4).
+const ONE_HOLDS: &str =
+    "0 node host 34:56:78:9a:bc:de word:0\n2000 node host 34:56:78:9a:bc:de word:0\n2400 deliver 0 2\n2800 deliver 1 3\n2800 deliver 0 9\n";
+
+const HELD: &str =
+    "n0 0 tx 3333ff9abcde3456789abcde86dd6000000000183aff00000000000000000000000000000000ff0200000000000000000001ff9abcde870053df00000000fe80000000000000365678fffe9abcde\nn0 1000 assigned fe80::3656:78ff:fe9a:bcde\nn0 1000 tx 3333000000023456789abcde86dd6000000000103afffe80000000000000365678fffe9abcdeff0200000000000000000000000000028500a78f0000000001013456789abcde\nn1 2000 tx 3333ff9abcde3456789abcde86dd6000000000183aff00000000000000000000000000000000ff0200000000000000000001ff9abcde870053df00000000fe80000000000000365678fffe9abcde\nn0 2400 heard ns\nn0 2400 tx 3333000000013456789abcde86dd6000000000203afffe80000000000000365678fffe9abcdeff02000000000000000000000000000188001a3020000000fe80000000000000365678fffe9abcde02013456789abcde\nn1 2800 heard na\nn1 2800 duplicate fe80::3656:78ff:fe9a:bcde\nlink 2800 refused no-frame\n";
+
+/// What a link over a wire writes for some lines, which are read in pieces, and how the run ends.
+fn run<W: Wire + Drop>(
+    alloc: Global,
+    wire: W,
+    lines: &str,
+    piece: usize,
+) -> (Vec<u8>, Result<(), ToolFault>) {
+    let mut script = LinkScript::new(alloc, wire);
+    let mut reader = Pieces::new(lines.as_bytes(), piece.max(1));
+    let mut writer = Writing::new(Vec::new(alloc));
+    let done = run_link(alloc, &mut reader, &mut writer, &mut script);
+    (writer.into_inner(), done)
+}
+
+#[test]
+fn two_hosts_try_one_address(rt: HostRuntime) -> Result<(), Fail> {
+    for piece in [1, 7, 4096] {
+        let (text, done) = run(rt.alloc(), MemoryWire, TWO_TRY, piece);
+        let wanted = format!(in rt.alloc(); "{BOTH_SENT}{FIRST_HEARD}{SECOND_HEARD}")?;
+        assert_eq!(rt; text.as_slice(), wanted.as_bytes());
+        assert_eq!(rt; done, Ok(()));
+    }
+    Ok(())
+}
+
+#[test]
+fn they_try_it_over_datagrams(rt: HostRuntime) -> Result<(), Fail> {
+    let wire = UdpWire::new(&rt, rt.alloc(), 2)?;
+    let (text, done) = run(rt.alloc(), wire, TWO_TRY, 4096);
+    let wanted = format!(in rt.alloc(); "{BOTH_SENT}{FIRST_HEARD}{SECOND_HEARD}")?;
+    assert_eq!(rt; text.as_slice(), wanted.as_bytes());
+    assert_eq!(rt; done, Ok(()));
+    Ok(())
+}
+
+#[test]
+fn one_holds_the_address(rt: HostRuntime) -> Result<(), Fail> {
+    let (text, done) = run(rt.alloc(), MemoryWire, ONE_HOLDS, 4096);
+    assert_eq!(rt; text.as_slice(), HELD.as_bytes());
+    assert_eq!(rt; done, Ok(()));
+    let wire = UdpWire::new(&rt, rt.alloc(), 2)?;
+    let (text, done) = run(rt.alloc(), wire, ONE_HOLDS, 4096);
+    assert_eq!(rt; text.as_slice(), HELD.as_bytes());
+    assert_eq!(rt; done, Ok(()));
+    Ok(())
+}
+
+/// Where the wire fails at one frame, what came before it is written, the nodes' turns included.
+#[test]
+fn a_wire_that_fails_ends_the_run(rt: HostRuntime) -> Result<(), Fail> {
+    let (text, done) = run(rt.alloc(), FailingWire::new(MemoryWire, 0), TWO_TRY, 4096);
+    assert_eq!(rt; done, Err(ToolFault::Wire));
+    assert!(rt; BOTH_SENT.as_bytes().starts_with(&text));
+    let (text, done) = run(rt.alloc(), FailingWire::new(MemoryWire, 1), TWO_TRY, 4096);
+    assert_eq!(rt; done, Err(ToolFault::Wire));
+    let wanted = format!(in rt.alloc(); "{BOTH_SENT}{FIRST_HEARD}")?;
+    assert!(rt; wanted.as_bytes().starts_with(&text));
+    let (_, done) = run(rt.alloc(), FailingWire::new(MemoryWire, 2), TWO_TRY, 4096);
+    assert_eq!(rt; done, Ok(()));
+    Ok(())
+}
+
+#[test]
+fn a_malformed_line_ends_the_run(rt: HostRuntime) -> Result<(), Fail> {
+    let lines = format!(in rt.alloc(); "{TWO_TRY}400 on 0 rx -\n400 deliver 1 0\n")?;
+    let (text, done) = run(rt.alloc(), MemoryWire, lines.as_str(), 4096);
+    let wanted = format!(in rt.alloc(); "{BOTH_SENT}{FIRST_HEARD}{SECOND_HEARD}")?;
+    assert_eq!(rt; text.as_slice(), wanted.as_bytes());
+    assert_eq!(rt; done, Err(ToolFault::Line(5)));
+    Ok(())
+}
