@@ -63,9 +63,6 @@ glyph_back (suc (suc (suc (suc (suc (suc (suc (suc (suc (suc (suc (suc (suc (suc
 glyph_back (suc (suc (suc (suc (suc (suc (suc (suc (suc (suc (suc (suc (suc (suc (suc zero))))))))))))))) lt = refl
 glyph_back (suc (suc (suc (suc (suc (suc (suc (suc (suc (suc (suc (suc (suc (suc (suc (suc d)))))))))))))))) lt = absurd (omega arith)
 
-glyph_small : (d : ℕ) → d < 16 → digit_value (digit_glyph false d) < 16
-glyph_small d lt = omega (arith, glyph_back d lt)
-
 -- both digits of a byte, wherever they stand
 pair_back : (text : List ℕ) (place b : ℕ) → b < 256 → get_or text place 0 ≡ digit_glyph false (b / 16) → get_or text (place + 1) 0 ≡ digit_glyph false (b % 16) → IsPairAt text place b
 pair_back text place b small high low =

@@ -18,7 +18,7 @@ fn word(high: u8, low: u8) -> u64
     256 * high as u64 + low as u64
 }
 
-/// How many bytes are added at most before their sum is made small again, so that none wraps.
+/// How many bytes are added at most before their sum is made small again, so that none wraps (our choice).
 const PIECE: usize = 65536;
 
 /// A sum, and the words of some bytes added to it, two words a step. The carries are left in it.

@@ -17,7 +17,7 @@ pub const LEAST_MTU: u32 = 1280;
 /// How many bytes an IPv6 header has, which is where the payload begins (RFC 8200, section 3).
 pub(crate) const IPV6_HEADER_LENGTH: usize = 40;
 
-/// The version of IPv6, in the first four bits.
+/// The version of IPv6, in the first four bits (RFC 8200, section 3).
 const VERSION: u32 = 6;
 
 /// Where the fields stand behind the first four bytes, which are version, traffic class and flow label.

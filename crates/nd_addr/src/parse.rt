@@ -1,6 +1,6 @@
 //! Addresses read from text.
 
-ghost use Rattle.std.specs.Prelude.{◌≡◌, ◌<◌, ℕ, length, slice_index, List, IfOk, IsOkAnd};
+ghost use Rattle.std.specs.Prelude.{◌≡◌, ℕ, List, IfOk, IsOkAnd};
 ghost use Rattle.nd_addr.specs.Text.{groups_of};
 ghost use Rattle.nd_text.specs.Spelling.{SpellsAddress};
 

@@ -42,7 +42,7 @@ pub enum Why {
     /// A redirect for a multicast destination (RFC 4861, section 8.1).
     RedirectDestination = 18,
     /// A message that is not for this node: to a host a Router Solicitation, to a router a Router Advertisement or a Redirect (RFC
-    /// 4861, sections 6.2.6, 6.2.7 and 8.2).
+    /// 4861, sections 6.2.6, 6.3.4 and 8.2).
     NotForUs = 19,
     /// A redirect from a node that is not the first hop of its destination (RFC 4861, section 8.1).
     NotFirstHop = 20,

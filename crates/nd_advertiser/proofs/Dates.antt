@@ -6,7 +6,7 @@ use Rattle.nd_table.specs.Due.{NotBefore}
 use Rattle.nd_advertiser.specs.History.{Row, Advertises, Assigned, Solicited, Sent, Ceased, Offered}
 use Rattle.nd_advertiser.specs.Advertising.{advertised_by, is_on, began_of, assigned_of, sent_of, last_of, planned_of, answer_of, answer_date, first_date, interval_after, next_date, next_of, settings_of, tells_its_end, max_initial_rtr_advertisements}
 use Rattle.nd_advertiser.specs.Config.{Settings}
-use Rattle.nd_advertiser.specs.Calls.{advertised, begun, next, planned_for}
+use Rattle.nd_advertiser.specs.Calls.{next}
 use Rattle.nd_advertiser.specs.Table.{Advertising, Table, Stands, advertising_of}
 use Rattle.nd_advertiser.specs.Overdue.{IsOf, IsAfter, IsSpaced}
 
@@ -136,28 +136,6 @@ spaced now history (Sent at interval) is h =
     sent_after (is_on history) at (first_date (began_of history) (assigned_of history) (Some at)) (interval_after (sent_of history) interval) (interval_stays (sent_of history) interval is.1)
 spaced now history (Ceased at) is h = none_after (if tells_its_end history then Some at else last_of history)
 spaced now history (Offered info) is h = h
-
--- ---- the same by what is kept
-
-pub after_begun : (now : ℕ) (settings : Settings) (assigned last : Option ℕ) (a : Option Advertising) → IsAfter last (next assigned last a) → IsAfter last (next assigned last (begun now settings a))
-after_begun now settings assigned None None h = tt
-after_begun now settings assigned (Some l) None h = first_after (Some now) assigned l
-after_begun now settings assigned last (Some a) h = h
-
-pub after_assigned : (now : ℕ) (was last : Option ℕ) (a : Option Advertising) → IsAfter last (next was last a) → IsAfter last (next (Some now) last a)
-after_assigned now was last None h = h
-after_assigned now was last (Some a) h = assigned_after true now a.began was last a.planned a.answer h
-
-pub after_planned : (now delay : ℕ) (assigned last : Option ℕ) (a : Option Advertising) → IsAfter last (next assigned last a) → IsAfter last (next assigned last (planned_for last now delay a))
-after_planned now delay assigned last None h = h
-after_planned now delay assigned last (Some a) h = solicited_after true now (first_date a.began assigned last) a.planned a.answer last delay h
-
-pub after_sent : (now interval : ℕ) (assigned : Option ℕ) (a : Option Advertising) → 0 < interval → IsAfter (Some now) (next assigned (Some now) (advertised now interval a))
-after_sent now interval assigned None h = tt
-after_sent now interval assigned (Some a) h = sent_after true now (first_date a.began assigned (Some now)) (interval_after a.sent interval) (interval_stays a.sent interval h)
-
-pub after_ceased : (last : Option ℕ) → IsAfter last None
-after_ceased last = none_after last
 
 -- ---- what an advertisement says that is due
 

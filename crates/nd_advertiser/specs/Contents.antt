@@ -11,7 +11,7 @@ use Rattle.nd_advertiser.specs.History.{Row}
 use Rattle.nd_advertiser.specs.Advertising.{advertised_by}
 use Rattle.nd_advertiser.specs.Offers.{offers_of}
 
--- "MTU option: if the AdvLinkMTU variable is non-zero"
+-- an MTU option where AdvLinkMTU isn't 0 (RFC 4861, section 6.2.3)
 abbrev pub mtu_options : ℕ → List Said
 mtu_options n = if n == 0 then [] else mtu n ∷ []
 

@@ -17,7 +17,8 @@ use nd_decode::{Body, RouterAdvertisement};
 use nd_message::{Message, Opt};
 use std::alloc::{AllocError, Allocator};
 
-/// How many bytes the message of an advertisement has at most.
+/// How many bytes the message of an advertisement has at most: 16 of fields, 8 of the link-layer address, 8 of the MTU, and 32 of
+/// each of 16 offers (RFC 4861, section 4.2).
 pub const MAX_CONTENTS_LENGTH: usize = 544;
 
 /// How many options it has at most: the link-layer address, the MTU, and the offers.

@@ -1,4 +1,4 @@
-ghost use Rattle.std.specs.Prelude.{◌≢◌, ◌^◌, ◌⊎◌, ℕ, OnOk, OnErr, IsErrOf, Some, None, Err};
+ghost use Rattle.std.specs.Prelude.{◌≢◌, ◌⊎◌, ℕ, OnOk, OnErr, IsErrOf, Some, None, Err};
 ghost use Rattle.nd_io.specs.Counts.{HasRisen, HasGrownBy, most_reads};
 ghost use Rattle.nd_io.specs.Run.{Wrote, WroteFront, Answered};
 ghost use Rattle.nd_io.specs.Each.{text_of_each, malformed_of_each};

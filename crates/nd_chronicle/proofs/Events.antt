@@ -31,7 +31,7 @@ use Rattle.nd_chronicle.specs.Histories.{neighbour_history, prefix_history, addr
 use Rattle.nd_chronicle.specs.Message.{said, PlaceFor, releasing}
 use Rattle.nd_chronicle.specs.RouterAdvertisement.{then_advertised}
 use Rattle.nd_chronicle.specs.NeighborSolicitation as asked
-use Rattle.nd_chronicle.specs.NeighborSolicitation.{is_router, ThenSolicited, then_tried}
+use Rattle.nd_chronicle.specs.NeighborSolicitation.{is_router}
 use Rattle.nd_frames.specs.Frames.{answer_frame}
 use Rattle.nd_chronicle.specs.OwnAddress.{is_own}
 use Rattle.nd_chronicle.specs.Packet.{no_place, Goes, GoesIfPlaced}

@@ -1,7 +1,7 @@
 -- An own address other than the link-local one is known only where that one is assigned, and it stays so.
 use Rattle.std.proofs.Common.{◌≡◌, ℕ, Bool, true, false, cond, eqb, List, [], ◌∷◌, ◌++◌, Some, None, refl, sym, ◌∙◌, ap, subst, inl, inr}
 use Rattle.std.specs.Prelude.{◌≢◌, ◌==◌, ◌&&◌, ◌||◌, not, nat_lt, MatchBool}
-use Rattle.std.specs.List.{All, AllByRecursion}
+use Rattle.std.specs.List.{AllByRecursion}
 use Rattle.std.proofs.lemmas.List.Elements.{recursion_from_All}
 use Rattle.std.proofs.lemmas.Bool.{eqb-true, eq-eqb, ne_eqb, true≢false}
 use Rattle.nd_table.proofs.Cases.{either}
@@ -23,7 +23,7 @@ use Rattle.nd_chronicle.specs.Histories.{address_history}
 use Rattle.nd_chronicle.specs.InForce.{retrans_timer}
 use Rattle.nd_chronicle.specs.OwnAddress.{story_of, is_own, is_up}
 use Rattle.nd_chronicle.specs.RouterAdvertisement.{with_delay, forming, naming, then_option, then_options}
-use Rattle.nd_chronicle.specs.Event.{Event, EventAdds, Receives}
+use Rattle.nd_chronicle.specs.Event.{ComeAsBytes, ComesAsBytes, Event, EventAdds, Receives}
 use Rattle.nd_chronicle.specs.History.{Walk, over, adds, passes, Runs, beginning, first_delay, with_reachable_time}
 use Rattle.nd_chronicle.specs.Past as chronicle
 use Rattle.nd_chronicle.proofs.Named.{names_another, heard_fit}
@@ -114,10 +114,6 @@ at_turn own m (Assigns key) history first g = of_tentative own m key Assigned hi
 
 -- ---- a node
 
--- a frame that comes is bytes
-abbrev IsOfBytes : Event → Type 0
-IsOfBytes event = (frame : List ℕ) → event ≡ Receives frame → IsBytes frame
-
 -- an own address is known
 pub own_known : (s : Story) → (is_tentative s || is_assigned s) ≡ true → is_known s ≡ true
 own_known s h = by_parts (is_known s) (not (has_conflict s)) (was_assigned s) h
@@ -172,7 +168,7 @@ module _ (start : Start) where
   stands_walk {c = c} {m = m} (adds what le due w) s = stands_walk w (stands_due (comes_brings start m c what due) s)
   stands_walk (passes le due w) s = stands_walk w s
 
-  stands_event : {now : ℕ} {event : Event} {c d : Chronicle} → IsOfBytes event → Brings start now event c d → Stands (address_history c) → Stands (address_history d)
+  stands_event : {now : ℕ} {event : Event} {c d : Chronicle} → ComesAsBytes event → Brings start now event c d → Stands (address_history c) → Stands (address_history d)
   stands_event bytes (Nothing same) s = subst Stands (sym same) s
   stands_event {now = now} {c = c} bytes (Conflicts key tentative is) s =
       subst Stands (sym is) (of_tentative (link_local_key start) now key Conflict (address_history c) (ground (link_local_key start) (address_history c) s) refl (λ s. refl) tentative, s)
@@ -180,12 +176,12 @@ module _ (start : Start) where
       subst (λ (x : Chronicle). Stands (address_history x)) (sym is)
       (up_options now to_all (prefixes_in message.options) e (heard_fit frame message (bytes frame received) spelled) (subst StandsUp (sym same) (s, up))).0
 
-  stands_follows : (t : Bool) (c : Chronicle) (now last : ℕ) (event : Event) (d : Chronicle) → IsOfBytes event → Stands (address_history c)
+  stands_follows : (t : Bool) (c : Chronicle) (now last : ℕ) (event : Event) (d : Chronicle) → ComesAsBytes event → Stands (address_history c)
       → MatchBool t (d ≡ (now, TooLate last) ∷ c) ((e : Chronicle) × Walk start c (last_moment start.at c) now e × EventAdds start now event ((now, Passed) ∷ e) d) → Stands (address_history d)
   stands_follows true c now last event d bytes s h = subst Stands (sym (ap address_history h)) s
   stands_follows false c now last event d bytes s h = stands_event bytes (event_brings start now event ((now, Passed) ∷ h.0) d h.2) (stands_walk h.1 s)
 
-  stands_run : (events : List (ℕ × Event)) (c d : Chronicle) → AllByRecursion (λ event. IsOfBytes event.1) events → Runs start c events d → Stands (address_history c) → Stands (address_history d)
+  stands_run : (events : List (ℕ × Event)) (c d : Chronicle) → AllByRecursion (λ event. ComesAsBytes event.1) events → Runs start c events d → Stands (address_history c) → Stands (address_history d)
   stands_run [] c d bytes h s = subst Stands (sym (ap address_history h)) s
   stands_run (event ∷ events) c d bytes h s =
       stands_run events h.0 d bytes.1 h.2 (stands_follows (nat_lt event.0 (last_moment start.at c)) c event.0 (last_moment start.at c) event.1 h.0 bytes.0 s h.1)
@@ -207,7 +203,7 @@ module _ (start : Start) where
       } in
       (record { grounded = grounded; stays = λ up. absurd (true≢false (sym up)) }, tt)
 
-  module _ (events : List (ℕ × Event)) (c : Chronicle) (bytes : All (λ event. IsOfBytes event.1) events) (runs : Runs start (beginning start) events c) where
+  module _ (events : List (ℕ × Event)) (c : Chronicle) (bytes : ComeAsBytes events) (runs : Runs start (beginning start) events c) where
     stands : (d : Chronicle) → chronicle.Past d c → Stands (address_history d)
     stands d p = rest_before (link_local_key start) (address_history d) (address_history c) (history_past d c p) (stands_run events (beginning start) c (recursion_from_All _ events bytes) runs stands_beginning)
 
@@ -220,7 +216,7 @@ module _ (start : Start) where
     pub stays_up : (e d : Chronicle) → chronicle.Past e d → chronicle.Past d c → is_up start e ≡ true → is_up start d ≡ true
     stays_up e d p q up = still_assigned (link_local_key start) (address_history e) (address_history d) (history_past e d p) (stands d q) up
 
-    pub up_later : (later : List (ℕ × Event)) (d : Chronicle) → All (λ event. IsOfBytes event.1) later → Runs start c later d → is_up start c ≡ true → is_up start d ≡ true
+    pub up_later : (later : List (ℕ × Event)) (d : Chronicle) → ComeAsBytes later → Runs start c later d → is_up start c ≡ true → is_up start d ≡ true
     up_later later d more then up =
         let g = runs_grows start later c d then in
         let past : chronicle.Past c d = subst (chronicle.Past c) (sym g.all) (past_of g.newer c) in

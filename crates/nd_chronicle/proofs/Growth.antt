@@ -26,7 +26,7 @@ use Rattle.nd_params.specs.Params.{redraws}
 use Rattle.nd_neighbour.specs.Entry.{Node, waiting_in}
 use Rattle.nd_neighbour.specs.Due as neighbours_due
 use Rattle.nd_neighbour.specs.History as neighbours
-use Rattle.nd_neighbour.specs.History.{RowKind, Story, story}
+use Rattle.nd_neighbour.specs.History.{RowKind, story}
 use Rattle.nd_neighbour.specs.News.{released_by}
 use Rattle.nd_neighbour.specs.Sending.{Sending, Sends, Queues}
 use Rattle.nd_neighbour.specs.Story.{mac_of, waits_of}
@@ -52,7 +52,7 @@ use Rattle.nd_chronicle.specs.NeighborSolicitation as asked
 use Rattle.nd_chronicle.specs.NeighborSolicitation.{then_tried}
 use Rattle.nd_chronicle.specs.NeighborAdvertisement.{conflicting, ends_in_list, then_neighbor_advertised}
 use Rattle.nd_chronicle.specs.Event as events
-use Rattle.nd_chronicle.specs.Event.{Event, Clearable, packet_bytes, MessageAdds, VerdictAdds, FrameAdds, PacketAdds, SendAdds, refusal_of_packet, ClearAdds, clearing, all_leaving, forgetting, EventAdds}
+use Rattle.nd_chronicle.specs.Event.{Event, Clearable, packet_bytes, MessageAdds, VerdictAdds, PacketAdds, SendAdds, refusal_of_packet, ClearAdds, clearing, all_leaving, EventAdds}
 use Rattle.nd_chronicle.specs.Due.{What, RouterEnds, AddressFalls, NeighbourFalls, RoutersSolicited, RouterAdvertises, Redraws, then_neighbour, comes}
 use Rattle.nd_chronicle.specs.Growth.{Grows}
 use Rattle.nd_chronicle.specs.History.{Walk, over, adds, passes, Runs}

@@ -1,7 +1,7 @@
 -- The number of an own address is that of an address, and of no multicast address.
 use Rattle.std.proofs.Common.{◌≡◌, ℕ, ◌/◌, ◌^◌, Bool, true, false, cond, eqb, List, [], ◌∷◌, ◌++◌, length, take, slice_index, refl, sym, ◌∙◌, ap, subst, arith, inl, inr}
 use Rattle.std.specs.Prelude.{◌==◌, ◌&&◌, not, nat_lt, nat_eq, MatchBool, bit_xor}
-use Rattle.std.specs.List.{All, AllByRecursion}
+use Rattle.std.specs.List.{AllByRecursion}
 use Rattle.std.proofs.lemmas.Bool.{eqb-true, true≢false}
 use Rattle.std.proofs.lemmas.List.{length-append, length-take}
 use Rattle.std.proofs.lemmas.List.Elements.{recursion_from_All}
@@ -29,7 +29,7 @@ use Rattle.nd_chronicle.specs.Happening.{Chronicle, Passed, TooLate, last_moment
 use Rattle.nd_chronicle.specs.Histories.{address_history}
 use Rattle.nd_chronicle.specs.OwnAddress.{story_of}
 use Rattle.nd_chronicle.specs.RouterAdvertisement.{forming, naming, then_option, then_options}
-use Rattle.nd_chronicle.specs.Event.{Event, EventAdds, Receives}
+use Rattle.nd_chronicle.specs.Event.{ComeAsBytes, ComesAsBytes, Event, EventAdds, Receives}
 use Rattle.nd_chronicle.specs.History.{Walk, over, adds, passes, Runs, beginning}
 use Rattle.nd_chronicle.specs.Past as chronicle
 use Rattle.nd_chronicle.proofs.Named.{heard_fit}
@@ -155,10 +155,6 @@ usable_before h (row ∷ history) (inr p) all = usable_before h history p all.1
 
 -- ---- whatever happens
 
--- a frame that comes is bytes
-abbrev IsOfBytes : Event → Type 0
-IsOfBytes event = (frame : List ℕ) → event ≡ Receives frame → IsBytes frame
-
 module _ (start : Start) (mac : AreBytes 6 start.mac.0) where
   module _ (now : ℕ) (to_all : Bool) where
     usable_if : (t : Bool) (c d : Chronicle) → AllUsable (address_history c) → AllUsable (address_history d) → AllUsable (address_history (cond t c d))
@@ -192,26 +188,26 @@ module _ (start : Start) (mac : AreBytes 6 start.mac.0) where
   usable_walk {c = c} {m = m} (adds what le due w) u = usable_walk w (usable_due (comes_brings start m c what due) u)
   usable_walk (passes le due w) u = usable_walk w u
 
-  usable_event : {now : ℕ} {event : Event} {c d : Chronicle} → IsOfBytes event → Brings start now event c d → AllUsable (address_history c) → AllUsable (address_history d)
+  usable_event : {now : ℕ} {event : Event} {c d : Chronicle} → ComesAsBytes event → Brings start now event c d → AllUsable (address_history c) → AllUsable (address_history d)
   usable_event bytes (Nothing same) u = subst AllUsable (sym same) u
   usable_event bytes (Conflicts key tentative is) u = subst AllUsable (sym is) (tt, u)
   usable_event {now = now} bytes (Announces frame message to_all e received spelled up same is) u =
       subst (λ (x : Chronicle). AllUsable (address_history x)) (sym is)
       (usable_options now to_all (prefixes_in message.options) e (heard_fit frame message (bytes frame received) spelled) (subst AllUsable (sym same) u))
 
-  usable_follows : (t : Bool) (c : Chronicle) (now last : ℕ) (event : Event) (d : Chronicle) → IsOfBytes event → AllUsable (address_history c)
+  usable_follows : (t : Bool) (c : Chronicle) (now last : ℕ) (event : Event) (d : Chronicle) → ComesAsBytes event → AllUsable (address_history c)
       → MatchBool t (d ≡ (now, TooLate last) ∷ c) ((e : Chronicle) × Walk start c (last_moment start.at c) now e × EventAdds start now event ((now, Passed) ∷ e) d)
       → AllUsable (address_history d)
   usable_follows true c now last event d bytes u h = subst AllUsable (sym (ap address_history h)) u
   usable_follows false c now last event d bytes u h = usable_event bytes (event_brings start now event ((now, Passed) ∷ h.0) d h.2) (usable_walk h.1 u)
 
-  usable_run : (events : List (ℕ × Event)) (c d : Chronicle) → AllByRecursion (λ event. IsOfBytes event.1) events → Runs start c events d → AllUsable (address_history c)
+  usable_run : (events : List (ℕ × Event)) (c d : Chronicle) → AllByRecursion (λ event. ComesAsBytes event.1) events → Runs start c events d → AllUsable (address_history c)
       → AllUsable (address_history d)
   usable_run [] c d bytes h u = subst AllUsable (sym (ap address_history h)) u
   usable_run (event ∷ events) c d bytes h u =
       usable_run events h.0 d bytes.1 h.2 (usable_follows (nat_lt event.0 (last_moment start.at c)) c event.0 (last_moment start.at c) event.1 h.0 bytes.0 u h.1)
 
-  pub own_usable : (events : List (ℕ × Event)) (c d : Chronicle) (key : ℕ) → All (λ event. IsOfBytes event.1) events → Runs start (beginning start) events c → chronicle.Past d c
+  pub own_usable : (events : List (ℕ × Event)) (c d : Chronicle) (key : ℕ) → ComeAsBytes events → Runs start (beginning start) events c → chronicle.Past d c
       → is_known (story_of d key) ≡ true → IsUsable key
   own_usable events c d key bytes runs p known =
       known_usable key (address_history d)

@@ -51,7 +51,7 @@ use Rattle.nd_chronicle.specs.NeighborSolicitation as asked
 use Rattle.nd_chronicle.specs.NeighborSolicitation.{then_tried}
 use Rattle.nd_chronicle.specs.NeighborAdvertisement.{conflicting, ends_in_list, then_neighbor_advertised}
 use Rattle.nd_chronicle.specs.Event as events
-use Rattle.nd_chronicle.specs.Event.{Event, Clearable, packet_bytes, MessageAdds, VerdictAdds, PacketAdds, SendAdds, refusal_of_packet, ClearAdds, clearing, all_leaving, EventAdds}
+use Rattle.nd_chronicle.specs.Event.{Event, Clearable, packet_bytes, MessageAdds, VerdictAdds, PacketAdds, refusal_of_packet, ClearAdds, clearing, all_leaving, EventAdds}
 use Rattle.nd_chronicle.specs.Due.{What, RouterEnds, AddressFalls, NeighbourFalls, RoutersSolicited, RouterAdvertises, Redraws, Due, then_address, then_neighbour, comes}
 
 -- ---- what doesn't concern the own addresses

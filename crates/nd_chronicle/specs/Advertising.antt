@@ -17,7 +17,7 @@ use Rattle.nd_chronicle.specs.NeighborSolicitation.{is_router}
 module _ (start : Start) (at : ℕ) where
   -- ---- one that is due
 
-  -- "each time a multicast advertisement is sent from an interface, the timer is reset to a uniformly distributed random value" (section
+  -- "Whenever a multicast advertisement is sent from an interface, the timer is reset to a uniformly distributed random value" (section
   -- 6.2.4)
   abbrev pub with_interval : ℕ → Parts → Chronicle → Chronicle
   with_interval interval message c =

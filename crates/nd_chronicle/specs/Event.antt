@@ -1,7 +1,9 @@
 -- What an event adds to a chronicle: a frame, a packet to be sent, a command. The milliseconds up to it have passed.
 use Rattle.std.specs.Prelude.{◌≡◌, ℕ, ◌+◌, nat_lt, if◌then◌else◌, MatchBool, List, [], ◌∷◌, length, take, Option, Some, None}
+use Rattle.std.specs.List.{All}
 use Rattle.nd_addr.specs.declared.addr.Addr.{Addr}
 use Rattle.nd_addr.specs.declared.mac.Mac.{Mac}
+use Rattle.nd_addr.specs.Bytes.{IsBytes}
 use Rattle.nd_addr.specs.Frame.{written_frame}
 use Rattle.nd_addr.specs.Ip6.{ipv6_header_length, payload_length_of}
 use Rattle.nd_addr.specs.Kind.{multicast_prefix}
@@ -71,6 +73,14 @@ pub data Event : Type 0 where
   Routes : (prefix : PrefixValue) (route : Route) → Event
   -- a router is to cease advertising (section 6.2.5)
   Stops : Event
+
+-- a frame that comes is bytes
+abbrev pub ComesAsBytes : Event → Type 0
+ComesAsBytes event = (frame : List ℕ) → event ≡ Receives frame → IsBytes frame
+
+-- the same of events with their moments
+abbrev pub ComeAsBytes : List (ℕ × Event) → Type 0
+ComeAsBytes events = All (λ event. ComesAsBytes event.1) events
 
 -- the packet of a frame, from its IPv6 header to the end of its payload: what follows is padding
 abbrev pub packet_bytes : List ℕ → List ℕ

@@ -41,7 +41,7 @@ conflicts_with address source (bodies.Ns ns) = bytes_eq ns.target.0 address && b
 conflicts_with address source (bodies.Na na) = bytes_eq na.target.0 address
 conflicts_with address source _ = false
 
--- "Otherwise, if the Target Address is tentative, the Neighbor Solicitation should be processed as described in [ADDRCONF]": a tentative
+-- "If the Target Address is tentative, the Neighbor Solicitation should be processed as described in [ADDRCONF]": a tentative
 -- address is not answered for, so that only a conflict is heard; no other node's address is (RFC 4861, section 7.2.3)
 abbrev pub takes_target : Chronicle → Addr → Body → Bool
 takes_target c source (bodies.Ns ns) = is_assigned c ns.target.0 || (is_tentative c ns.target.0 && bytes_eq source.0 unspecified_address)

@@ -60,9 +60,9 @@ abbrev pub mark_of_target : Redirect → Option Bool
 mark_of_target r = if bytes_eq r.target.0 r.destination.0 then None else Some true
 
 abbrev pub said_of_neighbour : Addr → Body → List Said → ℕ → Option (ℕ × neighbours.RowKind)
--- "the IsRouter flag in the cache entry MUST be set to FALSE" (section 6.2.6)
+-- "the entry's IsRouter flag MUST be set to FALSE" (section 6.2.6)
 said_of_neighbour source bodies.Rs options reachable = said_of_source source (first_slla options) (Some false)
--- "the IsRouter flag MUST be set to TRUE" (section 6.3.4)
+-- "the IsRouter flag in the Neighbor Cache entry MUST be set to TRUE" (section 6.3.4)
 said_of_neighbour source (bodies.Ra ra) options reachable = given_or_marked (number_of source.0) (first_slla options) (Some true)
 -- section 7.2.3
 said_of_neighbour source (bodies.Ns ns) options reachable = said_of_source source (first_slla options) None

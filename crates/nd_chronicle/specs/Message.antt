@@ -11,7 +11,7 @@ use Rattle.nd_chronicle.specs.Start.{Start}
 use Rattle.nd_chronicle.specs.Happening.{Chronicle, LeftRouter}
 use Rattle.nd_chronicle.specs.Histories.{said_of_neighbour}
 use Rattle.nd_chronicle.specs.InForce.{reachable_time}
-use Rattle.nd_chronicle.specs.Packet.{MakesPlace, HasPlace, sending}
+use Rattle.nd_chronicle.specs.Packet.{MakesPlace, sending}
 
 -- what it says of a neighbour at this place
 abbrev pub said : Chronicle → Addr → Parts → Option (ℕ × RowKind)
@@ -26,11 +26,6 @@ lets_enter _ = false
 abbrev pub PlaceFor : Start → Chronicle → ℕ → Option (ℕ × RowKind) → Chronicle → Type 0
 PlaceFor start c at None d = d ≡ c
 PlaceFor start c at (Some news) d = MakesPlace start c at news.0 (lets_enter news.1) d
-
--- whether there is any
-abbrev pub HasPlaceFor : Start → Chronicle → ℕ → Option (ℕ × RowKind) → Bool → Type 0
-HasPlaceFor start c at None place = place ≡ true
-HasPlaceFor start c at (Some news) place = HasPlace start c at news.0 (lets_enter news.1) place
 
 -- packets are sent to an address, if one is known
 abbrev pub sending_if_known : ℕ → Option ℕ → List (List ℕ) → Chronicle → Chronicle

@@ -22,7 +22,7 @@ is_assigned c address = states.is_assigned (story_of c (number_of address))
 abbrev pub is_own : Chronicle → List ℕ → Bool
 is_own c address = is_tentative c address || is_assigned c address
 
--- "the interface MUST be disabled" where the link-local address is a duplicate (RFC 4862, section 5.4.5): it sends no packets
+-- "IP operation on the interface SHOULD be disabled" where the link-local address is a duplicate (RFC 4862, section 5.4.5): it sends no packets
 abbrev pub is_disabled : Start → Chronicle → Bool
 is_disabled start c = states.is_duplicate (story_of c (link_local_key start))
 

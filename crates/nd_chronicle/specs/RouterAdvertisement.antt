@@ -24,7 +24,7 @@ use Rattle.nd_chronicle.specs.OwnAddress.{story_of}
 use Rattle.nd_chronicle.specs.Message.{said, releasing, leaving}
 
 module _ (start : Start) (at : ℕ) where
-  -- "a new random value is calculated" where the base changes (section 6.3.4)
+  -- "A new random value should be calculated when BaseReachableTime changes" (section 6.3.2)
   abbrev pub redrawing : ℕ → Bool → Chronicle → Chronicle
   redrawing base true c = (at, Drew ForReachableTime (reachable_drawn base (stream_left start c))) ∷ c
   redrawing base false c = c
@@ -57,7 +57,7 @@ module _ (start : Start) (at : ℕ) where
   then_options to_all [] c = c
   then_options to_all (info ∷ infos) c = then_options to_all infos (then_option to_all info c)
 
-  -- "If the received Router Lifetime value is zero, immediately time-out the entry": a router that stands in the list
+  -- where "the received Router Lifetime value is zero, immediately time-out the entry" (section 6.3.4): a router that stands in the list
   abbrev pub times_out : Chronicle → Addr → RouterAdvertisement → Bool
   times_out c source ra = (ra.router_lifetime == 0) && stands same (number_of source.0) (announcements (router_history c)) at
 

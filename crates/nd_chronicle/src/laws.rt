@@ -1,8 +1,7 @@
 //! Laws of the definitions, each the contract of a function that does nothing.
 
 ghost use Rattle.std.specs.Prelude.{◌≡◌, ◌≢◌, ◌<◌, ◌≤◌, ◌+◌, ◌++◌, ◌∷◌, ℕ, List, None, false, true};
-ghost use Rattle.std.specs.List.{All};
-ghost use Rattle.nd_addr.specs.Bytes.{AreBytes, IsBytes};
+ghost use Rattle.nd_addr.specs.Bytes.{AreBytes};
 ghost use Rattle.nd_addr.specs.Number.{addr_at, number_of};
 ghost use Rattle.nd_addr.specs.declared.addr.Addr.{Addr};
 ghost use Rattle.nd_decode.specs.declared.body.Body.TheVariants as bodies;
@@ -16,7 +15,7 @@ ghost use Rattle.nd_chronicle.specs.Start.{Start, link_local_key};
 ghost use Rattle.nd_chronicle.specs.Happening.{Address, Chronicle, Heard};
 ghost use Rattle.nd_chronicle.specs.Histories.{address_history};
 ghost use Rattle.nd_chronicle.specs.OwnAddress.{is_own, is_up, story_of};
-ghost use Rattle.nd_chronicle.specs.Event.{Event, FrameAdds, Receives};
+ghost use Rattle.nd_chronicle.specs.Event.{ComeAsBytes, Event, FrameAdds};
 ghost use Rattle.nd_chronicle.specs.Hearing.{is_awake};
 ghost use Rattle.nd_chronicle.specs.NeighborAdvertisement.{then_neighbor_advertised};
 ghost use Rattle.nd_chronicle.specs.NeighborSolicitation.{then_tried};
@@ -52,24 +51,24 @@ pub fn tried_before_held()
 /// The number of an own address is that of an address, and of no multicast address, whatever bytes come as frames (RFC 4862, section 5.5.3).
 pub fn own_addresses_are_unicast()
     ensures number { (start : Start) (events : List (ℕ × Event)) (c d : Chronicle) (key : ℕ) → AreBytes 6 start.mac.0
-        → All (λ event. (frame : List ℕ) → event.1 ≡ Receives frame → IsBytes frame) events → IsChronicle start events c → Past d c → is_known (story_of d key) ≡ true
+        → ComeAsBytes events → IsChronicle start events c → Past d c → is_known (story_of d key) ≡ true
         → number_of (addr_at key).0 ≡ key }
     ensures unicast { (start : Start) (events : List (ℕ × Event)) (c d : Chronicle) (key : ℕ) → AreBytes 6 start.mac.0
-        → All (λ event. (frame : List ℕ) → event.1 ≡ Receives frame → IsBytes frame) events → IsChronicle start events c → Past d c → is_known (story_of d key) ≡ true
+        → ComeAsBytes events → IsChronicle start events c → Past d c → is_known (story_of d key) ≡ true
         → IsUnicast (addr_at key) }
 {}
 
 /// At each place of a chronicle an own address other than the link-local one is known only where that one is assigned, and that one stays so,
 /// whatever bytes come as frames: where it is a duplicate, there is no own address (RFC 4862, sections 5.3, 5.4.5 and 5.5.3).
 pub fn link_local_address_comes_first()
-    ensures known { (start : Start) (events : List (ℕ × Event)) (c d : Chronicle) (key : ℕ) → All (λ event. (frame : List ℕ) → event.1 ≡ Receives frame → IsBytes frame) events
+    ensures known { (start : Start) (events : List (ℕ × Event)) (c d : Chronicle) (key : ℕ) → ComeAsBytes events
         → IsChronicle start events c → Past d c → key ≢ link_local_key start → is_known (story_of d key) ≡ true → is_up start d ≡ true }
-    ensures own { (start : Start) (events : List (ℕ × Event)) (c d : Chronicle) (address : List ℕ) → All (λ event. (frame : List ℕ) → event.1 ≡ Receives frame → IsBytes frame) events
+    ensures own { (start : Start) (events : List (ℕ × Event)) (c d : Chronicle) (address : List ℕ) → ComeAsBytes events
         → IsChronicle start events c → Past d c → number_of address ≢ link_local_key start → is_own d address ≡ true → is_up start d ≡ true }
-    ensures stays { (start : Start) (events : List (ℕ × Event)) (c d e : Chronicle) → All (λ event. (frame : List ℕ) → event.1 ≡ Receives frame → IsBytes frame) events
+    ensures stays { (start : Start) (events : List (ℕ × Event)) (c d e : Chronicle) → ComeAsBytes events
         → IsChronicle start events c → Past d c → Past e d → is_up start e ≡ true → is_up start d ≡ true }
     ensures later { (start : Start) (events later : List (ℕ × Event)) (c d : Chronicle)
-        → All (λ event. (frame : List ℕ) → event.1 ≡ Receives frame → IsBytes frame) events → All (λ event. (frame : List ℕ) → event.1 ≡ Receives frame → IsBytes frame) later
+        → ComeAsBytes events → ComeAsBytes later
         → IsChronicle start events c → Runs start c later d → is_up start c ≡ true → is_up start d ≡ true }
 {}
 

@@ -1,5 +1,5 @@
 -- The function decides the relation.
-use Rattle.std.proofs.Common.{◌≡◌, ◌≢◌, ℕ, ◌*◌, ◌<◌, ◌≤◌, ◌⊎◌, true, false, cond, leb, eqb, ◌&&◌, List, [], ◌++◌, length, slice_index, Some, None, Result, Ok, Err, refl, sym, ap, subst, ◌∙◌, arith, inl, inr, ◌-◌, take, drop, Option}
+use Rattle.std.proofs.Common.{◌≡◌, ◌≢◌, ℕ, ◌*◌, ◌<◌, ◌≤◌, ◌⊎◌, true, false, leb, eqb, ◌&&◌, List, [], ◌++◌, length, slice_index, Some, None, Result, Ok, Err, refl, sym, ap, subst, ◌∙◌, arith, inl, inr, ◌-◌, take, drop, Option}
 use Rattle.std.specs.Prelude.{IfOk, IfErr}
 use Rattle.std.proofs.lemmas.Bool.{cases_Bool, cases_lt, and_parts, and_from, and_left, and_right, leb-true, le-leb, lt-leb, eqb-true, eqb-false, eq-eqb, ne_eqb, lt-ltb, le-ltb, false_from_ne_true}
 use Rattle.std.proofs.lemmas.List.{nil_from_length, append-nil, get_or_past, length-drop, take_all}
@@ -55,18 +55,6 @@ decode_whole bytes rest found message h e f n body options =
     rw (decode_fields bytes h, fault) (ap Ok read)
 
 -- ---- faults
-
-fault_none : (rest : List ℕ) → fault_of rest ≡ None → rest ≡ []
-fault_none rest e = elim (cases_Bool (eqb (length rest) 0)) [
-  | inl empty ↦ nil_from_length rest (eqb-true _ _ empty)
-  | inr some ↦ absurd (other rest (rw some at e))
-]
-  where
-    other : (r : List ℕ) → cond (leb 2 (length r) && eqb (slice_index r 1) 0) (Some OptionZero) (Some OptionOver) ≡ None → ⊥
-    other r e = elim (cases_Bool (leb 2 (length r) && eqb (slice_index r 1) 0)) [
-      | inl zero_len ↦ let f = rw zero_len at e in cc
-      | inr over ↦ let f = rw over at e in cc
-    ]
 
 -- what is wrong with a tail
 data IsFault : List ℕ → Why → Type 0 where

@@ -1,4 +1,4 @@
-ghost use Rattle.std.specs.Prelude.{◌≡◌, ◌≤◌, length, slice_index};
+ghost use Rattle.std.specs.Prelude.{◌≤◌, length, slice_index};
 ghost use Rattle.std.specs.Option.{SomeIff};
 ghost use Rattle.nd_decode.specs.Option.{prefix_of};
 

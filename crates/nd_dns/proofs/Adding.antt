@@ -13,10 +13,6 @@ pub one_more : (copied more rest all : List (List ℕ)) (name : List ℕ) (enter
 one_more copied more rest all name true h is = ap (λ (xs : List (List ℕ)). xs ++ rest) is ∙ (append_assoc copied (name ∷ []) rest ∙ h)
 one_more copied more rest all name false h is = ap (λ (xs : List (List ℕ)). xs ++ rest) is ∙ h
 
--- what is taken of the copies is the name that enters, and the others are left
-pub next_left : (left more rest : List (List ℕ)) (name : List ℕ) → left ≡ name ∷ rest → left ≡ name ∷ more → more ≡ rest
-next_left left more rest name h k = cc
-
 -- the copies so far, the next name if it enters, and those of the later ones that enter are all that enter
 pub with_next : (now i : ℕ) (name : List ℕ) (w : ℕ) (all rest left : List (List ℕ × ℕ)) (es : List (Lasting (List ℕ))) (copied : List (List ℕ)) → rest ≡ (name, w) ∷ left → rest ≡ drop i all
     → copied ++ entered same_name now rest (behind same_name now (take i all) es) ≡ entered same_name now all es

@@ -37,9 +37,6 @@ row_lines : (at : ℕ) (what : Happening) → lines_of (at, what) ≡ flat_map l
 row_lines at (Sent frame) = refl
 row_lines at what = words_lines at (told_of what)
 
-pub text_of_items : (c : Chronicle) → text c ≡ flat_map line_of (items c)
-text_of_items c = of_chronicle line_of lines_of row_lines text refl (λ row c. refl) c
-
 -- what is handed out is told at the end of the text
 pub Tells-text : {A : Type 0} (c d : Chronicle) (x y : List (ℕ × Out A)) (t : Tells c d x y) → text d ≡ text c ++ flat_map lines_of t.newer
 Tells-text c d x y t = of_newer line_of lines_of row_lines text refl (λ row c. refl) c d x y t

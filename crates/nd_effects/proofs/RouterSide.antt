@@ -1,5 +1,5 @@
 -- What only a router has stands for a chronicle with more.
-use Rattle.std.proofs.Common.{◌≡◌, ℕ, ◌≤◌, ◌∷◌, Bool, true, false, List, Option, Some, None, refl, ◌∙◌, ap, subst, arith}
+use Rattle.std.proofs.Common.{◌≡◌, ℕ, ◌∷◌, Bool, true, false, List, Option, Some, None, refl, ◌∙◌, ap, subst}
 use Rattle.std.specs.Prelude.{◌==◌, if◌then◌else◌}
 use Rattle.nd_addr.specs.declared.role.Role.{Role}
 use Rattle.nd_addr.specs.declared.role.Role.TheVariants.{Host, Router}
@@ -8,7 +8,7 @@ use Rattle.nd_advertiser.specs.Advertising.{advertised_by, next_of}
 use Rattle.nd_advertiser.specs.Calls.{next}
 use Rattle.nd_advertiser.specs.Config.{Settings}
 use Rattle.nd_advertiser.specs.History as advertising_rows
-use Rattle.nd_advertiser.specs.Overdue.{IsAfter, IsOf}
+use Rattle.nd_advertiser.specs.Overdue.{IsOf}
 use Rattle.nd_advertiser.specs.Table as advertising
 use Rattle.nd_advertiser.proofs.Dates.{due_is_on, has_settings, next_is, spaced, still}
 use Rattle.nd_slaac.specs.Due.{Falls, Ends, Solicits, Assigns, key_in, happens}
@@ -18,7 +18,7 @@ use Rattle.nd_chronicle.specs.Happening.{Chronicle, Address}
 use Rattle.nd_chronicle.specs.Histories.{advertising_history, route_history}
 use Rattle.nd_chronicle.specs.Due.{is_host, router_advertisement_date}
 use Rattle.nd_effects.specs.declared.router_tables.RouterTables.{RouterTables}
-use Rattle.nd_effects.specs.Router.{NotesAddress, Stands, after_last, next_advertisement, router_side}
+use Rattle.nd_effects.specs.Router.{NotesAddress, Stands, next_advertisement, router_side}
 
 -- where what happened concerns neither, they stand for the same
 pub side_stands : {A : Type 0} (start : Start) (tables : RouterTables A) (c d : Chronicle) → router_side start d ≡ router_side start c → Stands start tables c → Stands start tables d
@@ -55,16 +55,6 @@ due_has_settings start c at due = has_settings (advertising_history start c) (du
     by : (role : Role) → date_by role (next_of (advertising_history start c)) ≡ Some at → next_of (advertising_history start c) ≡ Some at
     by Host e = absurd (let no : ⊥ = cc in no)
     by Router e = e
-
--- one that is due comes after the last one
-pub comes_after_last : (last : Option ℕ) (now : ℕ) → IsAfter last (Some now) → after_last last ≤ now
-comes_after_last None now h = omega arith
-comes_after_last (Some at) now h = h
-
--- at a host none does
-pub none_after_last : (last : Option ℕ) → IsAfter last None
-none_after_last None = tt
-none_after_last (Some at) = tt
 
 -- ---- rows
 

@@ -1,7 +1,6 @@
 -- What falls due is told at the end of what is told.
 use Rattle.std.proofs.Common.{◌≡◌, ℕ, List, [], ◌∷◌, ◌++◌, append-nil, append_assoc, map, Option, Some, None, refl, sym, ◌∙◌, ap}
 use Rattle.std.proofs.lemmas.Grind.{flat_map-append}
-use Rattle.std.specs.Prelude.{slice_get, drop}
 use Rattle.std.specs.List.{flat_map}
 use Rattle.std.specs.Option.{option_map, option_to_list}
 use Rattle.nd_addr.specs.declared.addr.Addr.{Addr}
@@ -45,11 +44,6 @@ numbers addrs = map (λ a. number_of a.0) addrs
 abbrev pub left_at : ℕ → List ℕ → List (ℕ × Happening)
 left_at at those = at_moment at (map (λ key. LeftRouter key) those)
 
--- the oldest one is taken
-pub taken : (packets : List (List ℕ)) (packet : List ℕ) → slice_get packets 0 ≡ Some packet → packets ≡ packet ∷ drop 1 packets
-taken [] packet e = let no : ⊥ = cc in absurd no
-taken (p ∷ packets) packet e = let same : p ≡ packet = cc in ap (λ x. x ∷ packets) same
-
 happenings-append : {A : Type 0} (xs ys : List (ℕ × Out A)) → happenings (xs ++ ys) ≡ happenings xs ++ happenings ys
 happenings-append [] ys = refl
 happenings-append (x ∷ xs) ys = ap (λ l. (x.0, happening x.1) ∷ l) (happenings-append xs ys)
@@ -90,9 +84,6 @@ due_items start c at (NeighbourFalls (neighbours.Ages key)) = refl
 due_items start c at RoutersSolicited = above_silent (items c) _
 due_items start c at RouterAdvertises = advertising_items start c at (advertised_by (advertising_history start c))
 due_items start c at Redraws = refl
-
-pub Tells-same : {A : Type 0} (c : Chronicle) (outs : List (ℕ × Out A)) → Tells c c outs outs
-Tells-same c outs = record { newer = []; told = sym (append-nil _); outs = sym (append-nil _) }
 
 pub Tells-then : {A : Type 0} (c d e : Chronicle) (x y z : List (ℕ × Out A)) → Tells c d x y → Tells d e y z → Tells c e x z
 Tells-then c d e x y z s t = record {

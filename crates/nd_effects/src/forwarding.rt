@@ -1,6 +1,6 @@
 //! What a router makes of a packet that is in transit (RFC 8200, section 3; RFC 4861, section 8.2).
 
-ghost use Rattle.std.specs.Prelude.{◌≡◌, ◌<◌, ◌≤◌, ◌+◌, ◌-◌, ℕ, IfOk, None, OnOk, length, vec_capacity, vec_len};
+ghost use Rattle.std.specs.Prelude.{◌≡◌, ◌≤◌, ◌+◌, ◌-◌, ℕ, IfOk, None, OnOk, length, vec_capacity, vec_len};
 ghost use Rattle.nd_addr.specs.Frame.{written_frame};
 ghost use Rattle.nd_addr.specs.Ip6.{packet_parts};
 ghost use Rattle.nd_addr.specs.Number.{number_of};

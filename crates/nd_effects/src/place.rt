@@ -1,4 +1,4 @@
-ghost use Rattle.std.specs.Prelude.{◌≡◌, ℕ, List, Some, None, true};
+ghost use Rattle.std.specs.Prelude.{◌≡◌, List, Some, None, true};
 ghost use Rattle.std.specs.Option.{option_map};
 ghost use Rattle.nd_neighbour.specs.declared.news.Times.{Times};
 ghost use Rattle.nd_neighbour.specs.History.{Row};

@@ -1,4 +1,4 @@
-ghost use Rattle.std.specs.Prelude.{◌≡◌, ◌≢◌, ◌+◌, ◌<◌, ◌==◌, ◌||◌, ◌^◌, not, ℕ, Some, true, false};
+ghost use Rattle.std.specs.Prelude.{◌≡◌, ◌≢◌, ◌+◌, ◌<◌, ◌==◌, ◌||◌, ◌^◌, not, Some, true, false};
 ghost use Rattle.nd_effects.specs.RouterSolicitations.{next_solicitation};
 ghost use Rattle.nd_chronicle.specs.Due.{max_rtr_solicitations};
 
@@ -18,7 +18,7 @@ pub struct RouterSolicitations {
     assigned: Option<u64>,
     /// How many were sent.
     sent: u64,
-    /// Whether a Router Advertisement of a router was heard.
+    /// Whether a Router Advertisement of a router was heard (RFC 4861, section 6.3.7).
     heard: bool,
 }
 

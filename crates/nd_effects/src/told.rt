@@ -1,4 +1,4 @@
-ghost use Rattle.std.specs.Prelude.{◌≡◌, ◌+◌, ◌++◌, ◌≤◌, ◌∷◌, [], vec_len, vec_capacity, length, map};
+ghost use Rattle.std.specs.Prelude.{◌≡◌, ◌+◌, ◌++◌, ◌≤◌, vec_len, vec_capacity, length, map};
 ghost use Rattle.nd_addr.specs.Number.{number_of, addr_at, mac_at};
 ghost use Rattle.nd_slaac.specs.PrefixOption.{link_local_of};
 ghost use Rattle.nd_slaac.specs.View as addresses;
@@ -18,7 +18,7 @@ use nd_slaac::Addresses;
 use nd_waiting::{Packet, Packets};
 use std::alloc::Allocator;
 
-/// How many rows a turn tells at most: a failure, and the three packets that waited.
+/// How much a turn tells at most: a failure, and the three packets that waited.
 pub const MOST_TOLD: usize = 4;
 
 /// The link-local address of the node (RFC 4862, section 5.3).

@@ -1,6 +1,6 @@
 //! Laws of the definitions, each the contract of a function that does nothing.
 
-ghost use Rattle.std.specs.Prelude.{◌≡◌, ◌∷◌, [], ℕ, Bool, true, List};
+ghost use Rattle.std.specs.Prelude.{◌∷◌, [], ℕ, Bool, true, List};
 ghost use Rattle.nd_addr.specs.Bytes.{AreBytes};
 ghost use Rattle.nd_addr.specs.Frame.{addressed};
 ghost use Rattle.nd_addr.specs.declared.addr.Addr.{Addr};

@@ -17,7 +17,7 @@ const OPEN_MAC: Mac = Mac([0; 6]);
 /// with (RFC 4861, section 4.5).
 const MOST_QUOTED: usize = 1192;
 
-/// The same behind a link-layer address.
+/// The same behind a link-layer address (RFC 4861, section 4.5).
 const MOST_QUOTED_BEHIND_ADDRESS: usize = 1184;
 
 /// How many options a Redirect has at most.
@@ -39,7 +39,7 @@ fn quoted<A: Allocator>(alloc: A, packet: &[u8], most: usize) -> Result<Vec<u8, 
     Ok(bytes)
 }
 
-/// How many bytes of the packet a Redirect quotes at most, by whether it tells a link-layer address.
+/// How many bytes of the packet a Redirect quotes at most, by whether it tells a link-layer address (RFC 4861, section 4.5).
 fn most_quoted(target_mac: Option<Mac>) -> usize
     ensures value { result ≡ most_quoted (target_options target_mac) }
     ensures most { result ≤ 1192 }

@@ -7,7 +7,7 @@ ghost use Rattle.hex.specs.Hex.{is_hex_digit};
 use crate::steps::{are_values, values_of};
 use std::simd::prelude::*;
 
-/// How many characters one step reads.
+/// How many characters one step reads (our choice).
 const STEP: usize = 32;
 
 /// Whether the characters of one step are digits.

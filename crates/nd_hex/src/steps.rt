@@ -1,6 +1,6 @@
 //! Hexadecimal digits, 32 at a time.
 
-ghost use Rattle.std.specs.Prelude.{◌≡◌, ◌↔◌, ◌≤◌, ◌<◌, ◌+◌, ◌*◌, ◌%◌, ℕ, length, map, slice_index, slice_range, IsTrue, Ok};
+ghost use Rattle.std.specs.Prelude.{◌≡◌, ◌↔◌, ◌≤◌, ◌<◌, ◌+◌, ◌*◌, ◌%◌, ℕ, length, map, slice_index, IsTrue, Ok};
 ghost use Rattle.hex.specs.Hex.{decode_of};
 ghost use Rattle.nd_hex.specs.Digits.{value_or_none, AreValues, SpellsFirst};
 

@@ -6,7 +6,7 @@ ghost use Rattle.nd_io.specs.Answers.{Tells, EndsWell, IsMalformed};
 
 use std::alloc::Allocator;
 
-/// The most bytes of a line, without its line feed. A longer line is malformed.
+/// The most bytes of a line, without its line feed (our choice). A longer line is malformed.
 pub const LONGEST_LINE: usize = 16384;
 
 /// Why a line has no answer.

@@ -14,10 +14,6 @@ open_some : (o : Option (Option ℕ)) (t : ℕ) → is_open o t ≡ true → is_
 open_some None t h = absurd (true≢false (sym h))
 open_some (Some e) t h = refl
 
--- an end that a moment is before
-open_or_none : Option (Option ℕ) → ℕ → Option (Option ℕ)
-open_or_none o t = cond (is_open o t) o None
-
 module _ {K : Type 0} (same : K → K → Bool) (tells : Tells same) where
   -- the place of a key that has an end is among the history
   pub place_below : (k : K) (history : List (Row K)) → is_some (end_of same k history) ≡ true → place same k history < length history
@@ -210,10 +206,6 @@ module _ {K : Type 0} (same : K → K → Bool) (tells : Tells same) where
   pub gains_all : (now : ℕ) (more : List (K × ℕ)) (old : List (Lasting K)) (history : List (Row K)) → last_moment history ≤ now → Stands same old history → Stands same (announced_all same now more old) (then_announced now more history)
   gains_all now [] old history le s = s
   gains_all now ((key, w) ∷ more) old history le s = gains_all now more _ _ (omega arith) (gains_silently old history now key w le s)
-
-  -- where all are ended nothing stands
-  pub clears : (now : ℕ) (history : List (Row K)) → Stands same [] (Cleared now ∷ history)
-  clears now history = record { lists = λ t le. record { ends = λ key. refl; order = tt } }
 
   shorter : (p : Lasting K → Bool) (es : List (Lasting K)) → length (filter p es) ≤ length es
   shorter p [] = omega arith

@@ -1,4 +1,4 @@
-ghost use Rattle.std.specs.Prelude.{◌≡◌, ◌≤◌, ◌<◌, ◌^◌, ◌≢◌, Some, false, MatchOption, IsTrue, length, map, is_some, vec_len, vec_capacity};
+ghost use Rattle.std.specs.Prelude.{◌≡◌, ◌≤◌, ◌<◌, ◌^◌, Some, false, MatchOption, length, map, is_some, vec_len, vec_capacity};
 ghost use Rattle.nd_lifetime.specs.Listing.{end_in, renewed, without, open_at, announced, enters};
 
 use crate::lasting::Lasting;

@@ -24,10 +24,6 @@ abbrev made : ℕ → Bool → Option ℕ → Option Word → Option Use → Opt
 made key router mac word use' resolution waiting =
     record { key = key; router = router; due = due_by mac word use' resolution; stage = stage_by mac word use' resolution waiting }
 
-marked_router : (at mac : ℕ) (mark : Option Bool) (s : Story) → is_router ((at, Given mac mark) ∷ s) ≡ mark_or mark (is_router s)
-marked_router at mac None s = refl
-marked_router at mac (Some router) s = refl
-
 given_by : (key at mac : ℕ) (mark : Option Bool) (router : Bool) (known : Option ℕ) (w : Option Word) (u : Option Use) (r : Option Resolution) (ws : List (List ℕ)) → let said = says true known w at (Given mac mark) in made key (mark_or mark router) (Some mac) (or_else said w) (cond (is_some said) None (goes_on w u at (Given mac mark))) r ws ≡ given at mac mark (made key router known w u r ws)
 given_by key at mac mark router None w u r ws = refl
 given_by key at mac mark router (Some known) w None r ws = grind (arith, nat_tests)
@@ -98,9 +94,6 @@ probed_by key at mac router w (Some u) r ws h is =
 
 -- the same over stories: what one more row makes of the node of a neighbour that is present
 module _ (key at : ℕ) (s : Story) (present : is_present s ≡ true) where
-  there : node_of key s ≡ Some (the_node key s)
-  there = rw present refl
-
   pub when_given : (mac : ℕ) (mark : Option Bool) → node_of key ((at, Given mac mark) ∷ s) ≡ Some (given at mac mark (the_node key s))
   when_given mac None = ap Some (given_by key at mac None (is_router s) (mac_of s) (word_of s) (use_of s) (resolution_of s) (waiting_of s))
   when_given mac (Some mark) = ap Some (given_by key at mac (Some mark) (is_router s) (mac_of s) (word_of s) (use_of s) (resolution_of s) (waiting_of s))

@@ -1,6 +1,6 @@
 -- What forgetting a neighbour does to the table, and what is shown of it.
-use Rattle.std.proofs.Common.{◌≡◌, ℕ, Bool, true, eqb, List, [], ◌∷◌, drop, Option, Some, None, refl, sym, ◌∙◌, ap, arith, inl, inr}
-use Rattle.std.specs.Prelude.{map, slice_get}
+use Rattle.std.proofs.Common.{◌≡◌, ℕ, Bool, true, eqb, List, [], ◌∷◌, Option, Some, None, refl, sym, ◌∙◌, ap, arith, inl, inr}
+use Rattle.std.specs.Prelude.{map}
 use Rattle.std.specs.Option.{option_map}
 use Rattle.std.proofs.lemmas.Bool.{cond-true, cond-false, eqb-true}
 use Rattle.nd_neighbour.specs.declared.shown.Reachability.{Reachability}
@@ -80,8 +80,3 @@ pub cleared_stands : (at : ℕ) (nodes : List Node) (history : List Row) → Sta
 cleared_stands at [] history s = s
 cleared_stands at (n ∷ nodes) history s =
     cleared_stands at nodes ((at, n.key, Forgot Cleared) ∷ history) ((leaving (n ∷ nodes) nodes n.key at Cleared 0 n (omega arith) refl refl refl).stands history s)
-
--- the first of some packets, and the rest
-pub first_packet : (packets : List (List ℕ)) (p : List ℕ) → Some p ≡ slice_get packets 0 → packets ≡ p ∷ drop 1 packets
-first_packet [] p is = absurd (cc)
-first_packet (x ∷ xs) p is = let e : p ≡ x = cc in ap (λ (y : List ℕ). y ∷ xs) (sym e)

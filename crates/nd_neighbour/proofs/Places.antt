@@ -24,10 +24,6 @@ longer_assoc (Some x) (Some y) (Some z) = elim (either (ltb (since_of y.stage) (
   ]
 ]
 
-longer_none : (a : Option Node) → longer a None ≡ a
-longer_none None = refl
-longer_none (Some x) = refl
-
 drop_stalest : (now : ℕ) (ns : List Node) (i : ℕ) → i < length ns → stalest now (drop i ns) ≡ longer (picked_stale now (slice_get ns i)) (stalest now (drop (suc i) ns))
 drop_stalest now [] i lt = absurd (omega arith)
 drop_stalest now (x ∷ ns) zero lt = refl

@@ -23,9 +23,6 @@ use Rattle.nd_neighbour.proofs.Finds.{none_is, some_is}
 use Rattle.nd_neighbour.proofs.PacketCalls.{takes_packet, used_key}
 use Rattle.nd_neighbour.proofs.Unique.{one_table, one_longest, full_by_history}
 
-stale_now : ℕ → Node → Bool
-stale_now now n = is_stale n.stage now
-
 longer_some : (a b : Option Node) → is_some (longer a b) ≡ (is_some a || is_some b)
 longer_some None b = refl
 longer_some (Some x) None = refl

@@ -5,7 +5,7 @@ use nd_waiting::Ring;
 use std::alloc::{AllocError, Allocator};
 use std::marker::Model;
 
-/// How many rings may be in hand. Our choice: one packet may need one for its neighbour and, as `room` asks, one for a
+/// How many rings may be in hand (our choice): one packet may need one for its neighbour and, as `room` asks, one for a
 /// second neighbour.
 const MAX_RINGS: usize = 2;
 

@@ -118,15 +118,6 @@ few_left f (suc n) (d ∷ ds) = by (f d) (few_left f n ds)
 pub few_redirects : (history : List RedirectRow) → length (redirects history) ≤ max_redirects
 few_redirects history = few_left (λ d. target_left d history) max_redirects (destinations history)
 
--- an entry of which something is left is shown
-pub shows_left : (all rest : List (ℕ × Option ℕ)) (d k t : ℕ) (w : Option ℕ) → all ≡ (d, w) ∷ rest → w ≡ Some t → k ≡ d → those_left all ≡ (k, t) ∷ those_left rest
-shows_left all rest d k t w is value key =
-    ap those_left is ∙ (ap (λ (o : Option ℕ). those_left ((d, o) ∷ rest)) value ∙ ap (λ (j : ℕ). (j, t) ∷ those_left rest) (sym key))
-
--- another one is passed
-pub skips_left : (all rest : List (ℕ × Option ℕ)) (d : ℕ) (w : Option ℕ) → all ≡ (d, w) ∷ rest → w ≡ None → those_left all ≡ those_left rest
-skips_left all rest d w is value = ap those_left is ∙ ap (λ (o : Option ℕ). those_left ((d, o) ∷ rest)) value
-
 -- what a look-up among all finds
 pub found_in : (key : ℕ) (es : List (ℕ × Option ℕ)) (w : Option ℕ) → Some w ≡ lookup (nat_eq key) es → w ≡ target_in key es
 found_in key [] w h = absurd (cc)

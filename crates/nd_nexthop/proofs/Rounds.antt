@@ -1,10 +1,8 @@
 -- One entry after the other goes behind the others, until each has.
-use Rattle.std.proofs.Common.{◌≡◌, ◌<◌, ◌≤◌, ◌-◌, ℕ, zero, suc, eqb, List, [], ◌∷◌, ◌++◌, length, map, Option, Some, None, nat_eq, refl, sym, ◌∙◌, ap, subst, append_assoc, append-nil, inl, inr, arith}
-use Rattle.std.specs.Prelude.{option_map, slice_get}
-use Rattle.std.specs.Map.{lookup, lookup_entry, remove_entry, set_value}
-use Rattle.std.specs.Option.{option_map_or}
-use Rattle.std.proofs.lemmas.Bool.{cond-true, cond-false, cases_Bool, eq-eqb}
-use Rattle.lru.specs.LruCache.{LruCache, lru_cache, demoted}
+use Rattle.std.proofs.Common.{◌≡◌, ◌≤◌, ℕ, zero, suc, eqb, List, [], ◌∷◌, ◌++◌, length, map, Option, Some, None, nat_eq, refl, sym, ◌∙◌, ap, append_assoc, append-nil, inl, inr, arith}
+use Rattle.std.specs.Map.{lookup, set_value}
+use Rattle.std.proofs.lemmas.Bool.{cond-true, cond-false, cases_Bool}
+use Rattle.lru.specs.LruCache.{LruCache, lru_cache}
 use Rattle.nd_nexthop.specs.Choice.{left_of, ended, ended_at, turned}
 
 -- the entries after so many turns
@@ -49,28 +47,6 @@ none_is lost key (e ∷ es) h = elim (cases_Bool (eqb key e.0)) [
       ap (λ l. e ∷ l) (none_is lost key es rest) ∙ sym (cond-false (eqb key e.0) (ended lost e ∷ es) (e ∷ ended_at lost key es) differ)
 ]
 
-head_ends : (lost : Option ℕ) (e : ℕ × Option ℕ) (es : List (ℕ × Option ℕ)) → ended_at lost e.0 (e ∷ es) ≡ ended lost e ∷ es
-head_ends lost e es = cond-true (eqb e.0 e.0) (ended lost e ∷ es) (e ∷ ended_at lost e.0 es) (eq-eqb e.0 e.0 refl)
-
-head_demoted : (e : ℕ × Option ℕ) (es : List (ℕ × Option ℕ)) → demoted (nat_eq e.0) (e ∷ es) ≡ es ++ e ∷ []
-head_demoted e es =
-    let here = eq-eqb e.0 e.0 refl in
-    ap (λ o. option_map_or (λ f. remove_entry (nat_eq e.0) (e ∷ es) ++ f ∷ []) o (e ∷ es)) (cond-true (eqb e.0 e.0) (Some e) (lookup_entry (nat_eq e.0) es) here)
-    ∙ ap (λ l. l ++ e ∷ []) (cond-true (eqb e.0 e.0) es (e ∷ remove_entry (nat_eq e.0) es) here)
-
--- the first entry ends and goes behind the others
-pub turned_is : (lost : Option ℕ) (es : List (ℕ × Option ℕ)) (key : ℕ) → Some key ≡ option_map (λ e. e.0) (slice_get es 0) → demoted (nat_eq key) (ended_at lost key es) ≡ turned lost es
-turned_is lost [] key h = absurd (cc)
-turned_is lost (e ∷ es) key h =
-    let found : Some key ≡ Some e.0 = h in
-    let at : e.0 ≡ key = cc in
-    subst (λ (k : ℕ). demoted (nat_eq k) (ended_at lost k (e ∷ es)) ≡ turned lost (e ∷ es)) at
-    (ap (demoted (nat_eq e.0)) (head_ends lost e es) ∙ head_demoted (ended lost e) es)
-
-pub turned_none : (lost : Option ℕ) (es : List (ℕ × Option ℕ)) → None ≡ option_map (λ e. e.0) (slice_get es 0) → es ≡ turned lost es
-turned_none lost [] h = refl
-turned_none lost (e ∷ es) h = absurd (let found : None ≡ Some e.0 = h in cc)
-
 -- a cache by its two parts
 pub cache_is : (cache : LruCache ℕ (Option ℕ)) (es : List (ℕ × Option ℕ)) (n : ℕ) → cache.entries ≡ es → cache.cap ≡ n → cache ≡ lru_cache es n
 cache_is cache es n p q = ap (λ l. lru_cache l cache.cap) p ∙ ap (λ (m : ℕ). lru_cache es m) q
@@ -79,10 +55,3 @@ pub round_done : (lost : Option ℕ) (old now : LruCache ℕ (Option ℕ)) (left
     → now ≡ lru_cache (map (ended lost) old.entries) old.cap
 round_done lost old now zero le h cap = cache_is now (map (ended lost) old.entries) old.cap (h ∙ whole_round lost old.entries) cap
 round_done lost old now (suc left) le h cap = absurd (omega arith)
-
-pub round_step : (lost : Option ℕ) (now new : LruCache ℕ (Option ℕ)) (all : List (ℕ × Option ℕ)) (left : ℕ) → 0 < left → new ≡ lru_cache (turned lost now.entries) now.cap → turns lost left now.entries ≡ all
-    → turns lost (left - 1) new.entries ≡ all
-round_step lost now new all zero lt is h = absurd (omega arith)
-round_step lost now new all (suc left) lt is h =
-    let fewer : suc left - 1 ≡ left = omega arith in
-    ap (λ (n : ℕ). turns lost n new.entries) fewer ∙ (ap (λ c. turns lost left c.entries) is ∙ h)

@@ -52,7 +52,7 @@ use Rattle.nd_chronicle.specs.LinkLayerAddress.{first_slla}
 use Rattle.nd_chronicle.specs.InForce.{base_reachable_time}
 use Rattle.nd_chronicle.specs.Generator.{stream_left}
 use Rattle.nd_chronicle.specs.OwnAddress.{story_of}
-use Rattle.nd_chronicle.specs.Due.{solicited_routers, assigned_at, max_rtr_solicitations, rtr_solicitation_interval, is_host}
+use Rattle.nd_chronicle.specs.Due.{solicited_routers, assigned_at, max_rtr_solicitations, rtr_solicitation_interval}
 use Rattle.nd_chronicle.specs.Due as chronicle_due
 use Rattle.nd_chronicle.specs.Message.{releasing, leaving}
 use Rattle.nd_chronicle.specs.RouterAdvertisement.{redrawing, with_delay, forming, naming, then_option, then_options, times_out}

@@ -3,8 +3,6 @@ use Rattle.std.proofs.Common.{◌≡◌, ℕ, ◌<◌, ◌≤◌, List, [], ◌�
 use Rattle.std.specs.List.{flat_map}
 use Rattle.rand_core.specs.Stream.{Stream}
 use Rattle.nd_addr.specs.declared.addr.Addr.{Addr}
-use Rattle.nd_addr.specs.declared.role.Role.{Role}
-use Rattle.nd_addr.specs.declared.role.Role.TheVariants.{Host}
 use Rattle.nd_addr.specs.Number.{number_of}
 use Rattle.nd_neighbour.specs.History as rows
 use Rattle.nd_neighbour.specs.History.{story}
@@ -13,13 +11,11 @@ use Rattle.nd_neighbour.specs.Table as neighbours
 use Rattle.nd_routers.specs.History.{RouterRow}
 use Rattle.nd_nexthop.specs.History.{RedirectRow}
 use Rattle.nd_chronicle.specs.Start.{Start}
-use Rattle.nd_chronicle.specs.Happening.{Chronicle, Neighbour, Passed, Forgotten, Refused, WrongRole, last_moment}
+use Rattle.nd_chronicle.specs.Happening.{Chronicle, Neighbour, Passed, Forgotten, last_moment}
 use Rattle.nd_chronicle.specs.Histories.{neighbour_history, then_failed, then_target}
 use Rattle.nd_chronicle.specs.InForce.{reachable_time}
 use Rattle.nd_chronicle.specs.Packet.{losing}
-use Rattle.nd_chronicle.specs.Refused.{AtRouter}
 use Rattle.nd_chronicle.specs.Event as events
-use Rattle.nd_chronicle.specs.Event.{EventAdds}
 use Rattle.nd_chronicle.specs.Told.{Told, items_at, items}
 use Rattle.nd_out.specs.declared.out.Out.{Out}
 use Rattle.nd_effects.specs.Told.{happenings}
@@ -28,7 +24,6 @@ use Rattle.nd_effects.proofs.Saying.{NoneOverdueStill, OverdueByTable}
 use Rattle.nd_effects.proofs.Telling.{lost_at, lost_items}
 use Rattle.nd_node.specs.declared.node.Node.{Node}
 use Rattle.nd_node.specs.Event.{AddsEvent}
-use Rattle.nd_node.specs.Frame.{AddsAlone}
 use Rattle.nd_node.specs.Node.{Stands, next_of}
 use Rattle.nd_node.proofs.Beside.{Same, beside_neighbour, stands_neighbours}
 use Rattle.nd_node.proofs.Quiet.{stands_quiet}
@@ -96,14 +91,3 @@ module _ {R A : Type 0} (stream : R → Stream) (old new : Node R A) (now : ℕ)
           },
         );
   }
-
--- ---- a command of a router
-
--- a host refuses it
-pub at_host : (now : ℕ) (role : Role) (Adds : Chronicle → Type 0) (c : Chronicle) → role ≡ Host → AtRouter now role Adds c ((now, Refused WrongRole) ∷ c)
-at_host now role Adds c host = subst (λ (r : Role). AtRouter now r Adds c ((now, Refused WrongRole) ∷ c)) (sym host) refl
-
-pub wrong_role : {R A : Type 0} (stream : R → Stream) (old new : Node R A) (x y : List (ℕ × Out A)) (now : ℕ) (event : events.Event) → old.role ≡ Host
-    → ((start : Start) (c : Chronicle) → start.role ≡ Host → EventAdds start now event c ((now, Refused WrongRole) ∷ c)) → AddsAlone stream old new x y now (Refused WrongRole) → AddsEvent stream old new x y now event
-wrong_role stream old new x y now event host refused adds =
-    record { each = λ start c s le. let a = adds.each start c s le in ((now, Refused WrongRole) ∷ (now, Passed) ∷ c, refused start ((now, Passed) ∷ c) (sym s.role ∙ host), a.0, a.1) }

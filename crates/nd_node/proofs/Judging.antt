@@ -129,9 +129,6 @@ stays_keeps stream old new k = record {
   };
 }
 
-pub stays_then : {R A : Type 0} (stream : R → Stream) (old mid new : Node R A) → ((start : Start) (c : Chronicle) → Stands stream start old c → Stands stream start mid c) → Stays stream mid new → Stays stream old new
-stays_then stream old mid new first then = record { each = λ start c s. then.each start c (first start c s) }
-
 -- ---- time that passed changes none of the questions
 
 pub next_later : (c : Chronicle) (now : ℕ) (destination : Addr) (next : NextHop) → IsNextHop c now destination next → IsNextHop ((now, Passed) ∷ c) now destination next

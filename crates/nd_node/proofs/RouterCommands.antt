@@ -25,7 +25,7 @@ use Rattle.nd_routes.specs.Routes.{fits, routes}
 use Rattle.nd_routes.specs.Table as routing
 use Rattle.nd_chronicle.specs.Start.{Start, link_local}
 use Rattle.nd_chronicle.specs.Happening as happening
-use Rattle.nd_chronicle.specs.Happening.{Chronicle, Happening, Ceased, Configured, Limit, Offered, Passed, Refused, RoutePut, Sent, last_moment}
+use Rattle.nd_chronicle.specs.Happening.{Chronicle, Happening, Ceased, Configured, Offered, Passed, RoutePut, Sent, last_moment}
 use Rattle.nd_chronicle.specs.Histories.{advertising_history, route_history}
 use Rattle.nd_chronicle.specs.Advertising.{telling_end}
 use Rattle.nd_chronicle.specs.Refused.{AtRouter, UnlessFull}
@@ -38,7 +38,6 @@ use Rattle.nd_effects.proofs.Quiet.{Quiet, quiet_same, sent_is_quiet}
 use Rattle.nd_effects.proofs.Telling.{one}
 use Rattle.nd_node.specs.declared.node.Node.{Node}
 use Rattle.nd_node.specs.Event.{AddsEvent}
-use Rattle.nd_node.specs.Frame.{AddsAlone}
 use Rattle.nd_node.specs.Node.{next_of}
 use Rattle.nd_node.proofs.Quiet.{stands_quiet}
 use Rattle.nd_node.proofs.RouterRows.{Ceases, Configures, Offers, PutsRoute, aside, stands_advertising, stands_routes}
@@ -52,10 +51,6 @@ at_router now role Adds c d router adds = subst (λ (r : Role). AtRouter now r A
 one_more_fits : (b : Bool) (answer : Result (Unit {0}) Full) → answer ≡ (if b then Err (record {}) else Ok tt) → is_ok answer ≡ true → b ≡ false
 one_more_fits false answer is ok = refl
 one_more_fits true answer is ok = absurd (let no : false ≡ true = sym (ap is_ok is) ∙ ok in let never : ⊥ = cc in never)
-
-one_too_many : (b : Bool) (answer : Result (Unit {0}) Full) → answer ≡ (if b then Err (record {}) else Ok tt) → is_ok answer ≡ false → b ≡ true
-one_too_many true answer is ok = refl
-one_too_many false answer is ok = absurd (let no : true ≡ false = sym (ap is_ok is) ∙ ok in let never : ⊥ = cc in never)
 
 module _ {R A : Type 0} (stream : R → Stream) (old new : Node R A) (now : ℕ) (settled : now < next_of old) (role : old.role ≡ Router) where
   -- ---- a table changes, and nothing is told
@@ -113,44 +108,6 @@ module _ {R A : Type 0} (stream : R → Stream) (old new : Node R A) (now : ℕ)
                 (subst (λ (b : Bool). UnlessFull now (if b then None else Some happening.StaticRoutes) (λ (x : Chronicle). x ≡ d) later d) fits' refl),
             rw is (stands_routes stream start base later d (aside (PutsRoute prefix route) now start.at later refl) p r (route_rows.RoutePut prefix route) same gains refl refl refl),
             record { newer = []; told = append-nil (items later); outs = sym (append-nil (happenings outs)) },
-          );
-    }
-
-  -- ---- a table is full
-
-  module _ (x y : List (ℕ × Out A)) where
-    pub full_of_offers : (info : PrefixInfo) (answer : Result (Unit {0}) Full)
-        → ((history : List advertising_rows.Row) → advertising.Stands old.router.advertiser history → answer ≡ answer_to info.prefix (prefixes history)) → is_ok answer ≡ false
-        → AddsAlone stream old new x y now (Refused (happening.Full happening.Offers)) → AddsEvent stream old new x y now (events.Offers info)
-    full_of_offers info answer by_history full adds = record {
-      each = λ start c s le.
-          let later : Chronicle = (now, Passed) ∷ c in
-          let d : Chronicle = (now, Refused (happening.Full happening.Offers)) ∷ later in
-          let a = adds.each start c s le in
-          let many : Bool = is_one_too_many info.prefix (prefixes (advertising_history start c)) in
-          let full' : many ≡ true = one_too_many many answer (by_history (advertising_history start c) s.router.advertiser) full in (
-            d,
-            at_router now start.role (λ (e : Chronicle). UnlessFull now (if many then Some happening.Offers else None) (λ (x : Chronicle). x ≡ (now, Offered info) ∷ later) later e) later d (sym s.role ∙ role)
-                (subst (λ (b : Bool). UnlessFull now (if b then Some happening.Offers else None) (λ (x : Chronicle). x ≡ (now, Offered info) ∷ later) later d) (sym full') refl),
-            a.0,
-            a.1,
-          );
-    }
-
-    pub full_of_routes : (prefix : PrefixValue) (route : Route) → ((history : List route_rows.Row) → routing.Stands old.router.routes history → false ≡ fits prefix (routes history))
-        → AddsAlone stream old new x y now (Refused (happening.Full happening.StaticRoutes)) → AddsEvent stream old new x y now (events.Routes prefix route)
-    full_of_routes prefix route by_history adds = record {
-      each = λ start c s le.
-          let later : Chronicle = (now, Passed) ∷ c in
-          let d : Chronicle = (now, Refused (happening.Full happening.StaticRoutes)) ∷ later in
-          let a = adds.each start c s le in
-          let room : Bool = fits prefix (routes (route_history c)) in
-          let full' : false ≡ room = by_history (route_history c) s.router.routes in (
-            d,
-            at_router now start.role (λ (e : Chronicle). UnlessFull now (if room then None else Some happening.StaticRoutes) (λ (x : Chronicle). x ≡ (now, RoutePut prefix route) ∷ later) later e) later d (sym s.role ∙ role)
-                (subst (λ (b : Bool). UnlessFull now (if b then None else Some happening.StaticRoutes) (λ (x : Chronicle). x ≡ (now, RoutePut prefix route) ∷ later) later d) full' refl),
-            a.0,
-            a.1,
           );
     }
 

@@ -7,7 +7,7 @@ use Rattle.nd_chronicle.specs.Happening.{Chronicle}
 use Rattle.nd_chronicle.specs.Event as events
 use Rattle.nd_chronicle.specs.History.{Follows, Runs}
 use Rattle.nd_out.specs.declared.out.Out.{Out}
-use Rattle.nd_effects.proofs.Telling.{Tells-same, Tells-then}
+use Rattle.nd_effects.proofs.Telling.{Tells-then}
 use Rattle.nd_node.specs.declared.node.Node.{Node}
 use Rattle.nd_node.specs.declared.event.Event.{Event}
 use Rattle.nd_node.specs.Event.{event_of, events_of, FollowsBy, RunsBy, RunsInPart}
@@ -50,9 +50,6 @@ one_more_event start c d e [] at event is follows = (e, subst (λ (x : Chronicle
 one_more_event start c d e (first ∷ list) at event runs follows = (runs.0, runs.1, one_more_event start runs.0 d e list at event runs.2 follows)
 
 module _ {R A : Type 0} (stream : R → Stream) where
-  pub none_came : (node : Node R A) (outs : List (ℕ × Out A)) → Leads stream node node outs outs (RunsBy [])
-  none_came node outs = record { each = λ start c s. (c, refl, s, Tells-same c outs) }
-
   module _ (origin old new : Node R A) (x y z : List (ℕ × Out A)) (list : Events) (sofar : Leads stream origin old x y (RunsBy list)) where
     pub came : (at : ℕ) (event : events.Event) (more : Events) → more ≡ list ++ (at, event) ∷ [] → Leads stream old new y z (FollowsBy at event) → Leads stream origin new x z (RunsBy more)
     came at event more is next = record {

@@ -10,7 +10,6 @@ use Rattle.nd_chronicle.specs.Shown.{AreRows}
 use Rattle.nd_chronicle.specs.Told.{items_at, items}
 use Rattle.nd_chronicle.specs.Due.{comes}
 use Rattle.nd_chronicle.specs.Event as events
-use Rattle.nd_chronicle.specs.Event.{EventAdds}
 use Rattle.nd_chronicle.specs.History.{Walk, over, adds, passes}
 use Rattle.nd_out.specs.declared.out.Out.{Out}
 use Rattle.nd_out.specs.Out.{happening}

@@ -2,9 +2,7 @@
 use Rattle.std.proofs.Common.{◌≡◌, ℕ, ◌+◌, ◌*◌, ◌<◌, ◌≤◌, Bool, true, false, List, ◌∷◌, Option, Some, None, refl, sym, ◌∙◌, ap, subst, arith}
 use Rattle.std.specs.Prelude.{◌==◌, ◌≢◌, nat_lt, not, ◌&&◌, if◌then◌else◌}
 use Rattle.rand_core.specs.Stream.{Stream, next_u32}
-use Rattle.std.specs.Option.{option_map}
 use Rattle.nd_addr.specs.declared.role.Role.{Role}
-use Rattle.nd_addr.specs.declared.role.Role.TheVariants.{Host, Router}
 use Rattle.nd_table.specs.Due.{NotBefore}
 use Rattle.nd_neighbour.specs.History as neighbour_rows
 use Rattle.nd_neighbour.specs.Table as neighbours
@@ -29,11 +27,11 @@ use Rattle.nd_advertiser.specs.Table as advertising
 use Rattle.nd_nexthop.specs.Choice as choice
 use Rattle.nd_chronicle.specs.Start.{Start, link_local_key}
 use Rattle.nd_chronicle.specs.Advertising.{advertising_by}
-use Rattle.nd_chronicle.specs.Happening.{Advertised, Chronicle, Drew, ForInterval, Neighbour, Address, LeftRouter, SolicitedRouters, Unreachable, last_moment}
+use Rattle.nd_chronicle.specs.Happening.{Advertised, Chronicle, Drew, ForInterval, Neighbour, Address, LeftRouter, Unreachable, last_moment}
 use Rattle.nd_chronicle.specs.Histories.{advertising_history, parameter_history, neighbour_history, router_history, prefix_history, address_history, server_history, name_history, redirect_history, then_failed, then_target}
 use Rattle.nd_chronicle.specs.InForce.{next_redraw}
 use Rattle.nd_chronicle.specs.Generator.{stream_left, interval_drawn, reachable_drawn}
-use Rattle.nd_chronicle.specs.Due.{RouterEnds, AddressFalls, NeighbourFalls, RoutersSolicited, RouterAdvertises, Redraws, comes, max_rtr_solicitations, router_solicitation_date, rtr_solicitation_interval, is_host, solicited_routers, assigned_at}
+use Rattle.nd_chronicle.specs.Due.{RouterEnds, AddressFalls, NeighbourFalls, RouterAdvertises, Redraws, comes, max_rtr_solicitations, router_solicitation_date, rtr_solicitation_interval, is_host, solicited_routers, assigned_at}
 use Rattle.nd_effects.specs.RouterSolicitations as solicitations
 use Rattle.nd_effects.specs.RouterSolicitations.{Solicitations, next_solicitation, after_address}
 use Rattle.nd_effects.specs.Router as router_only
@@ -89,19 +87,6 @@ solicitation_date stream start node c s =
     ∙ (ap (λ a. date_by start.role a node.solicitations.sent node.solicitations.heard) s.solicitations.assigned
     ∙ (ap (λ n. date_by start.role (assigned_at (link_local_key start) (address_history c)) n node.solicitations.heard) s.solicitations.sent
     ∙ ap (λ h. date_by start.role (assigned_at (link_local_key start) (address_history c)) (solicited_routers c) h) s.solicitations.heard))
-
--- the one after it comes later
-pub solicited_later : (role : Role) (s : Solicitations) (now : ℕ) → next_solicitation role s ≡ Some now → NotBefore now (next_solicitation role (record s { sent = s.sent + 1 }))
-solicited_later Router s now e = tt
-solicited_later Host s now e = by_date s.assigned (nat_lt s.sent max_rtr_solicitations && not s.heard) (nat_lt (s.sent + 1) max_rtr_solicitations && not s.heard) e
-  where
-    by_date : (assigned : Option ℕ) (this next : Bool)
-        → (if this then option_map (λ at. at + s.sent * rtr_solicitation_interval) assigned else None) ≡ Some now
-        → NotBefore now (if next then option_map (λ at. at + (s.sent + 1) * rtr_solicitation_interval) assigned else None)
-    by_date assigned this false e = tt
-    by_date assigned false true e = let no : ⊥ = cc in absurd no
-    by_date None true true e = let no : ⊥ = cc in absurd no
-    by_date (Some at) true true e = let d : at + s.sent * rtr_solicitation_interval ≡ now = cc in omega (arith, d)
 
 -- what falls due for an address makes none due in the past
 pub addressed_later : (role : Role) (link_local now : ℕ) (falls : addresses_due.Falls) (s : Solicitations) → NotBefore now (next_solicitation role s) → NotBefore now (next_solicitation role (after_address link_local now falls s))
@@ -259,24 +244,6 @@ module _ {R A : Type 0} (stream : R → Stream) (start : Start) (old new : Node 
       by_kind (neighbours_due.Fails key packets) g r t =
           stands_quiet stream start new _ _ (losing_is_quiet now Unreachable packets _ (λ at. refl)) (neighbour_row key (neighbour_rows.Forgot neighbour_rows.Failed) mid (ap (λ (x : routers.Table). x.entries) mid_is) entries r t g later addresses' params' solicitations' side generator)
       by_kind (neighbours_due.Ages key) g r t = neighbour_row key (neighbour_rows.Forgot neighbour_rows.Aged) mid (ap (λ (x : routers.Table). x.entries) mid_is) entries r t g later addresses' params' solicitations' side generator
-
-  -- a Router Solicitation is sent
-  pub routers_solicited : next_solicitation old.role old.solicitations ≡ Some now → new.routers ≡ old.routers → new.choice ≡ old.choice → new.addresses ≡ old.addresses → new.neighbours ≡ old.neighbours → new.params ≡ old.params
-      → new.solicitations ≡ record old.solicitations { sent = old.solicitations.sent + 1 } → new.router ≡ old.router → stream new.generator ≡ stream old.generator
-      → Stands stream start new (comes start now RoutersSolicited c)
-  routers_solicited date routers' choice' addresses' neighbours' params' solicitations' side generator =
-      stands_quiet stream start new _ _ (sent_is_quiet now _ _ (λ at. refl))
-      (then_row ((now, SolicitedRouters) ∷ c) refl refl refl refl
-      (rw params' s.params)
-      (rw routers' s.routers)
-      (rw addresses' s.addresses)
-      (rw neighbours' s.neighbours)
-      (rw choice' s.redirects)
-      (rw solicitations' (record { assigned = s.solicitations.assigned; sent = ap (λ n. n + 1) s.solicitations.sent; heard = s.solicitations.heard }))
-      (rw side (side_stands start old.router c ((now, SolicitedRouters) ∷ c) refl s.router))
-      (generator ∙ s.generator)
-      (all_later new now (rw routers' (routers_before old now not_past)) (rw addresses' (addresses_before old now not_past)) (rw neighbours' (neighbours_before old now not_past))
-      (rw (turns.role, solicitations') (solicited_later old.role old.solicitations now date)) (rw (turns.role, side) (advertisement_before old now not_past)) (rw params' (redraw_before old now not_past))))
 
   -- a Router Advertisement is sent, and the time until the next one is drawn
   pub router_advertised : next_advertisement old.role old.router ≡ Some now → new.routers ≡ old.routers → new.choice ≡ old.choice → new.addresses ≡ old.addresses → new.neighbours ≡ old.neighbours → new.params ≡ old.params

@@ -23,7 +23,7 @@ use Rattle.nd_effects.specs.Router.{advertised, frame_of, next_advertisement}
 use Rattle.nd_effects.specs.Told.{advertised_by, told_of, at_moment, happenings}
 use Rattle.nd_effects.proofs.RouterSide.{advertisement_date, due_has_settings}
 use Rattle.nd_effects.proofs.Quiet.{losing_is_quiet}
-use Rattle.nd_effects.proofs.Telling.{due_items, Tells-same, Tells-then}
+use Rattle.nd_effects.proofs.Telling.{due_items, Tells-then}
 use Rattle.nd_node.specs.declared.node.Node.{Node}
 use Rattle.nd_node.specs.Node.{Stands, NextDue}
 use Rattle.nd_node.specs.Time.{Leads, Comes, Passes, Onward}
@@ -95,9 +95,6 @@ Idle = (start : Start) (c d : Chronicle) (next end : ℕ) → ((moment : ℕ) �
     → Walk start c next end d → Walk start c moment end d
 
 module _ {R A : Type 0} (stream : R → Stream) where
-  pub settle_start : (node : Node R A) (outs : List (ℕ × Out A)) (now : ℕ) → Leads stream node node outs outs (Onward now)
-  settle_start node outs now = record { each = λ start c s. (c, λ e w. w, s, Tells-same c outs) }
-
   pub settle_more : Idle → (origin old new : Node R A) (x y z : List (ℕ × Out A)) (now next : ℕ)
       → Leads stream origin old x y (Onward now)
       → ((start : Start) (c : Chronicle) → Stands stream start old c → NextDue start c next)

@@ -89,7 +89,7 @@ impl<R: Rng + Drop, A: Allocator + Clone> Node<R, A> {
     }
 }
 
-/// The first Router Solicitation comes with the link-local address.
+/// The first Router Solicitation comes with the link-local address (RFC 4861, section 6.3.7).
 fn note_address(
     solicitations: &mut RouterSolicitations,
     link_local: Addr,

@@ -1,6 +1,5 @@
-ghost use Rattle.std.specs.Prelude.{◌≡◌, ℕ, ◌^◌, ◌-◌, ◌<◌, ◌≤◌, IsOk, OnOk, OnErr, vec_len, vec_capacity};
-ghost use Rattle.nd_chronicle.specs.Event.{EventAdds};
-ghost use Rattle.nd_chronicle.specs.Happening.{Chronicle, Passed, last_moment};
+ghost use Rattle.std.specs.Prelude.{◌≡◌, ◌^◌, ◌-◌, ◌<◌, ◌≤◌, IsOk, OnOk, OnErr, vec_len, vec_capacity};
+ghost use Rattle.nd_chronicle.specs.Happening.{Chronicle, last_moment};
 ghost use Rattle.nd_chronicle.specs.Start.{Start};
 ghost use Rattle.nd_node.specs.Event.{event_of, events_of, AddsEvent, AreEarly, FollowsBy, RunsBy, RunsInPart};
 ghost use Rattle.nd_node.specs.Frame.{Stays};

@@ -25,7 +25,7 @@ use nd_out::{Out, Refusal};
 use rand_core::Rng;
 use std::alloc::{AllocError, Allocator};
 
-/// How many rows a Router Advertisement tells at most beside the frames that are sent: itself, and a router that is timed out.
+/// How much a Router Advertisement tells at most beside the frames that are sent: itself, and a router that is timed out.
 const BESIDE_FRAMES: usize = 2;
 
 impl<R: Rng + Drop, A: Allocator + Clone> Node<R, A> {

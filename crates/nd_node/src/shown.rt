@@ -1,4 +1,4 @@
-ghost use Rattle.std.specs.Prelude.{◌≡◌, ◌≤◌, IfOk, map, string_bytes};
+ghost use Rattle.std.specs.Prelude.{◌≤◌, IfOk, map, string_bytes};
 ghost use Rattle.nd_node.specs.Event.{table_of};
 
 use crate::event::Table;

@@ -1,4 +1,4 @@
-ghost use Rattle.std.specs.Prelude.{◌≡◌, ◌++◌, IfOk, OnOk, map, string_bytes};
+ghost use Rattle.std.specs.Prelude.{◌≡◌, IfOk, map, string_bytes};
 ghost use Rattle.nd_slaac.specs.Table.{Stands};
 ghost use Rattle.nd_slaac.specs.Shown.{seen};
 ghost use Rattle.nd_chronicle.specs.Start.{Start};

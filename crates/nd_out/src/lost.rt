@@ -1,4 +1,4 @@
-ghost use Rattle.std.specs.Prelude.{◌≡◌, ◌+◌, ◌++◌, ◌≤◌, OnOk, codes, length, string_bytes, slice_index, slice_range};
+ghost use Rattle.std.specs.Prelude.{◌≡◌, ◌+◌, ◌++◌, ◌≤◌, OnOk, length, string_bytes, slice_index, slice_range};
 ghost use Rattle.nd_addr.specs.Text.{address_text};
 ghost use Rattle.nd_addr.specs.Frame.{ethernet_header_length};
 ghost use Rattle.nd_chronicle.specs.Told.{loss_text, way_text};

@@ -1,7 +1,6 @@
 //! What was heard, and why something was not.
 
 ghost use Rattle.std.specs.Prelude.{◌≡◌, ◌++◌, OnOk, codes, string_bytes};
-ghost use Rattle.nd_addr.specs.declared.addr.Addr.{Addr};
 ghost use Rattle.nd_chronicle.specs.Happening.{Dropped, Refused};
 ghost use Rattle.nd_chronicle.specs.Told.{kind_text, line_at, limit_text, lines_of, refusal_text};
 ghost use Rattle.nd_out.specs.Out.{limit_of, refusal_of};

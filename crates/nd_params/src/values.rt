@@ -49,7 +49,7 @@ impl Params {
         self.retrans_timer
     }
 
-    /// Whether addresses are to be had by DHCPv6: the flag M of the last Router Advertisement.
+    /// Whether addresses are to be had by DHCPv6: the flag M of the last Router Advertisement (RFC 4861, section 4.2).
     pub fn managed(&self) -> bool
         ensures value { result ≡ self.now.managed }
         ensures by_history { (history : List Row) → Stands self.now history → result ≡ managed_of history }
@@ -57,7 +57,7 @@ impl Params {
         self.managed
     }
 
-    /// Whether other configuration is to be had by DHCPv6: the flag O of the last Router Advertisement.
+    /// Whether other configuration is to be had by DHCPv6: the flag O of the last Router Advertisement (RFC 4861, section 4.2).
     pub fn other(&self) -> bool
         ensures value { result ≡ self.now.other }
         ensures by_history { (history : List Row) → Stands self.now history → result ≡ other_of history }

@@ -1,4 +1,4 @@
-ghost use Rattle.std.specs.Prelude.{◌≡◌, ◌≤◌, ◌<◌, List, false};
+ghost use Rattle.std.specs.Prelude.{◌≡◌, ◌≤◌, List, false};
 ghost use Rattle.std.specs.List.{list_any};
 ghost use Rattle.nd_addr.specs.Number.{holds};
 ghost use Rattle.nd_lifetime.specs.Listing.{open_at, Lists, Stands};

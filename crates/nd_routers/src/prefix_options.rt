@@ -49,7 +49,8 @@ impl<A: Allocator> Prefixes<A> {
     }
 }
 
-/// The prefixes that the options of a Router Advertisement say are on the link, with their valid lifetimes.
+/// The prefixes that the options of a Router Advertisement say are on the link, with their valid lifetimes (RFC 4861, sections 4.6.2 and
+/// 6.3.4).
 #[derive(Clone, Copy, Debug)]
 pub(crate) struct OnLink<'a> {
     pub(crate) options: Options<'a>,

@@ -1,4 +1,4 @@
-ghost use Rattle.std.specs.Prelude.{◌≡◌, ◌≤◌, ◌<◌, ◌∷◌, ℕ, List, [], length, IfOk};
+ghost use Rattle.std.specs.Prelude.{◌≡◌, ◌≤◌, ◌∷◌, ℕ, List, [], length, IfOk};
 ghost use Rattle.nd_addr.specs.Prefix.{PrefixValue};
 ghost use Rattle.nd_lifetime.specs.declared.lasting.Lasting.{Lasting};
 ghost use Rattle.nd_lifetime.specs.History.{Row, Cleared, last_moment};

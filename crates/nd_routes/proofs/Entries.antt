@@ -1,15 +1,12 @@
 -- A route that is replaced where it stands.
-use Rattle.std.proofs.Common.{◌≡◌, ℕ, List, position, Option, Some, sym, ◌∙◌, ap, is_some}
+use Rattle.std.proofs.Common.{◌≡◌, ℕ, List, position, Some, sym}
 use Rattle.std.specs.Map.{keys_of}
 use Rattle.indexmap.specs.IndexMap.{insert_entry}
 use Rattle.indexmap.specs.Layout.{set_value_at}
-use Rattle.indexmap.proofs.MapLemmas.{Found-position, insert_entry-first, some_index}
+use Rattle.indexmap.proofs.MapLemmas.{Found-position, insert_entry-first}
 use Rattle.nd_addr.specs.Prefix.{PrefixValue}
 use Rattle.nd_routes.specs.declared.route.Route.{Route}
-use Rattle.nd_routes.specs.Routes.{has_route, is_same}
-
-pub found_there : (p : PrefixValue) (es : List (PrefixValue × Route)) (o : Option ℕ) → o ≡ position (is_same p) (keys_of es) → is_some o ≡ has_route p es
-found_there p es o h = ap is_some h ∙ some_index (is_same p) es
+use Rattle.nd_routes.specs.Routes.{is_same}
 
 pub set_there : (p : PrefixValue) (r : Route) (es : List (PrefixValue × Route)) (i : ℕ) → Some i ≡ position (is_same p) (keys_of es) → set_value_at es i r ≡ insert_entry is_same es p r
 set_there p r es i h = sym (insert_entry-first is_same p r es i (Found-position (is_same p) es i (sym h)).first)

@@ -65,7 +65,7 @@ fn is_direct(route: Option<Route>) -> bool
     }
 }
 
-/// Whether the last Redirect was made so long ago, if there was one, that another one may be sent.
+/// Whether the last Redirect was made so long ago, if there was one, that another one may be sent (RFC 4861, section 8.2).
 fn may_redirect(now: u64, last: Option<u64>) -> bool
     ensures { result ≡ may_redirect now last }
 {

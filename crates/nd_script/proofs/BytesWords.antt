@@ -1,14 +1,10 @@
 -- Bytes are told by their word.
 use Rattle.std.proofs.Common.{◌≡◌, ◌<◌, ◌%◌, ℕ, List, [], ◌∷◌, Ok, length, sym, refl, ap, arith}
 use Rattle.std.specs.Prelude.{codes}
-use Rattle.std.specs.Char.{is_ascii_hexdigit}
 use Rattle.std.specs.List.{AllPass}
 use Rattle.hex.specs.Hex.{decode_of, is_hex_digit}
 use Rattle.hex.proofs.HexLemmas.{decode_of-ok, decode_of-same}
 use Rattle.nd_script.specs.Bytes.{IsBytesWord}
-
-pub digit_is : (c : ℕ) → is_ascii_hexdigit c ≡ is_hex_digit c
-digit_is c = grind (arith)
 
 -- digits, at least two of them
 abbrev pub AreDigits : List ℕ → Type 0

@@ -1,5 +1,5 @@
 -- An offer is told by its words.
-use Rattle.std.proofs.Common.{◌≡◌, ◌∙◌, ◌^◌, ℕ, Bool, List, [], ◌∷◌, None, length, refl, sym, subst, arith}
+use Rattle.std.proofs.Common.{◌≡◌, ◌∙◌, ◌^◌, ℕ, Bool, List, [], ◌∷◌, None, refl, sym, subst, arith}
 use Rattle.nd_addr.specs.Prefix.{PrefixValue}
 use Rattle.nd_decode.specs.declared.prefix_info.PrefixInfo.{PrefixInfo}
 use Rattle.nd_advertiser.specs.Offer.{offer_fault}
@@ -8,10 +8,6 @@ use Rattle.nd_script.specs.Words.{words_of}
 use Rattle.nd_script.proofs.FlagsWords.{one_prefix_flags}
 use Rattle.nd_script.proofs.NumberWords.{one_number_or}
 use Rattle.nd_script.proofs.PrefixWords.{one_prefix}
-
-pub four_words : (words : List (List ℕ)) (info : PrefixInfo) → SpellOffer words info → length words ≡ 4
-four_words (prefix ∷ valid ∷ preferred ∷ flags ∷ []) info p = refl
-four_words _ info p = absurd p
 
 -- an offer by its values
 offer_of : PrefixValue → Bool → Bool → ℕ → ℕ → PrefixInfo

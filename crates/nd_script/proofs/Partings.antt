@@ -1,5 +1,5 @@
 -- The one way to part a text at its first space, and all its words.
-use Rattle.std.proofs.Common.{◌≡◌, ◌≢◌, ◌==◌, ℕ, false, zero, suc, ◌<◌, ◌^◌, List, [], ◌∷◌, ◌++◌, length, take, drop, get_or, refl, sym, ap, subst, ◌∙◌, arith}
+use Rattle.std.proofs.Common.{◌≡◌, ◌≢◌, ◌==◌, ℕ, false, zero, suc, ◌<◌, ◌^◌, List, [], ◌∷◌, ◌++◌, length, get_or, refl, sym, ap, subst, ◌∙◌, arith}
 use Rattle.std.specs.Char.{digit_value}
 use Rattle.std.specs.Fmt.{decimal}
 use Rattle.std.specs.Str.Parse.{AllDigits}
@@ -58,19 +58,7 @@ in_front text First Rest q = parts_of text q.word q.rest First q.parted q.first
 pub with_rest : (text rest : List ℕ) (First Rest : List ℕ → Type 0) → Parts text First (λ r. r ≡ rest) → Rest rest → Parts text First Rest
 with_rest text rest First Rest q behind = record { word = q.word; rest = q.rest; parted = q.parted; first = q.first; behind = subst Rest (sym q.behind) behind }
 
--- ---- where a text is parted
-
--- what stands before the first space and behind it
-pub parted_at : (i : ℕ) (text : List ℕ) → ((k : ℕ) → k < i → get_or text k 0 ≡ 32 → ⊥) → i < length text → get_or text i 0 ≡ 32 → IsParted text (take i text) (drop (suc i) text)
-parted_at i [] none lt e = absurd (omega arith)
-parted_at zero (b ∷ text) none lt e = record { text_is = ap (λ (c : ℕ). c ∷ text) e; no_space = λ k less f. absurd (omega arith) }
-parted_at (suc i) (b ∷ text) none lt e =
-    let later = parted_at i text (λ k less. none (suc k) (omega arith)) (omega arith) e in
-    record { text_is = ap (λ (t : List ℕ). b ∷ t) later.text_is; no_space = before later.no_space }
-  where
-    before : HasNoSpace (take i text) → HasNoSpace (b ∷ take i text)
-    before rest zero less f = none 0 (omega arith) f
-    before rest (suc k) less f = rest k (omega arith) f
+-- ---- numbers
 
 digits_no_space : (text : List ℕ) (k : ℕ) → AllDigits 10 text → k < length text → get_or text k 0 ≡ 32 → ⊥
 digits_no_space [] k h lt e = omega arith

@@ -1,12 +1,8 @@
 -- What is read, or not.
-use Rattle.std.proofs.Common.{◌≡◌, ℕ, Bool, true, false, Option, Some, None, Ok, Err, refl, subst}
+use Rattle.std.proofs.Common.{◌≡◌, ℕ, Option, Some, None, Ok, Err, refl, subst}
 use Rattle.std.specs.Prelude.{Result, IfOk, IsOkAnd, IfNone, IfSome}
 use Rattle.std.specs.Option.{option_map, IsSomeAnd, SomeIff}
 use Rattle.std.specs.Result.{result_ok}
-
-pub not_true : (b : Bool) → (b ≡ true → ⊥) → b ≡ false
-not_true true other = absurd (other refl)
-not_true false other = refl
 
 pub some_is : {T : Type 0} (o : Option T) (t : T) (P : T → Type 0) → o ≡ Some t → IfSome o P → P t
 some_is {T} o t P e found = subst (λ (o : Option T). IfSome o P) e found

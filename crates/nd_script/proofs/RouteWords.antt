@@ -1,5 +1,5 @@
 -- A static route is told by its words.
-use Rattle.std.proofs.Common.{◌≡◌, ℕ, List, [], ◌∷◌, None, length, refl, sym, ap, subst}
+use Rattle.std.proofs.Common.{◌≡◌, ℕ, List, [], ◌∷◌, None, refl, sym, ap, subst}
 use Rattle.std.specs.Prelude.{codes}
 use Rattle.nd_text.specs.Parsing.{address_groups, groups_within}
 use Rattle.nd_text.specs.Spelling.{SpellsAddress}
@@ -31,10 +31,6 @@ one_way word Direct Direct p q = refl
 one_way word Direct (Via b) p q = absurd (direct_is_none word b p q)
 one_way word (Via a) Direct p q = absurd (direct_is_none word a q p)
 one_way word (Via a) (Via b) p q = ap Via (one_address word a b p q)
-
-pub two_words : (words : List (List ℕ)) (prefix : PrefixValue) (route : Route) → SpellRoute words prefix route → length words ≡ 2
-two_words (word ∷ way ∷ []) prefix route p = refl
-two_words _ prefix route p = absurd p
 
 pub one_spelled : (words : List (List ℕ)) (p q : PrefixValue) (a b : Route) → SpellRoute words p a → SpellRoute words q b → (p ≡ q) × (a ≡ b)
 one_spelled (word ∷ way ∷ []) p q a b s t = (one_prefix word p q s.0 t.0, one_way way a b s.1 t.1)

@@ -1,15 +1,11 @@
 -- Settings are told by their words.
-use Rattle.std.proofs.Common.{◌≡◌, ◌∙◌, ◌^◌, ℕ, Bool, List, [], ◌∷◌, None, length, refl, sym, subst, arith}
+use Rattle.std.proofs.Common.{◌≡◌, ◌∙◌, ◌^◌, ℕ, Bool, List, [], ◌∷◌, None, refl, sym, subst, arith}
 use Rattle.nd_advertiser.specs.Config.{Settings, config_fault}
 use Rattle.nd_script.specs.Number.{IsNumberOr}
 use Rattle.nd_script.specs.Settings.{AreSettings, SpellSettings, default_lifetime}
 use Rattle.nd_script.specs.Words.{words_of}
 use Rattle.nd_script.proofs.FlagsWords.{one_router_flags}
 use Rattle.nd_script.proofs.NumberWords.{one_number, one_number_or}
-
-pub eight_words : (words : List (List ℕ)) (s : Settings) → SpellSettings words s → length words ≡ 8
-eight_words (min ∷ max ∷ lifetime ∷ hop_limit ∷ flags ∷ reachable ∷ retrans ∷ mtu ∷ []) s p = refl
-eight_words _ s p = absurd p
 
 -- settings by their values
 settings_of : ℕ → ℕ → ℕ → ℕ → Bool → Bool → ℕ → ℕ → ℕ → Settings

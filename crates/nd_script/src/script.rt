@@ -1,12 +1,7 @@
 //! A node that answers the lines of a script.
 
-ghost use Rattle.std.specs.Prelude.{◌≡◌, ◌++◌, [], None, Ok, OnOk, OnErr, IfOk, IfSome, IfNone, ◌^◌, ◌<◌, ℕ, List, string_bytes};
-ghost use Rattle.nd_chronicle.specs.Start.{Start};
-ghost use Rattle.nd_chronicle.specs.Happening.{Chronicle};
-ghost use Rattle.nd_chronicle.specs.History.{Follows};
-ghost use Rattle.nd_chronicle.specs.Told as chronicle;
+ghost use Rattle.std.specs.Prelude.{◌≡◌, None, Ok, OnOk, IfOk, IfSome, IfNone, ◌^◌, ◌<◌, ℕ, string_bytes};
 ghost use Rattle.nd_node.specs.Event.{event_of};
-ghost use Rattle.nd_node.specs.Node.{Stands};
 ghost use Rattle.nd_chronicle.specs.Event as events;
 ghost use Rattle.nd_script.specs.Line.{IsLine};
 ghost use Rattle.nd_script.specs.Script.{Leads};

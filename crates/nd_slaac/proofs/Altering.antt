@@ -2,7 +2,7 @@
 use Rattle.std.proofs.Common.{◌≡◌, ℕ, List, ◌∷◌, Some, None, refl, ◌∙◌}
 use Rattle.nd_table.proofs.Keyed.{key_is, put_in}
 use Rattle.nd_slaac.specs.History as kinds
-use Rattle.nd_slaac.specs.History.{RowKind, Row, Story, is_end, Lifetimes}
+use Rattle.nd_slaac.specs.History.{RowKind, Story, is_end, Lifetimes}
 use Rattle.nd_slaac.specs.Address.{Address, address_of}
 use Rattle.nd_slaac.specs.Table.{key_of, address_in, GainsRow}
 use Rattle.nd_slaac.specs.Calls.{formed, announced, failed, Alters}
@@ -22,9 +22,6 @@ announced_gains key at lifetimes old new alters =
 
 pub conflict_gains : (key at : ℕ) (old new : List Address) → Alters key failed old new → GainsRow old new (at, key, kinds.Conflict)
 conflict_gains key at old new alters = altered key at kinds.Conflict failed old new refl (λ a. refl) (λ s a there. when_conflict key at s a there) alters
-
-formed_key : (key at delay retrans : ℕ) (lifetimes : Lifetimes) → (formed key at delay retrans (Some lifetimes)).key ≡ key
-formed_key key at delay retrans lifetimes = refl
 
 pub formed_gains : (key at delay retrans : ℕ) (lifetimes : Lifetimes) (old new : List Address) → address_in key old ≡ None → new ≡ put_in key_of (formed key at delay retrans (Some lifetimes)) old → GainsRow old new (at, key, kinds.Formed delay retrans (Some lifetimes))
 formed_gains key at delay retrans lifetimes old new absent is =

@@ -179,10 +179,6 @@ fits_on now mac info delay retrans (Err full) old new infos taken is changes h =
     let none : false ≡ true = rw (taken, nz, free, room) at h in
     absurd (true≢false (sym none))
 
--- where it isn't taken, nothing changes
-pub fits_idle : (mac : Mac) (info : PrefixInfo) (keys : List ℕ) (infos : List PrefixInfo) → is_taken info ≡ false → fits_in mac keys (info ∷ infos) ≡ true → fits_in mac keys infos ≡ true
-fits_idle mac info keys infos idle h = rw idle at h
-
 -- what the call adds to the history
 pub gains_taken : (now : ℕ) (mac : Mac) (info : PrefixInfo) (delay retrans : ℕ) (r : Result Taken Full) (old new : List Address) → Changes now (named_by mac info) (lifetimes_of info) delay retrans r old new → GainsRowIfAny (row_taken now mac info delay retrans r) old new
 gains_taken now mac info delay retrans (Ok Formed) old new changes = formed_gains (named_by mac info) now delay retrans (lifetimes_of info) old new changes.0 changes.1

@@ -90,11 +90,6 @@ assigned_by true true h = true≢false (sym h)
 assigned_by true false h = true≢false (sym h)
 assigned_by false c h = true≢false (sym h)
 
-formed_by : (k c : Bool) → (k && not c && false) ≡ true → ⊥
-formed_by true true h = true≢false (sym h)
-formed_by true false h = true≢false (sym h)
-formed_by false c h = true≢false (sym h)
-
 -- the date of a step, by the forming
 date_is : (s : Story) (formed delay retrans at : ℕ) → forming_of s ≡ Some (record { at = formed; delay = delay; retrans = retrans }) → step_date s ≡ Some at → at ≡ formed + delay + sent_of s * retrans
 date_is s formed delay retrans at is date =

@@ -20,13 +20,6 @@ by_forming key s a (Some f) is h = (f, is, let e : made key f s ≡ a = cc in sy
 pub was_formed : (key : ℕ) (s : Story) (a : Address) → address_of key s ≡ Some a → (f : Forming) × (forming_of s ≡ Some f) × (a ≡ made key f s)
 was_formed key s a h = by_forming key s a (forming_of s) refl h
 
-not_formed_by : (key : ℕ) (o : Option Forming) (c w : Bool) (n : ℕ) (p v : Option ℕ) → address_by key o c w n p v ≡ None → o ≡ None
-not_formed_by key None c w n p v h = refl
-not_formed_by key (Some f) c w n p v h = absurd (cc)
-
-pub not_formed : (key : ℕ) (s : Story) → address_of key s ≡ None → forming_of s ≡ None
-not_formed key s h = not_formed_by key (forming_of s) (has_conflict s) (was_assigned s) (sent_of s) (preferred_end s) (valid_end s) h
-
 known_is_by : (key : ℕ) (o : Option Forming) (c w : Bool) (n : ℕ) (p v : Option ℕ) → is_some (address_by key o c w n p v) ≡ is_some o
 known_is_by key None c w n p v = refl
 known_is_by key (Some f) c w n p v = refl

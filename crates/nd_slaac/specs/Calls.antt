@@ -10,7 +10,7 @@ use Rattle.nd_slaac.specs.declared.prefix_option.Taken.{Taken}
 use Rattle.nd_slaac.specs.declared.prefix_option.Taken.TheVariants.{Formed, Renewed, Ignored}
 use Rattle.nd_slaac.specs.declared.prefix_option.Full.{Full}
 use Rattle.nd_slaac.specs.History as kinds
-use Rattle.nd_slaac.specs.History.{Row, Lifetimes, RowKind, story}
+use Rattle.nd_slaac.specs.History.{Row, Lifetimes, story}
 use Rattle.nd_slaac.specs.State.{is_known}
 use Rattle.nd_table.specs.Ends.{end_time}
 use Rattle.nd_slaac.specs.TwoHours.{renewed}

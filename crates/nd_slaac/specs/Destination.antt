@@ -1,5 +1,5 @@
 -- Whether a packet goes to an own address, or to the solicited-node address of one (RFC 4291, section 2.8).
-use Rattle.std.specs.Prelude.{◌≡◌, ◌⊎◌, ℕ, Bool, true, false, ◌&&◌, ◌||◌, ◌==◌, bytes_eq, List, Option, Some, None}
+use Rattle.std.specs.Prelude.{◌≡◌, ◌⊎◌, Bool, true, false, ◌&&◌, ◌||◌, ◌==◌, bytes_eq, List, Option, Some, None}
 use Rattle.nd_addr.specs.declared.addr.Addr.{Addr}
 use Rattle.nd_addr.specs.Bytes.{AreBytes}
 use Rattle.nd_addr.specs.Kind.{solicited_node_of}

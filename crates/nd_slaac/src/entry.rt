@@ -56,7 +56,7 @@ impl Addressed for Entry {
 }
 
 impl Entry {
-    ghost use Rattle.nd_slaac.specs.Address.{Address, state_in};
+    ghost use Rattle.nd_slaac.specs.Address.{Address};
     ghost use Rattle.nd_slaac.specs.PrefixOption.{lifetimes_of};
     ghost use Rattle.nd_slaac.specs.Calls.{formed, announced, failed, is_detecting};
     ghost use Rattle.nd_slaac.specs.Dates.{falls_by, stepped};

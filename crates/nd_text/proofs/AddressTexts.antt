@@ -1,5 +1,5 @@
 -- Reading an address as a function decides which texts spell which groups.
-use Rattle.std.proofs.Common.{◌≡◌, ℕ, zero, suc, ◌+◌, ◌-◌, ◌<◌, ◌≤◌, ◌&&◌, ◌⊎◌, Bool, true, false, leb, ltb, eqb, List, [], ◌∷◌, ◌++◌, length, take, drop, get_or, replicate, Option, Some, None, refl, sym, ap, subst, ◌∙◌, arith, inl, inr, append_assoc, append-nil}
+use Rattle.std.proofs.Common.{◌≡◌, ℕ, zero, suc, ◌+◌, ◌-◌, ◌<◌, ◌≤◌, ◌&&◌, ◌⊎◌, true, false, leb, ltb, eqb, List, [], ◌∷◌, ◌++◌, length, take, drop, get_or, replicate, Option, Some, None, refl, sym, ap, subst, ◌∙◌, arith, inl, inr, append_assoc, append-nil}
 use Rattle.std.specs.Prelude.{IfSome}
 use Rattle.std.specs.Option.{option_map}
 use Rattle.std.specs.Char.{digit_value}
@@ -20,9 +20,6 @@ digits_all (b ∷ bytes) h = and_from (ltb (digit_value b) 16) (all_digits bytes
 all_are_digits : (bytes : List ℕ) → all_digits bytes ≡ true → AllDigits 16 bytes
 all_are_digits [] e = tt
 all_are_digits (b ∷ bytes) e = let p = and_parts (ltb (digit_value b) 16) (all_digits bytes) e in (ltb-true _ _ p.0, all_are_digits bytes p.1)
-
-group_test : List ℕ → Bool
-group_test word = leb 1 (length word) && leb (length word) 4 && all_digits word
 
 group_text_of : (word : List ℕ) (group : ℕ) → IsGroupText word group → group_of word ≡ Some group
 group_text_of word group h =

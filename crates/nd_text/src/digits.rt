@@ -76,7 +76,7 @@ pub fn push_ascii<A: Allocator>(text: &mut String<A>, characters: &[u8]) -> Resu
     }
 }
 
-/// How many bytes are written as one piece.
+/// How many bytes are written as one piece (our choice).
 const PIECE: usize = 64;
 
 /// Writes a few bytes as one piece.

@@ -1,6 +1,6 @@
 //! The groups of an address read from text (RFC 4291, section 2.2).
 
-ghost use Rattle.std.specs.Prelude.{◌≡◌, ◌+◌, ◌-◌, ◌++◌, ◌<◌, ◌≤◌, ℕ, length, replicate, slice_index, Some, None, List, MatchOption, IfSome, IfOk, IsOkAnd, take};
+ghost use Rattle.std.specs.Prelude.{◌≡◌, ◌+◌, ◌-◌, ◌++◌, ◌≤◌, ℕ, length, replicate, Some, None, List, MatchOption, IfSome, take};
 ghost use Rattle.nd_text.specs.Parsing.{word_of, behind_of, group_of, groups_within, some_groups, all_eight, around_gap, gap_at, address_groups};
 ghost use Rattle.nd_text.specs.Spelling.{SpellsAddress};
 

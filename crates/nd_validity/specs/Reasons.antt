@@ -27,7 +27,7 @@ abbrev pub IsFaulty : List ℕ → Why → Type 0
 IsFaulty frame why = IsMessage (header_in frame) (payload_in frame)
     × (message : Parts) × Spells (payload_in frame) message × IsTrue (has_fault (header_in frame).source (header_in frame).destination message why)
 
--- the frame is a message that nodes of this role don't take (RFC 4861, sections 6.2.6, 6.2.7 and 8.2)
+-- the frame is a message that nodes of this role don't take (RFC 4861, sections 6.2.6, 6.3.4 and 8.2)
 abbrev pub IsNotFor : List ℕ → Role → Type 0
 IsNotFor frame role = IsMessage (header_in frame) (payload_in frame)
     × (message : Parts) × Spells (payload_in frame) message × IsTrue (is_not_for role message.body)

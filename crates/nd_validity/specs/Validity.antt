@@ -95,8 +95,8 @@ first_of test (why ∷ whys) = if test why then Some why else first_of test whys
 abbrev pub fault_of : Addr → Addr → Parts → Option Why
 fault_of source destination message = first_of (has_fault source destination message) faults
 
--- NotForUs: hosts take no Router Solicitation (RFC 4861, section 6.2.6), and routers neither a Router Advertisement nor a Redirect for
--- themselves (RFC 4861, sections 6.2.7 and 8.2)
+-- NotForUs: hosts take no Router Solicitation (RFC 4861, section 6.2.6), and routers neither a Router Advertisement, which hosts process
+-- (section 6.3.4), nor a Redirect (section 8.2)
 abbrev pub is_not_for : Role → Body → Bool
 is_not_for Host bodies.Rs = true
 is_not_for Router body = is_of_routers body

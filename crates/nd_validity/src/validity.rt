@@ -1,6 +1,6 @@
 //! What makes a message invalid that is well spelled (RFC 4861, sections 6.1, 7.1 and 8.1).
 
-ghost use Rattle.std.specs.Prelude.{◌≡◌, bytes_eq};
+ghost use Rattle.std.specs.Prelude.{◌≡◌};
 ghost use Rattle.std.specs.List.{list_any};
 ghost use Rattle.nd_decode.specs.Message.{parts};
 ghost use Rattle.nd_decode.specs.Pieces.{options_left};
@@ -134,7 +134,7 @@ fn redirects_multicast(body: &Body) -> bool
 }
 
 /// Whether nodes of this role take no such message: hosts no Router Solicitation, routers neither a Router Advertisement nor
-/// a Redirect (RFC 4861, sections 6.2.6, 6.2.7 and 8.2).
+/// a Redirect (RFC 4861, sections 6.2.6, 6.3.4 and 8.2).
 pub(crate) fn is_not_for(role: Role, body: &Body) -> bool
     ensures { result ≡ is_not_for role body.now }
 {
