@@ -1,7 +1,9 @@
 -- What comes of an event, by what its parts lead to.
 use Rattle.std.proofs.Common.{◌≡◌, ℕ, ◌<◌, ◌≤◌, Bool, true, false, List, [], ◌∷◌, ◌++◌, length, append-nil, Some, None, Err, refl, sym, ◌∙◌, ap, subst, arith}
 use Rattle.std.specs.Prelude.{◌==◌, nat_lt, MatchBool, slice_get}
-use Rattle.std.proofs.lemmas.Bool.Decides.{Decides-eqb, Decides-ltb}
+use Rattle.std.proofs.lemmas.Bool.{le-ltb, lt-ltb}
+use Rattle.std.proofs.lemmas.Bool.Decides.{Decides-eqb}
+use Rattle.std.proofs.lemmas.Option.{slice_get_within}
 use Rattle.rand_core.specs.Stream.{Stream}
 use Rattle.nd_addr.specs.declared.mac.Mac.{Mac}
 use Rattle.nd_addr.specs.declared.role.Role.{Role}
@@ -10,7 +12,7 @@ use Rattle.nd_chronicle.specs.Event as nodes
 use Rattle.nd_node.specs.declared.node.Node.{Node}
 use Rattle.nd_node.specs.Node as node
 use Rattle.nd_node.specs.Node.{starting, usual_limits}
-use Rattle.nd_link_log.specs.Log.{Log, Carries, Refuses, TooLate, NoNode, NoFrame, Own, Full, last_moment, nodes, sent}
+use Rattle.nd_link_log.specs.Log.{Log, Carries, Refuses, TooLate, NoNode, NoFrame, Own, last_moment, nodes, sent}
 use Rattle.nd_link_log.specs.Event as links
 use Rattle.nd_link_log.specs.Event.{AddsDelivery, AddsRows, Event, max_nodes}
 use Rattle.nd_link_log.specs.Told.{lines_of, text}
@@ -22,12 +24,12 @@ use Rattle.nd_link.specs.Frames.{Arrived, kept_frames}
 use Rattle.nd_link.specs.Link.{NodesStand, Stands}
 use Rattle.nd_link.specs.Run.{FollowsBy}
 use Rattle.nd_link.specs.Time.{Leads, Onward, Passes, TellsOf}
-use Rattle.nd_link.specs.declared.frames.SentFrame.{SentFrame}
+use Rattle.nd_link.specs.declared.sent_frame.SentFrame.{SentFrame}
 use Rattle.nd_link.specs.declared.refusal.Refusal.{Refusal}
 use Rattle.nd_link.specs.declared.refusal.Refusal.TheVariants as refusals
 use Rattle.nd_link.specs.Delivery.{Goes, IsKept, IsWay}
 use Rattle.nd_link.specs.Told.{Tells, TellsLines, refusal_of}
-use Rattle.nd_link.proofs.Lists.{get_same, get_within}
+use Rattle.nd_link.proofs.Lists.{get_same}
 use Rattle.nd_link.proofs.Standing.{apart}
 use Rattle.nd_link.proofs.Arriving.{nodes_refused}
 use Rattle.nd_link.proofs.Passage.{frames_reached, moment_reached, nodes_reached, text_reached}
@@ -42,16 +44,6 @@ taken false P Q e p = absurd (let no : ⊥ = cc in no)
 not_taken : (t : Bool) (P Q : Type 0) → t ≡ false → Q → MatchBool t P Q
 not_taken true P Q e q = absurd (let no : ⊥ = cc in no)
 not_taken false P Q e q = q
-
-less : (a b : ℕ) → a < b → nat_lt a b ≡ true
-less a b lt = (Decides-ltb a b).1 lt
-
-not_less : (a b : ℕ) → b ≤ a → nat_lt a b ≡ false
-not_less a b le = by (nat_lt a b) refl
-  where
-    by : (t : Bool) → nat_lt a b ≡ t → nat_lt a b ≡ false
-    by true e = absurd (let lt = (Decides-ltb a b).0 e in omega (arith, lt, le))
-    by false e = e
 
 module _ {W R A : Type 0} (stream : R → Stream) where
   -- the same for one of the relations that follow from another
@@ -81,12 +73,6 @@ module _ {W R A : Type 0} (stream : R → Stream) where
   count_reached : (link : Link W R A) (now : ℕ) (log : Log) → Stands stream link log → nodes (reached now log) ≡ length link.nodes.items
   count_reached link now log s = nodes_reached now log ∙ sym s.nodes.count
 
-  pub full_leads : (old new : Link W R A) (x y : List (Told A)) (now : ℕ) (role : Role) (mac : Mac) (words : Stream) → max_nodes ≤ length old.nodes.items → Leads stream old new x y (IsRefused now Full)
-      → Leads stream old new x y (Happens now (links.Starts role mac words))
-  full_leads old new x y now role mac words full =
-      leads_to old new x y (IsRefused now Full) (Happens now (links.Starts role mac words))
-      (λ log d s is. not_taken (nat_lt (nodes (reached now log)) max_nodes) _ _ (not_less (nodes (reached now log)) max_nodes (let e = count_reached old now log s in omega (arith, e, full))) is)
-
   pub start_leads : (old mid new : Link W R A) (x : List (Told A)) (n : Node R A) (now : ℕ) (role : Role) (mac : Mac) (words : Stream) → length old.nodes.items < max_nodes
       → ((log : Log) → Stands stream old log → Stands stream mid (reached now log)) → node.Stands stream (starting now role mac words) n (beginning (starting now role mac words))
       → new.nodes.items ≡ mid.nodes.items ++ n ∷ [] → new.frames ≡ mid.frames → new.last ≡ mid.last → Leads stream old new x x (Happens now (links.Starts role mac words))
@@ -98,7 +84,7 @@ module _ {W R A : Type 0} (stream : R → Stream) where
         let at = moment_reached now log in
         let d : Log = started (nodes base) start base in (
           d,
-          taken (nat_lt (nodes base) max_nodes) _ _ (less (nodes base) max_nodes (let e = count_reached old now log s in omega (arith, e, few))) refl,
+          taken (nat_lt (nodes base) max_nodes) _ _ (lt-ltb (nodes base) max_nodes (let e = count_reached old now log s in omega (arith, e, few))) refl,
           record {
             nodes = subst (λ (l : List (Node R A)). NodesStand stream l d now) (sym nodes_are)
                 (nodes_started stream mid.nodes.items n base start (subst (NodesStand stream mid.nodes.items base) at m.nodes) stands);
@@ -115,13 +101,13 @@ module _ {W R A : Type 0} (stream : R → Stream) where
       → Leads stream old new x y (Happens now (links.Comes number event))
   no_node_leads old new x y now number event past =
       leads_to old new x y (IsRefused now NoNode) (Happens now (links.Comes number event))
-      (λ log d s is. not_taken (nat_lt number (nodes (reached now log))) _ _ (not_less number (nodes (reached now log)) (let e = count_reached old now log s in omega (arith, e, past))) is)
+      (λ log d s is. not_taken (nat_lt number (nodes (reached now log))) _ _ (le-ltb number (nodes (reached now log)) (let e = count_reached old now log s in omega (arith, e, past))) is)
 
   pub come_leads : (old new : Link W R A) (x y : List (Told A)) (now number place : ℕ) (event : nodes.Event) → place ≡ number → place < length old.nodes.items → Leads stream old new x y (Arrives now place event None)
       → Leads stream old new x y (Happens now (links.Comes number event))
   come_leads old new x y now number place event same there =
       leads_to old new x y (Arrives now place event None) (Happens now (links.Comes number event))
-      (λ log d s is. taken (nat_lt number (nodes (reached now log))) _ _ (less number (nodes (reached now log)) (let e = count_reached old now log s in omega (arith, e, there, same)))
+      (λ log d s is. taken (nat_lt number (nodes (reached now log))) _ _ (lt-ltb number (nodes (reached now log)) (let e = count_reached old now log s in omega (arith, e, there, same)))
       (subst (λ (k : ℕ). AddsRows usual_limits now k event (reached now log) d) same is))
 
   -- a frame is to be carried
@@ -130,7 +116,7 @@ module _ {W R A : Type 0} (stream : R → Stream) where
 
   module _ (old new : Link W R A) (x y : List (Told A)) (now to number : ℕ) where
     receiver : to < length old.nodes.items → (log : Log) → Stands stream old log → nat_lt to (nodes (reached now log)) ≡ true
-    receiver there log s = less to (nodes (reached now log)) (let e = count_reached old now log s in omega (arith, e, there))
+    receiver there log s = lt-ltb to (nodes (reached now log)) (let e = count_reached old now log s in omega (arith, e, there))
 
     -- it is carried to a node, which isn't its sender, or is
     delivery : to < length old.nodes.items → (frame : IsKept old.frames.items number) → (log d : Log) → Stands stream old log
@@ -139,20 +125,20 @@ module _ {W R A : Type 0} (stream : R → Stream) where
     delivery there frame log d s m =
         let kept = ap (λ l. slice_get l number) (frames_reached now log ∙ sym s.frames) ∙ kept_at old.frames.items number frame.sent frame.is in
         let n = named (reached now log) number frame.sent.sender frame.sent.frame.items kept in
-        let within = get_within old.frames.items number frame.sent frame.is in
+        let within = slice_get_within old.frames.items number frame.sent frame.is in
         taken (nat_lt to (nodes (reached now log))) _ _ (receiver there log s)
-        (taken (nat_lt number (sent (reached now log))) _ _ (less number (sent (reached now log)) (let e = sent_reached old now log s in omega (arith, e, within)))
+        (taken (nat_lt number (sent (reached now log))) _ _ (lt-ltb number (sent (reached now log)) (let e = sent_reached old now log s in omega (arith, e, within)))
         (record { sender = frame.sent.sender; at = n.at; frame = frame.sent.frame.items; is_frame = n.is_frame; adds = m }))
 
     pub refused_delivery : (why : Refusal) → IsWay (length old.nodes.items) old.frames.items to number (Err why) → Leads stream old new x y (IsRefused now (refusal_of why)) → Leads stream old new x y (Happens now (links.Delivers to number))
     refused_delivery refusals.NoNode past =
         leads_to old new x y (IsRefused now NoNode) (Happens now (links.Delivers to number))
-        (λ log d s is. not_taken (nat_lt to (nodes (reached now log))) _ _ (not_less to (nodes (reached now log)) (let e = count_reached old now log s in omega (arith, e, past))) is)
+        (λ log d s is. not_taken (nat_lt to (nodes (reached now log))) _ _ (le-ltb to (nodes (reached now log)) (let e = count_reached old now log s in omega (arith, e, past))) is)
     refused_delivery refusals.NoFrame past =
         let more = past.1 in
         leads_to old new x y (IsRefused now NoFrame) (Happens now (links.Delivers to number))
         (λ log d s is. taken (nat_lt to (nodes (reached now log))) _ _ (receiver past.0 log s)
-        (not_taken (nat_lt number (sent (reached now log))) _ _ (not_less number (sent (reached now log)) (let e = sent_reached old now log s in omega (arith, e, more))) is))
+        (not_taken (nat_lt number (sent (reached now log))) _ _ (le-ltb number (sent (reached now log)) (let e = sent_reached old now log s in omega (arith, e, more))) is))
     refused_delivery refusals.Own own =
         leads_to old new x y (IsRefused now Own) (Happens now (links.Delivers to number))
         (λ log d s is. delivery own.0 own.1 log d s (taken (own.1.sent.sender == to) _ _ ((Decides-eqb own.1.sent.sender to).1 own.2) is))
@@ -179,7 +165,7 @@ module _ {W R A : Type 0} (stream : R → Stream) where
         let is = s.last in
         let d : Log = Refuses now (TooLate (last_moment log)) ∷ log in (
           d,
-          taken (nat_lt now (last_moment log)) _ _ (less now (last_moment log) (omega (arith, late, is))) refl,
+          taken (nat_lt now (last_moment log)) _ _ (lt-ltb now (last_moment log) (omega (arith, late, is))) refl,
           record { nodes = nodes_refused stream old.nodes.items log (last_moment log) (last_moment log) now (TooLate (last_moment log)) refl s.nodes; frames = s.frames; last = s.last },
           told_lines_of log d x y (lines_of (Refuses now (TooLate (last_moment log)))) (subst (λ (m : ℕ). TellsLines x y (lines_of (Refuses now (TooLate m)))) is t) refl,
         );
@@ -193,7 +179,7 @@ module _ {W R A : Type 0} (stream : R → Stream) where
         let h = happens.each p.0 p.2 in
         let is = s.last in (
           h.0,
-          not_taken (nat_lt now (last_moment log)) _ _ (not_less now (last_moment log) (omega (arith, in_time, is))) (p.0, p.1, h.1),
+          not_taken (nat_lt now (last_moment log)) _ _ (le-ltb now (last_moment log) (omega (arith, in_time, is))) (p.0, p.1, h.1),
           h.2,
           told_then log p.0 h.0 x y z p.3 h.3,
         );
@@ -201,20 +187,5 @@ module _ {W R A : Type 0} (stream : R → Stream) where
 
   -- ---- an error
 
-  pub told_then_same : (old mid : Link W R A) (x y z : List (Told A)) (now : ℕ) → Leads stream old mid x y (Onward now) → z ≡ y → TellsOf stream old x z (Onward now)
-  told_then_same old mid x y z now sofar same = record {
-    each = λ log s.
-        let l = sofar.each log s in
-        (l.0, l.1, subst (Tells log l.0 x) (sym same) l.3);
-  }
-
   pub told_nothing : (old : Link W R A) (x y : List (Told A)) (now : ℕ) → y ≡ x → TellsOf stream old x y (Onward now)
   told_nothing old x y now same = record { each = λ log s. (log, λ e w. w, subst (Tells log log x) (sym same) (told_same log x)) }
-
-  pub stands_then : (old mid new : Link W R A) (x y z : List (Told A)) (now : ℕ) → Leads stream old mid x y (Onward now) → ((log : Log) → Stands stream mid log → Stands stream new log) → z ≡ y
-      → Leads stream old new x z (Onward now)
-  stands_then old mid new x y z now sofar stands same = record {
-    each = λ log s.
-        let l = sofar.each log s in
-        (l.0, l.1, stands l.0 l.2, subst (Tells log l.0 x) (sym same) l.3);
-  }

@@ -2,6 +2,7 @@
 use Rattle.std.proofs.Common.{◌≡◌, ◌≢◌, ℕ, ◌<◌, ◌≤◌, List, [], ◌∷◌, ◌++◌, length, set, append-nil, Option, Some, None, refl, sym, ◌∙◌, ap, subst, arith}
 use Rattle.std.specs.Prelude.{slice_get}
 use Rattle.std.specs.List.{flat_map}
+use Rattle.std.proofs.lemmas.Option.{slice_get_within}
 use Rattle.rand_core.specs.Stream.{Stream}
 use Rattle.nd_chronicle.specs.Event as events
 use Rattle.nd_chronicle.specs.Event.{EventAdds}
@@ -10,6 +11,7 @@ use Rattle.nd_chronicle.specs.Happening.{Chronicle, Passed}
 use Rattle.nd_chronicle.specs.Told.{items, items_at}
 use Rattle.nd_chronicle.proofs.Growth.{event_grows}
 use Rattle.nd_out.specs.declared.out.Out.{Out}
+use Rattle.nd_out.specs.NodeLine.{node_lines}
 use Rattle.nd_effects.specs.Told as effects
 use Rattle.nd_effects.specs.Told.{frames_in, happenings}
 use Rattle.nd_node.specs.declared.node.Node.{Node}
@@ -29,8 +31,7 @@ use Rattle.nd_link.specs.Passing.{OthersPass}
 use Rattle.nd_link.specs.Time.{Leads}
 use Rattle.nd_link.specs.declared.refusal.Refusal.{Refusal}
 use Rattle.nd_link.specs.declared.refusal.Refusal.TheVariants as refusals
-use Rattle.nd_link.specs.Told.{Tells, TellsLines, node_lines, refusal_of}
-use Rattle.nd_link.proofs.Lists.{get_within}
+use Rattle.nd_link.specs.Told.{Tells, TellsLines, refusal_of}
 use Rattle.nd_link.proofs.Passage.{chronicle_reached, frames_reached, moment_reached, others_reached, start_reached, text_reached}
 use Rattle.nd_link.proofs.Standing.{all_of, rows_stand}
 use Rattle.nd_link.proofs.Telling.{frames_of_rows, text_of_rows}
@@ -162,7 +163,7 @@ module _ {W R A : Type 0} (stream : R → Stream) (old new : Link W R A) (list :
     each_at = each_in now rows (event_grows o.start now c event added.0 added.1).each
 
     within : place < nodes log
-    within = subst (λ (k : ℕ). place < k) s.nodes.count (get_within old.nodes.items place n was)
+    within = subst (λ (k : ℕ). place < k) s.nodes.count (slice_get_within old.nodes.items place n was)
 
     c_is : chronicle_of place base ≡ c
     c_is = chronicle_carrying now place (reached now log) carried place ∙ chronicle_reached now log place within
@@ -202,7 +203,7 @@ module _ {W R A : Type 0} (stream : R → Stream) (old new : Link W R A) (list :
     others = others_carrying now place (reached now log) stream list place carried (others_reached stream old.nodes.items list log (last_moment log) now place s.nodes before p)
 
     all_stand : NodesStand stream (set list place n') d now
-    all_stand = rows_stand stream list base now place others n' rows now (get_within list place n is) o.start starts (subst (λ (b : Chronicle). node.Stands stream o.start n' (rows ++ b)) (sym c_is) stands')
+    all_stand = rows_stand stream list base now place others n' rows now (slice_get_within list place n is) o.start starts (subst (λ (b : Chronicle). node.Stands stream o.start n' (rows ++ b)) (sym c_is) stands')
         (subst (λ (b : Chronicle). chronicle.last_moment o.start.at (rows ++ b) ≤ now) (sym c_is) (let e = newest in omega (arith, e)))
         (let ahead = stands'.in_time in let e = newest in omega (arith, ahead, e)) (omega arith) (λ j m ne there. (others.each j m (λ e. ne (sym e)) there).ahead)
 

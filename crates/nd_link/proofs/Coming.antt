@@ -1,11 +1,13 @@
 -- Events that come to a link, one after the other.
 use Rattle.std.proofs.Common.{◌≡◌, ℕ, List, [], ◌∷◌, ◌++◌, append-nil, append_assoc, length, take, refl, sym, ◌∙◌, ap, subst}
 use Rattle.std.proofs.lemmas.List.{map-append}
+use Rattle.std.proofs.lemmas.List.Elements.{All-nil, All-push}
 use Rattle.rand_core.specs.Stream.{Stream}
 use Rattle.nd_node.specs.Node.{usual_limits}
 use Rattle.nd_link_log.specs.Log.{Log}
+use Rattle.nd_link_log.specs.Bytes.{AreOfBytes, IsOfBytes}
 use Rattle.nd_link_log.specs.Event.{Event}
-use Rattle.nd_link_log.specs.History.{Follows, Runs}
+use Rattle.nd_link_log.specs.History.{Runs}
 use Rattle.nd_link.specs.declared.event.LinkEvent.{LinkEvent}
 use Rattle.nd_link.specs.declared.link.Link.{Link}
 use Rattle.nd_link.specs.declared.told.Told.{Told}
@@ -14,10 +16,10 @@ use Rattle.nd_link.specs.Run.{FollowsBy, RunsBy, RunsInPart}
 use Rattle.nd_link.specs.Time.{Leads, Onward, TellsOf}
 use Rattle.nd_link.proofs.Walks.{told_same, told_then}
 
--- one more comes behind those that came
-one_more_event : (events : List (ℕ × Event)) (at : ℕ) (event : Event) (log d e : Log) → Runs usual_limits log events d → Follows usual_limits d at event e → Runs usual_limits log (events ++ (at, event) ∷ []) e
-one_more_event [] at event log d e runs follows = (e, subst (λ (x : Log). Follows usual_limits x at event e) runs follows, refl)
-one_more_event (first ∷ events) at event log d e runs follows = (runs.0, runs.1, one_more_event events at event runs.0 d e runs.2 follows)
+-- more come behind those that came
+pub runs_then : (events more : List (ℕ × Event)) (log d e : Log) → Runs usual_limits log events d → Runs usual_limits d more e → Runs usual_limits log (events ++ more) e
+runs_then [] more log d e runs next = subst (λ (x : Log). Runs usual_limits x more e) runs next
+runs_then (first ∷ events) more log d e runs next = (runs.0, runs.1, runs_then events more runs.0 d e runs.2 next)
 
 take_front : {X : Type 0} (xs ys : List X) → take (length xs) (xs ++ ys) ≡ xs
 take_front [] ys = refl
@@ -31,6 +33,7 @@ pub record Came {W R A : Type 0} (Faithful : Type 0) (stream : R → Stream) (or
   pub came : List (ℕ × LinkEvent R A)
   pub all_is : all ≡ came ++ rest
   pub early : AreEarly rest
+  pub bytes : AreOfBytes (link_events stream came)
   pub sofar : Faithful → Leads stream origin link x y (RunsBy (link_events stream came))
 
 module _ {W R A : Type 0} (Faithful : Type 0) (stream : R → Stream) where
@@ -39,22 +42,27 @@ module _ {W R A : Type 0} (Faithful : Type 0) (stream : R → Stream) where
     came = [];
     all_is = is;
     early = subst (λ (l : List (ℕ × LinkEvent R A)). AreEarly l) is early;
+    bytes = All-nil (λ (v : ℕ × Event). IsOfBytes v.1);
     sofar = λ faithful. record { each = λ log s. (log, refl, s, told_same log told) };
   }
 
   module _ (origin old new : Link W R A) (x y z : List (Told A)) (all before rest : List (ℕ × LinkEvent R A)) (e : ℕ × LinkEvent R A) (is : before ≡ e ∷ rest) (c : Came Faithful stream origin old x y all before) where
-    pub one_came : (Faithful → Leads stream old new y z (FollowsBy e.0 (link_event stream e.1))) → Came Faithful stream origin new x z all rest
-    one_came next = record {
+    pushed : link_events stream (c.came ++ e ∷ []) ≡ link_events stream c.came ++ (e.0, link_event stream e.1) ∷ []
+    pushed = map-append (λ (v : ℕ × LinkEvent R A). (v.0, link_event stream v.1)) c.came (e ∷ [])
+
+    pub one_came : IsOfBytes (link_event stream e.1) → (Faithful → Leads stream old new y z (FollowsBy e.0 (link_event stream e.1))) → Came Faithful stream origin new x z all rest
+    one_came bytes next = record {
       came = c.came ++ e ∷ [];
       all_is = c.all_is ∙ (ap (λ (l : List (ℕ × LinkEvent R A)). c.came ++ l) is ∙ sym (append_assoc c.came (e ∷ []) rest));
       early = early_rest e rest before is c.early;
+      bytes = subst AreOfBytes (sym pushed) (All-push (λ (v : ℕ × Event). IsOfBytes v.1) (link_events stream c.came) (e.0, link_event stream e.1) c.bytes bytes);
       sofar = λ faithful. record {
         each = λ log s.
             let l = (c.sofar faithful).each log s in
             let n = (next faithful).each l.0 l.2 in (
               n.0,
-              subst (λ (events : List (ℕ × Event)). Runs usual_limits log events n.0) (sym (map-append (λ (v : ℕ × LinkEvent R A). (v.0, link_event stream v.1)) c.came (e ∷ [])))
-                  (one_more_event (link_events stream c.came) e.0 (link_event stream e.1) log l.0 n.0 l.1 n.1),
+              subst (λ (events : List (ℕ × Event)). Runs usual_limits log events n.0) (sym pushed)
+                  (runs_then (link_events stream c.came) ((e.0, link_event stream e.1) ∷ []) log l.0 n.0 l.1 (n.0, n.1, refl)),
               n.2,
               told_then log l.0 n.0 x y z l.3 n.3,
             );
@@ -76,7 +84,12 @@ module _ {W R A : Type 0} (Faithful : Type 0) (stream : R → Stream) where
     }
 
   -- all came where none is left
-  pub all_came : (origin link : Link W R A) (x y : List (Told A)) (all rest : List (ℕ × LinkEvent R A)) → rest ≡ [] → Came Faithful stream origin link x y all rest → Faithful → Leads stream origin link x y (RunsBy (link_events stream all))
-  all_came origin link x y all rest none c faithful =
-      let whole : c.came ≡ all = sym (c.all_is ∙ (ap (λ (l : List (ℕ × LinkEvent R A)). c.came ++ l) none ∙ append-nil c.came)) in
-      subst (λ (l : List (ℕ × LinkEvent R A)). Leads stream origin link x y (RunsBy (link_events stream l))) whole (c.sofar faithful)
+  module _ (origin link : Link W R A) (x y : List (Told A)) (all rest : List (ℕ × LinkEvent R A)) (none : rest ≡ []) (c : Came Faithful stream origin link x y all rest) where
+    whole : c.came ≡ all
+    whole = sym (c.all_is ∙ (ap (λ (l : List (ℕ × LinkEvent R A)). c.came ++ l) none ∙ append-nil c.came))
+
+    pub all_came : Faithful → Leads stream origin link x y (RunsBy (link_events stream all))
+    all_came faithful = subst (λ (l : List (ℕ × LinkEvent R A)). Leads stream origin link x y (RunsBy (link_events stream l))) whole (c.sofar faithful)
+
+    pub all_of_bytes : AreOfBytes (link_events stream all)
+    all_of_bytes = subst (λ (l : List (ℕ × LinkEvent R A)). AreOfBytes (link_events stream l)) whole c.bytes

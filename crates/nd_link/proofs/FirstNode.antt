@@ -3,13 +3,15 @@ use Rattle.std.proofs.Common.{◌≡◌, ℕ, suc, ◌+◌, ◌<◌, ◌≤◌, 
 use Rattle.std.specs.Prelude.{slice_get, nat_lt, if◌then◌else◌}
 use Rattle.std.proofs.lemmas.Bool.{cases_lt, ltb-false}
 use Rattle.std.proofs.lemmas.Bool.Decides.{Decides-ltb}
+use Rattle.std.proofs.lemmas.List.{length-take-le}
+use Rattle.std.proofs.lemmas.Option.{slice_get_within}
 use Rattle.rand_core.specs.Stream.{Stream}
 use Rattle.nd_chronicle.specs.Start.{Start}
 use Rattle.nd_chronicle.specs.Happening.{Chronicle}
 use Rattle.nd_node.specs.declared.node.Node.{Node}
 use Rattle.nd_node.specs.Node.{NextDue, Stands, next_of}
 use Rattle.nd_link.specs.Due.{AreDated, FirstDue, IsFirst, earlier}
-use Rattle.nd_link.proofs.Lists.{get_within, push_length, push_others, push_own, same_element, take_length, take_push}
+use Rattle.nd_link.proofs.Lists.{push_length, push_others, push_own, same_element, take_push}
 
 module _ {R A : Type 0} (stream : R → Stream) (list : List (Node R A)) (n : Node R A) where
   abbrev pub IsDated : Type 0
@@ -20,7 +22,7 @@ module _ {R A : Type 0} (stream : R → Stream) (list : List (Node R A)) (n : No
   each_of P before last i m is = ⊎_elim
       (λ less. before i m (sym (push_others list i n less) ∙ is))
       (λ more.
-      let lt : i < suc (length list) = subst (λ (k : ℕ). i < k) (push_length list n) (get_within (list ++ n ∷ []) i m is) in
+      let lt : i < suc (length list) = subst (λ (k : ℕ). i < k) (push_length list n) (slice_get_within (list ++ n ∷ []) i m is) in
       let at : length list ≡ i = omega (arith, more, lt) in
       let same : n ≡ m = same_element (slice_get (list ++ n ∷ []) i) n m (subst (λ (k : ℕ). slice_get (list ++ n ∷ []) k ≡ Some n) at (push_own list n)) is in
       subst (P i) same (subst (λ (k : ℕ). P k n) at last))
@@ -81,7 +83,7 @@ module _ {R A : Type 0} (stream : R → Stream) where
   pub first_more : (nodes : List (Node R A)) (i : ℕ) (n : Node R A) (first : Option (ℕ × ℕ)) (due : ℕ) → i < length nodes → n ≡ get_or nodes i n → due ≡ next_of n → IsDated stream nodes n → FirstDue stream (take i nodes) first
       → FirstDue stream (take (i + 1) nodes) (earlier first i due)
   first_more nodes i n first due lt is due_is dated sofar =
-      let count : length (take i nodes) ≡ i = take_length nodes i (omega (arith, lt)) in
+      let count : length (take i nodes) ≡ i = length-take-le i nodes (omega (arith, lt)) in
       let more : i + 1 ≡ suc i = omega arith in
       subst (λ (l : List (Node R A)). FirstDue stream l (earlier first i due)) (sym (ap (λ (k : ℕ). take k nodes) more ∙ take_push nodes i n lt is))
       (subst (λ (m : ℕ). FirstDue stream (take i nodes ++ n ∷ []) (earlier first i m)) (sym due_is)

@@ -10,3 +10,4 @@ pub mod Starting
 pub mod Sending
 pub mod Answering
 pub mod Coming
+pub mod Holder

@@ -3,12 +3,9 @@ use Rattle.std.proofs.Common.{◌≡◌, ◌≢◌, ℕ, zero, suc, ◌+◌, ◌
 use Rattle.std.proofs.lemmas.Bool.{cases_lt}
 use Rattle.std.specs.Prelude.{slice_get}
 use Rattle.rand_core.specs.Stream.{Stream}
-use Rattle.nd_chronicle.specs.Event as events
 use Rattle.nd_chronicle.specs.Happening as chronicle
 use Rattle.nd_chronicle.specs.Happening.{Chronicle, Passed}
-use Rattle.nd_out.specs.declared.out.Out.{Out}
 use Rattle.nd_node.specs.declared.node.Node.{Node}
-use Rattle.nd_node.specs.Event.{AddsEvent}
 use Rattle.nd_node.specs.Node as node
 use Rattle.nd_node.specs.Node.{next_of}
 use Rattle.nd_link_log.specs.Log.{Log, Reaches, chronicle_of, last_moment, nodes, start_of}
@@ -22,14 +19,9 @@ use Rattle.nd_link.specs.Link.{NodesStand, OthersStand}
 use Rattle.nd_link.specs.Passing.{OthersPass, PassesTo}
 use Rattle.std.specs.declared.vec.Vec.{Vec}
 use Rattle.std.specs.Vec.{with_items}
-use Rattle.nd_link.proofs.Lists.{get_within, put_anew, set_length, set_others, set_own}
-
-pub passes_by : {R A : Type 0} (stream : R → Stream) (old new : Node R A) (x y : List (ℕ × Out A)) (now : ℕ) → AddsEvent stream old new x y now events.Passes → PassesTo stream now old new
-passes_by stream old new x y now adds = record {
-  each = λ start c s le.
-      let a = adds.each start c s le in
-      subst (node.Stands stream start new) a.1 a.2;
-}
+use Rattle.std.proofs.lemmas.List.{length-set, with_items_is}
+use Rattle.std.proofs.lemmas.Option.{slice_get_within}
+use Rattle.nd_link.proofs.Lists.{set_others, set_own}
 
 -- ---- at one node after the other
 
@@ -41,9 +33,6 @@ pub record PassedUpTo {R A : Type 0} (stream : R → Stream) (now but place : �
   pub own : slice_get new but ≡ slice_get old but
 
 module _ {R A : Type 0} (stream : R → Stream) (now but : ℕ) (old : List (Node R A)) where
-  pub none_passed : PassedUpTo stream now but 0 old old
-  none_passed = record { count = refl; passed = λ i m lt ne is. absurd (omega (arith, lt)); rest = λ i le. refl; own = refl }
-
   module _ (place : ℕ) (list : List (Node R A)) (p : PassedUpTo stream now but place old list) where
     pub one_left : place ≡ but → PassedUpTo stream now but (place + 1) old list
     one_left e = record {
@@ -58,7 +47,7 @@ module _ {R A : Type 0} (stream : R → Stream) (now but : ℕ) (old : List (Nod
 
     pub one_passed : (n m : Node R A) → slice_get list place ≡ Some n → PassesTo stream now n m → place ≢ but → PassedUpTo stream now but (place + 1) old (set list place m)
     one_passed n m there passes ne = record {
-      count = set_length list place m ∙ p.count;
+      count = length-set list place m ∙ p.count;
       passed = λ i x lt other is. by i x lt other is;
       rest = λ i le. set_others list place i m (λ e. absurd (omega (arith, le, e))) ∙ p.rest i (omega (arith, le));
       own = set_others list place but m ne ∙ p.own;
@@ -78,7 +67,7 @@ module _ {R A : Type 0} (stream : R → Stream) (now but : ℕ) (old : List (Nod
   pub all_passed : (place : ℕ) (list : List (Node R A)) → length list ≤ place → PassedUpTo stream now but place old list → OthersPass stream now but old list
   all_passed place list le p = record {
     count = p.count;
-    passed = λ i m ne is. p.passed i m (let lt = get_within list i m is in omega (arith, lt, le)) ne is;
+    passed = λ i m ne is. p.passed i m (let lt = slice_get_within list i m is in omega (arith, lt, le)) ne is;
     own = p.own;
   }
 
@@ -133,7 +122,7 @@ module _ {R A : Type 0} (stream : R → Stream) (old new : List (Node R A)) (log
         let o = s.each i q.0 q.1 in
         let by = o.by_then in
         let stands : node.Stands stream o.start m ((now, Passed) ∷ chronicle_of i log) = q.2.each o.start (chronicle_of i log) o.stands (omega (arith, by, in_time)) in
-        let lt : i < nodes log = subst (λ (k : ℕ). i < k) s.count (get_within old i q.0 q.1) in
+        let lt : i < nodes log = subst (λ (k : ℕ). i < k) s.count (slice_get_within old i q.0 q.1) in
         let is_now = chronicle_reached now log i lt in
         let ahead = stands.in_time in record {
           start = o.start;
@@ -154,7 +143,7 @@ module _ {R A : Type 0} (stream : R → Stream) (old new : List (Node R A)) (log
 pub passed_in : {R A : Type 0} (stream : R → Stream) (now but : ℕ) (nodes : Vec (Node R A) A) (before after : List (Node R A)) → before ≡ nodes.items → OthersPass stream now but before after
     → OthersPass stream now but nodes.items (with_items nodes after).items
 passed_in stream now but nodes before after e p =
-    subst (OthersPass stream now but nodes.items) (sym (put_anew nodes after (p.count ∙ ap length e))) (subst (λ l. OthersPass stream now but l after) e p)
+    subst (OthersPass stream now but nodes.items) (sym (with_items_is nodes after (p.count ∙ ap length e ∙ sym nodes.ok.0))) (subst (λ l. OthersPass stream now but l after) e p)
 
 -- the one that time hasn't passed at is settled still
 pub own_settled : {R A : Type 0} (stream : R → Stream) (now but : ℕ) (old new : List (Node R A)) → OthersPass stream now but old new → AreSettled now old → (n : Node R A) → slice_get new but ≡ Some n → now < next_of n

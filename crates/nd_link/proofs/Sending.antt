@@ -2,11 +2,12 @@
 use Rattle.std.proofs.Common.{◌≡◌, inl, inr, ℕ, zero, suc, ◌<◌, List, [], ◌∷◌, ◌++◌, length, append-nil, Some, refl, sym, ◌∙◌, ap, subst, arith, ⊎_elim}
 use Rattle.std.specs.Prelude.{slice_get}
 use Rattle.std.proofs.lemmas.Bool.{cases_lt}
+use Rattle.std.proofs.lemmas.Option.{slice_get_within}
 use Rattle.nd_chronicle.specs.Happening.{Sent}
 use Rattle.nd_link_log.specs.Log.{Entry, Log, Begins, Adds, Carries, Reaches, Refuses, IsFrame, sent}
-use Rattle.nd_link.specs.declared.frames.SentFrame.{SentFrame}
+use Rattle.nd_link.specs.declared.sent_frame.SentFrame.{SentFrame}
 use Rattle.nd_link.specs.Frames.{frames, kept_frame, kept_frames}
-use Rattle.nd_link.proofs.Lists.{get_within, push_length, push_others, push_own, same_element}
+use Rattle.nd_link.proofs.Lists.{push_length, push_others, push_own, same_element}
 
 -- there are as many as were sent
 pub count_frames : (log : Log) → length (frames log) ≡ sent log
@@ -32,7 +33,7 @@ named [] number sender frame e = absurd (let no : ⊥ = cc in no)
 named (Adds node at (Sent f) ∷ log) number sender frame e = ⊎_elim
     (λ less. further (Adds node at (Sent f)) log number sender frame (named log number sender frame (sym (push_others (frames log) number (node, f) less) ∙ e)))
     (λ more.
-    let lt : number < suc (length (frames log)) = subst (λ (k : ℕ). number < k) (push_length (frames log) (node, f)) (get_within (frames log ++ (node, f) ∷ []) number (sender, frame) e) in
+    let lt : number < suc (length (frames log)) = subst (λ (k : ℕ). number < k) (push_length (frames log) (node, f)) (slice_get_within (frames log ++ (node, f) ∷ []) number (sender, frame) e) in
     let here : length (frames log) ≡ number = omega (arith, more, lt) in
     let own : slice_get (frames log ++ (node, f) ∷ []) number ≡ Some (node, f) = subst (λ (k : ℕ). slice_get (frames log ++ (node, f) ∷ []) k ≡ Some (node, f)) here (push_own (frames log) (node, f)) in
     let both : (node, f) ≡ (sender, frame) = same_element (slice_get (frames log ++ (node, f) ∷ []) number) (node, f) (sender, frame) own e in

@@ -3,6 +3,8 @@ use Rattle.std.proofs.Common.{◌≡◌, ◌≢◌, ℕ, ◌<◌, ◌≤◌, Boo
 use Rattle.std.specs.Prelude.{◌==◌, slice_get}
 use Rattle.std.proofs.lemmas.Bool.{cases_lt, true≢false}
 use Rattle.std.proofs.lemmas.Bool.Decides.{Decides-eqb}
+use Rattle.std.proofs.lemmas.List.{length-set}
+use Rattle.std.proofs.lemmas.Option.{slice_get_within}
 use Rattle.rand_core.specs.Stream.{Stream}
 use Rattle.nd_chronicle.specs.Start.{Start}
 use Rattle.nd_chronicle.specs.Happening as chronicle
@@ -18,7 +20,7 @@ use Rattle.nd_link.specs.declared.link.Link.{Link}
 use Rattle.nd_link.specs.Due.{AreDated}
 use Rattle.nd_link.specs.Frames.{kept_frames}
 use Rattle.nd_link.specs.Link.{NodeStands, NodesStand, OthersStand, Stands}
-use Rattle.nd_link.proofs.Lists.{get_there, get_within, set_length, set_others, set_own}
+use Rattle.nd_link.proofs.Lists.{get_there, set_others, set_own}
 
 differs : (i j : ℕ) → (i == j) ≡ false → i ≢ j
 differs i j e same = true≢false (sym ((Decides-eqb i j).1 same) ∙ e)
@@ -75,10 +77,10 @@ module _ {R A : Type 0} (stream : R → Stream) (list : List (Node R A)) (log : 
 
   pub rows_stand : NodesStand stream (set list i new) (adding i rows log) later
   rows_stand = record {
-    count = set_length list i new ∙ s.count ∙ sym (nodes_with i rows log);
+    count = length-set list i new ∙ s.count ∙ sym (nodes_with i rows log);
     each = λ j n is. by j n (i == j) refl is;
     absent = λ j more.
-        let past : length list ≤ j = subst (λ (k : ℕ). k ≤ j) (set_length list i new) more in
+        let past : length list ≤ j = subst (λ (k : ℕ). k ≤ j) (length-set list i new) more in
         let a = s.absent j past in record {
           starts = start_with j i rows log ∙ a.starts;
           rows = other_rows j i rows log (apart i j (λ e. absurd (omega (arith, past, there, e)))) ∙ a.rows;
@@ -99,7 +101,7 @@ others_of stream list log now but s = record { count = s.count; each = λ i n ne
 pub all_of : {R A : Type 0} (stream : R → Stream) (list : List (Node R A)) (log : Log) (now but : ℕ) → length list ≤ but → OthersStand stream list log now but → NodesStand stream list log now
 all_of stream list log now but le s = record {
   count = s.count;
-  each = λ i n is. s.each i n (λ e. let lt = get_within list i n is in omega (arith, lt, le, e)) is;
+  each = λ i n is. s.each i n (λ e. let lt = slice_get_within list i n is in omega (arith, lt, le, e)) is;
   absent = s.absent;
 }
 

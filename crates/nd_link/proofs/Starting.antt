@@ -2,6 +2,7 @@
 use Rattle.std.proofs.Common.{◌≡◌, ℕ, suc, ◌<◌, ◌≤◌, Bool, false, List, [], ◌∷◌, ◌++◌, length, append-nil, Some, sym, ◌∙◌, ap, subst, arith, ⊎_elim}
 use Rattle.std.specs.Prelude.{slice_get, ◌==◌, if◌then◌else◌}
 use Rattle.std.proofs.lemmas.Bool.{cases_lt}
+use Rattle.std.proofs.lemmas.Option.{slice_get_within}
 use Rattle.rand_core.specs.Stream.{Stream}
 use Rattle.nd_chronicle.specs.Start.{Start}
 use Rattle.nd_chronicle.specs.Happening as chronicle
@@ -15,7 +16,7 @@ use Rattle.nd_link_log.specs.Told.{text}
 use Rattle.nd_link_log.proofs.Chronicles.{nodes_with, other_rows, own_rows, same_number, start_with}
 use Rattle.nd_link.specs.Frames.{frames}
 use Rattle.nd_link.specs.Link.{NodeStands, NodesStand}
-use Rattle.nd_link.proofs.Lists.{get_within, push_length, push_others, push_own, same_element}
+use Rattle.nd_link.proofs.Lists.{push_length, push_others, push_own, same_element}
 use Rattle.nd_link.proofs.Standing.{apart}
 
 -- the log once it has started
@@ -70,7 +71,7 @@ module _ {R A : Type 0} (stream : R → Stream) (list : List (Node R A)) (new : 
     each = λ j n is. ⊎_elim
         (λ less. other j n less (sym (push_others list j new less) ∙ is))
         (λ more.
-        let lt : j < suc (length list) = subst (λ (k : ℕ). j < k) (push_length list new) (get_within (list ++ new ∷ []) j n is) in
+        let lt : j < suc (length list) = subst (λ (k : ℕ). j < k) (push_length list new) (slice_get_within (list ++ new ∷ []) j n is) in
         let here : length list ≡ j = omega (arith, more, lt) in
         let same : new ≡ n = same_element (slice_get (list ++ new ∷ []) j) new n (subst (λ (k : ℕ). slice_get (list ++ new ∷ []) k ≡ Some new) here (push_own list new)) is in
         subst (λ (k : ℕ). NodeStands stream d start.at k n) (sym at ∙ here) (subst (NodeStands stream d start.at place) same own))

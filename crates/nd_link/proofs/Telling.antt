@@ -8,6 +8,7 @@ use Rattle.std.specs.List.{flat_map}
 use Rattle.nd_chronicle.specs.Happening.{Chronicle, Happening, Sent}
 use Rattle.nd_chronicle.specs.Told.{Told, Words, told_of, items_at, items, line_at, line_of}
 use Rattle.nd_out.specs.declared.out.Out.{Out}
+use Rattle.nd_out.specs.NodeLine.{node_lines}
 use Rattle.nd_effects.specs.Told as effects
 use Rattle.nd_effects.specs.Told.{frame_sent, frames_in, happenings, sent_in}
 use Rattle.nd_effects.proofs.Reading.{Tells-frames}
@@ -15,7 +16,7 @@ use Rattle.nd_link_log.specs.Log.{Log, Adds, adding}
 use Rattle.nd_link_log.specs.Told.{lines_of, text}
 use Rattle.nd_link.specs.Frames.{frames, of_sender}
 use Rattle.nd_link.specs.declared.told.Told.{Told as LinkTold}
-use Rattle.nd_link.specs.Told.{TellsLines, node_lines}
+use Rattle.nd_link.specs.Told.{TellsLines}
 
 -- ---- rows on top of a chronicle
 

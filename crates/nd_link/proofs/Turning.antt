@@ -10,6 +10,7 @@ use Rattle.nd_chronicle.proofs.Growth.{comes_grows}
 use Rattle.nd_effects.specs.Told as effects
 use Rattle.nd_effects.specs.Told.{frames_in, happenings}
 use Rattle.nd_out.specs.declared.out.Out.{Out}
+use Rattle.nd_out.specs.NodeLine.{node_lines}
 use Rattle.nd_node.specs.declared.node.Node.{Node}
 use Rattle.nd_node.specs.Node as node
 use Rattle.nd_node.specs.Node.{next_of}
@@ -22,7 +23,7 @@ use Rattle.nd_link.specs.declared.told.Told.{Told}
 use Rattle.nd_link.specs.Due.{IsFirst}
 use Rattle.nd_link.specs.Frames.{kept_frames, of_sender}
 use Rattle.nd_link.specs.Link.{NodeStands, NodesStand, Stands}
-use Rattle.nd_link.specs.Told.{Tells, TellsLines, node_lines}
+use Rattle.nd_link.specs.Told.{Tells, TellsLines}
 use Rattle.nd_link.specs.Time.{Leads, Turns, turns_left}
 use Rattle.nd_link.proofs.Standing.{idle_at, others_of, rows_stand}
 use Rattle.nd_link.proofs.Telling.{frames_of_rows, text_of_rows}

@@ -10,7 +10,7 @@ use Rattle.nd_link.specs.declared.link.Link.{Link}
 use Rattle.nd_link.specs.declared.told.Told.{Told}
 use Rattle.nd_link.specs.Due.{AreDated, AreSettled}
 use Rattle.nd_link.specs.Told.{Tells, TellsLines, told_lines, told_text}
-use Rattle.nd_link.specs.Time.{Leads, TellsOf, Onward, Passes, Turns}
+use Rattle.nd_link.specs.Time.{Leads, Onward, Passes, Turns}
 use Rattle.nd_link.proofs.Standing.{idle_at}
 
 -- ---- what is told
@@ -42,9 +42,6 @@ module _ (log d : Log) (next end : ℕ) (idle : (moment : ℕ) → moment < next
 -- ---- the turns
 
 module _ {W R A : Type 0} (stream : R → Stream) where
-  pub settle_start : (link : Link W R A) (told : List (Told A)) (now : ℕ) → Leads stream link link told told (Onward now)
-  settle_start link told now = record { each = λ log s. (log, λ e w. w, s, told_same log told) }
-
   pub settle_more : (origin old new : Link W R A) (x y z : List (Told A)) (now next : ℕ) → Leads stream origin old x y (Onward now) → Leads stream old new y z (Turns next) → next ≤ now
       → Leads stream origin new x z (Onward now)
   settle_more origin old new x y z now next sofar turn le = record {
@@ -75,12 +72,4 @@ module _ {W R A : Type 0} (stream : R → Stream) where
         (λ before. idle_passes d d (now + 1) now idle (last_moment d) (omega (arith, before)) (omega arith) (over (omega arith)))
         (cases_lt now (last_moment d)) in
         (d, l.1 d rest, l.2, l.3);
-  }
-
-  -- where memory is refused, what was told stays told
-  pub settle_told : (origin old : Link W R A) (x y z : List (Told A)) (now : ℕ) → Leads stream origin old x y (Onward now) → z ≡ y → TellsOf stream origin x z (Onward now)
-  settle_told origin old x y z now sofar same = record {
-    each = λ log s.
-        let l = sofar.each log s in
-        (l.0, l.1, subst (Tells log l.0 x) (sym same) l.3);
   }

@@ -1,6 +1,6 @@
 -- Which node and which frame a delivery names, or the first reason why it is refused.
 use Rattle.std.specs.Prelude.{◌≡◌, ◌≢◌, ℕ, ◌<◌, ◌≤◌, List, length, slice_get, Result, Ok, Err, Some}
-use Rattle.nd_link.specs.declared.frames.SentFrame.{SentFrame}
+use Rattle.nd_link.specs.declared.sent_frame.SentFrame.{SentFrame}
 use Rattle.nd_link.specs.declared.refusal.Refusal.{Refusal}
 use Rattle.nd_link.specs.declared.refusal.Refusal.TheVariants.{NoNode, NoFrame, Own}
 

@@ -2,7 +2,7 @@
 use Rattle.std.specs.Prelude.{◌≡◌, ℕ, List, [], ◌∷◌, ◌++◌, map, slice_get, Some}
 use Rattle.nd_effects.specs.Told.{frame_sent}
 use Rattle.nd_link_log.specs.Log.{Log, Adds}
-use Rattle.nd_link.specs.declared.frames.SentFrame.{SentFrame}
+use Rattle.nd_link.specs.declared.sent_frame.SentFrame.{SentFrame}
 
 -- frames of one sender
 abbrev pub of_sender : ℕ → List (List ℕ) → List (ℕ × List ℕ)

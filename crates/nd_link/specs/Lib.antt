@@ -8,3 +8,4 @@ pub mod Arrival
 pub mod Time
 pub mod Run
 pub mod Delivery
+pub mod Holder

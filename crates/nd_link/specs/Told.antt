@@ -1,10 +1,10 @@
 -- What a link hands out, and its text: that of what happened at its nodes and of what it refused, the oldest first.
 use Rattle.std.specs.Prelude.{◌≡◌, ℕ, List, ◌++◌}
 use Rattle.std.specs.List.{flat_map}
-use Rattle.nd_chronicle.specs.Happening.{Happening}
 use Rattle.nd_effects.specs.Told.{happenings}
+use Rattle.nd_out.specs.NodeLine.{node_lines}
 use Rattle.nd_link_log.specs.Log as log
-use Rattle.nd_link_log.specs.Log.{Log, Adds, Refuses}
+use Rattle.nd_link_log.specs.Log.{Log, Refuses}
 use Rattle.nd_link_log.specs.Told.{lines_of, text}
 use Rattle.nd_link.specs.declared.refusal.Refusal.{Refusal}
 use Rattle.nd_link.specs.declared.refusal.Refusal.TheVariants as refusals
@@ -18,10 +18,6 @@ refusal_of refusals.NoNode = log.NoNode
 refusal_of refusals.NoFrame = log.NoFrame
 refusal_of refusals.Own = log.Own
 refusal_of refusals.Full = log.Full
-
--- the lines of what happened at a node
-abbrev pub node_lines : ℕ → ℕ × Happening → List ℕ
-node_lines node row = lines_of (Adds node row.0 row.1)
 
 -- the lines of what is handed out at once
 abbrev pub told_lines : {A : Type 0} → Told A → List ℕ

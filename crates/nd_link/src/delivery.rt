@@ -12,9 +12,9 @@ ghost use Rattle.nd_link.specs.Link.{Stands};
 ghost use Rattle.nd_link.specs.Time.{Leads};
 
 use crate::fault::LinkFault;
-use crate::frames::SentFrame;
 use crate::link::Link;
 use crate::refusal::Refusal;
+use crate::sent_frame::SentFrame;
 use crate::told::Told;
 use nd_node::Event;
 use nd_wire::Wire;

@@ -1,13 +1,16 @@
 ghost use Rattle.std.specs.Prelude.{◌≡◌, ◌≤◌, ◌<◌, ◌^◌, Err, IsErrOf, OnErr, OnOk, true};
+ghost use Rattle.nd_addr.specs.Bytes.{IsBytes};
 ghost use Rattle.nd_io.specs.Counts.{HasRisen};
 ghost use Rattle.nd_wire.specs.Wire.{IsFaithful};
 ghost use Rattle.nd_link_log.specs.Log.{Log};
+ghost use Rattle.nd_link_log.specs.Bytes.{IsOfBytes};
 ghost use Rattle.nd_link.specs.Arrival.{Happens};
 ghost use Rattle.nd_link.specs.Due.{AreSettled};
 ghost use Rattle.nd_link.specs.Event.{AreEarly, link_event, link_events};
+ghost use Rattle.nd_link.specs.Holder.{KeepsOneHolder};
 ghost use Rattle.nd_link.specs.Link.{Stands};
 ghost use Rattle.nd_link.specs.Run.{FollowsBy, RunsBy, RunsInPart};
-ghost use Rattle.nd_link.specs.Time.{Leads, Onward, TellsOf};
+ghost use Rattle.nd_link.specs.Time.{Leads, Onward, Passes, TellsOf};
 
 use crate::fault::LinkFault;
 use crate::link::Link;
@@ -32,6 +35,24 @@ pub enum LinkEvent<R, A: Allocator> {
     Delivers(u64, u64),
 }
 
+/// What the types of an event's parts say, that they are of bytes, is handed on as a clause.
+fn known<R: Rng + Drop, A: Allocator>(event: &LinkEvent<R, A>)
+    ensures { IsOfBytes (link_event R.stream event.now) }
+{
+    match event {
+        LinkEvent::Starts(_, mac, _) => {
+            mac.as_bytes();
+        }
+        LinkEvent::Comes(_, Event::Receives(frame)) => known_frame(frame),
+        LinkEvent::Passes | LinkEvent::Comes(..) | LinkEvent::Delivers(..) => {}
+    }
+}
+
+/// The same of a frame that comes.
+fn known_frame(frame: &[u8])
+    ensures { IsBytes frame.now }
+{}
+
 impl<W: Wire, R: Rng + Drop, A: Allocator + Copy> Link<W, R, A> {
     /// An event comes at a moment, in milliseconds. All that is due up to it comes first, its own millisecond included, at the node of the
     /// least number where several have something due; then it adds what it adds. One that comes too late is refused alone. What happened is
@@ -47,14 +68,16 @@ impl<W: Wire, R: Rng + Drop, A: Allocator + Copy> Link<W, R, A> {
         requires { now < 2 ^ 62 }
         ensures follows { IsFaithful W.arrives → OnOk result (Leads R.stream self.old self.new told.old.items told.new.items (FollowsBy now (link_event R.stream event))) }
         ensures told { OnErr result (TellsOf R.stream self.old told.old.items told.new.items (Onward now)) }
-        ensures onward { IsErrOf result LinkFault.Wire → Leads R.stream self.old self.new told.old.items told.new.items (Onward now) }
+        ensures passes { IsErrOf result LinkFault.Wire → Leads R.stream self.old self.new told.old.items told.new.items (Passes now) }
         ensures wire_failed { IsErrOf result LinkFault.Wire → HasRisen (W.failed self.old.wire) (W.failed self.new.wire) }
         ensures never_falls { W.failed self.old.wire ≤ W.failed self.new.wire }
         ensures spent { IsErrOf result LinkFault.Memory → self.new.spent ≡ true }
         ensures stays_spent { self.old.spent ≡ true → result ≡ Err LinkFault.Memory }
         ensures unspent { OnOk result (self.new.spent ≡ self.old.spent) }
         ensures unspent_by_wire { IsErrOf result LinkFault.Wire → self.new.spent ≡ self.old.spent }
+        ensures bytes { IsOfBytes (link_event R.stream event) }
     {
+        known(&event);
         if self.spent {
             return Err(LinkFault::Memory);
         }
@@ -67,6 +90,9 @@ impl<W: Wire, R: Rng + Drop, A: Allocator + Copy> Link<W, R, A> {
 
     /// Events come, one after the other, each at its moment, in milliseconds. A fault ends them: then some have come, the first ones, and of what
     /// is due up to the next one a part may have come too; all that is told.
+    ///
+    /// Where no fault came since the link was made and its log is timely, no address is preferred or deprecated at two nodes, at no moment up to
+    /// the last one (RFC 4862, section 5.4).
     pub fn run(
         &mut self,
         events: Vec<(u64, LinkEvent<R, A>), A>,
@@ -74,6 +100,7 @@ impl<W: Wire, R: Rng + Drop, A: Allocator + Copy> Link<W, R, A> {
     ) -> Result<(), LinkFault>
         requires { AreEarly events.items }
         ensures runs { IsFaithful W.arrives → OnOk result (Leads R.stream self.old self.new told.old.items told.new.items (RunsBy (link_events R.stream events.items))) }
+        ensures one_holder { IsFaithful W.arrives → OnOk result (KeepsOneHolder R.stream self.old self.new (link_events R.stream events.items)) }
         ensures in_part { IsFaithful W.arrives → OnErr result (TellsOf R.stream self.old told.old.items told.new.items (RunsInPart (link_events R.stream events.items))) }
         ensures wire_failed { IsErrOf result LinkFault.Wire → HasRisen (W.failed self.old.wire) (W.failed self.new.wire) }
         ensures never_falls { W.failed self.old.wire ≤ W.failed self.new.wire }
@@ -94,7 +121,7 @@ impl<W: Wire, R: Rng + Drop, A: Allocator + Copy> Link<W, R, A> {
         requires { now < 2 ^ 62 }
         ensures follows { IsFaithful W.arrives → OnOk result (Leads R.stream self.old self.new told.old.items told.new.items (FollowsBy now (link_event R.stream event))) }
         ensures told { OnErr result (TellsOf R.stream self.old told.old.items told.new.items (Onward now)) }
-        ensures onward { IsErrOf result LinkFault.Wire → Leads R.stream self.old self.new told.old.items told.new.items (Onward now) }
+        ensures passes { IsErrOf result LinkFault.Wire → Leads R.stream self.old self.new told.old.items told.new.items (Passes now) }
         ensures wire_failed { IsErrOf result LinkFault.Wire → HasRisen (W.failed self.old.wire) (W.failed self.new.wire) }
         ensures never_falls { W.failed self.old.wire ≤ W.failed self.new.wire }
         ensures spent { self.new.spent ≡ self.old.spent }

@@ -3,15 +3,9 @@ ghost use Rattle.nd_effects.specs.Told.{frame_sent, frames_in, happenings};
 ghost use Rattle.nd_out.specs.Out.{happening};
 ghost use Rattle.nd_link.specs.Frames.{kept_frames, of_sender};
 
+use crate::sent_frame::SentFrame;
 use nd_out::Out;
 use std::alloc::{AllocError, Allocator};
-
-/// A frame that a node of a link sent, by the number of the node.
-#[derive(Drop)]
-pub(crate) struct SentFrame<A: Allocator> {
-    pub(crate) sender: usize,
-    pub(crate) frame: Vec<u8, A>,
-}
 
 /// The frames among what a node tells are kept, each at the place of its number. The error is want of memory.
 pub(crate) fn keep_frames<A: Allocator + Copy>(

@@ -11,6 +11,7 @@ mod frames;
 mod link;
 mod passing;
 mod refusal;
+mod sent_frame;
 mod start;
 mod told;
 mod turn;

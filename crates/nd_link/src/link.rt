@@ -1,7 +1,7 @@
-ghost use Rattle.std.specs.Prelude.{◌≡◌, ◌≤◌, ◌<◌, ◌^◌, [], vec_len};
+ghost use Rattle.std.specs.Prelude.{◌≡◌, ◌≤◌, ◌<◌, ◌^◌, [], false, vec_len};
 ghost use Rattle.nd_link_log.specs.Event.{max_nodes};
 
-use crate::frames::SentFrame;
+use crate::sent_frame::SentFrame;
 use nd_node::Node;
 use nd_wire::Wire;
 use rand_core::Rng;
@@ -35,6 +35,7 @@ impl<W: Wire, R: Rng + Drop, A: Allocator + Copy> Link<W, R, A> {
     pub fn new(alloc: A, wire: W) -> Self
         ensures stands { Stands R.stream result [] }
         ensures wire { result.wire ≡ wire }
+        ensures unspent { result.spent ≡ false }
     {
         Link {
             alloc,

@@ -99,6 +99,25 @@ fn a_holder_answers(rt: HostRuntime) -> Result<(), Fail> {
     Ok(())
 }
 
+/// Where a frame may take half of RetransTimer the answer may come when the address is assigned, and then two nodes have it: so a timely link
+/// has to be faster (RFC 4862, section 5.4).
+#[test]
+fn an_answer_after_retrans_timer_is_too_late(rt: HostRuntime) -> Result<(), Fail> {
+    let mut link = Link::new(rt.alloc(), MemoryWire);
+    let mut told = Vec::new(rt.alloc());
+    link.event(0, host(), &mut told)?;
+    link.event(2000, host(), &mut told)?;
+    link.event(2734, LinkEvent::Delivers(0, 2), &mut told)?;
+    link.event(3234, LinkEvent::Delivers(1, 3), &mut told)?;
+    let mut text = String::new(rt.alloc());
+    write_lines(&mut text, &told)?;
+    let wanted = format!(in rt.alloc();
+        "n0 234 tx {F1}\nn0 1234 assigned fe80::3656:78ff:fe9a:bcde\nn0 1234 tx {F2}\nn1 2234 tx {F1}\nn0 2734 heard ns\nn0 2734 tx {F9}\nn1 3234 assigned fe80::3656:78ff:fe9a:bcde\nn1 3234 tx {F2}\nn1 3234 heard na\n"
+    )?;
+    assert_eq!(rt; text.as_str(), wanted.as_str());
+    Ok(())
+}
+
 /// A frame that comes twice is heard twice, and one that comes late is heard.
 #[test]
 fn repeated_and_late_frames_are_heard(rt: HostRuntime) -> Result<(), Fail> {
@@ -144,6 +163,30 @@ fn a_fault_of_the_wire_leaves_the_turns(rt: HostRuntime) -> Result<(), Fail> {
     write_lines(&mut text, &told)?;
     let wanted = format!(in rt.alloc();
         "n0 234 tx {F1}\nn1 234 tx {F1}\nn1 400 heard ns\nn1 400 duplicate fe80::3656:78ff:fe9a:bcde\n"
+    )?;
+    assert_eq!(rt; text.as_str(), wanted.as_str());
+    assert_eq!(rt; link.failures(), 1);
+    Ok(())
+}
+
+/// Events come by one call, up to a fault of the wire, and those that are left by another.
+#[test]
+fn events_come_one_after_the_other(rt: HostRuntime) -> Result<(), Fail> {
+    let mut link = Link::new(rt.alloc(), FailingWire::new(MemoryWire, 1));
+    let mut told = Vec::new(rt.alloc());
+    let mut events = Vec::new(rt.alloc());
+    events.push((0, host()))?;
+    events.push((0, host()))?;
+    events.push((400, LinkEvent::Delivers(1, 0)))?;
+    events.push((400, LinkEvent::Delivers(0, 1)))?;
+    assert!(rt; link.run(events, &mut told) == Err(LinkFault::Wire));
+    let mut rest = Vec::new(rt.alloc());
+    rest.push((400, LinkEvent::Delivers(0, 1)))?;
+    link.run(rest, &mut told)?;
+    let mut text = String::new(rt.alloc());
+    write_lines(&mut text, &told)?;
+    let wanted = format!(in rt.alloc();
+        "n0 234 tx {F1}\nn1 234 tx {F1}\nn1 400 heard ns\nn1 400 duplicate fe80::3656:78ff:fe9a:bcde\nn0 400 heard ns\nn0 400 duplicate fe80::3656:78ff:fe9a:bcde\n"
     )?;
     assert_eq!(rt; text.as_str(), wanted.as_str());
     assert_eq!(rt; link.failures(), 1);

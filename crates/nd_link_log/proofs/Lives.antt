@@ -10,12 +10,11 @@ use Rattle.nd_chronicle.specs.Happening as chronicle
 use Rattle.nd_chronicle.specs.Happening.{Chronicle, Passed, TooLate}
 use Rattle.nd_chronicle.specs.Due.{What, Due, comes}
 use Rattle.nd_chronicle.specs.Event as nodes
-use Rattle.nd_chronicle.specs.Event.{EventAdds}
+use Rattle.nd_chronicle.specs.Event.{ComesAsBytes, EventAdds}
 use Rattle.nd_chronicle.specs.History as node
 use Rattle.nd_chronicle.specs.History.{IsChronicle, Runs}
 use Rattle.nd_chronicle.proofs.Growth.{event_grows}
 use Rattle.nd_link_log.specs.Log.{Log, adding, chronicle_of, start_of}
-use Rattle.nd_link_log.specs.Bytes.{ComesAsBytes}
 use Rattle.nd_link_log.specs.History.{Walk, over, adds, passes}
 use Rattle.nd_link_log.proofs.Chronicles.{other_rows, own_rows, start_with}
 use Rattle.nd_link_log.proofs.Moments.{each_in, newest_moment}

@@ -5,7 +5,7 @@ use Rattle.nd_advertiser.specs.Advertising.{advertised_by}
 use Rattle.nd_slaac.specs.Due as addresses_due
 use Rattle.nd_chronicle.specs.Start.{Start}
 use Rattle.nd_chronicle.specs.Happening as chronicle
-use Rattle.nd_chronicle.specs.Happening.{Chronicle, Happening, TooLate}
+use Rattle.nd_chronicle.specs.Happening.{Chronicle, TooLate}
 use Rattle.nd_chronicle.specs.Histories.{advertising_history}
 use Rattle.nd_chronicle.specs.Due.{What, RouterEnds, AddressFalls, NeighbourFalls, RoutersSolicited, RouterAdvertises, Redraws, comes}
 use Rattle.nd_chronicle.proofs.Growth.{AllAt, GrowsAt, advertising_grows, grows_by, neighbour_grows, stays}

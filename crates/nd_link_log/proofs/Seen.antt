@@ -6,10 +6,10 @@ use Rattle.nd_chronicle.specs.Start.{Limits, Start}
 use Rattle.nd_chronicle.specs.Happening.{Chronicle}
 use Rattle.nd_chronicle.specs.History.{beginning}
 use Rattle.nd_chronicle.specs.Event as nodes
-use Rattle.nd_chronicle.specs.Event.{EventAdds}
+use Rattle.nd_chronicle.specs.Event.{ComesAsBytes, EventAdds}
 use Rattle.nd_link_log.specs.Log.{Log, Refusal, NoNode, NoFrame, Own, Full, Begins, Carries, Refuses, IsFrame, adding, chronicle_of, last_moment, nodes, sent, start_of}
 use Rattle.nd_link_log.specs.Event.{Event, Passes, Starts, Comes, Delivers, AddsRows, AddsDelivery, EventHappens, max_nodes}
-use Rattle.nd_link_log.specs.Bytes.{ComesAsBytes, IsOfBytes}
+use Rattle.nd_link_log.specs.Bytes.{IsOfBytes}
 
 -- what is handed in may be bytes
 pub data Seen (Bytes : Type 0) (now : ℕ) (before d : Log) : Type 0 where

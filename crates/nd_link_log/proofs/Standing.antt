@@ -8,12 +8,12 @@ use Rattle.nd_addr.specs.Bytes.{AreBytes, IsBytes}
 use Rattle.nd_chronicle.specs.Start.{Start}
 use Rattle.nd_chronicle.specs.Happening.{Chronicle}
 use Rattle.nd_chronicle.specs.Event as nodes
-use Rattle.nd_chronicle.specs.Event.{EventAdds}
+use Rattle.nd_chronicle.specs.Event.{ComesAsBytes, EventAdds}
 use Rattle.nd_chronicle.specs.History.{beginning}
 use Rattle.nd_chronicle.proofs.Growth.{event_grows}
 use Rattle.nd_link_log.specs.Log.{Entry, Log, Past, Begins, Carries, Reaches, Refuses, adding, chronicle_of, last_moment, nodes, start_of}
 use Rattle.nd_link_log.specs.Event.{passing}
-use Rattle.nd_link_log.specs.Bytes.{ComesAsBytes, SendsBytes}
+use Rattle.nd_link_log.specs.Bytes.{SendsBytes}
 use Rattle.nd_link_log.specs.History.{Walk}
 use Rattle.nd_link_log.proofs.Carried.{AllBring, bring_carried, bring_entry, brings}
 use Rattle.nd_link_log.proofs.Chronicles.{other_rows, own_rows, past_with, start_with}

@@ -1,15 +1,11 @@
 -- What is handed to a link is bytes, and so is what its nodes send.
-use Rattle.std.specs.Prelude.{◌≡◌, ℕ, List, ◌∷◌}
+use Rattle.std.specs.Prelude.{ℕ, List, ◌∷◌}
 use Rattle.std.specs.List.{All}
 use Rattle.nd_addr.specs.Bytes.{IsBytes, AreBytes}
 use Rattle.nd_chronicle.specs.Happening.{Sent}
-use Rattle.nd_chronicle.specs.Event as nodes
+use Rattle.nd_chronicle.specs.Event.{ComesAsBytes}
 use Rattle.nd_link_log.specs.Log.{Log, Past, Adds}
 use Rattle.nd_link_log.specs.Event.{Event, Passes, Starts, Comes, Delivers}
-
--- a frame that comes is bytes
-abbrev pub ComesAsBytes : nodes.Event → Type 0
-ComesAsBytes event = (frame : List ℕ) → event ≡ nodes.Receives frame → IsBytes frame
 
 -- the link-layer address of a node that starts is six bytes, and a frame that comes is bytes
 abbrev pub IsOfBytes : Event → Type 0

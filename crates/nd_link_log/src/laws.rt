@@ -1,15 +1,15 @@
 //! Laws of the definitions, each the contract of a function that does nothing.
 
 ghost use Rattle.std.specs.Prelude.{◌≡◌, ◌*◌, ◌++◌, ◌∷◌, ℕ, List, Some};
-ghost use Rattle.std.specs.List.{All};
 ghost use Rattle.nd_addr.specs.Bytes.{AreBytes};
 ghost use Rattle.nd_chronicle.specs.Start.{Limits, Start};
 ghost use Rattle.nd_chronicle.specs.Happening.{Sent};
 ghost use Rattle.nd_chronicle.specs.Event as chronicle;
+ghost use Rattle.nd_chronicle.specs.Event.{ComeAsBytes};
 ghost use Rattle.nd_chronicle.specs.History.{IsChronicle};
 ghost use Rattle.nd_link_log.specs.Log.{Adds, Entry, Log, Past, chronicle_of, nodes, sent, start_of};
 ghost use Rattle.nd_link_log.specs.Event.{Event};
-ghost use Rattle.nd_link_log.specs.Bytes.{AreOfBytes, ComesAsBytes, SendsBytes};
+ghost use Rattle.nd_link_log.specs.Bytes.{AreOfBytes, SendsBytes};
 ghost use Rattle.nd_link_log.specs.History.{IsLog, Runs};
 ghost use Rattle.nd_link_log.specs.Holding.{AllArrive, AllWait, Arrives, HasOneHolder, Holds, IsTimely};
 ghost use Rattle.nd_link_log.specs.Sound.{IsSound};
@@ -39,7 +39,7 @@ pub fn text_only_grows()
 /// Each node of a link lives a history of its own: its chronicle in the log is the one of that history, which is of bytes if the link's is.
 pub fn nodes_have_histories()
     ensures { (limits : Limits) (events : List (ℕ × Event)) (log : Log) (node : ℕ) (start : Start) → IsLog limits events log → start_of node log ≡ Some start
-        → (history : List (ℕ × chronicle.Event)) × IsChronicle start history (chronicle_of node log) × (AreOfBytes events → SendsBytes log → All (λ event. ComesAsBytes event.1) history) }
+        → (history : List (ℕ × chronicle.Event)) × IsChronicle start history (chronicle_of node log) × (AreOfBytes events → SendsBytes log → ComeAsBytes history) }
 {}
 
 /// The log of each link is sound: whatever events come, in whatever order, its nodes and the link itself do what they owe.

@@ -1,5 +1,5 @@
 use Rattle.std.proofs.Common.{◌+◌, sym, subst, take, arith}
-use Rattle.nd_link.proofs.Lists.{take_whole}
+use Rattle.std.proofs.lemmas.List.{take_all}
 use Rattle.nd_link.specs.Due.{FirstDue}
 use Rattle.nd_node.specs.Node.{NextDue}
 use Rattle.nd_link.proofs.FirstNode.{first_more}
@@ -12,4 +12,4 @@ loop-i-preserved g c =
     (λ start chronicle s. subst (NextDue start chronicle) c.next_due.ensures.value (c.next_due.ensures.due start chronicle s)) c.loop-i.invariant)
 
 pub returns : goal.returns
-returns g c = subst (λ l. FirstDue g.R.Rng.stream l c.loop-i.first) (take_whole c.args.nodes.now c.loop-i.i (let no = c.loop-i-test.false in omega (arith, no))) c.loop-i.invariant
+returns g c = subst (λ l. FirstDue g.R.Rng.stream l c.loop-i.first) (take_all c.loop-i.i c.args.nodes.now (let no = c.loop-i-test.false in omega (arith, no))) c.loop-i.invariant

@@ -3,7 +3,9 @@ use Rattle.std.proofs.lemmas.List.{nil_from_length}
 use Rattle.std.specs.Vec.Iter.{into_iter_items}
 use Rattle.nd_wire.specs.Wire.{IsFaithful}
 use Rattle.nd_node.proofs.Running.{on_err_any}
-use Rattle.nd_link.proofs.Coming.{all_came, came_in_part, none_came, one_came}
+use Rattle.nd_link.specs.Event.{link_events}
+use Rattle.nd_link.proofs.Coming.{all_came, all_of_bytes, came_in_part, none_came, one_came}
+use Rattle.nd_link.proofs.Holder.{keeps_one_holder}
 use Rattle.nd_link.proofs.link.Link.run.Goals as goal
 
 pub loop-at-init : goal.loop-at-init
@@ -18,7 +20,7 @@ loop-at-preserved g c =
     let before = inv.never_falls in
     let more = c.in_ok-event.ensures.never_falls in record {
       came = one_came (IsFaithful g.W.Wire.arrives) g.R.Rng.stream c.args.self.now c.loop-at.self c.event.new.self c.args.told.now.items c.loop-at.told.items c.event.new.told.items c.args.events.items
-          (into_iter_items c.loop-at.at-iterator) (into_iter_items c.next.new.self) (c.in-Some.at, c.in-Some.event) c.in-Some.ensures.steps.0 inv.came c.in_ok-event.ensures.follows;
+          (into_iter_items c.loop-at.at-iterator) (into_iter_items c.next.new.self) (c.in-Some.at, c.in-Some.event) c.in-Some.ensures.steps.0 inv.came c.in_ok-event.ensures.bytes c.in_ok-event.ensures.follows;
       never_falls = omega (arith, before, more);
     }
 
@@ -34,3 +36,14 @@ returns-clause-runs g c = λ faithful.
     let none = c.in-None.ensures.steps.0 in
     let len : length (into_iter_items c.loop-at.at-iterator) ≡ 0 = omega (arith, ok, none) in
     all_came (IsFaithful g.W.Wire.arrives) g.R.Rng.stream c.args.self.now c.loop-at.self c.args.told.now.items c.loop-at.told.items c.args.events.items (into_iter_items c.loop-at.at-iterator) (nil_from_length (into_iter_items c.loop-at.at-iterator) len) c.loop-at.invariant.came faithful
+
+pub returns-clause-one_holder : goal.returns-clause-one_holder
+returns-clause-one_holder g c = λ faithful.
+    let ok = c.loop-at.at-iterator.rest.ok.0 in
+    let none = c.in-None.ensures.steps.0 in
+    let len : length (into_iter_items c.loop-at.at-iterator) ≡ 0 = omega (arith, ok, none) in
+    let over = nil_from_length (into_iter_items c.loop-at.at-iterator) len in
+    let rest = into_iter_items c.loop-at.at-iterator in
+    keeps_one_holder g.R.Rng.stream c.args.self.now c.loop-at.self c.args.told.now.items c.loop-at.told.items (link_events g.R.Rng.stream c.args.events.items)
+    (all_of_bytes (IsFaithful g.W.Wire.arrives) g.R.Rng.stream c.args.self.now c.loop-at.self c.args.told.now.items c.loop-at.told.items c.args.events.items rest over c.loop-at.invariant.came)
+    (all_came (IsFaithful g.W.Wire.arrives) g.R.Rng.stream c.args.self.now c.loop-at.self c.args.told.now.items c.loop-at.told.items c.args.events.items rest over c.loop-at.invariant.came faithful)

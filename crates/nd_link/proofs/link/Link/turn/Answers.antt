@@ -1,19 +1,19 @@
 use Rattle.nd_effects.specs.Told.{frames_in, happenings}
 use Rattle.nd_link.specs.Frames.{kept_frames, of_sender}
-use Rattle.std.proofs.Common.{◌++◌, ◌∙◌, ap, refl, subst}
+use Rattle.std.proofs.Common.{◌++◌, ◌∙◌, ap, refl, subst, length}
+use Rattle.std.proofs.lemmas.Option.{slice_get_read}
 use Rattle.nd_node.specs.Time as nodes
-use Rattle.nd_link.proofs.Lists.{get_is}
 use Rattle.nd_link.proofs.Turning.{fewer_left, turn_leads}
 use Rattle.nd_link.proofs.link.Link.turn.Goals as goal
 
 pub returns-clause-leads : goal.returns-clause-leads
 returns-clause-leads g c =
-    let is = get_is c.args.self.now.nodes.items c.args.place c.index_mut-node.result.now c.requires.first.within c.index_mut-node.ensures.value in
+    let is = slice_get_read c.args.self.now.nodes.items (length c.args.self.now.nodes.items) c.args.place c.index_mut-node.result.now refl c.requires.first.within c.index_mut-node.ensures.value in
     let leads = subst (λ l. nodes.Leads g.R.Rng.stream c.index_mut-node.result.now c.turn.new.self l c.turn.new.outs.items (nodes.Comes c.args.due)) c.new-outs.ensures.items c.in_ok-turn.ensures.leads in
     let kept = c.in_ok-keep_frames.ensures ∙ ap (λ l. kept_frames c.args.self.now.frames.items ++ of_sender c.args.place (frames_in (happenings l))) c.deref.ensures.value in
     turn_leads g.R.Rng.stream c.args.self.now _ c.index_mut-node.result.now c.turn.new.self c.args.told.now.items _ c.turn.new.outs.items c.args.place c.args.due c.requires.first is leads refl refl kept c.in_ok-tell.ensures.tells
 
 pub returns-clause-fewer : goal.returns-clause-fewer
 returns-clause-fewer g c = λ end le.
-    let is = get_is c.args.self.now.nodes.items c.args.place c.index_mut-node.result.now c.requires.first.within c.index_mut-node.ensures.value in
+    let is = slice_get_read c.args.self.now.nodes.items (length c.args.self.now.nodes.items) c.args.place c.index_mut-node.result.now refl c.requires.first.within c.index_mut-node.ensures.value in
     fewer_left end c.args.self.now.nodes.items c.args.place c.index_mut-node.result.now c.turn.new.self is (c.in_ok-turn.ensures.fewer end le)
