@@ -18,6 +18,3 @@ pub use contents::MAX_CONTENTS_LENGTH;
 pub use offer::{Offer, OfferFlags};
 pub use offer_rows::OfferRows;
 pub use offers::Full;
-
-#[cfg(test)]
-mod tests;

@@ -9,6 +9,3 @@ mod telling;
 mod words;
 
 pub use check::run_check;
-
-#[cfg(test)]
-mod tests;

@@ -14,6 +14,3 @@ mod solicitation;
 pub use frame_room::FrameRoom;
 pub use redirect::redirect_frame;
 pub use router_advertisement::router_advertisement_frame;
-
-#[cfg(test)]
-mod tests;

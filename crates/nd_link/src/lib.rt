@@ -22,6 +22,3 @@ pub use link::{Link, MAX_NODES};
 pub use nd_wire::{FailingWire, MemoryWire, UdpWire, Wire, WireFault};
 pub use refusal::Refusal;
 pub use told::Told;
-
-#[cfg(test)]
-mod tests;

@@ -17,10 +17,3 @@ pub use line::{LinkLine, read_line};
 pub use run::run_link;
 pub use script::LinkScript;
 pub use told::write_told;
-
-#[cfg(test)]
-mod line_tests;
-#[cfg(test)]
-mod run_tests;
-#[cfg(test)]
-mod told_tests;

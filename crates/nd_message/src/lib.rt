@@ -38,6 +38,3 @@ pub use nd_decode::{
     PrefixInfo, Redirect, RouterAdvertisement, Servers, decode, decode_as, is_server,
 };
 pub use opt::Opt;
-
-#[cfg(test)]
-mod tests;

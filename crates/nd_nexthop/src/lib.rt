@@ -16,6 +16,3 @@ pub use default_router::Candidate;
 pub use kept_redirects::{KeptRedirects, Redirect};
 pub use next_hop::Hop;
 pub use view::View;
-
-#[cfg(test)]
-mod tests;

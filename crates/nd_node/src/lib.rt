@@ -34,6 +34,3 @@ pub use counts::Counts;
 pub use event::{Event, Table};
 pub use nd_effects::{OutgoingPacket, Turned};
 pub use node::Node;
-
-#[cfg(test)]
-mod tests;

@@ -28,8 +28,3 @@ pub use prefixes::prefix_rows;
 pub use redirects::redirect_rows;
 pub use routers::router_rows;
 pub use static_routes::route_rows;
-
-#[cfg(test)]
-mod node_line_tests;
-#[cfg(test)]
-mod tests;

@@ -13,6 +13,3 @@ pub use forward::{Fate, may_be_forwarded};
 pub use kept_routes::{KeptRoute, KeptRoutes};
 pub use route::Route;
 pub use routes::{Full, Routes};
-
-#[cfg(test)]
-mod tests;

@@ -25,14 +25,3 @@ pub use number::{read_number, split_number};
 pub use run::run_script;
 pub use source::Source;
 pub use words::split_word;
-
-#[cfg(test)]
-mod frame_tests;
-#[cfg(test)]
-mod host_tests;
-#[cfg(test)]
-mod router_command_tests;
-#[cfg(test)]
-mod router_tests;
-#[cfg(test)]
-mod tests;

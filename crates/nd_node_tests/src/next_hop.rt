@@ -1,8 +1,8 @@
 ghost use Rattle.std.specs.Prelude.{◌≡◌};
 ghost use Rattle.nd_addr.specs.Number.{holds};
 
-use crate::*;
 use nd_addr::{Addr, Prefix};
+use nd_nexthop::*;
 use std::alloc::Global;
 use std::process::Abort;
 use std::test::*;

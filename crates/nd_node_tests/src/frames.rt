@@ -1,5 +1,5 @@
-use super::*;
 use nd_addr::{Addr, Mac};
+use nd_frames::*;
 use nd_message::{Body, Message, Opt, Redirect, RouterAdvertisement};
 use nd_waiting::Packet;
 use std::alloc::Global;

@@ -1,6 +1,6 @@
-use super::*;
 use nd_addr::{Addr, Mac, Role};
 use nd_link::LinkEvent;
+use nd_link_script::*;
 use nd_node::{Event, Table};
 use nd_script::Source;
 use rand_core::Rng;

@@ -1,5 +1,5 @@
-use crate::*;
 use nd_addr::{Mac, Role};
+use nd_link::*;
 use nd_node::Event;
 use nd_out::write_node_out;
 use rand_core::SeedableRng;

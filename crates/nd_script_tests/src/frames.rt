@@ -1,6 +1,6 @@
 //! Frames that come to a host, and what it tells: worked rows of frames and texts, and frames that a program apart from this one wrote.
 
-use crate::tests::told;
+use crate::lines::told;
 use std::test::*;
 
 /// What a host tells up to its first Router Solicitation.

@@ -1,5 +1,5 @@
-use super::*;
 use nd_addr::{Addr, HEADERS_LENGTH, Mac, Prefix};
+use nd_message::*;
 use std::alloc::Global;
 use std::test::*;
 

@@ -1,6 +1,6 @@
-use crate::*;
 use nd_addr::{Addr, Ip6, Prefix};
 use nd_nexthop::Hop;
+use nd_routes::*;
 use std::alloc::{AllocError, Global};
 use std::process::Abort;
 use std::test::*;

@@ -1,7 +1,7 @@
-use super::*;
 use nd_addr::Addr;
 use nd_decode::{Body, NeighborSolicitation};
 use nd_link::{Refusal, Told};
+use nd_link_script::*;
 use nd_out::Out;
 use nd_waiting::Packet;
 use std::alloc::{AllocError, Global};

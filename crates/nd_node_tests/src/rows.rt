@@ -1,12 +1,12 @@
 ghost use Rattle.std.specs.Prelude.{◌<◌, ◌^◌};
 
-use super::*;
 use nd_addr::{Addr, Mac, Prefix, Role};
 use nd_advertiser::{Advertiser, Config, ConfigFlags, Offer, OfferFlags};
 use nd_decode::{MessageRef, PrefixInfo, decode};
 use nd_dns::Dns;
 use nd_neighbour::{Cache, Flags, News, Times};
 use nd_nexthop::Choice;
+use nd_out::*;
 use nd_params::Params;
 use nd_routers::{Prefixes, Routers};
 use nd_routes::{Route, Routes};

@@ -1,6 +1,6 @@
 //! A router in scripts: worked rows, and what it advertises and sends on.
 
-use crate::tests::told_by;
+use crate::lines::told_by;
 use nd_addr::{Mac, Role};
 use std::alloc::Global;
 use std::process::Abort;

@@ -1,8 +1,8 @@
-use super::*;
 use nd_io::input::Pieces;
 use nd_io::output::Writing;
 use nd_io::tool_fault::ToolFault;
 use nd_link::{FailingWire, MemoryWire, UdpWire, Wire};
+use nd_link_script::*;
 use std::alloc::Global;
 use std::test::*;
 

@@ -1,11 +1,10 @@
 //! Packets of the upper layer and commands in scripts: worked rows of lines and texts.
 
-use crate::run_script;
-use crate::source::Source;
-use crate::tests::told;
+use crate::lines::told;
 use nd_addr::{Mac, Role};
 use nd_io::input::Pieces;
 use nd_io::output::Writing;
+use nd_script::{Source, run_script};
 use std::test::*;
 
 /// A Router Advertisement of fe80::ff:fe00:1 with a prefix that is on the link and forms addresses.

@@ -4,8 +4,8 @@ ghost use Rattle.nd_message.specs.Spelling.{written_length};
 ghost use Rattle.nd_message.specs.WellFormed.{IsWellFormed};
 ghost use Rattle.nd_advertiser.specs.Contents.{max_contents_length};
 
-use super::*;
 use nd_addr::{Addr, HEADERS_LENGTH, Mac, Prefix};
+use nd_advertiser::*;
 use nd_message::{Message, put_frame};
 use std::alloc::Global;
 use std::process::Abort;

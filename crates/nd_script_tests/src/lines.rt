@@ -1,9 +1,9 @@
-use super::*;
 use nd_addr::{Addr, Mac, Role};
 use nd_io::input::Pieces;
 use nd_io::output::Writing;
 use nd_io::tool_fault::ToolFault;
 use nd_node::{Clearable, Event, Table};
+use nd_script::*;
 use nd_text::write_hex;
 use rand_core::Rng;
 use std::alloc::{AllocError, Global};

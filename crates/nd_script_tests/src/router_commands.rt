@@ -1,9 +1,9 @@
 //! A router's commands in scripts: what their words say, and what a host answers.
 
-use crate::read_line;
-use crate::tests::{STARTED, told};
+use crate::lines::{STARTED, told};
 use nd_io::tool_fault::ToolFault;
 use nd_node::Event;
+use nd_script::read_line;
 use std::alloc::{AllocError, Global};
 use std::test::*;
 

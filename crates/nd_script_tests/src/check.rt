@@ -1,4 +1,4 @@
-use crate::check::run_check;
+use nd_check::run_check;
 use nd_io::input::Pieces;
 use nd_io::output::Writing;
 use nd_io::tool_fault::ToolFault;

@@ -1,7 +1,7 @@
 ghost use Rattle.nd_node.specs.Event.{AreEarly};
 
-use crate::*;
 use nd_addr::{Addr, Mac, Role};
+use nd_node::*;
 use nd_out::{Out, write_outs};
 use rand_core::SeedableRng;
 use rand_pcg::Pcg32;
@@ -72,57 +72,6 @@ fn a_new_host_has_one_row(rt: HostRuntime) -> Result<(), Fail> {
     Ok(())
 }
 
-/// A packet is to be sent at 3 s, up to which nothing is due any more.
-fn send(
-    node: &mut Node<Pcg32, Global>,
-    outgoing: &OutgoingPacket<Global>,
-    outs: &mut Vec<(u64, Out<Global>), Global>,
-) -> Result<(), Fail> {
-    if !node.settled(3000) {
-        return Err(Fail::new("something is due"));
-    }
-    node.send(3000, outgoing, outs)?;
-    Ok(())
-}
-
-/// What the upper layer sends: to a multicast address at once, without a next hop nowhere, and to a neighbour once its address is known,
-/// for which it is solicited (RFC 4861, sections 5.2 and 7.2.2).
-#[test]
-fn packets_are_sent(rt: HostRuntime) -> Result<(), Fail> {
-    let generator = Pcg32::seed_from_u64(0);
-    let Ok(mut node) = Node::new(rt.alloc(), Role::Host, MAC, 0, generator) else {
-        return Err(Fail::new("no memory"));
-    };
-    let mut events = Vec::new(rt.alloc());
-    events.push((3000, Event::Passes))?;
-    let mut outs = Vec::new(rt.alloc());
-    node.run(&events, &mut outs)?;
-    let mut payload = Vec::new(rt.alloc());
-    payload.extend_from_slice(&[1, 2, 3])?;
-    let mut outgoing = OutgoingPacket {
-        source: Addr([
-            0xfe, 0x80, 0, 0, 0, 0, 0, 0, 0x36, 0x56, 0x78, 0xff, 0xfe, 0x9a, 0xbc, 0xde,
-        ]),
-        destination: Addr::ALL_NODES,
-        next_header: 17,
-        payload,
-    };
-    send(&mut node, &outgoing, &mut outs)?;
-    outgoing.destination = Addr([0x20, 1, 0xd, 0xb8, 0, 0, 0, 0, 0, 0, 0, 0, 0, 0, 0, 1]);
-    send(&mut node, &outgoing, &mut outs)?;
-    outgoing.destination = Addr([0xfe, 0x80, 0, 0, 0, 0, 0, 0, 0, 0, 0, 0, 0, 0, 0, 1]);
-    send(&mut node, &outgoing, &mut outs)?;
-    outgoing.source = Addr::UNSPECIFIED;
-    send(&mut node, &outgoing, &mut outs)?;
-    let mut text = String::new(rt.alloc());
-    write_outs(&mut text, &outs)?;
-    let wanted = format!(in rt.alloc();
-        "{STARTED}3000 tx 3333000000013456789abcde86dd6000000000031140fe80000000000000365678fffe9abcdeff020000000000000000000000000001010203\n3000 lost no-route fe80::3656:78ff:fe9a:bcde 2001:db8::1\n3000 tx 3333ff0000013456789abcde86dd6000000000203afffe80000000000000365678fffe9abcdeff0200000000000000000001ff0000018700a7fc00000000fe80000000000000000000000000000101013456789abcde\n3000 refused not-ours ::\n"
-    )?;
-    assert_eq!(rt; text.as_str(), wanted.as_str());
-    Ok(())
-}
-
 /// What is told of events at a host that starts at 0.
 fn told_of(alloc: Global, events: &[(u64, Event<Global>)]) -> Result<String<Global>, Fail>
     requires { AreEarly events.now }
@@ -136,6 +85,36 @@ fn told_of(alloc: Global, events: &[(u64, Event<Global>)]) -> Result<String<Glob
     let mut text = String::new(alloc);
     write_outs(&mut text, &outs)?;
     Ok(text)
+}
+
+/// A packet of three bytes is to be sent.
+fn sends_from(alloc: Global, source: Addr, destination: Addr) -> Result<Event<Global>, Fail> {
+    let mut payload = Vec::new(alloc);
+    payload.extend_from_slice(&[1, 2, 3])?;
+    Ok(Event::Sends(OutgoingPacket {
+        source,
+        destination,
+        next_header: 17,
+        payload,
+    }))
+}
+
+/// What the upper layer sends: to a multicast address at once, without a next hop nowhere, and to a neighbour once its address is known,
+/// for which it is solicited (RFC 4861, sections 5.2 and 7.2.2).
+#[test]
+fn packets_are_sent(rt: HostRuntime) -> Result<(), Fail> {
+    let strange = Addr([0x20, 1, 0xd, 0xb8, 0, 0, 0, 0, 0, 0, 0, 0, 0, 0, 0, 1]);
+    let mut events = Vec::new(rt.alloc());
+    events.push((3000, sends_from(rt.alloc(), OWN, Addr::ALL_NODES)?))?;
+    events.push((3000, sends_from(rt.alloc(), OWN, strange)?))?;
+    events.push((3000, sends_from(rt.alloc(), OWN, NEIGHBOUR)?))?;
+    events.push((3000, sends_from(rt.alloc(), Addr::UNSPECIFIED, NEIGHBOUR)?))?;
+    let text = told_of(rt.alloc(), &events)?;
+    let wanted = format!(in rt.alloc();
+        "{STARTED}3000 tx 3333000000013456789abcde86dd6000000000031140fe80000000000000365678fffe9abcdeff020000000000000000000000000001010203\n3000 lost no-route fe80::3656:78ff:fe9a:bcde 2001:db8::1\n3000 tx 3333ff0000013456789abcde86dd6000000000203afffe80000000000000365678fffe9abcdeff0200000000000000000001ff0000018700a7fc00000000fe80000000000000000000000000000101013456789abcde\n3000 refused not-ours ::\n"
+    )?;
+    assert_eq!(rt; text.as_str(), wanted.as_str());
+    Ok(())
 }
 
 /// A neighbour that an upper layer confirms is REACHABLE (RFC 4861, section 7.3.1).

@@ -1,6 +1,6 @@
-use super::*;
 use nd_addr::Addr;
 use nd_decode::{Body, NeighborSolicitation};
+use nd_out::*;
 use nd_waiting::Packet;
 use std::alloc::Global;
 use std::test::*;

@@ -1,0 +1,12 @@
+//! Tests of a link: what its events tell, and the lines and the text of `link`. They stand here, so that no crate is proved a second time
+//! for its tests. There is nothing here but tests.
+#![tactic(auto)]
+
+#[cfg(test)]
+mod lines;
+#[cfg(test)]
+mod link;
+#[cfg(test)]
+mod runs;
+#[cfg(test)]
+mod told;

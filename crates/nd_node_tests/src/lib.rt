@@ -1,0 +1,20 @@
+//! Tests of a node, and of what it is made of beside its tables, over their public calls alone: messages, next hops, routes, what is
+//! advertised, frames, rows. They stand here, so that nothing is proved a second time for its tests. There is nothing here but tests.
+#![tactic(auto)]
+
+#[cfg(test)]
+mod advertiser;
+#[cfg(test)]
+mod frames;
+#[cfg(test)]
+mod messages;
+#[cfg(test)]
+mod next_hop;
+#[cfg(test)]
+mod node;
+#[cfg(test)]
+mod node_lines;
+#[cfg(test)]
+mod routes;
+#[cfg(test)]
+mod rows;
