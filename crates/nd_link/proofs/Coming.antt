@@ -1,5 +1,6 @@
 -- Events that come to a link, one after the other.
 use Rattle.std.proofs.Common.{◌≡◌, ℕ, List, [], ◌∷◌, ◌++◌, append-nil, append_assoc, length, take, refl, sym, ◌∙◌, ap, subst}
+use Rattle.std.specs.Prelude.{Result, Ok, Err, IsErrAnd, IsErrOf}
 use Rattle.std.proofs.lemmas.List.{map-append}
 use Rattle.std.proofs.lemmas.List.Elements.{All-nil, All-push}
 use Rattle.rand_core.specs.Stream.{Stream}
@@ -12,8 +13,8 @@ use Rattle.nd_link.specs.declared.event.LinkEvent.{LinkEvent}
 use Rattle.nd_link.specs.declared.link.Link.{Link}
 use Rattle.nd_link.specs.declared.told.Told.{Told}
 use Rattle.nd_link.specs.Event.{AreEarly, link_event, link_events}
-use Rattle.nd_link.specs.Run.{FollowsBy, RunsBy, RunsInPart}
-use Rattle.nd_link.specs.Time.{Leads, Onward, TellsOf}
+use Rattle.nd_link.specs.Run.{FollowsBy, RunsBy, RunsInPart, RunsUpTo}
+use Rattle.nd_link.specs.Time.{Leads, Onward, Passes, TellsOf}
 use Rattle.nd_link.proofs.Walks.{told_same, told_then}
 
 -- more come behind those that came
@@ -27,6 +28,11 @@ take_front (x ∷ xs) ys = ap (λ l. x ∷ l) (take_front xs ys)
 
 early_rest : {R A : Type 0} (e : ℕ × LinkEvent R A) (rest all : List (ℕ × LinkEvent R A)) → all ≡ e ∷ rest → AreEarly all → AreEarly rest
 early_rest {R} {A} e rest all is early = (subst (λ (l : List (ℕ × LinkEvent R A)). AreEarly l) is early).1
+
+-- an error that is handed on is the one that came
+pub handed_on : {T E : Type 0} (r : Result T E) (e fault : E) → IsErrAnd r (λ x. x ≡ e) → IsErrOf r fault → IsErrOf {T = T} (Err e) fault
+handed_on (Ok x) e fault handed is = absurd handed
+handed_on (Err x) e fault handed is = ap (λ y. Err y) (sym handed) ∙ is
 
 -- of the events these came, and those are left
 pub record Came {W R A : Type 0} (Faithful : Type 0) (stream : R → Stream) (origin link : Link W R A) (x y : List (Told A)) (all rest : List (ℕ × LinkEvent R A)) : Type 0 where
@@ -69,17 +75,34 @@ module _ {W R A : Type 0} (Faithful : Type 0) (stream : R → Stream) where
       };
     }
 
+    -- those that came are the first ones
+    first_ones : (log d : Log) → Runs usual_limits log (link_events stream c.came) d → Runs usual_limits log (take (length (link_events stream c.came)) (link_events stream all)) d
+    first_ones log d runs =
+        let events = link_events stream c.came in
+        let split : link_events stream all ≡ events ++ link_events stream before = ap (link_events stream) c.all_is ∙ map-append (λ (v : ℕ × LinkEvent R A). (v.0, link_event stream v.1)) c.came before in
+        let few : events ≡ take (length events) (link_events stream all) = sym (take_front events (link_events stream before)) ∙ ap (take (length events)) (sym split) in
+        subst (λ (v : List (ℕ × Event)). Runs usual_limits log v d) few runs
+
     pub came_in_part : Faithful → TellsOf stream old y z (Onward e.0) → TellsOf stream origin x z (RunsInPart (link_events stream all))
     came_in_part faithful next = record {
       each = λ log s.
           let l = (c.sofar faithful).each log s in
-          let n = next.each l.0 l.2 in
-          let events = link_events stream c.came in
-          let split : link_events stream all ≡ events ++ link_events stream before = ap (link_events stream) c.all_is ∙ map-append (λ (v : ℕ × LinkEvent R A). (v.0, link_event stream v.1)) c.came before in
-          let few : events ≡ take (length events) (link_events stream all) = sym (take_front events (link_events stream before)) ∙ ap (take (length events)) (sym split) in (
+          let n = next.each l.0 l.2 in (
             n.0,
-            (length events, e.0, l.0, subst (λ (v : List (ℕ × Event)). Runs usual_limits log v l.0) few l.1, n.1),
+            (length (link_events stream c.came), e.0, l.0, first_ones log l.0 l.1, n.1),
             told_then log l.0 n.0 x y z l.3 n.2,
+          );
+    }
+
+    pub came_up_to : Faithful → Leads stream old new y z (Passes e.0) → Leads stream origin new x z (RunsUpTo (link_events stream all))
+    came_up_to faithful next = record {
+      each = λ log s.
+          let l = (c.sofar faithful).each log s in
+          let n = next.each l.0 l.2 in (
+            n.0,
+            (length (link_events stream c.came), e.0, l.0, first_ones log l.0 l.1, n.1),
+            n.2,
+            told_then log l.0 n.0 x y z l.3 n.3,
           );
     }
 

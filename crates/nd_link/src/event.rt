@@ -9,7 +9,7 @@ ghost use Rattle.nd_link.specs.Due.{AreSettled};
 ghost use Rattle.nd_link.specs.Event.{AreEarly, link_event, link_events};
 ghost use Rattle.nd_link.specs.Holder.{KeepsOneHolder};
 ghost use Rattle.nd_link.specs.Link.{Stands};
-ghost use Rattle.nd_link.specs.Run.{FollowsBy, RunsBy, RunsInPart};
+ghost use Rattle.nd_link.specs.Run.{FollowsBy, RunsBy, RunsInPart, RunsUpTo};
 ghost use Rattle.nd_link.specs.Time.{Leads, Onward, Passes, TellsOf};
 
 use crate::fault::LinkFault;
@@ -89,7 +89,8 @@ impl<W: Wire, R: Rng + Drop, A: Allocator + Copy> Link<W, R, A> {
     }
 
     /// Events come, one after the other, each at its moment, in milliseconds. A fault ends them: then some have come, the first ones, and of what
-    /// is due up to the next one a part may have come too; all that is told.
+    /// is due up to the next one a part may have come too; all that is told. Where memory is refused the link is spent. Where its wire fails, all that
+    /// was due up to that event has come, and the link is in use as before.
     ///
     /// Where no fault came since the link was made and its log is timely, no address is preferred or deprecated at two nodes, at no moment up to
     /// the last one (RFC 4862, section 5.4).
@@ -102,8 +103,12 @@ impl<W: Wire, R: Rng + Drop, A: Allocator + Copy> Link<W, R, A> {
         ensures runs { IsFaithful W.arrives → OnOk result (Leads R.stream self.old self.new told.old.items told.new.items (RunsBy (link_events R.stream events.items))) }
         ensures one_holder { IsFaithful W.arrives → OnOk result (KeepsOneHolder R.stream self.old self.new (link_events R.stream events.items)) }
         ensures in_part { IsFaithful W.arrives → OnErr result (TellsOf R.stream self.old told.old.items told.new.items (RunsInPart (link_events R.stream events.items))) }
+        ensures passes { IsFaithful W.arrives → IsErrOf result LinkFault.Wire → Leads R.stream self.old self.new told.old.items told.new.items (RunsUpTo (link_events R.stream events.items)) }
         ensures wire_failed { IsErrOf result LinkFault.Wire → HasRisen (W.failed self.old.wire) (W.failed self.new.wire) }
         ensures never_falls { W.failed self.old.wire ≤ W.failed self.new.wire }
+        ensures spent { IsErrOf result LinkFault.Memory → self.new.spent ≡ true }
+        ensures unspent { OnOk result (self.new.spent ≡ self.old.spent) }
+        ensures unspent_by_wire { IsErrOf result LinkFault.Wire → self.new.spent ≡ self.old.spent }
     {
         for (at, event) in events {
             self.event(at, event, told)?;

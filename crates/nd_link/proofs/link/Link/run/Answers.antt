@@ -1,10 +1,10 @@
-use Rattle.std.proofs.Common.{◌≡◌, length, sym, arith}
+use Rattle.std.proofs.Common.{◌≡◌, length, refl, sym, ◌∙◌, arith}
 use Rattle.std.proofs.lemmas.List.{nil_from_length}
 use Rattle.std.specs.Vec.Iter.{into_iter_items}
 use Rattle.nd_wire.specs.Wire.{IsFaithful}
 use Rattle.nd_node.proofs.Running.{on_err_any}
 use Rattle.nd_link.specs.Event.{link_events}
-use Rattle.nd_link.proofs.Coming.{all_came, all_of_bytes, came_in_part, none_came, one_came}
+use Rattle.nd_link.proofs.Coming.{all_came, all_of_bytes, came_in_part, came_up_to, handed_on, none_came, one_came}
 use Rattle.nd_link.proofs.Holder.{keeps_one_holder}
 use Rattle.nd_link.proofs.link.Link.run.Goals as goal
 
@@ -12,6 +12,7 @@ pub loop-at-init : goal.loop-at-init
 loop-at-init g c = record {
   came = none_came (IsFaithful g.W.Wire.arrives) g.R.Rng.stream c.args.self.now c.args.told.now.items c.args.events.items (into_iter_items c.into_iter-at-iterator.result) (sym c.into_iter-at-iterator.ensures.into_iter_gives.0) c.requires;
   never_falls = omega arith;
+  spent = refl;
 }
 
 pub loop-at-preserved : goal.loop-at-preserved
@@ -22,6 +23,7 @@ loop-at-preserved g c =
       came = one_came (IsFaithful g.W.Wire.arrives) g.R.Rng.stream c.args.self.now c.loop-at.self c.event.new.self c.args.told.now.items c.loop-at.told.items c.event.new.told.items c.args.events.items
           (into_iter_items c.loop-at.at-iterator) (into_iter_items c.next.new.self) (c.in-Some.at, c.in-Some.event) c.in-Some.ensures.steps.0 inv.came c.in_ok-event.ensures.bytes c.in_ok-event.ensures.follows;
       never_falls = omega (arith, before, more);
+      spent = c.in_ok-event.ensures.unspent ∙ inv.spent;
     }
 
 pub returns-in_err-event-clause-in_part : goal.returns-in_err-event-clause-in_part
@@ -29,6 +31,12 @@ returns-in_err-event-clause-in_part g c = λ faithful.
     on_err_any c.from_residual.result _
     (came_in_part (IsFaithful g.W.Wire.arrives) g.R.Rng.stream c.args.self.now c.loop-at.self c.event.new.self c.args.told.now.items c.loop-at.told.items c.event.new.told.items c.args.events.items
     (into_iter_items c.loop-at.at-iterator) (into_iter_items c.next.new.self) (c.in-Some.at, c.in-Some.event) c.in-Some.ensures.steps.0 c.loop-at.invariant.came faithful c.in_err-event.ensures.told)
+
+pub returns-in_err-event-clause-passes : goal.returns-in_err-event-clause-passes
+returns-in_err-event-clause-passes g c = λ faithful wire.
+    came_up_to (IsFaithful g.W.Wire.arrives) g.R.Rng.stream c.args.self.now c.loop-at.self c.event.new.self c.args.told.now.items c.loop-at.told.items c.event.new.told.items c.args.events.items
+    (into_iter_items c.loop-at.at-iterator) (into_iter_items c.next.new.self) (c.in-Some.at, c.in-Some.event) c.in-Some.ensures.steps.0 c.loop-at.invariant.came faithful
+    (c.in_err-event.ensures.passes (handed_on c.from_residual.result _ _ c.from_residual.ensures.1 wire))
 
 pub returns-clause-runs : goal.returns-clause-runs
 returns-clause-runs g c = λ faithful.
