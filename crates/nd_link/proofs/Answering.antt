@@ -14,9 +14,9 @@ use Rattle.nd_node.specs.Node as node
 use Rattle.nd_node.specs.Node.{starting, usual_limits}
 use Rattle.nd_link_log.specs.Log.{Log, Carries, Refuses, TooLate, NoNode, NoFrame, Own, last_moment, nodes, sent}
 use Rattle.nd_link_log.specs.Event as links
-use Rattle.nd_link_log.specs.Event.{AddsDelivery, AddsRows, Event, max_nodes}
+use Rattle.nd_link_log.specs.Event.{AddsRows, Event, max_nodes}
 use Rattle.nd_link_log.specs.Told.{lines_of, text}
-use Rattle.nd_wire.specs.Wire.{IsFaithful}
+use Rattle.nd_wire.specs.Wire.{IsFaithfulTo}
 use Rattle.nd_link.specs.declared.link.Link.{Link}
 use Rattle.nd_link.specs.declared.told.Told.{Told}
 use Rattle.nd_link.specs.Arrival.{Arrives, Happens, IsRefused, reached}
@@ -145,13 +145,14 @@ module _ {W R A : Type 0} (stream : R → Stream) where
     refused_delivery refusals.Full none = absurd none
     refused_delivery (refusals.TooLate last) none = absurd none
 
-    -- over a wire that is faithful what arrives is what was sent
-    pub delivered : (arrives : List ℕ → List ℕ → Type 0) (way : ℕ × ℕ) (bytes : List ℕ) → IsFaithful arrives → Goes (length old.nodes.items) old.frames.items to number way → Arrived arrives old.frames.items way.1 bytes
+    -- over a wire that is faithful to the node what arrives is what was sent
+    pub delivered : (arrives : ℕ → List ℕ → List ℕ → Type 0) (way : ℕ × ℕ) (bytes : List ℕ) → IsFaithfulTo to arrives → Goes (length old.nodes.items) old.frames.items to number way → Arrived arrives way.0 old.frames.items way.1 bytes
         → Leads stream old new x y (Arrives now way.0 (nodes.Receives bytes) (Some number)) → Leads stream old new x y (Happens now (links.Delivers to number))
     delivered arrives way bytes faithful goes arrived =
         let there = subst (λ (k : ℕ). slice_get old.frames.items k ≡ Some arrived.sent) goes.number_is arrived.is in
         let same = get_same old.frames.items number arrived.sent goes.frame.sent there goes.frame.is in
-        let bytes_are : bytes ≡ goes.frame.sent.frame.items = faithful arrived.sent.frame.items bytes arrived.arrived ∙ ap (λ (f : SentFrame A). f.frame.items) same in
+        let here = subst (λ (k : ℕ). arrives k arrived.sent.frame.items bytes) goes.place arrived.arrived in
+        let bytes_are : bytes ≡ goes.frame.sent.frame.items = faithful arrived.sent.frame.items bytes here ∙ ap (λ (f : SentFrame A). f.frame.items) same in
         leads_to old new x y (Arrives now way.0 (nodes.Receives bytes) (Some number)) (Happens now (links.Delivers to number))
         (λ log d s is. delivery goes.there goes.frame log d s (not_taken (goes.frame.sent.sender == to) _ _ (apart goes.frame.sent.sender to goes.other)
         (subst (λ (k : ℕ). AddsRows usual_limits now k (nodes.Receives goes.frame.sent.frame.items) (Carries k now number ∷ reached now log) d) goes.place

@@ -17,9 +17,9 @@ use Rattle.nd_effects.specs.Told.{frames_in, happenings}
 use Rattle.nd_node.specs.declared.node.Node.{Node}
 use Rattle.nd_node.specs.Event.{AddsEvent}
 use Rattle.nd_node.specs.Node as node
-use Rattle.nd_node.specs.Node.{next_of, usual_limits}
+use Rattle.nd_node.specs.Node.{next_of}
 use Rattle.nd_link_log.specs.Log as logs
-use Rattle.nd_link_log.specs.Log.{Log, Carries, Refuses, adding, chronicle_of, last_moment, nodes, start_of}
+use Rattle.nd_link_log.specs.Log.{Log, Refuses, adding, chronicle_of, last_moment, nodes, start_of}
 use Rattle.nd_link_log.specs.Told.{lines_of, text}
 use Rattle.nd_link_log.proofs.Moments.{EachAt, each_in, moment_with, newest_moment}
 use Rattle.nd_link.specs.declared.link.Link.{Link}

@@ -34,6 +34,10 @@ pub handed_on : {T E : Type 0} (r : Result T E) (e fault : E) → IsErrAnd r (λ
 handed_on (Ok x) e fault handed is = absurd handed
 handed_on (Err x) e fault handed is = ap (λ y. Err y) (sym handed) ∙ is
 
+pub handed_back : {T E : Type 0} (r : Result T E) (e fault : E) → IsErrAnd r (λ x. x ≡ e) → IsErrOf {T = T} (Err e) fault → IsErrOf r fault
+handed_back (Ok x) e fault handed is = absurd handed
+handed_back (Err x) e fault handed is = ap (λ y. Err y) handed ∙ is
+
 -- of the events these came, and those are left
 pub record Came {W R A : Type 0} (Faithful : Type 0) (stream : R → Stream) (origin link : Link W R A) (x y : List (Told A)) (all rest : List (ℕ × LinkEvent R A)) : Type 0 where
   pub came : List (ℕ × LinkEvent R A)

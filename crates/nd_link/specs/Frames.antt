@@ -21,8 +21,8 @@ kept_frame kept = (kept.sender, kept.frame.items)
 abbrev pub kept_frames : {A : Type 0} → List (SentFrame A) → List (ℕ × List ℕ)
 kept_frames kept = map kept_frame kept
 
--- what arrives of the frame at a place, by what may arrive of a frame
-pub record Arrived {A : Type 0} (arrives : List ℕ → List ℕ → Type 0) (kept : List (SentFrame A)) (place : ℕ) (bytes : List ℕ) : Type 0 where
+-- what arrives at a node of the frame at a place, by what may arrive there of a frame
+pub record Arrived {A : Type 0} (arrives : ℕ → List ℕ → List ℕ → Type 0) (to : ℕ) (kept : List (SentFrame A)) (place : ℕ) (bytes : List ℕ) : Type 0 where
   pub sent : SentFrame A
   pub is : slice_get kept place ≡ Some sent
-  pub arrived : arrives sent.frame.items bytes
+  pub arrived : arrives to sent.frame.items bytes

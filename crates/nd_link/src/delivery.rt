@@ -1,7 +1,6 @@
-ghost use Rattle.std.specs.Prelude.{◌≡◌, ◌^◌, ◌<◌, ◌≤◌, IfNone, IfOk, IfSome, IsErrOf, OnErr, OnOk, vec_len};
-ghost use Rattle.nd_io.specs.Counts.{HasRisen};
+ghost use Rattle.std.specs.Prelude.{◌≡◌, ◌≢◌, ◌^◌, ◌<◌, ◌≤◌, Err, IfNone, IfOk, IfSome, IsErrOf, OnErr, OnOk, vec_len};
 ghost use Rattle.nd_node.specs.Event.{event_of};
-ghost use Rattle.nd_wire.specs.Wire.{IsFaithful};
+ghost use Rattle.nd_wire.specs.Wire.{IsFaithfulTo, one_more};
 ghost use Rattle.nd_link_log.specs.Log.{Log};
 ghost use Rattle.nd_link_log.specs.Event.{Comes, Delivers};
 ghost use Rattle.nd_link.specs.Arrival.{Happens};
@@ -58,11 +57,11 @@ impl<W: Wire, R: Rng + Drop, A: Allocator + Copy> Link<W, R, A> {
         requires moment { now < 2 ^ 62 }
         requires settled { AreSettled now self.old.nodes.items }
         requires in_time { self.old.last ≤ now }
-        ensures leads { IsFaithful W.arrives → OnOk result (Leads R.stream self.old self.new told.old.items told.new.items (Happens now (Delivers node number))) }
+        ensures leads { IsFaithfulTo node W.arrives → OnOk result (Leads R.stream self.old self.new told.old.items told.new.items (Happens now (Delivers node number))) }
         ensures told { OnErr result (told.new.items ≡ told.old.items) }
         ensures stands { IsErrOf result LinkFault.Wire → (log : Log) → Stands R.stream self.old log → Stands R.stream self.new log }
-        ensures fault { IsErrOf result LinkFault.Wire → HasRisen (W.failed self.old.wire) (W.failed self.new.wire) }
-        ensures never_falls { W.failed self.old.wire ≤ W.failed self.new.wire }
+        ensures fault { IsErrOf result LinkFault.Wire → W.failed self.new.wire ≡ one_more (W.failed self.old.wire) }
+        ensures no_fault { result ≢ Err LinkFault.Wire → W.failed self.new.wire ≡ W.failed self.old.wire }
         ensures spent { self.new.spent ≡ self.old.spent }
     {
         match way(node, number, self.nodes.len(), &self.frames) {
@@ -77,13 +76,13 @@ impl<W: Wire, R: Rng + Drop, A: Allocator + Copy> Link<W, R, A> {
     /// What arrives at a node of a frame that was sent.
     fn carried(&mut self, to: usize, sent: usize) -> Result<Vec<u8, A>, LinkFault>
         requires there { sent < vec_len self.old.frames }
-        ensures arrives { IfOk result (λ frame. Arrived W.arrives self.old.frames.items sent frame.items) }
+        ensures arrives { IfOk result (λ frame. Arrived W.arrives to self.old.frames.items sent frame.items) }
         ensures same { self.new.nodes ≡ self.old.nodes }
         ensures frames { self.new.frames ≡ self.old.frames }
         ensures last { self.new.last ≡ self.old.last }
         ensures spent { self.new.spent ≡ self.old.spent }
-        ensures fault { IsErrOf result LinkFault.Wire → HasRisen (W.failed self.old.wire) (W.failed self.new.wire) }
-        ensures never_falls { W.failed self.old.wire ≤ W.failed self.new.wire }
+        ensures fault { IsErrOf result LinkFault.Wire → W.failed self.new.wire ≡ one_more (W.failed self.old.wire) }
+        ensures no_fault { result ≢ Err LinkFault.Wire → W.failed self.new.wire ≡ W.failed self.old.wire }
     {
         let sent = &self.frames[sent].frame;
         let mut frame = Vec::with_capacity(self.alloc, sent.len())?;

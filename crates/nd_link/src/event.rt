@@ -1,7 +1,6 @@
-ghost use Rattle.std.specs.Prelude.{◌≡◌, ◌≤◌, ◌<◌, ◌^◌, Err, IsErrOf, OnErr, OnOk, true};
+ghost use Rattle.std.specs.Prelude.{◌≡◌, ◌≢◌, ◌≤◌, ◌<◌, ◌^◌, Err, IsErrOf, OnErr, OnOk, true};
 ghost use Rattle.nd_addr.specs.Bytes.{IsBytes};
-ghost use Rattle.nd_io.specs.Counts.{HasRisen};
-ghost use Rattle.nd_wire.specs.Wire.{IsFaithful};
+ghost use Rattle.nd_wire.specs.Wire.{IsFaithful, one_more};
 ghost use Rattle.nd_link_log.specs.Log.{Log};
 ghost use Rattle.nd_link_log.specs.Bytes.{IsOfBytes};
 ghost use Rattle.nd_link.specs.Arrival.{Happens};
@@ -69,8 +68,8 @@ impl<W: Wire, R: Rng + Drop, A: Allocator + Copy> Link<W, R, A> {
         ensures follows { IsFaithful W.arrives → OnOk result (Leads R.stream self.old self.new told.old.items told.new.items (FollowsBy now (link_event R.stream event))) }
         ensures told { OnErr result (TellsOf R.stream self.old told.old.items told.new.items (Onward now)) }
         ensures passes { IsErrOf result LinkFault.Wire → Leads R.stream self.old self.new told.old.items told.new.items (Passes now) }
-        ensures wire_failed { IsErrOf result LinkFault.Wire → HasRisen (W.failed self.old.wire) (W.failed self.new.wire) }
-        ensures never_falls { W.failed self.old.wire ≤ W.failed self.new.wire }
+        ensures wire_failed { IsErrOf result LinkFault.Wire → W.failed self.new.wire ≡ one_more (W.failed self.old.wire) }
+        ensures wire_carried { result ≢ Err LinkFault.Wire → W.failed self.new.wire ≡ W.failed self.old.wire }
         ensures spent { IsErrOf result LinkFault.Memory → self.new.spent ≡ true }
         ensures stays_spent { self.old.spent ≡ true → result ≡ Err LinkFault.Memory }
         ensures unspent { OnOk result (self.new.spent ≡ self.old.spent) }
@@ -104,8 +103,8 @@ impl<W: Wire, R: Rng + Drop, A: Allocator + Copy> Link<W, R, A> {
         ensures one_holder { IsFaithful W.arrives → OnOk result (KeepsOneHolder R.stream self.old self.new (link_events R.stream events.items)) }
         ensures in_part { IsFaithful W.arrives → OnErr result (TellsOf R.stream self.old told.old.items told.new.items (RunsInPart (link_events R.stream events.items))) }
         ensures passes { IsFaithful W.arrives → IsErrOf result LinkFault.Wire → Leads R.stream self.old self.new told.old.items told.new.items (RunsUpTo (link_events R.stream events.items)) }
-        ensures wire_failed { IsErrOf result LinkFault.Wire → HasRisen (W.failed self.old.wire) (W.failed self.new.wire) }
-        ensures never_falls { W.failed self.old.wire ≤ W.failed self.new.wire }
+        ensures wire_failed { IsErrOf result LinkFault.Wire → W.failed self.new.wire ≡ one_more (W.failed self.old.wire) }
+        ensures wire_carried { result ≢ Err LinkFault.Wire → W.failed self.new.wire ≡ W.failed self.old.wire }
         ensures spent { IsErrOf result LinkFault.Memory → self.new.spent ≡ true }
         ensures unspent { OnOk result (self.new.spent ≡ self.old.spent) }
         ensures unspent_by_wire { IsErrOf result LinkFault.Wire → self.new.spent ≡ self.old.spent }
@@ -127,8 +126,8 @@ impl<W: Wire, R: Rng + Drop, A: Allocator + Copy> Link<W, R, A> {
         ensures follows { IsFaithful W.arrives → OnOk result (Leads R.stream self.old self.new told.old.items told.new.items (FollowsBy now (link_event R.stream event))) }
         ensures told { OnErr result (TellsOf R.stream self.old told.old.items told.new.items (Onward now)) }
         ensures passes { IsErrOf result LinkFault.Wire → Leads R.stream self.old self.new told.old.items told.new.items (Passes now) }
-        ensures wire_failed { IsErrOf result LinkFault.Wire → HasRisen (W.failed self.old.wire) (W.failed self.new.wire) }
-        ensures never_falls { W.failed self.old.wire ≤ W.failed self.new.wire }
+        ensures wire_failed { IsErrOf result LinkFault.Wire → W.failed self.new.wire ≡ one_more (W.failed self.old.wire) }
+        ensures wire_carried { result ≢ Err LinkFault.Wire → W.failed self.new.wire ≡ W.failed self.old.wire }
         ensures spent { self.new.spent ≡ self.old.spent }
     {
         if now < self.last {
@@ -152,8 +151,8 @@ impl<W: Wire, R: Rng + Drop, A: Allocator + Copy> Link<W, R, A> {
         ensures leads { IsFaithful W.arrives → OnOk result (Leads R.stream self.old self.new told.old.items told.new.items (Happens now (link_event R.stream event))) }
         ensures told { OnErr result (told.new.items ≡ told.old.items) }
         ensures stands { IsErrOf result LinkFault.Wire → (log : Log) → Stands R.stream self.old log → Stands R.stream self.new log }
-        ensures fault { IsErrOf result LinkFault.Wire → HasRisen (W.failed self.old.wire) (W.failed self.new.wire) }
-        ensures never_falls { W.failed self.old.wire ≤ W.failed self.new.wire }
+        ensures fault { IsErrOf result LinkFault.Wire → W.failed self.new.wire ≡ one_more (W.failed self.old.wire) }
+        ensures no_fault { result ≢ Err LinkFault.Wire → W.failed self.new.wire ≡ W.failed self.old.wire }
         ensures spent { self.new.spent ≡ self.old.spent }
     {
         match event {

@@ -1,6 +1,7 @@
 -- What lines lead a link to.
-use Rattle.std.proofs.Common.{◌≡◌, ◌≢◌, ◌+◌, ℕ, List, [], ◌∷◌, ◌++◌, Option, None, Ok, Err, refl, sym, ap, subst, ◌∙◌, append_assoc, arith, ◌^◌, ◌-◌}
+use Rattle.std.proofs.Common.{◌≡◌, ◌≢◌, ◌<◌, ◌+◌, ℕ, List, [], ◌∷◌, ◌++◌, Option, None, Ok, Err, refl, sym, ap, subst, ◌∙◌, append_assoc, arith, ◌^◌, ◌-◌}
 use Rattle.std.proofs.lemmas.List.{append_cancel_left}
+use Rattle.std.proofs.lemmas.Bool.{eqb-false, ltb-false}
 use Rattle.std.proofs.lemmas.Bool.Decides.{Decides-eqb, Decides-ltb}
 use Rattle.std.specs.Prelude.{Result, OnOk, OnErr, IsErrOf, Bool, true, false, ◌||◌, ◌==◌, nat_lt, if◌then◌else◌}
 use Rattle.nd_io.specs.Counts.{HasRisen}
@@ -31,7 +32,7 @@ use Rattle.nd_link_script.proofs.LinkLines.{one_link_line}
 
 -- ---- the answer to an event
 
-module _ {W R A : Type 0} (arrives : List ℕ → List ℕ → Type 0) (stream : R → Stream) (old new : Link W R A) (at : ℕ) (event : Event) where
+module _ {W R A : Type 0} (arrives : ℕ → List ℕ → List ℕ → Type 0) (stream : R → Stream) (old new : Link W R A) (at : ℕ) (event : Event) where
   pub event_answered : (told : List (Told A)) (before after : List ℕ) → (IsFaithful arrives → time.Leads stream old new [] told (FollowsBy at event)) → after ≡ before ++ told_text told
       → AnswersEvent arrives stream old new at event before after
   event_answered told before after leads written = record {
@@ -58,7 +59,7 @@ module _ {W R A : Type 0} (arrives : List ℕ → List ℕ → Type 0) (stream :
   }
 
 -- what a link tells is the text from each log that it stands for
-pub from_log : {W R A : Type 0} (arrives : List ℕ → List ℕ → Type 0) (stream : R → Stream) (link : Link W R A) (log : Log) → IsFaithful arrives → Stands stream link log → Allows (Leads arrives stream link) (RunsOn log)
+pub from_log : {W R A : Type 0} (arrives : ℕ → List ℕ → List ℕ → Type 0) (stream : R → Stream) (link : Link W R A) (log : Log) → IsFaithful arrives → Stands stream link log → Allows (Leads arrives stream link) (RunsOn log)
 from_log arrives stream link log faithful s n lines told found given = given.each faithful log s
 
 -- ---- the first few lines
@@ -123,6 +124,13 @@ either_risen T before after true u e d is = let lt = (Decides-ltb before after).
 either_risen T before after false true e d is = let at = (Decides-eqb after (2 ^ 64 - 1)).0 d in omega (arith, at)
 either_risen T before after false false e d is = absurd (let no : ⊥ = cc in no)
 
+either_unrisen : (T : Type 0) (before after : ℕ) (t u : Bool) → after < 2 ^ 64 → nat_lt before after ≡ t → (after == 2 ^ 64 - 1) ≡ u → told_by {T = T} (t || u) ≡ Err faults.Memory → HasRisen before after → ⊥
+either_unrisen T before after true u small e d is risen = let no : ⊥ = cc in no
+either_unrisen T before after false true small e d is risen = let no : ⊥ = cc in no
+either_unrisen T before after false false small e d is risen =
+    let same = ltb-false before after e in
+    eqb-false after (2 ^ 64 - 1) d (omega (arith, same, small, risen))
+
 module _ {T : Type 0} (before after : ℕ) where
   on_ok_of : (r : Result T ToolFault) (P Q : Type 0) → (P → Q) → OnOk r P → OnOk (fault_of before after r) Q
   on_ok_of (Ok x) P Q f h = f h
@@ -157,6 +165,14 @@ module _ {T : Type 0} (before after : ℕ) where
   wire_fault (Err faults.Write) never is = absurd (let no : ⊥ = cc in no)
   wire_fault (Err faults.Wire) never is = absurd (never refl)
 
+  memory_fault : (r : Result T ToolFault) → after < 2 ^ 64 → IsErrOf (fault_of before after r) faults.Memory → HasRisen before after → ⊥
+  memory_fault (Ok x) small is risen = let no : ⊥ = cc in no
+  memory_fault (Err faults.Memory) small is risen = either_unrisen T before after (nat_lt before after) (after == 2 ^ 64 - 1) small refl refl is risen
+  memory_fault (Err (faults.Line n)) small is risen = let no : ⊥ = cc in no
+  memory_fault (Err faults.Read) small is risen = let no : ⊥ = cc in no
+  memory_fault (Err faults.Write) small is risen = let no : ⊥ = cc in no
+  memory_fault (Err faults.Wire) small is risen = let no : ⊥ = cc in no
+
 -- the same of what a run is told to have ended with
 module _ {T : Type 0} (before after : ℕ) (r out : Result T ToolFault) (is : out ≡ fault_of before after r) where
   pub ok_told : (P Q : Type 0) → (P → Q) → OnOk r P → OnOk out Q
@@ -171,3 +187,8 @@ module _ {T : Type 0} (before after : ℕ) (r out : Result T ToolFault) (is : ou
   pub wire_told : (old new : ℕ) → before ≡ old → after ≡ new → r ≢ Err faults.Wire → IsErrOf out faults.Wire → HasRisen old new
   wire_told old new b a never e =
       subst (λ (n : ℕ). HasRisen n new) b (subst (λ (n : ℕ). HasRisen before n) a (wire_fault before after r never (subst (λ (x : Result T ToolFault). IsErrOf x faults.Wire) is e)))
+
+  pub memory_told : (old new : ℕ) → before ≡ old → after ≡ new → after < 2 ^ 64 → IsErrOf out faults.Memory → HasRisen old new → ⊥
+  memory_told old new b a small e risen =
+      memory_fault before after r small (subst (λ (x : Result T ToolFault). IsErrOf x faults.Memory) is e)
+      (subst (λ (n : ℕ). HasRisen n after) (sym b) (subst (λ (n : ℕ). HasRisen old n) (sym a) risen))

@@ -12,7 +12,7 @@ use Rattle.nd_link.specs.Link.{Stands}
 
 -- From each log that the link stood for, where its wire is faithful, the event leads to one that it stands for, and what is told of that was put
 -- at the end.
-pub record AnswersEvent {W R A : Type 0} (arrives : List ℕ → List ℕ → Type 0) (stream : R → Stream) (old new : Link W R A) (at : ℕ) (event : Event) (before after : List ℕ) : Type 0 where
+pub record AnswersEvent {W R A : Type 0} (arrives : ℕ → List ℕ → List ℕ → Type 0) (stream : R → Stream) (old new : Link W R A) (at : ℕ) (event : Event) (before after : List ℕ) : Type 0 where
   pub told : List ℕ
   pub written : after ≡ before ++ told
   pub each : IsFaithful arrives → (log : Log) → Stands stream old log → (d : Log) × Follows usual_limits log at event d × Stands stream new d × (text d ≡ text log ++ told)

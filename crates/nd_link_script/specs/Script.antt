@@ -40,7 +40,7 @@ pub record RunsOn (log : Log) (n : ℕ) (lines : List (List ℕ)) (told : List �
   pub text_is : text end ≡ text log ++ told
 
 -- the same from each log that a link stands for, where its wire is faithful
-pub record Leads {W R A : Type 0} (arrives : List ℕ → List ℕ → Type 0) (stream : R → Stream) (link : Link W R A) (n : ℕ) (lines : List (List ℕ)) (told : List ℕ) (found : Option ℕ) : Type 0 where
+pub record Leads {W R A : Type 0} (arrives : ℕ → List ℕ → List ℕ → Type 0) (stream : R → Stream) (link : Link W R A) (n : ℕ) (lines : List (List ℕ)) (told : List ℕ) (found : Option ℕ) : Type 0 where
   pub each : IsFaithful arrives → (log : Log) → Stands stream link log → RunsOn log n lines told found
 
 -- THE TEXT OF A LINK. It is that of the log of what the lines say.

@@ -8,7 +8,7 @@ use Rattle.nd_link_log.specs.Told.{text}
 use Rattle.nd_link.specs.declared.link.Link.{Link}
 use Rattle.nd_link_script.specs.Script.{SaysNothing, stops, Leads}
 
-module _ {W R A : Type 0} (arrives : List ℕ → List ℕ → Type 0) (stream : R → Stream) (link : Link W R A) where
+module _ {W R A : Type 0} (arrives : ℕ → List ℕ → List ℕ → Type 0) (stream : R → Stream) (link : Link W R A) where
   -- no line leads nowhere
   pub no_line : EndsWell (Leads arrives stream link)
   no_line n = record { each = λ faithful log s. record { said = []; say = (refl, refl); end = log; runs = refl; text_is = sym (append-nil (text log)) } }

@@ -37,6 +37,7 @@ pub fn run_link<I: Input, O: Output, W: Wire, A: Allocator + Copy>(
     ensures answered { IsErrOf result ToolFault.Read → IsFaithful W.arrives → (log : Log) → Stands stream_of_source script.old.link log → TellsAsRead (RunsOn log) (I.remaining reader.old) (I.remaining reader.new) (O.contents writer.old) (O.contents writer.new) }
     ensures write_failed { IsErrOf result ToolFault.Write → HasRisen (O.failed writer.old) (O.failed writer.new) }
     ensures wire_failed { IsErrOf result ToolFault.Wire → HasRisen (W.failed script.old.link.wire) (W.failed script.new.link.wire) }
+    ensures wire_carried { IsErrOf result ToolFault.Memory → HasRisen (W.failed script.old.link.wire) (W.failed script.new.link.wire) → ⊥ }
 {
     let before = script.link.failures();
     let done = run_lines(alloc, reader, writer, script);

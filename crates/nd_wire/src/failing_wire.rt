@@ -1,8 +1,7 @@
 //! A wire for tests of what a fault leaves.
 
 ghost use Rattle.std.specs.Prelude.{◌≡◌, ◌≢◌, ◌≤◌, [], Some, length, OnOk, OnErr, IsErr, vec_capacity};
-ghost use Rattle.nd_io.specs.Counts.{HasRisen};
-ghost use Rattle.nd_wire.specs.Wire.{after_call, all_faults};
+ghost use Rattle.nd_wire.specs.Wire.{after_call, all_faults, one_more};
 
 use crate::wire::{Wire, WireFault};
 use std::alloc::Allocator;
@@ -42,14 +41,14 @@ impl<W: Wire> Wire for FailingWire<W> {
     ) -> Result<(), WireFault>
         requires empty { into.old.items ≡ [] }
         requires room { length frame.now ≤ vec_capacity into.old }
-        ensures arrives { OnOk result (W.arrives frame.now into.new.items) }
+        ensures arrives { OnOk result (W.arrives to frame.now into.new.items) }
         ensures length { OnOk result (length into.new.items ≤ length frame.now) }
-        ensures fault { OnErr result (HasRisen (all_faults (W.failed self.old.wire) self.old.before) (all_faults (W.failed self.new.wire) self.new.before)) }
-        ensures never_falls { all_faults (W.failed self.old.wire) self.old.before ≤ all_faults (W.failed self.new.wire) self.new.before }
+        ensures fault { OnErr result (all_faults (W.failed self.new.wire) self.new.before ≡ one_more (all_faults (W.failed self.old.wire) self.old.before)) }
+        ensures no_fault { OnOk result (all_faults (W.failed self.new.wire) self.new.before ≡ all_faults (W.failed self.old.wire) self.old.before) }
         ensures counted { self.new.before ≡ after_call self.old.before }
         ensures fails { self.old.before ≡ Some 0 → IsErr result }
         ensures untouched { self.old.before ≡ Some 0 → self.new.wire ≡ self.old.wire }
-        ensures else_inside { self.old.before ≢ Some 0 → OnErr result (HasRisen (W.failed self.old.wire) (W.failed self.new.wire)) }
+        ensures else_inside { self.old.before ≢ Some 0 → OnErr result (W.failed self.new.wire ≡ one_more (W.failed self.old.wire)) }
     {
         match self.before {
             Some(0) => {

@@ -10,7 +10,7 @@ use std::alloc::Allocator;
 pub struct MemoryWire;
 
 impl Wire for MemoryWire {
-    ghost arrives = { λ frame bytes. bytes ≡ frame };
+    ghost arrives = { λ _ frame bytes. bytes ≡ frame };
 
     ghost failed = { λ _. 0 };
 

@@ -1,7 +1,7 @@
 //! A wire over sockets of this machine.
 
 ghost use Rattle.std.specs.Prelude.{◌≡◌, ◌≤◌, [], length, OnOk, OnErr, IfOk, IsErr, vec_capacity};
-ghost use Rattle.nd_io.specs.Counts.{HasRisen};
+ghost use Rattle.nd_wire.specs.Wire.{one_more};
 
 use crate::wire::{Wire, WireFault};
 use std::alloc::Allocator;
@@ -124,7 +124,7 @@ impl<A: Allocator> UdpWire<A> {
 }
 
 impl<A: Allocator> Wire for UdpWire<A> {
-    ghost arrives = { λ frame bytes. length bytes ≤ length frame };
+    ghost arrives = { λ _ frame bytes. length bytes ≤ length frame };
 
     ghost failed = { λ w. w.failures };
 
@@ -138,8 +138,8 @@ impl<A: Allocator> Wire for UdpWire<A> {
         requires empty { into.old.items ≡ [] }
         requires room { length frame.now ≤ vec_capacity into.old }
         ensures length { OnOk result (length into.new.items ≤ length frame.now) }
-        ensures fault { OnErr result (HasRisen self.old.failures self.new.failures) }
-        ensures never_falls { self.old.failures ≤ self.new.failures }
+        ensures fault { OnErr result (self.new.failures ≡ one_more self.old.failures) }
+        ensures no_fault { OnOk result (self.new.failures ≡ self.old.failures) }
         ensures no_socket { length self.old.receivers.items ≤ to → IsErr result }
     {
         let passed = match self.receivers.get_mut(to) {

@@ -1,7 +1,7 @@
 //! What every wire owes.
 
 ghost use Rattle.std.specs.Prelude.{◌≡◌, ◌≤◌, [], ℕ, List, length, OnOk, OnErr, vec_capacity};
-ghost use Rattle.nd_io.specs.Counts.{HasRisen};
+ghost use Rattle.nd_wire.specs.Wire.{one_more};
 
 use std::alloc::Allocator;
 
@@ -12,8 +12,8 @@ pub struct WireFault;
 
 /// What carries one frame after the other to nodes, and counts how often it failed (this project's own).
 pub trait Wire {
-    /// Which bytes may arrive where a frame is sent: first the frame, then what arrives.
-    ghost arrives: { List ℕ → List ℕ → Type 0 };
+    /// Which bytes may arrive where a frame is sent: first the number of the node that it is sent to, then the frame, then what arrives.
+    ghost arrives: { ℕ → List ℕ → List ℕ → Type 0 };
 
     /// How many calls failed so far, up to the greatest number of 64 bits.
     ghost failed: { Self → ℕ };
@@ -28,10 +28,10 @@ pub trait Wire {
     ) -> Result<(), WireFault>
         requires empty { into.old.items ≡ [] }
         requires room { length frame.now ≤ vec_capacity into.old }
-        ensures arrives { OnOk result (arrives frame.now into.new.items) }
+        ensures arrives { OnOk result (arrives to frame.now into.new.items) }
         ensures length { OnOk result (length into.new.items ≤ length frame.now) }
-        ensures fault { OnErr result (HasRisen (failed self.old) (failed self.new)) }
-        ensures never_falls { failed self.old ≤ failed self.new };
+        ensures fault { OnErr result (failed self.new ≡ one_more (failed self.old)) }
+        ensures no_fault { OnOk result (failed self.new ≡ failed self.old) };
 
     /// How many calls failed, up to the greatest number of 64 bits.
     fn failures(&self) -> u64

@@ -1,9 +1,9 @@
-use Rattle.std.proofs.Common.{None, Some}
+use Rattle.std.proofs.Common.{◌<◌, ◌^◌, None, Some, rules}
 use Rattle.nd_io.specs.declared.tool_fault.ToolFault.TheVariants as faults
 use Rattle.nd_io.specs.ToldLaws.{tells_all_by, tells_front_by, tells_as_read_by, tells_beginning}
 use Rattle.nd_script.specs.Source.{stream_of_source}
 use Rattle.nd_link_script.specs.Script.{RunsOn}
-use Rattle.nd_link_script.proofs.LinkRuns.{err_told, from_log, log_goes_on, ok_told, other_told, wire_told}
+use Rattle.nd_link_script.proofs.LinkRuns.{err_told, from_log, log_goes_on, memory_told, ok_told, other_told, wire_told}
 use Rattle.nd_link_script.proofs.run.run_link.Goals as goal
 
 pub returns-clause-ok : goal.returns-clause-ok
@@ -42,3 +42,8 @@ returns-clause-write_failed g c = λ is.
 pub returns-clause-wire_failed : goal.returns-clause-wire_failed
 returns-clause-wire_failed g c = λ is.
     wire_told c.failures-before.result c.failures.result c.run_lines-done.result c.fault_of.result c.fault_of.ensures _ _ c.failures-before.ensures c.failures.ensures c.run_lines-done.ensures.never_wire is
+
+pub returns-clause-wire_carried : goal.returns-clause-wire_carried
+returns-clause-wire_carried g c = λ is risen.
+    let small : c.failures.result < 2 ^ 64 = search rules in
+    memory_told c.failures-before.result c.failures.result c.run_lines-done.result c.fault_of.result c.fault_of.ensures _ _ c.failures-before.ensures c.failures.ensures small is risen

@@ -9,5 +9,5 @@ returns-clause-arrives g c =
     let within : c.args.sent < length c.args.self.now.frames.items = omega (arith, ok, there) in record {
       sent = c.index.result.now;
       is = slice_get_read c.args.self.now.frames.items (length c.args.self.now.frames.items) c.args.sent c.index.result.now refl within c.index.ensures;
-      arrived = subst (λ frame. g.W.Wire.arrives frame c.carry.new.into.items) c.deref.ensures.value c.in_ok-carry.ensures.arrives;
+      arrived = subst (λ frame. g.W.Wire.arrives c.args.to frame c.carry.new.into.items) c.deref.ensures.value c.in_ok-carry.ensures.arrives;
     }

@@ -4,25 +4,23 @@ use Rattle.std.specs.Vec.Iter.{into_iter_items}
 use Rattle.nd_wire.specs.Wire.{IsFaithful}
 use Rattle.nd_node.proofs.Running.{on_err_any}
 use Rattle.nd_link.specs.Event.{link_events}
-use Rattle.nd_link.proofs.Coming.{all_came, all_of_bytes, came_in_part, came_up_to, handed_on, none_came, one_came}
+use Rattle.nd_link.proofs.Coming.{all_came, all_of_bytes, came_in_part, came_up_to, handed_back, handed_on, none_came, one_came}
 use Rattle.nd_link.proofs.Holder.{keeps_one_holder}
 use Rattle.nd_link.proofs.link.Link.run.Goals as goal
 
 pub loop-at-init : goal.loop-at-init
 loop-at-init g c = record {
   came = none_came (IsFaithful g.W.Wire.arrives) g.R.Rng.stream c.args.self.now c.args.told.now.items c.args.events.items (into_iter_items c.into_iter-at-iterator.result) (sym c.into_iter-at-iterator.ensures.into_iter_gives.0) c.requires;
-  never_falls = omega arith;
+  carried = refl;
   spent = refl;
 }
 
 pub loop-at-preserved : goal.loop-at-preserved
 loop-at-preserved g c =
-    let inv = c.loop-at.invariant in
-    let before = inv.never_falls in
-    let more = c.in_ok-event.ensures.never_falls in record {
+    let inv = c.loop-at.invariant in record {
       came = one_came (IsFaithful g.W.Wire.arrives) g.R.Rng.stream c.args.self.now c.loop-at.self c.event.new.self c.args.told.now.items c.loop-at.told.items c.event.new.told.items c.args.events.items
           (into_iter_items c.loop-at.at-iterator) (into_iter_items c.next.new.self) (c.in-Some.at, c.in-Some.event) c.in-Some.ensures.steps.0 inv.came c.in_ok-event.ensures.bytes c.in_ok-event.ensures.follows;
-      never_falls = omega (arith, before, more);
+      carried = c.in_ok-event.ensures.wire_carried (λ e. let no : ⊥ = cc in no) ∙ inv.carried;
       spent = c.in_ok-event.ensures.unspent ∙ inv.spent;
     }
 
@@ -37,6 +35,10 @@ returns-in_err-event-clause-passes g c = λ faithful wire.
     came_up_to (IsFaithful g.W.Wire.arrives) g.R.Rng.stream c.args.self.now c.loop-at.self c.event.new.self c.args.told.now.items c.loop-at.told.items c.event.new.told.items c.args.events.items
     (into_iter_items c.loop-at.at-iterator) (into_iter_items c.next.new.self) (c.in-Some.at, c.in-Some.event) c.in-Some.ensures.steps.0 c.loop-at.invariant.came faithful
     (c.in_err-event.ensures.passes (handed_on c.from_residual.result _ _ c.from_residual.ensures.1 wire))
+
+pub returns-in_err-event-clause-wire_carried : goal.returns-in_err-event-clause-wire_carried
+returns-in_err-event-clause-wire_carried g c = λ other.
+    c.in_err-event.ensures.wire_carried (λ is. other (handed_back c.from_residual.result _ _ c.from_residual.ensures.1 is)) ∙ c.loop-at.invariant.carried
 
 pub returns-clause-runs : goal.returns-clause-runs
 returns-clause-runs g c = λ faithful.
