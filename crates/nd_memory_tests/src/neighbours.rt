@@ -62,12 +62,12 @@ fn has_both(cache: &Cache<&LocalHeap>) -> bool {
         && cache.waiting() == 1
 }
 
-/// A cache of two, of which one is there: the first call for which there is no memory.
-fn run(rt: &impl Abort, heap: &LocalHeap) -> Option<Call> {
-    let Ok(mut cache) = Cache::new(heap, 2) else {
-        return Some(Call::New);
-    };
-    assert!(rt; cache.heard(0, given(1), TIMES).is_ok());
+/// A packet is to be sent to a second neighbour: the first call for which there is no memory.
+fn use_second<'h>(
+    rt: &impl Abort,
+    heap: &'h LocalHeap,
+    cache: &mut Cache<&'h LocalHeap>,
+) -> Option<Call> {
     let Some(first) = packet(heap, 7) else {
         return Some(Call::Frame);
     };
@@ -82,30 +82,44 @@ fn run(rt: &impl Abort, heap: &LocalHeap) -> Option<Call> {
                     }
                 )
             );
+            None
         }
         Err((refusal, back)) => {
             // The frame comes back, and the cache is as it was.
             assert!(rt; refusal == CacheRefusal::Memory);
             assert!(rt; back.as_bytes().first() == Some(&7));
-            assert!(rt; has_one(&cache));
-            return Some(Call::Used);
+            assert!(rt; has_one(cache));
+            Some(Call::Used)
         }
     }
+}
+
+/// Both are shown, and then none is left: the first call for which there is no memory.
+fn clear(rt: &impl Abort, cache: &mut Cache<&LocalHeap>) -> Option<Call> {
     match cache.rows(0) {
         Ok(rows) => assert!(rt; rows.len() == 2),
         Err(_) => return Some(Call::Rows),
     }
     if cache.ready(2).is_err() {
-        assert!(rt; has_both(&cache));
+        assert!(rt; has_both(cache));
         return Some(Call::Ready);
     }
     let Ok(packets) = cache.clear() else {
-        assert!(rt; has_both(&cache));
+        assert!(rt; has_both(cache));
         return Some(Call::Clear);
     };
     assert!(rt; packets.len() == 1);
     assert!(rt; cache.waiting() == 0);
     None
+}
+
+/// A cache of two, of which one is there: the first call for which there is no memory.
+fn run(rt: &impl Abort, heap: &LocalHeap) -> Option<Call> {
+    let Ok(mut cache) = Cache::new(heap, 2) else {
+        return Some(Call::New);
+    };
+    assert!(rt; cache.heard(0, given(1), TIMES).is_ok());
+    use_second(rt, heap, &mut cache).or_else(|| clear(rt, &mut cache))
 }
 
 #[test]

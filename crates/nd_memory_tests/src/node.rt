@@ -80,14 +80,12 @@ fn come<'h>(
 }
 
 /// A host, at 3 s, up to which all that is due is done.
-fn host<'h>(heap: &'h LocalHeap) -> Result<Node<Pcg32, &'h LocalHeap>, Fail> {
+fn host<'h>(rt: &impl Abort, heap: &'h LocalHeap) -> Node<Pcg32, &'h LocalHeap> {
     let generator = Pcg32::seed_from_u64(0);
-    let Ok(mut node) = Node::new(heap, Role::Host, MAC, 0, generator) else {
-        return Err(Fail::new("no memory"));
-    };
+    let mut node = Node::new(heap, Role::Host, MAC, 0, generator).expect(rt, "memory");
     let mut outs = Vec::new(heap);
-    come(&mut node, 3000, &Event::Passes, &mut outs)?;
-    Ok(node)
+    come(&mut node, 3000, &Event::Passes, &mut outs).expect(rt, "memory");
+    node
 }
 
 /// A frame comes.
@@ -135,9 +133,10 @@ fn fill<'h>(
 
 /// The rows of all tables of a node.
 fn shown<'h>(
+    rt: &impl Abort,
     node: &Node<Pcg32, &'h LocalHeap>,
     heap: &'h LocalHeap,
-) -> Result<String<&'h LocalHeap>, AllocError> {
+) -> String<&'h LocalHeap> {
     let mut text = String::new(heap);
     let tables = [
         Table::Neighbours,
@@ -151,12 +150,12 @@ fn shown<'h>(
         Table::Routes,
     ];
     for table in tables {
-        for row in &node.rows(&heap, 3000, table)? {
-            text.push_str(row.as_str())?;
-            text.push_str("\n")?;
+        for row in &node.rows(&heap, 3000, table).expect(rt, "memory") {
+            text.push_str(row.as_str()).expect(rt, "memory");
+            text.push_str("\n").expect(rt, "memory");
         }
     }
-    Ok(text)
+    text
 }
 
 /// The events that ask for no memory come, while there is none left.
@@ -167,46 +166,44 @@ fn take_without_memory<'h>(
     advertisement: &Event<&'h LocalHeap>,
     empty: &Event<&'h LocalHeap>,
     outs: &mut Vec<(u64, Out<&'h LocalHeap>), &'h LocalHeap>,
-) -> Result<(), AllocError> {
-    let blocks = exhaust(heap)?;
+) {
+    let blocks = exhaust(heap).expect(rt, "memory");
     assert!(rt; Vec::<u8, &LocalHeap>::with_capacity(heap, 1).is_err());
-    node.settle(3000, outs)?;
-    come(node, 3000, &Event::Passes, outs)?;
-    come(node, 3000, empty, outs)?;
-    come(node, 3000, advertisement, outs)?;
-    come(node, 3000, &Event::Confirms(ROUTER), outs)?;
-    come(node, 3000, &Event::Forgets(STRANGER), outs)?;
-    come(node, 3000, &Event::Clears(Clearable::Prefixes), outs)?;
-    come(node, 3000, &Event::Clears(Clearable::Redirects), outs)?;
-    come(node, 3000, &Event::Clears(Clearable::Dns), outs)?;
-    come(node, 2999, &Event::Passes, outs)?;
+    assert!(rt; node.settle(3000, outs).is_ok());
+    assert!(rt; come(node, 3000, &Event::Passes, outs).is_ok());
+    assert!(rt; come(node, 3000, empty, outs).is_ok());
+    assert!(rt; come(node, 3000, advertisement, outs).is_ok());
+    assert!(rt; come(node, 3000, &Event::Confirms(ROUTER), outs).is_ok());
+    assert!(rt; come(node, 3000, &Event::Forgets(STRANGER), outs).is_ok());
+    assert!(rt; come(node, 3000, &Event::Clears(Clearable::Prefixes), outs).is_ok());
+    assert!(rt; come(node, 3000, &Event::Clears(Clearable::Redirects), outs).is_ok());
+    assert!(rt; come(node, 3000, &Event::Clears(Clearable::Dns), outs).is_ok());
+    assert!(rt; come(node, 2999, &Event::Passes, outs).is_ok());
     assert!(rt; !blocks.is_empty());
-    Ok(())
 }
 
 /// The events that ask for no memory: time that passes, a frame that is dropped, an advertisement that adds nothing, a confirmation, a
 /// neighbour that isn't known and is forgotten, tables that are cleared without a word, and an event that comes too late.
 #[test]
-fn a_host_without_memory_takes_what_asks_for_none(rt: HostRuntime) -> Result<(), Fail> {
-    let heap = LocalHeap::new(rt.alloc(), AMPLE)?;
-    let mut node = host(&heap)?;
-    let advertisement = receives(&heap, &ADVERTISEMENT)?;
-    let empty = receives(&heap, &EMPTY)?;
-    let mut outs = Vec::with_capacity(&heap, 8)?;
-    come(&mut node, 3000, &advertisement, &mut outs)?;
-    take_without_memory(&rt, &heap, &mut node, &advertisement, &empty, &mut outs)?;
+fn a_host_without_memory_takes_what_asks_for_none(rt: HostRuntime) {
+    let heap = LocalHeap::new(rt.alloc(), AMPLE).expect(&rt, "memory");
+    let mut node = host(&rt, &heap);
+    let advertisement = receives(&heap, &ADVERTISEMENT).expect(&rt, "memory");
+    let empty = receives(&heap, &EMPTY).expect(&rt, "memory");
+    let mut outs = Vec::with_capacity(&heap, 8).expect(&rt, "memory");
+    come(&mut node, 3000, &advertisement, &mut outs).expect(&rt, "memory");
+    take_without_memory(&rt, &heap, &mut node, &advertisement, &empty, &mut outs);
     let mut text = String::new(&heap);
-    write_outs(&mut text, &outs)?;
+    write_outs(&mut text, &outs).expect(&rt, "memory");
     assert_eq!(rt;
         text.as_str(),
         "3000 heard ra\n3000 drop 3 HeaderShort\n3000 heard ra\n2999 refused past 3000\n"
     );
-    let tables = shown(&node, &heap)?;
+    let tables = shown(&rt, &node, &heap);
     assert_eq!(rt;
         tables.as_str(),
         "neighbour fe80::ff:fe00:1 02:00:00:00:00:01 reachable router\nrouter fe80::ff:fe00:1 1800000\naddress fe80::3656:78ff:fe9a:bcde preferred inf inf\nparams hop 64 mtu 1500 reachable 30000 28151 retrans 1000 managed 0 other 0\n"
     );
-    Ok(())
 }
 
 /// An event comes while so many blocks of 16 bytes are left.
@@ -235,42 +232,41 @@ fn refuse_each<'h>(
     node: &mut Node<Pcg32, &'h LocalHeap>,
     now: u64,
     event: &Event<&'h LocalHeap>,
-) -> Result<(), AllocError>
+)
     requires { now < 2 ^ 62 }
 {
-    let before = shown(node, heap)?;
+    let before = shown(rt, node, heap);
     let mut refused = 0;
     for spare in 0..MOST_BLOCKS {
         let mut outs = Vec::new(heap);
         if try_event(heap, node, event, now, spare, &mut outs).is_ok() {
             break;
         }
-        assert!(rt; shown(node, heap)?.as_str() == before.as_str());
+        assert!(rt; shown(rt, node, heap).as_str() == before.as_str());
         assert!(rt; outs.is_empty());
         refused = spare + 1;
     }
     assert!(rt; refused > 0 && refused < MOST_BLOCKS);
-    Ok(())
 }
 
 #[test]
-fn each_request_of_a_hosts_event_is_refused_once(rt: HostRuntime) -> Result<(), Fail> {
-    let heap = LocalHeap::new(rt.alloc(), AMPLE)?;
-    let mut node = host(&heap)?;
-    let mut events = Vec::new(&heap);
-    events.push(sends(&heap, STRANGER))?;
-    events.push(receives(&heap, &ADVERTISEMENT)?)?;
-    events.push(receives(&heap, &REDIRECT)?)?;
-    events.push(sends(&heap, Addr::ALL_NODES))?;
-    events.push(Event::Forgets(STRANGER))?;
-    events.push(sends(&heap, STRANGER))?;
-    events.push(Event::Clears(Clearable::Neighbours))?;
-    events.push(Event::Shows(Table::Dns))?;
-    events.push(Event::Clears(Clearable::Routers))?;
+fn each_request_of_a_hosts_event_is_refused_once(rt: HostRuntime) {
+    let heap = LocalHeap::new(rt.alloc(), AMPLE).expect(&rt, "memory");
+    let mut node = host(&rt, &heap);
+    let events = [
+        sends(&heap, STRANGER),
+        receives(&heap, &ADVERTISEMENT).expect(&rt, "memory"),
+        receives(&heap, &REDIRECT).expect(&rt, "memory"),
+        sends(&heap, Addr::ALL_NODES),
+        Event::Forgets(STRANGER),
+        sends(&heap, STRANGER),
+        Event::Clears(Clearable::Neighbours),
+        Event::Shows(Table::Dns),
+        Event::Clears(Clearable::Routers),
+    ];
     for event in &events {
-        refuse_each(&rt, &heap, &mut node, 3000, event)?;
+        refuse_each(&rt, &heap, &mut node, 3000, event);
     }
-    Ok(())
 }
 
 /// 2001:db8::/64 on the link, and 2001:db8:1::/64 behind fe80::2.
@@ -291,43 +287,45 @@ fn routes() -> Option<[KeptRoute; 2]> {
 }
 
 /// A router that advertises, at 3 s, up to which all that is due is done: its first advertisement was sent.
-fn router<'h>(heap: &'h LocalHeap) -> Result<Node<Pcg32, &'h LocalHeap>, Fail> {
+fn router<'h>(rt: &impl Abort, heap: &'h LocalHeap) -> Node<Pcg32, &'h LocalHeap> {
     let generator = Pcg32::seed_from_u64(0);
-    let Ok(mut node) = Node::new(heap, Role::Router, MAC, 0, generator) else {
-        return Err(Fail::new("no memory"));
-    };
+    let mut node = Node::new(heap, Role::Router, MAC, 0, generator).expect(rt, "memory");
     let flags = ConfigFlags {
         managed: false,
         other: false,
     };
-    let config = Config::new(200, 600, 1800, 64, flags, 0, 0, 0)?;
+    let config = Config::new(200, 600, 1800, 64, flags, 0, 0, 0).expect(rt, "settings");
+    let [on_link, behind] = routes().expect(rt, "routes");
+    let events = [
+        (0, Event::Advertises(config)),
+        (0, Event::PutsRoute(on_link)),
+        (0, Event::PutsRoute(behind)),
+        (3000, Event::Passes),
+    ];
     let mut outs = Vec::new(heap);
-    come(&mut node, 0, &Event::Advertises(config), &mut outs)?;
-    let [on_link, behind] = routes().ok_or("routes")?;
-    come(&mut node, 0, &Event::PutsRoute(on_link), &mut outs)?;
-    come(&mut node, 0, &Event::PutsRoute(behind), &mut outs)?;
-    come(&mut node, 3000, &Event::Passes, &mut outs)?;
-    Ok(node)
+    for (at, event) in &events {
+        come(&mut node, *at, event, &mut outs).expect(rt, "memory");
+    }
+    node
 }
 
 /// A packet that is sent on, and the Redirect before it; what is shown; an advertisement that falls due, 16 s after the first at most, and
 /// the last one.
 #[test]
-fn each_request_of_a_routers_event_is_refused_once(rt: HostRuntime) -> Result<(), Fail> {
-    let heap = LocalHeap::new(rt.alloc(), AMPLE)?;
-    let mut node = router(&heap)?;
-    let transit = receives(&heap, &TRANSIT)?;
-    refuse_each(&rt, &heap, &mut node, 3000, &transit)?;
-    refuse_each(&rt, &heap, &mut node, 3000, &Event::Shows(Table::Advertise))?;
-    refuse_each(&rt, &heap, &mut node, 3000, &Event::Shows(Table::Routes))?;
+fn each_request_of_a_routers_event_is_refused_once(rt: HostRuntime) {
+    let heap = LocalHeap::new(rt.alloc(), AMPLE).expect(&rt, "memory");
+    let mut node = router(&rt, &heap);
+    let transit = receives(&heap, &TRANSIT).expect(&rt, "memory");
+    refuse_each(&rt, &heap, &mut node, 3000, &transit);
+    refuse_each(&rt, &heap, &mut node, 3000, &Event::Shows(Table::Advertise));
+    refuse_each(&rt, &heap, &mut node, 3000, &Event::Shows(Table::Routes));
     refuse_each(
         &rt,
         &heap,
         &mut node,
         3000,
         &Event::Clears(Clearable::Neighbours),
-    )?;
-    refuse_each(&rt, &heap, &mut node, 20_000, &Event::Passes)?;
-    refuse_each(&rt, &heap, &mut node, 20_000, &Event::Stops)?;
-    Ok(())
+    );
+    refuse_each(&rt, &heap, &mut node, 20_000, &Event::Passes);
+    refuse_each(&rt, &heap, &mut node, 20_000, &Event::Stops);
 }
