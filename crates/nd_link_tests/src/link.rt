@@ -27,168 +27,186 @@ fn host() -> LinkEvent<Pcg32, Global> {
 }
 
 /// The lines of what is told, each behind the number of its node.
-fn write_lines(text: &mut String<Global>, told: &[Told<Global>]) -> Result<(), Fail> {
+fn write_lines(rt: &impl Abort, text: &mut String<Global>, told: &[Told<Global>]) {
     for one in told {
         match one {
             Told::Node(node, outs) => {
                 for (at, out) in outs {
-                    write_node_out(text, *node, *at, out)?;
+                    write_node_out(text, *node, *at, out).expect(rt, "memory");
                 }
             }
             Told::Refused(2799, Refusal::TooLate(2800)) => {
-                text.push_str("link 2799 refused past 2800\n")?;
+                text.push_str("link 2799 refused past 2800\n")
+                    .expect(rt, "memory");
             }
-            Told::Refused(2800, Refusal::NoNode) => text.push_str("link 2800 refused no-node\n")?,
-            Told::Refused(2800, Refusal::NoFrame) => text.push_str("link 2800 refused no-frame\n")?,
-            Told::Refused(2800, Refusal::Own) => text.push_str("link 2800 refused own\n")?,
-            Told::Refused(..) => return Err(Fail::new("another refusal")),
+            Told::Refused(2800, Refusal::NoNode) => text
+                .push_str("link 2800 refused no-node\n")
+                .expect(rt, "memory"),
+            Told::Refused(2800, Refusal::NoFrame) => text
+                .push_str("link 2800 refused no-frame\n")
+                .expect(rt, "memory"),
+            Told::Refused(2800, Refusal::Own) => text
+                .push_str("link 2800 refused own\n")
+                .expect(rt, "memory"),
+            Told::Refused(..) => panic!(rt; "another refusal"),
         }
     }
-    Ok(())
 }
 
 /// Two hosts that try one address at a time find it a duplicate (RFC 4862, section 5.4.3).
-fn two_try<W: Wire + Drop>(rt: &impl Abort, alloc: Global, wire: W) -> Result<(), Fail> {
+fn two_try<W: Wire + Drop>(rt: &impl Abort, alloc: Global, wire: W) {
     let mut link = Link::new(alloc, wire);
     let mut told = Vec::new(alloc);
-    link.event(0, host(), &mut told)?;
-    link.event(0, host(), &mut told)?;
-    link.event(400, LinkEvent::Delivers(1, 0), &mut told)?;
-    link.event(400, LinkEvent::Delivers(0, 1), &mut told)?;
+    link.event(0, host(), &mut told).expect(rt, "memory");
+    link.event(0, host(), &mut told).expect(rt, "memory");
+    link.event(400, LinkEvent::Delivers(1, 0), &mut told)
+        .expect(rt, "memory");
+    link.event(400, LinkEvent::Delivers(0, 1), &mut told)
+        .expect(rt, "memory");
     let mut text = String::new(alloc);
-    write_lines(&mut text, &told)?;
+    write_lines(rt, &mut text, &told);
     let wanted = format!(in alloc;
         "n0 234 tx {F1}\nn1 234 tx {F1}\nn1 400 heard ns\nn1 400 duplicate fe80::3656:78ff:fe9a:bcde\nn0 400 heard ns\nn0 400 duplicate fe80::3656:78ff:fe9a:bcde\n"
-    )?;
+    ).expect(rt, "memory");
     assert_eq!(rt; text.as_str(), wanted.as_str());
     assert_eq!(rt; link.failures(), 0);
-    Ok(())
 }
 
 #[test]
-fn two_hosts_that_try_one_address_find_it_a_duplicate(rt: HostRuntime) -> Result<(), Fail> {
-    two_try(&rt, rt.alloc(), MemoryWire)
+fn two_hosts_that_try_one_address_find_it_a_duplicate(rt: HostRuntime) {
+    two_try(&rt, rt.alloc(), MemoryWire);
 }
 
 #[test]
-fn over_datagrams_they_find_it_too(rt: HostRuntime) -> Result<(), Fail> {
-    let wire = UdpWire::new(&rt, rt.alloc(), 2)?;
-    two_try(&rt, rt.alloc(), wire)
+fn over_datagrams_they_find_it_too(rt: HostRuntime) {
+    let wire = UdpWire::new(&rt, rt.alloc(), 2).expect(&rt, "sockets");
+    two_try(&rt, rt.alloc(), wire);
 }
 
 /// Who holds an address answers who tries it later (RFC 4861, section 7.2.4); and each refusal of the link.
 #[test]
-fn a_holder_answers(rt: HostRuntime) -> Result<(), Fail> {
+fn a_holder_answers(rt: HostRuntime) {
     let mut link = Link::new(rt.alloc(), MemoryWire);
     let mut told = Vec::new(rt.alloc());
-    link.event(0, host(), &mut told)?;
-    link.event(2000, host(), &mut told)?;
-    link.event(2400, LinkEvent::Delivers(0, 2), &mut told)?;
-    link.event(2800, LinkEvent::Delivers(1, 3), &mut told)?;
-    link.event(2800, LinkEvent::Delivers(0, 9), &mut told)?;
-    link.event(2800, LinkEvent::Delivers(0, 3), &mut told)?;
-    link.event(2800, LinkEvent::Delivers(2, 0), &mut told)?;
-    link.event(2800, LinkEvent::Comes(2, Event::Passes), &mut told)?;
-    link.event(2799, LinkEvent::Passes, &mut told)?;
+    link.event(0, host(), &mut told).expect(&rt, "memory");
+    link.event(2000, host(), &mut told).expect(&rt, "memory");
+    link.event(2400, LinkEvent::Delivers(0, 2), &mut told)
+        .expect(&rt, "memory");
+    link.event(2800, LinkEvent::Delivers(1, 3), &mut told)
+        .expect(&rt, "memory");
+    link.event(2800, LinkEvent::Delivers(0, 9), &mut told)
+        .expect(&rt, "memory");
+    link.event(2800, LinkEvent::Delivers(0, 3), &mut told)
+        .expect(&rt, "memory");
+    link.event(2800, LinkEvent::Delivers(2, 0), &mut told)
+        .expect(&rt, "memory");
+    link.event(2800, LinkEvent::Comes(2, Event::Passes), &mut told)
+        .expect(&rt, "memory");
+    link.event(2799, LinkEvent::Passes, &mut told)
+        .expect(&rt, "memory");
     let mut text = String::new(rt.alloc());
-    write_lines(&mut text, &told)?;
+    write_lines(&rt, &mut text, &told);
     let wanted = format!(in rt.alloc();
         "n0 234 tx {F1}\nn0 1234 assigned fe80::3656:78ff:fe9a:bcde\nn0 1234 tx {F2}\nn1 2234 tx {F1}\nn0 2400 heard ns\nn0 2400 tx {F9}\nn1 2800 heard na\nn1 2800 duplicate fe80::3656:78ff:fe9a:bcde\nlink 2800 refused no-frame\nlink 2800 refused own\nlink 2800 refused no-node\nlink 2800 refused no-node\nlink 2799 refused past 2800\n"
-    )?;
+    ).expect(&rt, "memory");
     assert_eq!(rt; text.as_str(), wanted.as_str());
-    Ok(())
 }
 
 /// Where a frame may take half of RetransTimer the answer may come when the address is assigned, and then two nodes have it: so a timely link
 /// has to be faster (RFC 4862, section 5.4).
 #[test]
-fn an_answer_after_retrans_timer_is_too_late(rt: HostRuntime) -> Result<(), Fail> {
+fn an_answer_after_retrans_timer_is_too_late(rt: HostRuntime) {
     let mut link = Link::new(rt.alloc(), MemoryWire);
     let mut told = Vec::new(rt.alloc());
-    link.event(0, host(), &mut told)?;
-    link.event(2000, host(), &mut told)?;
-    link.event(2734, LinkEvent::Delivers(0, 2), &mut told)?;
-    link.event(3234, LinkEvent::Delivers(1, 3), &mut told)?;
+    link.event(0, host(), &mut told).expect(&rt, "memory");
+    link.event(2000, host(), &mut told).expect(&rt, "memory");
+    link.event(2734, LinkEvent::Delivers(0, 2), &mut told)
+        .expect(&rt, "memory");
+    link.event(3234, LinkEvent::Delivers(1, 3), &mut told)
+        .expect(&rt, "memory");
     let mut text = String::new(rt.alloc());
-    write_lines(&mut text, &told)?;
+    write_lines(&rt, &mut text, &told);
     let wanted = format!(in rt.alloc();
         "n0 234 tx {F1}\nn0 1234 assigned fe80::3656:78ff:fe9a:bcde\nn0 1234 tx {F2}\nn1 2234 tx {F1}\nn0 2734 heard ns\nn0 2734 tx {F9}\nn1 3234 assigned fe80::3656:78ff:fe9a:bcde\nn1 3234 tx {F2}\nn1 3234 heard na\n"
-    )?;
+    ).expect(&rt, "memory");
     assert_eq!(rt; text.as_str(), wanted.as_str());
-    Ok(())
 }
 
 /// A frame that comes twice is heard twice, and one that comes late is heard.
 #[test]
-fn repeated_and_late_frames_are_heard(rt: HostRuntime) -> Result<(), Fail> {
+fn repeated_and_late_frames_are_heard(rt: HostRuntime) {
     let mut link = Link::new(rt.alloc(), MemoryWire);
     let mut told = Vec::new(rt.alloc());
-    link.event(0, host(), &mut told)?;
-    link.event(0, host(), &mut told)?;
-    link.event(1100, LinkEvent::Delivers(1, 0), &mut told)?;
-    link.event(1100, LinkEvent::Delivers(1, 0), &mut told)?;
+    link.event(0, host(), &mut told).expect(&rt, "memory");
+    link.event(0, host(), &mut told).expect(&rt, "memory");
+    link.event(1100, LinkEvent::Delivers(1, 0), &mut told)
+        .expect(&rt, "memory");
+    link.event(1100, LinkEvent::Delivers(1, 0), &mut told)
+        .expect(&rt, "memory");
     let mut text = String::new(rt.alloc());
-    write_lines(&mut text, &told)?;
+    write_lines(&rt, &mut text, &told);
     let wanted = format!(in rt.alloc();
         "n0 234 tx {F1}\nn1 234 tx {F1}\nn1 1100 heard ns\nn1 1100 duplicate fe80::3656:78ff:fe9a:bcde\nn1 1100 drop 19 NotForUs\n"
-    )?;
+    ).expect(&rt, "memory");
     assert_eq!(rt; text.as_str(), wanted.as_str());
-    Ok(())
 }
 
 #[test]
-fn a_seventeenth_node_is_refused(rt: HostRuntime) -> Result<(), Fail> {
+fn a_seventeenth_node_is_refused(rt: HostRuntime) {
     let mut link = Link::new(rt.alloc(), MemoryWire);
     let mut told = Vec::new(rt.alloc());
     for _ in 0..MAX_NODES {
-        link.event(7, host(), &mut told)?;
+        link.event(7, host(), &mut told).expect(&rt, "memory");
     }
     assert!(rt; told.is_empty());
-    link.event(7, host(), &mut told)?;
+    link.event(7, host(), &mut told).expect(&rt, "memory");
     assert!(rt; matches!(&told[..], [Told::Refused(7, Refusal::Full)]));
-    Ok(())
 }
 
 /// Where the wire fails all that was due has come, the receiver has heard nothing, and the same delivery may be tried again.
 #[test]
-fn a_fault_of_the_wire_leaves_the_turns(rt: HostRuntime) -> Result<(), Fail> {
+fn a_fault_of_the_wire_leaves_the_turns(rt: HostRuntime) {
     let mut link = Link::new(rt.alloc(), FailingWire::new(MemoryWire, 0));
     let mut told = Vec::new(rt.alloc());
-    link.event(0, host(), &mut told)?;
-    link.event(0, host(), &mut told)?;
+    link.event(0, host(), &mut told).expect(&rt, "memory");
+    link.event(0, host(), &mut told).expect(&rt, "memory");
     assert!(rt; link.event(400, LinkEvent::Delivers(1, 0), &mut told) == Err(LinkFault::Wire));
     assert_eq!(rt; link.failures(), 1);
-    link.event(400, LinkEvent::Delivers(1, 0), &mut told)?;
+    link.event(400, LinkEvent::Delivers(1, 0), &mut told)
+        .expect(&rt, "memory");
     let mut text = String::new(rt.alloc());
-    write_lines(&mut text, &told)?;
+    write_lines(&rt, &mut text, &told);
     let wanted = format!(in rt.alloc();
         "n0 234 tx {F1}\nn1 234 tx {F1}\nn1 400 heard ns\nn1 400 duplicate fe80::3656:78ff:fe9a:bcde\n"
-    )?;
+    ).expect(&rt, "memory");
     assert_eq!(rt; text.as_str(), wanted.as_str());
     assert_eq!(rt; link.failures(), 1);
-    Ok(())
 }
 
 /// Events come by one call, up to a fault of the wire, and those that are left by another.
 #[test]
-fn events_come_one_after_the_other(rt: HostRuntime) -> Result<(), Fail> {
+fn events_come_one_after_the_other(rt: HostRuntime) {
     let mut link = Link::new(rt.alloc(), FailingWire::new(MemoryWire, 1));
     let mut told = Vec::new(rt.alloc());
     let mut events = Vec::new(rt.alloc());
-    events.push((0, host()))?;
-    events.push((0, host()))?;
-    events.push((400, LinkEvent::Delivers(1, 0)))?;
-    events.push((400, LinkEvent::Delivers(0, 1)))?;
+    events.push((0, host())).expect(&rt, "memory");
+    events.push((0, host())).expect(&rt, "memory");
+    events
+        .push((400, LinkEvent::Delivers(1, 0)))
+        .expect(&rt, "memory");
+    events
+        .push((400, LinkEvent::Delivers(0, 1)))
+        .expect(&rt, "memory");
     assert!(rt; link.run(events, &mut told) == Err(LinkFault::Wire));
     let mut rest = Vec::new(rt.alloc());
-    rest.push((400, LinkEvent::Delivers(0, 1)))?;
-    link.run(rest, &mut told)?;
+    rest.push((400, LinkEvent::Delivers(0, 1)))
+        .expect(&rt, "memory");
+    link.run(rest, &mut told).expect(&rt, "memory");
     let mut text = String::new(rt.alloc());
-    write_lines(&mut text, &told)?;
+    write_lines(&rt, &mut text, &told);
     let wanted = format!(in rt.alloc();
         "n0 234 tx {F1}\nn1 234 tx {F1}\nn1 400 heard ns\nn1 400 duplicate fe80::3656:78ff:fe9a:bcde\nn0 400 heard ns\nn0 400 duplicate fe80::3656:78ff:fe9a:bcde\n"
-    )?;
+    ).expect(&rt, "memory");
     assert_eq!(rt; text.as_str(), wanted.as_str());
     assert_eq!(rt; link.failures(), 1);
-    Ok(())
 }

@@ -39,59 +39,62 @@ fn run<W: Wire + Drop>(
 }
 
 #[test]
-fn two_hosts_try_one_address(rt: HostRuntime) -> Result<(), Fail> {
+fn two_hosts_try_one_address(rt: HostRuntime) {
     for piece in [1, 7, 4096] {
         let (text, done) = run(rt.alloc(), MemoryWire, TWO_TRY, piece);
-        let wanted = format!(in rt.alloc(); "{BOTH_SENT}{FIRST_HEARD}{SECOND_HEARD}")?;
+        let wanted = format!(in rt.alloc(); "{BOTH_SENT}{FIRST_HEARD}{SECOND_HEARD}").expect(
+            &rt, "memory",
+        );
         assert_eq!(rt; text.as_slice(), wanted.as_bytes());
         assert_eq!(rt; done, Ok(()));
     }
-    Ok(())
 }
 
 #[test]
-fn they_try_it_over_datagrams(rt: HostRuntime) -> Result<(), Fail> {
-    let wire = UdpWire::new(&rt, rt.alloc(), 2)?;
+fn they_try_it_over_datagrams(rt: HostRuntime) {
+    let wire = UdpWire::new(&rt, rt.alloc(), 2).expect(&rt, "sockets");
     let (text, done) = run(rt.alloc(), wire, TWO_TRY, 4096);
-    let wanted = format!(in rt.alloc(); "{BOTH_SENT}{FIRST_HEARD}{SECOND_HEARD}")?;
+    let wanted = format!(in rt.alloc(); "{BOTH_SENT}{FIRST_HEARD}{SECOND_HEARD}").expect(
+        &rt, "memory",
+    );
     assert_eq!(rt; text.as_slice(), wanted.as_bytes());
     assert_eq!(rt; done, Ok(()));
-    Ok(())
 }
 
 #[test]
-fn one_holds_the_address(rt: HostRuntime) -> Result<(), Fail> {
+fn one_holds_the_address(rt: HostRuntime) {
     let (text, done) = run(rt.alloc(), MemoryWire, ONE_HOLDS, 4096);
     assert_eq!(rt; text.as_slice(), HELD.as_bytes());
     assert_eq!(rt; done, Ok(()));
-    let wire = UdpWire::new(&rt, rt.alloc(), 2)?;
+    let wire = UdpWire::new(&rt, rt.alloc(), 2).expect(&rt, "sockets");
     let (text, done) = run(rt.alloc(), wire, ONE_HOLDS, 4096);
     assert_eq!(rt; text.as_slice(), HELD.as_bytes());
     assert_eq!(rt; done, Ok(()));
-    Ok(())
 }
 
 /// Where the wire fails at one frame, what came before it is written, the nodes' turns included.
 #[test]
-fn a_wire_that_fails_ends_the_run(rt: HostRuntime) -> Result<(), Fail> {
+fn a_wire_that_fails_ends_the_run(rt: HostRuntime) {
     let (text, done) = run(rt.alloc(), FailingWire::new(MemoryWire, 0), TWO_TRY, 4096);
     assert_eq!(rt; done, Err(ToolFault::Wire));
     assert!(rt; BOTH_SENT.as_bytes().starts_with(&text));
     let (text, done) = run(rt.alloc(), FailingWire::new(MemoryWire, 1), TWO_TRY, 4096);
     assert_eq!(rt; done, Err(ToolFault::Wire));
-    let wanted = format!(in rt.alloc(); "{BOTH_SENT}{FIRST_HEARD}")?;
+    let wanted = format!(in rt.alloc(); "{BOTH_SENT}{FIRST_HEARD}").expect(&rt, "memory");
     assert!(rt; wanted.as_bytes().starts_with(&text));
     let (_, done) = run(rt.alloc(), FailingWire::new(MemoryWire, 2), TWO_TRY, 4096);
     assert_eq!(rt; done, Ok(()));
-    Ok(())
 }
 
 #[test]
-fn a_malformed_line_ends_the_run(rt: HostRuntime) -> Result<(), Fail> {
-    let lines = format!(in rt.alloc(); "{TWO_TRY}400 on 0 rx -\n400 deliver 1 0\n")?;
+fn a_malformed_line_ends_the_run(rt: HostRuntime) {
+    let lines = format!(in rt.alloc(); "{TWO_TRY}400 on 0 rx -\n400 deliver 1 0\n").expect(
+        &rt, "memory",
+    );
     let (text, done) = run(rt.alloc(), MemoryWire, lines.as_str(), 4096);
-    let wanted = format!(in rt.alloc(); "{BOTH_SENT}{FIRST_HEARD}{SECOND_HEARD}")?;
+    let wanted = format!(in rt.alloc(); "{BOTH_SENT}{FIRST_HEARD}{SECOND_HEARD}").expect(
+        &rt, "memory",
+    );
     assert_eq!(rt; text.as_slice(), wanted.as_bytes());
     assert_eq!(rt; done, Err(ToolFault::Line(5)));
-    Ok(())
 }

@@ -5,6 +5,7 @@ use nd_link_script::*;
 use nd_out::Out;
 use nd_waiting::Packet;
 use std::alloc::{AllocError, Global};
+use std::process::Abort;
 use std::test::*;
 
 /// fe80::3656:78ff:fe9a:bcde.
@@ -21,25 +22,24 @@ const SOLICITATION: [u8; 78] = [
 ];
 
 /// Node 0 sends it at the start.
-fn start(alloc: Global) -> Result<Told<Global>, Fail> {
-    let mut bytes = Vec::new(alloc);
-    bytes.extend_from_slice(&SOLICITATION)?;
-    let mut outs = Vec::new(alloc);
-    outs.push((0, Out::Frame(Packet::new(bytes).ok_or("too short")?)))?;
-    Ok(Told::Node(0, outs))
+fn start(rt: &(impl Abort + AllocGlobal)) -> Told<Global> {
+    let mut bytes = Vec::new(rt.alloc());
+    bytes.extend_from_slice(&SOLICITATION).expect(rt, "memory");
+    let frame = Packet::new(bytes).expect(rt, "too short");
+    let outs = vec![in rt.alloc(); (0, Out::Frame(frame))].expect(rt, "memory");
+    Told::Node(0, outs)
 }
 
 /// A node hears it, and so has a duplicate address.
-fn duplicate(alloc: Global, node: usize, at: u64) -> Result<Told<Global>, Fail> {
+fn duplicate(rt: &(impl Abort + AllocGlobal), node: usize, at: u64) -> Told<Global> {
     let heard = Out::Heard {
         source: Addr([0; 16]),
         destination: LINK_LOCAL,
         body: Body::Ns(NeighborSolicitation { target: LINK_LOCAL }),
     };
-    let mut outs = Vec::new(alloc);
-    outs.push((at, heard))?;
-    outs.push((at, Out::Duplicate(LINK_LOCAL)))?;
-    Ok(Told::Node(node, outs))
+    let duplicate = Out::Duplicate(LINK_LOCAL);
+    let outs = vec![in rt.alloc(); (at, heard), (at, duplicate)].expect(rt, "memory");
+    Told::Node(node, outs)
 }
 
 fn text_of(alloc: Global, told: &[Told<Global>]) -> Result<String, AllocError> {
@@ -49,38 +49,40 @@ fn text_of(alloc: Global, told: &[Told<Global>]) -> Result<String, AllocError> {
 }
 
 #[test]
-fn each_line_is_told_of_its_node(rt: HostRuntime) -> Result<(), Fail> {
+fn each_line_is_told_of_its_node(rt: HostRuntime) {
     let told = [
-        start(rt.alloc())?,
-        duplicate(rt.alloc(), 1, 400)?,
+        start(&rt),
+        duplicate(&rt, 1, 400),
         Told::Node(2, Vec::new(rt.alloc())),
         Told::Refused(2800, Refusal::NoFrame),
     ];
     assert_eq!(rt;
-        text_of(rt.alloc(), &told)?.as_str(),
+        text_of(rt.alloc(), &told).expect(&rt, "memory").as_str(),
         "n0 0 tx 3333ff9abcde3456789abcde86dd6000000000183aff00000000000000000000000000000000ff0200000000000000000001ff9abcde870053df00000000fe80000000000000365678fffe9abcde\n\
         n1 400 heard ns\nn1 400 duplicate fe80::3656:78ff:fe9a:bcde\nlink 2800 refused no-frame\n"
     );
-    Ok(())
 }
 
 #[test]
-fn rows_of_a_table_are_told_of_its_node(rt: HostRuntime) -> Result<(), Fail> {
+fn rows_of_a_table_are_told_of_its_node(rt: HostRuntime) {
     let alloc = rt.alloc();
     let mut rows = Vec::new(alloc);
-    rows.push(String::from_str(alloc, "server 2001:db8::53 1799000")?)?;
-    rows.push(String::from_str(alloc, "search a.example 1799000")?)?;
+    rows.push(String::from_str(alloc, "server 2001:db8::53 1799000").expect(&rt, "memory"))
+        .expect(&rt, "memory");
+    rows.push(String::from_str(alloc, "search a.example 1799000").expect(&rt, "memory"))
+        .expect(&rt, "memory");
     let mut outs = Vec::new(alloc);
-    outs.push((2200, Out::Shown(rows)))?;
+    outs.push((2200, Out::Shown(rows))).expect(&rt, "memory");
     assert_eq!(rt;
-        text_of(alloc, &[Told::Node(3, outs)])?.as_str(),
+        text_of(alloc, &[Told::Node(3, outs)])
+            .expect(&rt, "memory")
+            .as_str(),
         "n3 2200 server 2001:db8::53 1799000\nn3 2200 search a.example 1799000\nn3 2200 end 2\n"
     );
-    Ok(())
 }
 
 #[test]
-fn refusals_are_told_of_the_link(rt: HostRuntime) -> Result<(), Fail> {
+fn refusals_are_told_of_the_link(rt: HostRuntime) {
     let told: [Told<Global>; 5] = [
         Told::Refused(9, Refusal::TooLate(10)),
         Told::Refused(10, Refusal::NoNode),
@@ -89,9 +91,8 @@ fn refusals_are_told_of_the_link(rt: HostRuntime) -> Result<(), Fail> {
         Told::Refused(13, Refusal::Full),
     ];
     assert_eq!(rt;
-        text_of(rt.alloc(), &told)?.as_str(),
+        text_of(rt.alloc(), &told).expect(&rt, "memory").as_str(),
         "link 9 refused past 10\nlink 10 refused no-node\nlink 11 refused no-frame\nlink 12 refused own\n\
         link 13 refused full nodes\n"
     );
-    Ok(())
 }

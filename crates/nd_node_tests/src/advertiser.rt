@@ -32,7 +32,7 @@ fn measured(reachable_time: u32, mtu: u32) -> Result<Config, ConfigFault> {
 }
 
 #[test]
-fn a_configuration_breaks_no_rule_at_its_edges(rt: HostRuntime) -> Result<(), Fail> {
+fn a_configuration_breaks_no_rule_at_its_edges(rt: HostRuntime) {
     assert_eq!(rt; timed(3, 3, 1800).err(), Some(ConfigFault::Max));
     assert!(rt; timed(3, 4, 1800).is_ok());
     assert!(rt; timed(3, 1800, 1800).is_ok());
@@ -52,11 +52,10 @@ fn a_configuration_breaks_no_rule_at_its_edges(rt: HostRuntime) -> Result<(), Fa
     assert!(rt; measured(0, 1280).is_ok());
     assert!(rt; measured(0, 1500).is_ok());
     assert_eq!(rt; measured(0, 1501).err(), Some(ConfigFault::Mtu));
-    Ok(())
 }
 
 #[test]
-fn the_first_rule_that_is_broken_is_told(rt: HostRuntime) -> Result<(), Fail> {
+fn the_first_rule_that_is_broken_is_told(rt: HostRuntime) {
     // Each breaks one rule less than the one before.
     let broken = |min, max, lifetime, reachable_time| {
         Config::new(min, max, lifetime, 64, NO_FLAGS, reachable_time, 0, 1).err()
@@ -74,7 +73,6 @@ fn the_first_rule_that_is_broken_is_told(rt: HostRuntime) -> Result<(), Fail> {
     assert_eq!(rt; broken(200, 600, 1800, 0), Some(ConfigFault::Mtu));
     assert_eq!(rt; ConfigFault::Max as u8, 1);
     assert_eq!(rt; ConfigFault::Prefix as u8, 7);
-    Ok(())
 }
 
 #[test]
@@ -173,10 +171,8 @@ fn solicit(advertiser: &mut Advertiser<Global>, now: u64, delay: u32) -> bool
 }
 
 #[test]
-fn a_solicitation_is_answered_three_seconds_after_the_last_advertisement(
-    rt: HostRuntime,
-) -> Result<(), Fail> {
-    let mut advertiser = Advertiser::new(rt.alloc())?;
+fn a_solicitation_is_answered_three_seconds_after_the_last_advertisement(rt: HostRuntime) {
+    let mut advertiser = Advertiser::new(rt.alloc()).expect(&rt, "memory");
     assert!(rt; begin(&mut advertiser, 200, 600, 2000));
     // Before the first advertisement none is planned for.
     assert!(rt; !solicit(&mut advertiser, 2000, 200));
@@ -192,55 +188,51 @@ fn a_solicitation_is_answered_three_seconds_after_the_last_advertisement(
     assert_eq!(rt; advertiser.next_due(), None);
     assert!(rt; !advertiser.stop(6001));
     // The last advertisement counts for the three seconds, and the first three begin anew.
-    advertiser.begin(6500, timed(200, 600, 1800)?);
+    advertiser.begin(6500, timed(200, 600, 1800).expect(&rt, "settings"));
     send(&rt, &mut advertiser, 9000, 200_000);
     assert_eq!(rt; advertiser.next_due(), Some(25_000));
     // Three seconds after it the delay alone counts.
     assert!(rt; solicit(&mut advertiser, 12_000, 500));
     assert_eq!(rt; advertiser.next_due(), Some(12_500));
-    Ok(())
 }
 
 #[test]
-fn what_is_planned_comes_before_a_later_answer(rt: HostRuntime) -> Result<(), Fail> {
-    let mut advertiser = Advertiser::new(rt.alloc())?;
+fn what_is_planned_comes_before_a_later_answer(rt: HostRuntime) {
+    let mut advertiser = Advertiser::new(rt.alloc()).expect(&rt, "memory");
     assert!(rt; begin(&mut advertiser, 3, 4, 2000));
     send(&rt, &mut advertiser, 2000, 3000);
     assert!(rt; solicit(&mut advertiser, 3000, 500));
     send(&rt, &mut advertiser, 5000, 3000);
     send(&rt, &mut advertiser, 8000, 3000);
-    Ok(())
 }
 
 #[test]
-fn the_fourth_interval_is_as_it_was_drawn(rt: HostRuntime) -> Result<(), Fail> {
-    let mut advertiser = Advertiser::new(rt.alloc())?;
+fn the_fourth_interval_is_as_it_was_drawn(rt: HostRuntime) {
+    let mut advertiser = Advertiser::new(rt.alloc()).expect(&rt, "memory");
     assert!(rt; begin(&mut advertiser, 200, 600, 2000));
     send(&rt, &mut advertiser, 2000, 600_000);
     send(&rt, &mut advertiser, 18_000, 600_000);
     // Another configuration restarts neither the count nor a date.
-    advertiser.begin(20_000, timed(3, 4, 1800)?);
+    advertiser.begin(20_000, timed(3, 4, 1800).expect(&rt, "settings"));
     send(&rt, &mut advertiser, 34_000, 600_000);
     send(&rt, &mut advertiser, 50_000, 600_000);
     assert_eq!(rt; advertiser.next_due(), Some(650_000));
-    Ok(())
 }
 
 #[test]
-fn the_first_advertisement_waits_for_the_address(rt: HostRuntime) -> Result<(), Fail> {
-    let mut advertiser = Advertiser::new(rt.alloc())?;
+fn the_first_advertisement_waits_for_the_address(rt: HostRuntime) {
+    let mut advertiser = Advertiser::new(rt.alloc()).expect(&rt, "memory");
     assert_eq!(rt; advertiser.next_due(), None);
     assert_eq!(rt; advertiser.interval(), None);
-    advertiser.begin(200, timed(200, 600, 1800)?);
+    advertiser.begin(200, timed(200, 600, 1800).expect(&rt, "settings"));
     assert!(rt; advertiser.is_on());
     assert_eq!(rt; advertiser.interval(), Some((200_000, 600_000)));
     assert_eq!(rt; advertiser.next_due(), None);
     // Nothing was sent, so no last one is.
     assert!(rt; !advertiser.stop(300));
-    advertiser.begin(400, timed(200, 600, 1800)?);
+    advertiser.begin(400, timed(200, 600, 1800).expect(&rt, "settings"));
     advertiser.assigned(1200);
     assert_eq!(rt; advertiser.next_due(), Some(1200));
-    Ok(())
 }
 
 /// The offer of the prefix that begins with these two bytes.
@@ -276,8 +268,8 @@ fn offers(rt: &impl Abort, advertiser: &Advertiser<Global>, wanted: &[(u8, u32)]
 }
 
 #[test]
-fn a_prefix_that_is_there_is_replaced_in_its_place(rt: HostRuntime) -> Result<(), Fail> {
-    let mut advertiser = Advertiser::new(rt.alloc())?;
+fn a_prefix_that_is_there_is_replaced_in_its_place(rt: HostRuntime) {
+    let mut advertiser = Advertiser::new(rt.alloc()).expect(&rt, "memory");
     offers(&rt, &advertiser, &[]);
     assert_eq!(rt; put(&mut advertiser, 3, 64, 100), Some(Ok(())));
     assert_eq!(rt; put(&mut advertiser, 1, 64, 100), Some(Ok(())));
@@ -287,12 +279,11 @@ fn a_prefix_that_is_there_is_replaced_in_its_place(rt: HostRuntime) -> Result<()
     // Another length is another prefix.
     assert_eq!(rt; put(&mut advertiser, 3, 48, 300), Some(Ok(())));
     offers(&rt, &advertiser, &[(3, 100), (1, 200), (2, 100), (3, 300)]);
-    Ok(())
 }
 
 #[test]
-fn sixteen_prefixes_are_advertised(rt: HostRuntime) -> Result<(), Fail> {
-    let mut advertiser = Advertiser::new(rt.alloc())?;
+fn sixteen_prefixes_are_advertised(rt: HostRuntime) {
+    let mut advertiser = Advertiser::new(rt.alloc()).expect(&rt, "memory");
     for second in 0..16u8 {
         assert_eq!(rt; put(&mut advertiser, second, 64, 100), Some(Ok(())));
     }
@@ -314,7 +305,6 @@ fn sixteen_prefixes_are_advertised(rt: HostRuntime) -> Result<(), Fail> {
         count = count.saturating_add(1);
     }
     assert_eq!(rt; count, 16);
-    Ok(())
 }
 
 /// An advertisement of fe80::ff:fe00:1 with a router lifetime of 1800 seconds, and no MTU and no prefix.
@@ -336,13 +326,15 @@ const LAST_ADVERTISEMENT: [u8; 78] = [
 ];
 
 /// The frame of an advertisement to all nodes.
-fn frame(rt: &HostRuntime, message: &Message<Global>) -> Result<Vec<u8, Global>, Fail>
+fn frame(rt: &(impl Abort + AllocGlobal), message: &Message<Global>) -> Vec<u8, Global>
     requires formed { IsWellFormed (whole message.now) }
     requires short { written_length (whole message.now) ≤ max_contents_length }
 {
     let all_nodes = Addr([0xff, 2, 0, 0, 0, 0, 0, 0, 0, 0, 0, 0, 0, 0, 0, 1]);
     let router = Addr([0xfe, 0x80, 0, 0, 0, 0, 0, 0, 0, 0, 0, 0xff, 0xfe, 0, 0, 1]);
-    let mut out = Vec::with_capacity(rt.alloc(), HEADERS_LENGTH + MAX_CONTENTS_LENGTH)?;
+    let mut out = Vec::with_capacity(rt.alloc(), HEADERS_LENGTH + MAX_CONTENTS_LENGTH).expect(
+        rt, "memory",
+    );
     put_frame(
         &mut out,
         Mac::multicast(all_nodes),
@@ -352,23 +344,30 @@ fn frame(rt: &HostRuntime, message: &Message<Global>) -> Result<Vec<u8, Global>,
         &message.body,
         &message.options,
     );
-    Ok(out)
+    out
 }
 
 const MAC: Mac = Mac([2, 0, 0, 0, 0, 1]);
 
 #[test]
-fn advertisements_are_written_as_frames(rt: HostRuntime) -> Result<(), Fail> {
-    let mut advertiser = Advertiser::new(rt.alloc())?;
-    assert!(rt; advertiser.contents(rt.alloc(), MAC)?.is_none());
+fn advertisements_are_written_as_frames(rt: HostRuntime) {
+    let mut advertiser = Advertiser::new(rt.alloc()).expect(&rt, "memory");
+    assert!(rt;
+        advertiser
+            .contents(rt.alloc(), MAC)
+            .expect(&rt, "memory")
+            .is_none()
+    );
     assert!(rt; begin(&mut advertiser, 200, 600, 2000));
-    match advertiser.contents(rt.alloc(), MAC)? {
-        Some(message) => assert_eq!(rt; frame(&rt, &message)?.as_slice(), &ADVERTISEMENT[..]),
+    match advertiser.contents(rt.alloc(), MAC).expect(&rt, "memory") {
+        Some(message) => assert_eq!(rt; frame(&rt, &message).as_slice(), &ADVERTISEMENT[..]),
         None => assert!(rt; false),
     }
-    match advertiser.last_contents(rt.alloc(), MAC)? {
-        Some(message) => assert_eq!(rt; frame(&rt, &message)?.as_slice(), &LAST_ADVERTISEMENT[..]),
+    match advertiser
+        .last_contents(rt.alloc(), MAC)
+        .expect(&rt, "memory")
+    {
+        Some(message) => assert_eq!(rt; frame(&rt, &message).as_slice(), &LAST_ADVERTISEMENT[..]),
         None => assert!(rt; false),
     }
-    Ok(())
 }

@@ -3,6 +3,7 @@ use nd_frames::*;
 use nd_message::{Body, Message, Opt, Redirect, RouterAdvertisement};
 use nd_waiting::Packet;
 use std::alloc::Global;
+use std::process::Abort;
 use std::test::*;
 
 /// The host's Ethernet address, and the link-local address that comes of it.
@@ -180,8 +181,8 @@ const LONGEST_WITH_ADDRESS: [u8; 110] = [
     0x02, 0x00, 0x00, 0x00, 0x00, 0x02, 0x04, 0x95, 0x00, 0x00, 0x00, 0x00, 0x00, 0x00,
 ];
 
-fn room(rt: &HostRuntime) -> Result<FrameRoom<Global>, Fail> {
-    Ok(FrameRoom::new(rt.alloc())?)
+fn room(rt: &(impl Abort + AllocGlobal)) -> FrameRoom<Global> {
+    FrameRoom::new(rt.alloc()).expect(rt, "memory")
 }
 
 fn is(packet: &Packet<Global>, bytes: &[u8]) -> bool {
@@ -190,51 +191,47 @@ fn is(packet: &Packet<Global>, bytes: &[u8]) -> bool {
 
 /// The expected bytes are those of outside test vectors.
 #[test]
-fn a_host_solicits(rt: HostRuntime) -> Result<(), Fail> {
-    assert!(rt; is(&room(&rt)?.detection(MAC, LINK_LOCAL), &DETECTION));
+fn a_host_solicits(rt: HostRuntime) {
+    assert!(rt; is(&room(&rt).detection(MAC, LINK_LOCAL), &DETECTION));
     assert!(rt;
         is(
-            &room(&rt)?.resolution(MAC, LINK_LOCAL, NEIGHBOUR),
+            &room(&rt).resolution(MAC, LINK_LOCAL, NEIGHBOUR),
             &RESOLUTION
         )
     );
     assert!(rt;
         is(
-            &room(&rt)?.probe(MAC, LINK_LOCAL, ROUTER_MAC, ROUTER),
+            &room(&rt).probe(MAC, LINK_LOCAL, ROUTER_MAC, ROUTER),
             &PROBE
         )
     );
-    Ok(())
 }
 
 #[test]
-fn a_host_solicits_routers(rt: HostRuntime) -> Result<(), Fail> {
+fn a_host_solicits_routers(rt: HostRuntime) {
     assert!(rt;
         is(
-            &room(&rt)?.router_solicitation(MAC, LINK_LOCAL),
+            &room(&rt).router_solicitation(MAC, LINK_LOCAL),
             &ROUTER_SOLICITATION
         )
     );
-    Ok(())
 }
 
 #[test]
-fn a_host_defends_its_address(rt: HostRuntime) -> Result<(), Fail> {
-    assert!(rt; is(&room(&rt)?.defence(false, MAC, LINK_LOCAL), &DEFENCE));
-    Ok(())
+fn a_host_defends_its_address(rt: HostRuntime) {
+    assert!(rt; is(&room(&rt).defence(false, MAC, LINK_LOCAL), &DEFENCE));
 }
 
 #[test]
-fn an_answer_is_addressed_when_it_is_sent(rt: HostRuntime) -> Result<(), Fail> {
-    let answer = room(&rt)?.answer(true, ROUTER_MAC, ROUTER, LINK_LOCAL);
+fn an_answer_is_addressed_when_it_is_sent(rt: HostRuntime) {
+    let answer = room(&rt).answer(true, ROUTER_MAC, ROUTER, LINK_LOCAL);
     assert!(rt; is(&answer.addressed(MAC), &ANSWER));
-    Ok(())
 }
 
 /// A router that advertises itself to all nodes, with a lifetime in seconds.
-fn advertisement(rt: &HostRuntime, router_lifetime: u16) -> Result<Packet<Global>, Fail> {
+fn advertisement(rt: &(impl Abort + AllocGlobal), router_lifetime: u16) -> Packet<Global> {
     let mut options = Vec::new(rt.alloc());
-    options.push(Opt::Slla(ROUTER_MAC))?;
+    options.push(Opt::Slla(ROUTER_MAC)).expect(rt, "memory");
     let message = Message {
         body: Body::Ra(RouterAdvertisement {
             hop_limit: 64,
@@ -246,25 +243,22 @@ fn advertisement(rt: &HostRuntime, router_lifetime: u16) -> Result<Packet<Global
         }),
         options,
     };
-    if !message.is_well_formed() {
-        return Err(Fail::new("not well-formed"));
-    }
-    Ok(router_advertisement_frame(rt.alloc(), ROUTER_MAC, ROUTER, &message)?)
+    assert!(rt; message.is_well_formed());
+    router_advertisement_frame(rt.alloc(), ROUTER_MAC, ROUTER, &message).expect(rt, "memory")
 }
 
 #[test]
-fn a_router_advertises_itself(rt: HostRuntime) -> Result<(), Fail> {
-    assert!(rt; is(&advertisement(&rt, 1800)?, &ADVERTISEMENT));
-    assert!(rt; is(&advertisement(&rt, 0)?, &LAST_ADVERTISEMENT));
-    Ok(())
+fn a_router_advertises_itself(rt: HostRuntime) {
+    assert!(rt; is(&advertisement(&rt, 1800), &ADVERTISEMENT));
+    assert!(rt; is(&advertisement(&rt, 0), &LAST_ADVERTISEMENT));
 }
 
 /// The Redirect of a packet to the better router, addressed.
 fn redirect(
-    rt: &HostRuntime,
+    rt: &(impl Abort + AllocGlobal),
     target_mac: Option<Mac>,
     packet: &[u8],
-) -> Result<Packet<Global>, Fail> {
+) -> Packet<Global> {
     let frame = redirect_frame(
         &rt.alloc(),
         ROUTER_MAC,
@@ -273,54 +267,58 @@ fn redirect(
         target_mac,
         BETTER,
         packet,
-    )?;
-    Ok(frame.addressed(HOST_MAC))
+    )
+    .expect(rt, "memory");
+    frame.addressed(HOST_MAC)
 }
 
 #[test]
-fn a_router_redirects(rt: HostRuntime) -> Result<(), Fail> {
-    assert!(rt; is(&redirect(&rt, None, &PACKET)?, &REDIRECT));
+fn a_router_redirects(rt: HostRuntime) {
+    assert!(rt; is(&redirect(&rt, None, &PACKET), &REDIRECT));
     assert!(rt;
         is(
-            &redirect(&rt, Some(BETTER_MAC), &PACKET)?,
+            &redirect(&rt, Some(BETTER_MAC), &PACKET),
             &REDIRECT_WITH_ADDRESS
         )
     );
-    Ok(())
 }
 
 #[test]
-fn a_quoted_packet_is_padded_to_a_whole_unit(rt: HostRuntime) -> Result<(), Fail> {
+fn a_quoted_packet_is_padded_to_a_whole_unit(rt: HostRuntime) {
     let mut packet = Vec::new(rt.alloc());
-    packet.extend_from_slice(&[0x60, 0, 0, 0, 0, 1])?;
-    packet.extend_from_slice(&PACKET[6..])?;
-    packet.push(0x5a)?;
-    assert!(rt; is(&redirect(&rt, None, &packet)?, &PADDED));
-    Ok(())
+    packet
+        .extend_from_slice(&[0x60, 0, 0, 0, 0, 1])
+        .expect(&rt, "memory");
+    packet.extend_from_slice(&PACKET[6..]).expect(&rt, "memory");
+    packet.push(0x5a).expect(&rt, "memory");
+    assert!(rt; is(&redirect(&rt, None, &packet), &PADDED));
 }
 
 /// These bytes, and then so many of the packet.
 fn quotes(
-    rt: &HostRuntime,
+    rt: &(impl Abort + AllocGlobal),
     frame: &Packet<Global>,
     before: &[u8],
     packet: &[u8],
-) -> Result<bool, Fail> {
+) -> bool {
     let mut bytes = Vec::new(rt.alloc());
-    bytes.extend_from_slice(before)?;
-    bytes.extend_from_slice(packet)?;
-    Ok(is(frame, &bytes))
+    bytes.extend_from_slice(before).expect(rt, "memory");
+    bytes.extend_from_slice(packet).expect(rt, "memory");
+    is(frame, &bytes)
 }
 
 #[test]
-fn a_redirect_has_at_most_1280_bytes(rt: HostRuntime) -> Result<(), Fail> {
+fn a_redirect_has_at_most_1280_bytes(rt: HostRuntime) {
     let mut packet = Vec::new(rt.alloc());
-    packet.extend_from_slice(&[0x60, 0, 0, 0, 0x05, 0x50])?;
-    packet.extend_from_slice(&PACKET[6..])?;
-    packet.extend_from_slice(&[0x5a; 1360])?;
-    let frame = redirect(&rt, None, &packet)?;
-    assert!(rt; quotes(&rt, &frame, &LONGEST, &packet[..1192])?);
-    let frame = redirect(&rt, Some(BETTER_MAC), &packet)?;
-    assert!(rt; quotes(&rt, &frame, &LONGEST_WITH_ADDRESS, &packet[..1184])?);
-    Ok(())
+    packet
+        .extend_from_slice(&[0x60, 0, 0, 0, 0x05, 0x50])
+        .expect(&rt, "memory");
+    packet.extend_from_slice(&PACKET[6..]).expect(&rt, "memory");
+    packet
+        .extend_from_slice(&[0x5a; 1360])
+        .expect(&rt, "memory");
+    let frame = redirect(&rt, None, &packet);
+    assert!(rt; quotes(&rt, &frame, &LONGEST, &packet[..1192]));
+    let frame = redirect(&rt, Some(BETTER_MAC), &packet);
+    assert!(rt; quotes(&rt, &frame, &LONGEST_WITH_ADDRESS, &packet[..1184]));
 }

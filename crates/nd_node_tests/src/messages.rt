@@ -1,6 +1,7 @@
 use nd_addr::{Addr, HEADERS_LENGTH, Mac, Prefix};
 use nd_message::*;
 use std::alloc::Global;
+use std::process::Abort;
 use std::test::*;
 
 /// A solicitation for fe80::3656:78ff:fe9a:bcde.
@@ -106,34 +107,35 @@ const BODY: RouterAdvertisement = RouterAdvertisement {
 };
 
 #[test]
-fn writes_solicitation(rt: HostRuntime) -> Result<(), Fail> {
+fn writes_solicitation(rt: HostRuntime) {
     let message: Message<_> = Message {
         body: Body::Ns(NeighborSolicitation { target: TARGET }),
         options: Vec::new(rt.alloc()),
     };
     assert!(rt; message.is_well_formed());
-    let bytes = encode(rt.alloc(), &message, Addr::UNSPECIFIED, SOLICITED_NODE)?;
+    let bytes = encode(rt.alloc(), &message, Addr::UNSPECIFIED, SOLICITED_NODE).expect(
+        &rt, "memory",
+    );
     assert_eq!(rt; bytes.as_slice(), &SOLICITATION[..]);
-    Ok(())
 }
 
 /// A message is put behind what stands there, in room that was made before.
 #[test]
-fn puts_a_message_behind_other_bytes(rt: HostRuntime) -> Result<(), Fail> {
+fn puts_a_message_behind_other_bytes(rt: HostRuntime) {
     let body = Body::Ns(NeighborSolicitation { target: TARGET });
     let options: Vec<Opt<Global>> = Vec::new(rt.alloc());
-    let Some(length) = written_length(&body, &options) else {
-        return Err("a length")?;
-    };
+    let length = written_length(&body, &options).expect(&rt, "a length");
     assert_eq!(rt; length, 24);
     let mut out = Vec::new(rt.alloc());
-    out.extend_from_slice(&[1, 2, 3])?;
-    out.reserve(length)?;
+    out.extend_from_slice(&[1, 2, 3]).expect(&rt, "memory");
+    out.reserve(length).expect(&rt, "memory");
     put_message(&mut out, &body, &options, Addr::UNSPECIFIED, SOLICITED_NODE);
     assert_eq!(rt; out.len(), 27);
-    assert_eq!(rt; out.get(..3).ok_or("what stood there")?, &[1, 2, 3][..]);
-    assert_eq!(rt; out.get(3..).ok_or("the message")?, &SOLICITATION[..]);
-    Ok(())
+    assert_eq!(rt;
+        out.get(..3).expect(&rt, "what stood there"),
+        &[1, 2, 3][..]
+    );
+    assert_eq!(rt; out.get(3..).expect(&rt, "the message"), &SOLICITATION[..]);
 }
 
 /// What stands in front of that solicitation in its frame: to 33:33:ff:9a:bc:de from 34:56:78:9a:bc:de, and to ff02::1:ff9a:bcde
@@ -146,13 +148,11 @@ const SOLICITATION_HEADERS: [u8; 54] = [
 ];
 
 #[test]
-fn puts_a_frame(rt: HostRuntime) -> Result<(), Fail> {
+fn puts_a_frame(rt: HostRuntime) {
     let body = Body::Ns(NeighborSolicitation { target: TARGET });
     let options: Vec<Opt<Global>> = Vec::new(rt.alloc());
-    let Some(length) = written_length(&body, &options) else {
-        return Err("a length")?;
-    };
-    let mut out = Vec::with_capacity(rt.alloc(), HEADERS_LENGTH + length)?;
+    let length = written_length(&body, &options).expect(&rt, "a length");
+    let mut out = Vec::with_capacity(rt.alloc(), HEADERS_LENGTH + length).expect(&rt, "memory");
     put_frame(
         &mut out,
         Mac::multicast(SOLICITED_NODE),
@@ -163,79 +163,81 @@ fn puts_a_frame(rt: HostRuntime) -> Result<(), Fail> {
         &options,
     );
     assert_eq!(rt; out.len(), 78);
-    assert_eq!(rt; out.get(..54).ok_or("headers")?, &SOLICITATION_HEADERS[..]);
-    assert_eq!(rt; out.get(54..).ok_or("message")?, &SOLICITATION[..]);
-    Ok(())
+    assert_eq!(rt;
+        out.get(..54).expect(&rt, "headers"),
+        &SOLICITATION_HEADERS[..]
+    );
+    assert_eq!(rt; out.get(54..).expect(&rt, "message"), &SOLICITATION[..]);
 }
 
 #[test]
-fn writes_advertisement(rt: HostRuntime) -> Result<(), Fail> {
+fn writes_advertisement(rt: HostRuntime) {
     let info = PrefixInfo {
-        prefix: Prefix::new(DOCUMENTATION, 64).ok_or("prefix")?,
+        prefix: Prefix::new(DOCUMENTATION, 64).expect(&rt, "prefix"),
         on_link: true,
         autonomous: true,
         valid_lifetime: 2592000,
         preferred_lifetime: 604800,
     };
     let mut options = Vec::new(rt.alloc());
-    options.push(Opt::Slla(Mac([2, 0, 0, 0, 0, 1])))?;
-    options.push(Opt::Prefix(info))?;
+    options
+        .push(Opt::Slla(Mac([2, 0, 0, 0, 0, 1])))
+        .expect(&rt, "memory");
+    options.push(Opt::Prefix(info)).expect(&rt, "memory");
     let message = Message {
         body: Body::Ra(BODY),
         options,
     };
     assert!(rt; message.is_well_formed());
-    let bytes = encode(rt.alloc(), &message, ROUTER, Addr::ALL_NODES)?;
+    let bytes = encode(rt.alloc(), &message, ROUTER, Addr::ALL_NODES).expect(&rt, "memory");
     assert_eq!(rt; bytes.as_slice(), &ADVERTISEMENT[..]);
-    Ok(())
 }
 
 /// A message with one option.
 fn message_with(
-    rt: &HostRuntime,
+    rt: &(impl Abort + AllocGlobal),
     body: Body,
     option: Opt<Global>,
-) -> Result<Message<Global>, Fail> {
+) -> Message<Global> {
     let mut options = Vec::new(rt.alloc());
-    options.push(option)?;
-    Ok(Message { body, options })
+    options.push(option).expect(rt, "memory");
+    Message { body, options }
 }
 
 /// Some bytes of its own.
-fn owned(rt: &HostRuntime, bytes: &[u8]) -> Result<Vec<u8>, Fail> {
+fn owned(rt: &(impl Abort + AllocGlobal), bytes: &[u8]) -> Vec<u8> {
     let mut own = Vec::new(rt.alloc());
-    own.extend_from_slice(bytes)?;
-    Ok(own)
+    own.extend_from_slice(bytes).expect(rt, "memory");
+    own
 }
 
 #[test]
-fn writes_router_solicitation(rt: HostRuntime) -> Result<(), Fail> {
+fn writes_router_solicitation(rt: HostRuntime) {
     let mac = Mac([0x34, 0x56, 0x78, 0x9a, 0xbc, 0xde]);
-    let message = message_with(&rt, Body::Rs, Opt::Slla(mac))?;
+    let message = message_with(&rt, Body::Rs, Opt::Slla(mac));
     assert!(rt; message.is_well_formed());
-    let bytes = encode(rt.alloc(), &message, TARGET, Addr::ALL_ROUTERS)?;
+    let bytes = encode(rt.alloc(), &message, TARGET, Addr::ALL_ROUTERS).expect(&rt, "memory");
     assert_eq!(rt; bytes.as_slice(), &ROUTER_SOLICITATION[..]);
-    let read = decode(&bytes).ok().ok_or("message")?;
+    let read = decode(&bytes).ok().expect(&rt, "message");
     assert_eq!(rt; read.body, Body::Rs);
     let mut left = read.options;
     assert!(rt; matches!(left.next(), Some(OptionRef::Slla(told)) if told == mac));
     assert!(rt; left.next().is_none());
-    Ok(())
 }
 
 #[test]
-fn writes_neighbor_advertisements(rt: HostRuntime) -> Result<(), Fail> {
+fn writes_neighbor_advertisements(rt: HostRuntime) {
     let body = Body::Na(NeighborAdvertisement {
         router: true,
         solicited: true,
         override_flag: true,
         target: ROUTER,
     });
-    let message = message_with(&rt, body, Opt::Tlla(Mac([2, 0, 0, 0, 0, 1])))?;
+    let message = message_with(&rt, body, Opt::Tlla(Mac([2, 0, 0, 0, 0, 1])));
     assert!(rt; message.is_well_formed());
-    let bytes = encode(rt.alloc(), &message, ROUTER, TARGET)?;
+    let bytes = encode(rt.alloc(), &message, ROUTER, TARGET).expect(&rt, "memory");
     assert_eq!(rt; bytes.as_slice(), &ADVERTISEMENT_OF_A_ROUTER[..]);
-    assert_eq!(rt; decode(&bytes).ok().ok_or("message")?.body, body);
+    assert_eq!(rt; decode(&bytes).ok().expect(&rt, "message").body, body);
     let body = Body::Na(NeighborAdvertisement {
         router: false,
         solicited: false,
@@ -243,48 +245,45 @@ fn writes_neighbor_advertisements(rt: HostRuntime) -> Result<(), Fail> {
         target: TARGET,
     });
     let mac = Mac([0x34, 0x56, 0x78, 0x9a, 0xbc, 0xde]);
-    let message = message_with(&rt, body, Opt::Tlla(mac))?;
+    let message = message_with(&rt, body, Opt::Tlla(mac));
     assert!(rt; message.is_well_formed());
-    let bytes = encode(rt.alloc(), &message, TARGET, Addr::ALL_NODES)?;
+    let bytes = encode(rt.alloc(), &message, TARGET, Addr::ALL_NODES).expect(&rt, "memory");
     assert_eq!(rt; bytes.as_slice(), &ADVERTISEMENT_UNSOLICITED[..]);
-    assert_eq!(rt; decode(&bytes).ok().ok_or("message")?.body, body);
-    Ok(())
+    assert_eq!(rt; decode(&bytes).ok().expect(&rt, "message").body, body);
 }
 
 #[test]
-fn writes_redirect(rt: HostRuntime) -> Result<(), Fail> {
+fn writes_redirect(rt: HostRuntime) {
     let body = Body::Redirect(Redirect {
         target: BETTER_HOP,
         destination: FAR,
     });
-    let message = message_with(&rt, body, Opt::Tlla(Mac([2, 0, 0, 0, 0, 2])))?;
+    let message = message_with(&rt, body, Opt::Tlla(Mac([2, 0, 0, 0, 0, 2])));
     assert!(rt; message.is_well_formed());
-    let bytes = encode(rt.alloc(), &message, ROUTER, TARGET)?;
+    let bytes = encode(rt.alloc(), &message, ROUTER, TARGET).expect(&rt, "memory");
     assert_eq!(rt; bytes.as_slice(), &REDIRECT[..]);
-    assert_eq!(rt; decode(&bytes).ok().ok_or("message")?.body, body);
-    Ok(())
+    assert_eq!(rt; decode(&bytes).ok().expect(&rt, "message").body, body);
 }
 
 #[test]
-fn writes_redirect_with_packet(rt: HostRuntime) -> Result<(), Fail> {
+fn writes_redirect_with_packet(rt: HostRuntime) {
     let body = Body::Redirect(Redirect {
         target: BETTER_HOP,
         destination: FAR,
     });
     // The packet's header, from the frame that is quoted.
     let packet = &REDIRECT_WITH_PACKET[48..];
-    let message = message_with(&rt, body, Opt::Redirected(owned(&rt, packet)?))?;
+    let message = message_with(&rt, body, Opt::Redirected(owned(&rt, packet)));
     assert!(rt; message.is_well_formed());
-    let bytes = encode(rt.alloc(), &message, ROUTER, NEAR)?;
+    let bytes = encode(rt.alloc(), &message, ROUTER, NEAR).expect(&rt, "memory");
     assert_eq!(rt; bytes.as_slice(), &REDIRECT_WITH_PACKET[..]);
-    let mut left = decode(&bytes).ok().ok_or("message")?.options;
+    let mut left = decode(&bytes).ok().expect(&rt, "message").options;
     assert!(rt; matches!(left.next(), Some(OptionRef::Redirected(told)) if told == packet));
     assert!(rt; left.next().is_none());
-    Ok(())
 }
 
 #[test]
-fn writes_mtu_servers_and_names(rt: HostRuntime) -> Result<(), Fail> {
+fn writes_mtu_servers_and_names(rt: HostRuntime) {
     let body = Body::Ra(RouterAdvertisement {
         hop_limit: 64,
         managed: true,
@@ -293,22 +292,30 @@ fn writes_mtu_servers_and_names(rt: HostRuntime) -> Result<(), Fail> {
         reachable_time: 0,
         retrans_timer: 0,
     });
-    let mut message = message_with(&rt, body, Opt::Mtu(1400))?;
+    let mut message = message_with(&rt, body, Opt::Mtu(1400));
     let mut servers = Vec::new(rt.alloc());
-    servers.push(SERVER)?;
+    servers.push(SERVER).expect(&rt, "memory");
     let lifetime = 1800;
-    message.options.push(Opt::Rdnss { lifetime, servers })?;
+    message
+        .options
+        .push(Opt::Rdnss { lifetime, servers })
+        .expect(&rt, "memory");
     let mut names = Vec::new(rt.alloc());
-    names.push(Name(owned(&rt, b"\x01a\x07example")?))?;
-    message.options.push(Opt::Dnssl { lifetime, names })?;
+    names
+        .push(Name(owned(&rt, b"\x01a\x07example")))
+        .expect(&rt, "memory");
+    message
+        .options
+        .push(Opt::Dnssl { lifetime, names })
+        .expect(&rt, "memory");
     assert!(rt; message.is_well_formed());
-    let bytes = encode(rt.alloc(), &message, ROUTER, Addr::ALL_NODES)?;
+    let bytes = encode(rt.alloc(), &message, ROUTER, Addr::ALL_NODES).expect(&rt, "memory");
     // Letters are written small. So the sum is less by what the letter is more: 0x61 in place of 0x41.
     let mut small = ADVERTISEMENT_WITH_NAMES;
     small[57] = 0x61;
     small[3] = 0xbe - 0x20;
     assert_eq!(rt; bytes.as_slice(), &small[..]);
-    let read = decode(&bytes).ok().ok_or("message")?;
+    let read = decode(&bytes).ok().expect(&rt, "message");
     assert_eq!(rt; read.body, body);
     let mut left = read.options;
     assert!(rt; matches!(left.next(), Some(OptionRef::Mtu(1400))));
@@ -316,50 +323,48 @@ fn writes_mtu_servers_and_names(rt: HostRuntime) -> Result<(), Fail> {
         Some(OptionRef::Rdnss(1800, told)) => Some(told),
         _ => None,
     };
-    let mut told = servers.ok_or("servers")?;
+    let mut told = servers.expect(&rt, "servers");
     assert_eq!(rt; told.next(), Some(SERVER));
     assert!(rt; told.next().is_none());
     let names = match left.next() {
         Some(OptionRef::Dnssl(1800, told)) => Some(told),
         _ => None,
     };
-    let mut told = names.ok_or("names")?;
+    let mut told = names.expect(&rt, "names");
     assert!(rt; matches!(told.next(), Some(name) if name.is(b"\x01a\x07example")));
     assert!(rt; told.next().is_none());
     assert!(rt; left.next().is_none());
-    Ok(())
 }
 
 /// An advertisement with these names for half an hour.
-fn advertisement_of_names(rt: &HostRuntime, texts: &[&[u8]]) -> Result<Message<Global>, Fail> {
+fn advertisement_of_names(rt: &(impl Abort + AllocGlobal), texts: &[&[u8]]) -> Message<Global> {
     let mut names = Vec::new(rt.alloc());
     for text in texts {
-        names.push(Name(owned(rt, text)?))?;
+        names.push(Name(owned(rt, text))).expect(rt, "memory");
     }
     let lifetime = 1800;
     message_with(rt, Body::Ra(BODY), Opt::Dnssl { lifetime, names })
 }
 
 #[test]
-fn writes_the_least_padding(rt: HostRuntime) -> Result<(), Fail> {
+fn writes_the_least_padding(rt: HostRuntime) {
     // Eight bytes of names need none.
-    let message = advertisement_of_names(&rt, &[b"\x06abcdef"])?;
+    let message = advertisement_of_names(&rt, &[b"\x06abcdef"]);
     assert!(rt; message.is_well_formed());
-    let bytes = encode(rt.alloc(), &message, ROUTER, Addr::ALL_NODES)?;
-    let written = bytes.get(16..).ok_or("option")?;
+    let bytes = encode(rt.alloc(), &message, ROUTER, Addr::ALL_NODES).expect(&rt, "memory");
+    let written = bytes.get(16..).expect(&rt, "option");
     assert_eq!(rt; written, &b"\x1f\x02\0\0\0\0\x07\x08\x06abcdef\0"[..]);
     // Nine need seven.
-    let message = advertisement_of_names(&rt, &[b"\x01a\x01b", b"\x02cd"])?;
+    let message = advertisement_of_names(&rt, &[b"\x01a\x01b", b"\x02cd"]);
     assert!(rt; message.is_well_formed());
-    let bytes = encode(rt.alloc(), &message, ROUTER, Addr::ALL_NODES)?;
-    let written = bytes.get(16..).ok_or("option")?;
+    let bytes = encode(rt.alloc(), &message, ROUTER, Addr::ALL_NODES).expect(&rt, "memory");
+    let written = bytes.get(16..).expect(&rt, "option");
     let expected = b"\x1f\x03\0\0\0\0\x07\x08\x01a\x01b\0\x02cd\0\0\0\0\0\0\0\0";
     assert_eq!(rt; written, &expected[..]);
-    Ok(())
 }
 
 #[test]
-fn tells_well_formed_packets(rt: HostRuntime) -> Result<(), Fail> {
+fn tells_well_formed_packets(rt: HostRuntime) {
     for (length, fits) in [
         (0, true),
         (7, false),
@@ -367,103 +372,99 @@ fn tells_well_formed_packets(rt: HostRuntime) -> Result<(), Fail> {
         (2032, true),
         (2040, false),
     ] {
-        let packet = Opt::Redirected(vec![in rt.alloc(); 0; length]?);
-        let message = message_with(&rt, Body::Ra(BODY), packet)?;
+        let packet = Opt::Redirected(vec![in rt.alloc(); 0; length].expect(&rt, "memory"));
+        let message = message_with(&rt, Body::Ra(BODY), packet);
         assert_eq!(rt; message.is_well_formed(), fits);
     }
-    Ok(())
 }
 
 /// Whether an advertisement with this server so many times is well-formed.
-fn serves(rt: &HostRuntime, server: Addr, count: usize) -> Result<bool, Fail> {
+fn serves(rt: &(impl Abort + AllocGlobal), server: Addr, count: usize) -> bool {
     let mut servers = Vec::new(rt.alloc());
     for _ in 0..count {
-        servers.push(server)?;
+        servers.push(server).expect(rt, "memory");
     }
     let lifetime = 0xffff_ffff;
-    let message = message_with(rt, Body::Ra(BODY), Opt::Rdnss { lifetime, servers })?;
-    Ok(message.is_well_formed())
+    let message = message_with(rt, Body::Ra(BODY), Opt::Rdnss { lifetime, servers });
+    message.is_well_formed()
 }
 
 #[test]
-fn tells_well_formed_servers(rt: HostRuntime) -> Result<(), Fail> {
-    assert!(rt; !serves(&rt, SERVER, 0)?);
-    assert!(rt; serves(&rt, SERVER, 1)?);
-    assert!(rt; serves(&rt, SERVER, 127)?);
-    assert!(rt; !serves(&rt, SERVER, 128)?);
-    assert!(rt; !serves(&rt, Addr::ALL_NODES, 1)?);
-    assert!(rt; !serves(&rt, Addr::UNSPECIFIED, 1)?);
-    assert!(rt; !serves(&rt, Addr::LOOPBACK, 1)?);
-    Ok(())
+fn tells_well_formed_servers(rt: HostRuntime) {
+    assert!(rt; !serves(&rt, SERVER, 0));
+    assert!(rt; serves(&rt, SERVER, 1));
+    assert!(rt; serves(&rt, SERVER, 127));
+    assert!(rt; !serves(&rt, SERVER, 128));
+    assert!(rt; !serves(&rt, Addr::ALL_NODES, 1));
+    assert!(rt; !serves(&rt, Addr::UNSPECIFIED, 1));
+    assert!(rt; !serves(&rt, Addr::LOOPBACK, 1));
 }
 
 /// Whether an advertisement with this name so many times, and then the other, is well-formed.
-fn searches(rt: &HostRuntime, text: &[u8], count: usize, last: &[u8]) -> Result<bool, Fail> {
+fn searches(rt: &(impl Abort + AllocGlobal), text: &[u8], count: usize, last: &[u8]) -> bool {
     let mut names = Vec::new(rt.alloc());
     for _ in 0..count {
-        names.push(Name(owned(rt, text)?))?;
+        names.push(Name(owned(rt, text))).expect(rt, "memory");
     }
     if !last.is_empty() {
-        names.push(Name(owned(rt, last)?))?;
+        names.push(Name(owned(rt, last))).expect(rt, "memory");
     }
     let lifetime = 0;
-    let message = message_with(rt, Body::Ra(BODY), Opt::Dnssl { lifetime, names })?;
-    Ok(message.is_well_formed())
+    let message = message_with(rt, Body::Ra(BODY), Opt::Dnssl { lifetime, names });
+    message.is_well_formed()
 }
 
 #[test]
-fn tells_well_formed_names(rt: HostRuntime) -> Result<(), Fail> {
-    assert!(rt; !searches(&rt, b"\x01a", 0, b"")?);
-    assert!(rt; searches(&rt, b"\x01a", 1, b"")?);
-    assert!(rt; !searches(&rt, b"\x01A", 1, b"")?);
-    assert!(rt; !searches(&rt, b"\x01a\0", 1, b"")?);
-    assert!(rt; !searches(&rt, b"a.b", 1, b"")?);
+fn tells_well_formed_names(rt: HostRuntime) {
+    assert!(rt; !searches(&rt, b"\x01a", 0, b""));
+    assert!(rt; searches(&rt, b"\x01a", 1, b""));
+    assert!(rt; !searches(&rt, b"\x01A", 1, b""));
+    assert!(rt; !searches(&rt, b"\x01a\0", 1, b""));
+    assert!(rt; !searches(&rt, b"a.b", 1, b""));
     // With its zero byte the first has 16 bytes, of which 254 units of 8 bytes hold 127.
-    assert!(rt; searches(&rt, b"\x0eabcdefghijklmn", 127, b"")?);
-    assert!(rt; !searches(&rt, b"\x0eabcdefghijklmn", 127, b"\x01a")?);
-    Ok(())
+    assert!(rt; searches(&rt, b"\x0eabcdefghijklmn", 127, b""));
+    assert!(rt; !searches(&rt, b"\x0eabcdefghijklmn", 127, b"\x01a"));
 }
 
 /// Whether an advertisement with this option alone is well-formed.
-fn fits(rt: &HostRuntime, kind: u8, rest: &[u8]) -> Result<bool, Fail> {
+fn fits(rt: &(impl Abort + AllocGlobal), kind: u8, rest: &[u8]) -> bool {
     let mut own = Vec::new(rt.alloc());
-    own.extend_from_slice(rest)?;
+    own.extend_from_slice(rest).expect(rt, "memory");
     let mut options = Vec::new(rt.alloc());
-    options.push(Opt::Other(kind, own))?;
+    options.push(Opt::Other(kind, own)).expect(rt, "memory");
     let message = Message {
         body: Body::Ra(BODY),
         options,
     };
-    Ok(message.is_well_formed())
+    message.is_well_formed()
 }
 
 #[test]
-fn tells_well_formed(rt: HostRuntime) -> Result<(), Fail> {
-    assert!(rt; fits(&rt, 99, &[0; 6])?);
+fn tells_well_formed(rt: HostRuntime) {
+    assert!(rt; fits(&rt, 99, &[0; 6]));
     // Two bytes and these are no multiple of 8.
-    assert!(rt; !fits(&rt, 99, &[0; 5])?);
-    assert!(rt; !fits(&rt, 99, &[])?);
+    assert!(rt; !fits(&rt, 99, &[0; 5]));
+    assert!(rt; !fits(&rt, 99, &[]));
     // These read as a link-layer address, and as a prefix.
-    assert!(rt; !fits(&rt, 1, &[0; 6])?);
-    assert!(rt; !fits(&rt, 2, &[0; 6])?);
-    assert!(rt; !fits(&rt, 3, &[128; 30])?);
+    assert!(rt; !fits(&rt, 1, &[0; 6]));
+    assert!(rt; !fits(&rt, 2, &[0; 6]));
+    assert!(rt; !fits(&rt, 3, &[128; 30]));
     // So do these, as a packet, an MTU, a server and a name.
-    assert!(rt; !fits(&rt, 4, &[7; 14])?);
-    assert!(rt; !fits(&rt, 5, &[0; 6])?);
-    assert!(rt; !fits(&rt, 25, &ADVERTISEMENT_WITH_NAMES[26..48])?);
-    assert!(rt; !fits(&rt, 31, &ADVERTISEMENT_WITH_NAMES[50..])?);
+    assert!(rt; !fits(&rt, 4, &[7; 14]));
+    assert!(rt; !fits(&rt, 5, &[0; 6]));
+    assert!(rt; !fits(&rt, 25, &ADVERTISEMENT_WITH_NAMES[26..48]));
+    assert!(rt; !fits(&rt, 31, &ADVERTISEMENT_WITH_NAMES[50..]));
     // A server of zeros, an even length and a name with no label.
-    assert!(rt; fits(&rt, 25, &[0; 22])?);
-    assert!(rt; fits(&rt, 25, &[32; 14])?);
-    assert!(rt; fits(&rt, 31, &[0; 14])?);
+    assert!(rt; fits(&rt, 25, &[0; 22]));
+    assert!(rt; fits(&rt, 25, &[32; 14]));
+    assert!(rt; fits(&rt, 31, &[0; 14]));
     // These do not.
-    assert!(rt; fits(&rt, 1, &[0; 14])?);
-    assert!(rt; fits(&rt, 3, &[129; 30])?);
-    Ok(())
+    assert!(rt; fits(&rt, 1, &[0; 14]));
+    assert!(rt; fits(&rt, 3, &[129; 30]));
 }
 
 #[test]
-fn refuses_a_long_message(rt: HostRuntime) -> Result<(), Fail> {
+fn refuses_a_long_message(rt: HostRuntime) {
     let mut message = Message {
         body: Body::Ra(BODY),
         options: Vec::new(rt.alloc()),
@@ -471,21 +472,26 @@ fn refuses_a_long_message(rt: HostRuntime) -> Result<(), Fail> {
     for _ in 0..32 {
         message
             .options
-            .push(Opt::Other(99, vec![in rt.alloc(); 0; 2038]?))?;
+            .push(Opt::Other(99, vec![in rt.alloc(); 0; 2038].expect(&rt, "memory")))
+            .expect(&rt, "memory");
     }
     assert!(rt; message.is_well_formed());
     message
         .options
-        .push(Opt::Other(99, vec![in rt.alloc(); 0; 2038]?))?;
+        .push(Opt::Other(99, vec![in rt.alloc(); 0; 2038].expect(&rt, "memory")))
+        .expect(&rt, "memory");
     assert!(rt; !message.is_well_formed());
-    Ok(())
 }
 
 #[test]
-fn reads_what_it_wrote(rt: HostRuntime) -> Result<(), Fail> {
+fn reads_what_it_wrote(rt: HostRuntime) {
     let mut options = Vec::new(rt.alloc());
-    options.push(Opt::Tlla(Mac([2, 0, 0, 0, 0, 1])))?;
-    options.push(Opt::Other(99, vec![in rt.alloc(); 7; 14]?))?;
+    options
+        .push(Opt::Tlla(Mac([2, 0, 0, 0, 0, 1])))
+        .expect(&rt, "memory");
+    options
+        .push(Opt::Other(99, vec![in rt.alloc(); 7; 14].expect(&rt, "memory")))
+        .expect(&rt, "memory");
     let body = Body::Ra(RouterAdvertisement {
         hop_limit: 255,
         managed: true,
@@ -496,8 +502,8 @@ fn reads_what_it_wrote(rt: HostRuntime) -> Result<(), Fail> {
     });
     let message = Message { body, options };
     assert!(rt; message.is_well_formed());
-    let bytes = encode(rt.alloc(), &message, ROUTER, Addr::ALL_NODES)?;
-    let read = decode(&bytes).ok().ok_or("message")?;
+    let bytes = encode(rt.alloc(), &message, ROUTER, Addr::ALL_NODES).expect(&rt, "memory");
+    let read = decode(&bytes).ok().expect(&rt, "message");
     assert_eq!(rt; read.body, body);
     let mut left = read.options;
     assert!(rt;
@@ -507,7 +513,6 @@ fn reads_what_it_wrote(rt: HostRuntime) -> Result<(), Fail> {
         matches!(left.next(), Some(OptionRef::Other(99, rest)) if rest == [7; 14].as_slice())
     );
     assert!(rt; left.next().is_none());
-    Ok(())
 }
 
 /// Five options as they are spelled: an address, an MTU, a prefix, two servers for half an hour, and one of a type that nobody knows.
@@ -525,24 +530,31 @@ const FIVE_OPTIONS: [u8; 152] = [
 ];
 
 /// Adds the five options.
-fn push_five(rt: &HostRuntime, options: &mut Vec<Opt<Global>>) -> Result<(), Fail> {
-    let prefix = Prefix::new(DOCUMENTATION, 64).ok_or("prefix")?;
-    options.push(Opt::Slla(Mac([2, 0, 0, 0, 0, 1])))?;
-    options.push(Opt::Mtu(1500))?;
-    options.push(Opt::Prefix(PrefixInfo {
-        prefix,
-        on_link: true,
-        autonomous: true,
-        valid_lifetime: 2592000,
-        preferred_lifetime: 604800,
-    }))?;
+fn push_five(rt: &(impl Abort + AllocGlobal), options: &mut Vec<Opt<Global>>) {
+    let prefix = Prefix::new(DOCUMENTATION, 64).expect(rt, "prefix");
+    options
+        .push(Opt::Slla(Mac([2, 0, 0, 0, 0, 1])))
+        .expect(rt, "memory");
+    options.push(Opt::Mtu(1500)).expect(rt, "memory");
+    options
+        .push(Opt::Prefix(PrefixInfo {
+            prefix,
+            on_link: true,
+            autonomous: true,
+            valid_lifetime: 2592000,
+            preferred_lifetime: 604800,
+        }))
+        .expect(rt, "memory");
     let mut servers = Vec::new(rt.alloc());
-    servers.push(SERVER)?;
-    servers.push(NEAR)?;
+    servers.push(SERVER).expect(rt, "memory");
+    servers.push(NEAR).expect(rt, "memory");
     let lifetime = 1800;
-    options.push(Opt::Rdnss { lifetime, servers })?;
-    options.push(Opt::Other(200, vec![in rt.alloc(); 5; 62]?))?;
-    Ok(())
+    options
+        .push(Opt::Rdnss { lifetime, servers })
+        .expect(rt, "memory");
+    options
+        .push(Opt::Other(200, vec![in rt.alloc(); 5; 62].expect(rt, "memory")))
+        .expect(rt, "memory");
 }
 
 /// Whether the next five options are these.
@@ -566,27 +578,26 @@ fn next_are_five(left: &mut Options<'_>) -> bool {
 
 /// The longest message of whole options: 16 bytes of fields, and 431 times 152 bytes of options, 65,528 in all. It has 2,155 options.
 #[test]
-fn writes_the_longest_message(rt: HostRuntime) -> Result<(), Fail> {
+fn writes_the_longest_message(rt: HostRuntime) {
     let mut options = Vec::new(rt.alloc());
     for _ in 0..431 {
-        push_five(&rt, &mut options)?;
+        push_five(&rt, &mut options);
     }
     let body = Body::Ra(BODY);
     let message = Message { body, options };
     assert!(rt; message.is_well_formed());
-    let bytes = encode(rt.alloc(), &message, ROUTER, Addr::ALL_NODES)?;
+    let bytes = encode(rt.alloc(), &message, ROUTER, Addr::ALL_NODES).expect(&rt, "memory");
     assert_eq!(rt; bytes.len(), 65528);
-    let fields = bytes.get(..16).ok_or("fields")?;
+    let fields = bytes.get(..16).expect(&rt, "fields");
     let spelled = [134, 0, 0x4e, 0x9a, 64, 0, 7, 8, 0, 0, 0, 0, 0, 0, 0, 0];
     assert_eq!(rt; fields, &spelled[..]);
-    assert_eq!(rt; bytes.get(16..168).ok_or("first")?, &FIVE_OPTIONS[..]);
-    assert_eq!(rt; bytes.get(65376..).ok_or("last")?, &FIVE_OPTIONS[..]);
-    let read = decode(&bytes).ok().ok_or("message")?;
+    assert_eq!(rt; bytes.get(16..168).expect(&rt, "first"), &FIVE_OPTIONS[..]);
+    assert_eq!(rt; bytes.get(65376..).expect(&rt, "last"), &FIVE_OPTIONS[..]);
+    let read = decode(&bytes).ok().expect(&rt, "message");
     assert_eq!(rt; read.body, body);
     let mut left = read.options;
     for _ in 0..431 {
         assert!(rt; next_are_five(&mut left));
     }
     assert!(rt; left.next().is_none());
-    Ok(())
 }

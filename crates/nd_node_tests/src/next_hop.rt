@@ -101,16 +101,26 @@ fn keeps(rt: &impl Abort, choice: &Choice<Global>, wanted: &[(Addr, Addr)]) {
 }
 
 #[test]
-fn goes_by_the_order_of_5_2(rt: HostRuntime) -> Result<(), Fail> {
+fn goes_by_the_order_of_5_2(rt: HostRuntime) {
     let multicast = Addr([0xff, 2, 0, 0, 0, 0, 0, 0, 0, 0, 0, 0, 0, 0, 0, 1]);
     let routers = [usable(9, None)];
-    let mut choice = Choice::new(rt.alloc())?;
+    let mut choice = Choice::new(rt.alloc()).expect(&rt, "memory");
     // Redirects off the link and on it, to the destination itself, and where none is asked for.
-    choice.redirected(global(1, 5), link_local(2))?;
-    choice.redirected(global(0, 6), link_local(3))?;
-    choice.redirected(global(1, 7), global(1, 7))?;
-    choice.redirected(multicast, link_local(4))?;
-    choice.redirected(link_local(1), link_local(4))?;
+    choice
+        .redirected(global(1, 5), link_local(2))
+        .expect(&rt, "memory");
+    choice
+        .redirected(global(0, 6), link_local(3))
+        .expect(&rt, "memory");
+    choice
+        .redirected(global(1, 7), global(1, 7))
+        .expect(&rt, "memory");
+    choice
+        .redirected(multicast, link_local(4))
+        .expect(&rt, "memory");
+    choice
+        .redirected(link_local(1), link_local(4))
+        .expect(&rt, "memory");
     let table = [
         (Addr::UNSPECIFIED, Hop::NoRoute),
         (Addr::LOOPBACK, Hop::NoRoute),
@@ -122,19 +132,20 @@ fn goes_by_the_order_of_5_2(rt: HostRuntime) -> Result<(), Fail> {
         (global(0, 8), Hop::Direct),
         (global(1, 8), Hop::Via(link_local(9))),
     ];
-    if let Some(view) = make_node(&routers) {
-        for (destination, hop) in &table {
-            assert!(rt; choice.next_hop(*destination, &view) == *hop);
-        }
+    let Some(view) = make_node(&routers) else {
+        panic!(rt; "no node");
+    };
+    for (destination, hop) in &table {
+        assert!(rt; choice.next_hop(*destination, &view) == *hop);
     }
     // Without routers the last one has no route; all else is as before.
     let none: [Candidate; 0] = [];
-    if let Some(view) = make_node(&none) {
-        assert!(rt; choice.next_hop(global(1, 8), &view) == Hop::NoRoute);
-        assert!(rt; choice.next_hop(global(0, 8), &view) == Hop::Direct);
-        assert!(rt; choice.next_hop(global(1, 5), &view) == Hop::Via(link_local(2)));
-    }
-    Ok(())
+    let Some(view) = make_node(&none) else {
+        panic!(rt; "no node");
+    };
+    assert!(rt; choice.next_hop(global(1, 8), &view) == Hop::NoRoute);
+    assert!(rt; choice.next_hop(global(0, 8), &view) == Hop::Direct);
+    assert!(rt; choice.next_hop(global(1, 5), &view) == Hop::Via(link_local(2)));
 }
 
 /// The hop to an address off the link.
@@ -150,8 +161,8 @@ fn via(n: u8) -> Option<Hop> {
 }
 
 #[test]
-fn chooses_a_router(rt: HostRuntime) -> Result<(), Fail> {
-    let mut choice = Choice::new(rt.alloc())?;
+fn chooses_a_router(rt: HostRuntime) {
+    let mut choice = Choice::new(rt.alloc()).expect(&rt, "memory");
     // The first that is usable, whatever failed.
     let routers = [unusable(2, None), usable(3, Some(1)), usable(4, None)];
     assert!(rt; off_link(&routers, &mut choice) == via(3));
@@ -167,7 +178,6 @@ fn chooses_a_router(rt: HostRuntime) -> Result<(), Fail> {
         unusable(4, Some(1)),
     ];
     assert!(rt; off_link(&routers, &mut choice) == via(3));
-    Ok(())
 }
 
 /// How many redirects are kept.
@@ -180,14 +190,16 @@ fn count(choice: &Choice<Global>) -> u8 {
 }
 
 #[test]
-fn keeps_64_redirects(rt: HostRuntime) -> Result<(), Fail> {
+fn keeps_64_redirects(rt: HostRuntime) {
     let none: [Candidate; 0] = [];
-    let mut choice = Choice::new(rt.alloc())?;
+    let mut choice = Choice::new(rt.alloc()).expect(&rt, "memory");
     for n in 0..64u8 {
-        choice.redirected(global(1, n), link_local(n))?;
+        choice
+            .redirected(global(1, n), link_local(n))
+            .expect(&rt, "memory");
     }
     let Some(view) = make_node(&none) else {
-        return Ok(());
+        panic!(rt; "no node");
     };
     // An ended one keeps its place.
     choice.target_gone(link_local(2));
@@ -195,32 +207,47 @@ fn keeps_64_redirects(rt: HostRuntime) -> Result<(), Fail> {
     assert_eq!(rt; count(&choice), 63);
     // Asking changes no order: the first goes where a 65th comes.
     assert!(rt; choice.next_hop(global(1, 0), &view) == Hop::Via(link_local(0)));
-    choice.redirected(global(1, 64), link_local(64))?;
+    choice
+        .redirected(global(1, 64), link_local(64))
+        .expect(&rt, "memory");
     assert!(rt; choice.next_hop(global(1, 0), &view) == Hop::NoRoute);
     assert!(rt; choice.next_hop(global(1, 1), &view) == Hop::Via(link_local(1)));
     assert_eq!(rt; count(&choice), 63);
     // One that is redirected again is the newest, and pushes none out.
-    choice.redirected(global(1, 1), link_local(99))?;
+    choice
+        .redirected(global(1, 1), link_local(99))
+        .expect(&rt, "memory");
     assert!(rt; choice.next_hop(global(1, 1), &view) == Hop::Via(link_local(99)));
     assert_eq!(rt; count(&choice), 63);
     // The next one pushes out the one that ended, the next again one that is kept.
-    choice.redirected(global(1, 65), link_local(65))?;
+    choice
+        .redirected(global(1, 65), link_local(65))
+        .expect(&rt, "memory");
     assert_eq!(rt; count(&choice), 64);
-    choice.redirected(global(1, 66), link_local(66))?;
+    choice
+        .redirected(global(1, 66), link_local(66))
+        .expect(&rt, "memory");
     assert_eq!(rt; count(&choice), 64);
     assert!(rt; choice.next_hop(global(1, 3), &view) == Hop::NoRoute);
     assert!(rt; choice.next_hop(global(1, 4), &view) == Hop::Via(link_local(4)));
-    Ok(())
 }
 
 #[test]
-fn shows_the_newest_first(rt: HostRuntime) -> Result<(), Fail> {
-    let mut choice = Choice::new(rt.alloc())?;
+fn shows_the_newest_first(rt: HostRuntime) {
+    let mut choice = Choice::new(rt.alloc()).expect(&rt, "memory");
     keeps(&rt, &choice, &[]);
-    choice.redirected(global(1, 1), link_local(2))?;
-    choice.redirected(global(1, 2), link_local(3))?;
-    choice.redirected(global(1, 3), link_local(2))?;
-    choice.redirected(global(1, 1), link_local(4))?;
+    choice
+        .redirected(global(1, 1), link_local(2))
+        .expect(&rt, "memory");
+    choice
+        .redirected(global(1, 2), link_local(3))
+        .expect(&rt, "memory");
+    choice
+        .redirected(global(1, 3), link_local(2))
+        .expect(&rt, "memory");
+    choice
+        .redirected(global(1, 1), link_local(4))
+        .expect(&rt, "memory");
     keeps(
         &rt,
         &choice,
@@ -231,7 +258,9 @@ fn shows_the_newest_first(rt: HostRuntime) -> Result<(), Fail> {
         ],
     );
     // All redirects to a target end with it, and the others keep their order.
-    choice.redirected(global(1, 4), link_local(2))?;
+    choice
+        .redirected(global(1, 4), link_local(2))
+        .expect(&rt, "memory");
     choice.target_gone(link_local(2));
     keeps(
         &rt,
@@ -240,7 +269,8 @@ fn shows_the_newest_first(rt: HostRuntime) -> Result<(), Fail> {
     );
     choice.clear();
     keeps(&rt, &choice, &[]);
-    choice.redirected(global(1, 2), link_local(3))?;
+    choice
+        .redirected(global(1, 2), link_local(3))
+        .expect(&rt, "memory");
     keeps(&rt, &choice, &[(global(1, 2), link_local(3))]);
-    Ok(())
 }

@@ -6,6 +6,7 @@ use nd_out::{Out, write_outs};
 use rand_core::SeedableRng;
 use rand_pcg::Pcg32;
 use std::alloc::Global;
+use std::process::Abort;
 use std::test::*;
 
 const MAC: Mac = Mac([0x34, 0x56, 0x78, 0x9a, 0xbc, 0xde]);
@@ -26,41 +27,54 @@ const ADVERTISEMENT: [u8; 78] = [
 
 const ROUTER: Addr = Addr([0xfe, 0x80, 0, 0, 0, 0, 0, 0, 0, 0, 0, 0xff, 0xfe, 0, 0, 1]);
 
+/// A host that starts at 0.
+fn host(rt: &(impl Abort + AllocGlobal)) -> Node<Pcg32, Global> {
+    let generator = Pcg32::seed_from_u64(0);
+    Node::new(rt.alloc(), Role::Host, MAC, 0, generator).expect(rt, "memory")
+}
+
+/// Of events at a host that starts at 0 it tells this, behind what it tells of its start.
+fn tells(rt: &(impl Abort + AllocGlobal), events: &[(u64, Event<Global>)], wanted: &str)
+    requires { AreEarly events.now }
+{
+    let mut node = host(rt);
+    let mut outs = Vec::new(rt.alloc());
+    node.run(events, &mut outs).expect(rt, "memory");
+    let mut text = String::new(rt.alloc());
+    write_outs(&mut text, &outs).expect(rt, "memory");
+    assert_eq!(rt; text.as_str().strip_prefix(STARTED), Some(wanted));
+}
+
 /// Events come one after the other, and all that is due up to each comes first.
 #[test]
-fn events_run_in_their_order(rt: HostRuntime) -> Result<(), Fail> {
-    let generator = Pcg32::seed_from_u64(0);
-    let Ok(mut node) = Node::new(rt.alloc(), Role::Host, MAC, 0, generator) else {
-        return Err(Fail::new("no memory"));
-    };
+fn events_run_in_their_order(rt: HostRuntime) {
+    let events = [
+        (3000, received(&rt, &EMPTY)),
+        (2999, Event::Passes),
+        (3000, Event::Shows(Table::Routers)),
+    ];
+    tells(
+        &rt,
+        &events,
+        "3000 drop 3 HeaderShort\n2999 refused past 3000\n3000 end 0\n",
+    );
+}
+
+/// A host is settled up to the moment at which something falls due, and once that is done.
+#[test]
+fn a_host_settles(rt: HostRuntime) {
+    let mut node = host(&rt);
     assert!(rt; node.settled(0));
     assert!(rt; !node.settled(3000));
-    let mut frame = Vec::new(rt.alloc());
-    frame.extend_from_slice(&EMPTY)?;
-    let mut events = Vec::new(rt.alloc());
-    events.push((3000, Event::Receives(frame)))?;
-    events.push((2999, Event::Passes))?;
-    events.push((3000, Event::Shows(Table::Routers)))?;
     let mut outs = Vec::new(rt.alloc());
-    node.run(&events, &mut outs)?;
-    let mut text = String::new(rt.alloc());
-    write_outs(&mut text, &outs)?;
-    let wanted = format!(in rt.alloc();
-        "{STARTED}3000 drop 3 HeaderShort\n2999 refused past 3000\n3000 end 0\n"
-    )?;
-    assert_eq!(rt; text.as_str(), wanted.as_str());
+    node.settle(3000, &mut outs).expect(&rt, "memory");
     assert!(rt; node.settled(3000));
-    Ok(())
 }
 
 /// A host that was just started knows its link-local address, and nothing else.
 #[test]
-fn a_new_host_has_one_row(rt: HostRuntime) -> Result<(), Fail> {
-    let generator = Pcg32::seed_from_u64(0);
-    let Ok(node) = Node::new(rt.alloc(), Role::Host, MAC, 0, generator) else {
-        return Err(Fail::new("no memory"));
-    };
-    let counts = node.counts();
+fn a_new_host_has_one_row(rt: HostRuntime) {
+    let counts = host(&rt).counts();
     assert_eq!(rt;
         (counts.neighbours, counts.routers, counts.prefixes),
         (0, 0, 0)
@@ -69,70 +83,50 @@ fn a_new_host_has_one_row(rt: HostRuntime) -> Result<(), Fail> {
         (counts.addresses, counts.servers, counts.search_names),
         (1, 0, 0)
     );
-    Ok(())
-}
-
-/// What is told of events at a host that starts at 0.
-fn told_of(alloc: Global, events: &[(u64, Event<Global>)]) -> Result<String<Global>, Fail>
-    requires { AreEarly events.now }
-{
-    let generator = Pcg32::seed_from_u64(0);
-    let Ok(mut node) = Node::new(alloc, Role::Host, MAC, 0, generator) else {
-        return Err(Fail::new("no memory"));
-    };
-    let mut outs = Vec::new(alloc);
-    node.run(events, &mut outs)?;
-    let mut text = String::new(alloc);
-    write_outs(&mut text, &outs)?;
-    Ok(text)
 }
 
 /// A packet of three bytes is to be sent.
-fn sends_from(alloc: Global, source: Addr, destination: Addr) -> Result<Event<Global>, Fail> {
-    let mut payload = Vec::new(alloc);
-    payload.extend_from_slice(&[1, 2, 3])?;
-    Ok(Event::Sends(OutgoingPacket {
+fn sends_from(rt: &(impl Abort + AllocGlobal), source: Addr, destination: Addr) -> Event<Global> {
+    Event::Sends(OutgoingPacket {
         source,
         destination,
         next_header: 17,
-        payload,
-    }))
+        payload: vec![in rt.alloc(); 1, 2, 3].expect(rt, "memory"),
+    })
 }
 
 /// What the upper layer sends: to a multicast address at once, without a next hop nowhere, and to a neighbour once its address is known,
 /// for which it is solicited (RFC 4861, sections 5.2 and 7.2.2).
 #[test]
-fn packets_are_sent(rt: HostRuntime) -> Result<(), Fail> {
+fn packets_are_sent(rt: HostRuntime) {
     let strange = Addr([0x20, 1, 0xd, 0xb8, 0, 0, 0, 0, 0, 0, 0, 0, 0, 0, 0, 1]);
-    let mut events = Vec::new(rt.alloc());
-    events.push((3000, sends_from(rt.alloc(), OWN, Addr::ALL_NODES)?))?;
-    events.push((3000, sends_from(rt.alloc(), OWN, strange)?))?;
-    events.push((3000, sends_from(rt.alloc(), OWN, NEIGHBOUR)?))?;
-    events.push((3000, sends_from(rt.alloc(), Addr::UNSPECIFIED, NEIGHBOUR)?))?;
-    let text = told_of(rt.alloc(), &events)?;
-    let wanted = format!(in rt.alloc();
-        "{STARTED}3000 tx 3333000000013456789abcde86dd6000000000031140fe80000000000000365678fffe9abcdeff020000000000000000000000000001010203\n3000 lost no-route fe80::3656:78ff:fe9a:bcde 2001:db8::1\n3000 tx 3333ff0000013456789abcde86dd6000000000203afffe80000000000000365678fffe9abcdeff0200000000000000000001ff0000018700a7fc00000000fe80000000000000000000000000000101013456789abcde\n3000 refused not-ours ::\n"
-    )?;
-    assert_eq!(rt; text.as_str(), wanted.as_str());
-    Ok(())
+    let events = [
+        (3000, sends_from(&rt, OWN, Addr::ALL_NODES)),
+        (3000, sends_from(&rt, OWN, strange)),
+        (3000, sends_from(&rt, OWN, NEIGHBOUR)),
+        (3000, sends_from(&rt, Addr::UNSPECIFIED, NEIGHBOUR)),
+    ];
+    tells(
+        &rt,
+        &events,
+        "3000 tx 3333000000013456789abcde86dd6000000000031140fe80000000000000365678fffe9abcdeff020000000000000000000000000001010203\n3000 lost no-route fe80::3656:78ff:fe9a:bcde 2001:db8::1\n3000 tx 3333ff0000013456789abcde86dd6000000000203afffe80000000000000365678fffe9abcdeff0200000000000000000001ff0000018700a7fc00000000fe80000000000000000000000000000101013456789abcde\n3000 refused not-ours ::\n",
+    );
 }
 
 /// A neighbour that an upper layer confirms is REACHABLE (RFC 4861, section 7.3.1).
 #[test]
-fn a_neighbour_is_confirmed(rt: HostRuntime) -> Result<(), Fail> {
-    let mut advertisement = Vec::new(rt.alloc());
-    advertisement.extend_from_slice(&ADVERTISEMENT)?;
-    let mut events = Vec::new(rt.alloc());
-    events.push((3000, Event::Receives(advertisement)))?;
-    events.push((3000, Event::Shows(Table::Neighbours)))?;
-    events.push((3000, Event::Confirms(ROUTER)))?;
-    events.push((3000, Event::Shows(Table::Neighbours)))?;
-    let text = told_of(rt.alloc(), &events)?;
-    let wanted = format!(in rt.alloc();
-        "{STARTED}3000 heard ra\n3000 neighbour fe80::ff:fe00:1 02:00:00:00:00:01 stale router\n3000 end 1\n3000 neighbour fe80::ff:fe00:1 02:00:00:00:00:01 reachable router\n3000 end 1\n"
-    )?;
-    assert_eq!(rt; text.as_str(), wanted.as_str());
-    Ok(())
+fn a_neighbour_is_confirmed(rt: HostRuntime) {
+    let events = [
+        (3000, received(&rt, &ADVERTISEMENT)),
+        (3000, Event::Shows(Table::Neighbours)),
+        (3000, Event::Confirms(ROUTER)),
+        (3000, Event::Shows(Table::Neighbours)),
+    ];
+    tells(
+        &rt,
+        &events,
+        "3000 heard ra\n3000 neighbour fe80::ff:fe00:1 02:00:00:00:00:01 stale router\n3000 end 1\n3000 neighbour fe80::ff:fe00:1 02:00:00:00:00:01 reachable router\n3000 end 1\n",
+    );
 }
 
 /// A Redirect of `ROUTER`: 2001:db8:1::5 by fe80::2, with the link-layer address of that.
@@ -155,75 +149,75 @@ const NEIGHBOUR: Addr = Addr([0xfe, 0x80, 0, 0, 0, 0, 0, 0, 0, 0, 0, 0, 0, 0, 0,
 const TARGET: Addr = Addr([0xfe, 0x80, 0, 0, 0, 0, 0, 0, 0, 0, 0, 0, 0, 0, 0, 2]);
 
 /// A frame comes.
-fn received(alloc: Global, bytes: &[u8]) -> Result<Event<Global>, Fail> {
-    let mut frame = Vec::new(alloc);
-    frame.extend_from_slice(bytes)?;
-    Ok(Event::Receives(frame))
+fn received(rt: &(impl Abort + AllocGlobal), bytes: &[u8]) -> Event<Global> {
+    let mut frame = Vec::new(rt.alloc());
+    frame.extend_from_slice(bytes).expect(rt, "memory");
+    Event::Receives(frame)
 }
 
 /// A packet without a payload is to be sent.
-fn sends(alloc: Global, destination: Addr) -> Event<Global> {
+fn sends(rt: &impl AllocGlobal, destination: Addr) -> Event<Global> {
     Event::Sends(OutgoingPacket {
         source: OWN,
         destination,
         next_header: 59,
-        payload: Vec::new(alloc),
+        payload: Vec::new(rt.alloc()),
     })
 }
 
 /// A neighbour is forgotten, and what waits for it is lost. A redirect to it stays.
 #[test]
-fn a_neighbour_is_forgotten(rt: HostRuntime) -> Result<(), Fail> {
-    let mut events = Vec::new(rt.alloc());
-    events.push((3000, sends(rt.alloc(), NEIGHBOUR)))?;
-    events.push((3000, Event::Forgets(NEIGHBOUR)))?;
-    events.push((3000, Event::Shows(Table::Neighbours)))?;
-    events.push((3000, received(rt.alloc(), &ADVERTISEMENT)?))?;
-    events.push((3000, received(rt.alloc(), &REDIRECT)?))?;
-    events.push((3000, Event::Forgets(TARGET)))?;
-    events.push((3000, Event::Shows(Table::Redirects)))?;
-    let text = told_of(rt.alloc(), &events)?;
-    let wanted = format!(in rt.alloc();
-        "{STARTED}3000 tx 3333ff0000013456789abcde86dd6000000000203afffe80000000000000365678fffe9abcdeff0200000000000000000001ff0000018700a7fc00000000fe80000000000000000000000000000101013456789abcde\n3000 lost forgotten fe80::3656:78ff:fe9a:bcde fe80::1\n3000 end 0\n3000 heard ra\n3000 heard redirect\n3000 redirect 2001:db8:1::5 fe80::2\n3000 end 1\n"
-    )?;
-    assert_eq!(rt; text.as_str(), wanted.as_str());
-    Ok(())
+fn a_neighbour_is_forgotten(rt: HostRuntime) {
+    let events = [
+        (3000, sends(&rt, NEIGHBOUR)),
+        (3000, Event::Forgets(NEIGHBOUR)),
+        (3000, Event::Shows(Table::Neighbours)),
+        (3000, received(&rt, &ADVERTISEMENT)),
+        (3000, received(&rt, &REDIRECT)),
+        (3000, Event::Forgets(TARGET)),
+        (3000, Event::Shows(Table::Redirects)),
+    ];
+    tells(
+        &rt,
+        &events,
+        "3000 tx 3333ff0000013456789abcde86dd6000000000203afffe80000000000000365678fffe9abcdeff0200000000000000000001ff0000018700a7fc00000000fe80000000000000000000000000000101013456789abcde\n3000 lost forgotten fe80::3656:78ff:fe9a:bcde fe80::1\n3000 end 0\n3000 heard ra\n3000 heard redirect\n3000 redirect 2001:db8:1::5 fe80::2\n3000 end 1\n",
+    );
 }
 
 /// All neighbours are forgotten, and what waits for them is lost in the order of their addresses.
 #[test]
-fn neighbours_are_cleared(rt: HostRuntime) -> Result<(), Fail> {
-    let mut events = Vec::new(rt.alloc());
-    events.push((3000, sends(rt.alloc(), TARGET)))?;
-    events.push((3000, sends(rt.alloc(), NEIGHBOUR)))?;
-    events.push((3000, Event::Clears(Clearable::Neighbours)))?;
-    events.push((3000, Event::Shows(Table::Neighbours)))?;
-    let text = told_of(rt.alloc(), &events)?;
-    let wanted = format!(in rt.alloc();
-        "{STARTED}3000 tx 3333ff0000023456789abcde86dd6000000000203afffe80000000000000365678fffe9abcdeff0200000000000000000001ff0000028700a7fa00000000fe80000000000000000000000000000201013456789abcde\n3000 tx 3333ff0000013456789abcde86dd6000000000203afffe80000000000000365678fffe9abcdeff0200000000000000000001ff0000018700a7fc00000000fe80000000000000000000000000000101013456789abcde\n3000 lost forgotten fe80::3656:78ff:fe9a:bcde fe80::1\n3000 lost forgotten fe80::3656:78ff:fe9a:bcde fe80::2\n3000 end 0\n"
-    )?;
-    assert_eq!(rt; text.as_str(), wanted.as_str());
-    Ok(())
+fn neighbours_are_cleared(rt: HostRuntime) {
+    let events = [
+        (3000, sends(&rt, TARGET)),
+        (3000, sends(&rt, NEIGHBOUR)),
+        (3000, Event::Clears(Clearable::Neighbours)),
+        (3000, Event::Shows(Table::Neighbours)),
+    ];
+    tells(
+        &rt,
+        &events,
+        "3000 tx 3333ff0000023456789abcde86dd6000000000203afffe80000000000000365678fffe9abcdeff0200000000000000000001ff0000028700a7fa00000000fe80000000000000000000000000000201013456789abcde\n3000 tx 3333ff0000013456789abcde86dd6000000000203afffe80000000000000365678fffe9abcdeff0200000000000000000001ff0000018700a7fc00000000fe80000000000000000000000000000101013456789abcde\n3000 lost forgotten fe80::3656:78ff:fe9a:bcde fe80::1\n3000 lost forgotten fe80::3656:78ff:fe9a:bcde fe80::2\n3000 end 0\n",
+    );
 }
 
 /// Redirects end by themselves and with the routers, which are told.
 #[test]
-fn routers_and_redirects_are_cleared(rt: HostRuntime) -> Result<(), Fail> {
-    let mut events = Vec::new(rt.alloc());
-    events.push((3000, received(rt.alloc(), &ADVERTISEMENT)?))?;
-    events.push((3000, received(rt.alloc(), &REDIRECT)?))?;
-    events.push((3000, Event::Clears(Clearable::Redirects)))?;
-    events.push((3000, Event::Shows(Table::Redirects)))?;
-    events.push((3000, received(rt.alloc(), &REDIRECT)?))?;
-    events.push((3000, Event::Clears(Clearable::Routers)))?;
-    events.push((3000, Event::Shows(Table::Redirects)))?;
-    events.push((3000, Event::Shows(Table::Routers)))?;
-    let text = told_of(rt.alloc(), &events)?;
-    let wanted = format!(in rt.alloc();
-        "{STARTED}3000 heard ra\n3000 heard redirect\n3000 end 0\n3000 heard redirect\n3000 ended router fe80::ff:fe00:1\n3000 end 0\n3000 end 0\n"
-    )?;
-    assert_eq!(rt; text.as_str(), wanted.as_str());
-    Ok(())
+fn routers_and_redirects_are_cleared(rt: HostRuntime) {
+    let events = [
+        (3000, received(&rt, &ADVERTISEMENT)),
+        (3000, received(&rt, &REDIRECT)),
+        (3000, Event::Clears(Clearable::Redirects)),
+        (3000, Event::Shows(Table::Redirects)),
+        (3000, received(&rt, &REDIRECT)),
+        (3000, Event::Clears(Clearable::Routers)),
+        (3000, Event::Shows(Table::Redirects)),
+        (3000, Event::Shows(Table::Routers)),
+    ];
+    tells(
+        &rt,
+        &events,
+        "3000 heard ra\n3000 heard redirect\n3000 end 0\n3000 heard redirect\n3000 ended router fe80::ff:fe00:1\n3000 end 0\n3000 end 0\n",
+    );
 }
 
 /// A Router Advertisement as the one above, with the prefix 2001:db8::/64 on the link, of which no address is formed, for 30 days, and the
@@ -239,19 +233,19 @@ const INFORMATION: [u8; 134] = [
 
 /// Prefixes, servers and names are cleared without a word.
 #[test]
-fn prefixes_and_servers_are_cleared(rt: HostRuntime) -> Result<(), Fail> {
-    let mut events = Vec::new(rt.alloc());
-    events.push((3000, received(rt.alloc(), &INFORMATION)?))?;
-    events.push((3000, Event::Shows(Table::Prefixes)))?;
-    events.push((3000, Event::Shows(Table::Dns)))?;
-    events.push((3000, Event::Clears(Clearable::Prefixes)))?;
-    events.push((3000, Event::Clears(Clearable::Dns)))?;
-    events.push((3000, Event::Shows(Table::Prefixes)))?;
-    events.push((3000, Event::Shows(Table::Dns)))?;
-    let text = told_of(rt.alloc(), &events)?;
-    let wanted = format!(in rt.alloc();
-        "{STARTED}3000 heard ra\n3000 prefix 2001:db8::/64 2592000000\n3000 end 1\n3000 server 2001:db8::53 1800000\n3000 end 1\n3000 end 0\n3000 end 0\n"
-    )?;
-    assert_eq!(rt; text.as_str(), wanted.as_str());
-    Ok(())
+fn prefixes_and_servers_are_cleared(rt: HostRuntime) {
+    let events = [
+        (3000, received(&rt, &INFORMATION)),
+        (3000, Event::Shows(Table::Prefixes)),
+        (3000, Event::Shows(Table::Dns)),
+        (3000, Event::Clears(Clearable::Prefixes)),
+        (3000, Event::Clears(Clearable::Dns)),
+        (3000, Event::Shows(Table::Prefixes)),
+        (3000, Event::Shows(Table::Dns)),
+    ];
+    tells(
+        &rt,
+        &events,
+        "3000 heard ra\n3000 prefix 2001:db8::/64 2592000000\n3000 end 1\n3000 server 2001:db8::53 1800000\n3000 end 1\n3000 end 0\n3000 end 0\n",
+    );
 }

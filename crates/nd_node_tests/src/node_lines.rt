@@ -2,7 +2,7 @@ use nd_addr::Addr;
 use nd_decode::{Body, NeighborSolicitation};
 use nd_out::*;
 use nd_waiting::Packet;
-use std::alloc::Global;
+use std::alloc::{AllocError, Global};
 use std::test::*;
 
 /// fe80::3656:78ff:fe9a:bcde.
@@ -19,26 +19,27 @@ const SOLICITATION: [u8; 78] = [
 ];
 
 /// What is told of one thing that happened at a node of a link.
-fn told(alloc: Global, node: usize, at: u64, out: Out<Global>) -> Result<String, Fail> {
+fn told(alloc: Global, node: usize, at: u64, out: Out<Global>) -> Result<String, AllocError> {
     let mut text = String::new(alloc);
     write_node_out(&mut text, node, at, &out)?;
     Ok(text)
 }
 
 #[test]
-fn a_frame_is_told_of_its_node(rt: HostRuntime) -> Result<(), Fail> {
+fn a_frame_is_told_of_its_node(rt: HostRuntime) {
     let mut bytes = Vec::new(rt.alloc());
-    bytes.extend_from_slice(&SOLICITATION)?;
-    let frame = Packet::new(bytes).ok_or("too short")?;
+    bytes.extend_from_slice(&SOLICITATION).expect(&rt, "memory");
+    let frame = Packet::new(bytes).expect(&rt, "too short");
     assert_eq!(rt;
-        told(rt.alloc(), 0, 0, Out::Frame(frame))?.as_str(),
+        told(rt.alloc(), 0, 0, Out::Frame(frame))
+            .expect(&rt, "memory")
+            .as_str(),
         "n0 0 tx 3333ff9abcde3456789abcde86dd6000000000183aff00000000000000000000000000000000ff0200000000000000000001ff9abcde870053df00000000fe80000000000000365678fffe9abcde\n"
     );
-    Ok(())
 }
 
 #[test]
-fn a_line_begins_with_the_number_of_its_node(rt: HostRuntime) -> Result<(), Fail> {
+fn a_line_begins_with_the_number_of_its_node(rt: HostRuntime) {
     let body = Body::Ns(NeighborSolicitation { target: LINK_LOCAL });
     let heard = Out::Heard {
         source: Addr([0; 16]),
@@ -46,33 +47,43 @@ fn a_line_begins_with_the_number_of_its_node(rt: HostRuntime) -> Result<(), Fail
         body,
     };
     assert_eq!(rt;
-        told(rt.alloc(), 1, 400, heard)?.as_str(),
+        told(rt.alloc(), 1, 400, heard)
+            .expect(&rt, "memory")
+            .as_str(),
         "n1 400 heard ns\n"
     );
     assert_eq!(rt;
-        told(rt.alloc(), 0, 1000, Out::Assigned(LINK_LOCAL))?.as_str(),
+        told(rt.alloc(), 0, 1000, Out::Assigned(LINK_LOCAL))
+            .expect(&rt, "memory")
+            .as_str(),
         "n0 1000 assigned fe80::3656:78ff:fe9a:bcde\n"
     );
     assert_eq!(rt;
-        told(rt.alloc(), 15, 2800, Out::Duplicate(LINK_LOCAL))?.as_str(),
+        told(rt.alloc(), 15, 2800, Out::Duplicate(LINK_LOCAL))
+            .expect(&rt, "memory")
+            .as_str(),
         "n15 2800 duplicate fe80::3656:78ff:fe9a:bcde\n"
     );
-    Ok(())
 }
 
 #[test]
-fn each_line_of_a_table_begins_so(rt: HostRuntime) -> Result<(), Fail> {
+fn each_line_of_a_table_begins_so(rt: HostRuntime) {
     let alloc = rt.alloc();
     let mut rows = Vec::new(alloc);
-    rows.push(String::from_str(alloc, "server 2001:db8::53 1799000")?)?;
-    rows.push(String::from_str(alloc, "search a.example 1799000")?)?;
+    rows.push(String::from_str(alloc, "server 2001:db8::53 1799000").expect(&rt, "memory"))
+        .expect(&rt, "memory");
+    rows.push(String::from_str(alloc, "search a.example 1799000").expect(&rt, "memory"))
+        .expect(&rt, "memory");
     assert_eq!(rt;
-        told(alloc, 2, 2200, Out::Shown(rows))?.as_str(),
+        told(alloc, 2, 2200, Out::Shown(rows))
+            .expect(&rt, "memory")
+            .as_str(),
         "n2 2200 server 2001:db8::53 1799000\nn2 2200 search a.example 1799000\nn2 2200 end 2\n"
     );
     assert_eq!(rt;
-        told(alloc, 2, 2200, Out::Shown(Vec::new(alloc)))?.as_str(),
+        told(alloc, 2, 2200, Out::Shown(Vec::new(alloc)))
+            .expect(&rt, "memory")
+            .as_str(),
         "n2 2200 end 0\n"
     );
-    Ok(())
 }

@@ -40,8 +40,8 @@ fn has_rows(rt: &impl Abort, routes: &Routes<Global>, wanted: &[(Prefix, Route)]
 }
 
 #[test]
-fn longest_prefix_decides(rt: HostRuntime) -> Result<(), Fail> {
-    let mut routes = Routes::new(rt.alloc())?;
+fn longest_prefix_decides(rt: HostRuntime) {
+    let mut routes = Routes::new(rt.alloc()).expect(&rt, "memory");
     assert!(rt; routes.look(global(0, 1)).is_none());
     // Shorter ones stand before and behind the longer ones.
     let wide = prefix(&rt, global(0, 0), 32);
@@ -56,12 +56,11 @@ fn longest_prefix_decides(rt: HostRuntime) -> Result<(), Fail> {
     assert_eq!(rt; routes.look(global(1, 6)), Some(Route::Direct));
     assert_eq!(rt; routes.look(global(2, 5)), Some(via(2)));
     assert_eq!(rt; routes.look(Addr::LOOPBACK), Some(via(9)));
-    Ok(())
 }
 
 #[test]
-fn routes_are_replaced_in_their_places(rt: HostRuntime) -> Result<(), Fail> {
-    let mut routes = Routes::new(rt.alloc())?;
+fn routes_are_replaced_in_their_places(rt: HostRuntime) {
+    let mut routes = Routes::new(rt.alloc()).expect(&rt, "memory");
     let first = prefix(&rt, global(0, 0), 64);
     let second = prefix(&rt, global(1, 0), 64);
     // The same address, with another length.
@@ -73,12 +72,11 @@ fn routes_are_replaced_in_their_places(rt: HostRuntime) -> Result<(), Fail> {
     let rows = [(first, via(4)), (second, via(2)), (third, via(3))];
     has_rows(&rt, &routes, &rows);
     assert_eq!(rt; routes.look(global(0, 7)), Some(via(4)));
-    Ok(())
 }
 
 #[test]
-fn a_65th_prefix_is_refused(rt: HostRuntime) -> Result<(), Fail> {
-    let mut routes = Routes::new(rt.alloc())?;
+fn a_65th_prefix_is_refused(rt: HostRuntime) {
+    let mut routes = Routes::new(rt.alloc()).expect(&rt, "memory");
     for net in 0..64u8 {
         assert_eq!(rt;
             routes.put(prefix(&rt, global(net, 0), 64), Route::Direct),
@@ -97,7 +95,6 @@ fn a_65th_prefix_is_refused(rt: HostRuntime) -> Result<(), Fail> {
     }
     assert_eq!(rt; routes.look(global(63, 1)), Some(via(63)));
     assert_eq!(rt; routes.put(new, via(2)), Err(Full));
-    Ok(())
 }
 
 /// A packet of these addresses and this hop limit.
@@ -113,19 +110,19 @@ fn packet(source: Addr, destination: Addr, hop_limit: u8) -> Ip6 {
 }
 
 /// 2001:db8::/64 is on the link, and 2001:db8:1::/64 behind fe80::2.
-fn make_routes(rt: &impl Abort, alloc: Global) -> Result<Routes<Global>, AllocError> {
-    let mut routes = Routes::new(alloc)?;
+fn make_routes(rt: &impl Abort, alloc: Global) -> Routes<Global> {
+    let mut routes = Routes::new(alloc).expect(rt, "memory");
     assert_eq!(rt;
         routes.put(prefix(rt, global(0, 0), 64), Route::Direct),
         Ok(())
     );
     assert_eq!(rt; routes.put(prefix(rt, global(1, 0), 64), via(2)), Ok(()));
-    Ok(routes)
+    routes
 }
 
 #[test]
-fn hops_go_by_the_order_of_5_2(rt: HostRuntime) -> Result<(), Fail> {
-    let mut routes = make_routes(&rt, rt.alloc())?;
+fn hops_go_by_the_order_of_5_2(rt: HostRuntime) {
+    let mut routes = make_routes(&rt, rt.alloc());
     let table = [
         (Addr::UNSPECIFIED, Hop::NoRoute),
         (Addr::LOOPBACK, Hop::NoRoute),
@@ -153,12 +150,11 @@ fn hops_go_by_the_order_of_5_2(rt: HostRuntime) -> Result<(), Fail> {
     // fe80::/10 is wider than the subnet that is on the link.
     let other = Addr([0xfe, 0x80, 0, 0, 0, 0, 0, 1, 0, 0, 0, 0, 0, 0, 0, 7]);
     assert!(rt; routes.next_hop(other, false) == Hop::Via(link_local(3)));
-    Ok(())
 }
 
 #[test]
-fn packets_are_forwarded_or_lost(rt: HostRuntime) -> Result<(), Fail> {
-    let routes = make_routes(&rt, rt.alloc())?;
+fn packets_are_forwarded_or_lost(rt: HostRuntime) {
+    let routes = make_routes(&rt, rt.alloc());
     let host = global(0, 9);
     let away = global(1, 5);
     let staying = [
@@ -180,12 +176,11 @@ fn packets_are_forwarded_or_lost(rt: HostRuntime) -> Result<(), Fail> {
     // Without a route it is lost for want of one.
     assert!(rt; routes.forward(&packet(host, global(2, 5), 1), false) == Fate::NoRoute);
     assert!(rt; routes.forward(&packet(host, away, 64), true) == Fate::NoRoute);
-    Ok(())
 }
 
 #[test]
-fn a_neighbour_is_redirected(rt: HostRuntime) -> Result<(), Fail> {
-    let mut routes = make_routes(&rt, rt.alloc())?;
+fn a_neighbour_is_redirected(rt: HostRuntime) {
+    let mut routes = make_routes(&rt, rt.alloc());
     let host = global(0, 9);
     let away = global(1, 5);
     assert_eq!(rt;
@@ -254,12 +249,11 @@ fn a_neighbour_is_redirected(rt: HostRuntime) -> Result<(), Fail> {
             .redirect_for(2000, &packet(link_local(2), away, 64), false)
             .is_none()
     );
-    Ok(())
 }
 
 #[test]
-fn redirects_are_limited(rt: HostRuntime) -> Result<(), Fail> {
-    let mut routes = make_routes(&rt, rt.alloc())?;
+fn redirects_are_limited(rt: HostRuntime) {
+    let mut routes = make_routes(&rt, rt.alloc());
     let packet = packet(global(0, 9), global(1, 5), 64);
     // Asking alone limits nothing.
     assert_eq!(rt;
@@ -290,5 +284,4 @@ fn redirects_are_limited(rt: HostRuntime) -> Result<(), Fail> {
         routes.redirect_for(2200, &packet, false),
         Some(link_local(4))
     );
-    Ok(())
 }

@@ -12,7 +12,7 @@ use nd_routers::{Prefixes, Routers};
 use nd_routes::{Route, Routes};
 use nd_slaac::{AddressRoom, Addresses, Due};
 use nd_waiting::Packet;
-use std::alloc::Global;
+use std::alloc::{AllocError, Global};
 use std::process::Abort;
 use std::test::*;
 
@@ -57,14 +57,14 @@ const NAMES: [u8; 64] = [
 ];
 
 /// The packet of these bytes.
-fn packet(alloc: Global, bytes: &[u8]) -> Result<Packet<Global>, Fail> {
-    let mut frame = Vec::new(alloc);
-    frame.extend_from_slice(bytes)?;
-    Ok(Packet::new(frame).ok_or("too short")?)
+fn packet(rt: &(impl Abort + AllocGlobal), bytes: &[u8]) -> Packet<Global> {
+    let mut frame = Vec::new(rt.alloc());
+    frame.extend_from_slice(bytes).expect(rt, "memory");
+    Packet::new(frame).expect(rt, "too short")
 }
 
 /// What is told of one thing that happened at a moment.
-fn told(alloc: Global, at: u64, out: Out<Global>) -> Result<String, Fail> {
+fn told(alloc: Global, at: u64, out: Out<Global>) -> Result<String, AllocError> {
     let mut text = String::new(alloc);
     write_outs(&mut text, &[(at, out)])?;
     Ok(text)
@@ -79,7 +79,7 @@ fn advertisement(bytes: &[u8]) -> Option<MessageRef<'_>> {
 }
 
 #[test]
-fn addresses_are_told(rt: HostRuntime) -> Result<(), Fail> {
+fn addresses_are_told(rt: HostRuntime) {
     let mut text = String::new(rt.alloc());
     let outs = [
         (1000, Out::Assigned(LINK_LOCAL)),
@@ -88,141 +88,155 @@ fn addresses_are_told(rt: HostRuntime) -> Result<(), Fail> {
         (2_592_001_200, Out::EndedAddress(LINK_LOCAL)),
     ];
     let outs: [(u64, Out<Global>); 4] = outs;
-    write_outs(&mut text, &outs)?;
+    write_outs(&mut text, &outs).expect(&rt, "memory");
     assert_eq!(rt;
         text.as_str(),
         "1000 assigned fe80::3656:78ff:fe9a:bcde\n6000 failed 2001:db8::1\n\
         1801200 ended router fe80::ff:fe00:1\n2592001200 ended address fe80::3656:78ff:fe9a:bcde\n"
     );
-    Ok(())
 }
 
 #[test]
-fn a_frame_is_told_in_hexadecimal(rt: HostRuntime) -> Result<(), Fail> {
-    let frame = packet(rt.alloc(), &DATAGRAM)?;
+fn a_frame_is_told_in_hexadecimal(rt: HostRuntime) {
+    let frame = packet(&rt, &DATAGRAM);
     assert_eq!(rt;
-        told(rt.alloc(), 5000, Out::Frame(frame))?.as_str(),
+        told(rt.alloc(), 5000, Out::Frame(frame))
+            .expect(&rt, "memory")
+            .as_str(),
         "5000 tx 02000000000102000000000986dd600000000000114020010db800000000000000000000000920010db8000100000000000000000005\n"
     );
-    Ok(())
 }
 
 #[test]
-fn a_lost_packet_is_told_by_its_addresses(rt: HostRuntime) -> Result<(), Fail> {
-    let frame = packet(rt.alloc(), &DATAGRAM)?;
+fn a_lost_packet_is_told_by_its_addresses(rt: HostRuntime) {
+    let frame = packet(&rt, &DATAGRAM);
     assert_eq!(rt;
-        told(rt.alloc(), 5000, Out::Lost(Loss::Unreachable, frame))?.as_str(),
+        told(rt.alloc(), 5000, Out::Lost(Loss::Unreachable, frame))
+            .expect(&rt, "memory")
+            .as_str(),
         "5000 lost unreachable 2001:db8::9 2001:db8:1::5\n"
     );
-    let frame = packet(rt.alloc(), &DATAGRAM)?;
+    let frame = packet(&rt, &DATAGRAM);
     assert_eq!(rt;
-        told(rt.alloc(), 3000, Out::Lost(Loss::Replaced, frame))?.as_str(),
+        told(rt.alloc(), 3000, Out::Lost(Loss::Replaced, frame))
+            .expect(&rt, "memory")
+            .as_str(),
         "3000 lost replaced 2001:db8::9 2001:db8:1::5\n"
     );
-    let frame = packet(rt.alloc(), &DATAGRAM)?;
+    let frame = packet(&rt, &DATAGRAM);
     assert_eq!(rt;
-        told(rt.alloc(), 10_000, Out::Lost(Loss::NoRoute, frame))?.as_str(),
+        told(rt.alloc(), 10_000, Out::Lost(Loss::NoRoute, frame))
+            .expect(&rt, "memory")
+            .as_str(),
         "10000 lost no-route 2001:db8::9 2001:db8:1::5\n"
     );
     // What a short frame lacks of its addresses is zeros.
-    let frame = packet(rt.alloc(), &[0; 14])?;
+    let frame = packet(&rt, &[0; 14]);
     assert_eq!(rt;
-        told(rt.alloc(), 0, Out::Lost(Loss::Forgotten, frame))?.as_str(),
+        told(rt.alloc(), 0, Out::Lost(Loss::Forgotten, frame))
+            .expect(&rt, "memory")
+            .as_str(),
         "0 lost forgotten :: ::\n"
     );
-    Ok(())
 }
 
 #[test]
-fn a_packet_whose_hop_limit_is_spent_is_told(rt: HostRuntime) -> Result<(), Fail> {
-    let frame = packet(rt.alloc(), &DATAGRAM)?;
+fn a_packet_whose_hop_limit_is_spent_is_told(rt: HostRuntime) {
+    let frame = packet(&rt, &DATAGRAM);
     assert_eq!(rt;
-        told(rt.alloc(), 7000, Out::Lost(Loss::HopLimit, frame))?.as_str(),
+        told(rt.alloc(), 7000, Out::Lost(Loss::HopLimit, frame))
+            .expect(&rt, "memory")
+            .as_str(),
         "7000 lost hop-limit 2001:db8::9 2001:db8:1::5\n"
     );
-    Ok(())
 }
 
 #[test]
-fn full_tables_of_a_router_are_told(rt: HostRuntime) -> Result<(), Fail> {
+fn full_tables_of_a_router_are_told(rt: HostRuntime) {
     let mut text = String::new(rt.alloc());
     let outs: [(u64, Out<Global>); 2] = [
         (5, Out::Refused(Refusal::Full(Limit::Offers))),
         (6, Out::Refused(Refusal::Full(Limit::StaticRoutes))),
     ];
-    write_outs(&mut text, &outs)?;
+    write_outs(&mut text, &outs).expect(&rt, "memory");
     assert_eq!(rt;
         text.as_str(),
         "5 refused full offers\n6 refused full routes\n"
     );
-    Ok(())
 }
 
 #[test]
-fn a_late_event_is_told_by_the_last_moment(rt: HostRuntime) -> Result<(), Fail> {
+fn a_late_event_is_told_by_the_last_moment(rt: HostRuntime) {
     assert_eq!(rt;
-        told(rt.alloc(), 9, Out::Past(10))?.as_str(),
+        told(rt.alloc(), 9, Out::Past(10))
+            .expect(&rt, "memory")
+            .as_str(),
         "9 refused past 10\n"
     );
-    Ok(())
 }
 
 #[test]
-fn parameters_are_shown(rt: HostRuntime) -> Result<(), Fail> {
+fn parameters_are_shown(rt: HostRuntime) {
     let alloc = rt.alloc();
-    let rows = parameter_row(&alloc, &Params::new(0, 15_000))?;
+    let rows = parameter_row(&alloc, &Params::new(0, 15_000)).expect(&rt, "memory");
     assert_eq!(rt;
-        told(rt.alloc(), 10, Out::Shown(rows))?.as_str(),
+        told(rt.alloc(), 10, Out::Shown(rows))
+            .expect(&rt, "memory")
+            .as_str(),
         "10 params hop 64 mtu 1500 reachable 30000 15000 retrans 1000 managed 0 other 0\n10 end 1\n"
     );
-    Ok(())
 }
 
 #[test]
-fn addresses_are_shown(rt: HostRuntime) -> Result<(), Fail> {
+fn addresses_are_shown(rt: HostRuntime) {
     let alloc = rt.alloc();
-    let room = AddressRoom::new(rt.alloc())?;
+    let room = AddressRoom::new(rt.alloc()).expect(&rt, "memory");
     let mut addresses = Addresses::start(room, 0, MAC, 0, 1000);
     assert!(rt; addresses.conflict(LINK_LOCAL));
-    let rows = address_rows(&alloc, &addresses, 999)?;
+    let rows = address_rows(&alloc, &addresses, 999).expect(&rt, "memory");
     assert_eq!(rt;
-        told(rt.alloc(), 999, Out::Shown(rows))?.as_str(),
+        told(rt.alloc(), 999, Out::Shown(rows))
+            .expect(&rt, "memory")
+            .as_str(),
         "999 address fe80::3656:78ff:fe9a:bcde duplicate inf inf\n999 end 1\n"
     );
-    Ok(())
 }
 
 #[test]
-fn a_router_is_shown(rt: HostRuntime) -> Result<(), Fail> {
+fn a_router_is_shown(rt: HostRuntime) {
     let alloc = rt.alloc();
-    let mut routers = Routers::new(rt.alloc(), 16)?;
+    let mut routers = Routers::new(rt.alloc(), 16).expect(&rt, "memory");
     assert!(rt; routers.next_due().is_none());
     assert!(rt; routers.heard_ra(1200, ROUTER, 1800).is_ok());
-    let rows = router_rows(&alloc, &routers, 2200)?;
+    let rows = router_rows(&alloc, &routers, 2200).expect(&rt, "memory");
     assert_eq!(rt;
-        told(rt.alloc(), 2200, Out::Shown(rows))?.as_str(),
+        told(rt.alloc(), 2200, Out::Shown(rows))
+            .expect(&rt, "memory")
+            .as_str(),
         "2200 router fe80::ff:fe00:1 1799000\n2200 end 1\n"
     );
-    Ok(())
 }
 
 #[test]
-fn a_prefix_is_shown(rt: HostRuntime) -> Result<(), Fail> {
+fn a_prefix_is_shown(rt: HostRuntime) {
     let alloc = rt.alloc();
-    let mut prefixes = Prefixes::new(rt.alloc())?;
-    let rows = prefix_rows(&alloc, &prefixes, 1200)?;
+    let mut prefixes = Prefixes::new(rt.alloc()).expect(&rt, "memory");
+    let rows = prefix_rows(&alloc, &prefixes, 1200).expect(&rt, "memory");
     assert_eq!(rt;
-        told(rt.alloc(), 1200, Out::Shown(rows))?.as_str(),
+        told(rt.alloc(), 1200, Out::Shown(rows))
+            .expect(&rt, "memory")
+            .as_str(),
         "1200 end 0\n"
     );
-    let message = advertisement(&ADVERTISEMENT).ok_or("message")?;
+    let message = advertisement(&ADVERTISEMENT).expect(&rt, "message");
     assert!(rt; prefixes.heard_ra(1200, message.options).is_ok());
-    let rows = prefix_rows(&alloc, &prefixes, 2200)?;
+    let rows = prefix_rows(&alloc, &prefixes, 2200).expect(&rt, "memory");
     assert_eq!(rt;
-        told(rt.alloc(), 2200, Out::Shown(rows))?.as_str(),
+        told(rt.alloc(), 2200, Out::Shown(rows))
+            .expect(&rt, "memory")
+            .as_str(),
         "2200 prefix 2001:db8::/64 2591999000\n2200 end 1\n"
     );
-    Ok(())
 }
 
 /// Tells that a router has a link-layer address.
@@ -235,59 +249,64 @@ fn given(addr: Addr, last: u8) -> News {
 }
 
 #[test]
-fn neighbours_are_shown(rt: HostRuntime) -> Result<(), Fail> {
+fn neighbours_are_shown(rt: HostRuntime) {
     let alloc = rt.alloc();
-    let mut cache = Cache::new(rt.alloc(), 4)?;
+    let mut cache = Cache::new(rt.alloc(), 4).expect(&rt, "memory");
     let times = Times {
         retrans: 1000,
         reachable: 15_000,
     };
     assert!(rt; cache.heard(1200, given(ROUTER, 1), times).is_ok());
     assert!(rt; cache.heard(2300, given(OTHER_ROUTER, 2), times).is_ok());
-    let rows = neighbour_rows(&alloc, &cache, 2300)?;
+    let rows = neighbour_rows(&alloc, &cache, 2300).expect(&rt, "memory");
     assert_eq!(rt;
-        told(rt.alloc(), 2300, Out::Shown(rows))?.as_str(),
+        told(rt.alloc(), 2300, Out::Shown(rows))
+            .expect(&rt, "memory")
+            .as_str(),
         "2300 neighbour fe80::2 02:00:00:00:00:02 stale router\n\
         2300 neighbour fe80::ff:fe00:1 02:00:00:00:00:01 stale router\n2300 end 2\n"
     );
-    Ok(())
 }
 
 #[test]
-fn a_redirect_is_shown(rt: HostRuntime) -> Result<(), Fail> {
+fn a_redirect_is_shown(rt: HostRuntime) {
     let alloc = rt.alloc();
-    let mut choice = Choice::new(rt.alloc())?;
-    choice.redirected(REMOTE, OTHER_ROUTER)?;
-    let rows = redirect_rows(&alloc, &choice)?;
+    let mut choice = Choice::new(rt.alloc()).expect(&rt, "memory");
+    choice
+        .redirected(REMOTE, OTHER_ROUTER)
+        .expect(&rt, "memory");
+    let rows = redirect_rows(&alloc, &choice).expect(&rt, "memory");
     assert_eq!(rt;
-        told(rt.alloc(), 2300, Out::Shown(rows))?.as_str(),
+        told(rt.alloc(), 2300, Out::Shown(rows))
+            .expect(&rt, "memory")
+            .as_str(),
         "2300 redirect 2001:db8:1::5 fe80::2\n2300 end 1\n"
     );
-    Ok(())
 }
 
 #[test]
-fn a_server_and_a_name_are_shown(rt: HostRuntime) -> Result<(), Fail> {
+fn a_server_and_a_name_are_shown(rt: HostRuntime) {
     let alloc = rt.alloc();
-    let mut dns = Dns::new(rt.alloc())?;
-    let message = advertisement(&NAMES).ok_or("message")?;
+    let mut dns = Dns::new(rt.alloc()).expect(&rt, "memory");
+    let message = advertisement(&NAMES).expect(&rt, "message");
     let options = message.options;
     match dns.names(1200, options) {
         Ok(names) => assert!(rt; dns.heard_ra(1200, options, names).is_ok()),
         Err(_) => assert!(rt; false),
     }
-    let rows = dns_rows(&alloc, &dns, 2200)?;
+    let rows = dns_rows(&alloc, &dns, 2200).expect(&rt, "memory");
     assert_eq!(rt;
-        told(rt.alloc(), 2200, Out::Shown(rows))?.as_str(),
+        told(rt.alloc(), 2200, Out::Shown(rows))
+            .expect(&rt, "memory")
+            .as_str(),
         "2200 server 2001:db8::53 1799000\n2200 search a.example 1799000\n2200 end 2\n"
     );
-    Ok(())
 }
 
 #[test]
-fn a_confirmed_neighbour_is_shown_until_its_time_has_passed(rt: HostRuntime) -> Result<(), Fail> {
+fn a_confirmed_neighbour_is_shown_until_its_time_has_passed(rt: HostRuntime) {
     let alloc = rt.alloc();
-    let mut cache = Cache::new(rt.alloc(), 4)?;
+    let mut cache = Cache::new(rt.alloc(), 4).expect(&rt, "memory");
     let times = Times {
         retrans: 1000,
         reachable: 15_000,
@@ -303,35 +322,39 @@ fn a_confirmed_neighbour_is_shown_until_its_time_has_passed(rt: HostRuntime) -> 
         mac: Some(Mac([2, 0, 0, 0, 0, 1])),
     };
     assert!(rt; cache.heard(8500, advertised, times).is_ok());
-    let rows = neighbour_rows(&alloc, &cache, 23_499)?;
+    let rows = neighbour_rows(&alloc, &cache, 23_499).expect(&rt, "memory");
     assert_eq!(rt;
-        told(rt.alloc(), 23_499, Out::Shown(rows))?.as_str(),
+        told(rt.alloc(), 23_499, Out::Shown(rows))
+            .expect(&rt, "memory")
+            .as_str(),
         "23499 neighbour fe80::ff:fe00:1 02:00:00:00:00:01 reachable router\n23499 end 1\n"
     );
-    let rows = neighbour_rows(&alloc, &cache, 23_500)?;
+    let rows = neighbour_rows(&alloc, &cache, 23_500).expect(&rt, "memory");
     assert_eq!(rt;
-        told(rt.alloc(), 23_500, Out::Shown(rows))?.as_str(),
+        told(rt.alloc(), 23_500, Out::Shown(rows))
+            .expect(&rt, "memory")
+            .as_str(),
         "23500 neighbour fe80::ff:fe00:1 02:00:00:00:00:01 stale router\n23500 end 1\n"
     );
-    Ok(())
 }
 
 #[test]
-fn a_neighbour_without_an_address_is_shown(rt: HostRuntime) -> Result<(), Fail> {
+fn a_neighbour_without_an_address_is_shown(rt: HostRuntime) {
     let alloc = rt.alloc();
-    let mut cache = Cache::new(rt.alloc(), 4)?;
+    let mut cache = Cache::new(rt.alloc(), 4).expect(&rt, "memory");
     let times = Times {
         retrans: 1000,
         reachable: 15_000,
     };
-    let sent = cache.used(3000, ABSENT, packet(rt.alloc(), &DATAGRAM)?, times);
+    let sent = cache.used(3000, ABSENT, packet(&rt, &DATAGRAM), times);
     assert!(rt; sent.is_ok());
-    let rows = neighbour_rows(&alloc, &cache, 3000)?;
+    let rows = neighbour_rows(&alloc, &cache, 3000).expect(&rt, "memory");
     assert_eq!(rt;
-        told(rt.alloc(), 3000, Out::Shown(rows))?.as_str(),
+        told(rt.alloc(), 3000, Out::Shown(rows))
+            .expect(&rt, "memory")
+            .as_str(),
         "3000 neighbour 2001:db8::1 - incomplete host\n3000 end 1\n"
     );
-    Ok(())
 }
 
 /// Turns at the moment that is next.
@@ -358,23 +381,24 @@ fn month_and_week() -> Option<PrefixInfo> {
 }
 
 #[test]
-fn two_addresses_are_shown_in_their_order(rt: HostRuntime) -> Result<(), Fail> {
+fn two_addresses_are_shown_in_their_order(rt: HostRuntime) {
     let alloc = rt.alloc();
-    let room = AddressRoom::new(rt.alloc())?;
+    let room = AddressRoom::new(rt.alloc()).expect(&rt, "memory");
     let mut addresses = Addresses::start(room, 0, MAC, 0, 1000);
     assert!(rt; turn_at(&rt, &mut addresses, 0).is_some());
     assert!(rt; turn_at(&rt, &mut addresses, 1000).is_some());
-    let info = month_and_week().ok_or("option")?;
+    let info = month_and_week().expect(&rt, "option");
     assert!(rt; addresses.heard_prefix(1200, &info, 0, 1000).is_ok());
     assert!(rt; turn_at(&rt, &mut addresses, 1200).is_some());
     assert!(rt; turn_at(&rt, &mut addresses, 2200).is_some());
-    let rows = address_rows(&alloc, &addresses, 2200)?;
+    let rows = address_rows(&alloc, &addresses, 2200).expect(&rt, "memory");
     assert_eq!(rt;
-        told(rt.alloc(), 2200, Out::Shown(rows))?.as_str(),
+        told(rt.alloc(), 2200, Out::Shown(rows))
+            .expect(&rt, "memory")
+            .as_str(),
         "2200 address 2001:db8::3656:78ff:fe9a:bcde preferred 604799000 2591999000\n\
         2200 address fe80::3656:78ff:fe9a:bcde preferred inf inf\n2200 end 2\n"
     );
-    Ok(())
 }
 
 /// The first bits of 2001:db8:net::.
@@ -401,32 +425,45 @@ fn offered(
 }
 
 /// What is shown of an advertiser.
-fn shown_of(alloc: Global, role: Role, advertiser: &Advertiser<Global>) -> Result<String, Fail> {
+fn shown_of(
+    alloc: Global,
+    role: Role,
+    advertiser: &Advertiser<Global>,
+) -> Result<String, AllocError> {
     let rows = advertise_rows(&alloc, role, advertiser)?;
     told(alloc, 10, Out::Shown(rows))
 }
 
 #[test]
-fn what_a_router_advertises_is_shown(rt: HostRuntime) -> Result<(), Fail> {
-    let mut advertiser = Advertiser::new(rt.alloc())?;
+fn what_a_router_advertises_is_shown(rt: HostRuntime) {
+    let mut advertiser = Advertiser::new(rt.alloc()).expect(&rt, "memory");
     assert_eq!(rt;
-        shown_of(rt.alloc(), Role::Router, &advertiser)?.as_str(),
+        shown_of(rt.alloc(), Role::Router, &advertiser)
+            .expect(&rt, "memory")
+            .as_str(),
         "10 advertise off\n10 end 1\n"
     );
     let flags = ConfigFlags {
         managed: false,
         other: false,
     };
-    advertiser.begin(10, Config::new(200, 600, 1800, 64, flags, 0, 0, 0)?);
+    advertiser.begin(
+        10,
+        Config::new(200, 600, 1800, 64, flags, 0, 0, 0).expect(&rt, "settings"),
+    );
     assert!(rt; offered(&mut advertiser, prefix_of(1, 48), true, false));
     assert!(rt; offered(&mut advertiser, prefix_of(0, 64), true, true));
     assert_eq!(rt;
-        shown_of(rt.alloc(), Role::Router, &advertiser)?.as_str(),
+        shown_of(rt.alloc(), Role::Router, &advertiser)
+            .expect(&rt, "memory")
+            .as_str(),
         "10 advertise on\n10 offer 2001:db8:1::/48 2592000 604800 l\n\
         10 offer 2001:db8::/64 2592000 604800 la\n10 end 3\n"
     );
     assert_eq!(rt;
-        shown_of(rt.alloc(), Role::Host, &advertiser)?.as_str(),
+        shown_of(rt.alloc(), Role::Host, &advertiser)
+            .expect(&rt, "memory")
+            .as_str(),
         "10 end 0\n"
     );
     // Its prefixes stay when it ceases, and are replaced in their places.
@@ -434,11 +471,12 @@ fn what_a_router_advertises_is_shown(rt: HostRuntime) -> Result<(), Fail> {
     assert!(rt; offered(&mut advertiser, prefix_of(1, 48), false, true));
     assert!(rt; offered(&mut advertiser, prefix_of(0, 64), false, false));
     assert_eq!(rt;
-        shown_of(rt.alloc(), Role::Router, &advertiser)?.as_str(),
+        shown_of(rt.alloc(), Role::Router, &advertiser)
+            .expect(&rt, "memory")
+            .as_str(),
         "10 advertise off\n10 offer 2001:db8:1::/48 2592000 604800 a\n\
         10 offer 2001:db8::/64 2592000 604800 -\n10 end 3\n"
     );
-    Ok(())
 }
 
 /// A route is put.
@@ -450,20 +488,23 @@ fn put_route(routes: &mut Routes<Global>, prefix: Option<Prefix>, route: Route) 
 }
 
 #[test]
-fn static_routes_are_shown(rt: HostRuntime) -> Result<(), Fail> {
+fn static_routes_are_shown(rt: HostRuntime) {
     let alloc = rt.alloc();
-    let mut routes = Routes::new(rt.alloc())?;
+    let mut routes = Routes::new(rt.alloc()).expect(&rt, "memory");
     assert!(rt; put_route(&mut routes, prefix_of(1, 64), Route::Via(OTHER_ROUTER)));
     assert!(rt; put_route(&mut routes, prefix_of(0, 64), Route::Direct));
-    let rows = route_rows(&alloc, Role::Router, &routes)?;
+    let rows = route_rows(&alloc, Role::Router, &routes).expect(&rt, "memory");
     assert_eq!(rt;
-        told(rt.alloc(), 10, Out::Shown(rows))?.as_str(),
+        told(rt.alloc(), 10, Out::Shown(rows))
+            .expect(&rt, "memory")
+            .as_str(),
         "10 route 2001:db8:1::/64 fe80::2\n10 route 2001:db8::/64 direct\n10 end 2\n"
     );
-    let rows = route_rows(&alloc, Role::Host, &routes)?;
+    let rows = route_rows(&alloc, Role::Host, &routes).expect(&rt, "memory");
     assert_eq!(rt;
-        told(rt.alloc(), 10, Out::Shown(rows))?.as_str(),
+        told(rt.alloc(), 10, Out::Shown(rows))
+            .expect(&rt, "memory")
+            .as_str(),
         "10 end 0\n"
     );
-    Ok(())
 }

@@ -94,8 +94,14 @@ fn turn_before(rt: &impl Abort, addresses: &mut Addresses<Global>, now: u64) -> 
 }
 
 /// The addresses of an interface whose link-local one was assigned at 1000.
-fn started(rt: &impl Abort, alloc: Global) -> Result<Addresses<Global>, Fail> {
-    let mut addresses = Addresses::start(AddressRoom::new(alloc)?, 0, MAC, 0, 1000);
+fn started(rt: &impl Abort, alloc: Global) -> Addresses<Global> {
+    let mut addresses = Addresses::start(
+        AddressRoom::new(alloc).expect(rt, "memory"),
+        0,
+        MAC,
+        0,
+        1000,
+    );
     assert_eq!(rt; addresses.state(0, LINK_LOCAL), Some(State::Tentative));
     assert_eq!(rt;
         turn_at(rt, &mut addresses, 0),
@@ -108,13 +114,13 @@ fn started(rt: &impl Abort, alloc: Global) -> Result<Addresses<Global>, Fail> {
     );
     assert_eq!(rt; addresses.state(1000, LINK_LOCAL), Some(State::Preferred));
     assert_eq!(rt; addresses.next_due(), None);
-    Ok(addresses)
+    addresses
 }
 
 #[test]
-fn an_address_is_tried_assigned_deprecated_and_ended(rt: HostRuntime) -> Result<(), Fail> {
-    let mut addresses = started(&rt, rt.alloc())?;
-    let info = default_option(0).ok_or("option")?;
+fn an_address_is_tried_assigned_deprecated_and_ended(rt: HostRuntime) {
+    let mut addresses = started(&rt, rt.alloc());
+    let info = default_option(0).expect(&rt, "option");
     assert!(rt; addresses.would_form(&info));
     assert_eq!(rt;
         addresses.heard_prefix(1200, &info, 0, 1000),
@@ -144,13 +150,12 @@ fn an_address_is_tried_assigned_deprecated_and_ended(rt: HostRuntime) -> Result<
     );
     assert_eq!(rt; addresses.state(2_592_001_200, GLOBAL), None);
     assert_eq!(rt; addresses.next_due(), None);
-    Ok(())
 }
 
 #[test]
-fn addresses_are_shown_in_their_order(rt: HostRuntime) -> Result<(), Fail> {
-    let mut addresses = started(&rt, rt.alloc())?;
-    let info = default_option(0).ok_or("option")?;
+fn addresses_are_shown_in_their_order(rt: HostRuntime) {
+    let mut addresses = started(&rt, rt.alloc());
+    let info = default_option(0).expect(&rt, "option");
     assert_eq!(rt;
         addresses.heard_prefix(1200, &info, 0, 1000),
         Ok(Taken::Formed)
@@ -163,7 +168,7 @@ fn addresses_are_shown_in_their_order(rt: HostRuntime) -> Result<(), Fail> {
         turn_at(&rt, &mut addresses, 2200),
         Some(Due::Assign(GLOBAL))
     );
-    let shown = addresses.rows(2200)?;
+    let shown = addresses.rows(2200).expect(&rt, "memory");
     assert_eq!(rt; shown.len(), 2);
     let global = OwnAddress {
         addr: GLOBAL,
@@ -179,7 +184,7 @@ fn addresses_are_shown_in_their_order(rt: HostRuntime) -> Result<(), Fail> {
     };
     assert!(rt; shown.first().copied() == Some(global));
     assert!(rt; shown.last().copied() == Some(link_local));
-    let later = addresses.rows(604_801_201)?;
+    let later = addresses.rows(604_801_201).expect(&rt, "memory");
     let deprecated = OwnAddress {
         addr: GLOBAL,
         state: State::Deprecated,
@@ -187,13 +192,12 @@ fn addresses_are_shown_in_their_order(rt: HostRuntime) -> Result<(), Fail> {
         valid_left: Some(1_987_199_999),
     };
     assert!(rt; later.first().copied() == Some(deprecated));
-    Ok(())
 }
 
 #[test]
-fn a_conflict_makes_a_tentative_address_a_duplicate(rt: HostRuntime) -> Result<(), Fail> {
-    let mut addresses = started(&rt, rt.alloc())?;
-    let info = default_option(0).ok_or("option")?;
+fn a_conflict_makes_a_tentative_address_a_duplicate(rt: HostRuntime) {
+    let mut addresses = started(&rt, rt.alloc());
+    let info = default_option(0).expect(&rt, "option");
     assert_eq!(rt;
         addresses.heard_prefix(1200, &info, 0, 1000),
         Ok(Taken::Formed)
@@ -214,19 +218,24 @@ fn a_conflict_makes_a_tentative_address_a_duplicate(rt: HostRuntime) -> Result<(
         turn_at(&rt, &mut addresses, 2_592_003_000),
         Some(Due::End(GLOBAL))
     );
-    Ok(())
 }
 
 #[test]
-fn a_link_local_duplicate_has_no_end(rt: HostRuntime) -> Result<(), Fail> {
-    let mut addresses = Addresses::start(AddressRoom::new(rt.alloc())?, 0, MAC, 0, 1000);
+fn a_link_local_duplicate_has_no_end(rt: HostRuntime) {
+    let mut addresses = Addresses::start(
+        AddressRoom::new(rt.alloc()).expect(&rt, "memory"),
+        0,
+        MAC,
+        0,
+        1000,
+    );
     assert_eq!(rt;
         turn_at(&rt, &mut addresses, 0),
         Some(Due::Solicit(LINK_LOCAL))
     );
     assert!(rt; addresses.conflict(LINK_LOCAL));
     assert_eq!(rt; addresses.next_due(), None);
-    let shown = addresses.rows(999)?;
+    let shown = addresses.rows(999).expect(&rt, "memory");
     let duplicate = OwnAddress {
         addr: LINK_LOCAL,
         state: State::Duplicate,
@@ -234,12 +243,17 @@ fn a_link_local_duplicate_has_no_end(rt: HostRuntime) -> Result<(), Fail> {
         valid_left: None,
     };
     assert!(rt; shown.first().copied() == Some(duplicate));
-    Ok(())
 }
 
 #[test]
-fn the_first_solicitation_waits_for_the_delay(rt: HostRuntime) -> Result<(), Fail> {
-    let mut addresses = Addresses::start(AddressRoom::new(rt.alloc())?, 100, MAC, 1000, 400);
+fn the_first_solicitation_waits_for_the_delay(rt: HostRuntime) {
+    let mut addresses = Addresses::start(
+        AddressRoom::new(rt.alloc()).expect(&rt, "memory"),
+        100,
+        MAC,
+        1000,
+        400,
+    );
     assert_eq!(rt;
         turn_at(&rt, &mut addresses, 1100),
         Some(Due::Solicit(LINK_LOCAL))
@@ -248,22 +262,20 @@ fn the_first_solicitation_waits_for_the_delay(rt: HostRuntime) -> Result<(), Fai
         turn_at(&rt, &mut addresses, 1500),
         Some(Due::Assign(LINK_LOCAL))
     );
-    Ok(())
 }
 
 #[test]
-fn an_assigned_address_has_no_conflict(rt: HostRuntime) -> Result<(), Fail> {
-    let mut addresses = started(&rt, rt.alloc())?;
+fn an_assigned_address_has_no_conflict(rt: HostRuntime) {
+    let mut addresses = started(&rt, rt.alloc());
     assert!(rt; !addresses.conflict(LINK_LOCAL));
     assert!(rt; !addresses.conflict(GLOBAL));
     assert_eq!(rt; addresses.state(1000, LINK_LOCAL), Some(State::Preferred));
-    Ok(())
 }
 
 #[test]
-fn a_detection_keeps_its_retrans_timer(rt: HostRuntime) -> Result<(), Fail> {
-    let mut addresses = started(&rt, rt.alloc())?;
-    let info = default_option(0).ok_or("option")?;
+fn a_detection_keeps_its_retrans_timer(rt: HostRuntime) {
+    let mut addresses = started(&rt, rt.alloc());
+    let info = default_option(0).expect(&rt, "option");
     assert_eq!(rt;
         addresses.heard_prefix(1200, &info, 0, 1000),
         Ok(Taken::Formed)
@@ -280,13 +292,12 @@ fn a_detection_keeps_its_retrans_timer(rt: HostRuntime) -> Result<(), Fail> {
         turn_at(&rt, &mut addresses, 2200),
         Some(Due::Assign(GLOBAL))
     );
-    Ok(())
 }
 
 #[test]
-fn an_address_may_end_before_it_is_assigned(rt: HostRuntime) -> Result<(), Fail> {
-    let mut addresses = started(&rt, rt.alloc())?;
-    let info = option(0, 1, 1).ok_or("option")?;
+fn an_address_may_end_before_it_is_assigned(rt: HostRuntime) {
+    let mut addresses = started(&rt, rt.alloc());
+    let info = option(0, 1, 1).expect(&rt, "option");
     assert_eq!(rt;
         addresses.heard_prefix(1200, &info, 0, 5000),
         Ok(Taken::Formed)
@@ -297,14 +308,13 @@ fn an_address_may_end_before_it_is_assigned(rt: HostRuntime) -> Result<(), Fail>
     );
     assert_eq!(rt; turn_at(&rt, &mut addresses, 2200), Some(Due::End(GLOBAL)));
     assert_eq!(rt; addresses.next_due(), None);
-    Ok(())
 }
 
 #[test]
-fn ends_come_before_all_else(rt: HostRuntime) -> Result<(), Fail> {
-    let mut addresses = started(&rt, rt.alloc())?;
-    let lasting = default_option(0).ok_or("option")?;
-    let short = option(1, 1, 1).ok_or("option")?;
+fn ends_come_before_all_else(rt: HostRuntime) {
+    let mut addresses = started(&rt, rt.alloc());
+    let lasting = default_option(0).expect(&rt, "option");
+    let short = option(1, 1, 1).expect(&rt, "option");
     assert_eq!(rt;
         addresses.heard_prefix(1200, &lasting, 0, 1000),
         Ok(Taken::Formed)
@@ -328,31 +338,30 @@ fn ends_come_before_all_else(rt: HostRuntime) -> Result<(), Fail> {
     );
     assert_eq!(rt; turn_before(&rt, &mut addresses, 2200), None);
     assert_eq!(rt; addresses.next_due(), Some(2_592_001_200));
-    Ok(())
 }
 
 #[test]
-fn some_options_say_nothing_of_an_address(rt: HostRuntime) -> Result<(), Fail> {
-    let mut addresses = started(&rt, rt.alloc())?;
-    let info = default_option(0).ok_or("option")?;
+fn some_options_say_nothing_of_an_address(rt: HostRuntime) {
+    let mut addresses = started(&rt, rt.alloc());
+    let info = default_option(0).expect(&rt, "option");
     let link_local = PrefixInfo {
-        prefix: Prefix::new(LINK_LOCAL, 64).ok_or("prefix")?,
+        prefix: Prefix::new(LINK_LOCAL, 64).expect(&rt, "prefix"),
         ..info
     };
     let multicast = PrefixInfo {
-        prefix: Prefix::new(Addr([0xff; 16]), 64).ok_or("prefix")?,
+        prefix: Prefix::new(Addr([0xff; 16]), 64).expect(&rt, "prefix"),
         ..info
     };
     let short = PrefixInfo {
-        prefix: Prefix::new(GLOBAL, 63).ok_or("prefix")?,
+        prefix: Prefix::new(GLOBAL, 63).expect(&rt, "prefix"),
         ..info
     };
     let on_link_alone = PrefixInfo {
         autonomous: false,
         ..info
     };
-    let preferred_for_longer = option(0, 1799, 1800).ok_or("option")?;
-    let over = option(0, 0, 0).ok_or("option")?;
+    let preferred_for_longer = option(0, 1799, 1800).expect(&rt, "option");
+    let over = option(0, 0, 0).expect(&rt, "option");
     assert!(rt; !addresses.would_form(&over));
     for said in [
         link_local,
@@ -367,19 +376,17 @@ fn some_options_say_nothing_of_an_address(rt: HostRuntime) -> Result<(), Fail> {
             Ok(Taken::Ignored)
         );
     }
-    assert_eq!(rt; addresses.rows(1200)?.len(), 1);
-    Ok(())
+    assert_eq!(rt; addresses.rows(1200).expect(&rt, "memory").len(), 1);
 }
 
 /// The 64 addresses are shown in the order of their numbers, the link-local one behind those of 2001:db8::/32.
-fn all_are_shown(rt: &impl Abort, addresses: &Addresses<Global>) -> Result<(), Fail> {
+fn all_are_shown(rt: &impl Abort, addresses: &Addresses<Global>) {
     let mut n = 0u16;
-    for row in &addresses.rows(1200)? {
+    for row in &addresses.rows(1200).expect(rt, "memory") {
         assert!(rt; row.addr == if n < 63 { formed_of(n) } else { LINK_LOCAL });
         n = n.saturating_add(1);
     }
     assert_eq!(rt; n, 64);
-    Ok(())
 }
 
 /// Hears the option for 2001:db8:n::/64.
@@ -389,10 +396,10 @@ fn hear_option(addresses: &mut Addresses<Global>, n: u16) -> Option<Result<Taken
 }
 
 #[test]
-fn the_65th_address_has_no_room(rt: HostRuntime) -> Result<(), Fail> {
-    let two = advertisement(&TWO_PREFIXES).ok_or("message")?;
-    let twice = advertisement(&PREFIX_TWICE).ok_or("message")?;
-    let mut addresses = started(&rt, rt.alloc())?;
+fn the_65th_address_has_no_room(rt: HostRuntime) {
+    let two = advertisement(&TWO_PREFIXES).expect(&rt, "message");
+    let twice = advertisement(&PREFIX_TWICE).expect(&rt, "message");
+    let mut addresses = started(&rt, rt.alloc());
     for n in 0..61u16 {
         assert!(rt; hear_option(&mut addresses, n) == Some(Ok(Taken::Formed)));
     }
@@ -402,19 +409,18 @@ fn the_65th_address_has_no_room(rt: HostRuntime) -> Result<(), Fail> {
     assert!(rt; addresses.fits(twice.options));
     assert!(rt; !addresses.fits(two.options));
     assert!(rt; hear_option(&mut addresses, 62) == Some(Ok(Taken::Formed)));
-    all_are_shown(&rt, &addresses)?;
+    all_are_shown(&rt, &addresses);
     // There are 64. An option for one that is known is taken still.
     assert!(rt; !addresses.fits(twice.options));
     assert!(rt; hear_option(&mut addresses, 62) == Some(Ok(Taken::Renewed)));
-    let next = default_option(63).ok_or("option")?;
+    let next = default_option(63).expect(&rt, "option");
     assert!(rt; addresses.would_form(&next));
     assert!(rt; hear_option(&mut addresses, 63) == Some(Err(Full)));
-    all_are_shown(&rt, &addresses)?;
-    Ok(())
+    all_are_shown(&rt, &addresses);
 }
 
 #[test]
-fn a_rest_is_cut_to_two_hours(rt: HostRuntime) -> Result<(), Fail> {
+fn a_rest_is_cut_to_two_hours(rt: HostRuntime) {
     let now = 1_000_000u64;
     assert_eq!(rt;
         renewed(now, Some(now + 10_800_000), 3600),
@@ -434,13 +440,12 @@ fn a_rest_is_cut_to_two_hours(rt: HostRuntime) -> Result<(), Fail> {
     );
     assert_eq!(rt; renewed(now, Some(now + 10_800_000), 0xffff_ffff), None);
     assert_eq!(rt; renewed(now, None, 60), Some(now + 7_200_000));
-    Ok(())
 }
 
 #[test]
-fn a_renewal_cuts_the_preferred_lifetime(rt: HostRuntime) -> Result<(), Fail> {
-    let mut addresses = started(&rt, rt.alloc())?;
-    let info = default_option(0).ok_or("option")?;
+fn a_renewal_cuts_the_preferred_lifetime(rt: HostRuntime) {
+    let mut addresses = started(&rt, rt.alloc());
+    let info = default_option(0).expect(&rt, "option");
     assert_eq!(rt;
         addresses.heard_prefix(1200, &info, 0, 1000),
         Ok(Taken::Formed)
@@ -453,7 +458,7 @@ fn a_renewal_cuts_the_preferred_lifetime(rt: HostRuntime) -> Result<(), Fail> {
         turn_at(&rt, &mut addresses, 2200),
         Some(Due::Assign(GLOBAL))
     );
-    let over = option(0, 0, 0).ok_or("option")?;
+    let over = option(0, 0, 0).expect(&rt, "option");
     assert_eq!(rt;
         addresses.heard_prefix(3000, &over, 0, 1000),
         Ok(Taken::Renewed)
@@ -463,5 +468,4 @@ fn a_renewal_cuts_the_preferred_lifetime(rt: HostRuntime) -> Result<(), Fail> {
         turn_at(&rt, &mut addresses, 7_203_000),
         Some(Due::End(GLOBAL))
     );
-    Ok(())
 }

@@ -118,15 +118,19 @@ const BOTH: [u8; 72] = [
 ];
 
 #[test]
-fn hears_a_server_and_a_name(rt: HostRuntime) -> Result<(), Fail> {
-    let mut dns = Dns::new(rt.alloc())?;
-    let message = advertisement(&BOTH).ok_or("message")?;
+fn hears_a_server_and_a_name(rt: HostRuntime) {
+    let mut dns = Dns::new(rt.alloc()).expect(&rt, "memory");
+    let message = advertisement(&BOTH).expect(&rt, "message");
     assert!(rt; hear(&mut dns, 1_200, message.options) == Ok(()));
     servers_are(&rt, &dns, 1_200, &[(0x53, Some(1_801_200))]);
     let mut count = 0u8;
     for entry in dns.search_names(1_801_199) {
         let mut text = String::new(rt.alloc());
-        entry.key.as_name().write_text(&mut text)?;
+        entry
+            .key
+            .as_name()
+            .write_text(&mut text)
+            .expect(&rt, "memory");
         assert!(rt; text.as_str() == "a.example");
         assert!(rt; entry.end == Some(1_801_200));
         count = count.saturating_add(1);
@@ -136,12 +140,11 @@ fn hears_a_server_and_a_name(rt: HostRuntime) -> Result<(), Fail> {
     // They end silently.
     servers_are(&rt, &dns, 1_801_200, &[]);
     names_are(&rt, &dns, 1_801_200, &[]);
-    Ok(())
 }
 
 #[test]
-fn keeps_servers_in_the_order_of_coming(rt: HostRuntime) -> Result<(), Fail> {
-    let mut dns = Dns::new(rt.alloc())?;
+fn keeps_servers_in_the_order_of_coming(rt: HostRuntime) {
+    let mut dns = Dns::new(rt.alloc()).expect(&rt, "memory");
     let forever = Told {
         n: 1,
         lifetime: [0xff, 0xff, 0xff, 0xff],
@@ -161,12 +164,11 @@ fn keeps_servers_in_the_order_of_coming(rt: HostRuntime) -> Result<(), Fail> {
     servers_are(&rt, &dns, 14_000, &[(2, Some(114_000)), (1, Some(24_000))]);
     dns.clear();
     servers_are(&rt, &dns, 14_000, &[]);
-    Ok(())
 }
 
 #[test]
-fn keeps_names_in_the_order_of_coming(rt: HostRuntime) -> Result<(), Fail> {
-    let mut dns = Dns::new(rt.alloc())?;
+fn keeps_names_in_the_order_of_coming(rt: HostRuntime) {
+    let mut dns = Dns::new(rt.alloc()).expect(&rt, "memory");
     assert!(rt; hear_names(&mut dns, 1_000, lasting(b'b', 100), lasting(b'a', 100)) == TAKEN);
     names_are(
         &rt,
@@ -200,7 +202,6 @@ fn keeps_names_in_the_order_of_coming(rt: HostRuntime) -> Result<(), Fail> {
     );
     dns.clear();
     names_are(&rt, &dns, 101_000, &[]);
-    Ok(())
 }
 
 /// How many servers stand.
@@ -222,8 +223,8 @@ fn count_names(dns: &Dns<Global>, now: u64) -> usize {
 }
 
 #[test]
-fn has_room_for_thirty_two_servers(rt: HostRuntime) -> Result<(), Fail> {
-    let mut dns = Dns::new(rt.alloc())?;
+fn has_room_for_thirty_two_servers(rt: HostRuntime) {
+    let mut dns = Dns::new(rt.alloc()).expect(&rt, "memory");
     for n in 1..=32u8 {
         assert!(rt; hear_servers(&mut dns, 1_000, lasting(n, 100), lasting(n, 200)) == TAKEN);
     }
@@ -244,12 +245,11 @@ fn has_room_for_thirty_two_servers(rt: HostRuntime) -> Result<(), Fail> {
     // Those that have ended don't count.
     assert!(rt; hear_servers(&mut dns, 201_000, lasting(40, 1), lasting(41, 1)) == TAKEN);
     assert_eq!(rt; count_servers(&dns, 201_000), 2);
-    Ok(())
 }
 
 #[test]
-fn has_room_for_thirty_two_names(rt: HostRuntime) -> Result<(), Fail> {
-    let mut dns = Dns::new(rt.alloc())?;
+fn has_room_for_thirty_two_names(rt: HostRuntime) {
+    let mut dns = Dns::new(rt.alloc()).expect(&rt, "memory");
     // The letters from A to Z are those from a to z.
     for n in b'a'..=b'z' {
         assert!(rt; hear_names(&mut dns, 1_000, lasting(n, 100), lasting(n, 200)) == TAKEN);
@@ -259,7 +259,7 @@ fn has_room_for_thirty_two_names(rt: HostRuntime) -> Result<(), Fail> {
     }
     let mut wanted = b"abcdefghijklmnopqrstuvwxyz012345".iter();
     for entry in dns.search_names(1_000) {
-        let n = wanted.next().ok_or("one name too many")?;
+        let n = wanted.next().expect(&rt, "one name too many");
         assert!(rt; entry.key.as_name().as_bytes() == [2, b'x', *n].as_slice());
         assert!(rt; entry.end == Some(201_000));
     }
@@ -273,5 +273,4 @@ fn has_room_for_thirty_two_names(rt: HostRuntime) -> Result<(), Fail> {
     assert!(rt; hear_servers(&mut dns, 2_000, lasting(1, 9), lasting(2, 9)) == TAKEN);
     assert!(rt; hear_names(&mut dns, 201_000, lasting(b'7', 1), lasting(b'8', 1)) == TAKEN);
     assert_eq!(rt; count_names(&dns, 201_000), 2);
-    Ok(())
 }

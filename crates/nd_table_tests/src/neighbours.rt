@@ -33,10 +33,10 @@ fn addr(n: u16) -> Addr {
 }
 
 /// An Ethernet header, all of whose bytes are this one.
-fn packet(rt: &HostRuntime, byte: u8) -> Result<Packet<Global>, Fail> {
-    let mut frame = Vec::with_capacity(rt.alloc(), 14)?;
-    frame.extend_from_slice(&[byte; 14])?;
-    Ok(Packet::new(frame).ok_or("too short")?)
+fn packet(rt: &(impl Abort + AllocGlobal), byte: u8) -> Packet<Global> {
+    let mut frame = Vec::with_capacity(rt.alloc(), 14).expect(rt, "memory");
+    frame.extend_from_slice(&[byte; 14]).expect(rt, "memory");
+    Packet::new(frame).expect(rt, "too short")
 }
 
 fn tell(due: Option<Due<Global>>) -> Told {
@@ -130,16 +130,16 @@ fn given(n: u16) -> News {
 }
 
 #[test]
-fn a_resolution_keeps_its_retrans_timer(rt: HostRuntime) -> Result<(), Fail> {
-    let mut cache = Cache::new(rt.alloc(), 4)?;
+fn a_resolution_keeps_its_retrans_timer(rt: HostRuntime) {
+    let mut cache = Cache::new(rt.alloc(), 4).expect(&rt, "memory");
     let a = addr(1);
-    let sent = cache.used(0, a, packet(&rt, 1)?, TIMES);
+    let sent = cache.used(0, a, packet(&rt, 1), TIMES);
     assert_eq!(rt; is_queued(sent), Some(true));
     let faster = Times {
         retrans: 400,
         reachable: 15_000,
     };
-    let sent = cache.used(500, a, packet(&rt, 2)?, faster);
+    let sent = cache.used(500, a, packet(&rt, 2), faster);
     assert_eq!(rt; is_queued(sent), Some(false));
     assert_eq!(rt; cache.waiting(), 2);
     assert_eq!(rt; turn_at(&rt, &mut cache, 1000), Told::Multicast(a));
@@ -147,15 +147,14 @@ fn a_resolution_keeps_its_retrans_timer(rt: HostRuntime) -> Result<(), Fail> {
     assert_eq!(rt; turn_at(&rt, &mut cache, 3000), Told::Failed(a, 2));
     assert_eq!(rt; cache.next_due(), None);
     assert_eq!(rt; cache.entry(3000, a), None);
-    Ok(())
 }
 
 #[test]
-fn a_use_of_a_stale_entry_leads_to_probes(rt: HostRuntime) -> Result<(), Fail> {
-    let mut cache = Cache::new(rt.alloc(), 4)?;
+fn a_use_of_a_stale_entry_leads_to_probes(rt: HostRuntime) {
+    let mut cache = Cache::new(rt.alloc(), 4).expect(&rt, "memory");
     let a = addr(1);
     assert!(rt; cache.heard(1000, given(1), TIMES).is_ok());
-    let sent = cache.used(2000, a, packet(&rt, 1)?, TIMES);
+    let sent = cache.used(2000, a, packet(&rt, 1), TIMES);
     assert_eq!(rt; sent_to(sent), Some(MAC));
     assert_eq!(rt; state(&cache, 6999, a), Some(Reachability::Delay));
     assert_eq!(rt; state(&cache, 7000, a), Some(Reachability::Probe));
@@ -163,27 +162,25 @@ fn a_use_of_a_stale_entry_leads_to_probes(rt: HostRuntime) -> Result<(), Fail> {
     assert_eq!(rt; turn_at(&rt, &mut cache, 8000), Told::Unicast(a, MAC));
     assert_eq!(rt; turn_at(&rt, &mut cache, 9000), Told::Unicast(a, MAC));
     assert_eq!(rt; turn_at(&rt, &mut cache, 10_000), Told::Failed(a, 0));
-    Ok(())
 }
 
 #[test]
-fn a_confirmation_ends_and_the_entry_ages(rt: HostRuntime) -> Result<(), Fail> {
-    let mut cache = Cache::new(rt.alloc(), 4)?;
+fn a_confirmation_ends_and_the_entry_ages(rt: HostRuntime) {
+    let mut cache = Cache::new(rt.alloc(), 4).expect(&rt, "memory");
     let a = addr(1);
     assert!(rt; cache.heard(1000, given(1), TIMES).is_ok());
-    let sent = cache.used(2000, a, packet(&rt, 1)?, TIMES);
+    let sent = cache.used(2000, a, packet(&rt, 1), TIMES);
     assert_eq!(rt; sent_to(sent), Some(MAC));
     cache.confirmed(6999, a, 15_000);
     assert_eq!(rt; state(&cache, 21_998, a), Some(Reachability::Reachable));
     assert_eq!(rt; state(&cache, 21_999, a), Some(Reachability::Stale));
     assert_eq!(rt; turn_at(&rt, &mut cache, 86_421_999), Told::Aged(a));
     assert_eq!(rt; cache.next_due(), None);
-    Ok(())
 }
 
 #[test]
-fn the_513th_neighbour_pushes_out_the_one_stale_for_longest(rt: HostRuntime) -> Result<(), Fail> {
-    let mut cache = Cache::new(rt.alloc(), 512)?;
+fn the_513th_neighbour_pushes_out_the_one_stale_for_longest(rt: HostRuntime) {
+    let mut cache = Cache::new(rt.alloc(), 512).expect(&rt, "memory");
     for n in 0..512u16 {
         assert!(rt; cache.heard(u64::from(n), given(n), TIMES).is_ok());
     }
@@ -191,67 +188,66 @@ fn the_513th_neighbour_pushes_out_the_one_stale_for_longest(rt: HostRuntime) -> 
     assert_eq!(rt; cache.entry(1000, addr(0)), None);
     assert_eq!(rt; state(&cache, 1000, addr(1)), Some(Reachability::Stale));
     assert_eq!(rt; state(&cache, 1000, addr(512)), Some(Reachability::Stale));
-    assert_eq!(rt; cache.rows(1000)?.len(), 512);
-    Ok(())
+    assert_eq!(rt; cache.rows(1000).expect(&rt, "memory").len(), 512);
 }
 
 #[test]
-fn the_513th_neighbour_is_full_where_none_is_stale(rt: HostRuntime) -> Result<(), Fail> {
-    let mut cache = Cache::new(rt.alloc(), 512)?;
+fn the_513th_neighbour_is_full_where_none_is_stale(rt: HostRuntime) {
+    let mut cache = Cache::new(rt.alloc(), 512).expect(&rt, "memory");
     for n in 0..512u16 {
         assert!(rt; cache.heard(u64::from(n), given(n), TIMES).is_ok());
         cache.confirmed(999, addr(n), 15_000);
     }
     assert!(rt; cache.heard(1000, given(512), TIMES).is_err());
-    let sent = cache.used(1000, addr(512), packet(&rt, 9)?, TIMES);
+    let sent = cache.used(1000, addr(512), packet(&rt, 9), TIMES);
     assert_eq!(rt; refusal(sent), Some((CacheRefusal::Full, 9)));
     assert_eq!(rt; state(&cache, 1000, addr(0)), Some(Reachability::Reachable));
-    assert_eq!(rt; cache.rows(1000)?.len(), 512);
+    assert_eq!(rt; cache.rows(1000).expect(&rt, "memory").len(), 512);
     assert_eq!(rt; cache.entry(1000, addr(512)), None);
-    Ok(())
 }
 
 #[test]
-fn the_last_three_packets_wait_and_are_released_in_order(rt: HostRuntime) -> Result<(), Fail> {
-    let mut cache = Cache::new(rt.alloc(), 4)?;
+fn the_last_three_packets_wait_and_are_released_in_order(rt: HostRuntime) {
+    let mut cache = Cache::new(rt.alloc(), 4).expect(&rt, "memory");
     let a = addr(1);
     assert!(rt; cache.ready(2).is_ok());
     for byte in 1..4u8 {
-        let sent = cache.used(0, a, packet(&rt, byte)?, TIMES);
+        let sent = cache.used(0, a, packet(&rt, byte), TIMES);
         assert_eq!(rt; is_queued(sent), Some(byte == 1));
     }
-    let sent = cache.used(0, a, packet(&rt, 4)?, TIMES);
+    let sent = cache.used(0, a, packet(&rt, 4), TIMES);
     assert_eq!(rt; replaced(sent), Some(1));
     assert_eq!(rt; cache.waiting(), 3);
-    let mut touched = cache.heard(10, given(1), TIMES).map_err(|_| "a refusal")?;
+    let mut touched = cache
+        .heard(10, given(1), TIMES)
+        .ok()
+        .expect(&rt, "a refusal");
     assert_eq!(rt; touched.released.len(), 3);
     assert_eq!(rt; first_byte(&mut touched.released), 2);
     assert_eq!(rt; first_byte(&mut touched.released), 3);
     assert_eq!(rt; first_byte(&mut touched.released), 4);
     assert!(rt; touched.released.is_empty());
     assert_eq!(rt; cache.waiting(), 0);
-    Ok(())
 }
 
 #[test]
-fn what_is_forgotten_hands_out_what_waited(rt: HostRuntime) -> Result<(), Fail> {
-    let mut cache = Cache::new(rt.alloc(), 4)?;
+fn what_is_forgotten_hands_out_what_waited(rt: HostRuntime) {
+    let mut cache = Cache::new(rt.alloc(), 4).expect(&rt, "memory");
     for n in [3u16, 1, 2] {
         let byte = if n == 3 { 3 } else { 1 };
-        let sent = cache.used(0, addr(n), packet(&rt, byte)?, TIMES);
+        let sent = cache.used(0, addr(n), packet(&rt, byte), TIMES);
         assert_eq!(rt; is_queued(sent), Some(true));
     }
     let mut packets = cache.forget(addr(3));
     assert_eq!(rt; first_byte(&mut packets), 3);
     assert!(rt; cache.forget(addr(9)).is_empty());
-    assert_eq!(rt; cache.clear()?.len(), 2);
-    assert_eq!(rt; cache.rows(0)?.len(), 0);
-    Ok(())
+    assert_eq!(rt; cache.clear().expect(&rt, "memory").len(), 2);
+    assert_eq!(rt; cache.rows(0).expect(&rt, "memory").len(), 0);
 }
 
 #[test]
-fn a_router_that_is_none_any_more_is_told(rt: HostRuntime) -> Result<(), Fail> {
-    let mut cache = Cache::new(rt.alloc(), 4)?;
+fn a_router_that_is_none_any_more_is_told(rt: HostRuntime) {
+    let mut cache = Cache::new(rt.alloc(), 4).expect(&rt, "memory");
     let router = News::Given {
         addr: addr(1),
         mac: MAC,
@@ -267,11 +263,10 @@ fn a_router_that_is_none_any_more_is_told(rt: HostRuntime) -> Result<(), Fail> {
         },
         mac: None,
     };
-    let touched = cache.heard(1, host, TIMES).map_err(|_| "a refusal")?;
+    let touched = cache.heard(1, host, TIMES).ok().expect(&rt, "a refusal");
     assert!(rt; touched.ends_router);
-    let touched = cache.heard(2, host, TIMES).map_err(|_| "a refusal")?;
+    let touched = cache.heard(2, host, TIMES).ok().expect(&rt, "a refusal");
     assert!(rt; !touched.ends_router);
-    Ok(())
 }
 
 /// The address that an advertisement gives, beside the one that is known.
@@ -354,14 +349,14 @@ fn rows_with_address(without_override: Option<Reachability>) -> [Row; 12] {
 
 /// A cache whose entry is in a state at 20,000.
 fn cache_with(
-    rt: &HostRuntime,
+    rt: &(impl Abort + AllocGlobal),
     before: Option<Reachability>,
     router: bool,
-) -> Result<Cache<Global>, Fail> {
-    let mut cache = Cache::new(rt.alloc(), 4)?;
+) -> Cache<Global> {
+    let mut cache = Cache::new(rt.alloc(), 4).expect(rt, "memory");
     let a = addr(1);
     if before == Some(Reachability::Incomplete) {
-        let _ = cache.used(19_500, a, packet(rt, 1)?, TIMES);
+        let _ = cache.used(19_500, a, packet(rt, 1), TIMES);
     } else if before.is_some() {
         let _ = cache.heard(1000, given(1), TIMES);
     }
@@ -369,18 +364,23 @@ fn cache_with(
         cache.confirmed(19_000, a, 15_000);
     }
     if before == Some(Reachability::Delay) {
-        let _ = cache.used(19_000, a, packet(rt, 1)?, TIMES);
+        let _ = cache.used(19_000, a, packet(rt, 1), TIMES);
     }
     if before == Some(Reachability::Probe) {
-        let _ = cache.used(2000, a, packet(rt, 1)?, TIMES);
+        let _ = cache.used(2000, a, packet(rt, 1), TIMES);
     }
     let _ = cache.heard(19_900, News::Marked { addr: a, router }, TIMES);
-    Ok(cache)
+    cache
 }
 
 /// Whether one row holds, with R set or not, for an entry that was marked otherwise.
-fn row_holds(rt: &HostRuntime, before: Reachability, row: Row, router: bool) -> Result<bool, Fail> {
-    let mut cache = cache_with(rt, Some(before), !router)?;
+fn row_holds(
+    rt: &(impl Abort + AllocGlobal),
+    before: Reachability,
+    row: Row,
+    router: bool,
+) -> bool {
+    let mut cache = cache_with(rt, Some(before), !router);
     let a = addr(1);
     let found = state(&cache, 20_000, a);
     let news = News::Advert {
@@ -403,30 +403,29 @@ fn row_holds(rt: &HostRuntime, before: Reachability, row: Row, router: bool) -> 
         router: router == row.marks,
         state: row.state.unwrap_or(before),
     };
-    Ok(found == Some(before) && heard && cache.entry(20_000, a) == Some(after))
+    found == Some(before) && heard && cache.entry(20_000, a) == Some(after)
 }
 
 #[test]
-fn every_advertisement_makes_of_an_entry_what_the_table_says(rt: HostRuntime) -> Result<(), Fail> {
+fn every_advertisement_makes_of_an_entry_what_the_table_says(rt: HostRuntime) {
     for router in [false, true] {
         for row in rows_while_incomplete() {
-            assert!(rt; row_holds(&rt, Reachability::Incomplete, row, router)?);
+            assert!(rt; row_holds(&rt, Reachability::Incomplete, row, router));
         }
         for row in rows_with_address(Some(Reachability::Stale)) {
-            assert!(rt; row_holds(&rt, Reachability::Reachable, row, router)?);
+            assert!(rt; row_holds(&rt, Reachability::Reachable, row, router));
         }
         for row in rows_with_address(None) {
-            assert!(rt; row_holds(&rt, Reachability::Stale, row, router)?);
-            assert!(rt; row_holds(&rt, Reachability::Delay, row, router)?);
-            assert!(rt; row_holds(&rt, Reachability::Probe, row, router)?);
+            assert!(rt; row_holds(&rt, Reachability::Stale, row, router));
+            assert!(rt; row_holds(&rt, Reachability::Delay, row, router));
+            assert!(rt; row_holds(&rt, Reachability::Probe, row, router));
         }
     }
-    Ok(())
 }
 
 #[test]
-fn an_advertisement_makes_no_entry(rt: HostRuntime) -> Result<(), Fail> {
-    let mut cache = cache_with(&rt, None, true)?;
+fn an_advertisement_makes_no_entry(rt: HostRuntime) {
+    let mut cache = cache_with(&rt, None, true);
     let news = News::Advert {
         addr: addr(1),
         flags: Flags {
@@ -438,17 +437,16 @@ fn an_advertisement_makes_no_entry(rt: HostRuntime) -> Result<(), Fail> {
     };
     assert!(rt; cache.heard(20_000, news, TIMES).is_ok());
     assert_eq!(rt; cache.entry(20_000, addr(1)), None);
-    Ok(())
 }
 
 /// Whether an address that is given, the same one or another one, leads to a state.
 fn given_makes(
-    rt: &HostRuntime,
+    rt: &(impl Abort + AllocGlobal),
     before: Reachability,
     mac: Mac,
     after: Reachability,
-) -> Result<bool, Fail> {
-    let mut cache = cache_with(rt, Some(before), true)?;
+) -> bool {
+    let mut cache = cache_with(rt, Some(before), true);
     let a = addr(1);
     let news = News::Given {
         addr: a,
@@ -462,20 +460,18 @@ fn given_makes(
         router: true,
         state: after,
     };
-    Ok(heard && cache.entry(20_000, a) == Some(after))
+    heard && cache.entry(20_000, a) == Some(after)
 }
 
 #[test]
-fn an_address_that_is_given_makes_of_an_entry_what_the_table_says(
-    rt: HostRuntime,
-) -> Result<(), Fail> {
+fn an_address_that_is_given_makes_of_an_entry_what_the_table_says(rt: HostRuntime) {
     use nd_neighbour::Reachability::*;
-    assert!(rt; given_makes(&rt, Incomplete, MAC, Stale)?);
+    assert!(rt; given_makes(&rt, Incomplete, MAC, Stale));
     for before in [Reachable, Stale, Delay, Probe] {
-        assert!(rt; given_makes(&rt, before, MAC, before)?);
-        assert!(rt; given_makes(&rt, before, OTHER_MAC, Stale)?);
+        assert!(rt; given_makes(&rt, before, MAC, before));
+        assert!(rt; given_makes(&rt, before, OTHER_MAC, Stale));
     }
-    let mut cache = cache_with(&rt, None, true)?;
+    let mut cache = cache_with(&rt, None, true);
     assert!(rt; cache.heard(20_000, given(1), TIMES).is_ok());
     let after = Neighbour {
         addr: addr(1),
@@ -484,12 +480,11 @@ fn an_address_that_is_given_makes_of_an_entry_what_the_table_says(
         state: Stale,
     };
     assert_eq!(rt; cache.entry(20_000, addr(1)), Some(after));
-    Ok(())
 }
 
 #[test]
-fn room_is_for_a_new_neighbour_and_for_a_second_one_after_it(rt: HostRuntime) -> Result<(), Fail> {
-    let mut cache = Cache::new(rt.alloc(), 1)?;
+fn room_is_for_a_new_neighbour_and_for_a_second_one_after_it(rt: HostRuntime) {
+    let mut cache = Cache::new(rt.alloc(), 1).expect(&rt, "memory");
     assert!(rt; cache.room(0, addr(1), None));
     assert!(rt; cache.room(0, addr(1), Some(addr(1))));
     assert!(rt; !cache.room(0, addr(1), Some(addr(2))));
@@ -502,74 +497,72 @@ fn room_is_for_a_new_neighbour_and_for_a_second_one_after_it(rt: HostRuntime) ->
     cache.confirmed(5, addr(1), 15_000);
     assert!(rt; !cache.room(6, addr(2), None));
     assert!(rt; cache.room(6, addr(1), Some(addr(1))));
-    Ok(())
 }
 
 #[test]
-fn the_first_of_two_may_push_out_the_second(rt: HostRuntime) -> Result<(), Fail> {
-    let mut cache = Cache::new(rt.alloc(), 2)?;
+fn the_first_of_two_may_push_out_the_second(rt: HostRuntime) {
+    let mut cache = Cache::new(rt.alloc(), 2).expect(&rt, "memory");
     assert!(rt; cache.heard(0, given(1), TIMES).is_ok());
     assert!(rt; cache.heard(1, given(2), TIMES).is_ok());
     assert!(rt; cache.room(5, addr(3), Some(addr(4))));
     assert!(rt; cache.room(5, addr(3), Some(addr(1))));
     assert!(rt; cache.room(5, addr(3), Some(addr(2))));
-    let sent = cache.used(5, addr(2), packet(&rt, 1)?, TIMES);
+    let sent = cache.used(5, addr(2), packet(&rt, 1), TIMES);
     assert_eq!(rt; sent_to(sent), Some(MAC));
     // One is left that is stale: it goes for the third, and then there is no place for it.
     assert!(rt; cache.room(5, addr(3), Some(addr(2))));
     assert!(rt; !cache.room(5, addr(3), Some(addr(1))));
     assert!(rt; !cache.room(5, addr(3), Some(addr(4))));
-    Ok(())
 }
 
 #[test]
-fn five_hundred_and_eleven_in_use_leave_room_for_one(rt: HostRuntime) -> Result<(), Fail> {
-    let mut cache = Cache::new(rt.alloc(), 512)?;
+fn five_hundred_and_eleven_in_use_leave_room_for_one(rt: HostRuntime) {
+    let mut cache = Cache::new(rt.alloc(), 512).expect(&rt, "memory");
     for n in 0..511u16 {
         let now = 1001 + u64::from(n);
         assert!(rt; cache.heard(now, given(n), TIMES).is_ok());
-        let sent = cache.used(now, addr(n), packet(&rt, 1)?, TIMES);
+        let sent = cache.used(now, addr(n), packet(&rt, 1), TIMES);
         assert_eq!(rt; sent_to(sent), Some(MAC));
     }
     assert!(rt; cache.room(1512, addr(600), None));
     assert!(rt; !cache.room(1512, addr(600), Some(addr(601))));
     assert!(rt; cache.room(1512, addr(600), Some(addr(3))));
     assert!(rt; cache.room(1512, addr(3), Some(addr(600))));
-    assert_eq!(rt; cache.rows(1512)?.len(), 511);
-    Ok(())
+    assert_eq!(rt; cache.rows(1512).expect(&rt, "memory").len(), 511);
 }
 
 /// A packet whose last two bytes are this number.
-fn numbered(rt: &HostRuntime, n: u16) -> Result<Packet<Global>, Fail> {
+fn numbered(rt: &(impl Abort + AllocGlobal), n: u16) -> Packet<Global> {
     let mut frame = Vec::new(rt.alloc());
-    frame.extend_from_slice(&[0; 14])?;
-    frame.extend_from_slice(&n.to_be_bytes())?;
-    Ok(Packet::new(frame).ok_or("too short")?)
+    frame.extend_from_slice(&[0; 14]).expect(rt, "memory");
+    frame
+        .extend_from_slice(&n.to_be_bytes())
+        .expect(rt, "memory");
+    Packet::new(frame).expect(rt, "too short")
 }
 
 #[test]
-fn five_hundred_and_twelve_neighbours_are_shown_and_cleared(rt: HostRuntime) -> Result<(), Fail> {
-    let mut cache = Cache::new(rt.alloc(), 512)?;
+fn five_hundred_and_twelve_neighbours_are_shown_and_cleared(rt: HostRuntime) {
+    let mut cache = Cache::new(rt.alloc(), 512).expect(&rt, "memory");
     // The highest address first, so that each is put before all others.
     for n in (0..512u16).rev() {
-        let sent = cache.used(0, addr(n), numbered(&rt, n)?, TIMES);
+        let sent = cache.used(0, addr(n), numbered(&rt, n), TIMES);
         assert!(rt; is_queued(sent) == Some(true));
     }
     assert_eq!(rt; cache.waiting(), 512);
     let mut n = 0u16;
-    for row in &cache.rows(0)? {
+    for row in &cache.rows(0).expect(&rt, "memory") {
         assert!(rt; row.addr == addr(n));
         assert!(rt; row.state == Reachability::Incomplete);
         n = n.saturating_add(1);
     }
     assert_eq!(rt; n, 512);
     let mut n = 0u16;
-    for packet in &cache.clear()? {
+    for packet in &cache.clear().expect(&rt, "memory") {
         assert!(rt; packet.as_bytes().ends_with(&n.to_be_bytes()));
         n = n.saturating_add(1);
     }
     assert_eq!(rt; n, 512);
     assert_eq!(rt; cache.waiting(), 0);
-    assert!(rt; cache.rows(0)?.is_empty());
-    Ok(())
+    assert!(rt; cache.rows(0).expect(&rt, "memory").is_empty());
 }

@@ -82,9 +82,9 @@ fn begins_with_the_defaults(rt: HostRuntime) {
 }
 
 #[test]
-fn takes_what_is_told(rt: HostRuntime) -> Result<(), Fail> {
+fn takes_what_is_told(rt: HostRuntime) {
     let mut params = Params::new(0, 15_000);
-    let message = advertisement(&EVERY_PARAMETER).ok_or("message")?;
+    let message = advertisement(&EVERY_PARAMETER).expect(&rt, "message");
     assert!(rt; hear(&mut params, 1_200, message, 16_023));
     assert_eq!(rt; params.hop_limit(), 32);
     assert_eq!(rt; params.mtu(), 1280);
@@ -101,7 +101,7 @@ fn takes_what_is_told(rt: HostRuntime) -> Result<(), Fail> {
     assert_eq!(rt; params.reachable_time(), 17_000);
     assert_eq!(rt; params.next_due(), 14_401_200);
     // What tells nothing leaves all but the flags.
-    let nothing = advertisement(&NOTHING).ok_or("message")?;
+    let nothing = advertisement(&NOTHING).expect(&rt, "message");
     assert!(rt; !hear(&mut params, 7_201_300, nothing, 1));
     assert_eq!(rt; params.hop_limit(), 32);
     assert_eq!(rt; params.mtu(), 1280);
@@ -109,22 +109,20 @@ fn takes_what_is_told(rt: HostRuntime) -> Result<(), Fail> {
     assert_eq!(rt; params.retrans_timer(), 2_000);
     assert!(rt; !params.managed());
     assert!(rt; !params.other());
-    Ok(())
 }
 
 #[test]
-fn takes_no_mtu_that_the_link_cannot_have(rt: HostRuntime) -> Result<(), Fail> {
+fn takes_no_mtu_that_the_link_cannot_have(rt: HostRuntime) {
     let mut params = Params::new(0, 15_000);
-    let message = advertisement(&MTU_TOO_LARGE).ok_or("message")?;
+    let message = advertisement(&MTU_TOO_LARGE).expect(&rt, "message");
     assert!(rt; !hear(&mut params, 1_200, message, 1));
     assert_eq!(rt; params.mtu(), 1500);
-    Ok(())
 }
 
 #[test]
-fn keeps_an_mtu_that_is_not_told_again(rt: HostRuntime) -> Result<(), Fail> {
+fn keeps_an_mtu_that_is_not_told_again(rt: HostRuntime) {
     let mut params = Params::new(0, 15_000);
-    let dns = advertisement(&DNS_ADVERTISEMENT).ok_or("message")?;
+    let dns = advertisement(&DNS_ADVERTISEMENT).expect(&rt, "message");
     assert!(rt; !hear(&mut params, 1_200, dns, 1));
     assert_eq!(rt; params.hop_limit(), 64);
     assert_eq!(rt; params.mtu(), 1400);
@@ -133,9 +131,8 @@ fn keeps_an_mtu_that_is_not_told_again(rt: HostRuntime) -> Result<(), Fail> {
     assert_eq!(rt; params.retrans_timer(), 1_000);
     assert!(rt; params.managed());
     assert!(rt; params.other());
-    let plain = advertisement(&ADVERTISEMENT).ok_or("message")?;
+    let plain = advertisement(&ADVERTISEMENT).expect(&rt, "message");
     assert!(rt; !hear(&mut params, 1_300, plain, 1));
     assert_eq!(rt; params.mtu(), 1400);
     assert!(rt; !params.managed());
-    Ok(())
 }

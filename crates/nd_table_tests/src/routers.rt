@@ -52,8 +52,8 @@ fn listed(rt: &impl Abort, routers: &Routers<Global>, now: u64, wanted: &[(Addr,
 }
 
 #[test]
-fn keeps_the_order_of_coming(rt: HostRuntime) -> Result<(), Fail> {
-    let mut routers = Routers::new(rt.alloc(), 16)?;
+fn keeps_the_order_of_coming(rt: HostRuntime) {
+    let mut routers = Routers::new(rt.alloc(), 16).expect(&rt, "memory");
     assert!(rt; hear(&mut routers, 1_000, addr(2), 1_800) == Some(Ok(Change::Entered)));
     assert!(rt; hear(&mut routers, 2_000, addr(1), 1_800) == Some(Ok(Change::Entered)));
     // A refreshed one keeps its place, with another end.
@@ -75,12 +75,11 @@ fn keeps_the_order_of_coming(rt: HostRuntime) -> Result<(), Fail> {
         &[(addr(1), Some(1_802_000)), (addr(2), Some(1_804_000))],
     );
     assert_eq!(rt; routers.len(), 2);
-    Ok(())
 }
 
 #[test]
-fn ends_to_the_millisecond(rt: HostRuntime) -> Result<(), Fail> {
-    let mut routers = Routers::new(rt.alloc(), 16)?;
+fn ends_to_the_millisecond(rt: HostRuntime) {
+    let mut routers = Routers::new(rt.alloc(), 16).expect(&rt, "memory");
     assert!(rt; hear(&mut routers, 1_200, addr(2), 1_800) == Some(Ok(Change::Entered)));
     assert!(rt; hear(&mut routers, 1_200, addr(1), 1_800) == Some(Ok(Change::Entered)));
     assert!(rt; routers.holds(1_801_199, addr(2)));
@@ -91,12 +90,11 @@ fn ends_to_the_millisecond(rt: HostRuntime) -> Result<(), Fail> {
     assert!(rt; turn_next(&mut routers) == Some((1_801_200, addr(2))));
     assert!(rt; turn_next(&mut routers).is_none());
     assert!(rt; routers.next_due().is_none());
-    Ok(())
 }
 
 #[test]
-fn has_room_for_sixteen(rt: HostRuntime) -> Result<(), Fail> {
-    let mut routers = Routers::new(rt.alloc(), 16)?;
+fn has_room_for_sixteen(rt: HostRuntime) {
+    let mut routers = Routers::new(rt.alloc(), 16).expect(&rt, "memory");
     for n in 0..16u8 {
         assert!(rt; routers.fits(1_000, addr(n), 1_800));
         assert!(rt; hear(&mut routers, 1_000, addr(n), 1_800) == Some(Ok(Change::Entered)));
@@ -113,12 +111,11 @@ fn has_room_for_sixteen(rt: HostRuntime) -> Result<(), Fail> {
     assert!(rt; hear(&mut routers, 1_000, addr(0), 0) == Some(Ok(Change::Removed)));
     assert!(rt; hear(&mut routers, 1_000, addr(16), 1_800) == Some(Ok(Change::Entered)));
     assert_eq!(rt; routers.len(), 16);
-    Ok(())
 }
 
 #[test]
-fn has_room_for_as_many_as_it_was_made_for(rt: HostRuntime) -> Result<(), Fail> {
-    let mut routers = Routers::new(rt.alloc(), 2)?;
+fn has_room_for_as_many_as_it_was_made_for(rt: HostRuntime) {
+    let mut routers = Routers::new(rt.alloc(), 2).expect(&rt, "memory");
     for n in 0..2u8 {
         assert!(rt; routers.fits(1_000, addr(n), 1_800));
         assert!(rt; hear(&mut routers, 1_000, addr(n), 1_800) == Some(Ok(Change::Entered)));
@@ -133,11 +130,10 @@ fn has_room_for_as_many_as_it_was_made_for(rt: HostRuntime) -> Result<(), Fail> 
     assert!(rt; hear(&mut routers, 1_000, addr(2), 1_800) == Some(Ok(Change::Entered)));
     assert_eq!(rt; routers.len(), 2);
     // One with room for none takes none.
-    let mut none = Routers::new(rt.alloc(), 0)?;
+    let mut none = Routers::new(rt.alloc(), 0).expect(&rt, "memory");
     assert!(rt;
         hear(&mut none, 1_000, addr(1), 1_800) == Some(Err(TableRefusal::Full(Limit::Routers)))
     );
-    Ok(())
 }
 
 /// The place of the i-th router among those that failed.
@@ -149,8 +145,8 @@ fn failed_at(routers: &Routers<Global>, i: usize) -> Option<u64> {
 }
 
 #[test]
-fn orders_failures_by_the_last_one(rt: HostRuntime) -> Result<(), Fail> {
-    let mut routers = Routers::new(rt.alloc(), 16)?;
+fn orders_failures_by_the_last_one(rt: HostRuntime) {
+    let mut routers = Routers::new(rt.alloc(), 16).expect(&rt, "memory");
     for n in 0..3u8 {
         assert!(rt; hear(&mut routers, 1_000, addr(n), 1_800) == Some(Ok(Change::Entered)));
     }
@@ -192,16 +188,15 @@ fn orders_failures_by_the_last_one(rt: HostRuntime) -> Result<(), Fail> {
                 failed: None
             })
     );
-    Ok(())
 }
 
 #[test]
-fn clears_in_the_order_of_the_list(rt: HostRuntime) -> Result<(), Fail> {
-    let mut routers = Routers::new(rt.alloc(), 16)?;
+fn clears_in_the_order_of_the_list(rt: HostRuntime) {
+    let mut routers = Routers::new(rt.alloc(), 16).expect(&rt, "memory");
     assert!(rt; hear(&mut routers, 1_000, addr(2), 1_800) == Some(Ok(Change::Entered)));
     assert!(rt; hear(&mut routers, 1_000, addr(1), 1_800) == Some(Ok(Change::Entered)));
     routers.failed(addr(1));
-    let cleared = routers.clear()?;
+    let cleared = routers.clear().expect(&rt, "memory");
     assert!(rt; cleared.as_slice() == [addr(2), addr(1)].as_slice());
     assert_eq!(rt; routers.len(), 0);
     assert!(rt; routers.next_due().is_none());
@@ -213,12 +208,11 @@ fn clears_in_the_order_of_the_list(rt: HostRuntime) -> Result<(), Fail> {
                 failed: None
             })
     );
-    Ok(())
 }
 
 #[test]
-fn sixteen_routers_are_shown_and_cleared_in_order(rt: HostRuntime) -> Result<(), Fail> {
-    let mut routers = Routers::new(rt.alloc(), 16)?;
+fn sixteen_routers_are_shown_and_cleared_in_order(rt: HostRuntime) {
+    let mut routers = Routers::new(rt.alloc(), 16).expect(&rt, "memory");
     // They come in another order than that of their addresses.
     for n in (0..16u8).rev() {
         assert!(rt; hear(&mut routers, 1_000, addr(n), 1_800) == Some(Ok(Change::Entered)));
@@ -230,7 +224,7 @@ fn sixteen_routers_are_shown_and_cleared_in_order(rt: HostRuntime) -> Result<(),
         assert!(rt; entry.end == Some(1_801_000));
     }
     assert_eq!(rt; n, 0);
-    let cleared = routers.clear()?;
+    let cleared = routers.clear().expect(&rt, "memory");
     assert_eq!(rt; cleared.len(), 16);
     let mut n = 16u8;
     for source in &cleared {
@@ -239,7 +233,6 @@ fn sixteen_routers_are_shown_and_cleared_in_order(rt: HostRuntime) -> Result<(),
     }
     assert_eq!(rt; routers.len(), 0);
     assert!(rt; routers.at(0).is_none());
-    Ok(())
 }
 
 /// A prefix option of an advertisement: the last byte of 2001:db8:0:n::/64, its flags, and its valid lifetime in seconds.
@@ -334,8 +327,8 @@ const FULL: Option<(bool, Result<(), TableRefusal>)> = Some((
 ));
 
 #[test]
-fn keeps_prefixes_in_the_order_of_coming(rt: HostRuntime) -> Result<(), Fail> {
-    let mut prefixes = Prefixes::new(rt.alloc())?;
+fn keeps_prefixes_in_the_order_of_coming(rt: HostRuntime) {
+    let mut prefixes = Prefixes::new(rt.alloc()).expect(&rt, "memory");
     assert!(rt; hear_both(&mut prefixes, 1_000, lasting(2, 100), lasting(1, 50)) == TAKEN);
     // A refreshed one keeps its place; a new one with a lifetime of 0 is ignored.
     assert!(rt; hear_both(&mut prefixes, 2_000, lasting(2, 10), lasting(3, 0)) == TAKEN);
@@ -353,12 +346,11 @@ fn keeps_prefixes_in_the_order_of_coming(rt: HostRuntime) -> Result<(), Fail> {
     prefixes.clear();
     standing(&rt, &prefixes, 51_000, &[]);
     assert!(rt; prefixes.least_end(51_000).is_none());
-    Ok(())
 }
 
 #[test]
-fn takes_no_prefix_that_is_not_on_the_link(rt: HostRuntime) -> Result<(), Fail> {
-    let mut prefixes = Prefixes::new(rt.alloc())?;
+fn takes_no_prefix_that_is_not_on_the_link(rt: HostRuntime) {
+    let mut prefixes = Prefixes::new(rt.alloc()).expect(&rt, "memory");
     let without = Told {
         n: 1,
         flags: 0x40,
@@ -384,12 +376,11 @@ fn takes_no_prefix_that_is_not_on_the_link(rt: HostRuntime) -> Result<(), Fail> 
         ) == TAKEN
     );
     standing(&rt, &prefixes, 1_000, &[]);
-    Ok(())
 }
 
 #[test]
-fn tells_which_addresses_are_on_the_link(rt: HostRuntime) -> Result<(), Fail> {
-    let mut prefixes = Prefixes::new(rt.alloc())?;
+fn tells_which_addresses_are_on_the_link(rt: HostRuntime) {
+    let mut prefixes = Prefixes::new(rt.alloc()).expect(&rt, "memory");
     let inside = Addr([0x20, 0x01, 0x0d, 0xb8, 0, 0, 0, 1, 0, 0, 0, 0, 0, 0, 0, 7]);
     let outside = Addr([0x20, 0x01, 0x0d, 0xb8, 0, 0, 0, 3, 0, 0, 0, 0, 0, 0, 0, 7]);
     let link_local = Addr([0xfe, 0x80, 0, 0, 0, 0, 0, 0, 1, 2, 3, 4, 5, 6, 7, 8]);
@@ -401,12 +392,11 @@ fn tells_which_addresses_are_on_the_link(rt: HostRuntime) -> Result<(), Fail> {
     assert!(rt; prefixes.on_link(10_999, inside));
     assert!(rt; !prefixes.on_link(11_000, inside));
     assert!(rt; !prefixes.on_link(1_000, outside));
-    Ok(())
 }
 
 #[test]
-fn has_room_for_sixty_four(rt: HostRuntime) -> Result<(), Fail> {
-    let mut prefixes = Prefixes::new(rt.alloc())?;
+fn has_room_for_sixty_four(rt: HostRuntime) {
+    let mut prefixes = Prefixes::new(rt.alloc()).expect(&rt, "memory");
     for n in 0..64u8 {
         assert!(rt; hear_both(&mut prefixes, 1_000, lasting(n, 100), lasting(n, 200)) == TAKEN);
     }
@@ -443,7 +433,6 @@ fn has_room_for_sixty_four(rt: HostRuntime) -> Result<(), Fail> {
     // Those that have ended don't count.
     assert!(rt; hear_both(&mut prefixes, 201_000, lasting(65, 100), lasting(66, 100)) == TAKEN);
     assert!(rt; count_at(&prefixes, 201_000) == 2);
-    Ok(())
 }
 
 /// An advertisement with an option of every kind: hop limit 64, flags M and O, lifetime 1800, ReachableTime 32047, RetransTimer 2000;
@@ -459,11 +448,11 @@ const EVERY_OPTION: [u8; 136] = [
 ];
 
 #[test]
-fn takes_every_kind_of_option(rt: HostRuntime) -> Result<(), Fail> {
-    let message = advertisement(&EVERY_OPTION).ok_or("message")?;
+fn takes_every_kind_of_option(rt: HostRuntime) {
+    let message = advertisement(&EVERY_OPTION).expect(&rt, "message");
     let mut params = Params::new(0, 15_000);
-    let mut routers = Routers::new(rt.alloc(), 16)?;
-    let mut prefixes = Prefixes::new(rt.alloc())?;
+    let mut routers = Routers::new(rt.alloc(), 16).expect(&rt, "memory");
+    let mut prefixes = Prefixes::new(rt.alloc()).expect(&rt, "memory");
     match message.body {
         Body::Ra(ra) => {
             if params.redraws(&ra) {
@@ -482,5 +471,4 @@ fn takes_every_kind_of_option(rt: HostRuntime) -> Result<(), Fail> {
     assert_eq!(rt; params.retrans_timer(), 2_000);
     listed(&rt, &routers, 1_200, &[(addr(1), Some(1_801_200))]);
     standing(&rt, &prefixes, 1_200, &[(0, 2_592_001_200)]);
-    Ok(())
 }
