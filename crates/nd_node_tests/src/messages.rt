@@ -282,6 +282,20 @@ fn writes_redirect_with_packet(rt: HostRuntime) {
     assert!(rt; left.next().is_none());
 }
 
+/// A message with an MTU, a server and a name, these two for half an hour.
+fn with_mtu_server_and_name(rt: &(impl Abort + AllocGlobal), body: Body) -> Message<Global> {
+    let lifetime = 1800;
+    let servers = vec![in rt.alloc(); SERVER].expect(rt, "memory");
+    let names = vec![in rt.alloc(); Name(owned(rt, b"\x01a\x07example"))].expect(rt, "memory");
+    let options = vec![in rt.alloc();
+        Opt::Mtu(1400),
+        Opt::Rdnss { lifetime, servers },
+        Opt::Dnssl { lifetime, names },
+    ]
+    .expect(rt, "memory");
+    Message { body, options }
+}
+
 #[test]
 fn writes_mtu_servers_and_names(rt: HostRuntime) {
     let body = Body::Ra(RouterAdvertisement {
@@ -292,22 +306,7 @@ fn writes_mtu_servers_and_names(rt: HostRuntime) {
         reachable_time: 0,
         retrans_timer: 0,
     });
-    let mut message = message_with(&rt, body, Opt::Mtu(1400));
-    let mut servers = Vec::new(rt.alloc());
-    servers.push(SERVER).expect(&rt, "memory");
-    let lifetime = 1800;
-    message
-        .options
-        .push(Opt::Rdnss { lifetime, servers })
-        .expect(&rt, "memory");
-    let mut names = Vec::new(rt.alloc());
-    names
-        .push(Name(owned(&rt, b"\x01a\x07example")))
-        .expect(&rt, "memory");
-    message
-        .options
-        .push(Opt::Dnssl { lifetime, names })
-        .expect(&rt, "memory");
+    let message = with_mtu_server_and_name(&rt, body);
     assert!(rt; message.is_well_formed());
     let bytes = encode(rt.alloc(), &message, ROUTER, Addr::ALL_NODES).expect(&rt, "memory");
     // Letters are written small. So the sum is less by what the letter is more: 0x61 in place of 0x41.
