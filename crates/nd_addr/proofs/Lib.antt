@@ -7,3 +7,4 @@ pub mod Written
 pub mod GroupBytes
 pub mod MacTexts
 pub mod PrefixTexts
+pub mod SamePrefix

@@ -4,6 +4,7 @@ pub mod Why
 pub mod Frame
 pub mod Ip6
 pub mod Prefix
+pub mod Same
 pub mod Checksum
 pub mod Text
 pub mod Number

@@ -4,13 +4,14 @@ use Rattle.std.specs.Prelude.{◌||◌, if◌then◌else◌, option_to_list, OnO
 use Rattle.std.specs.List.{flat_map}
 use Rattle.std.proofs.lemmas.Bool.{cond-true, cond-false, cond_both, cases_Bool, or_parts, or_from, false≢true}
 use Rattle.nd_addr.specs.Prefix.{PrefixValue}
+use Rattle.nd_addr.specs.Same.{same_prefix}
+use Rattle.nd_addr.proofs.SamePrefix.{same_is, same_self, same_turned}
 use Rattle.nd_decode.specs.declared.prefix_info.PrefixInfo.{PrefixInfo}
 use Rattle.nd_advertiser.specs.History.{Row, Advertises, Assigned, Solicited, Sent, Ceased, Offered}
-use Rattle.nd_advertiser.specs.Offers.{is_same, is_among, prefixes, offer_of, offers_of}
+use Rattle.nd_advertiser.specs.Offers.{is_among, prefixes, offer_of, offers_of}
 use Rattle.nd_advertiser.specs.declared.offers.Full.{Full}
 use Rattle.nd_advertiser.specs.Table.{Table, GainsRow}
 use Rattle.nd_advertiser.specs.Calls.{prefixes_in, with_offer}
-use Rattle.nd_advertiser.proofs.Keyed.{same_is, same_self, same_turned}
 
 module _ (f : PrefixValue → Option PrefixInfo) where
   -- what is said of each prefix
@@ -34,14 +35,14 @@ AreApart (p ∷ ps) = (is_among p ps ≡ false) × AreApart ps
 
 -- what is said once one more is offered
 abbrev pub said_after : PrefixInfo → (PrefixValue → Option PrefixInfo) → PrefixValue → Option PrefixInfo
-said_after info f p = if is_same p info.prefix then Some info else f p
+said_after info f p = if same_prefix p info.prefix then Some info else f p
 
 -- another prefix has what it had
 listed_others : (info : PrefixInfo) (f : PrefixValue → Option PrefixInfo) (ps : List PrefixValue) → is_among info.prefix ps ≡ false → listed (said_after info f) ps ≡ listed f ps
 listed_others info f [] h = refl
 listed_others info f (p ∷ ps) h =
-    let parts = or_parts (is_same info.prefix p) (is_among info.prefix ps) h in
-    ap (λ o. option_to_list o ++ listed (said_after info f) ps) (cond-false (is_same p info.prefix) (Some info) (f p) (same_turned info.prefix p parts.0))
+    let parts = or_parts (same_prefix info.prefix p) (is_among info.prefix ps) h in
+    ap (λ o. option_to_list o ++ listed (said_after info f) ps) (cond-false (same_prefix p info.prefix) (Some info) (f p) (same_turned p info.prefix ∙ parts.0))
     ∙ ap (λ l. option_to_list (f p) ++ l) (listed_others info f ps parts.1)
 
 -- a prefix that is there is replaced in its place
@@ -52,61 +53,61 @@ listed_there info f (p ∷ ps) h a o =
     let q = info.prefix in
     let offer = o.0.0 in
     let front : with_offer info (listed f (p ∷ ps)) ≡ with_offer info (offer ∷ listed f ps) = ap (λ m. with_offer info (option_to_list m ++ listed f ps)) o.0.1 in
-    elim (cases_Bool (is_same q p)) [
+    elim (cases_Bool (same_prefix q p)) [
       | inl same ↦
           let is : q ≡ p = same_is q p same in
           let lacks : is_among q ps ≡ false = subst (λ (r : PrefixValue). is_among r ps ≡ false) (sym is) a.0 in
-          let turned : is_same p q ≡ true = subst (λ (r : PrefixValue). is_same p r ≡ true) (sym is) (same_self p) in
+          let turned : same_prefix p q ≡ true = subst (λ (r : PrefixValue). same_prefix p r ≡ true) (sym is) (same_self p) in
           front
-          ∙ (cond-true (is_same q offer.prefix) (info ∷ listed f ps) (offer ∷ with_offer info (listed f ps)) (ap (is_same q) o.0.2 ∙ same)
+          ∙ (cond-true (same_prefix q offer.prefix) (info ∷ listed f ps) (offer ∷ with_offer info (listed f ps)) (ap (same_prefix q) o.0.2 ∙ same)
           ∙ (ap (λ l. info ∷ l) (sym (listed_others info f ps lacks))
-          ∙ sym (ap (λ m. option_to_list m ++ listed (said_after info f) ps) (cond-true (is_same p q) (Some info) (f p) turned))))
+          ∙ sym (ap (λ m. option_to_list m ++ listed (said_after info f) ps) (cond-true (same_prefix p q) (Some info) (f p) turned))))
       | inr differ ↦
           let more : is_among q ps ≡ true = sym (ap (λ b. b || is_among q ps) differ) ∙ h in
           front
-          ∙ (cond-false (is_same q offer.prefix) (info ∷ listed f ps) (offer ∷ with_offer info (listed f ps)) (ap (is_same q) o.0.2 ∙ differ)
+          ∙ (cond-false (same_prefix q offer.prefix) (info ∷ listed f ps) (offer ∷ with_offer info (listed f ps)) (ap (same_prefix q) o.0.2 ∙ differ)
           ∙ (ap (λ l. offer ∷ l) (listed_there info f ps more a.1 o.1)
-          ∙ sym (ap (λ m. option_to_list m ++ listed (said_after info f) ps) (cond-false (is_same p q) (Some info) (f p) (same_turned q p differ) ∙ o.0.1))))
+          ∙ sym (ap (λ m. option_to_list m ++ listed (said_after info f) ps) (cond-false (same_prefix p q) (Some info) (f p) (same_turned p q ∙ differ) ∙ o.0.1))))
     ]
 
 -- a new one goes behind the others
 listed_new : (info : PrefixInfo) (f : PrefixValue → Option PrefixInfo) (ps : List PrefixValue) → is_among info.prefix ps ≡ false → AreOffered f ps
     → with_offer info (listed f ps) ≡ listed (said_after info f) (ps ++ info.prefix ∷ [])
-listed_new info f [] h o = sym (ap (λ m. option_to_list m ++ []) (cond-true (is_same info.prefix info.prefix) (Some info) (f info.prefix) (same_self info.prefix)))
+listed_new info f [] h o = sym (ap (λ m. option_to_list m ++ []) (cond-true (same_prefix info.prefix info.prefix) (Some info) (f info.prefix) (same_self info.prefix)))
 listed_new info f (p ∷ ps) h o =
     let q = info.prefix in
     let offer = o.0.0 in
-    let parts = or_parts (is_same q p) (is_among q ps) h in
+    let parts = or_parts (same_prefix q p) (is_among q ps) h in
     ap (λ m. with_offer info (option_to_list m ++ listed f ps)) o.0.1
-    ∙ (cond-false (is_same q offer.prefix) (info ∷ listed f ps) (offer ∷ with_offer info (listed f ps)) (ap (is_same q) o.0.2 ∙ parts.0)
+    ∙ (cond-false (same_prefix q offer.prefix) (info ∷ listed f ps) (offer ∷ with_offer info (listed f ps)) (ap (same_prefix q) o.0.2 ∙ parts.0)
     ∙ (ap (λ l. offer ∷ l) (listed_new info f ps parts.1 o.1)
-    ∙ sym (ap (λ m. option_to_list m ++ listed (said_after info f) (ps ++ q ∷ [])) (cond-false (is_same p q) (Some info) (f p) (same_turned q p parts.0) ∙ o.0.1))))
+    ∙ sym (ap (λ m. option_to_list m ++ listed (said_after info f) (ps ++ q ∷ [])) (cond-false (same_prefix p q) (Some info) (f p) (same_turned p q ∙ parts.0) ∙ o.0.1))))
 
 still_offered : (info : PrefixInfo) (f : PrefixValue → Option PrefixInfo) (ps : List PrefixValue) → AreOffered f ps → AreOffered (said_after info f) ps
 still_offered info f [] h = tt
 still_offered info f (p ∷ ps) h = (
-  elim (cases_Bool (is_same p info.prefix)) [
-    | inl same ↦ (info, cond-true (is_same p info.prefix) (Some info) (f p) same, sym (same_is p info.prefix same))
-    | inr differ ↦ (h.0.0, cond-false (is_same p info.prefix) (Some info) (f p) differ ∙ h.0.1, h.0.2)
+  elim (cases_Bool (same_prefix p info.prefix)) [
+    | inl same ↦ (info, cond-true (same_prefix p info.prefix) (Some info) (f p) same, sym (same_is p info.prefix same))
+    | inr differ ↦ (h.0.0, cond-false (same_prefix p info.prefix) (Some info) (f p) differ ∙ h.0.1, h.0.2)
   ],
   still_offered info f ps h.1,
 )
 
 new_offered : (info : PrefixInfo) (f : PrefixValue → Option PrefixInfo) (ps : List PrefixValue) → AreOffered (said_after info f) ps → AreOffered (said_after info f) (ps ++ info.prefix ∷ [])
-new_offered info f [] h = ((info, cond-true (is_same info.prefix info.prefix) (Some info) (f info.prefix) (same_self info.prefix), refl), tt)
+new_offered info f [] h = ((info, cond-true (same_prefix info.prefix info.prefix) (Some info) (f info.prefix) (same_self info.prefix), refl), tt)
 new_offered info f (p ∷ ps) h = (h.0, new_offered info f ps h.1)
 
-among_behind : (p q : PrefixValue) (ps : List PrefixValue) → is_among p ps ≡ false → is_same p q ≡ false → is_among p (ps ++ q ∷ []) ≡ false
-among_behind p q [] h d = or_from (is_same p q) false d refl
+among_behind : (p q : PrefixValue) (ps : List PrefixValue) → is_among p ps ≡ false → same_prefix p q ≡ false → is_among p (ps ++ q ∷ []) ≡ false
+among_behind p q [] h d = or_from (same_prefix p q) false d refl
 among_behind p q (r ∷ ps) h d =
-    let parts = or_parts (is_same p r) (is_among p ps) h in
-    or_from (is_same p r) (is_among p (ps ++ q ∷ [])) parts.0 (among_behind p q ps parts.1 d)
+    let parts = or_parts (same_prefix p r) (is_among p ps) h in
+    or_from (same_prefix p r) (is_among p (ps ++ q ∷ [])) parts.0 (among_behind p q ps parts.1 d)
 
 still_apart : (q : PrefixValue) (ps : List PrefixValue) → is_among q ps ≡ false → AreApart ps → AreApart (ps ++ q ∷ [])
 still_apart q [] h a = (refl, tt)
 still_apart q (p ∷ ps) h a =
-    let parts = or_parts (is_same q p) (is_among q ps) h in
-    (among_behind p q ps a.0 (same_turned q p parts.0), still_apart q ps parts.1 a.1)
+    let parts = or_parts (same_prefix q p) (is_among q ps) h in
+    (among_behind p q ps a.0 (same_turned p q ∙ parts.0), still_apart q ps parts.1 a.1)
 
 -- the prefixes are apart, and each has an offer
 pub record AreGood (history : List Row) : Type 0 where

@@ -1,10 +1,10 @@
 -- What each call makes of what an interface is advertising.
 use Rattle.std.specs.Prelude.{ℕ, ◌+◌, min, Bool, false, ◌&&◌, not, ◌==◌, is_some, is_none, List, [], ◌∷◌, map, Option, Some, None, if◌then◌else◌}
 use Rattle.nd_addr.specs.Prefix.{PrefixValue}
+use Rattle.nd_addr.specs.Same.{same_prefix}
 use Rattle.nd_decode.specs.declared.prefix_info.PrefixInfo.{PrefixInfo}
 use Rattle.nd_advertiser.specs.Config.{Settings}
 use Rattle.nd_advertiser.specs.Advertising.{answer_date, first_date, interval_after, max_initial_rtr_advertisements, next_date}
-use Rattle.nd_advertiser.specs.Offers.{is_same}
 use Rattle.nd_advertiser.specs.Table.{Advertising}
 
 -- it is to advertise
@@ -50,4 +50,4 @@ prefixes_in offers = map (λ info. info.prefix) offers
 -- a prefix is offered
 abbrev pub with_offer : PrefixInfo → List PrefixInfo → List PrefixInfo
 with_offer info [] = info ∷ []
-with_offer info (o ∷ os) = if is_same info.prefix o.prefix then info ∷ os else o ∷ with_offer info os
+with_offer info (o ∷ os) = if same_prefix info.prefix o.prefix then info ∷ os else o ∷ with_offer info os

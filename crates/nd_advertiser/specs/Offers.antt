@@ -1,7 +1,8 @@
 -- Which prefixes a router advertises (RFC 4861, section 6.2.1, AdvPrefixList). Each question looks back over what happened.
-use Rattle.std.specs.Prelude.{ℕ, Bool, false, ◌&&◌, ◌||◌, not, ◌==◌, nat_le, bytes_eq, if◌then◌else◌, List, [], ◌∷◌, ◌++◌, length, Option, Some, None, option_to_list, Result, Ok, Err}
+use Rattle.std.specs.Prelude.{ℕ, Bool, false, ◌&&◌, ◌||◌, not, nat_le, if◌then◌else◌, List, [], ◌∷◌, ◌++◌, length, Option, Some, None, option_to_list, Result, Ok, Err}
 use Rattle.std.specs.List.{flat_map}
 use Rattle.nd_addr.specs.Prefix.{PrefixValue}
+use Rattle.nd_addr.specs.Same.{same_prefix}
 use Rattle.nd_decode.specs.declared.prefix_info.PrefixInfo.{PrefixInfo}
 use Rattle.nd_advertiser.specs.History.{Row, Offered}
 use Rattle.nd_advertiser.specs.declared.offers.Full.{Full}
@@ -10,14 +11,10 @@ use Rattle.nd_advertiser.specs.declared.offers.Full.{Full}
 abbrev pub max_offers : ℕ
 max_offers = 16
 
--- the same bits, and as many
-abbrev pub is_same : PrefixValue → PrefixValue → Bool
-is_same a b = bytes_eq a.address.0 b.address.0 && (a.length == b.length)
-
 -- the prefix is among them
 abbrev pub is_among : PrefixValue → List PrefixValue → Bool
 is_among prefix [] = false
-is_among prefix (p ∷ ps) = is_same prefix p || is_among prefix ps
+is_among prefix (p ∷ ps) = same_prefix prefix p || is_among prefix ps
 
 -- the prefixes that were offered, each once, in the order in which each was first offered
 abbrev pub prefixes : List Row → List PrefixValue
@@ -28,7 +25,7 @@ prefixes (_ ∷ history) = prefixes history
 -- how a prefix was offered last
 abbrev pub offer_of : PrefixValue → List Row → Option PrefixInfo
 offer_of prefix [] = None
-offer_of prefix (Offered info ∷ history) = if is_same prefix info.prefix then Some info else offer_of prefix history
+offer_of prefix (Offered info ∷ history) = if same_prefix prefix info.prefix then Some info else offer_of prefix history
 offer_of prefix (_ ∷ history) = offer_of prefix history
 
 -- the advertised prefixes: each as it was offered last, in the order in which each was first offered

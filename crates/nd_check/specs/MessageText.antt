@@ -1,6 +1,7 @@
 -- The texts of messages without their options.
 use Rattle.std.specs.Prelude.{ℕ, List, ◌++◌, codes}
 use Rattle.std.specs.Fmt.{decimal}
+use Rattle.nd_text.specs.Flags.{flags_text}
 use Rattle.nd_addr.specs.Text.{address_text}
 use Rattle.nd_addr.specs.declared.addr.Addr.{Addr}
 use Rattle.nd_decode.specs.declared.router_advertisement.RouterAdvertisement.{RouterAdvertisement}
@@ -8,7 +9,7 @@ use Rattle.nd_decode.specs.declared.neighbor_advertisement.NeighborAdvertisement
 use Rattle.nd_decode.specs.declared.redirect.Redirect.{Redirect}
 use Rattle.nd_decode.specs.declared.body.Body.{Body}
 use Rattle.nd_decode.specs.declared.body.Body.TheVariants as bodies
-use Rattle.nd_check.specs.Words.{flags_text, three_flags_text}
+use Rattle.nd_check.specs.Words.{three_flags_text}
 
 -- an address behind a word
 unfoldable pub labelled : List ℕ → Addr → List ℕ

@@ -3,12 +3,12 @@ use Rattle.std.specs.Prelude.{ℕ, List, ◌++◌, length, codes}
 use Rattle.std.specs.Fmt.{decimal}
 use Rattle.std.specs.List.{flat_map}
 use Rattle.nd_text.specs.Digits.{hex_text}
+use Rattle.nd_text.specs.Flags.{flags_text}
 use Rattle.nd_addr.specs.Text.{address_text, mac_text, prefix_text}
 use Rattle.nd_addr.specs.declared.addr.Addr.{Addr}
 use Rattle.nd_search_list.specs.Text.{name_text}
 use Rattle.nd_decode.specs.Option.{Said, slla, tlla, prefix, redirected, mtu, rdnss, dnssl, other}
 use Rattle.nd_decode.specs.declared.prefix_info.PrefixInfo.{PrefixInfo}
-use Rattle.nd_check.specs.Words.{flags_text}
 
 -- the two times of a Prefix Information, with a space before each
 abbrev pub lifetimes_text : PrefixInfo → List ℕ

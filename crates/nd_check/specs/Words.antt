@@ -1,12 +1,5 @@
 -- The letters of flags.
-use Rattle.std.specs.Prelude.{ℕ, Bool, true, false, ◌&&◌, not, List, [], ◌++◌, codes, if◌then◌else◌}
-
--- the letters of two flags, or `-` for none
-abbrev pub flags_text : Bool → Bool → List ℕ → List ℕ → List ℕ
-flags_text true true first second = first ++ second
-flags_text true false first second = first
-flags_text false true first second = second
-flags_text false false first second = codes "-"
+use Rattle.std.specs.Prelude.{ℕ, Bool, ◌&&◌, not, List, [], ◌++◌, codes, if◌then◌else◌}
 
 -- the letter of a flag that is set
 abbrev pub letter_text : Bool → List ℕ → List ℕ

@@ -1,5 +1,6 @@
 ghost use Rattle.std.specs.Prelude.{◌≡◌, ◌++◌, OnOk, string_bytes, decimal};
-ghost use Rattle.nd_check.specs.Words.{flags_text, letter_text, three_flags_text};
+ghost use Rattle.nd_text.specs.Flags.{flags_text};
+ghost use Rattle.nd_check.specs.Words.{letter_text, three_flags_text};
 
 use itoa::Buffer;
 use std::alloc::{AllocError, Allocator};

@@ -8,13 +8,13 @@ use Rattle.nd_addr.specs.Ip6.{PacketParts}
 use Rattle.nd_addr.specs.Number.{number_of, holds}
 use Rattle.nd_addr.specs.declared.role.Role.{Role}
 use Rattle.nd_addr.specs.declared.role.Role.TheVariants.{Host, Router}
+use Rattle.nd_addr.specs.Same.{same_addr, addrs_tell, same_prefix, prefixes_tell, bytes_tell}
 use Rattle.nd_routes.specs.Forward.{Fate, lost_no_route, lost_hop_limit, sent, fate}
 use Rattle.nd_routes.specs.Redirect.{last_redirect, redirect}
 use Rattle.nd_routes.specs.Routes.{routes}
 use Rattle.nd_decode.specs.Message.{Parts}
 use Rattle.nd_decode.specs.declared.body.Body.{Body}
 use Rattle.nd_decode.specs.declared.body.Body.TheVariants as bodies
-use Rattle.nd_lifetime.specs.Same.{same_addr, addrs_tell, same_prefix, prefixes_tell, bytes_tell}
 use Rattle.nd_lifetime.proofs.Unique.{one_listing}
 use Rattle.nd_table.proofs.Unique.{one_list}
 use Rattle.nd_neighbour.specs.History.{RowKind}

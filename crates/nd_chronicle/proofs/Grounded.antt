@@ -1,18 +1,17 @@
 -- An own address other than the link-local one is known only where that one is assigned, and it stays so.
-use Rattle.std.proofs.Common.{◌≡◌, ℕ, Bool, true, false, cond, eqb, List, [], ◌∷◌, ◌++◌, Some, None, refl, sym, ◌∙◌, ap, subst, inl, inr}
+use Rattle.std.proofs.Common.{◌≡◌, ℕ, Bool, true, false, cond, eqb, List, [], ◌∷◌, Some, None, refl, sym, ◌∙◌, ap, subst, inl, inr}
 use Rattle.std.specs.Prelude.{◌≢◌, ◌==◌, ◌&&◌, ◌||◌, not, nat_lt, MatchBool}
 use Rattle.std.specs.List.{AllByRecursion}
 use Rattle.std.proofs.lemmas.List.Elements.{recursion_from_All}
-use Rattle.std.proofs.lemmas.Bool.{eqb-true, eq-eqb, ne_eqb, true≢false}
-use Rattle.nd_table.proofs.Cases.{either}
-use Rattle.nd_addr.specs.Bytes.{IsBytes}
+use Rattle.std.proofs.lemmas.Bool.{eqb-true, eq-eqb, ne_eqb, true≢false, cases_Bool}
 use Rattle.nd_addr.specs.Number.{number_of}
 use Rattle.nd_decode.specs.declared.prefix_info.PrefixInfo.{PrefixInfo}
 use Rattle.nd_message.specs.Fitting.{FitsPrefix}
+use Rattle.nd_table.specs.History.{Past}
+use Rattle.nd_table.proofs.Pasts.{past_self, past_below, all_before}
 use Rattle.nd_slaac.specs.Due.{Falls, Ends, Solicits, Assigns, FirstDue, due_row}
 use Rattle.nd_slaac.specs.Ends.{valid_end}
 use Rattle.nd_slaac.specs.History.{Row, RowKind, Story, story, is_end, Formed, Announced, Solicited, Conflict, Assigned, Ended}
-use Rattle.nd_slaac.specs.MayCome.{Past}
 use Rattle.nd_slaac.specs.PrefixOption.{is_taken, named_by, lifetimes_of, prefixes_in}
 use Rattle.nd_slaac.specs.State.{is_known, has_conflict, was_assigned, is_tentative, is_assigned}
 use Rattle.nd_slaac.proofs.Dues.{tentative_parts}
@@ -23,9 +22,8 @@ use Rattle.nd_chronicle.specs.Histories.{address_history}
 use Rattle.nd_chronicle.specs.InForce.{retrans_timer}
 use Rattle.nd_chronicle.specs.OwnAddress.{story_of, is_own, is_up}
 use Rattle.nd_chronicle.specs.RouterAdvertisement.{with_delay, forming, naming, then_option, then_options}
-use Rattle.nd_chronicle.specs.Event.{ComeAsBytes, ComesAsBytes, Event, EventAdds, Receives}
+use Rattle.nd_chronicle.specs.Event.{ComeAsBytes, ComesAsBytes, Event, EventAdds}
 use Rattle.nd_chronicle.specs.History.{Walk, over, adds, passes, Runs, beginning, first_delay, with_reachable_time}
-use Rattle.nd_chronicle.specs.Past as chronicle
 use Rattle.nd_chronicle.proofs.Named.{names_another, heard_fit}
 use Rattle.nd_chronicle.proofs.Growth.{runs_grows}
 use Rattle.nd_chronicle.proofs.Pasts.{history_past}
@@ -51,12 +49,6 @@ module _ (own : ℕ) where
   ground [] all = record { lasts = refl; first = λ key not known. absurd (true≢false (sym known)) }
   ground (row ∷ history) all = all.0.grounded
 
-  -- so it is at each place
-  rest_before : (h history : List Row) → Past h history → AllRest own history → AllRest own h
-  rest_before h [] p all = subst (AllRest own) (sym p) tt
-  rest_before h (row ∷ history) (inl e) all = subst (AllRest own) (sym e) all
-  rest_before h (row ∷ history) (inr p) all = rest_before h history p all.1
-
   still_assigned : (h history : List Row) → Past h history → AllRest own history → is_assigned (story own h) ≡ true → is_assigned (story own history) ≡ true
   still_assigned h [] p all up = subst (λ (l : List Row). is_assigned (story own l) ≡ true) p up
   still_assigned h (row ∷ history) (inl e) all up = subst (λ (l : List Row). is_assigned (story own l) ≡ true) e up
@@ -72,7 +64,7 @@ module _ (own at key : ℕ) (kind : RowKind) (history : List Row) (g : Grounded 
       record {
         grounded = record {
           lasts = ap valid_end same ∙ g.lasts;
-          first = λ k not known. ap is_assigned same ∙ elim (either (eqb key k)) [
+          first = λ k not known. ap is_assigned same ∙ elim (cases_Bool (eqb key k)) [
             | inl e ↦ rests (subst (λ (j : ℕ). is_known (story j ((at, key, kind) ∷ history)) ≡ true) (sym (eqb-true key k e)) known)
             | inr e ↦ g.first k not (sym (ap is_known (other_story k key at kind history e)) ∙ known)
           ];
@@ -95,7 +87,7 @@ module _ (own at key : ℕ) (kind : RowKind) (history : List Row) (g : Grounded 
 
   -- of an address that is tentative
   of_tentative : is_end kind ≡ false → ((s : Story) → valid_end ((at, kind) ∷ s) ≡ valid_end s) → is_tentative (story key history) ≡ true → Rests own (at, key, kind) history
-  of_tentative goes lasting tentative = elim (either (eqb key own)) [
+  of_tentative goes lasting tentative = elim (cases_Bool (eqb key own)) [
     | inl e ↦ itself (eqb-true key own e) goes lasting (λ up. absurd (not_both (story own history) (subst (λ (k : ℕ). is_tentative (story k history) ≡ true) (eqb-true key own e) tentative) up))
     | inr e ↦ beside e (λ known. g.first key (λ is. true≢false (sym (eq-eqb key own is) ∙ e)) (tentative_parts (story key history) tentative).0)
   ]
@@ -105,7 +97,7 @@ module _ (own at key : ℕ) (kind : RowKind) (history : List Row) (g : Grounded 
 
 -- what falls due
 at_turn : (own m : ℕ) (falls : Falls) (history : List Row) → FirstDue history m (Some falls) → Grounded own history → Rests own (due_row m falls) history
-at_turn own m (Ends key) history first g = elim (either (eqb key own)) [
+at_turn own m (Ends key) history first g = elim (cases_Bool (eqb key own)) [
   | inl e ↦ absurd (let due = subst (λ (k : ℕ). valid_end (story k history) ≡ Some m) (eqb-true key own e) first.due.1 in let no : ⊥ = let l = g.lasts in cc in no)
   | inr e ↦ beside own m key Ended history g e (λ known. absurd (true≢false (sym known ∙ ap is_known (ended_story key m history))))
 ]
@@ -188,11 +180,6 @@ module _ (start : Start) where
 
   -- ---- from the beginning on
 
-  past_of : (newer c : Chronicle) → chronicle.Past c (newer ++ c)
-  past_of [] [] = refl
-  past_of [] (row ∷ c) = inl refl
-  past_of (row ∷ newer) c = inr (past_of newer c)
-
   stands_beginning : Stands (address_history (beginning start))
   stands_beginning =
       let own = link_local_key start in
@@ -204,21 +191,21 @@ module _ (start : Start) where
       (record { grounded = grounded; stays = λ up. absurd (true≢false (sym up)) }, tt)
 
   module _ (events : List (ℕ × Event)) (c : Chronicle) (bytes : ComeAsBytes events) (runs : Runs start (beginning start) events c) where
-    stands : (d : Chronicle) → chronicle.Past d c → Stands (address_history d)
-    stands d p = rest_before (link_local_key start) (address_history d) (address_history c) (history_past d c p) (stands_run events (beginning start) c (recursion_from_All _ events bytes) runs stands_beginning)
+    stands : (d : Chronicle) → Past d c → Stands (address_history d)
+    stands d p = all_before (AllRest (link_local_key start)) (λ row h all. all.1) (address_history d) (address_history c) (history_past d c p) (stands_run events (beginning start) c (recursion_from_All _ events bytes) runs stands_beginning)
 
-    pub known_behind : (d : Chronicle) (key : ℕ) → chronicle.Past d c → key ≢ link_local_key start → is_known (story_of d key) ≡ true → is_up start d ≡ true
+    pub known_behind : (d : Chronicle) (key : ℕ) → Past d c → key ≢ link_local_key start → is_known (story_of d key) ≡ true → is_up start d ≡ true
     known_behind d key p not known = (ground (link_local_key start) (address_history d) (stands d p)).first key not known
 
-    pub own_behind : (d : Chronicle) (address : List ℕ) → chronicle.Past d c → number_of address ≢ link_local_key start → is_own d address ≡ true → is_up start d ≡ true
+    pub own_behind : (d : Chronicle) (address : List ℕ) → Past d c → number_of address ≢ link_local_key start → is_own d address ≡ true → is_up start d ≡ true
     own_behind d address p not own = known_behind d (number_of address) p not (own_known (story_of d (number_of address)) own)
 
-    pub stays_up : (e d : Chronicle) → chronicle.Past e d → chronicle.Past d c → is_up start e ≡ true → is_up start d ≡ true
+    pub stays_up : (e d : Chronicle) → Past e d → Past d c → is_up start e ≡ true → is_up start d ≡ true
     stays_up e d p q up = still_assigned (link_local_key start) (address_history e) (address_history d) (history_past e d p) (stands d q) up
 
     pub up_later : (later : List (ℕ × Event)) (d : Chronicle) → ComeAsBytes later → Runs start c later d → is_up start c ≡ true → is_up start d ≡ true
     up_later later d more then up =
         let g = runs_grows start later c d then in
-        let past : chronicle.Past c d = subst (chronicle.Past c) (sym g.all) (past_of g.newer c) in
+        let past : Past c d = subst (Past c) (sym g.all) (past_below g.newer c) in
         still_assigned (link_local_key start) (address_history c) (address_history d) (history_past c d past)
-        (stands_run later c d (recursion_from_All _ later more) then (stands c (past_of [] c))) up
+        (stands_run later c d (recursion_from_All _ later more) then (stands c (past_self c))) up

@@ -1,6 +1,8 @@
 -- How an own address came to be held, in rows of the chronicle, at each of its places.
-use Rattle.std.proofs.Common.{◌≡◌, ◌⊎◌, inl, inr, ℕ, ◌≤◌, Bool, true, false, List, [], ◌∷◌, length, refl, sym, ap, subst, arith, ⊎_elim}
+use Rattle.std.proofs.Common.{◌≡◌, ◌⊎◌, inr, ℕ, Bool, true, false, List, ◌∷◌, sym, ap, subst, arith, ⊎_elim}
 use Rattle.std.proofs.lemmas.Bool.{true≢false}
+use Rattle.nd_table.specs.History.{Past}
+use Rattle.nd_table.proofs.Pasts.{past_self, past_then, past_linear, past-length, all_before}
 use Rattle.nd_slaac.specs.History.{Row, Formed, Solicited, Assigned}
 use Rattle.nd_slaac.specs.MayCome as rows
 use Rattle.nd_slaac.specs.MayCome.{IsHistory}
@@ -12,31 +14,9 @@ use Rattle.nd_chronicle.specs.Histories.{address_history}
 use Rattle.nd_chronicle.specs.OwnAddress.{story_of}
 use Rattle.nd_chronicle.specs.Event.{Event}
 use Rattle.nd_chronicle.specs.History.{IsChronicle}
-use Rattle.nd_chronicle.specs.Past.{Past, PlaceOf, HeldInRows, formed_with, solicited_with}
+use Rattle.nd_chronicle.specs.Places.{PlaceOf, HeldInRows, formed_with, solicited_with}
 use Rattle.nd_chronicle.proofs.Pasts.{Paired, all_paired, history_past, place_of}
 use Rattle.nd_chronicle.proofs.Tried.{rows_may_come}
-
--- ---- places
-
-pub past_then : (a b c : Chronicle) → Past a b → Past b c → Past a c
-past_then a b [] p q = subst (λ (x : Chronicle). Past a x) q p
-past_then a b (row ∷ c) p q = ⊎_elim (λ same. subst (λ (x : Chronicle). Past a x) same p) (λ below. inr (past_then a b c p below)) q
-
--- of two places one is a past of the other
-past_linear : (a b c : Chronicle) → Past a c → Past b c → Past a b ⊎ Past b a
-past_linear a b [] p q = inl (subst (λ (x : Chronicle). Past a x) (sym q) p)
-past_linear a b (row ∷ c) p q = ⊎_elim
-    (λ same. inr (subst (λ (x : Chronicle). Past b x) (sym same) q))
-    (λ below. ⊎_elim (λ same. inl (subst (λ (x : Chronicle). Past a x) (sym same) (inr below))) (λ under. past_linear a b c below under) q) p
-
-shorter : (a c : Chronicle) → Past a c → length a ≤ length c
-shorter a [] p = let e = ap length p in omega (arith, e)
-shorter a (row ∷ c) p = ⊎_elim (λ same. let e = ap length same in omega (arith, e)) (λ below. let le = shorter a c below in omega (arith, le)) p
-
--- what each row was when it came, it was
-history_before : (h history : List Row) → rows.Past h history → IsHistory history → IsHistory h
-history_before h [] p all = subst IsHistory (sym p) tt
-history_before h (row ∷ history) p all = ⊎_elim (λ same. subst IsHistory (sym same) all) (λ below. history_before h history below all.1) p
 
 -- ---- the frame of a solicitation stands right above its row, and so below what stands above that
 
@@ -55,7 +35,7 @@ module _ (start : Start) (key sent assigned : ℕ) (earlier over : Chronicle) wh
   sent_below c p q s = ⊎_elim
       (λ under. ⊎_elim (λ same. absurd (true≢false (sym (ap assigns same)))) (λ below. below) under)
       (λ above. ⊎_elim (λ same. absurd (true≢false (ap assigns same)))
-      (λ below. let le = shorter assigning over (past_then assigning ((sent, Address key Solicited) ∷ earlier) over below s) in absurd (omega (arith, le))) above)
+      (λ below. let le = past-length assigning over (past_then assigning ((sent, Address key Solicited) ∷ earlier) over below s) in absurd (omega (arith, le))) above)
       (past_linear sending assigning c p q)
 
 -- ---- in rows of the chronicle
@@ -64,11 +44,11 @@ in_rows : (start : Start) (c d : Chronicle) (key : ℕ) → Paired start c → P
 in_rows start c d key paired p h =
     let a : PlaceOf h.assigned key Assigned h.over d = place_of h.assigned key Assigned h.over d h.assigned_at in
     let s : PlaceOf h.sent key Solicited h.earlier a.before =
-    place_of h.sent key Solicited h.earlier a.before (subst (λ (x : List Row). rows.Past ((h.sent, key, Solicited) ∷ h.earlier) x) (sym a.history) h.solicited_at) in
+    place_of h.sent key Solicited h.earlier a.before (subst (λ (x : List Row). Past ((h.sent, key, Solicited) ∷ h.earlier) x) (sym a.history) h.solicited_at) in
     let f : PlaceOf h.formed key (Formed h.delay h.retrans h.lifetimes) h.below s.before =
     place_of h.formed key (Formed h.delay h.retrans h.lifetimes) h.below s.before
-    (subst (λ (x : List Row). rows.Past ((h.formed, key, Formed h.delay h.retrans h.lifetimes) ∷ h.below) x) (sym s.history) h.solicited_since) in
-    let row : Past ((h.sent, Address key Solicited) ∷ s.before) d = past_then _ a.before d s.there (past_then a.before ((h.assigned, Address key Assigned) ∷ a.before) d (inr (self a.before)) a.there) in
+    (subst (λ (x : List Row). Past ((h.formed, key, Formed h.delay h.retrans h.lifetimes) ∷ h.below) x) (sym s.history) h.solicited_since) in
+    let row : Past ((h.sent, Address key Solicited) ∷ s.before) d = past_then _ a.before d s.there (past_then a.before ((h.assigned, Address key Assigned) ∷ a.before) d (inr (past_self a.before)) a.there) in
     record {
       formed = h.formed;
       delay = h.delay;
@@ -83,20 +63,16 @@ in_rows start c d key paired p h =
       solicited = sent_below start key h.sent h.assigned s.before a.before c (paired.each h.sent key s.before (past_then _ d c row p)) (past_then _ d c a.there p) s.there;
       assigned_at = a.there;
       wait = h.wait;
-      trying = λ e q r. h.tried.tentative (address_history e) (subst (λ (x : List Row). rows.Past (address_history e) x) a.history (history_past e a.before q))
-          (subst (λ (x : List Row). rows.Past ((h.formed, key, Formed h.delay h.retrans h.lifetimes) ∷ x) (address_history e)) f.history
+      trying = λ e q r. h.tried.tentative (address_history e) (subst (λ (x : List Row). Past (address_history e) x) a.history (history_past e a.before q))
+          (subst (λ (x : List Row). Past ((h.formed, key, Formed h.delay h.retrans h.lifetimes) ∷ x) (address_history e)) f.history
           (history_past (formed_with h.formed key h.delay h.retrans h.lifetimes f.before) e r));
       since = λ e q r. h.since (address_history e) (history_past e d q)
-          (subst (λ (x : List Row). rows.Past ((h.assigned, key, Assigned) ∷ x) (address_history e)) a.history (history_past ((h.assigned, Address key Assigned) ∷ a.before) e r));
+          (subst (λ (x : List Row). Past ((h.assigned, key, Assigned) ∷ x) (address_history e)) a.history (history_past ((h.assigned, Address key Assigned) ∷ a.before) e r));
     }
-  where
-    self : (x : Chronicle) → Past x x
-    self [] = refl
-    self (row ∷ x) = inl refl
 
 module _ (start : Start) (events : List (ℕ × Event)) (c : Chronicle) (runs : IsChronicle start events c) (d : Chronicle) (p : Past d c) (key : ℕ) (assigned : states.is_assigned (story_of d key) ≡ true) where
   pub tried_at : rows.Held key (address_history d)
-  tried_at = held (address_history d) key (history_before (address_history d) (address_history c) (history_past d c p) (rows_may_come start events c runs)) assigned
+  tried_at = held (address_history d) key (all_before IsHistory (λ row h all. all.1) (address_history d) (address_history c) (history_past d c p) (rows_may_come start events c runs)) assigned
 
   pub tried_in_rows : HeldInRows start key d
   tried_in_rows = in_rows start c d key (all_paired start events c runs) p tried_at

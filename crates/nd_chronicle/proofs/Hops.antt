@@ -9,7 +9,6 @@ use Rattle.nd_decode.specs.declared.body.Body.{Body}
 use Rattle.nd_decode.specs.declared.body.Body.TheVariants as bodies
 use Rattle.nd_lifetime.specs.declared.lasting.Lasting.{Lasting}
 use Rattle.nd_lifetime.specs.Listing.{Lists}
-use Rattle.nd_lifetime.specs.Same.{same_prefix, prefixes_tell}
 use Rattle.nd_lifetime.proofs.Unique.{one_listing}
 use Rattle.nd_routers.specs.History.{announcements}
 use Rattle.nd_routers.specs.OnLink.{is_held}
@@ -26,6 +25,7 @@ use Rattle.nd_chronicle.specs.Histories.{router_history, prefix_history, redirec
 use Rattle.nd_chronicle.specs.OwnAddress.{is_own}
 use Rattle.nd_addr.specs.declared.role.Role.{Role}
 use Rattle.nd_addr.specs.declared.role.Role.TheVariants.{Host, Router}
+use Rattle.nd_addr.specs.Same.{same_prefix, prefixes_tell}
 use Rattle.nd_chronicle.specs.NextHop.{candidate, AreRouters, IsNextHop, IsHopOf}
 use Rattle.nd_chronicle.specs.Hearing.{FromFirstHop, NotFromFirstHop, Verdict, Judges, IsDropped, IsTaken, IsStrange, IsMisdirected, IsPacket, IsPassing, IsStrangePacket, IsHeard}
 

@@ -2,11 +2,10 @@
 use Rattle.std.proofs.Common.{◌≡◌, ℕ, ◌/◌, ◌^◌, Bool, true, false, cond, eqb, List, [], ◌∷◌, ◌++◌, length, take, slice_index, refl, sym, ◌∙◌, ap, subst, arith, inl, inr}
 use Rattle.std.specs.Prelude.{◌==◌, ◌&&◌, not, nat_lt, nat_eq, MatchBool, bit_xor}
 use Rattle.std.specs.List.{AllByRecursion}
-use Rattle.std.proofs.lemmas.Bool.{eqb-true, true≢false}
+use Rattle.std.proofs.lemmas.Bool.{eqb-true, true≢false, cases_Bool}
 use Rattle.std.proofs.lemmas.List.{length-append, length-take}
 use Rattle.std.proofs.lemmas.List.Elements.{recursion_from_All}
 use Rattle.std.proofs.lemmas.Nat.{xor_lt}
-use Rattle.nd_table.proofs.Cases.{either}
 use Rattle.nd_addr.specs.Bytes.{IsBytes, AreBytes}
 use Rattle.nd_addr.specs.Kind.{multicast_prefix, link_local_address, link_local_prefix, address_from_mac}
 use Rattle.nd_addr.specs.Number.{number_of, addr_at, holds}
@@ -18,9 +17,10 @@ use Rattle.nd_addr.proofs.Numbers.{first_byte}
 use Rattle.nd_decode.specs.declared.prefix_info.PrefixInfo.{PrefixInfo}
 use Rattle.nd_frames.specs.Meaning.{IsUnicast}
 use Rattle.nd_message.specs.Fitting.{FitsPrefix}
+use Rattle.nd_table.specs.History.{Past}
+use Rattle.nd_table.proofs.Pasts.{all_before}
 use Rattle.nd_slaac.specs.Due.{Ends, Solicits, Assigns}
 use Rattle.nd_slaac.specs.History.{Row, RowKind, story, Formed, Announced, Solicited, Conflict, Assigned, Ended}
-use Rattle.nd_slaac.specs.MayCome.{Past}
 use Rattle.nd_slaac.specs.PrefixOption.{is_taken, named_by, link_local_of, prefixes_in}
 use Rattle.nd_slaac.specs.State.{is_known}
 use Rattle.nd_slaac.proofs.Steps.{other_story, same_story, ended_story}
@@ -29,9 +29,8 @@ use Rattle.nd_chronicle.specs.Happening.{Chronicle, Passed, TooLate, last_moment
 use Rattle.nd_chronicle.specs.Histories.{address_history}
 use Rattle.nd_chronicle.specs.OwnAddress.{story_of}
 use Rattle.nd_chronicle.specs.RouterAdvertisement.{forming, naming, then_option, then_options}
-use Rattle.nd_chronicle.specs.Event.{ComeAsBytes, ComesAsBytes, Event, EventAdds, Receives}
+use Rattle.nd_chronicle.specs.Event.{ComeAsBytes, ComesAsBytes, Event, EventAdds}
 use Rattle.nd_chronicle.specs.History.{Walk, over, adds, passes, Runs, beginning}
-use Rattle.nd_chronicle.specs.Past as chronicle
 use Rattle.nd_chronicle.proofs.Named.{heard_fit}
 use Rattle.nd_chronicle.proofs.Pasts.{history_past}
 use Rattle.nd_chronicle.proofs.OwnRows.{Brings, Nothing, Conflicts, Announces, BringsDue, NoRow, ItsRow, delay_same, event_brings, comes_brings}
@@ -141,17 +140,12 @@ own_row key at Assigned history u more known = more (sym (ap is_known (same_stor
 
 known_usable : (key : ℕ) (history : List Row) → AllUsable history → is_known (story key history) ≡ true → IsUsable key
 known_usable key [] all known = absurd (true≢false (sym known))
-known_usable key ((at, k, kind) ∷ history) all known = elim (either (eqb k key)) [
+known_usable key ((at, k, kind) ∷ history) all known = elim (cases_Bool (eqb k key)) [
   | inl e ↦
       own_row key at kind history (subst (λ (n : ℕ). FormsUsable (at, n, kind)) (eqb-true k key e) all.0) (known_usable key history all.1)
       (subst (λ (n : ℕ). is_known (story key ((at, n, kind) ∷ history)) ≡ true) (eqb-true k key e) known)
   | inr e ↦ known_usable key history all.1 (sym (ap is_known (other_story key k at kind history e)) ∙ known)
 ]
-
-usable_before : (h history : List Row) → Past h history → AllUsable history → AllUsable h
-usable_before h [] p all = subst AllUsable (sym p) tt
-usable_before h (row ∷ history) (inl e) all = subst AllUsable (sym e) all
-usable_before h (row ∷ history) (inr p) all = usable_before h history p all.1
 
 -- ---- whatever happens
 
@@ -207,9 +201,9 @@ module _ (start : Start) (mac : AreBytes 6 start.mac.0) where
   usable_run (event ∷ events) c d bytes h u =
       usable_run events h.0 d bytes.1 h.2 (usable_follows (nat_lt event.0 (last_moment start.at c)) c event.0 (last_moment start.at c) event.1 h.0 bytes.0 u h.1)
 
-  pub own_usable : (events : List (ℕ × Event)) (c d : Chronicle) (key : ℕ) → ComeAsBytes events → Runs start (beginning start) events c → chronicle.Past d c
+  pub own_usable : (events : List (ℕ × Event)) (c d : Chronicle) (key : ℕ) → ComeAsBytes events → Runs start (beginning start) events c → Past d c
       → is_known (story_of d key) ≡ true → IsUsable key
   own_usable events c d key bytes runs p known =
       known_usable key (address_history d)
-      (usable_before (address_history d) (address_history c) (history_past d c p)
+      (all_before AllUsable (λ row h all. all.1) (address_history d) (address_history c) (history_past d c p)
       (usable_run events (beginning start) c (recursion_from_All _ events bytes) runs (link_local_usable start.mac mac, tt))) known

@@ -2,18 +2,19 @@
 use Rattle.std.proofs.Common.{◌≡◌, ℕ, Bool, true, false, List, [], ◌∷◌, ◌++◌, refl, sym, ◌∙◌, ap, subst, inl, inr}
 use Rattle.std.specs.Prelude.{MatchBool, nat_lt}
 use Rattle.nd_addr.specs.Number.{addr_at}
+use Rattle.nd_table.specs.History.{Past}
+use Rattle.nd_table.proofs.Pasts.{past_self}
 use Rattle.nd_advertiser.specs.Advertising.{advertised_by}
 use Rattle.nd_frames.specs.Frames.{detection_frame}
 use Rattle.nd_slaac.specs.Due as addresses_due
 use Rattle.nd_slaac.specs.History as addresses
-use Rattle.nd_slaac.specs.MayCome as addresses_past
 use Rattle.nd_chronicle.specs.Start.{Start}
 use Rattle.nd_chronicle.specs.Happening.{Chronicle, Happening, Address, Sent, Passed, TooLate, last_moment}
 use Rattle.nd_chronicle.specs.Histories.{address_history, advertising_history}
-use Rattle.nd_chronicle.specs.Past.{Past, PlaceOf, solicited_with}
 use Rattle.nd_chronicle.specs.Due.{What, RouterEnds, AddressFalls, NeighbourFalls, RoutersSolicited, RouterAdvertises, Redraws, comes}
 use Rattle.nd_chronicle.specs.Event.{Event, EventAdds}
 use Rattle.nd_chronicle.specs.History.{Walk, over, adds, passes, Runs, beginning}
+use Rattle.nd_chronicle.specs.Places.{PlaceOf, solicited_with}
 use Rattle.nd_chronicle.proofs.Growth.{AllAt, GrowsAt, solicits, stays, grows_by, neighbour_grows, advertising_grows, event_grows}
 
 -- ---- the history of the own addresses, place by place
@@ -49,22 +50,18 @@ module _ (m key : ℕ) (kind : addresses.RowKind) (below : List addresses.Row) w
   further : (row : ℕ × Happening) (c : Chronicle) → PlaceOf m key kind below c → PlaceOf m key kind below (row ∷ c)
   further row c p = record { before = p.before; there = inr p.there; history = p.history }
 
-  pub place_of : (c : Chronicle) → addresses_past.Past ((m, key, kind) ∷ below) (address_history c) → PlaceOf m key kind below c
+  pub place_of : (c : Chronicle) → Past ((m, key, kind) ∷ below) (address_history c) → PlaceOf m key kind below c
   place_of [] e = absurd (let no : ⊥ = cc in no)
   place_of ((at, Address k kd) ∷ c) (inl e) = here at k kd c e
   place_of ((at, Address k kd) ∷ c) (inr p) = further (at, Address k kd) c (place_of c p)
   place_of ((at, what) ∷ c) p = further (at, what) c (place_of c p)
 
 -- what a chronicle was at some time, the history of its own addresses was then
-pub history_past : (d c : Chronicle) → Past d c → addresses_past.Past (address_history d) (address_history c)
+pub history_past : (d c : Chronicle) → Past d c → Past (address_history d) (address_history c)
 history_past d [] e = ap address_history e
 history_past d ((at, Address k kd) ∷ c) (inl e) = inl (ap address_history e)
 history_past d ((at, Address k kd) ∷ c) (inr p) = inr (history_past d c p)
-history_past d ((at, what) ∷ c) (inl e) = subst (λ (h : List addresses.Row). addresses_past.Past h (address_history c)) (sym (ap address_history e)) (self (address_history c))
-  where
-    self : (h : List addresses.Row) → addresses_past.Past h h
-    self [] = refl
-    self (row ∷ h) = inl refl
+history_past d ((at, what) ∷ c) (inl e) = subst (λ (h : List addresses.Row). Past h (address_history c)) (sym (ap address_history e)) (past_self (address_history c))
 history_past d ((at, what) ∷ c) (inr p) = history_past d c p
 
 -- ---- each solicitation for an own address is sent

@@ -5,13 +5,13 @@ use Rattle.nd_addr.specs.declared.addr.Addr.{Addr}
 use Rattle.nd_addr.specs.Kind.{unspecified_address}
 use Rattle.nd_addr.specs.Number.{number_of}
 use Rattle.nd_addr.specs.Prefix.{PrefixValue}
+use Rattle.nd_addr.specs.Same.{same_addr, same_prefix}
 use Rattle.nd_decode.specs.Message.{Parts}
 use Rattle.nd_decode.specs.declared.body.Body.{Body}
 use Rattle.nd_decode.specs.declared.body.Body.TheVariants as bodies
 use Rattle.nd_decode.specs.declared.router_advertisement.RouterAdvertisement.{RouterAdvertisement}
 use Rattle.nd_lifetime.specs.declared.lasting.Lasting.{Lasting}
 use Rattle.nd_lifetime.specs.Listing.{Lists, fits}
-use Rattle.nd_lifetime.specs.Same.{same_addr, same_prefix}
 use Rattle.nd_neighbour.specs.History.{RowKind}
 use Rattle.nd_routers.specs.History.{announcements}
 use Rattle.nd_routers.specs.PrefixOptions.{max_prefixes, prefixes_in}

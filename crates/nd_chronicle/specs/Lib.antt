@@ -20,6 +20,6 @@ pub mod Shown
 pub mod Event
 pub mod Told
 pub mod Growth
-pub mod Past
+pub mod Places
 pub mod Due
 pub mod History

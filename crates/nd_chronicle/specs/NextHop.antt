@@ -5,9 +5,9 @@ use Rattle.nd_addr.specs.declared.role.Role.{Role}
 use Rattle.nd_addr.specs.declared.role.Role.TheVariants.{Host, Router}
 use Rattle.nd_addr.specs.Number.{number_of}
 use Rattle.nd_addr.specs.Prefix.{PrefixValue}
+use Rattle.nd_addr.specs.Same.{same_prefix}
 use Rattle.nd_lifetime.specs.declared.lasting.Lasting.{Lasting}
 use Rattle.nd_lifetime.specs.Listing.{Lists}
-use Rattle.nd_lifetime.specs.Same.{same_prefix}
 use Rattle.nd_neighbour.specs.History.{story}
 use Rattle.nd_neighbour.specs.Story as neighbours
 use Rattle.nd_routers.specs.DefaultRouterSelection.{Failures, place_among}

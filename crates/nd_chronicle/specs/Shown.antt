@@ -1,12 +1,14 @@
 -- What is shown of each table, row by row (the texts are this project's own).
 use Rattle.std.specs.Prelude.{◌≡◌, ℕ, Bool, true, false, ◌++◌, List, [], ◌∷◌, map, codes, Option, Some, None}
 use Rattle.std.specs.Fmt.{decimal}
+use Rattle.nd_text.specs.Flags.{flags_text}
 use Rattle.nd_addr.specs.declared.addr.Addr.{Addr}
 use Rattle.nd_addr.specs.declared.role.Role.{Role}
 use Rattle.nd_addr.specs.declared.role.Role.TheVariants.{Host, Router}
 use Rattle.nd_addr.specs.Number.{addr_at, mac_at}
 use Rattle.nd_addr.specs.Prefix.{PrefixValue}
 use Rattle.nd_addr.specs.Text.{address_text, mac_text, prefix_text}
+use Rattle.nd_addr.specs.Same.{same_addr, same_prefix}
 use Rattle.nd_search_list.specs.Text.{name_text}
 use Rattle.nd_decode.specs.declared.prefix_info.PrefixInfo.{PrefixInfo}
 use Rattle.nd_advertiser.specs.History as advertising
@@ -17,7 +19,6 @@ use Rattle.nd_routes.specs.declared.route.Route.{Route}
 use Rattle.nd_routes.specs.declared.route.Route.TheVariants.{Direct, Via}
 use Rattle.nd_lifetime.specs.declared.lasting.Lasting.{Lasting}
 use Rattle.nd_lifetime.specs.Listing.{Lists}
-use Rattle.nd_lifetime.specs.Same.{same_addr, same_prefix}
 use Rattle.nd_params.specs.History.{managed_of, other_of}
 use Rattle.nd_neighbour.specs.declared.shown.Reachability.{Reachability}
 use Rattle.nd_neighbour.specs.declared.shown.Reachability.TheVariants.{Incomplete, Reachable, Stale, Delay, Probe}
@@ -112,13 +113,6 @@ abbrev pub parameter_row : Chronicle → List ℕ
 parameter_row c =
     codes "params hop " ++ decimal (hop_limit c) ++ codes " mtu " ++ decimal (link_mtu c) ++ times_text c
     ++ codes " managed " ++ flag_text (managed_of (parameter_history c)) ++ codes " other " ++ flag_text (other_of (parameter_history c))
-
--- letters for flags, in their order, and `-` where none is set
-abbrev pub flags_text : Bool → Bool → List ℕ → List ℕ → List ℕ
-flags_text true true first second = first ++ second
-flags_text true false first second = first
-flags_text false true first second = second
-flags_text false false first second = codes "-"
 
 abbrev pub on_text : Bool → List ℕ
 on_text true = codes "advertise on"

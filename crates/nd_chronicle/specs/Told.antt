@@ -128,3 +128,13 @@ words_of (Words words) = words
 -- and its line
 abbrev pub line_of : ℕ × Told → List ℕ
 line_of item = line_at item.0 (words_of item.1)
+
+-- ---- of a node of a link
+
+-- a line of it: `n` and its number stand before
+abbrev pub node_line : ℕ → ℕ → List ℕ → List ℕ
+node_line node at told = codes "n" ++ decimal node ++ codes " " ++ line_at at told
+
+-- the lines of what happened at a moment
+abbrev pub node_lines : ℕ → ℕ × Happening → List ℕ
+node_lines node row = flat_map (node_line node row.0) (told_of row.1)

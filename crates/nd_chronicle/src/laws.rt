@@ -5,10 +5,10 @@ ghost use Rattle.nd_addr.specs.Bytes.{AreBytes};
 ghost use Rattle.nd_addr.specs.Number.{addr_at, number_of};
 ghost use Rattle.nd_addr.specs.declared.addr.Addr.{Addr};
 ghost use Rattle.nd_decode.specs.declared.body.Body.TheVariants as bodies;
+ghost use Rattle.nd_table.specs.History.{Past};
 ghost use Rattle.nd_frames.specs.Frames.{unspecified, all_nodes, solicited_node};
 ghost use Rattle.nd_frames.specs.Meaning.{IsUnicast, IsDetection, IsDefence};
 ghost use Rattle.nd_slaac.specs.History.{Row, RowKind, Solicited};
-ghost use Rattle.nd_slaac.specs.MayCome as history;
 ghost use Rattle.nd_slaac.specs.MayCome.{Held};
 ghost use Rattle.nd_slaac.specs.State.{is_assigned, is_known};
 ghost use Rattle.nd_chronicle.specs.Start.{Start, link_local_key};
@@ -22,8 +22,8 @@ ghost use Rattle.nd_chronicle.specs.NeighborSolicitation.{then_tried};
 ghost use Rattle.nd_chronicle.specs.Due.{Due};
 ghost use Rattle.nd_chronicle.specs.Growth.{Grows};
 ghost use Rattle.nd_chronicle.specs.History.{IsChronicle, Runs, Walk};
-ghost use Rattle.nd_chronicle.specs.Past.{HeldInRows, Past, PlaceOf, solicited_with};
 ghost use Rattle.nd_chronicle.specs.Told.{text};
+ghost use Rattle.nd_chronicle.specs.Places.{HeldInRows, PlaceOf, solicited_with};
 
 /// A history has one chronicle.
 pub fn one_chronicle()
@@ -75,8 +75,8 @@ pub fn link_local_address_comes_first()
 /// What happened to the own addresses stands in the chronicle, row by row, and each solicitation for one is sent in the moment of its row, with
 /// nothing between (RFC 4862, section 5.4.2).
 pub fn rows_have_places()
-    ensures place { (c : Chronicle) (at key : ℕ) (kind : RowKind) (below : List Row) → history.Past ((at, key, kind) ∷ below) (address_history c) → PlaceOf at key kind below c }
-    ensures past { (c d : Chronicle) → Past d c → history.Past (address_history d) (address_history c) }
+    ensures place { (c : Chronicle) (at key : ℕ) (kind : RowKind) (below : List Row) → Past ((at, key, kind) ∷ below) (address_history c) → PlaceOf at key kind below c }
+    ensures past { (c d : Chronicle) → Past d c → Past (address_history d) (address_history c) }
     ensures sent { (start : Start) (events : List (ℕ × Event)) (c below : Chronicle) (at key : ℕ) → IsChronicle start events c → Past ((at, Address key Solicited) ∷ below) c → Past (solicited_with start at key below) c }
 {}
 

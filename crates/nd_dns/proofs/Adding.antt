@@ -2,9 +2,9 @@
 use Rattle.std.proofs.Common.{◌≡◌, ◌≤◌, ℕ, ◌+◌, Bool, true, false, cond, eqb, List, [], ◌∷◌, ◌++◌, length, take, drop, refl, sym, ◌∙◌, ap, append_assoc}
 use Rattle.std.specs.Prelude.{◌&&◌, ◌||◌, not, is_some, nat_lt}
 use Rattle.std.proofs.lemmas.Bool.{leb-true, true≢false}
+use Rattle.nd_addr.specs.Same.{bytes_tell}
 use Rattle.nd_lifetime.specs.declared.lasting.Lasting.{Lasting}
 use Rattle.nd_lifetime.specs.Listing.{announced, behind, end_in, entered, enters, fits, open_at}
-use Rattle.nd_lifetime.specs.Same.{bytes_tell}
 use Rattle.nd_lifetime.proofs.Behind.{entered_more}
 use Rattle.nd_lifetime.proofs.Steps.{announced_length}
 use Rattle.nd_dns.specs.Names.{same_name}

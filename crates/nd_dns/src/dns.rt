@@ -1,10 +1,10 @@
 ghost use Rattle.std.specs.Prelude.{◌≡◌, ◌≤◌, ◌∷◌, ℕ, List, [], length, IfOk};
 ghost use Rattle.nd_addr.specs.declared.addr.Addr.{Addr};
+ghost use Rattle.nd_addr.specs.Same.{same_addr};
 ghost use Rattle.nd_lifetime.specs.declared.lasting.Lasting.{Lasting};
 ghost use Rattle.nd_lifetime.specs.History.{Row, Cleared, last_moment};
 ghost use Rattle.nd_lifetime.specs.Listing.{open_at, Lists};
 ghost use Rattle.nd_lifetime.specs.Left.{standing_left};
-ghost use Rattle.nd_lifetime.specs.Same.{same_addr};
 
 use crate::search_name::SearchName;
 use nd_addr::Addr;
@@ -30,7 +30,7 @@ impl<A: Allocator> Model for Dns<A> {
     ghost use Rattle.std.specs.Prelude.{◌≤◌};
     ghost use Rattle.std.specs.Vec.{vec_len, vec_capacity};
     ghost use Rattle.nd_lifetime.specs.Listing.{Distinct};
-    ghost use Rattle.nd_lifetime.specs.Same.{same_addr};
+    ghost use Rattle.nd_addr.specs.Same.{same_addr};
     ghost use Rattle.nd_dns.specs.Dns.{Table, max_servers, max_names};
     ghost use Rattle.nd_dns.specs.Names.{same_name};
 

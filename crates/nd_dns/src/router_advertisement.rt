@@ -1,11 +1,11 @@
 ghost use Rattle.std.specs.Prelude.{◌≡◌, ◌≤◌, ◌<◌, ◌^◌, ◌↔◌, ℕ, List, [], IfOk, IfErr, OnOk, OnErr, IsErr, IsOk, true, false, ◌&&◌, ◌⊎◌, if◌then◌else◌};
 ghost use Rattle.std.specs.Result.{IsErrAnd};
 ghost use Rattle.nd_addr.specs.declared.addr.Addr.{Addr};
+ghost use Rattle.nd_addr.specs.Same.{same_addr};
 ghost use Rattle.nd_decode.specs.Pieces.{options_left};
 ghost use Rattle.nd_lifetime.specs.declared.lasting.Lasting.{Lasting};
 ghost use Rattle.nd_lifetime.specs.History.{Row, last_moment};
 ghost use Rattle.nd_lifetime.specs.Listing.{fits, then_announced, Lists};
-ghost use Rattle.nd_lifetime.specs.Same.{same_addr};
 
 use crate::announced_names::AnnouncedNames;
 use crate::announced_servers::AnnouncedServers;

@@ -2,6 +2,7 @@
 use Rattle.std.proofs.Common.{◌≡◌, ℕ, Bool, true, false, List, ◌∷◌, length, Some, sym, subst, refl, ap, ◌∙◌, cond, eqb, ltb}
 use Rattle.std.specs.Prelude.{IsOk, Result, Ok, Err, ◌&&◌, not}
 use Rattle.std.proofs.lemmas.Bool.{false≢true}
+use Rattle.std.proofs.Math.Bool.{and-true, and-false}
 use Rattle.rand_core.specs.Stream.{Stream}
 use Rattle.nd_addr.specs.declared.mac.Mac.{Mac}
 use Rattle.nd_decode.specs.declared.prefix_info.PrefixInfo.{PrefixInfo}
@@ -58,14 +59,6 @@ forms_by true true false = refl
 forms_by true false true = refl
 forms_by true false false = refl
 
-delays : (to_all : Bool) → (to_all && true) ≡ to_all
-delays true = refl
-delays false = refl
-
-no_delay : (to_all : Bool) → (to_all && false) ≡ false
-no_delay true = refl
-no_delay false = refl
-
 -- a fact of four values is one of values that are the same
 moved : (P : ℕ → ℕ → ℕ → List Row → Type 0) {a a' b b' d d' : ℕ} {rows rows' : List Row} → a ≡ a' → b ≡ b' → d ≡ d' → rows ≡ rows' → P a b d rows → P a' b' d' rows'
 moved P {a' = a'} {b = b} {b' = b'} {d = d} {d' = d'} {rows = rows} ea eb ed er p =
@@ -117,7 +110,7 @@ module _ (start : Start) (now : ℕ) (to_all : Bool) (info : PrefixInfo) (old ne
   taken_as : (t : Taken) → (delay, after) ≡ delay_from (to_all && is_formed t) before → GainsRowIfAny (row_taken now old.mac info delay retrans (Ok t)) old.addresses new.addresses
       → Forms start new after retrans (added start now c to_all info t)
   taken_as Formed is gains =
-      let drawn : (delay, after) ≡ delay_from to_all (stream_left start c) = drawn_of true is ∙ ap (λ (b : Bool). delay_from b (stream_left start c)) (delays to_all) in
+      let drawn : (delay, after) ≡ delay_from to_all (stream_left start c) = drawn_of true is ∙ ap (λ (b : Bool). delay_from b (stream_left start c)) (and-true to_all) in
       let key : named_by old.mac info ≡ named_by start.mac info = ap (λ (m : Mac). named_by m info) s.mac in
       let d : delay ≡ delay_for start now to_all c = ap (λ (p : ℕ × Stream). p.0) drawn ∙ sym (delay_is start now c to_all) in
       record {
@@ -127,7 +120,7 @@ module _ (start : Start) (now : ℕ) (to_all : Bool) (info : PrefixInfo) (old ne
         in_force = s.in_force ∙ sym (retrans_delayed start now c to_all);
       }
   taken_as Renewed is gains =
-      let drawn : (delay, after) ≡ delay_from false (stream_left start c) = drawn_of false is ∙ ap (λ (b : Bool). delay_from b (stream_left start c)) (no_delay to_all) in
+      let drawn : (delay, after) ≡ delay_from false (stream_left start c) = drawn_of false is ∙ ap (λ (b : Bool). delay_from b (stream_left start c)) (and-false to_all) in
       let key : named_by old.mac info ≡ named_by start.mac info = ap (λ (m : Mac). named_by m info) s.mac in
       record {
         addresses = subst (λ (k : ℕ). Stands new.addresses ((now, k, address_rows.Announced (lifetimes_of info)) ∷ address_history c)) key (gains.stands (address_history c) s.addresses);
@@ -136,7 +129,7 @@ module _ (start : Start) (now : ℕ) (to_all : Bool) (info : PrefixInfo) (old ne
         in_force = s.in_force;
       }
   taken_as Ignored is gains =
-      let drawn : (delay, after) ≡ delay_from false (stream_left start c) = drawn_of false is ∙ ap (λ (b : Bool). delay_from b (stream_left start c)) (no_delay to_all) in
+      let drawn : (delay, after) ≡ delay_from false (stream_left start c) = drawn_of false is ∙ ap (λ (b : Bool). delay_from b (stream_left start c)) (and-false to_all) in
       record {
         addresses = subst (λ (xs : List Address). Stands xs (address_history c)) (sym gains) s.addresses;
         mac = mac ∙ s.mac;

@@ -37,8 +37,8 @@ given_placed full room limit now key nodes history true s is = λ e would. room 
 given_placed full room limit now key nodes history false s is =
     (refl, (full limit now key nodes history s).0 (no_place limit now key nodes (node_in key nodes) (has_place limit now nodes) (sym is)))
 
--- what the news are of is what they say something of
-enters : (n : News) (times : Times) → message.lets_enter (news_row n times) ≡ lets_enter n
+-- news let a neighbour enter where what they say does
+pub enters : (n : News) (times : Times) → message.lets_enter (news_row n times) ≡ lets_enter n
 enters (news.Given addr mac mark) times = refl
 enters (news.Advert addr flags mac) times = refl
 enters (news.Marked addr router) times = refl

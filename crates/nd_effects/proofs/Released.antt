@@ -6,19 +6,18 @@ use Rattle.nd_addr.specs.Frame.{addressed}
 use Rattle.nd_addr.specs.Number.{number_of, mac_at}
 use Rattle.nd_addr.specs.declared.mac.Mac.{Mac}
 use Rattle.nd_neighbour.specs.declared.news.News.{News}
-use Rattle.nd_neighbour.specs.declared.news.News.TheVariants as news
 use Rattle.nd_neighbour.specs.declared.news.Times.{Times}
 use Rattle.nd_neighbour.specs.Entry.{Node}
 use Rattle.nd_neighbour.specs.History.{Row, Story, story}
-use Rattle.nd_neighbour.specs.News.{GainsNews, Tells, news_key, news_row, lets_enter, mac_given, released_by}
+use Rattle.nd_neighbour.specs.News.{GainsNews, Tells, news_key, news_row, mac_given, released_by}
 use Rattle.nd_neighbour.specs.Place.{Prepares}
 use Rattle.nd_neighbour.specs.Story.{mac_of}
 use Rattle.nd_neighbour.specs.Table.{Stands}
 use Rattle.nd_chronicle.specs.Happening.{Happening, Sent}
-use Rattle.nd_chronicle.specs.Message as message
 use Rattle.nd_out.specs.declared.out.Out.{Out}
 use Rattle.nd_effects.specs.LinkLayerAddress.{said_by, sent_if_known, released_frames, HearsOf}
 use Rattle.nd_effects.specs.Told.{at_moment, happenings}
+use Rattle.nd_effects.proofs.Placing.{enters}
 
 -- packets that are sent to an Ethernet address at the moment
 abbrev pub sent_at : ℕ → Mac → List (List ℕ) → List (ℕ × Happening)
@@ -41,12 +40,6 @@ sent_to_given known packets mac is (inl e) =
     ap (λ (p : List (List ℕ)). map (λ packet. Sent (addressed mac packet)) p) e ∙ (sym (none_sent known) ∙ ap (λ (p : List (List ℕ)). sent_if_known known p) (sym e))
 sent_to_given known packets mac is (inr e) =
     ap (λ (m : Mac). map (λ packet. Sent (addressed m packet)) packets) (sym is) ∙ ap (λ (k : Option ℕ). sent_if_known k packets) (sym e)
-
--- news let a neighbour enter where what they say does
-enters : (n : News) (times : Times) → message.lets_enter (news_row n times) ≡ lets_enter n
-enters (news.Given addr mac mark) times = refl
-enters (news.Advert addr flags mac) times = refl
-enters (news.Marked addr router) times = refl
 
 abbrev known_after : ℕ → News → Times → List Row → Option ℕ
 known_after now n times history = mac_of ((now, news_row n times) ∷ story (news_key n) history)

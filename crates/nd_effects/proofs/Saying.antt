@@ -103,7 +103,7 @@ others_pushed now (Some key) c is = record {
   told = append-nil (items c);
 }
 
-pushed_history : (now : ℕ) (pushed : Option ℕ) (c : Chronicle) → neighbour_history (with_pushed now pushed c) ≡ pushing now pushed (neighbour_history c)
+pub pushed_history : (now : ℕ) (pushed : Option ℕ) (c : Chronicle) → neighbour_history (with_pushed now pushed c) ≡ pushing now pushed (neighbour_history c)
 pushed_history now None c = refl
 pushed_history now (Some key) c = refl
 

@@ -1,7 +1,7 @@
 -- What a router makes of a packet that is in transit, by what it keeps and by what happened.
-use Rattle.std.proofs.Common.{◌≡◌, ◌≤◌, ◌<◌, ◌+◌, ℕ, Bool, true, false, List, length, drop, Option, Some, None, refl, sym, ◌∙◌, ap, subst, arith}
+use Rattle.std.proofs.Common.{◌≡◌, ◌≤◌, ◌+◌, ℕ, Bool, true, false, List, length, drop, Option, Some, None, refl, sym, ◌∙◌, ap, arith}
 use Rattle.std.specs.Prelude.{if◌then◌else◌, ◌-◌}
-use Rattle.std.proofs.lemmas.List.{get_or-drop, length-take}
+use Rattle.std.proofs.lemmas.List.{length-take}
 use Rattle.std.specs.Option.{option_map}
 use Rattle.nd_addr.specs.declared.addr.Addr.{Addr}
 use Rattle.nd_addr.specs.declared.mac.Mac.{Mac}
@@ -10,19 +10,18 @@ use Rattle.nd_addr.specs.Frame.{written_frame}
 use Rattle.nd_addr.specs.Ip6.{PacketParts, ipv6_header_length, payload_length_of}
 use Rattle.nd_addr.specs.Places.{packet_in, payload_in}
 use Rattle.nd_addr.specs.Number.{number_of, mac_at}
+use Rattle.nd_addr.proofs.ByteLists.{IsBytes-drop}
 use Rattle.nd_frames.specs.Frames.{open_mac}
 use Rattle.nd_frames.specs.Redirect.{redirect_frame}
 use Rattle.nd_neighbour.specs.declared.shown.Neighbour.{Neighbour}
-use Rattle.nd_neighbour.specs.AddressResolution.{Resolution}
-use Rattle.nd_neighbour.specs.Entry.{Node, known_mac}
+use Rattle.nd_neighbour.specs.Entry.{Node}
 use Rattle.nd_neighbour.specs.History.{Story, story}
-use Rattle.nd_neighbour.specs.ReachabilityConfirmation.{Word}
 use Rattle.nd_neighbour.specs.Shown.{seen}
-use Rattle.nd_neighbour.specs.Story.{is_present, mac_of, stage_by, the_node}
+use Rattle.nd_neighbour.specs.Story.{is_present, mac_of, the_node}
 use Rattle.nd_neighbour.specs.Table.{Stands, node_in}
-use Rattle.nd_neighbour.specs.UnreachabilityDetection.{Use}
 use Rattle.nd_neighbour.specs.View.{seen_in}
 use Rattle.nd_neighbour.proofs.Stories.{absent_mac}
+use Rattle.nd_neighbour.proofs.Dues.{known_by}
 use Rattle.nd_chronicle.specs.Start.{Start, link_local}
 use Rattle.nd_chronicle.specs.Happening.{Chronicle}
 use Rattle.nd_chronicle.specs.Histories.{neighbour_history}
@@ -31,17 +30,14 @@ use Rattle.nd_effects.specs.Forwarding.{mac_in}
 
 -- ---- the length of a payload
 
-rest_of_bytes : (n : ℕ) (bytes : List ℕ) → IsBytes bytes → IsBytes (drop n bytes)
-rest_of_bytes n bytes h = λ i. subst (λ (b : ℕ). b < 256) (sym (get_or-drop n bytes i 0)) (h (n + i))
-
 two_bytes : (packet : List ℕ) → IsBytes packet → payload_length_of packet ≤ 65535
-two_bytes packet h = let rest = rest_of_bytes 4 packet h in omega (arith, rest 0, rest 1)
+two_bytes packet h = let rest = IsBytes-drop 4 packet h in omega (arith, rest 0, rest 1)
 
 -- it is no longer than its field can say
 pub payload_fits : (frame : List ℕ) → IsBytes frame → length (payload_in frame) ≤ 65535
 payload_fits frame h =
     let packet = packet_in frame in
-    omega (arith, two_bytes packet (rest_of_bytes 14 frame h), length-take (ipv6_header_length + payload_length_of packet - ipv6_header_length) (drop ipv6_header_length packet))
+    omega (arith, two_bytes packet (IsBytes-drop 14 frame h), length-take (ipv6_header_length + payload_length_of packet - ipv6_header_length) (drop ipv6_header_length packet))
 
 -- ---- the link-layer address of a neighbour
 
@@ -57,12 +53,8 @@ kept_mac now None (Some k) e = let no : ⊥ = cc in absurd no
 kept_mac now (Some n) None e = let no : ⊥ = cc in absurd no
 kept_mac now (Some n) (Some k) e = let same : seen_in n ≡ seen now k = cc in ap (λ s. option_map mac_at s.mac) same
 
-stage_mac : (known : Option ℕ) (w : Option Word) (u : Option Use) (r : Option Resolution) (waiting : List (List ℕ)) → known_mac (stage_by known w u r waiting) ≡ known
-stage_mac None w u r waiting = refl
-stage_mac (Some mac) w u r waiting = refl
-
 node_mac : (key : ℕ) (s : Story) (present : Bool) → is_present s ≡ present → mac_in (if present then Some (the_node key s) else None) ≡ option_map mac_at (mac_of s)
-node_mac key s true p = ap (option_map mac_at) (stage_mac (mac_of s) _ _ _ _)
+node_mac key s true p = ap (option_map mac_at) (known_by (mac_of s) _ _ _ _)
 node_mac key s false p = rw (absent_mac s p) refl
 
 -- and the one that is known by what happened

@@ -15,15 +15,12 @@ ghost use Rattle.nd_effects.specs.Forwarding.{mac_in};
 
 use nd_addr::laws::addresses_are_told_by_numbers;
 use nd_addr::{Addr, Ip6, Ip6Ref, Mac, write_frame};
-use nd_frames::{FrameRoom, redirect_frame};
+use nd_frames::{FrameRoom, OPEN_MAC, redirect_frame};
 use nd_message::Redirect;
 use nd_neighbour::Cache;
 use nd_out::Out;
 use nd_waiting::Packet;
 use std::alloc::{AllocError, Allocator};
-
-/// What stands in the place of an Ethernet destination that is still open.
-const OPEN_MAC: Mac = Mac([0; 6]);
 
 /// The frame of a packet from an Ethernet address to one that is still open.
 fn frame_from<A: Allocator>(

@@ -2,12 +2,12 @@ ghost use Rattle.std.specs.Prelude.{◌≡◌, ◌≤◌, ◌<◌, ◌^◌, ◌+
 ghost use Rattle.nd_addr.specs.Number.{number_of};
 ghost use Rattle.nd_addr.specs.Prefix.{PrefixValue};
 ghost use Rattle.nd_addr.specs.declared.addr.Addr.{Addr};
+ghost use Rattle.nd_addr.specs.Same.{same_addr, same_prefix};
 ghost use Rattle.nd_decode.specs.Pieces.{options_left};
 ghost use Rattle.nd_decode.specs.declared.body.Body.TheVariants as bodies;
 ghost use Rattle.nd_lifetime.specs.History.{Row, last_moment};
 ghost use Rattle.nd_lifetime.specs.Listing.{fits, then_announced};
 ghost use Rattle.nd_lifetime.specs.Listing as lists;
-ghost use Rattle.nd_lifetime.specs.Same.{same_addr, same_prefix};
 ghost use Rattle.nd_routers.specs.PrefixOptions.{max_prefixes, prefixes_in};
 ghost use Rattle.nd_dns.specs.Dns as known;
 ghost use Rattle.nd_dns.specs.Dns.{max_servers, max_names, new_names};

@@ -1,5 +1,5 @@
 -- The Redirect that a router sends has a spelling.
-use Rattle.std.proofs.Common.{◌≡◌, ◌∙◌, ℕ, zero, suc, ◌+◌, ◌-◌, ◌%◌, ◌/◌, ◌≤◌, List, [], ◌∷◌, ◌++◌, length, take, map, Option, Some, None, ap, arith}
+use Rattle.std.proofs.Common.{◌≡◌, ◌∙◌, ℕ, ◌+◌, ◌-◌, ◌%◌, ◌/◌, ◌≤◌, List, [], ◌∷◌, ◌++◌, length, take, map, Option, Some, None, ap, arith}
 use Rattle.std.specs.Prelude.{replicate, IfSome}
 use Rattle.std.proofs.lemmas.List.{length-append, length-replicate, length-take, map-append}
 use Rattle.nd_addr.specs.Bytes.{IsBytes, AreBytes}
@@ -13,13 +13,10 @@ use Rattle.nd_message.specs.Owned.{said}
 use Rattle.nd_message.specs.declared.opt.Opt.{Opt}
 use Rattle.nd_message.specs.WellFormed.{IsWellFormed}
 use Rattle.nd_message.proofs.Formed.{formed}
+use Rattle.nd_message.proofs.SearchNames.{zeros_small}
 use Rattle.nd_frames.specs.Redirect.{padded, target_options}
 
 -- ---- the quoted packet
-
-zeros_small : (n : ℕ) → AreSmall (replicate n 0)
-zeros_small zero = tt
-zeros_small (suc n) = (omega arith, zeros_small n)
 
 abbrev padding : List ℕ → ℕ
 padding bytes = (8 - length bytes % 8) % 8

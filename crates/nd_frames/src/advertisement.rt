@@ -3,13 +3,11 @@ ghost use Rattle.nd_message.specs.Frame.{message_frame};
 ghost use Rattle.nd_frames.specs.Frames.{advertisement, defence_frame, answer_frame};
 
 use crate::frame_room::{FrameRoom, are_bytes};
+use crate::open_mac::OPEN_MAC;
 use nd_addr::{Addr, Mac};
 use nd_message::{Body, NeighborAdvertisement, Opt};
 use nd_waiting::Packet;
 use std::alloc::{Allocator, Global};
-
-/// What stands in the place of an Ethernet destination that is still open.
-const OPEN_MAC: Mac = Mac([0; 6]);
 
 impl<A: Allocator> FrameRoom<A> {
     /// The answer to a solicitation from `::` for an own address: it tells all nodes that the address is held (RFC 4861, section 7.2.4).

@@ -6,11 +6,13 @@ mod advertisement;
 mod frame_room;
 pub mod laws;
 mod long_frame;
+mod open_mac;
 mod redirect;
 mod router_advertisement;
 mod router_solicitation;
 mod solicitation;
 
 pub use frame_room::FrameRoom;
+pub use open_mac::OPEN_MAC;
 pub use redirect::redirect_frame;
 pub use router_advertisement::router_advertisement_frame;

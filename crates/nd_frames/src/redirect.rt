@@ -5,13 +5,11 @@ ghost use Rattle.nd_frames.specs.Redirect.{most_quoted, padded, redirect_frame, 
 
 use crate::frame_room::are_bytes;
 use crate::long_frame::message_frame;
+use crate::open_mac::OPEN_MAC;
 use nd_addr::{Addr, Mac};
 use nd_message::{Body, Opt, Redirect};
 use nd_waiting::Packet;
 use std::alloc::{AllocError, Allocator};
-
-/// What stands in the place of an Ethernet destination that is still open.
-const OPEN_MAC: Mac = Mac([0; 6]);
 
 /// How many bytes of the packet a Redirect quotes at most: what 1,280 bytes leave behind the headers and the fields, and what the option begins
 /// with (RFC 4861, section 4.5).

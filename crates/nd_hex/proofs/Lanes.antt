@@ -1,24 +1,10 @@
 -- The values of digits, lane by lane.
-use Rattle.std.proofs.Common.{◌≡◌, ℕ, zero, suc, ◌+◌, ◌-◌, ◌*◌, ◌%◌, ◌^◌, ◌<◌, ◌↔◌, Bool, true, false, ◌&&◌, cond, T, eqb, leb, List, [], ◌∷◌, ◌++◌, map, length, get_or, replicate, bit_or, refl, sym, ap, ◌∙◌, subst, inl, inr, arith, w8, Fits, eqb→eq, leb-false, leb-true, eqb-true, eq-eqb, eq-zero-or-pos}
+use Rattle.std.proofs.Common.{◌≡◌, ℕ, zero, suc, ◌+◌, ◌-◌, ◌*◌, ◌%◌, ◌^◌, ◌<◌, ◌↔◌, Bool, true, false, cond, eqb, leb, List, [], ◌∷◌, ◌++◌, map, length, get_or, replicate, bit_or, refl, sym, ap, ◌∙◌, arith, w8, Fits, leb-false, leb-true, eqb-true, eq-eqb}
 use Rattle.std.proofs.lemmas.Simd.{length-zip2, mask_l-mod, get_or-zip2, get_or-replicate}
 use Rattle.std.proofs.lemmas.List.{length-map, get_or-map, get_or_append_left}
-use lib.Ieee.Fits.{and_l, and_r}
+use Rattle.std.proofs.lemmas.Bool.{agree_below_at}
 use lib.Lanes.{zip2, sel_l, mask_l, top, pick_l, Each1}
 use Rattle.nd_hex.specs.Digits.{value_or_none}
-
--- ---- a fact that computes at each byte
-
-abbrev all_below : (ℕ → Bool) → ℕ → Bool
-all_below p zero = true
-all_below p (suc n) = p n && all_below p n
-
-every_below : (p : ℕ → Bool) (n : ℕ) → T (all_below p n) → (i : ℕ) → i < n → T (p i)
-every_below p zero h i l = absurd (omega arith)
-every_below p (suc n) h i l =
-    elim (eq-zero-or-pos (n - i)) [
-      | inl z ↦ let e : n ≡ i = omega arith in subst (λ x. T (p x)) e (and_l _ _ h)
-      | inr g ↦ every_below p n (and_r (p n) _ h) i (omega arith)
-    ]
 
 -- ---- the value of one lane, as it is computed
 
@@ -37,7 +23,7 @@ one_value c =
     (cond (top 7 (at_most (less (bit_or c 32) 97) 5)) (plus (less (bit_or c 32) 97) 10) 255)
 
 one_value_is : (c : ℕ) → c < 256 → one_value c ≡ value_or_none c
-one_value_is c lt = eqb→eq _ _ (every_below (λ x. eqb (one_value x) (value_or_none x)) 256 tt c lt)
+one_value_is c lt = eqb-true _ _ (agree_below_at (λ x. eqb (one_value x) (value_or_none x)) (λ x. true) 256 c refl lt)
 
 cons_both : (x y : ℕ) (xs ys : List ℕ) → x ≡ y → xs ≡ ys → x ∷ xs ≡ y ∷ ys
 cons_both x y xs ys e es = rw (e, es) refl
@@ -90,10 +76,10 @@ abbrev odds : List ℕ
 odds = 1 ∷ 3 ∷ 5 ∷ 7 ∷ 9 ∷ 11 ∷ 13 ∷ 15 ∷ 17 ∷ 19 ∷ 21 ∷ 23 ∷ 25 ∷ 27 ∷ 29 ∷ 31 ∷ []
 
 even_at : (i : ℕ) → i < 16 → get_or evens i 0 ≡ 2 * i
-even_at i lt = eqb→eq _ _ (every_below (λ k. eqb (get_or evens k 0) (2 * k)) 16 tt i lt)
+even_at i lt = eqb-true _ _ (agree_below_at (λ k. eqb (get_or evens k 0) (2 * k)) (λ k. true) 16 i refl lt)
 
 odd_at : (i : ℕ) → i < 16 → get_or odds i 0 ≡ 2 * i + 1
-odd_at i lt = eqb→eq _ _ (every_below (λ k. eqb (get_or odds k 0) (2 * k + 1)) 16 tt i lt)
+odd_at i lt = eqb-true _ _ (agree_below_at (λ k. eqb (get_or odds k 0) (2 * k + 1)) (λ k. true) 16 i refl lt)
 
 picked : (vs places : List ℕ) (i place : ℕ) → length vs ≡ 32 → i < length places → place < 32 → get_or places i 0 ≡ place
     → get_or (pick_l 0 (vs ++ vs) places) i 0 ≡ get_or vs place 0

@@ -1,7 +1,7 @@
 -- What was written so far, what waits in the text, and what is unread, are the whole.
-use Rattle.std.proofs.Common.{◌≡◌, ◌<◌, ◌+◌, ℕ, List, [], ◌∷◌, ◌++◌, length, take, drop, Option, Some, None, Ok, Err, refl, sym, ap, subst, ◌∙◌, append_assoc, append-nil}
+use Rattle.std.proofs.Common.{◌≡◌, ◌<◌, ◌+◌, ℕ, List, [], ◌∷◌, ◌++◌, length, take, drop, Option, Some, None, refl, sym, ap, subst, ◌∙◌, append_assoc, append-nil}
 use Rattle.std.proofs.Math.Path.{subst₂}
-use Rattle.std.specs.Prelude.{⊤, Result, OnErr}
+use Rattle.std.specs.Prelude.{⊤}
 use Rattle.std.specs.Io.KnownBytes.{Appends, Keeps, IsAtEnd, prepend_known}
 use Rattle.nd_io.specs.Ahead.{IsWholeLine}
 use Rattle.nd_io.specs.Answers.{Texts, Tells, TellsUpTo, EndsWell, IsMalformed}
@@ -237,8 +237,3 @@ TellsLines-last texts texts' n line old mid new before after ends empty told wri
       let front = rw empty at told.1 in
       Appends-both old mid new front.0 after (told.0 ++ []) front.2 written (sym front.1 ∙ sym (append-nil told.0));
 }
-
--- what follows from a fact of an error
-pub OnErr-map : {T E : Type 0} (r : Result T E) (P Q : Type 0) → (P → Q) → OnErr r P → OnErr r Q
-OnErr-map (Ok x) P Q step fact = tt
-OnErr-map (Err e) P Q step fact = step fact

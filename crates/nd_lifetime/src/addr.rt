@@ -2,7 +2,7 @@ use crate::names_key::NamesKey;
 use nd_addr::Addr;
 
 impl NamesKey<Addr> for Addr {
-    ghost use Rattle.nd_lifetime.specs.Same.{same_addr, addrs_tell};
+    ghost use Rattle.nd_addr.specs.Same.{same_addr, addrs_tell};
 
     ghost named = { λ a. a };
 

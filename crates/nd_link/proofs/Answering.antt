@@ -1,5 +1,5 @@
 -- What comes of an event, by what its parts lead to.
-use Rattle.std.proofs.Common.{◌≡◌, ℕ, ◌<◌, ◌≤◌, Bool, true, false, List, [], ◌∷◌, ◌++◌, length, append-nil, Some, None, Err, refl, sym, ◌∙◌, ap, subst, arith}
+use Rattle.std.proofs.Common.{◌≡◌, ℕ, ◌<◌, ◌≤◌, true, List, [], ◌∷◌, ◌++◌, length, append-nil, Some, None, Err, refl, sym, ◌∙◌, ap, subst, arith}
 use Rattle.std.specs.Prelude.{◌==◌, nat_lt, MatchBool, slice_get}
 use Rattle.std.proofs.lemmas.Bool.{le-ltb, lt-ltb}
 use Rattle.std.proofs.lemmas.Bool.Decides.{Decides-eqb}
@@ -7,6 +7,7 @@ use Rattle.std.proofs.lemmas.Option.{slice_get_within}
 use Rattle.rand_core.specs.Stream.{Stream}
 use Rattle.nd_addr.specs.declared.mac.Mac.{Mac}
 use Rattle.nd_addr.specs.declared.role.Role.{Role}
+use Rattle.nd_table.proofs.Tests.{by_true, by_false}
 use Rattle.nd_chronicle.specs.History.{beginning}
 use Rattle.nd_chronicle.specs.Event as nodes
 use Rattle.nd_node.specs.declared.node.Node.{Node}
@@ -36,14 +37,6 @@ use Rattle.nd_link.proofs.Passage.{frames_reached, moment_reached, nodes_reached
 use Rattle.nd_link.proofs.Sending.{count_frames, kept_at, kept_length, named}
 use Rattle.nd_link.proofs.Starting.{frames_started, nodes_started, started, text_started}
 use Rattle.nd_link.proofs.Walks.{told_lines_of, told_same, told_then}
-
-taken : (t : Bool) (P Q : Type 0) → t ≡ true → P → MatchBool t P Q
-taken true P Q e p = p
-taken false P Q e p = absurd (let no : ⊥ = cc in no)
-
-not_taken : (t : Bool) (P Q : Type 0) → t ≡ false → Q → MatchBool t P Q
-not_taken true P Q e q = absurd (let no : ⊥ = cc in no)
-not_taken false P Q e q = q
 
 module _ {W R A : Type 0} (stream : R → Stream) where
   -- the same for one of the relations that follow from another
@@ -84,7 +77,7 @@ module _ {W R A : Type 0} (stream : R → Stream) where
         let at = moment_reached now log in
         let d : Log = started (nodes base) start base in (
           d,
-          taken (nat_lt (nodes base) max_nodes) _ _ (lt-ltb (nodes base) max_nodes (let e = count_reached old now log s in omega (arith, e, few))) refl,
+          by_true (nat_lt (nodes base) max_nodes) _ _ (lt-ltb (nodes base) max_nodes (let e = count_reached old now log s in omega (arith, e, few))) refl,
           record {
             nodes = subst (λ (l : List (Node R A)). NodesStand stream l d now) (sym nodes_are)
                 (nodes_started stream mid.nodes.items n base start (subst (NodesStand stream mid.nodes.items base) at m.nodes) stands);
@@ -101,13 +94,13 @@ module _ {W R A : Type 0} (stream : R → Stream) where
       → Leads stream old new x y (Happens now (links.Comes number event))
   no_node_leads old new x y now number event past =
       leads_to old new x y (IsRefused now NoNode) (Happens now (links.Comes number event))
-      (λ log d s is. not_taken (nat_lt number (nodes (reached now log))) _ _ (le-ltb number (nodes (reached now log)) (let e = count_reached old now log s in omega (arith, e, past))) is)
+      (λ log d s is. by_false (nat_lt number (nodes (reached now log))) _ _ (le-ltb number (nodes (reached now log)) (let e = count_reached old now log s in omega (arith, e, past))) is)
 
   pub come_leads : (old new : Link W R A) (x y : List (Told A)) (now number place : ℕ) (event : nodes.Event) → place ≡ number → place < length old.nodes.items → Leads stream old new x y (Arrives now place event None)
       → Leads stream old new x y (Happens now (links.Comes number event))
   come_leads old new x y now number place event same there =
       leads_to old new x y (Arrives now place event None) (Happens now (links.Comes number event))
-      (λ log d s is. taken (nat_lt number (nodes (reached now log))) _ _ (lt-ltb number (nodes (reached now log)) (let e = count_reached old now log s in omega (arith, e, there, same)))
+      (λ log d s is. by_true (nat_lt number (nodes (reached now log))) _ _ (lt-ltb number (nodes (reached now log)) (let e = count_reached old now log s in omega (arith, e, there, same)))
       (subst (λ (k : ℕ). AddsRows usual_limits now k event (reached now log) d) same is))
 
   -- a frame is to be carried
@@ -126,22 +119,22 @@ module _ {W R A : Type 0} (stream : R → Stream) where
         let kept = ap (λ l. slice_get l number) (frames_reached now log ∙ sym s.frames) ∙ kept_at old.frames.items number frame.sent frame.is in
         let n = named (reached now log) number frame.sent.sender frame.sent.frame.items kept in
         let within = slice_get_within old.frames.items number frame.sent frame.is in
-        taken (nat_lt to (nodes (reached now log))) _ _ (receiver there log s)
-        (taken (nat_lt number (sent (reached now log))) _ _ (lt-ltb number (sent (reached now log)) (let e = sent_reached old now log s in omega (arith, e, within)))
+        by_true (nat_lt to (nodes (reached now log))) _ _ (receiver there log s)
+        (by_true (nat_lt number (sent (reached now log))) _ _ (lt-ltb number (sent (reached now log)) (let e = sent_reached old now log s in omega (arith, e, within)))
         (record { sender = frame.sent.sender; at = n.at; frame = frame.sent.frame.items; is_frame = n.is_frame; adds = m }))
 
     pub refused_delivery : (why : Refusal) → IsWay (length old.nodes.items) old.frames.items to number (Err why) → Leads stream old new x y (IsRefused now (refusal_of why)) → Leads stream old new x y (Happens now (links.Delivers to number))
     refused_delivery refusals.NoNode past =
         leads_to old new x y (IsRefused now NoNode) (Happens now (links.Delivers to number))
-        (λ log d s is. not_taken (nat_lt to (nodes (reached now log))) _ _ (le-ltb to (nodes (reached now log)) (let e = count_reached old now log s in omega (arith, e, past))) is)
+        (λ log d s is. by_false (nat_lt to (nodes (reached now log))) _ _ (le-ltb to (nodes (reached now log)) (let e = count_reached old now log s in omega (arith, e, past))) is)
     refused_delivery refusals.NoFrame past =
         let more = past.1 in
         leads_to old new x y (IsRefused now NoFrame) (Happens now (links.Delivers to number))
-        (λ log d s is. taken (nat_lt to (nodes (reached now log))) _ _ (receiver past.0 log s)
-        (not_taken (nat_lt number (sent (reached now log))) _ _ (le-ltb number (sent (reached now log)) (let e = sent_reached old now log s in omega (arith, e, more))) is))
+        (λ log d s is. by_true (nat_lt to (nodes (reached now log))) _ _ (receiver past.0 log s)
+        (by_false (nat_lt number (sent (reached now log))) _ _ (le-ltb number (sent (reached now log)) (let e = sent_reached old now log s in omega (arith, e, more))) is))
     refused_delivery refusals.Own own =
         leads_to old new x y (IsRefused now Own) (Happens now (links.Delivers to number))
-        (λ log d s is. delivery own.0 own.1 log d s (taken (own.1.sent.sender == to) _ _ ((Decides-eqb own.1.sent.sender to).1 own.2) is))
+        (λ log d s is. delivery own.0 own.1 log d s (by_true (own.1.sent.sender == to) _ _ ((Decides-eqb own.1.sent.sender to).1 own.2) is))
     refused_delivery refusals.Full none = absurd none
     refused_delivery (refusals.TooLate last) none = absurd none
 
@@ -154,7 +147,7 @@ module _ {W R A : Type 0} (stream : R → Stream) where
         let here = subst (λ (k : ℕ). arrives k arrived.sent.frame.items bytes) goes.place arrived.arrived in
         let bytes_are : bytes ≡ goes.frame.sent.frame.items = faithful arrived.sent.frame.items bytes here ∙ ap (λ (f : SentFrame A). f.frame.items) same in
         leads_to old new x y (Arrives now way.0 (nodes.Receives bytes) (Some number)) (Happens now (links.Delivers to number))
-        (λ log d s is. delivery goes.there goes.frame log d s (not_taken (goes.frame.sent.sender == to) _ _ (apart goes.frame.sent.sender to goes.other)
+        (λ log d s is. delivery goes.there goes.frame log d s (by_false (goes.frame.sent.sender == to) _ _ (apart goes.frame.sent.sender to goes.other)
         (subst (λ (k : ℕ). AddsRows usual_limits now k (nodes.Receives goes.frame.sent.frame.items) (Carries k now number ∷ reached now log) d) goes.place
         (subst (λ (b : List ℕ). AddsRows usual_limits now way.0 (nodes.Receives b) (Carries way.0 now number ∷ reached now log) d) bytes_are is))))
 
@@ -166,7 +159,7 @@ module _ {W R A : Type 0} (stream : R → Stream) where
         let is = s.last in
         let d : Log = Refuses now (TooLate (last_moment log)) ∷ log in (
           d,
-          taken (nat_lt now (last_moment log)) _ _ (lt-ltb now (last_moment log) (omega (arith, late, is))) refl,
+          by_true (nat_lt now (last_moment log)) _ _ (lt-ltb now (last_moment log) (omega (arith, late, is))) refl,
           record { nodes = nodes_refused stream old.nodes.items log (last_moment log) (last_moment log) now (TooLate (last_moment log)) refl s.nodes; frames = s.frames; last = s.last },
           told_lines_of log d x y (lines_of (Refuses now (TooLate (last_moment log)))) (subst (λ (m : ℕ). TellsLines x y (lines_of (Refuses now (TooLate m)))) is t) refl,
         );
@@ -180,7 +173,7 @@ module _ {W R A : Type 0} (stream : R → Stream) where
         let h = happens.each p.0 p.2 in
         let is = s.last in (
           h.0,
-          not_taken (nat_lt now (last_moment log)) _ _ (le-ltb now (last_moment log) (omega (arith, in_time, is))) (p.0, p.1, h.1),
+          by_false (nat_lt now (last_moment log)) _ _ (le-ltb now (last_moment log) (omega (arith, in_time, is))) (p.0, p.1, h.1),
           h.2,
           told_then log p.0 h.0 x y z p.3 h.3,
         );

@@ -8,10 +8,9 @@ use Rattle.nd_chronicle.specs.Event as events
 use Rattle.nd_chronicle.specs.Event.{EventAdds}
 use Rattle.nd_chronicle.specs.Happening as chronicle
 use Rattle.nd_chronicle.specs.Happening.{Chronicle, Passed}
-use Rattle.nd_chronicle.specs.Told.{items, items_at}
+use Rattle.nd_chronicle.specs.Told.{items, items_at, node_lines}
 use Rattle.nd_chronicle.proofs.Growth.{event_grows}
 use Rattle.nd_out.specs.declared.out.Out.{Out}
-use Rattle.nd_out.specs.NodeLine.{node_lines}
 use Rattle.nd_effects.specs.Told as effects
 use Rattle.nd_effects.specs.Told.{frames_in, happenings}
 use Rattle.nd_node.specs.declared.node.Node.{Node}

@@ -10,8 +10,9 @@ use Rattle.nd_chronicle.specs.Start.{Start}
 use Rattle.nd_chronicle.specs.Happening.{Chronicle}
 use Rattle.nd_node.specs.declared.node.Node.{Node}
 use Rattle.nd_node.specs.Node.{NextDue, Stands, next_of}
+use Rattle.nd_node.proofs.Running.{take_more}
 use Rattle.nd_link.specs.Due.{AreDated, FirstDue, IsFirst, earlier}
-use Rattle.nd_link.proofs.Lists.{push_length, push_others, push_own, same_element, take_push}
+use Rattle.nd_link.proofs.Lists.{push_length, push_others, push_own, same_element}
 
 module _ {R A : Type 0} (stream : R → Stream) (list : List (Node R A)) (n : Node R A) where
   abbrev pub IsDated : Type 0
@@ -85,6 +86,6 @@ module _ {R A : Type 0} (stream : R → Stream) where
   first_more nodes i n first due lt is due_is dated sofar =
       let count : length (take i nodes) ≡ i = length-take-le i nodes (omega (arith, lt)) in
       let more : i + 1 ≡ suc i = omega arith in
-      subst (λ (l : List (Node R A)). FirstDue stream l (earlier first i due)) (sym (ap (λ (k : ℕ). take k nodes) more ∙ take_push nodes i n lt is))
+      subst (λ (l : List (Node R A)). FirstDue stream l (earlier first i due)) (sym (ap (λ (k : ℕ). take k nodes) more ∙ take_more nodes i n lt is))
       (subst (λ (m : ℕ). FirstDue stream (take i nodes ++ n ∷ []) (earlier first i m)) (sym due_is)
       (subst (λ (k : ℕ). FirstDue stream (take i nodes ++ n ∷ []) (earlier first k (next_of n))) count (one_more (take i nodes) n first dated sofar)))

@@ -1,5 +1,5 @@
 -- The elements of a list, by their places.
-use Rattle.std.proofs.Common.{◌≡◌, ◌≢◌, ℕ, zero, suc, ◌<◌, List, [], ◌∷◌, ◌++◌, length, set, take, get_or, Option, Some, refl, sym, ap, arith}
+use Rattle.std.proofs.Common.{◌≡◌, ◌≢◌, ℕ, zero, suc, ◌<◌, List, [], ◌∷◌, ◌++◌, length, set, Option, Some, refl, ap, arith}
 use Rattle.std.specs.Prelude.{slice_get}
 
 module _ {X : Type 0} where
@@ -42,8 +42,3 @@ module _ {X : Type 0} where
   push_others [] i x lt = absurd (omega (arith, lt))
   push_others (z ∷ xs) zero x lt = refl
   push_others (z ∷ xs) (suc i) x lt = push_others xs i x (omega (arith, lt))
-
-  pub take_push : (xs : List X) (i : ℕ) (x : X) → i < length xs → x ≡ get_or xs i x → take (suc i) xs ≡ take i xs ++ x ∷ []
-  take_push [] i x lt is = absurd (omega (arith, lt))
-  take_push (y ∷ ys) zero x lt is = ap (λ z. z ∷ []) (sym is)
-  take_push (y ∷ ys) (suc i) x lt is = ap (λ l. y ∷ l) (take_push ys i x (omega (arith, lt)) is)

@@ -6,9 +6,8 @@ use Rattle.std.specs.Prelude.{codes}
 use Rattle.std.specs.Fmt.{decimal}
 use Rattle.std.specs.List.{flat_map}
 use Rattle.nd_chronicle.specs.Happening.{Chronicle, Happening, Sent}
-use Rattle.nd_chronicle.specs.Told.{Told, Words, told_of, items_at, items, line_at, line_of}
+use Rattle.nd_chronicle.specs.Told.{Told, Words, told_of, items_at, items, line_at, line_of, node_lines}
 use Rattle.nd_out.specs.declared.out.Out.{Out}
-use Rattle.nd_out.specs.NodeLine.{node_lines}
 use Rattle.nd_effects.specs.Told as effects
 use Rattle.nd_effects.specs.Told.{frame_sent, frames_in, happenings, sent_in}
 use Rattle.nd_effects.proofs.Reading.{Tells-frames}

@@ -1,8 +1,8 @@
 -- What a link hands out, and its text: that of what happened at its nodes and of what it refused, the oldest first.
 use Rattle.std.specs.Prelude.{◌≡◌, ℕ, List, ◌++◌}
 use Rattle.std.specs.List.{flat_map}
+use Rattle.nd_chronicle.specs.Told.{node_lines}
 use Rattle.nd_effects.specs.Told.{happenings}
-use Rattle.nd_out.specs.NodeLine.{node_lines}
 use Rattle.nd_link_log.specs.Log as log
 use Rattle.nd_link_log.specs.Log.{Log, Refuses}
 use Rattle.nd_link_log.specs.Told.{lines_of, text}

@@ -1,6 +1,7 @@
 ghost use Rattle.std.specs.Prelude.{◌≡◌, ◌≢◌, ◌^◌, ◌<◌, ◌≤◌, Err, IfNone, IfOk, IfSome, IsErrOf, OnErr, OnOk, vec_len};
 ghost use Rattle.nd_node.specs.Event.{event_of};
-ghost use Rattle.nd_wire.specs.Wire.{IsFaithfulTo, one_more};
+ghost use Rattle.nd_io.specs.Counts.{one_more};
+ghost use Rattle.nd_wire.specs.Wire.{IsFaithfulTo};
 ghost use Rattle.nd_link_log.specs.Log.{Log};
 ghost use Rattle.nd_link_log.specs.Event.{Comes, Delivers};
 ghost use Rattle.nd_link.specs.Arrival.{Happens};

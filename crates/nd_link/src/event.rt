@@ -1,6 +1,7 @@
 ghost use Rattle.std.specs.Prelude.{◌≡◌, ◌≢◌, ◌≤◌, ◌<◌, ◌^◌, Err, IsErrOf, OnErr, OnOk, true};
 ghost use Rattle.nd_addr.specs.Bytes.{IsBytes};
-ghost use Rattle.nd_wire.specs.Wire.{IsFaithful, one_more};
+ghost use Rattle.nd_io.specs.Counts.{one_more};
+ghost use Rattle.nd_wire.specs.Wire.{IsFaithful};
 ghost use Rattle.nd_link_log.specs.Log.{Log};
 ghost use Rattle.nd_link_log.specs.Bytes.{IsOfBytes};
 ghost use Rattle.nd_link.specs.Arrival.{Happens};

@@ -6,19 +6,20 @@ use Rattle.std.proofs.lemmas.Bool.Decides.{Decides-eqb}
 use Rattle.nd_addr.specs.Bytes.{AreBytes}
 use Rattle.nd_addr.specs.Number.{addr_at}
 use Rattle.nd_addr.proofs.Numbered.{addr_number_back, sixteen}
+use Rattle.nd_table.specs.History.{Past}
+use Rattle.nd_table.proofs.Pasts.{past_then}
 use Rattle.nd_frames.specs.Frames.{defence_frame, detection_frame}
 use Rattle.nd_frames.proofs.Meant.{defence_sent, detection_sent}
 use Rattle.nd_slaac.specs.History.{Assigned, Formed, Story}
 use Rattle.nd_slaac.specs.State.{is_tentative}
 use Rattle.nd_chronicle.specs.Start.{Start}
 use Rattle.nd_chronicle.specs.Happening.{Address, Sent}
-use Rattle.nd_link_log.specs.Log.{Log, Past, Begins, Adds, Carries, last_moment, sent, start_of}
+use Rattle.nd_link_log.specs.Log.{Log, Begins, Adds, Carries, last_moment, sent, start_of}
 use Rattle.nd_link_log.specs.Holding.{AllArrive, AllWait, Arrives, Holds, IsTimely, IsTrying}
 use Rattle.nd_link_log.specs.Sound.{Brings, Claims, Gains, IsSound, Tried, Tries}
 use Rattle.nd_link_log.proofs.Carried.{AllBring, bring_carried, bring_with}
 use Rattle.nd_link_log.proofs.Moments.{Rising, by_then, in_order}
 use Rattle.nd_link_log.proofs.Nodes.{RowsThere, there_at}
-use Rattle.nd_link_log.proofs.Pasts.{past_then}
 use Rattle.nd_link_log.proofs.Places.{AllPlaces, Since, assigned_row, at_place, since_here, since_more}
 
 -- ---- what is to be shown of a log that is written out

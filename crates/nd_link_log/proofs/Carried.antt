@@ -1,10 +1,12 @@
 -- What each frame that was carried has brought.
 use Rattle.std.proofs.Common.{◌≡◌, ◌⊎◌, inl, inr, ℕ, Bool, true, false, List, [], ◌∷◌, ◌++◌, refl, sym, ◌∙◌, ap, subst, ⊎_elim}
-use Rattle.std.proofs.lemmas.Bool.{true≢false}
+use Rattle.std.proofs.lemmas.Bool.{true≢false, or_right, or_left}
 use Rattle.std.proofs.lemmas.List.{append_assoc, append_cancel_right}
 use Rattle.nd_addr.specs.Bytes.{IsBytes}
 use Rattle.nd_addr.specs.Number.{number_of}
 use Rattle.nd_addr.specs.declared.addr.Addr.{Addr}
+use Rattle.nd_table.specs.History.{Past}
+use Rattle.nd_table.proofs.Pasts.{past_self, past_then}
 use Rattle.nd_frames.specs.Frames.{all_nodes, defence_frame, solicited_node, unspecified}
 use Rattle.nd_frames.specs.Meaning.{IsDefence, IsDetection}
 use Rattle.nd_frames.proofs.Meant.{defence_sent}
@@ -15,13 +17,12 @@ use Rattle.nd_chronicle.specs.Happening.{Address, Chronicle, Happening, Heard, S
 use Rattle.nd_chronicle.specs.NeighborSolicitation.{is_router}
 use Rattle.nd_chronicle.specs.OwnAddress.{is_assigned, is_own, is_tentative, story_of}
 use Rattle.nd_chronicle.specs.Event.{FrameAdds}
-use Rattle.nd_link_log.specs.Log.{Entry, Log, Past, Adds, Carries, IsFrame, adding, chronicle_of}
+use Rattle.nd_link_log.specs.Log.{Entry, Log, Adds, Carries, IsFrame, adding, chronicle_of}
 use Rattle.nd_link_log.specs.Holding.{Holds, IsTrying}
 use Rattle.nd_link_log.specs.Sound.{Brings, Claims, Gains, Tries}
 use Rattle.nd_link_log.proofs.Chronicles.{past_with}
 use Rattle.nd_link_log.proofs.Lives.{Lives}
-use Rattle.nd_link_log.proofs.Pasts.{past_self, past_then}
-use Rattle.nd_link_log.proofs.Rivals.{claims_address, defends, gives_way, own_by_assigned, own_by_tentative, tries_address, yields}
+use Rattle.nd_link_log.proofs.Rivals.{claims_address, defends, gives_way, tries_address, yields}
 
 -- ---- one frame
 
@@ -57,7 +58,7 @@ module _ (node now number : ℕ) (before : Log) (rows : Chronicle) where
         let t : IsDetection frame address = tries.2 in
         let whole = tries_address frame address bytes t in
         let assigned : is_assigned c address.0 ≡ true = subst (λ (n : ℕ). states.is_assigned (story_of c n) ≡ true) (sym tries.1) holds in
-        let own : is_own c address.0 ≡ true = own_by_assigned (is_tentative c address.0) (is_assigned c address.0) assigned in
+        let own : is_own c address.0 ≡ true = or_right (is_tentative c address.0) (is_assigned c address.0) assigned in
         let answer : List ℕ = defence_frame (is_router start.role) start.mac address in (
           answer,
           (address, tries.1, defence_sent start.mac (l.mac b) (is_router start.role) address whole),
@@ -70,7 +71,7 @@ module _ (node now number : ℕ) (before : Log) (rows : Chronicle) where
         let t : IsDetection frame address = tries.2 in
         let whole = tries_address frame address bytes t in
         let tentative : is_tentative c address.0 ≡ true = subst (λ (n : ℕ). states.is_tentative (story_of c n) ≡ true) (sym tries.1) trying in
-        let own : is_own c address.0 ≡ true = own_by_tentative (is_tentative c address.0) (is_assigned c address.0) tentative in
+        let own : is_own c address.0 ≡ true = or_left (is_tentative c address.0) (is_assigned c address.0) tentative in
         subst (λ (n : ℕ). Gains after before node now (Address n Conflict)) tries.1
         (gains (Address (number_of address.0) Conflict) [] ((now, Heard unspecified (solicited_node address) t.message) ∷ []) (gives_way Bytes b start c now l address whole own frame (rows ++ c) adds t tentative))
     clashes key (inr claims) trying =
@@ -78,7 +79,7 @@ module _ (node now number : ℕ) (before : Log) (rows : Chronicle) where
         let t : IsDefence frame address = claims.2 in
         let whole = claims_address frame address bytes t in
         let tentative : is_tentative c address.0 ≡ true = subst (λ (n : ℕ). states.is_tentative (story_of c n) ≡ true) (sym claims.1) trying in
-        let own : is_own c address.0 ≡ true = own_by_tentative (is_tentative c address.0) (is_assigned c address.0) tentative in
+        let own : is_own c address.0 ≡ true = or_left (is_tentative c address.0) (is_assigned c address.0) tentative in
         let y = yields Bytes b start c now l address whole own frame (rows ++ c) adds t tentative in
         subst (λ (n : ℕ). Gains after before node now (Address n Conflict)) claims.1
         (gains (Address (number_of address.0) Conflict) y.0 ((now, Heard address all_nodes t.message) ∷ []) y.1)

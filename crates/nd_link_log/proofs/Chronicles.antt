@@ -2,10 +2,10 @@
 use Rattle.std.proofs.Common.{◌≡◌, inl, inr, ℕ, Bool, true, false, [], ◌∷◌, ◌++◌, refl, sym, ◌∙◌, ap, subst, ⊎_elim}
 use Rattle.std.specs.Prelude.{◌==◌, if◌then◌else◌}
 use Rattle.std.proofs.lemmas.Bool.Decides.{Decides-eqb}
+use Rattle.nd_table.specs.History.{Past}
+use Rattle.nd_table.proofs.Pasts.{past_self}
 use Rattle.nd_chronicle.specs.Happening.{Chronicle, Happening, Passed}
-use Rattle.nd_chronicle.specs.Past as chronicle
-use Rattle.nd_link_log.specs.Log.{Entry, Log, Past, Begins, Adds, Carries, Reaches, Refuses, adding, chronicle_of, nodes, start_of}
-use Rattle.nd_link_log.proofs.Pasts.{past_self}
+use Rattle.nd_link_log.specs.Log.{Entry, Log, Begins, Adds, Carries, Reaches, Refuses, adding, chronicle_of, nodes, start_of}
 
 -- ---- rows of a node
 
@@ -44,22 +44,18 @@ past_with node (row ∷ rows) log = inr (past_with node rows log)
 -- ---- places
 
 -- what the log was, the chronicle was
-pub past_of : (i : ℕ) (d log : Log) → Past d log → chronicle.Past (chronicle_of i d) (chronicle_of i log)
+pub past_of : (i : ℕ) (d log : Log) → Past d log → Past (chronicle_of i d) (chronicle_of i log)
 past_of i d [] p = ap (chronicle_of i) p
 past_of i d (entry ∷ log) p = ⊎_elim
-    (λ same. subst (λ (x : Log). chronicle.Past (chronicle_of i x) (chronicle_of i (entry ∷ log))) (sym same) (self (chronicle_of i (entry ∷ log))))
+    (λ same. subst (λ (x : Log). Past (chronicle_of i x) (chronicle_of i (entry ∷ log))) (sym same) (past_self (chronicle_of i (entry ∷ log))))
     (λ below. by entry (past_of i d log below)) p
   where
-    self : (c : Chronicle) → chronicle.Past c c
-    self [] = refl
-    self (row ∷ c) = inl refl
-
-    either : (own : Bool) (row : ℕ × Happening) → chronicle.Past (chronicle_of i d) (chronicle_of i log)
-        → chronicle.Past (chronicle_of i d) (if own then row ∷ chronicle_of i log else chronicle_of i log)
+    either : (own : Bool) (row : ℕ × Happening) → Past (chronicle_of i d) (chronicle_of i log)
+        → Past (chronicle_of i d) (if own then row ∷ chronicle_of i log else chronicle_of i log)
     either true row q = inr q
     either false row q = q
 
-    by : (entry : Entry) → chronicle.Past (chronicle_of i d) (chronicle_of i log) → chronicle.Past (chronicle_of i d) (chronicle_of i (entry ∷ log))
+    by : (entry : Entry) → Past (chronicle_of i d) (chronicle_of i log) → Past (chronicle_of i d) (chronicle_of i (entry ∷ log))
     by (Adds node at what) q = either (node == i) (at, what) q
     by (Begins node start) q = q
     by (Carries node at number) q = q
@@ -97,12 +93,12 @@ module _ (i at : ℕ) (what : Happening) (c : Chronicle) where
         chronicle_is = sym (ap behind e);
       }
 
-  in_rows : (node when : ℕ) (other : Happening) (log : Log) (own : Bool) → (node == i) ≡ own → (chronicle.Past ((at, what) ∷ c) (chronicle_of i log) → Lifted i at what c log)
-      → chronicle.Past ((at, what) ∷ c) (if own then (when, other) ∷ chronicle_of i log else chronicle_of i log) → Lifted i at what c (Adds node when other ∷ log)
+  in_rows : (node when : ℕ) (other : Happening) (log : Log) (own : Bool) → (node == i) ≡ own → (Past ((at, what) ∷ c) (chronicle_of i log) → Lifted i at what c log)
+      → Past ((at, what) ∷ c) (if own then (when, other) ∷ chronicle_of i log else chronicle_of i log) → Lifted i at what c (Adds node when other ∷ log)
   in_rows node when other log true e lower p = ⊎_elim (λ same. here node when other log ((Decides-eqb node i).0 e) same) (λ below. further (Adds node when other) log (lower below)) p
   in_rows node when other log false e lower p = further (Adds node when other) log (lower p)
 
-  pub lift : (log : Log) → chronicle.Past ((at, what) ∷ c) (chronicle_of i log) → Lifted i at what c log
+  pub lift : (log : Log) → Past ((at, what) ∷ c) (chronicle_of i log) → Lifted i at what c log
   lift [] p = absurd (let no : ⊥ = cc in no)
   lift (Adds node when other ∷ log) p = in_rows node when other log (node == i) refl (lift log) p
   lift (Begins node start ∷ log) p = further (Begins node start) log (lift log p)

@@ -1,8 +1,9 @@
 -- A frame is told by its number.
 use Rattle.std.proofs.Common.{◌≡◌, ℕ, suc, ◌≤◌, Bool, true, false, List, [], ◌∷◌, sym, ◌∙◌, ap, subst, arith, ⊎_elim}
 use Rattle.std.specs.Prelude.{if◌then◌else◌}
+use Rattle.nd_table.specs.History.{Past}
 use Rattle.nd_chronicle.specs.Happening.{Sent}
-use Rattle.nd_link_log.specs.Log.{Entry, Log, Past, Begins, Adds, Carries, Reaches, Refuses, is_sent, sent}
+use Rattle.nd_link_log.specs.Log.{Entry, Log, Begins, Adds, Carries, Reaches, Refuses, is_sent, sent}
 
 -- each entry leaves as many frames, or one more
 more_sent : (entry : Entry) (log : Log) → sent log ≤ sent (entry ∷ log)

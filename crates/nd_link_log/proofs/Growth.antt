@@ -1,14 +1,16 @@
 -- Whatever happens on a link, its log grows.
 use Rattle.std.proofs.Common.{◌≡◌, inr, ℕ, zero, suc, Bool, true, false, List, [], ◌∷◌, ◌++◌, sym, ap, subst, ⊎_elim}
 use Rattle.std.specs.Prelude.{◌==◌, nat_lt, MatchBool}
+use Rattle.nd_table.specs.History.{Past}
+use Rattle.nd_table.proofs.Pasts.{past_self, past_then}
+use Rattle.nd_table.proofs.Tests.{by_either}
 use Rattle.nd_chronicle.specs.Start.{Limits, Start}
 use Rattle.nd_chronicle.specs.History.{beginning}
 use Rattle.nd_chronicle.specs.Event as chronicle
-use Rattle.nd_link_log.specs.Log.{Entry, Log, Past, Refusal, NoNode, NoFrame, Own, Full, TooLate, Begins, Carries, Reaches, Refuses, adding, last_moment, nodes, sent}
+use Rattle.nd_link_log.specs.Log.{Entry, Log, Refusal, NoNode, NoFrame, Own, Full, TooLate, Begins, Carries, Reaches, Refuses, adding, last_moment, nodes, sent}
 use Rattle.nd_link_log.specs.Event.{Event, Passes, Starts, Comes, Delivers, AddsRows, AddsDelivery, EventHappens, max_nodes, passing}
 use Rattle.nd_link_log.specs.History.{Runs, Walk, over, adds, passes}
 use Rattle.nd_link_log.proofs.Chronicles.{past_with}
-use Rattle.nd_link_log.proofs.Pasts.{past_self, past_then}
 
 walk_past : {log d : Log} {moment end : ℕ} → Walk log moment end d → Past log d
 walk_past {log = log} (over lt) = past_self log
@@ -19,10 +21,6 @@ past_passing : (now : ℕ) (log : Log) (k : ℕ) → Past log (passing now k log
 past_passing now log zero = past_self log
 past_passing now log (suc k) = inr (past_passing now log k)
 
-either : (t : Bool) {P Q X : Type 0} → (P → X) → (Q → X) → MatchBool t P Q → X
-either true f g h = f h
-either false f g h = g h
-
 module _ (limits : Limits) (now : ℕ) (log d : Log) where
   refused : (why : Refusal) → d ≡ Refuses now why ∷ log → Past log d
   refused why same = subst (Past log) (sym same) (inr (past_self log))
@@ -31,19 +29,19 @@ module _ (limits : Limits) (now : ℕ) (log d : Log) where
   rows_past node event before p r = subst (Past log) (sym r.all) (past_then log before (adding node r.rows before) p (past_with node r.rows before))
 
   delivery_past : (node number : ℕ) → AddsDelivery limits now node number log d → Past log d
-  delivery_past node number r = either (r.sender == node) (refused Own) (rows_past node (chronicle.Receives r.frame) (Carries node now number ∷ log) (inr (past_self log))) r.adds
+  delivery_past node number r = by_either (r.sender == node) (refused Own) (rows_past node (chronicle.Receives r.frame) (Carries node now number ∷ log) (inr (past_self log))) r.adds
 
   happens_past : (event : Event) → EventHappens limits now event log d → Past log d
   happens_past Passes h = subst (Past log) (sym h) (past_self log)
-  happens_past (Starts role mac stream) h = either (nat_lt (nodes log) max_nodes)
+  happens_past (Starts role mac stream) h = by_either (nat_lt (nodes log) max_nodes)
       (λ same.
       let start : Start = record { at = now; role = role; mac = mac; stream = stream; limits = limits } in
       let begun : Log = Begins (nodes log) start ∷ log in
       subst (Past log) (sym same) (past_then log begun (adding (nodes log) (beginning start) begun) (inr (past_self log)) (past_with (nodes log) (beginning start) begun)))
       (refused Full) h
-  happens_past (Comes node event) h = either (nat_lt node (nodes log)) (rows_past node event log (past_self log)) (refused NoNode) h
-  happens_past (Delivers node number) h = either (nat_lt node (nodes log))
-      (λ there. either (nat_lt number (sent log)) (delivery_past node number) (refused NoFrame) there) (refused NoNode) h
+  happens_past (Comes node event) h = by_either (nat_lt node (nodes log)) (rows_past node event log (past_self log)) (refused NoNode) h
+  happens_past (Delivers node number) h = by_either (nat_lt node (nodes log))
+      (λ there. by_either (nat_lt number (sent log)) (delivery_past node number) (refused NoFrame) there) (refused NoNode) h
 
 module _ (limits : Limits) where
   follows_past : (log : Log) (now : ℕ) (event : Event) (d : Log) (t : Bool)

@@ -1,17 +1,21 @@
 -- On a timely link no two nodes hold the same address.
 use Rattle.std.proofs.Common.{◌≡◌, ◌≢◌, ◌⊎◌, inl, inr, ℕ, ◌*◌, ◌<◌, ◌≤◌, Bool, true, false, List, ◌∷◌, refl, sym, ◌∙◌, ap, subst, arith, ⊎_elim}
-use Rattle.std.specs.Prelude.{◌==◌, ◌&&◌, not, is_some, if◌then◌else◌}
+use Rattle.std.specs.Prelude.{◌==◌, not, is_some, if◌then◌else◌}
 use Rattle.std.proofs.lemmas.Bool.Decides.{Decides-eqb}
+use Rattle.nd_table.specs.History.{Past}
+use Rattle.nd_table.proofs.Pasts.{past_self, past_then, past_tail, past_linear}
 use Rattle.nd_slaac.specs.History.{Assigned, Conflict, Story}
 use Rattle.nd_slaac.specs.State.{is_assigned, is_known, is_tentative, was_assigned}
+use Rattle.nd_slaac.proofs.Histories.{conflict_by}
 use Rattle.nd_chronicle.specs.Happening.{Address, Chronicle, Happening, Sent}
 use Rattle.nd_chronicle.specs.OwnAddress.{story_of}
-use Rattle.nd_link_log.specs.Log.{Log, Past, Adds, Carries, chronicle_of, last_moment, sent, start_of}
+use Rattle.nd_link_log.specs.Log.{Log, Adds, Carries, chronicle_of, last_moment, sent, start_of}
 use Rattle.nd_link_log.specs.Holding.{Arrives, HasOneHolder, Holds, IsTimely, IsTrying}
 use Rattle.nd_link_log.specs.Sound.{Brings, Claims, Gains, IsSound, Tried, Tries, formed_entry}
 use Rattle.nd_link_log.proofs.Chronicles.{own_row, same_number}
 use Rattle.nd_link_log.proofs.Frames.{one_frame}
-use Rattle.nd_link_log.proofs.Pasts.{past_linear, past_self, past_tail, past_then, there_past}
+use Rattle.nd_link_log.proofs.Pasts.{there_past}
+use Rattle.nd_link_log.proofs.Unique.{frame_in}
 
 -- ---- a conflict
 
@@ -21,20 +25,16 @@ conflict_story key at c = ap (λ (own : Bool). if own then (at, Conflict) ∷ st
 story_with_it : (node key at : ℕ) (log : Log) → story_of (chronicle_of node (Adds node at (Address key Conflict) ∷ log)) key ≡ (at, Conflict) ∷ story_of (chronicle_of node log) key
 story_with_it node key at log = ap (λ (c : Chronicle). story_of c key) (own_row node at (Address key Conflict) log) ∙ conflict_story key at (chronicle_of node log)
 
-spoiled : (known rest : Bool) → (known && not true && rest) ≡ true → ⊥
-spoiled true rest h = let no : ⊥ = cc in no
-spoiled false rest h = let no : ⊥ = cc in no
-
 -- with it the address is neither tentative nor held
 not_trying : (node key at : ℕ) (log : Log) → IsTrying node key (Adds node at (Address key Conflict) ∷ log) → ⊥
 not_trying node key at log h =
     let s : Story = story_of (chronicle_of node log) key in
-    spoiled (is_known ((at, Conflict) ∷ s)) (not (was_assigned ((at, Conflict) ∷ s))) (subst (λ (x : Story). is_tentative x ≡ true) (story_with_it node key at log) h)
+    conflict_by (is_known ((at, Conflict) ∷ s)) (not (was_assigned ((at, Conflict) ∷ s))) (subst (λ (x : Story). is_tentative x ≡ true) (story_with_it node key at log) h)
 
 not_holding : (node key at : ℕ) (log : Log) → Holds node key (Adds node at (Address key Conflict) ∷ log) → ⊥
 not_holding node key at log h =
     let s : Story = story_of (chronicle_of node log) key in
-    spoiled (is_known ((at, Conflict) ∷ s)) (was_assigned ((at, Conflict) ∷ s)) (subst (λ (x : Story). is_assigned x ≡ true) (story_with_it node key at log) h)
+    conflict_by (is_known ((at, Conflict) ∷ s)) (was_assigned ((at, Conflict) ∷ s)) (subst (λ (x : Story). is_assigned x ≡ true) (story_with_it node key at log) h)
 
 -- ---- how one node came to hold it
 
@@ -63,9 +63,6 @@ pub record Met (log : Log) (node at : ℕ) (before sending : Log) (frame : List 
   pub above : Past sending before
   pub answers : (key : ℕ) → Tries key frame → Holds node key before → (answer : List ℕ) × Claims key answer × Gains log before node at (Sent answer)
   pub clashes : (key : ℕ) → Tries key frame ⊎ Claims key frame → IsTrying node key before → Gains log before node at (Address key Conflict)
-
-frame_in : (i j at when : ℕ) (frame other : List ℕ) (a b : Log) → Adds i at (Sent frame) ∷ a ≡ Adds j when (Sent other) ∷ b → frame ≡ other
-frame_in i j at when frame other a b e = cc
 
 meets : (log : Log) (node at sender when : ℕ) (frame : List ℕ) (earlier before : Log) → Past (Adds sender when (Sent frame) ∷ earlier) log → Past before log
     → Brings log node at (sent earlier) before → Met log node at before (Adds sender when (Sent frame) ∷ earlier) frame

@@ -1,10 +1,11 @@
 -- Each node of a link lives its own history: what the link walks is walked at each node, and an event at one node is time that passes at the others.
 use Rattle.std.proofs.Common.{◌≡◌, ℕ, ◌≤◌, Bool, true, false, List, [], ◌∷◌, ◌++◌, Some, refl, sym, ◌∙◌, ap, subst}
-use Rattle.std.specs.Prelude.{◌==◌, nat_lt, MatchBool}
+use Rattle.std.specs.Prelude.{◌==◌, nat_lt}
 use Rattle.std.specs.List.{All}
 use Rattle.std.proofs.lemmas.Bool.Decides.{Decides-eqb}
 use Rattle.std.proofs.lemmas.List.Elements.{All-append, All-from_recursion}
 use Rattle.nd_addr.specs.Bytes.{AreBytes}
+use Rattle.nd_table.proofs.Tests.{by_false}
 use Rattle.nd_chronicle.specs.Start.{Start}
 use Rattle.nd_chronicle.specs.Happening as chronicle
 use Rattle.nd_chronicle.specs.Happening.{Chronicle, Passed, TooLate}
@@ -72,10 +73,6 @@ runs_further : (start : Start) (events later : List (ℕ × nodes.Event)) (c d e
 runs_further start [] later c d e h k = subst (λ (x : Chronicle). Runs start x later e) h k
 runs_further start (event ∷ events) later c d e h k = (h.0, h.1, runs_further start events later h.0 d e h.2 k)
 
-not_late : (t : Bool) (P Q : Type 0) → t ≡ false → Q → MatchBool t P Q
-not_late true P Q e q = absurd (let no : ⊥ = cc in no)
-not_late false P Q e q = q
-
 module _ (Bytes : Type 0) (start : Start) (c : Chronicle) (now : ℕ) (r : Reached Bytes start c now) where
   pub lives_then : (event : nodes.Event) (d : Chronicle) → (Bytes → ComesAsBytes event) → EventAdds start now event c d → Lives Bytes start d now
   lives_then event d bytes h =
@@ -89,7 +86,7 @@ module _ (Bytes : Type 0) (start : Start) (c : Chronicle) (now : ℕ) (r : Reach
         events = l.events ++ ((now, event) ∷ []);
         bytes = λ b. All-append each l.events ((now, event) ∷ []) (l.bytes b) (All-from_recursion each ((now, event) ∷ []) (bytes b, tt));
         runs = runs_further start l.events ((now, event) ∷ []) _ r.before d l.runs
-            (d, not_late (nat_lt now (chronicle.last_moment start.at r.before)) (d ≡ (now, TooLate (chronicle.last_moment start.at r.before)) ∷ r.before) _ late (r.over, walked, more), refl);
+            (d, by_false (nat_lt now (chronicle.last_moment start.at r.before)) (d ≡ (now, TooLate (chronicle.last_moment start.at r.before)) ∷ r.before) _ late (r.over, walked, more), refl);
         last_is = ap (chronicle.last_moment start.at) g.all ∙ newest_moment start.at now g.newer ((now, Passed) ∷ r.over) (each_in now g.newer g.each) refl;
       }
 

@@ -1,6 +1,8 @@
 -- The moments of a log don't fall.
 use Rattle.std.proofs.Common.{◌≡◌, ℕ, ◌<◌, ◌≤◌, [], ◌∷◌, ◌++◌, refl, sym, ◌∙◌, ap, subst, arith, ⊎_elim}
 use Rattle.std.proofs.lemmas.List.{append_cancel_right}
+use Rattle.nd_table.specs.History.{Past}
+use Rattle.nd_table.proofs.Pasts.{past_linear}
 use Rattle.nd_advertiser.specs.Advertising.{advertised_by}
 use Rattle.nd_slaac.specs.Due as addresses_due
 use Rattle.nd_chronicle.specs.Start.{Start}
@@ -9,9 +11,8 @@ use Rattle.nd_chronicle.specs.Happening.{Chronicle, TooLate}
 use Rattle.nd_chronicle.specs.Histories.{advertising_history}
 use Rattle.nd_chronicle.specs.Due.{What, RouterEnds, AddressFalls, NeighbourFalls, RoutersSolicited, RouterAdvertises, Redraws, comes}
 use Rattle.nd_chronicle.proofs.Growth.{AllAt, GrowsAt, advertising_grows, grows_by, neighbour_grows, stays}
-use Rattle.nd_link_log.specs.Log.{Entry, Log, Past, Begins, Adds, Carries, Reaches, Refuses, adding, last_moment}
+use Rattle.nd_link_log.specs.Log.{Entry, Log, Begins, Adds, Carries, Reaches, Refuses, adding, last_moment}
 use Rattle.nd_link_log.specs.Sound.{IsAt}
-use Rattle.nd_link_log.proofs.Pasts.{past_linear}
 
 -- ---- of two entries that of the earlier moment is below
 

@@ -3,8 +3,9 @@ use Rattle.std.proofs.Common.{◌≡◌, ℕ, ◌<◌, ◌≤◌, Bool, true, fa
 use Rattle.std.specs.Prelude.{◌==◌, is_some, if◌then◌else◌}
 use Rattle.std.proofs.lemmas.Bool.{cases_lt, true≢false}
 use Rattle.std.proofs.lemmas.Bool.Decides.{Decides-eqb}
+use Rattle.nd_table.specs.History.{Past}
 use Rattle.nd_chronicle.specs.Happening.{Chronicle, Happening}
-use Rattle.nd_link_log.specs.Log.{Log, Past, Begins, Adds, Carries, Reaches, Refuses, adding, chronicle_of, nodes, start_of}
+use Rattle.nd_link_log.specs.Log.{Log, Begins, Adds, Carries, Reaches, Refuses, adding, chronicle_of, nodes, start_of}
 use Rattle.nd_link_log.proofs.Chronicles.{row_of, start_with}
 
 abbrev pub Numbered : Log → Type 0

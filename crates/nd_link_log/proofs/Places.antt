@@ -1,17 +1,16 @@
 -- Facts of each place of a log that is written out.
 use Rattle.std.proofs.Common.{◌≡◌, inl, inr, ℕ, ◌≤◌, Bool, true, false, List, [], ◌∷◌, length, eqb, refl, sym, ◌∙◌, ap, subst, arith, ⊎_elim}
 use Rattle.std.specs.Prelude.{◌&&◌, not}
-use Rattle.std.proofs.lemmas.Bool.{eqb-true, true≢false}
-use Rattle.nd_table.proofs.Cases.{either}
+use Rattle.std.proofs.lemmas.Bool.{eqb-true, true≢false, cases_Bool}
+use Rattle.nd_table.specs.History.{Past}
 use Rattle.nd_slaac.specs.History.{Row, RowKind, story, Formed, Announced, Solicited, Conflict, Assigned, Ended}
-use Rattle.nd_slaac.specs.MayCome as rows
 use Rattle.nd_slaac.specs.State.{has_conflict, is_known, was_assigned}
 use Rattle.nd_slaac.proofs.Steps.{ended_story, other_story, same_story}
 use Rattle.nd_chronicle.specs.Happening.{Address}
 use Rattle.nd_chronicle.specs.Histories.{address_history}
 use Rattle.nd_chronicle.specs.OwnAddress.{story_of}
 use Rattle.nd_chronicle.proofs.Pasts.{place_of}
-use Rattle.nd_link_log.specs.Log.{Entry, Log, Past, Adds, chronicle_of}
+use Rattle.nd_link_log.specs.Log.{Entry, Log, Adds, chronicle_of}
 use Rattle.nd_link_log.specs.Holding.{Holds}
 use Rattle.nd_link_log.proofs.Chronicles.{lift}
 
@@ -43,7 +42,7 @@ since_more place entry log P now before d p q = ⊎_elim (λ same. subst P (sym 
 
 module _ (key : ℕ) where
   abbrev IsRow : List Row → Type 0
-  IsRow history = (at : ℕ) × (over : List Row) × rows.Past ((at, key, Assigned) ∷ over) history
+  IsRow history = (at : ℕ) × (over : List Row) × Past ((at, key, Assigned) ∷ over) history
 
   further : (row : Row) (history : List Row) → IsRow history → IsRow (row ∷ history)
   further row history r = (r.0, r.1, inr r.2)
@@ -59,7 +58,7 @@ module _ (key : ℕ) where
 
   row_in : (history : List Row) → was_assigned (story key history) ≡ true → IsRow history
   row_in [] was = absurd (true≢false (sym was))
-  row_in ((at, k, kind) ∷ history) was = elim (either (eqb k key)) [
+  row_in ((at, k, kind) ∷ history) was = elim (cases_Bool (eqb k key)) [
     | inl e ↦
         let same = eqb-true k key e in
         subst (λ (n : ℕ). was_assigned (story key ((at, n, kind) ∷ history)) ≡ true → IsRow ((at, n, kind) ∷ history)) (sym same) (own_row at kind history (row_in history)) was

@@ -1,9 +1,9 @@
 -- What comes of a frame that is carried: a row that is gained, and how the frames of detection are heard at a node.
-use Rattle.std.proofs.Common.{◌≡◌, inl, inr, ℕ, ◌-◌, ◌+◌, Bool, true, false, List, [], ◌∷◌, ◌++◌, drop, refl, sym, ◌∙◌, ap, subst}
+use Rattle.std.proofs.Common.{◌≡◌, inl, inr, ℕ, ◌-◌, ◌+◌, Bool, true, false, List, ◌∷◌, ◌++◌, drop, refl, sym, ◌∙◌, ap, subst}
 use Rattle.std.specs.Prelude.{◌≢◌, ◌⊎◌, ◌==◌, ◌||◌, ◌&&◌, bytes_eq, if◌then◌else◌}
 use Rattle.std.proofs.lemmas.Bool.Decides.{Decides-eqb}
 use Rattle.std.proofs.lemmas.Slice.Eq.{bytes_eq-Decides}
-use Rattle.nd_table.proofs.Cases.{either}
+use Rattle.std.proofs.lemmas.Bool.{cases_Bool}
 use Rattle.nd_addr.specs.Bytes.{AreBytes, IsBytes}
 use Rattle.nd_addr.specs.Ip6.{ipv6_header_length, payload_length_of}
 use Rattle.nd_addr.specs.Number.{addr_at, number_of}
@@ -15,6 +15,7 @@ use Rattle.nd_decode.specs.declared.body.Body.{Body}
 use Rattle.nd_decode.specs.declared.body.Body.TheVariants as bodies
 use Rattle.nd_message.specs.Fitting.{FitsBody}
 use Rattle.nd_message.proofs.Formed.{body_fits}
+use Rattle.nd_table.proofs.Pasts.{past_self}
 use Rattle.nd_frames.specs.Frames.{all_nodes, defence_frame, solicited_node, unspecified}
 use Rattle.nd_frames.specs.Meaning.{IsDefence, IsDetection, IsUnicast}
 use Rattle.nd_slaac.specs.History.{Conflict, Story}
@@ -33,7 +34,6 @@ use Rattle.nd_chronicle.proofs.Growth.{leaving_grows, releasing_grows, stays}
 use Rattle.nd_chronicle.proofs.Grounded.{own_behind, own_known}
 use Rattle.nd_chronicle.proofs.OwnKeys.{IsUsable, own_usable}
 use Rattle.nd_chronicle.proofs.Rivals.{told, tried}
-use Rattle.nd_chronicle.specs.Past as chronicle
 use Rattle.nd_link_log.proofs.Lives.{Lives}
 
 -- ---- the target of a frame of bytes is an address
@@ -52,14 +52,6 @@ module _ (frame : List ℕ) (address : Addr) (bytes : IsBytes frame) where
 
 -- ---- a node that has the address, or tries it
 
-pub own_by_assigned : (t a : Bool) → a ≡ true → (t || a) ≡ true
-own_by_assigned true a e = refl
-own_by_assigned false a e = e
-
-pub own_by_tentative : (t a : Bool) → t ≡ true → (t || a) ≡ true
-own_by_tentative true a e = refl
-own_by_tentative false a e = absurd (let no : ⊥ = cc in no)
-
 not_assigned : (s : Story) → states.is_tentative s ≡ true → states.is_assigned s ≡ false
 not_assigned s t = let p = tentative_parts s t in rw (p.0, p.1, p.2) refl
 
@@ -69,18 +61,14 @@ awake_by true false k h e = e
 awake_by false false k h e = absurd (let no : ⊥ = cc in no)
 
 module _ (Bytes : Type 0) (b : Bytes) (start : Start) (c : Chronicle) (now : ℕ) (l : Lives Bytes start c now) (address : Addr) (bytes : AreBytes 16 address.0) (own : is_own c address.0 ≡ true) where
-  self : (x : Chronicle) → chronicle.Past x x
-  self [] = refl
-  self (row ∷ x) = inl refl
-
   unicast : IsUnicast address
   unicast =
-      let u : IsUsable (number_of address.0) = own_usable start (l.mac b) l.events c c (number_of address.0) (l.bytes b) l.runs (self c) (own_known (story_of c (number_of address.0)) own) in
+      let u : IsUsable (number_of address.0) = own_usable start (l.mac b) l.events c c (number_of address.0) (l.bytes b) l.runs (past_self c) (own_known (story_of c (number_of address.0)) own) in
       subst IsUnicast (addr_back address bytes) u.unicast
 
   -- it hears what makes its link-local address a duplicate, and all else where that is assigned
   awake : (source : Addr) (body : Body) → (address ≡ link_local start → conflicts_with (link_local start).0 source body ≡ true) → is_awake start c source body ≡ true
-  awake source body conflicts = by (either (number_of address.0 == link_local_key start))
+  awake source body conflicts = by (cases_Bool (number_of address.0 == link_local_key start))
     where
       by : ((number_of address.0 == link_local_key start) ≡ true) ⊎ ((number_of address.0 == link_local_key start) ≡ false) → is_awake start c source body ≡ true
       by (inl e) =
@@ -94,7 +82,7 @@ module _ (Bytes : Type 0) (b : Bytes) (start : Start) (c : Chronicle) (now : ℕ
           (awake_by (is_tentative c address.0) (is_assigned c address.0) k own (conflicts same)))
       by (inr e) =
           let other : number_of address.0 ≢ link_local_key start = λ key. let is = (Decides-eqb (number_of address.0) (link_local_key start)).1 key in let no : ⊥ = cc in no in
-          ap (λ (u : Bool). u || (is_tentative c (link_local start).0 && conflicts_with (link_local start).0 source body)) (own_behind start l.events c (l.bytes b) l.runs c address.0 (self c) other own)
+          ap (λ (u : Bool). u || (is_tentative c (link_local start).0 && conflicts_with (link_local start).0 source body)) (own_behind start l.events c (l.bytes b) l.runs c address.0 (past_self c) other own)
 
   itself : address ≡ link_local start → bytes_eq address.0 (link_local start).0 ≡ true
   itself same = (bytes_eq-Decides address.0 (link_local start).0).1 (ap (λ (a : Addr). a.0) same)

@@ -1,7 +1,8 @@
 -- What an event adds to a log, seen by its parts.
-use Rattle.std.proofs.Common.{◌≡◌, ℕ, Bool, true, false, List, ◌∷◌, ◌++◌, Some, refl}
-use Rattle.std.specs.Prelude.{◌==◌, nat_lt, MatchBool}
+use Rattle.std.proofs.Common.{◌≡◌, ℕ, List, ◌∷◌, ◌++◌, Some, refl}
+use Rattle.std.specs.Prelude.{◌==◌, nat_lt}
 use Rattle.nd_addr.specs.Bytes.{AreBytes}
+use Rattle.nd_table.proofs.Tests.{by_either}
 use Rattle.nd_chronicle.specs.Start.{Limits, Start}
 use Rattle.nd_chronicle.specs.Happening.{Chronicle}
 use Rattle.nd_chronicle.specs.History.{beginning}
@@ -28,25 +29,21 @@ pub data Seen (Bytes : Type 0) (now : ℕ) (before d : Log) : Type 0 where
       → EventAdds start now (nodes.Receives frame) (chronicle_of node before) (rows ++ chronicle_of node before) → d ≡ adding node rows (Carries node now number ∷ before)
       → Seen Bytes now before d
 
-either : (t : Bool) {P Q X : Type 0} → (P → X) → (Q → X) → MatchBool t P Q → X
-either true f g h = f h
-either false f g h = g h
-
 module _ (Bytes : Type 0) (limits : Limits) (now : ℕ) (before d : Log) where
   came : (node : ℕ) (event : nodes.Event) → (Bytes → ComesAsBytes event) → AddsRows limits now node event before d → Seen Bytes now before d
   came node event bytes r = Came node r.start event r.rows bytes r.starts r.adds r.all
 
   carried : (node number : ℕ) → AddsDelivery limits now node number before d → Seen Bytes now before d
-  carried node number r = either (r.sender == node)
+  carried node number r = by_either (r.sender == node)
       (λ own. Refused Own refl own)
       (λ a. Carried node number r.sender r.at r.frame a.start a.rows r.is_frame a.starts a.adds a.all) r.adds
 
   pub seen : (event : Event) → (Bytes → IsOfBytes event) → EventHappens limits now event before d → Seen Bytes now before d
   seen Passes bytes h = Nothing h
-  seen (Starts role mac stream) bytes h = either (nat_lt (nodes before) max_nodes)
+  seen (Starts role mac stream) bytes h = by_either (nat_lt (nodes before) max_nodes)
       (λ more. Started (record { at = now; role = role; mac = mac; stream = stream; limits = limits }) refl bytes more)
       (λ full. Refused Full refl full) h
-  seen (Comes node event) bytes h = either (nat_lt node (nodes before)) (came node event bytes) (λ none. Refused NoNode refl none) h
-  seen (Delivers node number) bytes h = either (nat_lt node (nodes before))
-      (λ there. either (nat_lt number (sent before)) (carried node number) (λ none. Refused NoFrame refl none) there)
+  seen (Comes node event) bytes h = by_either (nat_lt node (nodes before)) (came node event bytes) (λ none. Refused NoNode refl none) h
+  seen (Delivers node number) bytes h = by_either (nat_lt node (nodes before))
+      (λ there. by_either (nat_lt number (sent before)) (carried node number) (λ none. Refused NoFrame refl none) there)
       (λ none. Refused NoNode refl none) h

@@ -4,12 +4,13 @@ use Rattle.std.specs.Prelude.{is_some, nat_lt, MatchBool}
 use Rattle.std.specs.List.{AllByRecursion}
 use Rattle.std.proofs.lemmas.Bool.{true≢false}
 use Rattle.std.proofs.lemmas.List.Elements.{recursion_from_All}
+use Rattle.nd_table.specs.History.{Past}
+use Rattle.nd_table.proofs.Pasts.{past_then}
 use Rattle.nd_chronicle.specs.Start.{Limits, Start}
 use Rattle.nd_chronicle.specs.Happening.{Chronicle}
 use Rattle.nd_slaac.specs.State as states
 use Rattle.nd_chronicle.specs.OwnAddress.{story_of}
-use Rattle.nd_chronicle.specs.Past as chronicle
-use Rattle.nd_link_log.specs.Log.{Log, Past, TooLate, Reaches, Refuses, chronicle_of, last_moment, nodes, start_of}
+use Rattle.nd_link_log.specs.Log.{Log, TooLate, Reaches, Refuses, chronicle_of, last_moment, nodes, start_of}
 use Rattle.nd_link_log.specs.Event.{Event, EventHappens, passing}
 use Rattle.nd_link_log.specs.Bytes.{AreOfBytes, IsOfBytes, SendsBytes}
 use Rattle.nd_link_log.specs.History.{IsLog, Runs, Walk}
@@ -19,7 +20,6 @@ use Rattle.nd_link_log.proofs.Carried.{bring_entry}
 use Rattle.nd_link_log.proofs.Chronicles.{past_of}
 use Rattle.nd_link_log.proofs.Moments.{by_then, in_order}
 use Rattle.nd_link_log.proofs.Nodes.{no_rows, there_at}
-use Rattle.nd_link_log.proofs.Pasts.{past_then}
 use Rattle.nd_link_log.proofs.Seen.{seen}
 use Rattle.nd_link_log.proofs.Tried.{tried}
 use Rattle.nd_link_log.proofs.Growth.{runs_past}
@@ -78,7 +78,7 @@ module _ (limits : Limits) (events : List (ℕ × Event)) (log : Log) (runs : Is
     holder i key d p holds (Some start) is = tried AreBytes bytes log i start (last_moment log) (stands.lives i start is) key d p holds
     holder i key d p holds None is =
         let none : chronicle_of i log ≡ [] = no_rows i log stands.kept.there (ap is_some is) in
-        let rows : chronicle_of i d ≡ [] = subst (chronicle.Past (chronicle_of i d)) none (past_of i d log p) in
+        let rows : chronicle_of i d ≡ [] = subst (Past (chronicle_of i d)) none (past_of i d log p) in
         absurd (true≢false (sym holds ∙ ap (λ (c : Chronicle). states.is_assigned (story_of c key)) rows))
 
     pub sound : IsSound log

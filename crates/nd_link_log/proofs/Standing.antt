@@ -5,13 +5,15 @@ use Rattle.std.proofs.lemmas.Bool.{cases_lt, ltb-false, true≢false}
 use Rattle.std.proofs.lemmas.Bool.Decides.{Decides-eqb}
 use Rattle.std.proofs.lemmas.List.Elements.{All-from_recursion}
 use Rattle.nd_addr.specs.Bytes.{AreBytes, IsBytes}
+use Rattle.nd_table.specs.History.{Past}
+use Rattle.nd_table.proofs.Pasts.{past_self, past_then}
 use Rattle.nd_chronicle.specs.Start.{Start}
 use Rattle.nd_chronicle.specs.Happening.{Chronicle}
 use Rattle.nd_chronicle.specs.Event as nodes
 use Rattle.nd_chronicle.specs.Event.{ComesAsBytes, EventAdds}
 use Rattle.nd_chronicle.specs.History.{beginning}
 use Rattle.nd_chronicle.proofs.Growth.{event_grows}
-use Rattle.nd_link_log.specs.Log.{Entry, Log, Past, Begins, Carries, Reaches, Refuses, adding, chronicle_of, last_moment, nodes, start_of}
+use Rattle.nd_link_log.specs.Log.{Entry, Log, Begins, Carries, Reaches, Refuses, adding, chronicle_of, last_moment, nodes, start_of}
 use Rattle.nd_link_log.specs.Event.{passing}
 use Rattle.nd_link_log.specs.Bytes.{SendsBytes}
 use Rattle.nd_link_log.specs.History.{Walk}
@@ -20,7 +22,6 @@ use Rattle.nd_link_log.proofs.Chronicles.{other_rows, own_rows, past_with, start
 use Rattle.nd_link_log.proofs.Lives.{Lives, Reached, lives_on, lives_then, walk_at}
 use Rattle.nd_link_log.proofs.Moments.{EachAt, RisesTo, gained_at, moment_with, rises_with}
 use Rattle.nd_link_log.proofs.Nodes.{Numbered, RowsThere, no_rows, none_there, numbered_with, there_with}
-use Rattle.nd_link_log.proofs.Pasts.{past_self, past_then}
 use Rattle.nd_link_log.proofs.Seen.{Seen, Nothing, Refused, Started, Came, Carried}
 use Rattle.nd_link_log.proofs.Kept.{Kept, kept_walk, kept_with, kept_passing, moment_passing, passed, start_passing, walk_start}
 

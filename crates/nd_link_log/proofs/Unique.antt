@@ -63,7 +63,7 @@ one_walk {log = log} {e = e} {moment = moment} {end = end} (adds node start what
 sender_in : (i j at when : ℕ) (frame other : List ℕ) (a b : Log) → Adds i at (Sent frame) ∷ a ≡ Adds j when (Sent other) ∷ b → i ≡ j
 sender_in i j at when frame other a b e = cc
 
-frame_in : (i j at when : ℕ) (frame other : List ℕ) (a b : Log) → Adds i at (Sent frame) ∷ a ≡ Adds j when (Sent other) ∷ b → frame ≡ other
+pub frame_in : (i j at when : ℕ) (frame other : List ℕ) (a b : Log) → Adds i at (Sent frame) ∷ a ≡ Adds j when (Sent other) ∷ b → frame ≡ other
 frame_in i j at when frame other a b e = cc
 
 module _ (limits : Limits) (now : ℕ) where

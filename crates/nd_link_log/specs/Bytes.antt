@@ -2,9 +2,10 @@
 use Rattle.std.specs.Prelude.{ℕ, List, ◌∷◌}
 use Rattle.std.specs.List.{All}
 use Rattle.nd_addr.specs.Bytes.{IsBytes, AreBytes}
+use Rattle.nd_table.specs.History.{Past}
 use Rattle.nd_chronicle.specs.Happening.{Sent}
 use Rattle.nd_chronicle.specs.Event.{ComesAsBytes}
-use Rattle.nd_link_log.specs.Log.{Log, Past, Adds}
+use Rattle.nd_link_log.specs.Log.{Log, Adds}
 use Rattle.nd_link_log.specs.Event.{Event, Passes, Starts, Comes, Delivers}
 
 -- the link-layer address of a node that starts is six bytes, and a frame that comes is bytes

@@ -1,10 +1,11 @@
 -- Who holds an address on a link (RFC 4862, section 5.4), and when the link is timely.
 use Rattle.std.specs.Prelude.{◌≡◌, ◌≢◌, ℕ, ◌+◌, ◌*◌, ◌<◌, ◌≤◌, true, is_some, List, ◌∷◌, Option}
+use Rattle.nd_table.specs.History.{Past}
 use Rattle.nd_slaac.specs.History as addresses
 use Rattle.nd_slaac.specs.State.{is_assigned, is_tentative}
 use Rattle.nd_chronicle.specs.Happening.{Address, Sent}
 use Rattle.nd_chronicle.specs.OwnAddress.{story_of}
-use Rattle.nd_link_log.specs.Log.{Log, Past, Adds, Carries, start_of, chronicle_of, last_moment, sent}
+use Rattle.nd_link_log.specs.Log.{Log, Adds, Carries, start_of, chronicle_of, last_moment, sent}
 
 -- the address, by its number, is preferred or deprecated at a node
 abbrev pub Holds : ℕ → ℕ → Log → Type 0

@@ -1,6 +1,7 @@
 -- What happened on a link, the newest first: one log for all its nodes, of which the chronicle of each is a part. A link is where the frames of
 -- one node can reach the others (RFC 4861, section 2.1).
-use Rattle.std.specs.Prelude.{◌≡◌, ◌⊎◌, ℕ, suc, Bool, true, false, ◌==◌, if◌then◌else◌, List, [], ◌∷◌, ◌++◌, map, Option, Some, None}
+use Rattle.std.specs.Prelude.{◌≡◌, ℕ, suc, Bool, true, false, ◌==◌, if◌then◌else◌, List, [], ◌∷◌, ◌++◌, map, Option, Some, None}
+use Rattle.nd_table.specs.History.{Past}
 use Rattle.nd_chronicle.specs.Start.{Start}
 use Rattle.nd_chronicle.specs.Happening.{Chronicle, Happening, Sent}
 
@@ -31,11 +32,6 @@ pub data Entry : Type 0 where
 
 abbrev pub Log : Type 0
 Log = List Entry
-
--- the one is what the other was at some time, or is now
-abbrev pub Past : Log → Log → Type 0
-Past d [] = d ≡ []
-Past d (entry ∷ log) = (d ≡ entry ∷ log) ⊎ Past d log
 
 -- ---- nodes
 

@@ -2,10 +2,11 @@
 use Rattle.std.specs.Prelude.{◌≡◌, ◌⊎◌, ℕ, ◌+◌, ◌<◌, ◌≤◌, true, is_some, List, ◌∷◌, Option}
 use Rattle.nd_addr.specs.declared.addr.Addr.{Addr}
 use Rattle.nd_addr.specs.Number.{number_of}
+use Rattle.nd_table.specs.History.{Past}
 use Rattle.nd_frames.specs.Meaning.{IsDefence, IsDetection}
 use Rattle.nd_slaac.specs.History.{Assigned, Conflict, Formed, Lifetimes}
 use Rattle.nd_chronicle.specs.Happening.{Address, Happening, Sent}
-use Rattle.nd_link_log.specs.Log.{Entry, Log, Past, Adds, Carries, IsFrame, last_moment, start_of}
+use Rattle.nd_link_log.specs.Log.{Entry, Log, Adds, Carries, IsFrame, last_moment, start_of}
 use Rattle.nd_link_log.specs.Holding.{Holds, IsTrying}
 
 -- the frame tries the address of this number, or tells all nodes that it is held (RFC 4862, section 5.4.2; RFC 4861, section 7.2.4)

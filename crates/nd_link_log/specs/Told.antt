@@ -1,8 +1,7 @@
 -- The text of what happened on a link (the texts are this project's own).
 use Rattle.std.specs.Prelude.{ℕ, List, [], ◌∷◌, ◌++◌, codes}
 use Rattle.std.specs.Fmt.{decimal}
-use Rattle.std.specs.List.{flat_map}
-use Rattle.nd_chronicle.specs.Told.{line_at, told_of}
+use Rattle.nd_chronicle.specs.Told.{line_at, node_lines}
 use Rattle.nd_link_log.specs.Log.{Entry, Log, Refusal, TooLate, NoNode, NoFrame, Own, Full, Begins, Adds, Carries, Reaches, Refuses}
 
 abbrev pub refusal_text : Refusal → List ℕ
@@ -14,7 +13,7 @@ refusal_text Full = codes "full nodes"
 
 -- the lines of one entry: those of a node begin with its number, and those of the link with its name
 abbrev pub lines_of : Entry → List ℕ
-lines_of (Adds node at what) = flat_map (λ told. codes "n" ++ decimal node ++ codes " " ++ line_at at told) (told_of what)
+lines_of (Adds node at what) = node_lines node (at, what)
 lines_of (Refuses at why) = codes "link " ++ line_at at (codes "refused " ++ refusal_text why)
 lines_of (Begins node start) = []
 lines_of (Carries node at frame) = []

@@ -2,12 +2,13 @@
 
 ghost use Rattle.std.specs.Prelude.{◌≡◌, ◌*◌, ◌++◌, ◌∷◌, ℕ, List, Some};
 ghost use Rattle.nd_addr.specs.Bytes.{AreBytes};
+ghost use Rattle.nd_table.specs.History.{Past};
 ghost use Rattle.nd_chronicle.specs.Start.{Limits, Start};
 ghost use Rattle.nd_chronicle.specs.Happening.{Sent};
 ghost use Rattle.nd_chronicle.specs.Event as chronicle;
 ghost use Rattle.nd_chronicle.specs.Event.{ComeAsBytes};
 ghost use Rattle.nd_chronicle.specs.History.{IsChronicle};
-ghost use Rattle.nd_link_log.specs.Log.{Adds, Entry, Log, Past, chronicle_of, nodes, sent, start_of};
+ghost use Rattle.nd_link_log.specs.Log.{Adds, Entry, Log, chronicle_of, nodes, sent, start_of};
 ghost use Rattle.nd_link_log.specs.Event.{Event};
 ghost use Rattle.nd_link_log.specs.Bytes.{AreOfBytes, SendsBytes};
 ghost use Rattle.nd_link_log.specs.History.{IsLog, Runs};

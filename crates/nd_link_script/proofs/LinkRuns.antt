@@ -1,5 +1,5 @@
 -- What lines lead a link to.
-use Rattle.std.proofs.Common.{◌≡◌, ◌≢◌, ◌<◌, ◌+◌, ℕ, List, [], ◌∷◌, ◌++◌, Option, None, Ok, Err, refl, sym, ap, subst, ◌∙◌, append_assoc, arith, ◌^◌, ◌-◌}
+use Rattle.std.proofs.Common.{◌≡◌, ◌≢◌, ◌<◌, ◌+◌, ℕ, List, [], ◌∷◌, ◌++◌, Ok, Err, refl, sym, ap, subst, ◌∙◌, append_assoc, arith, ◌^◌, ◌-◌}
 use Rattle.std.proofs.lemmas.List.{append_cancel_left}
 use Rattle.std.proofs.lemmas.Bool.{eqb-false, ltb-false}
 use Rattle.std.proofs.lemmas.Bool.Decides.{Decides-eqb, Decides-ltb}
@@ -11,6 +11,8 @@ use Rattle.nd_io.specs.ToldLaws.{Allows, GoesOn}
 use Rattle.nd_io.specs.declared.tool_fault.ToolFault.{ToolFault}
 use Rattle.nd_io.specs.declared.tool_fault.ToolFault.TheVariants as faults
 use Rattle.nd_node.specs.Node.{usual_limits}
+use Rattle.nd_script.specs.Said.{Says, says}
+use Rattle.nd_script.proofs.Said.{say_begins}
 use Rattle.nd_wire.specs.Wire.{IsFaithful}
 use Rattle.nd_link_log.specs.Log.{Log}
 use Rattle.nd_link_log.specs.Event.{Event}
@@ -27,7 +29,8 @@ use Rattle.nd_link.specs.Time as time
 use Rattle.nd_link.specs.Told.{told_text}
 use Rattle.nd_link_script.specs.Answer.{AnswersEvent}
 use Rattle.nd_link_script.specs.Fault.{fault_of, is_risen}
-use Rattle.nd_link_script.specs.Script.{Says, SayFrom, stops, says, Say, Leads, RunsOn}
+use Rattle.nd_link_script.specs.Script.{Leads, RunsOn}
+use Rattle.nd_link_script.specs.Line.{IsLinkLine}
 use Rattle.nd_link_script.proofs.LinkLines.{one_link_line}
 
 -- ---- the answer to an event
@@ -44,7 +47,7 @@ module _ {W R A : Type 0} (arrives : ℕ → List ℕ → List ℕ → Type 0) (
   }
 
   -- a line that says an event comes before what later lines say
-  pub event_first : (line before after : List ℕ) → Says line at event → (a : AnswersEvent arrives stream old new at event before after) → ComesFirst (Leads arrives stream old) (Leads arrives stream new) line a.told
+  pub event_first : (line before after : List ℕ) → Says IsLinkLine line at event → (a : AnswersEvent arrives stream old new at event before after) → ComesFirst (Leads arrives stream old) (Leads arrives stream new) line a.told
   event_first line before after said a n lines later found given = record {
     each = λ faithful log s.
         let next = a.each faithful log s in
@@ -64,25 +67,6 @@ from_log arrives stream link log faithful s n lines told found given = given.eac
 
 -- ---- the first few lines
 
-abbrev Begins : List (ℕ × Event) → List (ℕ × Event) → Type 0
-Begins few all = (rest : List (ℕ × Event)) × (all ≡ few ++ rest)
-
-line_begins : (n : ℕ) (line : List ℕ) (All Few : List (ℕ × Event) → Option ℕ → Type 0) (all few : List (ℕ × Event)) (found other : Option ℕ)
-    → ((a f : List (ℕ × Event)) → All a found → Few f None → Begins f a)
-    → SayFrom n line All all found → SayFrom n line Few few other → other ≡ None → Begins few all
-line_begins n line All Few all few found other later (stops nothing) (stops other_nothing) e = let no : ⊥ = cc in absurd no
-line_begins n line All Few all few found other later (stops nothing) (says at event s l) e = absurd (nothing at event s)
-line_begins n line All Few all few found other later (says at event s l) (stops nothing) e = let no : ⊥ = cc in absurd no
-line_begins n line All Few all few found other later (says at event {later = a} s l) (says at' event' {later = f} s' l') e =
-    let same = one_link_line line at at' event event' s.spelled s'.spelled in
-    let begins = later a f l (subst (λ (o : Option ℕ). Few f o) e l') in
-    (begins.0, cc)
-
-say_begins : (first later : List (List ℕ)) (n : ℕ) (all few : List (ℕ × Event)) (found : Option ℕ) → Say n (first ++ later) all found → Say n first few None → Begins few all
-say_begins [] later n all few found f g = (all, ap (λ l. l ++ all) (sym g.0))
-say_begins (line ∷ first) later n all few found f g =
-    line_begins n line (Say (n + 1) (first ++ later)) (Say (n + 1) first) all few found None (λ a f'. say_begins first later (n + 1) a f' found) f g refl
-
 -- events lead to where the first of them led, and from there on
 runs_split : (xs ys : List (ℕ × Event)) (log d : Log) → Runs usual_limits log (xs ++ ys) d → (m : Log) × Runs usual_limits log xs m × Runs usual_limits m ys d
 runs_split [] ys log d r = (log, refl, r)
@@ -93,7 +77,7 @@ runs_split (x ∷ xs) ys log d r =
 -- a text of the first few lines begins each text of them all
 pub log_goes_on : (log : Log) → GoesOn (RunsOn log)
 log_goes_on log n first later all few found f g =
-    let begins = say_begins first later n f.said g.said found f.say g.say in
+    let begins = say_begins IsLinkLine one_link_line first later n f.said g.said found f.say g.say in
     let split = runs_split g.said begins.0 log f.end (subst (λ (s : List (ℕ × Event)). Runs usual_limits log s f.end) begins.1 f.runs) in
     let same = one_run usual_limits g.said log split.0 g.end split.1 g.runs in
     let more = newer_of split.0 f.end (runs_past usual_limits begins.0 split.0 f.end split.2) in

@@ -1,8 +1,8 @@
 -- What the lines of a link lead it to.
-use Rattle.std.specs.Prelude.{◌≡◌, ◌≤◌, ℕ, ◌+◌, List, [], ◌∷◌, ◌++◌, length, Option, Some, None}
+use Rattle.std.specs.Prelude.{◌≡◌, ℕ, List, [], ◌++◌, Option}
 use Rattle.rand_core.specs.Stream.{Stream}
-use Rattle.nd_io.specs.Lines.{longest_line}
 use Rattle.nd_node.specs.Node.{usual_limits}
+use Rattle.nd_script.specs.Said.{Say}
 use Rattle.nd_wire.specs.Wire.{IsFaithful}
 use Rattle.nd_link_log.specs.Log.{Log}
 use Rattle.nd_link_log.specs.Event.{Event}
@@ -12,29 +12,10 @@ use Rattle.nd_link.specs.declared.link.Link.{Link}
 use Rattle.nd_link.specs.Link.{Stands}
 use Rattle.nd_link_script.specs.Line.{IsLinkLine}
 
--- the line says that an event comes at a moment
-pub record Says (line : List ℕ) (at : ℕ) (event : Event) : Type 0 where
-  pub short : length line ≤ longest_line
-  pub spelled : IsLinkLine line at event
-
--- a malformed line says nothing
-abbrev pub SaysNothing : List ℕ → Type 0
-SaysNothing line = (at : ℕ) (event : Event) → Says line at event → ⊥
-
--- What lines say from one on that has the number n: nothing where it is malformed, else its event, and then what the later ones say.
-pub data SayFrom (n : ℕ) (line : List ℕ) (Later : List (ℕ × Event) → Option ℕ → Type 0) : List (ℕ × Event) → Option ℕ → Type 0 where
-  stops : SaysNothing line → SayFrom n line Later [] (Some n)
-  says : (at : ℕ) (event : Event) {later : List (ℕ × Event)} {found : Option ℕ} → Says line at event → Later later found → SayFrom n line Later ((at, event) ∷ later) found
-
--- Which events the lines say, up to the first malformed one, whose number is `found`, where the first line has the number n.
-abbrev pub Say : ℕ → List (List ℕ) → List (ℕ × Event) → Option ℕ → Type 0
-Say n [] said found = (said ≡ []) × (found ≡ None)
-Say n (line ∷ lines) said found = SayFrom n line (Say (n + 1) lines) said found
-
 -- From a log on, what the lines say leads to one that tells this more. That of no event is the empty one.
 pub record RunsOn (log : Log) (n : ℕ) (lines : List (List ℕ)) (told : List ℕ) (found : Option ℕ) : Type 0 where
   pub said : List (ℕ × Event)
-  pub say : Say n lines said found
+  pub say : Say IsLinkLine n lines said found
   pub end : Log
   pub runs : Runs usual_limits log said end
   pub text_is : text end ≡ text log ++ told

@@ -2,11 +2,13 @@
 use Rattle.std.specs.Prelude.{◌<◌, ℕ, List, [], length, refl}
 use Rattle.std.proofs.Common.{sym, append-nil, arith}
 use Rattle.rand_core.specs.Stream.{Stream}
+use Rattle.nd_script.specs.Said.{SaysNothing, stops}
 use Rattle.nd_io.specs.Answers.{EndsWell, IsMalformed}
 use Rattle.nd_io.specs.Lines.{longest_line}
 use Rattle.nd_link_log.specs.Told.{text}
 use Rattle.nd_link.specs.declared.link.Link.{Link}
-use Rattle.nd_link_script.specs.Script.{SaysNothing, stops, Leads}
+use Rattle.nd_link_script.specs.Script.{Leads}
+use Rattle.nd_link_script.specs.Line.{IsLinkLine}
 
 module _ {W R A : Type 0} (arrives : ℕ → List ℕ → List ℕ → Type 0) (stream : R → Stream) (link : Link W R A) where
   -- no line leads nowhere
@@ -14,7 +16,7 @@ module _ {W R A : Type 0} (arrives : ℕ → List ℕ → List ℕ → Type 0) (
   no_line n = record { each = λ faithful log s. record { said = []; say = (refl, refl); end = log; runs = refl; text_is = sym (append-nil (text log)) } }
 
   -- a malformed line leads nowhere
-  pub malformed_line : (line : List ℕ) → SaysNothing line → IsMalformed (Leads arrives stream link) line
+  pub malformed_line : (line : List ℕ) → SaysNothing IsLinkLine line → IsMalformed (Leads arrives stream link) line
   malformed_line line nothing n lines =
       record { each = λ faithful log s. record { said = []; say = stops nothing; end = log; runs = refl; text_is = sym (append-nil (text log)) } }
 

@@ -58,7 +58,7 @@ low_small : (bytes : List ℕ) → AllByRecursion (λ byte. byte < 128) bytes �
 low_small [] h = tt
 low_small (byte ∷ bytes) h = (omega (arith, h.0), low_small bytes h.1)
 
-zeros_small : (n : ℕ) → AreSmall (replicate n 0)
+pub zeros_small : (n : ℕ) → AreSmall (replicate n 0)
 zeros_small zero = tt
 zeros_small (suc n) = (omega arith, zeros_small n)
 

@@ -2,7 +2,7 @@
 use Rattle.std.proofs.Common.{◌≡◌, ℕ, ◌+◌, ◌*◌, Bool, true, false, cond, eqb, List, [], ◌∷◌, ◌++◌, Option, Some, None, refl, sym, ◌∙◌, ap, arith, inl, inr}
 use Rattle.std.specs.Prelude.{is_some}
 use Rattle.std.proofs.lemmas.Bool.Decides.{nat_tests}
-use Rattle.std.proofs.lemmas.Bool.{true≢false, eqb-true}
+use Rattle.std.proofs.lemmas.Bool.{true≢false, eqb-true, cases_Bool}
 use Rattle.nd_neighbour.specs.declared.news.Flags.{Flags}
 use Rattle.nd_neighbour.specs.History.{Given, Advertised, Marked, Asked, Solicited, Waits, Used, Probed, Confirmed, Story}
 use Rattle.nd_neighbour.specs.Entry.{Node, with_mark, stale_node}
@@ -16,7 +16,6 @@ use Rattle.nd_neighbour.specs.Due.{solicited, falls, stays}
 use Rattle.nd_neighbour.specs.Sending.{used}
 use Rattle.circular_buffer.specs.Buffer.{keep_last}
 use Rattle.nd_neighbour.proofs.LastThree.{keep_more}
-use Rattle.nd_table.proofs.Cases.{either}
 use Rattle.nd_neighbour.proofs.Stories.{absent_mac, absent_router, resolving, known_word}
 
 -- a node by its parts
@@ -57,7 +56,7 @@ advertised_by key at reachable None router says_router false overrides (Some kno
 advertised_by key at reachable (Some mac) router says_router true overrides None w u r ws = refl
 advertised_by key at reachable (Some mac) router says_router false overrides None w u r ws = refl
 advertised_by key at reachable (Some mac) router says_router solicited' overrides (Some known) w u r ws =
-    elim (either (eqb mac known)) [
+    elim (cases_Bool (eqb mac known)) [
       | inl same ↦ same_by key at mac reachable router says_router solicited' overrides known w u r ws same (eqb-true mac known same)
       | inr other ↦ other_by key at mac reachable router says_router solicited' overrides known w u r ws other
     ]

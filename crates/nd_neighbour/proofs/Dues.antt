@@ -2,7 +2,7 @@
 use Rattle.std.proofs.Common.{◌≡◌, ℕ, ◌+◌, ◌<◌, ◌≤◌, true, false, cond, ltb, List, [], ◌∷◌, length, get_or, set, Option, Some, None, refl, sym, ◌∙◌, ap, subst, arith, suc, zero, inl, inr}
 use Rattle.std.specs.List.{remove}
 use Rattle.std.proofs.lemmas.Bool.Decides.{nat_tests}
-use Rattle.std.proofs.lemmas.Bool.{cond-true, cond-false, true≢false}
+use Rattle.std.proofs.lemmas.Bool.{cond-true, cond-false, true≢false, cases_Bool}
 use Rattle.nd_neighbour.specs.History.{Row, Story, story, Solicited, Probed, Failed, Aged}
 use Rattle.nd_neighbour.specs.Entry.{Node, Stage, Resolving, Known, known_mac}
 use Rattle.nd_neighbour.specs.ReachabilityConfirmation.{Word}
@@ -11,7 +11,6 @@ use Rattle.nd_neighbour.specs.UnreachabilityDetection.{Use}
 use Rattle.nd_neighbour.specs.Story.{is_present, mac_of, word_of, use_of, due_of, stage_by, the_node, node_of}
 use Rattle.nd_neighbour.specs.Table.{address, node_in, Stands, GainsRow}
 use Rattle.nd_neighbour.specs.Due.{Falls, falls, falls_to, stays, solicited, date_of, IsDue, falling_by, IsFirst, FirstDue, NextDue, due_row, next_in, due_in, NoneBefore, turns_to, turns_left, Turns}
-use Rattle.nd_table.proofs.Cases.{either}
 use Rattle.nd_table.proofs.Due.{AtMost-some, AtMost-none, due_now, due_has, due_least, none_due, least_at_most, least_found, NotBefore-set, NotBefore-remove}
 use Rattle.nd_neighbour.proofs.Changes.{when_solicited, when_probed}
 use Rattle.nd_neighbour.proofs.Steps.{changing, leaving, node_present}
@@ -84,7 +83,7 @@ module _ (now : ℕ) (old new : List Node) (i : ℕ) (n : Node) (lt : i < length
   going left = is ∙ cond-false (stays (falls n)) (set old i (solicited now n)) _ left
 
   turn_gains : (k : Stage) → n.stage ≡ k → GainsRow old new (due_row now (falls_to n.key k))
-  turn_gains (Resolving r t ws) kept = elim (either (ltb t 2)) [
+  turn_gains (Resolving r t ws) kept = elim (cases_Bool (ltb t 2)) [
     | inl more ↦
         let left : stays (falls n) ≡ true = rw (kept, more) refl in
         rw more (record {
@@ -98,7 +97,7 @@ module _ (now : ℕ) (old new : List Node) (i : ℕ) (n : Node) (lt : i < length
   ]
   turn_gains (Known mac c since None) kept =
       leaving old new n.key now Aged i n lt at_i refl (going (ap (λ k. stays (falls_to n.key k)) kept))
-  turn_gains (Known mac c since (Some p)) kept = elim (either (ltb p.sent 3)) [
+  turn_gains (Known mac c since (Some p)) kept = elim (cases_Bool (ltb p.sent 3)) [
     | inl more ↦
         let left : stays (falls n) ≡ true = rw (kept, more) refl in
         rw more (record {
@@ -152,7 +151,7 @@ fewer_to now n (Known mac c since (Some p)) kept left =
 
 -- a turn leaves fewer turns
 pub turned_fewer : (now : ℕ) (old new : List Node) (what : Falls) → Turns now old new what → turns_left new < turns_left old
-turned_fewer now old new what t = elim (either (stays (falls t.node))) [
+turned_fewer now old new what t = elim (cases_Bool (stays (falls t.node))) [
   | inl left ↦
       let is : new ≡ set old t.at (solicited now t.node) = t.new_is ∙ cond-true (stays (falls t.node)) _ (remove old t.at) left in
       rw is (omega (arith, turns-set old t.at t.node (solicited now t.node) t.within t.is, fewer_to now t.node t.node.stage refl left))
@@ -168,7 +167,7 @@ later_to now n (Known mac c since (Some p)) kept left = rw kept (omega arith)
 
 -- after a turn nothing is due before the moment
 pub turned_later : (now : ℕ) (old new : List Node) (what : Falls) → Turns now old new what → NoneBefore old now → NoneBefore new now
-turned_later now old new what t h = elim (either (stays (falls t.node))) [
+turned_later now old new what t h = elim (cases_Bool (stays (falls t.node))) [
   | inl left ↦
       let is : new ≡ set old t.at (solicited now t.node) = t.new_is ∙ cond-true (stays (falls t.node)) _ (remove old t.at) left in
       rw is (NotBefore-set date_of now old t.at (solicited now t.node) h (later_to now t.node t.node.stage refl left))

@@ -2,7 +2,7 @@
 use Rattle.std.proofs.Common.{◌≡◌, ℕ, ◌+◌, ◌<◌, ◌≤◌, true, false, cond, eqb, ltb, List, [], ◌∷◌, get_or, Option, Some, None, refl, sym, ◌∙◌, ap, subst, arith, ◌⊎◌, inl, inr}
 use Rattle.std.specs.Prelude.{not, is_some}
 use Rattle.std.proofs.lemmas.Bool.Decides.{nat_tests}
-use Rattle.std.proofs.lemmas.Bool.{cond_both, cond-true, cond-false, true≢false, eq-eqb}
+use Rattle.std.proofs.lemmas.Bool.{cond_both, cond-true, cond-false, true≢false, eq-eqb, cases_Bool}
 use Rattle.nd_neighbour.specs.declared.shown.Reachability.TheVariants.{Reachable, Stale, Delay, Probe}
 use Rattle.nd_neighbour.specs.History.{RowKind, Row, Story, story, is_end, Forgot, PushedOut}
 use Rattle.nd_neighbour.specs.Entry.{Node}
@@ -13,7 +13,6 @@ use Rattle.nd_neighbour.specs.Story.{is_present, mac_of, word_of, use_of, stage_
 use Rattle.nd_neighbour.specs.Table.{address, node_in, Rises, Stands, GainsRow, Alters, NotThere, There}
 use Rattle.nd_neighbour.specs.Shown.{state_by}
 use Rattle.nd_neighbour.specs.Place.{IsStale, stale_since, IsLongestStale, MakesPlace, HadPlace, Pushed, is_stale, since_of, longer, if_stale, stalest, Places, Enough, Went}
-use Rattle.nd_table.proofs.Cases.{either}
 use Rattle.nd_table.proofs.Keyed.{key_is, above_in, at_place, at_key-remove}
 use Rattle.nd_neighbour.proofs.Steps.{changing, passing, leaving, node_present, node_absent}
 
@@ -45,7 +44,7 @@ by_stale t None w u r ws h = absurd (true≢false (sym h))
 by_stale t (Some mac) w (Some u) r ws h = absurd (true≢false (sym h))
 by_stale t (Some mac) None None r ws h = refl
 by_stale t (Some mac) (Some (Disturbs d)) None r ws h = refl
-by_stale t (Some mac) (Some (Confirms d l)) None r ws h = elim (either (ltb t (d + l))) [
+by_stale t (Some mac) (Some (Confirms d l)) None r ws h = elim (cases_Bool (ltb t (d + l))) [
   | inl k ↦ absurd (true≢false (sym (let e : not (ltb t (d + l)) ≡ true = h in rw k at e)))
   | inr k ↦ rw k refl
 ]
@@ -94,7 +93,7 @@ stalest_some now k (x ∷ ns) m is stale =
 
 -- the order of two, through a third that isn't before the first
 through : (x y m : Node) → since_of x.stage ≤ since_of y.stage → x.key ≤ m.key → NotAfter y m → NotAfter x m
-through x y m le key after = elim (either (ltb (since_of x.stage) (since_of m.stage))) [
+through x y m le key after = elim (cases_Bool (ltb (since_of x.stage) (since_of m.stage))) [
   | inl lt ↦ inl (grind (arith, nat_tests, lt))
   | inr ge ↦
       let back : since_of m.stage ≤ since_of x.stage = grind (arith, nat_tests, ge) in
@@ -111,7 +110,7 @@ first_of_two now k x ns n m None r rest h is stale ih =
     cond_both (eqb x.key k) (Some x) (node_in k ns) (λ o. o ≡ Some m → NotAfter n m)
     (λ _ f. let g : x ≡ m = cc in subst (λ (y : Node). NotAfter y m) e (subst (λ (y : Node). NotAfter x y) g (inr (refl, omega arith))))
     (λ _ f. absurd (true≢false (sym (stalest_some now k ns m f stale) ∙ ap is_some rest))) is
-first_of_two now k x ns n m (Some y) r rest h is stale ih = elim (either (ltb (since_of y.stage) (since_of x.stage))) [
+first_of_two now k x ns n m (Some y) r rest h is stale ih = elim (cases_Bool (ltb (since_of y.stage) (since_of x.stage))) [
   | inl lt ↦
       let f : Some y ≡ Some n = sym (cond-true (ltb (since_of y.stage) (since_of x.stage)) (Some y) (Some x) lt) ∙ h in
       let e : y ≡ n = cc in
@@ -133,7 +132,7 @@ first_of_two now k x ns n m (Some y) r rest h is stale ih = elim (either (ltb (s
 
 stalest_first : (now k : ℕ) (ns : List Node) (n m : Node) → Rises ns → stalest now ns ≡ Some n → node_in k ns ≡ Some m → is_stale m.stage now ≡ true → NotAfter n m
 stalest_first now k [] n m r h is stale = absurd (cc)
-stalest_first now k (x ∷ ns) n m r h is stale = elim (either (is_stale x.stage now)) [
+stalest_first now k (x ∷ ns) n m r h is stale = elim (cases_Bool (is_stale x.stage now)) [
   | inl stale' ↦
       let here : if_stale now x ≡ Some x = cond-true (is_stale x.stage now) (Some x) None stale' in
       first_of_two now k x ns n m (stalest now ns) r refl (ap (λ o. longer o (stalest now ns)) (sym here) ∙ h) is stale (λ y e f. stalest_first now k ns y m r.1 e f stale)

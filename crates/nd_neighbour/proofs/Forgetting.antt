@@ -2,7 +2,7 @@
 use Rattle.std.proofs.Common.{◌≡◌, ℕ, Bool, true, eqb, List, [], ◌∷◌, Option, Some, None, refl, sym, ◌∙◌, ap, arith, inl, inr}
 use Rattle.std.specs.Prelude.{map}
 use Rattle.std.specs.Option.{option_map}
-use Rattle.std.proofs.lemmas.Bool.{cond-true, cond-false, eqb-true}
+use Rattle.std.proofs.lemmas.Bool.{cond-true, cond-false, eqb-true, cases_Bool}
 use Rattle.nd_neighbour.specs.declared.shown.Reachability.{Reachability}
 use Rattle.nd_neighbour.specs.History.{Row, Story, story, Forgot, Cause, Cleared}
 use Rattle.nd_neighbour.specs.Entry.{Node}
@@ -14,7 +14,6 @@ use Rattle.nd_neighbour.specs.Table.{address, node_in, Stands, GainsRow}
 use Rattle.nd_neighbour.specs.Shown.{state_by, Seen, seen, seen_of, state_in, seen_key, Lists}
 use Rattle.nd_neighbour.specs.Removal.{Removes, WasNot, Gone, waiting_at, cleared}
 use Rattle.nd_table.proofs.Mapped.{at_key-map, Rises-map}
-use Rattle.nd_table.proofs.Cases.{either}
 use Rattle.nd_table.proofs.Keyed.{key_is}
 use Rattle.nd_neighbour.proofs.Steps.{leaving, each_other, ended_story, node_present, node_absent}
 use Rattle.nd_neighbour.proofs.Dues.{known_by}
@@ -25,7 +24,7 @@ removed_gains key at why old new (Gone i n lt at_i found is) = leaving old new k
 removed_gains key at why old new (WasNot none is) = record {
   stands = λ history s. rw is (record {
     each = λ k. each_other k key at (Forgot why) history old old None
-        (λ j. elim (either (eqb key j)) [
+        (λ j. elim (cases_Bool (eqb key j)) [
           | inl e ↦ ap (λ (x : ℕ). node_in x old) (sym (eqb-true key j e)) ∙ (none ∙ sym (cond-true (eqb key j) None (node_in j old) e))
           | inr e ↦ sym (cond-false (eqb key j) None (node_in j old) e)
         ])

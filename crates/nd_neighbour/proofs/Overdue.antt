@@ -1,7 +1,7 @@
 -- Nothing that happens to a neighbour falls due in the past.
 use Rattle.std.proofs.Common.{◌≡◌, ℕ, ◌+◌, ◌≤◌, Bool, true, false, cond, eqb, leb, List, [], ◌∷◌, Option, Some, None, refl, sym, ◌∙◌, ap, subst, arith, inl, inr}
 use Rattle.std.specs.Prelude.{is_some, not}
-use Rattle.std.proofs.lemmas.Bool.{true≢false, cond_both}
+use Rattle.std.proofs.lemmas.Bool.{true≢false, cond_both, cases_Bool}
 use Rattle.nd_table.specs.Due.{NotBefore}
 use Rattle.nd_neighbour.specs.declared.news.Flags.{Flags}
 use Rattle.nd_neighbour.specs.AddressResolution.{Resolution, resolution_due, resolution_of}
@@ -13,7 +13,6 @@ use Rattle.nd_neighbour.specs.ReachabilityConfirmation.{Confirms, Disturbs, Word
 use Rattle.nd_neighbour.specs.Story.{due_by, due_of, is_present, mac_of, or_else, says, use_of, word_of}
 use Rattle.nd_neighbour.specs.Table.{Stands}
 use Rattle.nd_neighbour.specs.UnreachabilityDetection.{Use, goes_on, reach_due}
-use Rattle.nd_table.proofs.Cases.{either}
 use Rattle.nd_neighbour.proofs.Stories.{absent_mac}
 use Rattle.nd_neighbour.proofs.Dues.{next_is_due}
 
@@ -109,7 +108,7 @@ module _ (now : ℕ) where
 
   -- an address is known of a neighbour that is present
   mac_present : (s : Story) → is_some (mac_of s) ≡ true → is_present s ≡ true
-  mac_present s h = elim (either (is_present s)) [
+  mac_present s h = elim (cases_Bool (is_present s)) [
     | inl p ↦ p
     | inr absent ↦ let e : is_some (mac_of s) ≡ false = ap is_some (absent_mac s absent) in absurd (true≢false (sym h ∙ e))
   ]

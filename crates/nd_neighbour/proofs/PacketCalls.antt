@@ -1,7 +1,7 @@
 -- What a packet does to the table that stands for the history, and what becomes of it.
 use Rattle.std.proofs.Common.{◌≡◌, ℕ, ◌+◌, ◌*◌, Bool, true, false, eqb, List, [], ◌∷◌, Option, Some, None, refl, sym, ◌∙◌, ap, subst, arith, inl, inr}
 use Rattle.std.specs.Prelude.{is_some, nat_le}
-use Rattle.std.proofs.lemmas.Bool.{cond-true, cond-false}
+use Rattle.std.proofs.lemmas.Bool.{cond-true, cond-false, cases_Bool}
 use Rattle.nd_neighbour.specs.History.{Row, Story, story, Asked, Waits, Used}
 use Rattle.nd_neighbour.specs.Entry.{Node, Stage, Resolving, Known, known_mac}
 use Rattle.nd_neighbour.specs.ReachabilityConfirmation.{Word}
@@ -11,7 +11,6 @@ use Rattle.nd_neighbour.specs.Story.{is_present, mac_of, word_of, use_of, stage_
 use Rattle.nd_neighbour.specs.Table.{address, node_in, Stands, Alters, NotThere, There}
 use Rattle.nd_neighbour.specs.Place.{Gives, Was, Came}
 use Rattle.nd_neighbour.specs.Sending.{used, used_to, sending_to, GainsPacket, then_packet, sending_by, sending_of_story, sending_in}
-use Rattle.nd_table.proofs.Cases.{either}
 use Rattle.nd_neighbour.proofs.Stories.{absent_mac, absent_router}
 use Rattle.nd_neighbour.proofs.Changes.{when_used, when_waits, first_asked}
 use Rattle.nd_table.proofs.Keyed.{key_is, put_in, at_key-put, Rises-put}
@@ -67,7 +66,7 @@ module _ (key now retrans : ℕ) (packet : List ℕ) where
       ∙ first_asked key now (story key made) gone retrans packet in
       rw is (record {
         each = λ k. each_other k key now (Waits packet) ((now, key, Asked retrans) ∷ made) (put_in address only_asked mid) (put_in address m mid) (Some m)
-            (λ j. at_key-put address j m mid ∙ elim (either (eqb key j)) [
+            (λ j. at_key-put address j m mid ∙ elim (cases_Bool (eqb key j)) [
               | inl e ↦ cond-true (eqb key j) (Some m) (node_in j mid) e ∙ sym (cond-true (eqb key j) (Some m) (node_in j (put_in address only_asked mid)) e)
               | inr e ↦ cond-false (eqb key j) (Some m) (node_in j mid) e
                   ∙ sym (cond-false (eqb key j) (Some m) (node_in j (put_in address only_asked mid)) e

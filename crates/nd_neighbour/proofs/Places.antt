@@ -3,22 +3,21 @@ use Rattle.std.proofs.Common.{◌≡◌, ℕ, ◌+◌, ◌<◌, ◌≤◌, true,
 use Rattle.std.specs.Prelude.{slice_get}
 use Rattle.std.specs.List.{remove}
 use Rattle.std.proofs.lemmas.Bool.Decides.{nat_tests}
-use Rattle.std.proofs.lemmas.Bool.{cond_both}
+use Rattle.std.proofs.lemmas.Bool.{cond_both, cases_Bool}
 use Rattle.std.proofs.lemmas.Option.{slice_get-get_or}
 use Rattle.nd_neighbour.specs.Entry.{Node}
 use Rattle.nd_neighbour.specs.Place.{since_of, longer, stalest, picked, picked_stale, Places, Went}
-use Rattle.nd_table.proofs.Cases.{either}
 
 longer_assoc : (a b c : Option Node) → longer (longer a b) c ≡ longer a (longer b c)
 longer_assoc None b c = refl
 longer_assoc (Some x) None c = refl
 longer_assoc (Some x) (Some y) None = cond_both (ltb (since_of y.stage) (since_of x.stage)) (Some y) (Some x) (λ o. longer o None ≡ o) (λ _. refl) (λ _. refl)
-longer_assoc (Some x) (Some y) (Some z) = elim (either (ltb (since_of y.stage) (since_of x.stage))) [
-  | inl yx ↦ elim (either (ltb (since_of z.stage) (since_of y.stage))) [
+longer_assoc (Some x) (Some y) (Some z) = elim (cases_Bool (ltb (since_of y.stage) (since_of x.stage))) [
+  | inl yx ↦ elim (cases_Bool (ltb (since_of z.stage) (since_of y.stage))) [
     | inl zy ↦ let zx : ltb (since_of z.stage) (since_of x.stage) ≡ true = grind (arith, nat_tests, yx, zy) in rw (yx, zy, zx) refl
     | inr zy ↦ rw (yx, zy, yx) refl
   ]
-  | inr yx ↦ elim (either (ltb (since_of z.stage) (since_of y.stage))) [
+  | inr yx ↦ elim (cases_Bool (ltb (since_of z.stage) (since_of y.stage))) [
     | inl zy ↦ rw (yx, zy) refl
     | inr zy ↦ let zx : ltb (since_of z.stage) (since_of x.stage) ≡ false = grind (arith, nat_tests, yx, zy) in rw (yx, zy, zx, yx) refl
   ]

@@ -2,13 +2,14 @@
 use Rattle.std.proofs.Common.{◌≡◌, ℕ, ◌+◌, ◌<◌, ◌≤◌, Bool, true, false, cond, eqb, ltb, List, [], ◌∷◌, length, get_or, set, Option, Some, None, refl, sym, ◌∙◌, ap, subst, arith, ◌⊎◌, inl, inr}
 use Rattle.std.specs.Prelude.{◌||◌, ◌&&◌, not, is_some, nat_le, MatchBool, ◌↔◌}
 use Rattle.std.specs.List.{remove, list_any}
+use Rattle.std.specs.Cmp.{first_so, second_so}
 use Rattle.std.proofs.lemmas.List.{length-set}
 use Rattle.std.proofs.lemmas.List.Edits.{length-insert, length-remove}
 use Rattle.std.proofs.lemmas.Bool.Decides.{nat_tests}
-use Rattle.std.proofs.lemmas.Bool.{cond-true, cond-false, true≢false, eqb-true, ne_eqb, eq-eqb}
+use Rattle.std.proofs.lemmas.Bool.{cond-true, cond-false, true≢false, eqb-true, ne_eqb, eq-eqb, cases_Bool, or_left, or_right, or_cases, not-true, and_from}
+use Rattle.std.proofs.Math.Bool.{and-false, and-true}
 use Rattle.nd_table.specs.Keyed.{place_of}
-use Rattle.nd_table.proofs.Cases.{either}
-use Rattle.nd_table.proofs.Any.{or_left, or_right, or_either, any_set, any_remove, any_insert, any_inserted, any_was_set, any_was_removed, still_set, still_removed, held_at}
+use Rattle.nd_table.proofs.Any.{any_set, any_remove, any_insert, any_inserted, any_was_set, any_was_removed, still_set, still_removed, held_at}
 use Rattle.nd_table.proofs.Keyed.{key_is, place_found, place_of-le, put_in, at_key-put, at_key-set, at_key-remove}
 use Rattle.nd_neighbour.specs.History.{Row, story, Forgot, PushedOut}
 use Rattle.nd_neighbour.specs.Entry.{Node, Stage, Resolving, Known}
@@ -26,10 +27,10 @@ use Rattle.nd_neighbour.proofs.Unique.{one_table, one_longest, full_by_history}
 longer_some : (a b : Option Node) → is_some (longer a b) ≡ (is_some a || is_some b)
 longer_some None b = refl
 longer_some (Some x) None = refl
-longer_some (Some x) (Some y) = elim (either (ltb (since_of y.stage) (since_of x.stage))) [ inl e ↦ rw e refl | inr e ↦ rw e refl ]
+longer_some (Some x) (Some y) = elim (cases_Bool (ltb (since_of y.stage) (since_of x.stage))) [ inl e ↦ rw e refl | inr e ↦ rw e refl ]
 
 if_stale_some : (now : ℕ) (n : Node) → is_some (if_stale now n) ≡ is_stale n.stage now
-if_stale_some now n = elim (either (is_stale n.stage now)) [ inl e ↦ rw e refl | inr e ↦ rw e refl ]
+if_stale_some now n = elim (cases_Bool (is_stale n.stage now)) [ inl e ↦ rw e refl | inr e ↦ rw e refl ]
 
 -- one is stale for longest where one is stale
 stalest_any : (now : ℕ) (ns : List Node) → is_some (stalest now ns) ≡ list_any (λ n. is_stale n.stage now) ns
@@ -37,41 +38,18 @@ stalest_any now [] = refl
 stalest_any now (n ∷ ns) =
     longer_some (if_stale now n) (stalest now ns) ∙ (ap (λ b. b || is_some (stalest now ns)) (if_stale_some now n) ∙ ap (λ b. is_stale n.stage now || b) (stalest_any now ns))
 
-and_none : (b : Bool) → false ≡ (b && false)
-and_none true = refl
-and_none false = refl
-
-and_all : (b : Bool) → b ≡ (b && true)
-and_all true = refl
-and_all false = refl
-
-and_left : (a b : Bool) → (a && b) ≡ true → a ≡ true
-and_left true b h = refl
-and_left false b h = h
-
-and_right : (a b : Bool) → (a && b) ≡ true → b ≡ true
-and_right true b h = h
-and_right false b h = absurd (true≢false (sym h))
-
-not_true : (b : Bool) → not b ≡ true → b ≡ false
-not_true true h = absurd (true≢false (sym h))
-not_true false h = refl
-
-and_both : (a b : Bool) → a ≡ true → b ≡ true → (a && b) ≡ true
-and_both a b e f = ap (λ x. x && b) e ∙ f
-
 -- after a use only one that became stale later is stale
 used_stale : (now retrans : ℕ) (packet : List ℕ) (n : Node) (k : Stage) → n.stage ≡ k → is_stale (used_to k now retrans packet n).stage now ≡ (is_stale k now && ltb now (since_of k))
 used_stale now retrans packet n (Resolving r t ws) is = refl
-used_stale now retrans packet n (Known mac c since None) is = elim (either (nat_le since now)) [
-  | inl le ↦ let lt : ltb now since ≡ false = grind (arith, nat_tests, le) in rw (le, lt) (and_none (not (c && false)))
-  | inr gt ↦ let lt : ltb now since ≡ true = grind (arith, nat_tests, gt) in rw (gt, is, lt) (and_all (not (c && true)))
+used_stale now retrans packet n (Known mac c since None) is = elim (cases_Bool (nat_le since now)) [
+  | inl le ↦ let lt : ltb now since ≡ false = grind (arith, nat_tests, le) in rw (le, lt) (sym (and-false (not (c && false))))
+  | inr gt ↦ let lt : ltb now since ≡ true = grind (arith, nat_tests, gt) in rw (gt, is, lt) (sym (and-true (not (c && true))))
 ]
 used_stale now retrans packet n (Known mac c since (Some p)) is = rw is refl
 
 -- who is in the list after a change of an entry was in it before
 was_there : (k : ℕ) (ns : List Node) (i : ℕ) (m d : Node) → Rises ns → i < length ns → (get_or ns i d).key ≡ m.key → is_some (node_in k (set ns i m)) ≡ true → is_some (node_in k ns) ≡ true
-was_there k ns i m d r lt same h = elim (either (eqb m.key k)) [
+was_there k ns i m d r lt same h = elim (cases_Bool (eqb m.key k)) [
   | inl e ↦ held_at address k ns i d lt (ap (λ (x : ℕ). eqb x k) same ∙ e)
   | inr e ↦ sym (ap is_some (at_key-set address k ns i m d r lt same ∙ cond-false (eqb m.key k) (Some m) (node_in k ns) e)) ∙ h
 ]
@@ -85,18 +63,18 @@ module _ (limit now next : ℕ) (ns : List Node) where
   has_place_any = ap (λ b. ltb (length ns) limit || b) (stalest_any now ns)
 
   placed : place_after limit now next ns ≡ true → NoPlace limit now next ns → ⊥
-  placed h np = elim (or_either (is_some (node_in next ns)) _ h) [
+  placed h np = elim (or_cases (is_some (node_in next ns)) _ h) [
     | inl e ↦ true≢false (sym e ∙ ap is_some np.0)
     | inr e ↦ true≢false (sym e ∙ (sym has_place_any ∙ np.1))
   ]
 
   displaced : place_after limit now next ns ≡ false → NoPlace limit now next ns
   displaced h = (
-    elim (either (is_some (node_in next ns))) [
+    elim (cases_Bool (is_some (node_in next ns))) [
       | inl e ↦ absurd (true≢false (sym (or_left (is_some (node_in next ns)) _ e) ∙ h))
       | inr e ↦ none_is (node_in next ns) e
     ],
-    elim (either (ltb (length ns) limit || list_any (λ n. is_stale n.stage now) ns)) [
+    elim (cases_Bool (ltb (length ns) limit || list_any (λ n. is_stale n.stage now) ns)) [
       | inl e ↦ absurd (true≢false (sym (or_right (is_some (node_in next ns)) _ e) ∙ h))
       | inr e ↦ has_place_any ∙ e
     ],
@@ -112,9 +90,9 @@ module _ (limit now next : ℕ) (ns : List Node) where
   stale_after h = or_right (is_some (node_in next ns)) _ (or_right (ltb (length ns) limit) _ h)
 
   after_cases : {X : Type 0} → place_after limit now next ns ≡ true → (is_some (node_in next ns) ≡ true → X) → (ltb (length ns) limit ≡ true → X) → (list_any (λ n. is_stale n.stage now) ns ≡ true → X) → X
-  after_cases h is few stale = elim (or_either (is_some (node_in next ns)) _ h) [
+  after_cases h is few stale = elim (or_cases (is_some (node_in next ns)) _ h) [
     | inl e ↦ is e
-    | inr e ↦ elim (or_either (ltb (length ns) limit) _ e) [ inl f ↦ few f | inr f ↦ stale f ]
+    | inr e ↦ elim (or_cases (ltb (length ns) limit) _ e) [ inl f ↦ few f | inr f ↦ stale f ]
   ]
 
 module _ (limit now key next retrans : ℕ) (packet : List ℕ) (old : List Node) where
@@ -135,12 +113,12 @@ module _ (limit now key next retrans : ℕ) (packet : List ℕ) (old : List Node
         ∙ sym (used_stale now retrans packet n n.stage refl))
 
     used_on : place_beside limit now key next old ≡ true → place_after limit now next (set old i the_used) ≡ true
-    used_on h = elim (or_either (is_some (node_in next old)) _ h) [
+    used_on h = elim (or_cases (is_some (node_in next old)) _ h) [
       | inl e ↦ in_after limit now next (set old i the_used) (still_set address next old i the_used n lt same_key e)
-      | inr e ↦ elim (or_either (ltb (length old) limit) _ e) [
+      | inr e ↦ elim (or_cases (ltb (length old) limit) _ e) [
         | inl f ↦ few_after limit now next (set old i the_used) (ap (λ x. ltb x limit) (length-set old i the_used) ∙ f)
         | inr f ↦ stale_after limit now next (set old i the_used)
-            (any_set (stays_stale key now) (λ x. is_stale x.stage now) (λ x. and_left (is_stale x.stage now) _) old i the_used n lt (λ g. sym it_stays ∙ g) f)
+            (any_set (stays_stale key now) (λ x. is_stale x.stage now) (λ x. first_so (is_stale x.stage now) _) old i the_used n lt (λ g. sym it_stays ∙ g) f)
       ]
     ]
 
@@ -150,7 +128,7 @@ module _ (limit now key next retrans : ℕ) (packet : List ℕ) (old : List Node
         (λ e. or_right (is_some (node_in next old)) _ (or_left (ltb (length old) limit) _ (sym (ap (λ x. ltb x limit) (length-set old i the_used)) ∙ e)))
         (λ e. or_right (is_some (node_in next old)) _ (or_right (ltb (length old) limit) _
         (any_was_set address key (λ x. is_stale x.stage now) (stays_stale key now)
-        (λ x differ f. and_both (is_stale x.stage now) _ f (or_left (not (eqb x.key key)) _ (ap not (ne_eqb x.key key differ))))
+        (λ x differ f. and_from (is_stale x.stage now) _ f (or_left (not (eqb x.key key)) _ (ap not (ne_eqb x.key key differ))))
         old i the_used n r lt (ap (λ (x : Node). x.key) (sym at) ∙ n_key) (λ f. it_stays ∙ f) e)))
 
   -- the first enters
@@ -170,7 +148,7 @@ module _ (limit now key next retrans : ℕ) (packet : List ℕ) (old : List Node
     entered_length = length-insert mid (place_of address key mid) the_asked (place_of-le address key mid)
 
     in_entered : ((key ≡ next) ⊎ (is_some (node_in next mid) ≡ true)) → is_some (node_in next entered) ≡ true
-    in_entered h = elim (either (eqb key next)) [
+    in_entered h = elim (cases_Bool (eqb key next)) [
       | inl e ↦ ap is_some (entered_in ∙ cond-true (eqb key next) (Some the_asked) (node_in next mid) e)
       | inr e ↦ elim h [
         | inl same ↦ absurd (true≢false (sym (eq-eqb key next same) ∙ e))
@@ -179,7 +157,7 @@ module _ (limit now key next retrans : ℕ) (packet : List ℕ) (old : List Node
     ]
 
     from_entered : is_some (node_in next entered) ≡ true → (eqb key next ≡ true) ⊎ (is_some (node_in next mid) ≡ true)
-    from_entered h = elim (either (eqb key next)) [
+    from_entered h = elim (cases_Bool (eqb key next)) [
       | inl e ↦ inl e
       | inr e ↦ inr (sym (ap is_some (entered_in ∙ cond-false (eqb key next) (Some the_asked) (node_in next mid) e)) ∙ h)
     ]
@@ -194,9 +172,9 @@ module _ (limit now key next retrans : ℕ) (packet : List ℕ) (old : List Node
 
   -- there was place
   enough_on : (o : Option Node) → stalest now old ≡ o → place_behind limit now key next old o ≡ true → place_after limit now next (entered old) ≡ true
-  enough_on None is h = elim (or_either (eqb key next) _ h) [
+  enough_on None is h = elim (or_cases (eqb key next) _ h) [
     | inl e ↦ in_after limit now next (entered old) (in_entered old (inl (eqb-true key next e)))
-    | inr e ↦ elim (or_either (is_some (node_in next old)) _ e) [
+    | inr e ↦ elim (or_cases (is_some (node_in next old)) _ e) [
       | inl f ↦ in_after limit now next (entered old) (in_entered old (inr f))
       | inr f ↦ few_after limit now next (entered old) (ap (λ x. ltb x limit) (entered_length old) ∙ f)
     ]
@@ -227,14 +205,14 @@ module _ (limit now key next retrans : ℕ) (packet : List ℕ) (old : List Node
 
     went_on : place_without n now key next old ≡ true → place_after limit now next (entered left) ≡ true
     unfolding left
-    went_on h = elim (or_either (eqb key next) _ h) [
+    went_on h = elim (or_cases (eqb key next) _ h) [
       | inl e ↦ in_after limit now next (entered left) (in_entered left (inl (eqb-true key next e)))
-      | inr e ↦ elim (or_either (not (eqb n.key next) && is_some (node_in next old)) _ e) [
+      | inr e ↦ elim (or_cases (not (eqb n.key next) && is_some (node_in next old)) _ e) [
         | inl f ↦ in_after limit now next (entered left) (in_entered left (inr (still_removed address next old i n lt
-            (ap (λ (x : ℕ). eqb x next) gone_key ∙ not_true (eqb n.key next) (and_left (not (eqb n.key next)) _ f)) (and_right (not (eqb n.key next)) _ f))))
+            (ap (λ (x : ℕ). eqb x next) gone_key ∙ not-true (eqb n.key next) (first_so (not (eqb n.key next)) _ f)) (second_so (not (eqb n.key next)) _ f))))
         | inr f ↦ stale_after limit now next (entered left) (stale_entered left (λ x. is_stale x.stage now) (λ x g. g)
-            (any_remove (stale_beside n.key now) (λ x. is_stale x.stage now) (λ x. and_left (is_stale x.stage now) _) old i n lt
-            (ap (stale_beside n.key now) (sym at) ∙ (ap (λ b. is_stale n.stage now && not b) (eq-eqb n.key n.key refl) ∙ sym (and_none (is_stale n.stage now)))) f))
+            (any_remove (stale_beside n.key now) (λ x. is_stale x.stage now) (λ x. first_so (is_stale x.stage now) _) old i n lt
+            (ap (stale_beside n.key now) (sym at) ∙ (ap (λ b. is_stale n.stage now && not b) (eq-eqb n.key n.key refl) ∙ and-false (is_stale n.stage now))) f))
       ]
     ]
 
@@ -242,9 +220,9 @@ module _ (limit now key next retrans : ℕ) (packet : List ℕ) (old : List Node
     unfolding left
     was_left k r h =
         let is : node_in k (remove old i) ≡ cond (eqb n.key k) None (node_in k old) = at_key-remove address k old i n r lt ∙ ap (λ (x : ℕ). cond (eqb x k) None (node_in k old)) gone_key in
-        elim (either (eqb n.key k)) [
+        elim (cases_Bool (eqb n.key k)) [
           | inl e ↦ absurd (true≢false (sym h ∙ ap is_some (is ∙ cond-true (eqb n.key k) None (node_in k old) e)))
-          | inr e ↦ and_both (not (eqb n.key k)) _ (ap not e) (sym (ap is_some (is ∙ cond-false (eqb n.key k) None (node_in k old) e)) ∙ h)
+          | inr e ↦ and_from (not (eqb n.key k)) _ (ap not e) (sym (ap is_some (is ∙ cond-false (eqb n.key k) None (node_in k old) e)) ∙ h)
         ]
 
     went_back : Rises old → place_after limit now next (entered left) ≡ true → place_without n now key next old ≡ true
@@ -257,7 +235,7 @@ module _ (limit now key next retrans : ℕ) (packet : List ℕ) (old : List Node
         (λ e. let few : length old < limit = grind (arith, nat_tests, as_many, e) in absurd (omega arith))
         (λ e. or_right (eqb key next) _ (or_right (not (eqb n.key next) && is_some (node_in next old)) _
         (any_was_removed address n.key (λ x. is_stale x.stage now) (stale_beside n.key now)
-        (λ x differ f. and_both (is_stale x.stage now) _ f (ap not (ne_eqb x.key n.key differ)))
+        (λ x differ f. and_from (is_stale x.stage now) _ f (ap not (ne_eqb x.key n.key differ)))
         old i n r lt gone_key (entered_stale left e))))
 
   -- where the first is there
@@ -279,7 +257,7 @@ module _ (limit now key next retrans : ℕ) (packet : List ℕ) (old : List Node
       (enough_on (stalest now old) refl (sym (absent_on none (stalest now old) refl) ∙ h))
   gives_on new (Came mid none (Went i n many lt at first gone) is) h =
       subst (λ (l : List Node). place_after limit now next l ≡ true) (ap (put_in address (asked_node key now retrans packet)) (sym gone) ∙ sym is)
-      (elim (or_either (ltb (length old) limit) _ (sym (absent_on none (Some n) first) ∙ h)) [
+      (elim (or_cases (ltb (length old) limit) _ (sym (absent_on none (Some n) first) ∙ h)) [
         | inl e ↦ let few : length old < limit = grind (arith, nat_tests, e) in absurd (omega arith)
         | inr e ↦ went_on i n many lt at first e
       ])
@@ -302,18 +280,18 @@ module _ (limit now key next retrans : ℕ) (packet : List ℕ) (old : List Node
 -- whether the first has place
 module _ (limit now key : ℕ) (ns : List Node) where
   first_has : has_first limit now key ns ≡ true → NoPlace limit now key ns → ⊥
-  first_has h np = elim (or_either (is_some (node_in key ns)) _ h) [
+  first_has h np = elim (or_cases (is_some (node_in key ns)) _ h) [
     | inl e ↦ true≢false (sym e ∙ ap is_some np.0)
     | inr e ↦ true≢false (sym e ∙ np.1)
   ]
 
   first_full : has_first limit now key ns ≡ false → NoPlace limit now key ns
   first_full h = (
-    elim (either (is_some (node_in key ns))) [
+    elim (cases_Bool (is_some (node_in key ns))) [
       | inl e ↦ absurd (true≢false (sym (or_left (is_some (node_in key ns)) _ e) ∙ h))
       | inr e ↦ none_is (node_in key ns) e
     ],
-    elim (either (has_place limit now ns)) [
+    elim (cases_Bool (has_place limit now ns)) [
       | inl e ↦ absurd (true≢false (sym (or_right (is_some (node_in key ns)) _ e) ∙ h))
       | inr e ↦ e
     ],
@@ -321,7 +299,7 @@ module _ (limit now key : ℕ) (ns : List Node) where
 
   -- then a packet for it leads somewhere
   leads : (retrans : ℕ) (packet : List ℕ) → Rises ns → has_first limit now key ns ≡ true → (new : List Node) × Gives limit now key (λ n. used now retrans packet n) (asked_node key now retrans packet) ns new
-  leads retrans packet r h = elim (either (is_some (node_in key ns))) [
+  leads retrans packet r h = elim (cases_Bool (is_some (node_in key ns))) [
     | inl e ↦
         let n = some_is (node_in key ns) e in
         let i = place_found address key ns n.0 n.1 in
@@ -329,7 +307,7 @@ module _ (limit now key : ℕ) (ns : List Node) where
     | inr e ↦
         let m = asked_node key now retrans packet in
         let none = none_is (node_in key ns) e in
-        elim (either (ltb (length ns) limit)) [
+        elim (cases_Bool (ltb (length ns) limit)) [
           | inl f ↦ (put_in address m ns, Came ns none (Enough (grind (arith, nat_tests, f)) refl) refl)
           | inr f ↦
               let place : (false || (false || is_some (stalest now ns))) ≡ true = ap (λ b. false || (b || is_some (stalest now ns))) (sym f) ∙ (ap (λ b. b || has_place limit now ns) (sym e) ∙ h) in
@@ -372,13 +350,13 @@ module _ (limit now key : ℕ) (ns : List Node) (history : List Row) (s : Stands
         placed limit now next to.0 (gives_on limit now key next retrans packet ns to.0 to.1 second) ((full_by_history limit now next to.0 _ took.2).1 full')
 
     second_back : (next : ℕ) → HasRoom limit now key (Some next) history → has_second limit now key next ns ≡ true
-    second_back next room = elim (either (place_after limit now next to.0)) [
+    second_back next room = elim (cases_Bool (place_after limit now next to.0)) [
       | inl e ↦ gives_back limit now key next retrans packet ns to.0 s.order to.1 e
       | inr e ↦ absurd (room.both retrans packet took.0 took.1 ((full_by_history limit now next to.0 _ took.2).0 (displaced limit now next to.0 e)))
     ]
 
   first_back : (second : Option ℕ) → HasRoom limit now key second history → has_first limit now key ns ≡ true
-  first_back second room = elim (either (has_first limit now key ns)) [
+  first_back second room = elim (cases_Bool (has_first limit now key ns)) [
     | inl e ↦ e
     | inr e ↦ absurd (room.first ((full_by_history limit now key ns history s).0 (first_full limit now key ns e)))
   ]
@@ -390,18 +368,18 @@ module _ (limit now key : ℕ) (ns : List Node) (history : List Row) (s : Stands
   )
   room_by_history (Some next) = (
     (λ h.
-        let first = and_left (has_first limit now key ns) _ h in
+        let first = first_so (has_first limit now key ns) _ h in
         record {
           first = first_by_history first;
-          both = λ retrans packet made prepares. second_on retrans packet first next made (and_right (has_first limit now key ns) _ h) prepares;
+          both = λ retrans packet made prepares. second_on retrans packet first next made (second_so (has_first limit now key ns) _ h) prepares;
         }),
-    (λ room. let first = first_back (Some next) room in and_both (has_first limit now key ns) _ first (second_back 0 [] first next room)),
+    (λ room. let first = first_back (Some next) room in and_from (has_first limit now key ns) _ first (second_back 0 [] first next room)),
   )
 
 -- a second one that had room has place afterwards
 pub leaves_room : (limit now key retrans : ℕ) (packet : List ℕ) (old new : List Node) → Gives limit now key (λ n. used now retrans packet n) (asked_node key now retrans packet) old new → LeavesRoom limit now key old new
 leaves_room limit now key retrans packet old new gives = record {
-  has = λ next h. placed limit now next new (gives_on limit now key next retrans packet old new gives (and_right (has_first limit now key old) _ h));
+  has = λ next h. placed limit now next new (gives_on limit now key next retrans packet old new gives (second_so (has_first limit now key old) _ h));
 }
 
 -- who was given an address is there
@@ -416,4 +394,4 @@ gives_there limit now key change m old new keeps m_key (Came mid none places is)
 
 pub room_has_place : (limit now key : ℕ) (second : Option ℕ) (ns : List Node) → has_room limit now key second ns ≡ true → NoPlace limit now key ns → ⊥
 room_has_place limit now key None ns h = first_has limit now key ns h
-room_has_place limit now key (Some next) ns h = first_has limit now key ns (and_left (has_first limit now key ns) _ h)
+room_has_place limit now key (Some next) ns h = first_has limit now key ns (first_so (has_first limit now key ns) _ h)

@@ -1,12 +1,11 @@
 -- What one more row does to the table that stands for a history.
 use Rattle.std.proofs.Common.{◌≡◌, ℕ, ◌<◌, true, false, cond, eqb, List, [], ◌∷◌, length, get_or, set, Option, Some, None, refl, sym, ◌∙◌, ap, subst, inl, inr}
 use Rattle.std.specs.List.{remove}
-use Rattle.std.proofs.lemmas.Bool.{cond_both, eqb-true, eq-eqb, cond-true, cond-false}
+use Rattle.std.proofs.lemmas.Bool.{cond_both, eqb-true, eq-eqb, cond-true, cond-false, cases_Bool}
 use Rattle.nd_neighbour.specs.History.{RowKind, Forgot, Cause, is_end, Row, Story, story}
 use Rattle.nd_neighbour.specs.Entry.{Node}
 use Rattle.nd_neighbour.specs.Story.{is_present, the_node, node_of}
 use Rattle.nd_neighbour.specs.Table.{address, node_in, GainsRow}
-use Rattle.nd_table.proofs.Cases.{either}
 use Rattle.nd_table.proofs.Keyed.{at_key-set, Rises-set, at_key-remove, Rises-remove, put_in, at_key-put, Rises-put}
 
 -- the story of another neighbour goes on unchanged
@@ -31,7 +30,7 @@ node_absent key s is =
 
 -- the look-up of each neighbour, where that of one is changed
 pub each_other : (k key at : ℕ) (h : RowKind) (history : List Row) (old new : List Node) (o : Option Node) → ((j : ℕ) → node_in j new ≡ cond (eqb key j) o (node_in j old)) → ((j : ℕ) → node_in j old ≡ node_of j (story j history)) → o ≡ node_of key (story key ((at, key, h) ∷ history)) → node_in k new ≡ node_of k (story k ((at, key, h) ∷ history))
-each_other k key at h history old new o change each is = elim (either (eqb key k)) [
+each_other k key at h history old new o change each is = elim (cases_Bool (eqb key k)) [
   | inl same ↦ let e : key ≡ k = eqb-true key k same in
       change k ∙ (cond-true (eqb key k) o (node_in k old) same ∙ subst (λ (j : ℕ). o ≡ node_of j (story j ((at, key, h) ∷ history))) e is)
   | inr other ↦ change k ∙ (cond-false (eqb key k) o (node_in k old) other ∙ (each k ∙ ap (node_of k) (sym (other_story k key at h history other))))
@@ -57,7 +56,7 @@ module _ (old new : List Node) (key at : ℕ) where
   passing h goes same is = record {
     stands = λ history s. rw is (record {
       each = λ k. each_other k key at h history old old (node_in key old)
-          (λ j. elim (either (eqb key j)) [
+          (λ j. elim (cases_Bool (eqb key j)) [
             | inl e ↦ ap (λ (x : ℕ). node_in x old) (sym (eqb-true key j e)) ∙ sym (cond-true (eqb key j) (node_in key old) (node_in j old) e)
             | inr e ↦ sym (cond-false (eqb key j) (node_in key old) (node_in j old) e)
           ])

@@ -10,6 +10,7 @@ use Rattle.nd_addr.specs.declared.role.Role.TheVariants.{Host, Router}
 use Rattle.nd_addr.specs.Kind.{multicast_prefix}
 use Rattle.nd_addr.specs.Number.{number_of, holds}
 use Rattle.nd_addr.specs.Prefix.{PrefixValue}
+use Rattle.nd_addr.specs.Same.{same_prefix}
 use Rattle.nd_decode.specs.Option.{Said}
 use Rattle.nd_decode.specs.declared.prefix_info.PrefixInfo.{PrefixInfo}
 use Rattle.nd_decode.specs.declared.router_advertisement.RouterAdvertisement.{RouterAdvertisement}
@@ -18,7 +19,6 @@ use Rattle.nd_table.specs.Ends.{is_before}
 use Rattle.nd_lifetime.specs.History as lifetimes
 use Rattle.nd_lifetime.specs.Listing as lists
 use Rattle.nd_lifetime.specs.Listing.{then_announced}
-use Rattle.nd_lifetime.specs.Same.{same_prefix}
 use Rattle.nd_params.specs.History as parameter_rows
 use Rattle.nd_params.specs.History.{last_draw, redraw_after}
 use Rattle.nd_params.specs.Params as parameters

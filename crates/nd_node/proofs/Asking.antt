@@ -51,7 +51,7 @@ use Rattle.nd_node.specs.Time.{Leads}
 use Rattle.nd_node.specs.Hearing.{AddsMessage}
 use Rattle.nd_node.proofs.Beside.{Beside, Same, beside_then, stands_neighbours}
 use Rattle.nd_node.proofs.Detections.{solicitation}
-use Rattle.nd_node.proofs.Quiet.{stands_quiet}
+use Rattle.nd_node.proofs.Quiet.{stands_quiet, refused_is_quiet}
 use Rattle.nd_node.proofs.Steps.{passed}
 use Rattle.nd_node.proofs.Turns.{neighbours_before}
 
@@ -135,22 +135,6 @@ others_beside c d o = record {
   stream = o.stream;
 }
 
-refused_is_quiet : (at : ℕ) (c : Chronicle) → ((start : ℕ) → last_moment start c ≡ at) → Quiet c ((at, Refused (Full Neighbours)) ∷ c)
-refused_is_quiet at c now = record {
-  parameters = refl;
-  neighbours = refl;
-  routers = refl;
-  prefixes = refl;
-  addresses = refl;
-  servers = refl;
-  names = refl;
-  redirects = refl;
-  solicited = refl;
-  router = λ start. refl;
-  stream = λ start. refl;
-  last = λ start. sym (now start);
-}
-
 -- ---- what is told
 
 -- a row, and what is released behind it
@@ -197,7 +181,7 @@ module _ {R A : Type 0} (stream : R → Stream) (old new : Node R A) (x y : List
         let would : WouldBeFull start.limits.neighbours now key (neighbour_history c) = would_be_full stream start old c now key law s room in (
           d,
           adds_refusal start now source destination ns options later d from (refl, would) refl,
-          stands_quiet stream start new later d (refused_is_quiet now later (λ a. refl)) (passed stream start old new c now s le settled is),
+          stands_quiet stream start new later d (refused_is_quiet now (Full Neighbours) later (λ a. refl)) (passed stream start old new c now s le settled is),
           record {
             newer = (now, Refused (Full Neighbours)) ∷ [];
             told = ap (λ t. t ++ items_at (now, Refused (Full Neighbours))) (append-nil (items c)) ∙ ap (λ l. items c ++ l) (sym (append-nil (items_at (now, Refused (Full Neighbours)))));

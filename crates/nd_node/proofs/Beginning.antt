@@ -4,9 +4,9 @@ use Rattle.std.specs.Prelude.{if◌then◌else◌}
 use Rattle.rand_core.specs.Stream.{Stream}
 use Rattle.nd_addr.specs.declared.role.Role.{Role}
 use Rattle.nd_addr.specs.declared.role.Role.TheVariants.{Host, Router}
+use Rattle.nd_addr.specs.Same.{same_prefix}
 use Rattle.nd_table.specs.Due.{NotBefore}
 use Rattle.nd_lifetime.specs.Listing as lists
-use Rattle.nd_lifetime.specs.Same.{same_prefix}
 use Rattle.nd_neighbour.specs.Table as neighbours
 use Rattle.nd_slaac.specs.Table as addresses
 use Rattle.nd_slaac.specs.Calls.{formed}

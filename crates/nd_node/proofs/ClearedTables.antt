@@ -5,10 +5,10 @@ use Rattle.std.specs.List.{flat_map}
 use Rattle.rand_core.specs.Stream.{Stream}
 use Rattle.nd_addr.specs.declared.addr.Addr.{Addr}
 use Rattle.nd_addr.specs.Prefix.{PrefixValue}
+use Rattle.nd_addr.specs.Same.{same_prefix}
 use Rattle.nd_lifetime.specs.declared.lasting.Lasting.{Lasting}
 use Rattle.nd_lifetime.specs.History as lifetimes
 use Rattle.nd_lifetime.specs.Listing as lists
-use Rattle.nd_lifetime.specs.Same.{same_prefix}
 use Rattle.nd_dns.specs.Dns as dns
 use Rattle.nd_neighbour.specs.Entry as entries
 use Rattle.nd_neighbour.specs.Entry.{waiting_in}

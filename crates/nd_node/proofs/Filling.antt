@@ -6,6 +6,7 @@ use Rattle.nd_addr.specs.declared.addr.Addr.{Addr}
 use Rattle.nd_addr.specs.declared.mac.Mac.{Mac}
 use Rattle.nd_addr.specs.Number.{number_of}
 use Rattle.nd_addr.specs.Prefix.{PrefixValue}
+use Rattle.nd_addr.specs.Same.{same_addr, same_prefix}
 use Rattle.nd_decode.specs.Option.{Said}
 use Rattle.nd_decode.specs.Message.{Parts}
 use Rattle.nd_decode.specs.declared.router_advertisement.RouterAdvertisement.{RouterAdvertisement}
@@ -13,7 +14,6 @@ use Rattle.nd_lifetime.specs.declared.lasting.Lasting.{Lasting}
 use Rattle.nd_lifetime.specs.History as lifetimes
 use Rattle.nd_lifetime.specs.Listing.{Lists, open_at, fits}
 use Rattle.nd_lifetime.specs.Listing as lists
-use Rattle.nd_lifetime.specs.Same.{same_addr, same_prefix}
 use Rattle.nd_lifetime.proofs.Steps.{lists_at}
 use Rattle.nd_routers.specs.History.{RouterRow, announcements}
 use Rattle.nd_routers.specs.Routers as routers

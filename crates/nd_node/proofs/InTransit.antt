@@ -1,6 +1,7 @@
 -- A packet in transit, and the chronicle that a node stands for.
 use Rattle.std.proofs.Common.{◌≡◌, ◌↔◌, ℕ, ◌+◌, ◌-◌, ◌<◌, ◌≤◌, Bool, true, false, List, [], ◌∷◌, append-nil, length, take, Option, Some, None, refl, sym, ◌∙◌, ap, subst, arith}
-use Rattle.std.specs.Prelude.{if◌then◌else◌, is_some, ◌&&◌, ◌||◌}
+use Rattle.std.specs.Prelude.{if◌then◌else◌, is_some, ◌||◌}
+use Rattle.std.specs.Cmp.{first_so}
 use Rattle.rand_core.specs.Stream.{Stream}
 use Rattle.nd_addr.specs.declared.addr.Addr.{Addr}
 use Rattle.nd_addr.specs.declared.mac.Mac.{Mac}
@@ -54,17 +55,13 @@ placed_by (Some n) place never = refl
 placed_by None true never = refl
 placed_by None false never = absurd (never (refl, refl))
 
-and_first : (a b : Bool) → (a && b) ≡ true → a ≡ true
-and_first true b both = refl
-and_first false b both = both
-
 -- a second neighbour that had room before a packet to the first has place after it
 pub place_left : (limit now key next : ℕ) (old new : List entries.Node) → LeavesRoom limit now key old new → has_room limit now key (Some next) old ≡ true → has_room limit now next None new ≡ true
 place_left limit now key next old new leaves room = placed_by (node_in next new) (has_place limit now new) (λ none. leaves.has next room none)
 
 -- and the first one has place
 pub first_placed : (limit now key next : ℕ) (nodes : List entries.Node) → has_room limit now key (Some next) nodes ≡ true → has_room limit now key None nodes ≡ true
-first_placed limit now key next nodes room = and_first (has_first limit now key nodes) (has_second limit now key next nodes) room
+first_placed limit now key next nodes room = first_so (has_first limit now key nodes) (has_second limit now key next nodes) room
 
 -- and of two rings one is left for it
 pub one_left : (found : Bool) (before after : ℕ) → 2 ≤ before → after ≡ (if found then before else before - 1) → 0 < after

@@ -1,6 +1,6 @@
 -- What a node makes of a frame, and the chronicle that it stands for.
-use Rattle.std.proofs.Common.{◌≡◌, ◌↔◌, ◌≢◌, ℕ, ◌+◌, ◌-◌, ◌<◌, ◌≤◌, Bool, true, false, List, [], ◌∷◌, ◌++◌, length, take, drop, min, Result, Ok, Err, refl, sym, ◌∙◌, ap, subst, arith}
-use Rattle.std.specs.Prelude.{OnErr, slice_range}
+use Rattle.std.proofs.Common.{◌≡◌, ◌↔◌, ◌≢◌, ℕ, ◌+◌, ◌-◌, ◌<◌, ◌≤◌, Bool, true, false, List, [], ◌∷◌, ◌++◌, length, take, drop, min, refl, sym, ◌∙◌, ap, subst, arith}
+use Rattle.std.specs.Prelude.{slice_range}
 use Rattle.std.proofs.lemmas.List.{length-take, length-drop, take_min}
 use Rattle.rand_core.specs.Stream.{Stream}
 use Rattle.nd_addr.specs.declared.addr.Addr.{Addr}
@@ -95,10 +95,6 @@ module _ {R A : Type 0} (stream : R → Stream) (old new : Node R A) (x y : List
   goes_up packet out_is = alone (Up packet) (up_is_quiet now packet) out_is
 
 -- ---- it stands for the same
-
-pub on_err : {T E : Type 0} (r : Result T E) (P Q : Type 0) → (P → Q) → OnErr r P → OnErr r Q
-on_err (Ok x) P Q f h = tt
-on_err (Err e) P Q f h = f h
 
 pub stays_same : {R A : Type 0} (stream : R → Stream) (old new : Node R A) → new ≡ old → Stays stream old new
 stays_same stream old new is = record { each = λ start c s. rw is s }

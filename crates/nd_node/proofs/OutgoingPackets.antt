@@ -37,24 +37,9 @@ use Rattle.nd_node.specs.Time.{Leads}
 use Rattle.nd_node.proofs.Asking.{FullByHistory, RoomIsPlace, has_place_for, would_be_full}
 use Rattle.nd_node.proofs.Judging.{IsQuiet, alone, next_later, stays_keeps}
 use Rattle.nd_node.proofs.Steps.{passed}
+use Rattle.nd_node.proofs.Quiet.{refused_is_quiet}
 
 -- ---- what is told alone
-
-refused_is_quiet : (now : ℕ) (refusal : Refusal) → IsQuiet now (Refused refusal)
-refused_is_quiet now refusal c is = record {
-  parameters = refl;
-  neighbours = refl;
-  routers = refl;
-  prefixes = refl;
-  addresses = refl;
-  servers = refl;
-  names = refl;
-  redirects = refl;
-  solicited = refl;
-  router = λ start. refl;
-  stream = λ start. refl;
-  last = λ start. sym (is start);
-}
 
 lost_is_quiet : (now : ℕ) (why : Loss) (packet : List ℕ) → IsQuiet now (Lost why packet)
 lost_is_quiet now why packet c is = record {

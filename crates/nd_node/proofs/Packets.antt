@@ -30,7 +30,7 @@ use Rattle.nd_out.specs.declared.out.Out.{Out}
 use Rattle.nd_effects.specs.Packet.{told_of_packet}
 use Rattle.nd_effects.specs.Told.{at_moment, happenings}
 use Rattle.nd_effects.proofs.Quiet.{losing_is_quiet}
-use Rattle.nd_effects.proofs.Saying.{NoneOverdueStill, OneGoes, OverdueByTable}
+use Rattle.nd_effects.proofs.Saying.{NoneOverdueStill, OneGoes, OverdueByTable, pushed_history}
 use Rattle.nd_effects.proofs.Telling.{one}
 use Rattle.nd_node.specs.declared.node.Node.{Node}
 use Rattle.nd_node.specs.Node.{Stands, next_of}
@@ -40,10 +40,6 @@ use Rattle.nd_node.proofs.Beside.{Beside, Same, beside_neighbour, beside_quiet, 
 use Rattle.nd_node.proofs.Turns.{neighbours_before}
 
 -- ---- a neighbour that is pushed out
-
-pushed_history : (at : ℕ) (pushed : Option ℕ) (c : Chronicle) → neighbour_history (with_pushed at pushed c) ≡ pushing at pushed (neighbour_history c)
-pushed_history at None c = refl
-pushed_history at (Some key) c = refl
 
 pushed_addresses : (at : ℕ) (pushed : Option ℕ) (c : Chronicle) → address_history (with_pushed at pushed c) ≡ address_history c
 pushed_addresses at None c = refl

@@ -48,7 +48,7 @@ use Rattle.nd_effects.proofs.Telling.{one, above_silent, Tells-then, one_more}
 use Rattle.nd_node.specs.declared.node.Node.{Node}
 use Rattle.nd_node.specs.Hearing.{AddsMessage}
 use Rattle.nd_node.specs.Node.{Stands, next_of}
-use Rattle.nd_node.proofs.Quiet.{stands_quiet}
+use Rattle.nd_node.proofs.Quiet.{stands_quiet, refused_is_quiet}
 use Rattle.nd_node.proofs.RouterRows.{DrawsDelay, PlansAnswer, aside, aside_same, aside_then, stands_advertising, stands_aside}
 use Rattle.nd_node.proofs.Standing.{Apart, Still, apart_then, stands_at}
 use Rattle.nd_node.proofs.Steps.{passed}
@@ -92,22 +92,6 @@ plain_solicitation now source destination options = record {
   adds = λ start c placed place. (placed, place, refl);
   apart = λ c. record { parameters = refl; prefixes = refl; servers = refl; names = refl; assigned = λ k. refl; solicited = refl; router = λ start'. refl; stream = λ start. refl };
   routers = λ c. refl;
-}
-
-refused_is_quiet : (at : ℕ) (c : Chronicle) → ((start : ℕ) → last_moment start c ≡ at) → Quiet c ((at, Refused (Full Neighbours)) ∷ c)
-refused_is_quiet at c now = record {
-  parameters = refl;
-  neighbours = refl;
-  routers = refl;
-  prefixes = refl;
-  addresses = refl;
-  servers = refl;
-  names = refl;
-  redirects = refl;
-  solicited = refl;
-  router = λ start. refl;
-  stream = λ start. refl;
-  last = λ start. sym (now start);
 }
 
 -- time that passed makes no place
@@ -188,7 +172,7 @@ module _ {R A : Type 0} (stream : R → Stream) (old : Node R A) (now : ℕ) (so
         subst (λ (o : Option (ℕ × rows.RowKind)). Placed start later now (entering o) false) (said_is start c s) (placed_later start c now (option_map (said_by times) news) false (placed start c s)) in (
           (now, Refused (Full Neighbours)) ∷ later,
           (Some Neighbours, plain.fills start later (Some Neighbours) (record { neighbours = false; placed = rw (plain.needs_is later) placed'; first = refl }), refl),
-          stands_quiet stream start new later ((now, Refused (Full Neighbours)) ∷ later) (refused_is_quiet now later (λ at. refl)) stands',
+          stands_quiet stream start new later ((now, Refused (Full Neighbours)) ∷ later) (refused_is_quiet now (Full Neighbours) later (λ at. refl)) stands',
           record {
             newer = (now, Refused (Full Neighbours)) ∷ [];
             told = above_silent (items c) (items_at (now, Refused (Full Neighbours)));

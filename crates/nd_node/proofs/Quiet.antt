@@ -1,8 +1,8 @@
 -- A node stands for a chronicle with more that concerns no table.
-use Rattle.std.proofs.Common.{sym, ◌∙◌}
+use Rattle.std.proofs.Common.{◌≡◌, ℕ, ◌∷◌, refl, sym, ◌∙◌}
 use Rattle.rand_core.specs.Stream.{Stream}
 use Rattle.nd_chronicle.specs.Start.{Start}
-use Rattle.nd_chronicle.specs.Happening.{Chronicle}
+use Rattle.nd_chronicle.specs.Happening.{Chronicle, Refusal, Refused, last_moment}
 use Rattle.nd_effects.proofs.Quiet.{Quiet}
 use Rattle.nd_effects.proofs.RouterSide.{side_stands}
 use Rattle.nd_node.specs.declared.node.Node.{Node}
@@ -35,4 +35,21 @@ stands_quiet stream start node c d q s = record {
   servers_by_then = rw (q.servers, q.last start.at) s.servers_by_then;
   names_by_then = rw (q.names, q.last start.at) s.names_by_then;
   in_time = rw (q.last start.at) s.in_time;
+}
+
+-- a refusal concerns none
+pub refused_is_quiet : (at : ℕ) (refusal : Refusal) (c : Chronicle) → ((start : ℕ) → last_moment start c ≡ at) → Quiet c ((at, Refused refusal) ∷ c)
+refused_is_quiet at refusal c now = record {
+  parameters = refl;
+  neighbours = refl;
+  routers = refl;
+  prefixes = refl;
+  addresses = refl;
+  servers = refl;
+  names = refl;
+  redirects = refl;
+  solicited = refl;
+  router = λ start. refl;
+  stream = λ start. refl;
+  last = λ start. sym (now start);
 }

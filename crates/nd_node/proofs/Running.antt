@@ -1,6 +1,8 @@
 -- Events that come one after the other.
-use Rattle.std.proofs.Common.{◌≡◌, ℕ, zero, suc, ◌+◌, ◌<◌, List, [], ◌∷◌, ◌++◌, length, map, take, get_or, Result, Ok, Err, refl, sym, ◌∙◌, ap, subst, arith}
+use Rattle.std.proofs.Common.{◌≡◌, ℕ, zero, suc, ◌+◌, ◌<◌, List, [], ◌∷◌, ◌++◌, length, take, get_or, Result, Ok, Err, refl, sym, ◌∙◌, ap, subst, arith}
 use Rattle.std.specs.Prelude.{OnErr}
+use Rattle.std.proofs.lemmas.List.{length-map}
+use Rattle.std.proofs.Math.ListN.{get_or-map}
 use Rattle.rand_core.specs.Stream.{Stream}
 use Rattle.nd_chronicle.specs.Start.{Start}
 use Rattle.nd_chronicle.specs.Happening.{Chronicle}
@@ -14,19 +16,10 @@ use Rattle.nd_node.specs.Event.{event_of, events_of, FollowsBy, RunsBy, RunsInPa
 use Rattle.nd_node.specs.Time.{Leads, Onward}
 
 -- the events up to a place, and the one there
-take_more : {X : Type 0} (xs : List X) (i : ℕ) (x : X) → i < length xs → x ≡ get_or xs i x → take (suc i) xs ≡ take i xs ++ x ∷ []
+pub take_more : {X : Type 0} (xs : List X) (i : ℕ) (x : X) → i < length xs → x ≡ get_or xs i x → take (suc i) xs ≡ take i xs ++ x ∷ []
 take_more [] i x lt is = absurd (omega (arith, lt))
 take_more (y ∷ ys) zero x lt is = ap (λ z. z ∷ []) (sym is)
 take_more (y ∷ ys) (suc i) x lt is = ap (λ l. y ∷ l) (take_more ys i x (omega (arith, lt)) is)
-
-length-map : {X Y : Type 0} (f : X → Y) (xs : List X) → length (map f xs) ≡ length xs
-length-map f [] = refl
-length-map f (x ∷ xs) = ap suc (length-map f xs)
-
-get_or-map : {X Y : Type 0} (f : X → Y) (xs : List X) (i : ℕ) (x : X) → get_or (map f xs) i (f x) ≡ f (get_or xs i x)
-get_or-map f [] i x = refl
-get_or-map f (y ∷ ys) zero x = refl
-get_or-map f (y ∷ ys) (suc i) x = get_or-map f ys i x
 
 pub at_place : {A : Type 0} (list : List (ℕ × Event A)) (i : ℕ) (e : ℕ × Event A) → i < length list → e ≡ get_or list i e
     → take (i + 1) (events_of list) ≡ take i (events_of list) ++ (e.0, event_of e.1) ∷ []
@@ -34,7 +27,7 @@ at_place {A} list i e lt is =
     let f : ℕ × Event A → ℕ × events.Event = λ x. (x.0, event_of x.1) in
     let more : i + 1 ≡ suc i = omega arith in
     ap (λ (n : ℕ). take n (events_of list)) more
-    ∙ take_more (events_of list) i (f e) (subst (λ (n : ℕ). i < n) (sym (length-map f list)) lt) (ap f is ∙ sym (get_or-map f list i e))
+    ∙ take_more (events_of list) i (f e) (subst (λ (n : ℕ). i < n) (sym (length-map list f)) lt) (ap f is ∙ sym (get_or-map f list i e))
 
 -- whatever a failure is made of
 pub on_err_any : {T E : Type 0} (r : Result T E) (P : Type 0) → P → OnErr r P

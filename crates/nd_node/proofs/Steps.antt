@@ -1,8 +1,9 @@
 -- What an event does to the chronicle that a node stands for.
-use Rattle.std.proofs.Common.{◌≡◌, ℕ, suc, ◌<◌, ◌≤◌, Bool, true, false, List, [], ◌∷◌, ◌++◌, append-nil, refl, sym, ◌∙◌, ap, subst, arith}
-use Rattle.std.specs.Prelude.{nat_lt, MatchBool}
+use Rattle.std.proofs.Common.{◌≡◌, ℕ, suc, ◌<◌, ◌≤◌, false, List, [], ◌∷◌, ◌++◌, append-nil, refl, sym, ◌∙◌, ap, arith}
+use Rattle.std.specs.Prelude.{nat_lt}
 use Rattle.std.proofs.lemmas.Bool.{lt-ltb}
 use Rattle.rand_core.specs.Stream.{Stream}
+use Rattle.nd_table.proofs.Tests.{by_true, by_false}
 use Rattle.nd_chronicle.specs.Start.{Start}
 use Rattle.nd_chronicle.specs.Happening.{Chronicle, Passed, Shown, TooLate, last_moment}
 use Rattle.nd_chronicle.specs.Shown as shown
@@ -140,12 +141,6 @@ walk_last start c d moment end (passes soon due rest) le = walk_last start c d (
 
 not_before : (now last : ℕ) → last ≤ now → nat_lt now last ≡ false
 not_before now last le = grind (arith, le)
-
-by_false : (b : Bool) (P Q : Type 0) → b ≡ false → Q → MatchBool b P Q
-by_false b P Q is q = subst (λ (x : Bool). MatchBool x P Q) (sym is) q
-
-by_true : (b : Bool) (P Q : Type 0) → b ≡ true → P → MatchBool b P Q
-by_true b P Q is p = subst (λ (x : Bool). MatchBool x P Q) (sym is) p
 
 -- one that comes too late is told alone
 pub too_late : {R A : Type 0} (stream : R → Stream) (node : Node R A) (x y : List (ℕ × Out A)) (now : ℕ) (event : events.Event) (out : Out A) → happening out ≡ TooLate node.last → now < node.last

@@ -12,7 +12,7 @@ use Rattle.nd_neighbour.specs.History.{RowKind}
 use Rattle.nd_neighbour.specs.Table as cache
 use Rattle.nd_chronicle.specs.Start.{Start}
 use Rattle.nd_chronicle.specs.Happening as happenings
-use Rattle.nd_chronicle.specs.Happening.{Chronicle, Happening, Passed, Heard, Refused, Refusal, Full, last_moment}
+use Rattle.nd_chronicle.specs.Happening.{Chronicle, Happening, Passed, Heard, Refused, Full, last_moment}
 use Rattle.nd_chronicle.specs.Histories.{neighbour_history, said_of_neighbour}
 use Rattle.nd_chronicle.specs.Full.{entering, needs, Placed, AdvertisementFills}
 use Rattle.nd_chronicle.specs.RouterAdvertisement.{then_advertised}
@@ -23,30 +23,13 @@ use Rattle.nd_out.specs.Out.{happening}
 use Rattle.nd_effects.specs.LinkLayerAddress.{said_by}
 use Rattle.nd_effects.specs.Told.{Tells}
 use Rattle.nd_effects.specs.Told as told
-use Rattle.nd_effects.proofs.Quiet.{Quiet}
 use Rattle.nd_effects.proofs.Telling.{above_silent, handed_out, Tells-then}
 use Rattle.nd_node.specs.declared.node.Node.{Node}
 use Rattle.nd_node.specs.Hearing.{AddsMessage}
 use Rattle.nd_node.specs.Node.{Stands, next_of}
 use Rattle.nd_node.specs.RouterAdvertisement.{advertised, TakesAdvertisement}
-use Rattle.nd_node.proofs.Quiet.{stands_quiet}
+use Rattle.nd_node.proofs.Quiet.{stands_quiet, refused_is_quiet}
 use Rattle.nd_node.proofs.Steps.{passed}
-
-refused_is_quiet : (at : ℕ) (refusal : Refusal) (c : Chronicle) → ((start : ℕ) → last_moment start c ≡ at) → Quiet c ((at, Refused refusal) ∷ c)
-refused_is_quiet at refusal c now = record {
-  parameters = refl;
-  neighbours = refl;
-  routers = refl;
-  prefixes = refl;
-  addresses = refl;
-  servers = refl;
-  names = refl;
-  redirects = refl;
-  solicited = refl;
-  router = λ start. refl;
-  stream = λ start. refl;
-  last = λ start. sym (now start);
-}
 
 -- one is handed out, which is told as this
 tells_one : {A : Type 0} (c : Chronicle) (now : ℕ) (told_is what : Happening) (x y : List (ℕ × Out A)) (out : Out A) → happening out ≡ told_is → items_at (now, what) ≡ items_at (now, told_is) → y ≡ x ++ (now, out) ∷ []

@@ -2,10 +2,10 @@
 use Rattle.std.specs.Prelude.{◌≡◌, ℕ, Bool, true, List, [], ◌∷◌}
 use Rattle.nd_addr.specs.declared.addr.Addr.{Addr}
 use Rattle.nd_addr.specs.Number.{number_of}
+use Rattle.nd_addr.specs.Same.{same_addr, same_prefix}
 use Rattle.nd_decode.specs.Option.{Said}
 use Rattle.nd_decode.specs.declared.router_advertisement.RouterAdvertisement.{RouterAdvertisement}
 use Rattle.nd_lifetime.specs.Listing.{fits}
-use Rattle.nd_lifetime.specs.Same.{same_addr, same_prefix}
 use Rattle.nd_routers.specs.PrefixOptions as prefixes
 use Rattle.nd_routers.specs.Routers.{same}
 use Rattle.nd_slaac.specs.PrefixOption as addresses

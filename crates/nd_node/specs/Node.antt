@@ -3,9 +3,9 @@ use Rattle.std.specs.Prelude.{◌≡◌, ℕ, ◌+◌, ◌-◌, ◌<◌, ◌≤�
 use Rattle.rand_core.specs.Stream.{Stream}
 use Rattle.nd_addr.specs.declared.mac.Mac.{Mac}
 use Rattle.nd_addr.specs.declared.role.Role.{Role}
+use Rattle.nd_addr.specs.Same.{same_prefix}
 use Rattle.nd_lifetime.specs.History as lifetimes
 use Rattle.nd_lifetime.specs.Listing as lists
-use Rattle.nd_lifetime.specs.Same.{same_prefix}
 use Rattle.nd_neighbour.specs.Table as neighbours
 use Rattle.nd_neighbour.specs.Due as neighbour_dates
 use Rattle.nd_slaac.specs.Table as addresses

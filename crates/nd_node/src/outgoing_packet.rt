@@ -16,15 +16,13 @@ ghost use Rattle.nd_out.specs.Out.{loss_of, refusal_of};
 use crate::node::Node;
 use nd_addr::{Addr, Mac};
 use nd_effects::{OutgoingPacket, is_too_long, ready_for};
+use nd_frames::OPEN_MAC;
 use nd_nexthop::Hop;
 use nd_out::{Limit, Loss, Out, Refusal};
 use nd_slaac::Counted;
 use nd_waiting::Packet;
 use rand_core::Rng;
 use std::alloc::{AllocError, Allocator};
-
-/// What stands in the place of an Ethernet destination that is still open: the packet is addressed when it is sent.
-const OPEN_MAC: Mac = Mac([0; 6]);
 
 impl<R: Rng + Drop, A: Allocator + Clone> Node<R, A> {
     ghost use Rattle.nd_node.specs.Node.{Stands, next_of};

@@ -1,6 +1,6 @@
 ghost use Rattle.std.specs.Prelude.{◌≡◌, [], None, IfOk};
+ghost use Rattle.nd_addr.specs.Same.{same_prefix};
 ghost use Rattle.nd_lifetime.specs.Listing as lists;
-ghost use Rattle.nd_lifetime.specs.Same.{same_prefix};
 ghost use Rattle.nd_neighbour.specs.Table as neighbours;
 ghost use Rattle.nd_routers.specs.Routers as routers;
 ghost use Rattle.nd_dns.specs.Dns as dns;

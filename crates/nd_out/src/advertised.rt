@@ -1,11 +1,12 @@
 //! What a router advertises, as it is shown.
 
 ghost use Rattle.std.specs.Prelude.{◌≡◌, ◌++◌, ℕ, IfOk, OnOk, codes, is_some, map, string_bytes};
+ghost use Rattle.nd_text.specs.Flags.{flags_text};
 ghost use Rattle.nd_advertiser.specs.Table.{Stands};
 ghost use Rattle.nd_chronicle.specs.Start.{Start};
 ghost use Rattle.nd_chronicle.specs.Happening.{Chronicle};
 ghost use Rattle.nd_chronicle.specs.Histories.{advertising_history};
-ghost use Rattle.nd_chronicle.specs.Shown.{AreRows, AdvertiseTable, flags_text, lifetimes_text, offer_flags_text, on_text};
+ghost use Rattle.nd_chronicle.specs.Shown.{AreRows, AdvertiseTable, lifetimes_text, offer_flags_text, on_text};
 ghost use Rattle.nd_out.specs.Advertised.{advertise_rows_of};
 
 use crate::row::{Row, row_text, write_labelled, write_word};

@@ -6,8 +6,8 @@ ghost use Rattle.nd_text.specs.Digits.{hex_text};
 ghost use Rattle.nd_chronicle.specs.Shown.{key_text};
 ghost use Rattle.std.specs.Fmt.{decimal};
 ghost use Rattle.nd_chronicle.specs.Happening.{Lost, Shown};
-ghost use Rattle.nd_chronicle.specs.Told.{line_at, lines_of, told_of};
-ghost use Rattle.nd_out.specs.NodeLine.{line_from, node_lines};
+ghost use Rattle.nd_chronicle.specs.Told.{line_at, lines_of, node_lines, told_of};
+ghost use Rattle.nd_out.specs.NodeLine.{line_from};
 ghost use Rattle.nd_out.specs.Out.{happening, loss_of, out_lines, told};
 
 use crate::line::{write_address, write_front, write_line, write_moment, write_number};

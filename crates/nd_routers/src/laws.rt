@@ -5,7 +5,7 @@ ghost use Rattle.nd_lifetime.specs.declared.lasting.Lasting.{Lasting};
 ghost use Rattle.nd_lifetime.specs.History.{Row};
 ghost use Rattle.nd_lifetime.specs.Listing.{Lists};
 ghost use Rattle.nd_addr.specs.Prefix.{PrefixValue};
-ghost use Rattle.nd_lifetime.specs.Same.{same_prefix};
+ghost use Rattle.nd_addr.specs.Same.{same_prefix};
 ghost use Rattle.nd_routers.specs.History.{RouterRow};
 ghost use Rattle.nd_routers.specs.Routers.{Table, same, Stands};
 ghost use Rattle.nd_routers.specs.DefaultRouterSelection.{Failures};

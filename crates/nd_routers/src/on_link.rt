@@ -5,9 +5,9 @@ ghost use Rattle.nd_lifetime.specs.Listing.{open_at, Lists, Stands};
 ghost use Rattle.nd_addr.specs.Kind.{link_local_subnet};
 ghost use Rattle.nd_routers.specs.OnLink.{least_end};
 ghost use Rattle.nd_addr.specs.Prefix.{PrefixValue};
+ghost use Rattle.nd_addr.specs.Same.{same_prefix};
 ghost use Rattle.nd_lifetime.specs.declared.lasting.Lasting.{Lasting};
 ghost use Rattle.nd_lifetime.specs.History.{Row, last_moment};
-ghost use Rattle.nd_lifetime.specs.Same.{same_prefix};
 
 use crate::prefixes::Prefixes;
 use nd_addr::{Addr, Prefix};

@@ -1,11 +1,11 @@
 ghost use Rattle.std.specs.Prelude.{◌≡◌, ◌≤◌, ◌<◌, ◌^◌, ◌↔◌, List, IfErr, OnOk, OnErr, IsErr, false};
 ghost use Rattle.nd_routers.specs.PrefixOptions.{is_on_link, max_prefixes};
 ghost use Rattle.nd_addr.specs.Prefix.{PrefixValue};
+ghost use Rattle.nd_addr.specs.Same.{same_prefix};
 ghost use Rattle.nd_decode.specs.Pieces.{options_left};
 ghost use Rattle.nd_lifetime.specs.History.{Row, last_moment};
 ghost use Rattle.nd_lifetime.specs.Listing.{fits, announced_all, then_announced, Lists, Stands};
 ghost use Rattle.nd_lifetime.specs.declared.lasting.Lasting.{Lasting};
-ghost use Rattle.nd_lifetime.specs.Same.{same_prefix};
 
 use crate::prefixes::{MAX_PREFIXES, Prefixes};
 use nd_addr::Prefix;

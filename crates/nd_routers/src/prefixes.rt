@@ -1,10 +1,10 @@
 ghost use Rattle.std.specs.Prelude.{◌≡◌, ◌≤◌, ◌∷◌, ℕ, List, [], length, IfOk};
 ghost use Rattle.nd_addr.specs.Prefix.{PrefixValue};
+ghost use Rattle.nd_addr.specs.Same.{same_prefix};
 ghost use Rattle.nd_lifetime.specs.declared.lasting.Lasting.{Lasting};
 ghost use Rattle.nd_lifetime.specs.History.{Row, Cleared, last_moment};
 ghost use Rattle.nd_lifetime.specs.Listing.{open_at, Lists, Stands};
 ghost use Rattle.nd_lifetime.specs.Left.{standing_left};
-ghost use Rattle.nd_lifetime.specs.Same.{same_prefix};
 ghost use Rattle.nd_routers.specs.PrefixOptions.{max_prefixes};
 
 use nd_addr::Prefix;
@@ -28,7 +28,7 @@ impl<A: Allocator> Model for Prefixes<A> {
     ghost use Rattle.nd_routers.specs.PrefixOptions.{max_prefixes};
     ghost use Rattle.nd_lifetime.specs.declared.lasting.Lasting.{Lasting};
     ghost use Rattle.nd_lifetime.specs.Listing.{Distinct};
-    ghost use Rattle.nd_lifetime.specs.Same.{same_prefix};
+    ghost use Rattle.nd_addr.specs.Same.{same_prefix};
 
     ghost Value = { List (Lasting PrefixValue) };
 

@@ -8,10 +8,12 @@ use Rattle.nd_addr.proofs.Numbers.{in_prefix}
 use Rattle.nd_addr.specs.Bytes.{AreBytes}
 use Rattle.nd_addr.specs.Number.{Holds, holds}
 use Rattle.nd_addr.specs.Prefix.{IsPrefix, PrefixValue, masked}
+use Rattle.nd_addr.specs.Same.{same_prefix}
+use Rattle.nd_addr.proofs.SamePrefix.{same_is}
 use Rattle.nd_routes.specs.declared.route.Route.{Route}
 use Rattle.nd_routes.specs.History.{Row}
-use Rattle.nd_routes.specs.Routes.{AllShorter, NoneHolds, NoneLonger, is_same, longer, longest, prefixes, route_of, routes, with_routes}
-use Rattle.nd_routes.proofs.Prefixes.{has, known, same_is}
+use Rattle.nd_routes.specs.Routes.{AllShorter, NoneHolds, NoneLonger, longer, longest, prefixes, route_of, routes, with_routes}
+use Rattle.nd_routes.proofs.Prefixes.{has, known}
 
 -- it has no more bits than so many, if it is there
 abbrev Bounded : ℕ → Option (PrefixValue × Route) → Type 0
@@ -74,26 +76,26 @@ one_of_length a b address p q bytes len in_a in_b =
 
 -- what a look-up finds among prefixes with their routes
 abbrev found_among : PrefixValue → Option Route → List (PrefixValue × Route) → PrefixValue → Option Route
-found_among x o es p = lookup (is_same p) (option_to_list (option_map (λ (route : Route). (x, route)) o) ++ es)
+found_among x o es p = lookup (same_prefix p) (option_to_list (option_map (λ (route : Route). (x, route)) o) ++ es)
 
-passes : (p x : PrefixValue) (o : Option Route) (es : List (PrefixValue × Route)) → is_same p x ≡ false → found_among x o es p ≡ lookup (is_same p) es
+passes : (p x : PrefixValue) (o : Option Route) (es : List (PrefixValue × Route)) → same_prefix p x ≡ false → found_among x o es p ≡ lookup (same_prefix p) es
 passes p x None es differ = refl
-passes p x (Some r) es differ = cond-false (is_same p x) (Some r) (lookup (is_same p) es) differ
+passes p x (Some r) es differ = cond-false (same_prefix p x) (Some r) (lookup (same_prefix p) es) differ
 
-finds : (p x : PrefixValue) (o : Option Route) (es : List (PrefixValue × Route)) → is_same p x ≡ true → is_some o ≡ true → found_among x o es p ≡ o
+finds : (p x : PrefixValue) (o : Option Route) (es : List (PrefixValue × Route)) → same_prefix p x ≡ true → is_some o ≡ true → found_among x o es p ≡ o
 finds p x None es same there = absurd (false≢true there)
-finds p x (Some r) es same there = cond-true (is_same p x) (Some r) (lookup (is_same p) es) same
+finds p x (Some r) es same there = cond-true (same_prefix p x) (Some r) (lookup (same_prefix p) es) same
 
 -- where it isn't among them, nothing is found
-lacks : (p : PrefixValue) (history : List Row) (ps : List PrefixValue) → has p ps ≡ false → lookup (is_same p) (with_routes ps history) ≡ None
+lacks : (p : PrefixValue) (history : List Row) (ps : List PrefixValue) → has p ps ≡ false → lookup (same_prefix p) (with_routes ps history) ≡ None
 lacks p history [] h = refl
 lacks p history (x ∷ ps) h =
-    let parts = or_parts (is_same p x) (has p ps) h in
+    let parts = or_parts (same_prefix p x) (has p ps) h in
     passes p x (route_of x history) (with_routes ps history) parts.0 ∙ lacks p history ps parts.1
 
-look_among : (p : PrefixValue) (history : List Row) (ps : List PrefixValue) → has p ps ≡ true → is_some (route_of p history) ≡ true → lookup (is_same p) (with_routes ps history) ≡ route_of p history
+look_among : (p : PrefixValue) (history : List Row) (ps : List PrefixValue) → has p ps ≡ true → is_some (route_of p history) ≡ true → lookup (same_prefix p) (with_routes ps history) ≡ route_of p history
 look_among p history [] h there = absurd (false≢true h)
-look_among p history (x ∷ ps) h there = elim (cases_Bool (is_same p x)) [
+look_among p history (x ∷ ps) h there = elim (cases_Bool (same_prefix p x)) [
   | inl same ↦
       let one : route_of x history ≡ route_of p history = ap (λ y. route_of y history) (sym (same_is p x same)) in
       finds p x (route_of x history) (with_routes ps history) same (ap is_some one ∙ there) ∙ one
@@ -106,7 +108,7 @@ no_some : (o : Option Route) → is_some o ≡ false → None ≡ o
 no_some None h = refl
 no_some (Some r) h = absurd (false≢true (sym h))
 
-pub look_routes : (history : List Row) (p : PrefixValue) → lookup (is_same p) (routes history) ≡ route_of p history
+pub look_routes : (history : List Row) (p : PrefixValue) → lookup (same_prefix p) (routes history) ≡ route_of p history
 look_routes history p = elim (cases_Bool (is_some (route_of p history))) [
   | inl there ↦ look_among p history (prefixes history) (known p history ∙ there) there
   | inr absent ↦ lacks p history (prefixes history) (known p history ∙ absent) ∙ no_some (route_of p history) absent

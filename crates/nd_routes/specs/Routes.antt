@@ -1,8 +1,9 @@
 -- The static routes of a router, and the longest one to an address.
-use Rattle.std.specs.Prelude.{◌≡◌, false, ℕ, ◌<◌, ◌≤◌, ◌==◌, nat_lt, Bool, true, ◌&&◌, ◌||◌, if◌then◌else◌, List, [], ◌∷◌, ◌++◌, length, Option, Some, None, is_some, option_map, option_to_list, bytes_eq}
+use Rattle.std.specs.Prelude.{◌≡◌, false, ℕ, ◌<◌, ◌≤◌, nat_lt, Bool, true, ◌||◌, if◌then◌else◌, List, [], ◌∷◌, ◌++◌, length, Option, Some, None, is_some, option_map, option_to_list}
 use Rattle.std.specs.Map.{lookup}
 use Rattle.nd_addr.specs.Number.{holds}
 use Rattle.nd_addr.specs.Prefix.{PrefixValue}
+use Rattle.nd_addr.specs.Same.{same_prefix}
 use Rattle.nd_routes.specs.declared.route.Route.{Route}
 use Rattle.nd_routes.specs.History.{Row, RoutePut, RedirectMade}
 
@@ -10,14 +11,10 @@ use Rattle.nd_routes.specs.History.{Row, RoutePut, RedirectMade}
 abbrev pub max_routes : ℕ
 max_routes = 64
 
--- two prefixes are one
-abbrev pub is_same : PrefixValue → PrefixValue → Bool
-is_same a b = bytes_eq a.address.0 b.address.0 && (a.length == b.length)
-
 -- the route that was put last for a prefix
 abbrev pub route_of : PrefixValue → List Row → Option Route
 route_of p [] = None
-route_of p (RoutePut prefix route ∷ history) = if is_same prefix p then Some route else route_of p history
+route_of p (RoutePut prefix route ∷ history) = if same_prefix prefix p then Some route else route_of p history
 route_of p (RedirectMade at ∷ history) = route_of p history
 
 -- the prefixes that have routes, in the order in which each was first put
@@ -38,7 +35,7 @@ routes history = with_routes (prefixes history) history
 
 -- the prefix is among those of the routes
 abbrev pub has_route : PrefixValue → List (PrefixValue × Route) → Bool
-has_route p es = is_some (lookup (is_same p) es)
+has_route p es = is_some (lookup (same_prefix p) es)
 
 -- one more route can be put: it replaces one, or there are fewer than 64
 abbrev pub fits : PrefixValue → List (PrefixValue × Route) → Bool

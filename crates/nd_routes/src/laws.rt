@@ -5,15 +5,16 @@ ghost use Rattle.std.specs.Map.{lookup};
 ghost use Rattle.nd_addr.specs.Bytes.{AreBytes};
 ghost use Rattle.nd_addr.specs.Number.{Holds, holds};
 ghost use Rattle.nd_addr.specs.Prefix.{IsPrefix, PrefixValue};
+ghost use Rattle.nd_addr.specs.Same.{same_prefix};
 ghost use Rattle.nd_routes.specs.History.{Row};
-ghost use Rattle.nd_routes.specs.Routes.{AllShorter, NoneHolds, NoneLonger, is_same, longest, route_of, routes};
+ghost use Rattle.nd_routes.specs.Routes.{AllShorter, NoneHolds, NoneLonger, longest, route_of, routes};
 ghost use Rattle.nd_routes.specs.Table.{Stands, Table};
 ghost use Rattle.nd_routes.specs.declared.route.Route.{Route};
 
 /// What happened gives one table, in which each prefix has the route that was put last for it.
 pub fn one_answer()
     ensures table { (history : List Row) (a b : Table) → Stands a history → Stands b history → a ≡ b }
-    ensures found { (history : List Row) (prefix : PrefixValue) → lookup (is_same prefix) (routes history) ≡ route_of prefix history }
+    ensures found { (history : List Row) (prefix : PrefixValue) → lookup (same_prefix prefix) (routes history) ≡ route_of prefix history }
 {}
 
 /// The longest route to an address is one that holds it where none that holds it is longer; there is none where none holds it.

@@ -3,7 +3,8 @@ ghost use Rattle.nd_routes.specs.History.{Row, RoutePut};
 ghost use Rattle.nd_routes.specs.KeptRoutes.{routes_left};
 ghost use Rattle.indexmap.specs.IndexMap.{insert_entry, spare};
 ghost use Rattle.nd_addr.specs.Number.{holds};
-ghost use Rattle.nd_routes.specs.Routes.{exceeds, fits, has_route, is_same, max_routes, route_to, routes};
+ghost use Rattle.nd_addr.specs.Same.{same_prefix};
+ghost use Rattle.nd_routes.specs.Routes.{exceeds, fits, has_route, max_routes, route_to, routes};
 ghost use Rattle.nd_routes.specs.Table.{GainsRow, Stands};
 
 use crate::kept_routes::KeptRoutes;
@@ -110,7 +111,7 @@ impl<A: Allocator> Routes<A> {
 /// A route takes the place of the one that its prefix has, where it has one.
 fn replace<A: Allocator>(entries: &mut Entries<A>, prefix: Prefix, route: Route) -> bool
     ensures found { result ≡ has_route prefix entries.old.entries }
-    ensures entries { result ≡ true → entries.new.entries ≡ insert_entry is_same entries.old.entries prefix route }
+    ensures entries { result ≡ true → entries.new.entries ≡ insert_entry same_prefix entries.old.entries prefix route }
     ensures len { result ≡ true → length entries.new.entries ≡ length entries.old.entries }
     ensures room { result ≡ true → spare entries.new ≡ spare entries.old }
     ensures same { result ≡ false → entries.new ≡ entries.old }

@@ -14,5 +14,6 @@ pub mod RouteWords
 pub mod CommandWords
 pub mod Lines
 pub mod Labels
+pub mod Said
 pub mod Runs
 pub mod OneText

@@ -1,12 +1,9 @@
 -- What lines lead a node to.
-use Rattle.std.proofs.Common.{◌≡◌, ◌+◌, ℕ, List, [], ◌∷◌, ◌++◌, Option, Some, None, Ok, Err, refl, sym, ap, subst, ◌∙◌, append_assoc, append-nil}
-use Rattle.std.specs.Prelude.{Result, OnOk, OnErr}
+use Rattle.std.proofs.Common.{◌≡◌, ◌+◌, ℕ, List, [], ◌∷◌, ◌++◌, refl, sym, ap, subst, ◌∙◌, append_assoc}
 use Rattle.std.specs.List.{flat_map}
 use Rattle.rand_core.specs.Stream.{Stream}
-use Rattle.nd_io.specs.Answers.{ComesFirst, EndsWell, Texts}
+use Rattle.nd_io.specs.Answers.{ComesFirst, EndsWell}
 use Rattle.nd_io.specs.Lines.{lines_of}
-use Rattle.nd_io.specs.Told.{TellsFront}
-use Rattle.nd_io.specs.Written.{AppendsFront}
 use Rattle.nd_io.specs.ToldLaws.{Allows, GoesOn}
 use Rattle.nd_chronicle.specs.Start.{Start}
 use Rattle.nd_chronicle.specs.Happening.{Chronicle}
@@ -24,16 +21,10 @@ use Rattle.nd_node.specs.Event.{FollowsBy}
 use Rattle.nd_node.specs.Node.{Stands}
 use Rattle.nd_node.specs.Time as time
 use Rattle.nd_script.specs.Line.{IsLine}
-use Rattle.nd_script.specs.Script.{Says, SayFrom, stops, says, Say, Leads, IsText}
+use Rattle.nd_script.specs.Script.{Leads, IsText}
 use Rattle.nd_script.specs.Answer.{AnswersEvent}
-
-pub on_ok : {T E : Type 0} (r : Result T E) (P Q : Type 0) → (P → Q) → OnOk r P → OnOk r Q
-on_ok (Ok x) P Q f h = f h
-on_ok (Err e) P Q f h = tt
-
-pub on_err : {T E : Type 0} (r : Result T E) (P Q : Type 0) → (P → Q) → OnErr r P → OnErr r Q
-on_err (Ok x) P Q f h = tt
-on_err (Err e) P Q f h = f h
+use Rattle.nd_script.specs.Said.{Says, says}
+use Rattle.nd_script.proofs.Said.{OneReading, say_begins}
 
 -- ---- the answer to an event
 
@@ -53,7 +44,7 @@ event_answered stream old new at event outs before after leads written = record 
 }
 
 -- a line that says an event comes before what later lines say
-pub event_first : {R A : Type 0} (stream : R → Stream) (old new : Node R A) (line : List ℕ) (at : ℕ) (event : events.Event) (before after : List ℕ) → Says line at event
+pub event_first : {R A : Type 0} (stream : R → Stream) (old new : Node R A) (line : List ℕ) (at : ℕ) (event : events.Event) (before after : List ℕ) → Says IsLine line at event
     → (a : AnswersEvent stream old new at event before after) → ComesFirst (Leads stream old) (Leads stream new) line a.told
 event_first stream old new line at event before after said a n lines later found given = record {
   each = λ start c s.
@@ -76,16 +67,6 @@ from_start stream start node s n lines told found given =
     let on = given.each start (beginning start) s in
     record { said = on.said; say = on.say; chronicle = on.end; is_theirs = on.runs; text_is = sym on.text_is }
 
--- nothing was written yet
-pub nothing_written : (texts : Texts) (input old : Option (List ℕ)) → EndsWell texts → TellsFront texts input old old
-nothing_written texts None old ends = tt
-nothing_written texts (Some input) old ends =
-    record { first = []; later = lines_of input; lines_are = refl; text = []; is_theirs = ends 1; written = none old }
-  where
-    none : (old : Option (List ℕ)) → AppendsFront old old []
-    none None = ([], ([], refl, tt))
-    none (Some bytes) = ([], ([], refl, sym (append-nil bytes)))
-
 pub no_text : (start : Start) → EndsWell (IsText start)
 no_text start n = record { said = []; say = (refl, refl); chronicle = beginning start; is_theirs = refl; text_is = refl }
 
@@ -93,29 +74,10 @@ no_text start n = record { said = []; say = (refl, refl); chronicle = beginning 
 
 -- the laws that are asked for
 pub record Laws : Type 0 where
-  pub one_reading : (line : List ℕ) (at other_at : ℕ) (event other_event : events.Event) → IsLine line at event → IsLine line other_at other_event → (at ≡ other_at) × (event ≡ other_event)
+  pub one_reading : OneReading IsLine
   pub one_chronicle : (start : Start) (said : List (ℕ × events.Event)) (c d : Chronicle) → IsChronicle start said c → IsChronicle start said d → c ≡ d
   pub rows : (start : Start) (said : List (ℕ × events.Event)) (c d : Chronicle) → Runs start c said d → Grows c d
   pub told : (newer c : Chronicle) → text (newer ++ c) ≡ text c ++ text newer
-
-abbrev Begins : List (ℕ × events.Event) → List (ℕ × events.Event) → Type 0
-Begins few all = (rest : List (ℕ × events.Event)) × (all ≡ few ++ rest)
-
-line_begins : Laws → (n : ℕ) (line : List ℕ) (All Few : List (ℕ × events.Event) → Option ℕ → Type 0) (all few : List (ℕ × events.Event)) (found other : Option ℕ)
-    → ((a f : List (ℕ × events.Event)) → All a found → Few f None → Begins f a)
-    → SayFrom n line All all found → SayFrom n line Few few other → other ≡ None → Begins few all
-line_begins laws n line All Few all few found other later (stops nothing) (stops other_nothing) e = let no : ⊥ = cc in absurd no
-line_begins laws n line All Few all few found other later (stops nothing) (says at event s l) e = absurd (nothing at event s)
-line_begins laws n line All Few all few found other later (says at event s l) (stops nothing) e = let no : ⊥ = cc in absurd no
-line_begins laws n line All Few all few found other later (says at event {later = a} s l) (says at' event' {later = f} s' l') e =
-    let same = laws.one_reading line at at' event event' s.spelled s'.spelled in
-    let begins = later a f l (subst (λ (o : Option ℕ). Few f o) e l') in
-    (begins.0, cc)
-
-say_begins : Laws → (first later : List (List ℕ)) (n : ℕ) (all few : List (ℕ × events.Event)) (found : Option ℕ) → Say n (first ++ later) all found → Say n first few None → Begins few all
-say_begins laws [] later n all few found f g = (all, ap (λ l. l ++ all) (sym g.0))
-say_begins laws (line ∷ first) later n all few found f g =
-    line_begins laws n line (Say (n + 1) (first ++ later)) (Say (n + 1) first) all few found None (λ a f'. say_begins laws first later (n + 1) a f' found) f g refl
 
 -- a history leads to where its beginning led, and from there on
 runs_split : (start : Start) (xs ys : List (ℕ × events.Event)) (c d : Chronicle) → Runs start c (xs ++ ys) d → (m : Chronicle) × Runs start c xs m × Runs start m ys d
@@ -127,7 +89,7 @@ runs_split start (x ∷ xs) ys c d r =
 -- a text of the first few lines begins each text of them all
 pub start_goes_on : Laws → (start : Start) → GoesOn (IsText start)
 start_goes_on laws start n first later all few found f g =
-    let begins = say_begins laws first later n f.said g.said found f.say g.say in
+    let begins = say_begins IsLine laws.one_reading first later n f.said g.said found f.say g.say in
     let split = runs_split start g.said begins.0 (beginning start) f.chronicle (subst (λ (s : List (ℕ × events.Event)). Runs start (beginning start) s f.chronicle) begins.1 f.is_theirs) in
     let same = laws.one_chronicle start g.said split.0 g.chronicle split.1 g.is_theirs in
     let grows = laws.rows start begins.0 split.0 f.chronicle split.2 in (

@@ -1,6 +1,5 @@
 pub mod Words
 pub mod Number
-pub mod Flags
 pub mod Bytes
 pub mod Address
 pub mod Packet
@@ -11,6 +10,7 @@ pub mod Route
 pub mod Command
 pub mod Line
 pub mod Source
+pub mod Said
 pub mod Script
 pub mod ScriptLaws
 pub mod Answer

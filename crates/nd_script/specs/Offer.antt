@@ -1,9 +1,9 @@
 -- The words that stand for a prefix that a router is to advertise (RFC 4861, section 6.2.1; the texts are this project's own).
 use Rattle.std.specs.Prelude.{◌≡◌, ℕ, ◌^◌, List, [], ◌∷◌, None, codes}
+use Rattle.nd_text.specs.Flags.{flags_text}
 use Rattle.nd_addr.specs.Spelling.{SpellsPrefix}
 use Rattle.nd_decode.specs.declared.prefix_info.PrefixInfo.{PrefixInfo}
 use Rattle.nd_advertiser.specs.Offer.{offer_fault}
-use Rattle.nd_script.specs.Flags.{flags_word}
 use Rattle.nd_script.specs.Number.{IsNumberOr}
 use Rattle.nd_script.specs.Words.{words_of}
 
@@ -20,7 +20,7 @@ abbrev pub SpellOffer : List (List ℕ) → PrefixInfo → Type 0
 SpellOffer (prefix ∷ valid ∷ preferred ∷ flags ∷ []) info =
     SpellsPrefix prefix info.prefix × IsNumberOr default_valid_lifetime (2 ^ 32) valid info.valid_lifetime
     × IsNumberOr default_preferred_lifetime (2 ^ 32) preferred info.preferred_lifetime
-    × (flags ≡ flags_word info.on_link info.autonomous (codes "l") (codes "a"))
+    × (flags ≡ flags_text info.on_link info.autonomous (codes "l") (codes "a"))
 SpellOffer _ info = ⊥
 
 -- the text spells the offer, word by word, and it breaks no rule

@@ -6,7 +6,9 @@ use Rattle.nd_io.specs.Answers.{EndsWell, IsMalformed}
 use Rattle.nd_io.specs.Lines.{longest_line}
 use Rattle.nd_chronicle.specs.Told.{text}
 use Rattle.nd_node.specs.declared.node.Node.{Node}
-use Rattle.nd_script.specs.Script.{SaysNothing, stops, Leads}
+use Rattle.nd_script.specs.Script.{Leads}
+use Rattle.nd_script.specs.Line.{IsLine}
+use Rattle.nd_script.specs.Said.{SaysNothing, stops}
 
 module _ {R A : Type 0} (stream : R → Stream) (node : Node R A) where
   -- no line leads nowhere
@@ -14,7 +16,7 @@ module _ {R A : Type 0} (stream : R → Stream) (node : Node R A) where
   no_line n = record { each = λ start c s. record { said = []; say = (refl, refl); end = c; runs = refl; text_is = sym (append-nil (text c)) } }
 
   -- a malformed line leads nowhere
-  pub malformed_line : (line : List ℕ) → SaysNothing line → IsMalformed (Leads stream node) line
+  pub malformed_line : (line : List ℕ) → SaysNothing IsLine line → IsMalformed (Leads stream node) line
   malformed_line line nothing n lines = record { each = λ start c s. record { said = []; say = stops nothing; end = c; runs = refl; text_is = sym (append-nil (text c)) } }
 
   -- a line that is too long is malformed

@@ -1,12 +1,12 @@
 //! The words of a script that stand for two flags.
 
 ghost use Rattle.std.specs.Prelude.{◌≡◌, Bool, codes, Some, IfSome};
-ghost use Rattle.nd_script.specs.Flags.{flags_word};
+ghost use Rattle.nd_text.specs.Flags.{flags_text};
 
 /// The flags M and O of a Router Advertisement that a word spells (RFC 4861, section 4.2).
 pub(crate) fn read_router_flags(word: &[u8]) -> Option<(bool, bool)>
-    ensures found { IfSome result (λ set. word.now ≡ flags_word set.0 set.1 (codes "m") (codes "o")) }
-    ensures only { (managed other : Bool) → word.now ≡ flags_word managed other (codes "m") (codes "o") → result ≡ Some (managed, other) }
+    ensures found { IfSome result (λ set. word.now ≡ flags_text set.0 set.1 (codes "m") (codes "o")) }
+    ensures only { (managed other : Bool) → word.now ≡ flags_text managed other (codes "m") (codes "o") → result ≡ Some (managed, other) }
 {
     if word == b"-".as_slice() {
         return Some((false, false));
@@ -25,8 +25,8 @@ pub(crate) fn read_router_flags(word: &[u8]) -> Option<(bool, bool)>
 
 /// The flags L and A of a prefix that a word spells (RFC 4861, section 4.6.2).
 pub(crate) fn read_prefix_flags(word: &[u8]) -> Option<(bool, bool)>
-    ensures found { IfSome result (λ set. word.now ≡ flags_word set.0 set.1 (codes "l") (codes "a")) }
-    ensures only { (on_link autonomous : Bool) → word.now ≡ flags_word on_link autonomous (codes "l") (codes "a") → result ≡ Some (on_link, autonomous) }
+    ensures found { IfSome result (λ set. word.now ≡ flags_text set.0 set.1 (codes "l") (codes "a")) }
+    ensures only { (on_link autonomous : Bool) → word.now ≡ flags_text on_link autonomous (codes "l") (codes "a") → result ≡ Some (on_link, autonomous) }
 {
     if word == b"-".as_slice() {
         return Some((false, false));

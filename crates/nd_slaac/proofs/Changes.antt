@@ -1,6 +1,6 @@
 -- What one more row makes of an address.
 use Rattle.std.proofs.Common.{◌≡◌, ℕ, ◌+◌, ◌*◌, Bool, true, false, ltb, ◌∷◌, Option, Some, None, refl, sym, ◌∙◌, ap, subst, arith, inl, inr}
-use Rattle.nd_table.proofs.Cases.{either}
+use Rattle.std.proofs.lemmas.Bool.{cases_Bool}
 use Rattle.nd_slaac.specs.declared.stage.Stage.TheVariants.{Detecting}
 use Rattle.nd_slaac.specs.History as kinds
 use Rattle.nd_slaac.specs.History.{Story, Lifetimes}
@@ -27,7 +27,7 @@ detecting key f s c w = detecting_by key f (has_conflict s) (was_assigned s) (se
 
 -- a step of a detection that goes on
 stepping : (key at : ℕ) (s : Story) (f : Forming) → forming_of s ≡ Some f → has_conflict s ≡ false → was_assigned s ≡ false → step_at f (sent_of s) ≡ at → let a : Address = record { key = key; preferred_end = preferred_end s; valid_end = valid_end s; stage = Detecting (sent_of s) (step_at f (sent_of s)) f.retrans } in address_of key ((at, happens (falls_by key a.stage)) ∷ s) ≡ Some (stepped at a)
-stepping key at s f is c w d = elim (either (ltb (sent_of s) dup_addr_detect_transmits)) [
+stepping key at s f is c w d = elim (cases_Bool (ltb (sent_of s) dup_addr_detect_transmits)) [
   | inl more ↦
       let e : step_at f (sent_of s + 1) ≡ at + f.retrans = omega (arith, d) in
       rw more (rw (is, c, w, e) refl)

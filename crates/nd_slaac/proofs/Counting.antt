@@ -2,10 +2,9 @@
 use Rattle.std.proofs.Common.{◌≡◌, ℕ, ◌+◌, ◌<◌, ◌≤◌, Bool, true, false, cond, eqb, ltb, leb, List, [], ◌∷◌, length, Some, refl, sym, ◌∙◌, ap, arith, suc, inl, inr}
 use Rattle.std.specs.Prelude.{is_some, ◌&&◌, ◌||◌, not, IsOk, IfSome, Result, Ok, Err}
 use Rattle.std.proofs.lemmas.Bool.Decides.{nat_tests}
-use Rattle.std.proofs.lemmas.Bool.{true≢false, eqb-true, eq-eqb}
+use Rattle.std.proofs.lemmas.Bool.{true≢false, eqb-true, eq-eqb, cases_Bool}
 use Rattle.nd_addr.specs.declared.mac.Mac.{Mac}
 use Rattle.nd_decode.specs.declared.prefix_info.PrefixInfo.{PrefixInfo}
-use Rattle.nd_table.proofs.Cases.{either}
 use Rattle.nd_table.proofs.Keyed.{put_in}
 use Rattle.nd_slaac.specs.declared.prefix_option.Taken.{Taken}
 use Rattle.nd_slaac.specs.declared.prefix_option.Taken.TheVariants.{Formed, Renewed, Ignored}
@@ -34,9 +33,9 @@ step_by f g h false n m e ft hf gf = rw ft (omega (arith, e))
 -- with one more address known, the options form one address less, if they form that one
 one_less : (mac : Mac) (key : ℕ) (keys : List ℕ) (infos : List PrefixInfo) → is_among key keys ≡ false → new_in mac keys infos ≡ new_in mac (key ∷ keys) infos + count_if (is_formed_by mac key infos)
 one_less mac key keys [] new = refl
-one_less mac key keys (info ∷ infos) new = elim (either (is_forming info)) [
+one_less mac key keys (info ∷ infos) new = elim (cases_Bool (is_forming info)) [
   | inr idle ↦ rw idle (one_less mac key keys infos new)
-  | inl forms ↦ elim (either (eqb (named_by mac info) key)) [
+  | inl forms ↦ elim (cases_Bool (eqb (named_by mac info) key)) [
     | inl same ↦
         let e : named_by mac info ≡ key = eqb-true (named_by mac info) key same in
         let back : eqb key (named_by mac info) ≡ true = eq-eqb key (named_by mac info) (sym e) in
@@ -54,7 +53,7 @@ one_less mac key keys (info ∷ infos) new = elim (either (is_forming info)) [
     other_by false c n m e = e
 
 room_by : (b : Bool) (len n : ℕ) → len ≤ 64 → (suc len ≤ 64 → b ≡ leb (suc len + n) 64) → (ltb len 64 && b) ≡ leb (len + (n + 1)) 64
-room_by b len n few rest = elim (either (ltb len 64)) [
+room_by b len n few rest = elim (cases_Bool (ltb len 64)) [
   | inl lt ↦
       let lt' : suc len ≤ 64 = grind (arith, nat_tests, lt) in
       let e : suc len + n ≡ len + (n + 1) = omega arith in
@@ -67,7 +66,7 @@ room_by b len n few rest = elim (either (ltb len 64)) [
 -- there is room where those that are known and those that would be new are few enough
 pub fits_count : (mac : Mac) (keys : List ℕ) (infos : List PrefixInfo) → length keys ≤ 64 → fits_in mac keys infos ≡ leb (length keys + new_in mac keys infos) 64
 fits_count mac keys [] few = let e : leb (length keys + 0) 64 ≡ true = grind (arith, nat_tests, few) in sym e
-fits_count mac keys (info ∷ infos) few = elim (either (would_form mac keys info)) [
+fits_count mac keys (info ∷ infos) few = elim (cases_Bool (would_form mac keys info)) [
   | inr idle ↦ rw idle (fits_count mac keys infos few)
   | inl forms ↦
       let key = named_by mac info in
@@ -102,9 +101,9 @@ refused full = Err full
 -- what becomes of an option tells how its address was
 formed_parts : (known : Bool) (valid count : ℕ) → Ok Formed ≡ taken_by known valid count → (known ≡ false) × (eqb valid 0 ≡ false) × (ltb count 64 ≡ true)
 formed_parts true valid count h = absurd (cc)
-formed_parts false valid count h = elim (either (eqb valid 0)) [
+formed_parts false valid count h = elim (cases_Bool (eqb valid 0)) [
   | inl z ↦ let e : did Formed ≡ did Ignored = rw z at h in absurd (cc)
-  | inr nz ↦ elim (either (ltb count 64)) [
+  | inr nz ↦ elim (cases_Bool (ltb count 64)) [
     | inl room ↦ (refl, nz, room)
     | inr full ↦ let e : did Formed ≡ refused (record {}) = rw (nz, full) at h in absurd (cc)
   ]
@@ -112,9 +111,9 @@ formed_parts false valid count h = elim (either (eqb valid 0)) [
 
 renewed_parts : (known : Bool) (valid count : ℕ) → Ok Renewed ≡ taken_by known valid count → known ≡ true
 renewed_parts true valid count h = refl
-renewed_parts false valid count h = elim (either (eqb valid 0)) [
+renewed_parts false valid count h = elim (cases_Bool (eqb valid 0)) [
   | inl z ↦ let e : did Renewed ≡ did Ignored = rw z at h in absurd (cc)
-  | inr nz ↦ elim (either (ltb count 64)) [
+  | inr nz ↦ elim (cases_Bool (ltb count 64)) [
     | inl room ↦ let e : did Renewed ≡ did Formed = rw (nz, room) at h in absurd (cc)
     | inr full ↦ let e : did Renewed ≡ refused (record {}) = rw (nz, full) at h in absurd (cc)
   ]
@@ -122,9 +121,9 @@ renewed_parts false valid count h = elim (either (eqb valid 0)) [
 
 ignored_parts : (known : Bool) (valid count : ℕ) → Ok Ignored ≡ taken_by known valid count → eqb valid 0 ≡ true
 ignored_parts true valid count h = absurd (cc)
-ignored_parts false valid count h = elim (either (eqb valid 0)) [
+ignored_parts false valid count h = elim (cases_Bool (eqb valid 0)) [
   | inl z ↦ z
-  | inr nz ↦ elim (either (ltb count 64)) [
+  | inr nz ↦ elim (cases_Bool (ltb count 64)) [
     | inl room ↦ let e : did Ignored ≡ did Formed = rw (nz, room) at h in absurd (cc)
     | inr full ↦ let e : did Ignored ≡ refused (record {}) = rw (nz, full) at h in absurd (cc)
   ]
@@ -132,9 +131,9 @@ ignored_parts false valid count h = elim (either (eqb valid 0)) [
 
 refused_parts : (known : Bool) (valid count : ℕ) (full : Full) → Err full ≡ taken_by known valid count → (known ≡ false) × (eqb valid 0 ≡ false) × (ltb count 64 ≡ false)
 refused_parts true valid count full h = absurd (cc)
-refused_parts false valid count full h = elim (either (eqb valid 0)) [
+refused_parts false valid count full h = elim (cases_Bool (eqb valid 0)) [
   | inl z ↦ let e : refused full ≡ did Ignored = rw z at h in absurd (cc)
-  | inr nz ↦ elim (either (ltb count 64)) [
+  | inr nz ↦ elim (cases_Bool (ltb count 64)) [
     | inl room ↦ let e : refused full ≡ did Formed = rw (nz, room) at h in absurd (cc)
     | inr full' ↦ (refl, nz, full')
   ]

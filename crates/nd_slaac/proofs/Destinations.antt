@@ -3,9 +3,8 @@ use Rattle.std.proofs.Common.{◌≡◌, ◌<◌, ℕ, Bool, true, false, cond, 
 use Rattle.std.specs.Prelude.{◌⊎◌, ◌&&◌, ◌||◌, ◌==◌, not, is_some, bytes_eq}
 use Rattle.std.specs.List.{list_any}
 use Rattle.std.specs.Cmp.Lexicographic.{bytes_decides}
-use Rattle.std.proofs.lemmas.Bool.{and_parts, and_from, eqb-true, eq-eqb}
+use Rattle.std.proofs.lemmas.Bool.{and_parts, and_from, eqb-true, eq-eqb, or_left, or_right, or_cases}
 use Rattle.nd_table.specs.Keyed.{at_key, Rises}
-use Rattle.nd_table.proofs.Any.{or_either, or_left, or_right}
 use Rattle.nd_table.proofs.Keyed.{above_in}
 use Rattle.nd_addr.specs.declared.addr.Addr.{Addr}
 use Rattle.nd_addr.specs.Bytes.{AreBytes}
@@ -39,7 +38,7 @@ module _ {N : Type 0} (key : N → ℕ) (p : N → Bool) where
 
   any_found : (ns : List N) → Rises key ns → list_any p ns ≡ true → (n : N) × (at_key key (key n) ns ≡ Some n) × (p n ≡ true)
   any_found [] rises e = let no : ⊥ = cc in absurd no
-  any_found (x ∷ ns) rises e = by (λ later. any_found ns rises.1 later) (or_either (p x) (list_any p ns) e)
+  any_found (x ∷ ns) rises e = by (λ later. any_found ns rises.1 later) (or_cases (p x) (list_any p ns) e)
     where
       by : (list_any p ns ≡ true → (n : N) × (at_key key (key n) ns ≡ Some n) × (p n ≡ true)) → (p x ≡ true) ⊎ (list_any p ns ≡ true)
           → (n : N) × (at_key key (key n) (x ∷ ns) ≡ Some n) × (p n ≡ true)
@@ -106,7 +105,7 @@ counted_by_history counted key addresses history s =
 -- ---- a destination
 
 meant : (destination address : Addr) → is_meant destination address ≡ true → (destination.0 ≡ address.0) ⊎ (destination.0 ≡ solicited_node_of address.0)
-meant destination address e = by (or_either (bytes_eq destination.0 address.0) (bytes_eq destination.0 (solicited_node_of address.0)) e)
+meant destination address e = by (or_cases (bytes_eq destination.0 address.0) (bytes_eq destination.0 (solicited_node_of address.0)) e)
   where
     by : (bytes_eq destination.0 address.0 ≡ true) ⊎ (bytes_eq destination.0 (solicited_node_of address.0) ≡ true) → (destination.0 ≡ address.0) ⊎ (destination.0 ≡ solicited_node_of address.0)
     by (inl same) = inl ((bytes_decides destination.0 address.0).0 same)

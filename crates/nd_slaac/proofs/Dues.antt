@@ -3,9 +3,8 @@ use Rattle.std.proofs.Common.{◌≡◌, ℕ, ◌+◌, ◌<◌, ◌≤◌, Bool,
 use Rattle.std.specs.Prelude.{is_some, ◌&&◌, not}
 use Rattle.std.specs.List.{remove}
 use Rattle.std.proofs.lemmas.Bool.Decides.{nat_tests}
-use Rattle.std.proofs.lemmas.Bool.{true≢false}
+use Rattle.std.proofs.lemmas.Bool.{true≢false, cases_Bool}
 use Rattle.nd_table.specs.Due.{NotBefore}
-use Rattle.nd_table.proofs.Cases.{either}
 use Rattle.nd_slaac.specs.declared.stage.Stage.{Stage}
 use Rattle.nd_slaac.specs.declared.stage.Stage.TheVariants.{Detecting, Failed, Passed}
 use Rattle.nd_slaac.specs.History.{Row, Story, story, is_end}
@@ -68,7 +67,7 @@ step_due : (history : List Row) (key : ℕ) (a : Address) (now : ℕ) → addres
 step_due history key a now there h =
     let s = story key history in
     let step = step_is key s a now there h in
-    elim (either (ltb (sent_of s) dup_addr_detect_transmits)) [
+    elim (cases_Bool (ltb (sent_of s) dup_addr_detect_transmits)) [
       | inl more ↦
           let e : falls_by key a.stage ≡ Solicits key = falls_is key s a now there h ∙ rw more refl in
           subst (IsDue history now) (sym e) (step, grind (arith, nat_tests, more))
@@ -114,7 +113,7 @@ module _ (xs : List Address) (history : List Row) (s : Stands xs history) where
 stage_falls : (key now : ℕ) (st : Stage) → stage_date st ≡ Some now → (falls_by key st ≡ Solicits key) ⊎ (falls_by key st ≡ Assigns key)
 stage_falls key now Failed h = absurd (cc)
 stage_falls key now Passed h = absurd (cc)
-stage_falls key now (Detecting sent due retrans) h = elim (either (ltb sent dup_addr_detect_transmits)) [
+stage_falls key now (Detecting sent due retrans) h = elim (cases_Bool (ltb sent dup_addr_detect_transmits)) [
   | inl more ↦ inl (rw more refl)
   | inr last ↦ inr (rw last refl)
 ]
@@ -239,7 +238,7 @@ some_turn Passed = omega arith
 fewer_to : (now : ℕ) (st : Stage) → stage_date st ≡ Some now → turns_to (stage_after now st) < turns_to st
 fewer_to now Failed h = absurd (cc)
 fewer_to now Passed h = absurd (cc)
-fewer_to now (Detecting sent due retrans) h = elim (either (ltb sent dup_addr_detect_transmits)) [
+fewer_to now (Detecting sent due retrans) h = elim (cases_Bool (ltb sent dup_addr_detect_transmits)) [
   | inl more ↦ let lt : sent < dup_addr_detect_transmits = grind (arith, nat_tests, more) in rw more (omega arith)
   | inr last ↦ rw last (omega arith)
 ]
@@ -253,7 +252,7 @@ turn_fewer now old new what (Steps i a lt is none first what_is new_is) =
 later_to : (now : ℕ) (st : Stage) → NotBefore now (stage_date (stage_after now st))
 later_to now Failed = tt
 later_to now Passed = tt
-later_to now (Detecting sent due retrans) = elim (either (ltb sent dup_addr_detect_transmits)) [
+later_to now (Detecting sent due retrans) = elim (cases_Bool (ltb sent dup_addr_detect_transmits)) [
   | inl more ↦ rw more (omega arith)
   | inr last ↦ rw last tt
 ]

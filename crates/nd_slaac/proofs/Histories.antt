@@ -1,28 +1,18 @@
 -- What a came says of an address that is tentative, and of one that is assigned.
-use Rattle.std.proofs.Common.{◌≡◌, ℕ, ◌+◌, ◌-◌, ◌*◌, ◌<◌, ◌≤◌, Bool, true, false, eqb, ltb, List, [], ◌∷◌, length, Option, Some, None, refl, sym, ◌∙◌, ap, subst, arith, suc, inl, inr}
+use Rattle.std.proofs.Common.{◌≡◌, ℕ, ◌+◌, ◌-◌, ◌*◌, ◌<◌, ◌≤◌, Bool, true, false, eqb, ltb, List, [], ◌∷◌, Option, Some, None, refl, sym, ◌∙◌, ap, subst, arith, inl, inr}
 use Rattle.std.specs.Prelude.{◌&&◌, not}
 use Rattle.std.proofs.lemmas.Bool.Decides.{nat_tests}
-use Rattle.std.proofs.lemmas.Bool.{true≢false, eqb-true, eq-eqb}
-use Rattle.nd_table.proofs.Cases.{either}
+use Rattle.std.proofs.lemmas.Bool.{true≢false, eqb-true, eq-eqb, cases_Bool}
 use Rattle.nd_slaac.specs.History.{RowKind, Formed, Announced, Solicited, Conflict, Assigned, Ended, Lifetimes, Row, Story, story, is_end}
 use Rattle.nd_table.specs.Ends.{is_before}
+use Rattle.nd_table.proofs.Pasts.{past-length, past-same}
 use Rattle.nd_slaac.specs.Ends.{valid_end}
 use Rattle.nd_slaac.specs.State.{Forming, forming_of, is_known, has_conflict, was_assigned, sent_of, is_tentative, is_assigned}
 use Rattle.nd_slaac.specs.Address.{step_at}
 use Rattle.nd_slaac.specs.Due.{dup_addr_detect_transmits, Falls, Ends, Assigns, step_date, date_by, IsDue}
-use Rattle.nd_slaac.specs.MayCome.{IsTurn, MayCome, IsHistory, Past, Tried, Held}
+use Rattle.nd_slaac.specs.MayCome.{IsTurn, MayCome, IsHistory, Tried, Held}
 use Rattle.nd_slaac.proofs.Steps.{other_story, same_story, ended_story}
 use Rattle.nd_slaac.proofs.Dues.{tentative_parts}
-
-past-length : (h l : List Row) → Past h l → length h ≤ length l
-past-length h [] e = let f : length h ≡ 0 = ap length e in omega arith
-past-length h (row ∷ history) (inl e) = let f : length h ≡ suc (length history) = ap length e in omega arith
-past-length h (row ∷ history) (inr p) = omega (arith, past-length h history p)
-
--- what is not before, and was, is the same
-past-same : (h : List Row) (row : Row) (history : List Row) → Past h (row ∷ history) → Past (row ∷ history) h → h ≡ row ∷ history
-past-same h row history (inl e) q = e
-past-same h row history (inr p) q = absurd (omega (arith, past-length h history p, past-length (row ∷ history) h q))
 
 -- an address that is tentative was tried since it was formed
 record TriedNow (key : ℕ) (history : List Row) : Type 0 where
@@ -65,7 +55,7 @@ solicits key history formed delay retrans sent at lifetimes below t now date = r
     | inl e ↦ ap (λ l. is_tentative (story key l)) e ∙ now
     | inr p' ↦ t.tentative h p' q
   ];
-  solicited = λ number lt. elim (either (ltb number sent)) [
+  solicited = λ number lt. elim (cases_Bool (ltb number sent)) [
     | inl below' ↦ let s = t.solicited number (grind (arith, nat_tests, below')) in (s.0, inr s.1, s.2)
     | inr last ↦
         let e : number ≡ sent = grind (arith, nat_tests, last, lt) in
@@ -81,7 +71,7 @@ solicits key history formed delay retrans sent at lifetimes below t now date = r
 unknown_tentative : is_tentative [] ≡ true → ⊥
 unknown_tentative h = true≢false (sym h)
 
-conflict_by : (k w : Bool) → (k && not true && w) ≡ true → ⊥
+pub conflict_by : (k w : Bool) → (k && not true && w) ≡ true → ⊥
 conflict_by true w h = true≢false (sym h)
 conflict_by false w h = true≢false (sym h)
 
@@ -182,7 +172,7 @@ tried_beside key at k h history differ before now =
 
 tried : (key : ℕ) (history : List Row) → IsHistory history → is_tentative (story key history) ≡ true → TriedNow key history
 tried key [] came now = absurd (unknown_tentative now)
-tried key ((at, k, h) ∷ history) came now = elim (either (eqb k key)) [
+tried key ((at, k, h) ∷ history) came now = elim (cases_Bool (eqb k key)) [
   | inl same ↦
       let e : k ≡ key = eqb-true k key same in
       subst (λ (j : ℕ). MayCome (at, j, h) history → is_tentative (story key ((at, j, h) ∷ history)) ≡ true → TriedNow key ((at, j, h) ∷ history)) (sym e)
@@ -221,7 +211,7 @@ before_end : (history : List Row) (key at : ℕ) (o : Option ℕ) → valid_end 
 before_end history key at None is known turn = refl
 before_end history key at (Some end) is known turn =
     let le : at ≤ end = turn.none_before end (Ends key) (known, is) in
-    elim (either (ltb at end)) [
+    elim (cases_Bool (ltb at end)) [
       | inl lt ↦ lt
       | inr ge ↦
           let e : end ≡ at = grind (arith, nat_tests, ge, le) in
@@ -273,7 +263,7 @@ module _ (key at : ℕ) (history : List Row) (came : IsHistory history) (before 
 
 pub held : (history : List Row) (key : ℕ) → IsHistory history → is_assigned (story key history) ≡ true → Held key history
 held [] key came now = absurd (true≢false (sym now))
-held ((at, k, h) ∷ history) key came now = elim (either (eqb k key)) [
+held ((at, k, h) ∷ history) key came now = elim (cases_Bool (eqb k key)) [
   | inl same ↦
       let e : k ≡ key = eqb-true k key same in
       subst (λ (j : ℕ). MayCome (at, j, h) history → is_assigned (story key ((at, j, h) ∷ history)) ≡ true → Held key ((at, j, h) ∷ history)) (sym e)

@@ -1,7 +1,7 @@
 -- The numbers of the addresses of a list.
 use Rattle.std.proofs.Common.{◌≡◌, ℕ, ◌<◌, Bool, true, false, eqb, ltb, List, [], ◌∷◌, length, get_or, set, Option, Some, None, refl, sym, ◌∙◌, ap, arith, suc, zero, add-one, inl, inr}
 use Rattle.std.specs.Prelude.{is_some, slice_get, IfSome, IfNone, ◌||◌}
-use Rattle.nd_table.proofs.Cases.{either}
+use Rattle.std.proofs.lemmas.Bool.{cases_Bool}
 use Rattle.nd_table.proofs.Keyed.{put_in}
 use Rattle.nd_slaac.specs.Address.{Address}
 use Rattle.nd_slaac.specs.Table.{key_of, address_in}
@@ -15,7 +15,7 @@ use Rattle.nd_slaac.proofs.Stories.{known_story}
 -- an address is known where its number is among those
 pub known_among : (key : ℕ) (xs : List Address) → is_some (address_in key xs) ≡ is_among key (keys_in xs)
 known_among key [] = refl
-known_among key (x ∷ xs) = elim (either (eqb x.key key)) [
+known_among key (x ∷ xs) = elim (cases_Bool (eqb x.key key)) [
   | inl e ↦ rw e refl
   | inr e ↦ rw e (known_among key xs)
 ]
@@ -56,14 +56,14 @@ swap false false c = refl
 -- a new one is among them, wherever it is put
 pub among-put : (key : ℕ) (m : Address) (xs : List Address) → is_among key (keys_in (put_in key_of m xs)) ≡ is_among key (m.key ∷ keys_in xs)
 among-put key m [] = refl
-among-put key m (x ∷ xs) = elim (either (ltb x.key m.key)) [
+among-put key m (x ∷ xs) = elim (cases_Bool (ltb x.key m.key)) [
   | inl lt ↦ rw (put_behind m x xs lt) (ap (λ b. eqb x.key key || b) (among-put key m xs) ∙ swap (eqb x.key key) (eqb m.key key) (is_among key (keys_in xs)))
   | inr ge ↦ rw (put_before m x xs ge) refl
 ]
 
 pub length-put : (m : Address) (xs : List Address) → length (put_in key_of m xs) ≡ suc (length xs)
 length-put m [] = refl
-length-put m (x ∷ xs) = elim (either (ltb x.key m.key)) [
+length-put m (x ∷ xs) = elim (cases_Bool (ltb x.key m.key)) [
   | inl lt ↦ rw (put_behind m x xs lt) (ap suc (length-put m xs))
   | inr ge ↦ rw (put_before m x xs ge) refl
 ]

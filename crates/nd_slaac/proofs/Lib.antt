@@ -5,7 +5,6 @@ pub mod Steps
 pub mod Dues
 pub mod Turns
 pub mod TurnCalls
-pub mod Results
 pub mod Altering
 pub mod Showing
 pub mod Keys

@@ -1,8 +1,7 @@
 -- What one more row does to the table that stands for a history.
 use Rattle.std.proofs.Common.{◌≡◌, ℕ, ◌<◌, false, cond, eqb, List, [], ◌∷◌, length, get_or, set, Option, Some, None, refl, sym, ◌∙◌, ap, subst, inl, inr}
 use Rattle.std.specs.List.{remove}
-use Rattle.std.proofs.lemmas.Bool.{eqb-true, eq-eqb, cond-true, cond-false}
-use Rattle.nd_table.proofs.Cases.{either}
+use Rattle.std.proofs.lemmas.Bool.{eqb-true, eq-eqb, cond-true, cond-false, cases_Bool}
 use Rattle.nd_table.proofs.Keyed.{at_key-set, Rises-set, at_key-remove, Rises-remove, put_in, at_key-put, Rises-put}
 use Rattle.nd_slaac.specs.History.{RowKind, Ended, is_end, Row, Story, story}
 use Rattle.nd_slaac.specs.Address.{Address, address_of}
@@ -20,7 +19,7 @@ ended_story key at history = rw (eq-eqb key key refl) refl
 
 -- the look-up of each address, where that of one is changed
 each_other : (k key at : ℕ) (h : RowKind) (history : List Row) (old new : List Address) (o : Option Address) → ((j : ℕ) → address_in j new ≡ cond (eqb key j) o (address_in j old)) → ((j : ℕ) → address_in j old ≡ address_of j (story j history)) → o ≡ address_of key (story key ((at, key, h) ∷ history)) → address_in k new ≡ address_of k (story k ((at, key, h) ∷ history))
-each_other k key at h history old new o change each is = elim (either (eqb key k)) [
+each_other k key at h history old new o change each is = elim (cases_Bool (eqb key k)) [
   | inl same ↦ let e : key ≡ k = eqb-true key k same in
       change k ∙ (cond-true (eqb key k) o (address_in k old) same ∙ subst (λ (j : ℕ). o ≡ address_of j (story j ((at, key, h) ∷ history))) e is)
   | inr differ ↦ change k ∙ (cond-false (eqb key k) o (address_in k old) differ ∙ (each k ∙ ap (address_of k) (sym (other_story k key at h history differ))))

@@ -1,8 +1,9 @@
 -- Histories: lists of rows of which each came where it may come, and what they say of an address that is assigned.
-use Rattle.std.specs.Prelude.{◌≡◌, ℕ, ◌+◌, ◌*◌, ◌<◌, ◌≤◌, ◌⊎◌, true, false, List, [], ◌∷◌, Option, Some}
+use Rattle.std.specs.Prelude.{◌≡◌, ℕ, ◌+◌, ◌*◌, ◌<◌, ◌≤◌, true, false, List, [], ◌∷◌, Option, Some}
 use Rattle.nd_slaac.specs.History.{Lifetimes, Row, story, Formed, Announced, Solicited, Conflict, Assigned, Ended}
 use Rattle.nd_slaac.specs.State.{is_known, is_tentative, is_assigned}
 use Rattle.nd_table.specs.Ends.{is_before}
+use Rattle.nd_table.specs.History.{Past}
 use Rattle.nd_slaac.specs.Ends.{valid_end}
 use Rattle.nd_slaac.specs.Due.{dup_addr_detect_transmits, Falls, Ends, Solicits, Assigns, IsDue, FirstDue}
 
@@ -24,11 +25,6 @@ MayCome (at, key, Ended) history = IsTurn history at (Ends key)
 abbrev pub IsHistory : List Row → Type 0
 IsHistory [] = Unit {0}
 IsHistory (row ∷ history) = MayCome row history × IsHistory history
-
--- the history was this one at some time, or is this one now
-abbrev pub Past : List Row → List Row → Type 0
-Past h [] = h ≡ []
-Past h (row ∷ history) = (h ≡ row ∷ history) ⊎ Past h history
 
 -- The address was tried: it was formed at some moment, and at each place since then it was tentative. Each
 -- solicitation was sent at its date: the first after the delay, and each further one a RetransTimer later, both being

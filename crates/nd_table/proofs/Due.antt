@@ -5,10 +5,9 @@ use Rattle.std.specs.List.{remove}
 use Rattle.std.proofs.Math.Seq.{drop-cons}
 use Rattle.std.proofs.lemmas.Option.{slice_get-get_or}
 use Rattle.std.proofs.lemmas.Bool.Decides.{nat_tests}
-use Rattle.std.proofs.lemmas.Bool.{cond_both, cond-true, cond-false, eqb-true, eq-eqb, true≢false}
+use Rattle.std.proofs.lemmas.Bool.{cond_both, cond-true, cond-false, eqb-true, eq-eqb, true≢false, cases_Bool}
 use Rattle.nd_table.specs.Keyed.{at_key, Rises}
 use Rattle.nd_table.specs.Due.{lesser, is_at, least_date, first_at, NotBefore}
-use Rattle.nd_table.proofs.Cases.{either}
 use Rattle.nd_table.proofs.Keyed.{above_in}
 
 -- the least is at most this
@@ -104,7 +103,7 @@ module _ {N : Type 0} (date : N → Option ℕ) where
 
   -- the head hasn't the date where there is none
   pub head_none : (now : ℕ) (x : N) (ns : List N) → first_at date now (x ∷ ns) ≡ None → (date x ≡ Some now → ⊥) × (first_at date now ns ≡ None)
-  head_none now x ns none = elim (either (is_at now (date x))) [
+  head_none now x ns none = elim (cases_Bool (is_at now (date x))) [
     | inl here ↦ let f : Some x ≡ None = sym (cond-true (is_at now (date x)) (Some x) (first_at date now ns) here) ∙ none in absurd (cc)
     | inr later ↦ ((λ e. absurd (true≢false (sym (is_there now (date x) e) ∙ later))), sym (cond-false (is_at now (date x)) (Some x) (first_at date now ns) later) ∙ none)
   ]
@@ -138,7 +137,7 @@ module _ {N : Type 0} (key : N → ℕ) (date : N → Option ℕ) where
   -- the first that is due is the entry of its number
   pub due_has : (now : ℕ) (ns : List N) (n : N) → Rises key ns → first_at date now ns ≡ Some n → at_key key (key n) ns ≡ Some n
   due_has now [] n r first = absurd (cc)
-  due_has now (x ∷ ns) n r first = elim (either (is_at now (date x))) [
+  due_has now (x ∷ ns) n r first = elim (cases_Bool (is_at now (date x))) [
     | inl here ↦
         let e : x ≡ n = let f : Some x ≡ Some n = sym (cond-true (is_at now (date x)) (Some x) (first_at date now ns) here) ∙ first in cc in
         subst (λ (y : N). at_key key (key y) (x ∷ ns) ≡ Some y) e (cond-true (eqb (key x) (key x)) (Some x) (at_key key (key x) ns) (eq-eqb (key x) (key x) refl))
@@ -152,7 +151,7 @@ module _ {N : Type 0} (key : N → ℕ) (date : N → Option ℕ) where
   -- none that is due has a lower number than the first
   pub due_least : (now k : ℕ) (ns : List N) (n m : N) → Rises key ns → first_at date now ns ≡ Some n → at_key key k ns ≡ Some m → date m ≡ Some now → key n ≤ k
   due_least now k [] n m r first is at = absurd (cc)
-  due_least now k (x ∷ ns) n m r first is at = elim (either (is_at now (date x))) [
+  due_least now k (x ∷ ns) n m r first is at = elim (cases_Bool (is_at now (date x))) [
     | inl here ↦
         let e : x ≡ n = let f : Some x ≡ Some n = sym (cond-true (is_at now (date x)) (Some x) (first_at date now ns) here) ∙ first in cc in
         let e' : key x ≡ key n = ap key e in

@@ -5,8 +5,7 @@ use Rattle.std.proofs.Math.Seq.{drop-cons}
 use Rattle.std.proofs.lemmas.Option.{slice_get-get_or}
 use Rattle.std.specs.List.{insert, remove}
 use Rattle.std.proofs.lemmas.Bool.Decides.{nat_tests}
-use Rattle.std.proofs.lemmas.Bool.{cond_both, cond-true, cond-false, eqb-true, eq-eqb}
-use Rattle.nd_table.proofs.Cases.{either}
+use Rattle.std.proofs.lemmas.Bool.{cond_both, cond-true, cond-false, eqb-true, eq-eqb, cases_Bool}
 use Rattle.nd_table.specs.Keyed.{at_key, AllAbove, Rises, place_of}
 
 module _ {N : Type 0} (key : N → ℕ) where
@@ -88,14 +87,14 @@ module _ {N : Type 0} (key : N → ℕ) where
 
   pub at_key-put : (k : ℕ) (m : N) (ns : List N) → at_key key k (put_in m ns) ≡ cond (eqb (key m) k) (Some m) (at_key key k ns)
   at_key-put k m [] = refl
-  at_key-put k m (n ∷ ns) = elim (either (ltb (key n) (key m))) [
+  at_key-put k m (n ∷ ns) = elim (cases_Bool (ltb (key n) (key m))) [
     | inl lt ↦ rw (put_low m n ns lt) (grind (arith, nat_tests, lt, at_key-put k m ns))
     | inr ge ↦ rw (put_high m n ns ge) refl
   ]
 
   AllAbove-put : (low : ℕ) (m : N) (ns : List N) → AllAbove key low ns → low < key m → AllAbove key low (put_in m ns)
   AllAbove-put low m [] h lt = (lt, tt)
-  AllAbove-put low m (n ∷ ns) h lt = elim (either (ltb (key n) (key m))) [
+  AllAbove-put low m (n ∷ ns) h lt = elim (cases_Bool (ltb (key n) (key m))) [
     | inl below ↦ rw (put_low m n ns below) (h.0, AllAbove-put low m ns h.1 lt)
     | inr high ↦ rw (put_high m n ns high) (lt, h)
   ]
@@ -105,7 +104,7 @@ module _ {N : Type 0} (key : N → ℕ) where
   Rises-put m (n ∷ ns) h absent =
       let differ : eqb (key n) (key m) ≡ false = grind (arith, nat_tests, absent) in
       let rest : at_key key (key m) ns ≡ None = grind (arith, nat_tests, absent) in
-      elim (either (ltb (key n) (key m))) [
+      elim (cases_Bool (ltb (key n) (key m))) [
         | inl low ↦ let lt : key n < key m = grind (arith, nat_tests, low) in
             rw (put_low m n ns low) (AllAbove-put (key n) m ns h.0 lt, Rises-put m ns h.1 rest)
         | inr high ↦ let lt : key m < key n = grind (arith, nat_tests, high, differ) in
@@ -131,7 +130,7 @@ module _ {N : Type 0} (key : N → ℕ) where
   -- what a look-up finds stands at a place
   pub place_found : (k : ℕ) (ns : List N) (n : N) → at_key key k ns ≡ Some n → (i : ℕ) × (i < length ns) × (n ≡ get_or ns i n)
   place_found k [] n is = absurd (cc)
-  place_found k (x ∷ ns) n is = elim (either (eqb (key x) k)) [
+  place_found k (x ∷ ns) n is = elim (cases_Bool (eqb (key x) k)) [
     | inl here ↦ let e : Some x ≡ Some n = sym (cond-true (eqb (key x) k) (Some x) (at_key key k ns) here) ∙ is in (zero, omega arith, let f : x ≡ n = cc in sym f)
     | inr behind ↦
         let rest = place_found k ns n (sym (cond-false (eqb (key x) k) (Some x) (at_key key k ns) behind) ∙ is) in

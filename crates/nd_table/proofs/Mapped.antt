@@ -2,14 +2,13 @@
 use Rattle.std.proofs.Common.{◌≡◌, ℕ, ◌<◌, eqb, List, [], ◌∷◌, Some, refl, sym, ◌∙◌, ap, subst, inl, inr}
 use Rattle.std.specs.Prelude.{map}
 use Rattle.std.specs.Option.{option_map}
-use Rattle.std.proofs.lemmas.Bool.{cond-true, cond-false}
+use Rattle.std.proofs.lemmas.Bool.{cond-true, cond-false, cases_Bool}
 use Rattle.nd_table.specs.Keyed.{at_key, AllAbove, Rises}
-use Rattle.nd_table.proofs.Cases.{either}
 
 module _ {N M : Type 0} (key : N → ℕ) (key' : M → ℕ) (f : N → M) (same : (n : N) → key' (f n) ≡ key n) where
   pub at_key-map : (k : ℕ) (ns : List N) → at_key key' k (map f ns) ≡ option_map f (at_key key k ns)
   at_key-map k [] = refl
-  at_key-map k (n ∷ ns) = elim (either (eqb (key n) k)) [
+  at_key-map k (n ∷ ns) = elim (cases_Bool (eqb (key n) k)) [
     | inl e ↦ cond-true (eqb (key' (f n)) k) (Some (f n)) (at_key key' k (map f ns)) (ap (λ (x : ℕ). eqb x k) (same n) ∙ e)
         ∙ sym (ap (option_map f) (cond-true (eqb (key n) k) (Some n) (at_key key k ns) e))
     | inr e ↦ cond-false (eqb (key' (f n)) k) (Some (f n)) (at_key key' k (map f ns)) (ap (λ (x : ℕ). eqb x k) (same n) ∙ e)

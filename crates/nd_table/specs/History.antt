@@ -1,6 +1,12 @@
 -- How a call leads a table from one history to the next. A history is what happened, the newest row first; each table says for itself
 -- when it stands for one.
-use Rattle.std.specs.Prelude.{List, ◌∷◌}
+use Rattle.std.specs.Prelude.{◌≡◌, ◌⊎◌, List, [], ◌∷◌}
+
+module _ {R : Type 0} where
+  -- the one is what the other was at some time, or is now
+  abbrev pub Past : List R → List R → Type 0
+  Past earlier [] = earlier ≡ []
+  Past earlier (row ∷ history) = (earlier ≡ row ∷ history) ⊎ Past earlier history
 
 module _ {T R : Type 0} (Stands : T → List R → Type 0) where
   -- whatever history old stands for, new stands for what has grown of it

@@ -1,32 +1,19 @@
 -- The digits that the library writes are those of the text.
-use Rattle.std.proofs.Common.{◌≡◌, ℕ, zero, suc, ◌-◌, ◌/◌, ◌%◌, ◌<◌, Bool, true, false, ◌&&◌, T, eqb, List, [], ◌∷◌, ◌++◌, slice_index, refl, ap, ◌∙◌, subst, inl, inr, arith, eqb→eq, eq-zero-or-pos, append_assoc}
-use Rattle.std.proofs.lemmas.Bool.{cases_lt}
+use Rattle.std.proofs.Common.{◌≡◌, ℕ, suc, ◌-◌, ◌/◌, ◌%◌, ◌<◌, true, false, eqb, List, [], ◌∷◌, ◌++◌, slice_index, refl, ap, ◌∙◌, inl, inr, arith, append_assoc}
+use Rattle.std.proofs.lemmas.Bool.{cases_lt, agree_below_at, eqb-true}
 use Rattle.std.proofs.lemmas.List.{get_or_past}
 use Rattle.std.specs.Fmt.{digit_glyph}
 use Rattle.std.specs.Str.{IsAscii}
-use lib.Ieee.Fits.{and_l, and_r}
 use Rattle.hex.specs.Hex.{IsBytes, encode_lower, encode_with, lower_digits}
 use Rattle.nd_text.specs.Digits.{hex_text}
 
-abbrev all_below : (ℕ → Bool) → ℕ → Bool
-all_below p zero = true
-all_below p (suc n) = p n && all_below p n
-
-every_below : (p : ℕ → Bool) (n : ℕ) → T (all_below p n) → (i : ℕ) → i < n → T (p i)
-every_below p zero h i l = absurd (omega arith)
-every_below p (suc n) h i l =
-    elim (eq-zero-or-pos (n - i)) [
-      | inl z ↦ let e : n ≡ i = omega arith in subst (λ x. T (p x)) e (and_l _ _ h)
-      | inr g ↦ every_below p n (and_r (p n) _ h) i (omega arith)
-    ]
-
 digit_is : (d : ℕ) → d < 16 → slice_index lower_digits d ≡ digit_glyph false d
-digit_is d lt = eqb→eq _ _ (every_below (λ k. eqb (slice_index lower_digits k) (digit_glyph false k)) 16 tt d lt)
+digit_is d lt = eqb-true _ _ (agree_below_at (λ k. eqb (slice_index lower_digits k) (digit_glyph false k)) (λ k. true) 16 d refl lt)
 
 pub digits_are_ascii : IsAscii lower_digits
 digits_are_ascii i = elim (cases_lt i 16) [
   | inl lt ↦
-      let small : slice_index lower_digits i - 127 ≡ 0 = eqb→eq _ _ (every_below (λ k. eqb (slice_index lower_digits k - 127) 0) 16 tt i lt) in
+      let small : slice_index lower_digits i - 127 ≡ 0 = eqb-true _ _ (agree_below_at (λ k. eqb (slice_index lower_digits k - 127) 0) (λ k. true) 16 i refl lt) in
       omega (arith, small)
   | inr ge ↦ let none : slice_index lower_digits i ≡ 0 = get_or_past lower_digits i 0 ge in omega (arith, none)
 ]

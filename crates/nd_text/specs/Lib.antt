@@ -2,3 +2,4 @@ pub mod Digits
 pub mod Text
 pub mod Spelling
 pub mod Parsing
+pub mod Flags

@@ -1,5 +1,6 @@
 -- What carries frames between nodes.
-use Rattle.std.specs.Prelude.{◌≡◌, ◌+◌, ◌-◌, ◌^◌, ℕ, suc, zero, min, List, Option, Some, None}
+use Rattle.std.specs.Prelude.{◌≡◌, ◌-◌, ◌^◌, ℕ, suc, zero, min, List, Option, Some, None}
+use Rattle.nd_io.specs.Counts.{one_more}
 
 -- each frame arrives at a node as it was sent to it; `arrives` says which bytes may arrive: first the node, then the frame, then the bytes
 abbrev pub IsFaithfulTo : ℕ → (ℕ → List ℕ → List ℕ → Type 0) → Type 0
@@ -14,10 +15,6 @@ abbrev pub after_call : Option ℕ → Option ℕ
 after_call None = None
 after_call (Some zero) = None
 after_call (Some (suc calls)) = Some calls
-
--- one fault more, up to the greatest number of 64 bits
-abbrev pub one_more : ℕ → ℕ
-one_more faults = min (faults + 1) (2 ^ 64 - 1)
 
 -- how often a wire failed that fails at one call by itself: with the faults of the wire inside, and by how many calls
 -- come before its own

@@ -1,5 +1,5 @@
 -- What the getters of `clap` read of the options of a subcommand.
-use Rattle.std.proofs.Common.{◌≡◌, ◌∙◌, Bool, List, [], codes, refl, sym, ap, subst, option_map, Option, Some, None, IsSomeAnd, is_some, true≢false}
+use Rattle.std.proofs.Common.{◌≡◌, ◌∙◌, Bool, List, [], codes, refl, sym, ap, subst, option_map, Option, Some, None, IsSomeAnd}
 use Rattle.std.specs.Option.{option_map_or}
 use Rattle.nd_addr.specs.declared.role.Role.{Role}
 use Rattle.nd_addr.specs.declared.role.Role.TheVariants.{Host, Router}
@@ -14,7 +14,6 @@ use Rattle.clap.specs.declared.parser.matches.ArgMatches.TheViews.{out-ArgMatche
 use Rattle.clap.specs.declared.parser.matches.Found.{Found}
 use Rattle.clap.specs.declared.parser.matches.SubCommand.{SubCommand}
 use Rattle.clap.proofs.WalkLemmas.{first_value-rows}
-use Rattle.std.specs.Borrow.{Bor}
 use Rattle.std.specs.Prelude.{Box, bytes_eq, if◌then◌else◌}
 
 -- an option without a value, and one with it
@@ -66,6 +65,3 @@ rows_in o rows e = ap (λ q. option_map_or (λ r. r) q []) (sym e) ∙ go o
     go : (p : Option (Text × List Row)) → option_map_or (λ r. r) (option_map (λ q. q.1) p) [] ≡ option_map_or (λ q. q.1) p []
     go None = refl
     go (Some q) = refl
-
-pub none≢some : {X : Type 0} (x : X) → None ≡ Some x → ⊥
-none≢some x e = true≢false (ap is_some (sym e))

@@ -1,10 +1,11 @@
 use Rattle.std.proofs.Common.{rules, arith, ap, Ok, Some, ◌≡◌, ℕ}
 use Rattle.std.specs.Prelude.{string_bytes, IsErrOf}
+use Rattle.std.proofs.lemmas.Result.{on_err_weaker}
 use Rattle.nd_io.specs.Told.{TellsAll}
 use Rattle.nd_io.specs.declared.tool_fault.ToolFault.TheVariants.{Line}
 use Rattle.nd_io.specs.Ahead.{in_hand}
 use Rattle.nd_io.proofs.AheadLemmas.{none_in_hand}
-use Rattle.nd_io.proofs.RunLemmas.{Along-start, Along-written, Along-kept, Along-answered, Along-waiting_front, Along-line_front, Along-end_front, Along-end, Along-long, Along-malformed, Along-answered_as_read, TellsFront-nothing, OnErr-map}
+use Rattle.nd_io.proofs.RunLemmas.{Along-start, Along-written, Along-kept, Along-answered, Along-waiting_front, Along-line_front, Along-end_front, Along-end, Along-long, Along-malformed, Along-answered_as_read, TellsFront-nothing}
 use Rattle.nd_io.proofs.WrittenLemmas.{AppendsFront-whole}
 use Rattle.nd_io.proofs.run.run_lines.Goals as goal
 
@@ -78,7 +79,7 @@ returns-then-not-branch-clause-front g c =
     let along = Along-kept _ _ _ _ _ _ _ _ _ _ _ written filled.bytes in
     let ended = filled.end (ap Ok c.if-not-branch.true) in
     let front = rw c.in_hand-then-not-branch.ensures.bytes at c.answer_last.ensures.front in
-    OnErr-map c.answer_last.result _ _ (Along-end_front _ _ _ _ _ _ _ _ _ _ along c.in_ok-write_out-in-Unfinished.ensures.emptied ended) front
+    on_err_weaker c.answer_last.result (Along-end_front _ _ _ _ _ _ _ _ _ _ along c.in_ok-write_out-in-Unfinished.ensures.emptied ended) front
 
 pub loop-count-init : goal.loop-count-init
 loop-count-init g c =

@@ -1,8 +1,8 @@
 use Rattle.std.proofs.Common.{◌≡◌, ◌++◌, drop}
 use Rattle.std.specs.Prelude.{string_bytes}
 use Rattle.std.specs.List.{flat_map}
+use Rattle.nd_chronicle.specs.Told.{node_lines}
 use Rattle.nd_effects.specs.Told.{happenings}
-use Rattle.nd_out.specs.NodeLine.{node_lines}
 use Rattle.nd_link_script.proofs.told.write_node_outs.Given as goal
 
 -- what is written, and the lines of what is left

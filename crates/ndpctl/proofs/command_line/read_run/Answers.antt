@@ -1,8 +1,9 @@
 use Rattle.std.proofs.Common.{codes, sym, subst}
+use Rattle.std.proofs.lemmas.Option.{none-some}
 use Rattle.clap.specs.Words.{found_of}
 use Rattle.nd_addr.specs.Spelling.{SpellsMac}
 use Rattle.nd_script.specs.Source.{IsSource}
-use Rattle.ndpctl.proofs.Values.{none_given, other_given, is_given, none≢some}
+use Rattle.ndpctl.proofs.Values.{none_given, other_given, is_given}
 use Rattle.ndpctl.proofs.command_line.read_run.Goals as goal
 
 pub returns-in_default-clause-wrong : goal.returns-in_default-clause-wrong
@@ -26,7 +27,7 @@ returns-in_default-parse-2-clause-wrong c = record {
   mac_is = is_given (found_of c.args.given.now) (codes "mac") c.in-Some.mac.now (λ text. SpellsMac text c.in-Ok.mac.0) c.in-Some.ensures
       (subst (λ text. SpellsMac text c.in-Ok.mac.0) c.as_bytes.ensures.value c.in-Ok.ensures.found);
   none = λ source. other_given (found_of c.args.given.now) (codes "draws") c.in-Some-get_str.draws.now (λ text. IsSource text source) c.in-Some-get_str.ensures
-      (λ named. none≢some source (c.in_default-parse-2.ensures.only source (subst (λ text. IsSource text source) (sym c.as_bytes-2.ensures.value) named)));
+      (λ named. none-some source (c.in_default-parse-2.ensures.only source (subst (λ text. IsSource text source) (sym c.as_bytes-2.ensures.value) named)));
 }
 
 pub returns-clause-right : goal.returns-clause-right

@@ -1,4 +1,4 @@
-use Rattle.nd_node.proofs.Rows.{on_ok}
+use Rattle.std.proofs.lemmas.Result.{on_ok_weaker}
 use Rattle.nd_node.proofs.Running.{on_err_any}
 use Rattle.nd_link.specs.Event.{link_event}
 use Rattle.nd_link.proofs.Answering.{follows_leads, late_leads, told_nothing}
@@ -14,7 +14,7 @@ returns-then-now-self-clause-follows g c = λ faithful.
 
 pub returns-clause-follows : goal.returns-clause-follows
 returns-clause-follows g c = λ faithful.
-    on_ok c.add.result _ _
+    on_ok_weaker c.add.result
     (λ happens. follows_leads g.R.Rng.stream c.args.self.now c.settle.new.self c.add.new.self c.args.told.now.items c.settle.new.told.items c.add.new.told.items c.args.now (link_event g.R.Rng.stream c.args.event) c.if-now-self.false
     c.in_ok-settle.ensures.passes happens)
     (c.add.ensures.leads faithful)

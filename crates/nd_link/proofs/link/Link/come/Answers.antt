@@ -1,5 +1,5 @@
 use Rattle.std.proofs.Common.{◌<◌, ◌≤◌, None, length, arith}
-use Rattle.nd_node.proofs.Rows.{on_ok}
+use Rattle.std.proofs.lemmas.Result.{on_ok_weaker}
 use Rattle.nd_node.specs.Event.{event_of}
 use Rattle.nd_link.proofs.Answering.{come_leads, no_node_leads}
 use Rattle.nd_link.proofs.link.Link.come.Goals as goal
@@ -11,7 +11,7 @@ returns-in-Some-clause-leads g c =
     let place = c.in-Some.ensures.some in
     let lt = place.1 in
     let there : c.in-Some.place < length c.args.self.now.nodes.items = omega (arith, ok, e, lt) in
-    on_ok c.arrive.result _ _
+    on_ok_weaker c.arrive.result
     (λ leads. come_leads g.R.Rng.stream c.args.self.now c.arrive.new.self c.args.told.now.items c.arrive.new.told.items c.args.now c.args.node c.in-Some.place (event_of c.args.event.now) place.0 there (leads None))
     c.arrive.ensures.leads
 
@@ -21,6 +21,6 @@ returns-in-None-clause-leads g c =
     let e = c.len.ensures in
     let le = c.in-None.ensures.none in
     let past : length c.args.self.now.nodes.items ≤ c.args.node = omega (arith, ok, e, le) in
-    on_ok c.refuse.result _ _
+    on_ok_weaker c.refuse.result
     (λ leads. no_node_leads g.R.Rng.stream c.args.self.now c.refuse.new.self c.args.told.now.items c.refuse.new.told.items c.args.now c.args.node (event_of c.args.event.now) past leads)
     c.refuse.ensures.leads

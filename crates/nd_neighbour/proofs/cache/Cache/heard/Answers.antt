@@ -1,6 +1,7 @@
 use Rattle.std.proofs.Common.{◌≡◌, refl, subst, false}
 use Rattle.std.specs.Prelude.{OnOk, IfOk}
 use Rattle.std.specs.Option.{option_map}
+use Rattle.std.proofs.lemmas.Result.{on_ok_weaker, IfOk-weaker}
 use Rattle.nd_addr.specs.Number.{number_of}
 use Rattle.nd_neighbour.specs.Entry.{Node, with_mark, stale_node}
 use Rattle.nd_neighbour.specs.LinkLayerAddress.{given, mark_or}
@@ -8,7 +9,7 @@ use Rattle.nd_neighbour.specs.NeighborAdvertisement.{advertised}
 use Rattle.nd_neighbour.specs.Table.{Table, node_in, Alters}
 use Rattle.nd_neighbour.specs.Place.{Gives}
 use Rattle.nd_neighbour.specs.News.{told_released, told_turned}
-use Rattle.nd_neighbour.proofs.Results.{on_ok, if_ok, if_ok_both}
+use Rattle.nd_neighbour.proofs.Results.{if_ok_both}
 use Rattle.nd_neighbour.proofs.NewsCalls.{given_key, given_hears, advertised_gains, marked_gains, given_tells, advertised_tells, marked_tells, few_released}
 use Rattle.nd_neighbour.proofs.Second.{gives_there}
 use Rattle.nd_neighbour.proofs.cache.Cache.heard.Goals as goal
@@ -19,7 +20,7 @@ returns-in-Given-clause-stands g c =
     let mac = number_of c.in-Given.mac.0 in
     let mark = c.in-Given.mark in
     let new = c.give_or_enter.new.entries.items in
-    rw c.in-Given.is (on_ok c.give_or_enter.result _ _ (λ gives. record { stands = given_hears c.args.self.now.limit c.args.now key mac mark c.args.self.now.nodes new gives })
+    rw c.in-Given.is (on_ok_weaker c.give_or_enter.result (λ gives. record { stands = given_hears c.args.self.now.limit c.args.now key mac mark c.args.self.now.nodes new gives })
     (subst (λ (t : Table). OnOk c.give_or_enter.result (Gives t.limit c.args.now key (λ n. given c.args.now mac mark n) (stale_node key (mark_or mark false) c.args.now mac) t.nodes new)) c.self.view_is c.give_or_enter.ensures.gives))
 
 pub returns-in-Given-clause-told : goal.returns-in-Given-clause-told
@@ -70,14 +71,14 @@ returns-in-Given-clause-there g c =
     let mark = c.in-Given.mark in
     let change : Node → Node = λ n. given c.args.now mac mark n in
     let new = c.give_or_enter.new.entries.items in
-    rw c.in-Given.is (on_ok c.give_or_enter.result _ _ (λ gives _. gives_there c.args.self.now.limit c.args.now key change (stale_node key (mark_or mark false) c.args.now mac) c.args.self.now.nodes new (λ n. given_key c.args.now mac mark n n.stage) refl gives)
+    rw c.in-Given.is (on_ok_weaker c.give_or_enter.result (λ gives _. gives_there c.args.self.now.limit c.args.now key change (stale_node key (mark_or mark false) c.args.now mac) c.args.self.now.nodes new (λ n. given_key c.args.now mac mark n n.stage) refl gives)
     (subst (λ (t : Table). OnOk c.give_or_enter.result (Gives t.limit c.args.now key change (stale_node key (mark_or mark false) c.args.now mac) t.nodes new)) c.self.view_is c.give_or_enter.ensures.gives))
 
 pub returns-in-Given-clause-few : goal.returns-in-Given-clause-few
 returns-in-Given-clause-few g c =
     let key = number_of c.in-Given.addr.0 in
     let change : Node → Node = λ n. given c.args.now (number_of c.in-Given.mac.0) c.in-Given.mark n in
-    rw c.in-Given.is (if_ok c.give_or_enter.result _ _ (λ t p. few_released change (node_in key c.args.self.now.nodes) t.released p)
+    rw c.in-Given.is (IfOk-weaker c.give_or_enter.result _ _ (λ t p. few_released change (node_in key c.args.self.now.nodes) t.released p)
     (subst (λ (t : Table). IfOk c.give_or_enter.result (λ touched. touched.released ≡ told_released change (node_in key t.nodes))) c.self.view_is c.give_or_enter.ensures.released))
 
 pub returns-in-Advert-clause-few : goal.returns-in-Advert-clause-few

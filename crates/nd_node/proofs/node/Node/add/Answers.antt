@@ -1,6 +1,7 @@
 use Rattle.std.proofs.Common.{refl, map, string_bytes}
+use Rattle.std.proofs.lemmas.Result.{on_err_weaker}
 use Rattle.nd_node.specs.Event.{table_of}
-use Rattle.nd_node.proofs.Judging.{on_err, stays_same}
+use Rattle.nd_node.proofs.Judging.{stays_same}
 use Rattle.nd_node.proofs.Steps.{passing, showing}
 use Rattle.nd_node.proofs.node.Node.add.Goals as goal
 
@@ -12,7 +13,7 @@ returns-in_ok-push-in-Shows-clause-adds g c =
     rw c.in-Shows.is (showing g.R.Rng.stream c.args.self.now _ c.args.outs.now.items c.push.new.self.items c.args.now (table_of c.in-Shows.table) (map string_bytes c.in_ok-rows-in-Shows.rows.items) _ refl c.in_ok-rows-in-Shows.ensures c.requires.settled refl c.in_ok-push-in-Shows.ensures.items)
 
 pub returns-in-Forgets-clause-stays : goal.returns-in-Forgets-clause-stays
-returns-in-Forgets-clause-stays g c = on_err c.forget.result _ _ (stays_same g.R.Rng.stream c.args.self.now c.forget.new.self) c.forget.ensures.keeps
+returns-in-Forgets-clause-stays g c = on_err_weaker c.forget.result (stays_same g.R.Rng.stream c.args.self.now c.forget.new.self) c.forget.ensures.keeps
 
 pub returns-in-Clears-clause-stays : goal.returns-in-Clears-clause-stays
-returns-in-Clears-clause-stays g c = on_err c.clear.result _ _ (stays_same g.R.Rng.stream c.args.self.now c.clear.new.self) c.clear.ensures.keeps
+returns-in-Clears-clause-stays g c = on_err_weaker c.clear.result (stays_same g.R.Rng.stream c.args.self.now c.clear.new.self) c.clear.ensures.keeps

@@ -1,4 +1,5 @@
 use Rattle.std.proofs.Common.{arith, sym}
+use Rattle.std.proofs.lemmas.Result.{on_ok_weaker}
 use Rattle.nd_addr.specs.Ip6.{packet_parts}
 use Rattle.nd_addr.specs.Number.{number_of}
 use Rattle.nd_chronicle.specs.Event.{packet_bytes}
@@ -6,7 +7,6 @@ use Rattle.nd_chronicle.specs.Histories.{address_history}
 use Rattle.nd_nexthop.specs.NextHop.{direct, via}
 use Rattle.nd_routes.specs.Forward.{lost_no_route, lost_hop_limit, sent}
 use Rattle.nd_node.proofs.InTransit.{bytes_are, forwarded, goes_on_to, no_route, short_payload, spent}
-use Rattle.nd_node.proofs.Rows.{on_ok}
 use Rattle.nd_node.proofs.node.Node.forward.Goals as goal
 
 pub lose_in_transit-requires-clause-short : goal.lose_in_transit-requires-clause-short
@@ -23,21 +23,21 @@ send_on-requires-in-Via-clause-short g c = short_payload c.args.frame.now (packe
 
 pub returns-in-NoRoute-clause-adds : goal.returns-in-NoRoute-clause-adds
 returns-in-NoRoute-clause-adds g c =
-    on_ok c.lose_in_transit.result _ _ (λ adds. forwarded g.R.Rng.stream c.args.self.now c.lose_in_transit.new.self c.args.outs.now.items c.lose_in_transit.new.outs.items c.args.now (packet_parts c.args.packet.now) (packet_bytes c.args.frame.now) c.counts-own.result
+    on_ok_weaker c.lose_in_transit.result (λ adds. forwarded g.R.Rng.stream c.args.self.now c.lose_in_transit.new.self c.args.outs.now.items c.lose_in_transit.new.outs.items c.args.now (packet_parts c.args.packet.now) (packet_bytes c.args.frame.now) c.counts-own.result
     lost_no_route c.in-NoRoute.ensures.by_history (λ start c' s. sym (c.counts-own.ensures.by_history (address_history c') s.addresses))
     (no_route g.R.Rng.stream c.args.self.now c.lose_in_transit.new.self c.args.outs.now.items c.lose_in_transit.new.outs.items c.args.now (packet_parts c.args.packet.now) (packet_bytes c.args.frame.now) c.counts-own.result adds))
     c.lose_in_transit.ensures.adds
 
 pub returns-in-HopLimit-clause-adds : goal.returns-in-HopLimit-clause-adds
 returns-in-HopLimit-clause-adds g c =
-    on_ok c.lose_in_transit-in-HopLimit.result _ _ (λ adds. forwarded g.R.Rng.stream c.args.self.now c.lose_in_transit-in-HopLimit.new.self c.args.outs.now.items c.lose_in_transit-in-HopLimit.new.outs.items c.args.now (packet_parts c.args.packet.now) (packet_bytes c.args.frame.now) c.counts-own.result
+    on_ok_weaker c.lose_in_transit-in-HopLimit.result (λ adds. forwarded g.R.Rng.stream c.args.self.now c.lose_in_transit-in-HopLimit.new.self c.args.outs.now.items c.lose_in_transit-in-HopLimit.new.outs.items c.args.now (packet_parts c.args.packet.now) (packet_bytes c.args.frame.now) c.counts-own.result
     lost_hop_limit c.in-HopLimit.ensures.by_history (λ start c' s. sym (c.counts-own.ensures.by_history (address_history c') s.addresses))
     (spent g.R.Rng.stream c.args.self.now c.lose_in_transit-in-HopLimit.new.self c.args.outs.now.items c.lose_in_transit-in-HopLimit.new.outs.items c.args.now (packet_parts c.args.packet.now) (packet_bytes c.args.frame.now) c.counts-own.result adds))
     c.lose_in_transit-in-HopLimit.ensures.adds
 
 pub returns-in-Direct-clause-adds : goal.returns-in-Direct-clause-adds
 returns-in-Direct-clause-adds g c =
-    on_ok c.send_on.result _ _ (λ adds. forwarded g.R.Rng.stream c.args.self.now c.send_on.new.self c.args.outs.now.items c.send_on.new.outs.items c.args.now (packet_parts c.args.packet.now) (packet_bytes c.args.frame.now) c.counts-own.result
+    on_ok_weaker c.send_on.result (λ adds. forwarded g.R.Rng.stream c.args.self.now c.send_on.new.self c.args.outs.now.items c.send_on.new.outs.items c.args.now (packet_parts c.args.packet.now) (packet_bytes c.args.frame.now) c.counts-own.result
     (sent direct) c.in-Direct.ensures.by_history (λ start c' s. sym (c.counts-own.ensures.by_history (address_history c') s.addresses))
     (goes_on_to g.R.Rng.stream c.args.self.now c.send_on.new.self c.args.outs.now.items c.send_on.new.outs.items c.args.now (packet_parts c.args.packet.now) (packet_bytes c.args.frame.now) c.counts-own.result
     direct c.packet_in-bytes.result.now (bytes_are c.args.frame.now c.packet_in-bytes.result.now (packet_parts c.args.packet.now) c.requires.by_frame.2 c.packet_in-bytes.ensures) adds))
@@ -45,7 +45,7 @@ returns-in-Direct-clause-adds g c =
 
 pub returns-in-Via-clause-adds : goal.returns-in-Via-clause-adds
 returns-in-Via-clause-adds g c =
-    on_ok c.send_on-in-Via.result _ _ (λ adds. forwarded g.R.Rng.stream c.args.self.now c.send_on-in-Via.new.self c.args.outs.now.items c.send_on-in-Via.new.outs.items c.args.now (packet_parts c.args.packet.now) (packet_bytes c.args.frame.now) c.counts-own.result
+    on_ok_weaker c.send_on-in-Via.result (λ adds. forwarded g.R.Rng.stream c.args.self.now c.send_on-in-Via.new.self c.args.outs.now.items c.send_on-in-Via.new.outs.items c.args.now (packet_parts c.args.packet.now) (packet_bytes c.args.frame.now) c.counts-own.result
     (sent (via (number_of c.in-Via.router.0))) c.in-Via.ensures.by_history (λ start c' s. sym (c.counts-own.ensures.by_history (address_history c') s.addresses))
     (goes_on_to g.R.Rng.stream c.args.self.now c.send_on-in-Via.new.self c.args.outs.now.items c.send_on-in-Via.new.outs.items c.args.now (packet_parts c.args.packet.now) (packet_bytes c.args.frame.now) c.counts-own.result
     (via (number_of c.in-Via.router.0)) c.packet_in-bytes.result.now (bytes_are c.args.frame.now c.packet_in-bytes.result.now (packet_parts c.args.packet.now) c.requires.by_frame.2 c.packet_in-bytes.ensures) adds))

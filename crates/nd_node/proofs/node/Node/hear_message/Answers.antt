@@ -1,27 +1,27 @@
 use Rattle.std.proofs.Common.{◌∷◌, refl, subst}
+use Rattle.std.proofs.lemmas.Result.{on_ok_weaker}
 use Rattle.nd_decode.specs.declared.body.Body.{Body}
 use Rattle.nd_chronicle.specs.Happening.{Passed}
 use Rattle.nd_chronicle.specs.Hearing.{NotFromFirstHop}
 use Rattle.nd_decode.specs.Pieces.{options_left}
 use Rattle.nd_decode.specs.declared.body.Body.TheVariants as bodies
 use Rattle.nd_node.proofs.Judging.{judged}
-use Rattle.nd_node.proofs.Rows.{on_ok}
 use Rattle.nd_node.proofs.node.Node.hear_message.Goals as goal
 
 pub returns-in-Rs-clause-adds : goal.returns-in-Rs-clause-adds
-returns-in-Rs-clause-adds g c = rw c.in-Rs.is (on_ok c.hear_router_solicitation.result _ _ (λ adds. judged g.R.Rng.stream c.args.self.now c.hear_router_solicitation.new.self c.args.outs.now.items c.hear_router_solicitation.new.outs.items c.args.now c.args.source c.args.destination
+returns-in-Rs-clause-adds g c = rw c.in-Rs.is (on_ok_weaker c.hear_router_solicitation.result (λ adds. judged g.R.Rng.stream c.args.self.now c.hear_router_solicitation.new.self c.args.outs.now.items c.hear_router_solicitation.new.outs.items c.args.now c.args.source c.args.destination
     (record { body = bodies.Rs; options = options_left c.args.options }) (λ c'. refl) (λ c'. tt) adds) c.hear_router_solicitation.ensures.adds)
 
 pub returns-in-Ra-clause-adds : goal.returns-in-Ra-clause-adds
-returns-in-Ra-clause-adds g c = rw c.in-Ra.is (on_ok c.hear_router_advertisement.result _ _ (λ adds. judged g.R.Rng.stream c.args.self.now c.hear_router_advertisement.new.self c.args.outs.now.items c.hear_router_advertisement.new.outs.items c.args.now c.args.source c.args.destination
+returns-in-Ra-clause-adds g c = rw c.in-Ra.is (on_ok_weaker c.hear_router_advertisement.result (λ adds. judged g.R.Rng.stream c.args.self.now c.hear_router_advertisement.new.self c.args.outs.now.items c.hear_router_advertisement.new.outs.items c.args.now c.args.source c.args.destination
     (record { body = bodies.Ra c.in-Ra.ra; options = options_left c.args.options }) (λ c'. refl) (λ c'. tt) adds) c.hear_router_advertisement.ensures.adds)
 
 pub returns-in-Ns-clause-adds : goal.returns-in-Ns-clause-adds
-returns-in-Ns-clause-adds g c = rw c.in-Ns.is (on_ok c.hear_neighbor_solicitation.result _ _ (λ adds. judged g.R.Rng.stream c.args.self.now c.hear_neighbor_solicitation.new.self c.args.outs.now.items c.hear_neighbor_solicitation.new.outs.items c.args.now c.args.source c.args.destination
+returns-in-Ns-clause-adds g c = rw c.in-Ns.is (on_ok_weaker c.hear_neighbor_solicitation.result (λ adds. judged g.R.Rng.stream c.args.self.now c.hear_neighbor_solicitation.new.self c.args.outs.now.items c.hear_neighbor_solicitation.new.outs.items c.args.now c.args.source c.args.destination
     (record { body = bodies.Ns c.in-Ns.ns; options = options_left c.args.options }) (λ c'. refl) (λ c'. tt) adds) c.hear_neighbor_solicitation.ensures.adds)
 
 pub returns-in-Na-clause-adds : goal.returns-in-Na-clause-adds
-returns-in-Na-clause-adds g c = rw c.in-Na.is (on_ok c.hear_neighbor_advertisement.result _ _ (λ adds. judged g.R.Rng.stream c.args.self.now c.hear_neighbor_advertisement.new.self c.args.outs.now.items c.hear_neighbor_advertisement.new.outs.items c.args.now c.args.source c.args.destination
+returns-in-Na-clause-adds g c = rw c.in-Na.is (on_ok_weaker c.hear_neighbor_advertisement.result (λ adds. judged g.R.Rng.stream c.args.self.now c.hear_neighbor_advertisement.new.self c.args.outs.now.items c.hear_neighbor_advertisement.new.outs.items c.args.now c.args.source c.args.destination
     (record { body = bodies.Na c.in-Na.na; options = options_left c.args.options }) (λ c'. refl) (λ c'. tt) adds) c.hear_neighbor_advertisement.ensures.adds)
 
 pub returns-in-Rs-clause-misdirected : goal.returns-in-Rs-clause-misdirected

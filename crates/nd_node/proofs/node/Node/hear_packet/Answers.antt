@@ -1,22 +1,22 @@
 use Rattle.std.proofs.Common.{◌≡◌, ◌∷◌, ◌+◌, ◌++◌, ℕ, List, take, length, refl, ◌∙◌, ap}
+use Rattle.std.proofs.lemmas.Result.{on_ok_weaker, on_err_weaker}
 use Rattle.nd_addr.specs.Ip6.{PacketParts, packet_parts, ipv6_header_length, payload_length_of}
 use Rattle.nd_addr.specs.Places.{packet_in}
 use Rattle.nd_chronicle.specs.Happening.{Up, Passed}
 use Rattle.nd_chronicle.specs.Hearing.{IsPacketForUs}
-use Rattle.nd_node.proofs.Judging.{goes_up, in_transit_later, is_not, packet_goes_on, packet_goes_up, packet_is_strange, up_to_payload, on_err, stays_keeps, stays_same}
+use Rattle.nd_node.proofs.Judging.{goes_up, in_transit_later, is_not, packet_goes_on, packet_goes_up, packet_is_strange, up_to_payload, stays_keeps, stays_same}
 use Rattle.nd_node.proofs.Memory.{packet_stays, passing_stays}
-use Rattle.nd_node.proofs.Rows.{on_ok}
 use Rattle.nd_node.proofs.node.Node.hear_packet.Goals as goal
 
 pub returns-then-is_in_transit-clause-adds : goal.returns-then-is_in_transit-clause-adds
 returns-then-is_in_transit-clause-adds g c =
-    on_ok c.forward.result _ _ (λ adds. packet_goes_on g.R.Rng.stream c.args.self.now c.forward.new.self c.args.outs.now.items c.forward.new.outs.items c.args.now c.args.frame.now
+    on_ok_weaker c.forward.result (λ adds. packet_goes_on g.R.Rng.stream c.args.self.now c.forward.new.self c.args.outs.now.items c.forward.new.outs.items c.args.now c.args.frame.now
     (packet_parts c.args.packet) c.requires.by_frame c.is_packet_for_us.result (λ start c' s. c.is_packet_for_us.ensures start c' (packet_parts c.args.packet) s refl) c.if-not-is_packet_for_us.true
     c.is_in_transit.result (λ start c' s. c.is_in_transit.ensures start c' (packet_parts c.args.packet) s refl) c.if-is_in_transit.true adds)
     c.forward.ensures.adds
 
 pub returns-then-is_in_transit-clause-stays : goal.returns-then-is_in_transit-clause-stays
-returns-then-is_in_transit-clause-stays g c = on_err c.forward.result _ _ (stays_keeps g.R.Rng.stream c.args.self.now c.forward.new.self) c.forward.ensures.keeps
+returns-then-is_in_transit-clause-stays g c = on_err_weaker c.forward.result (stays_keeps g.R.Rng.stream c.args.self.now c.forward.new.self) c.forward.ensures.keeps
 
 pub returns-then-is_in_transit-clause-quiet : goal.returns-then-is_in_transit-clause-quiet
 returns-then-is_in_transit-clause-quiet g c = λ why start c' s le judged place.
@@ -27,14 +27,14 @@ returns-then-is_in_transit-clause-quiet g c = λ why start c' s le judged place.
 
 pub returns-then-not-is_packet_for_us-clause-adds : goal.returns-then-not-is_packet_for_us-clause-adds
 returns-then-not-is_packet_for_us-clause-adds g c =
-    on_ok c.drop_frame.result _ _ (λ adds. packet_is_strange g.R.Rng.stream c.args.self.now c.drop_frame.new.self c.args.outs.now.items c.drop_frame.new.outs.items c.args.now c.args.frame.now
+    on_ok_weaker c.drop_frame.result (λ adds. packet_is_strange g.R.Rng.stream c.args.self.now c.drop_frame.new.self c.args.outs.now.items c.drop_frame.new.outs.items c.args.now c.args.frame.now
     (packet_parts c.args.packet) c.requires.by_frame c.is_packet_for_us.result (λ start c' s. c.is_packet_for_us.ensures start c' (packet_parts c.args.packet) s refl) c.if-not-is_packet_for_us.true
     c.is_in_transit.result (λ start c' s. c.is_in_transit.ensures start c' (packet_parts c.args.packet) s refl) c.if-is_in_transit.false adds)
     c.drop_frame.ensures.adds
 
 pub returns-then-not-is_packet_for_us-clause-stays : goal.returns-then-not-is_packet_for_us-clause-stays
 returns-then-not-is_packet_for_us-clause-stays g c =
-    on_err c.drop_frame.result _ _ (λ same. stays_same g.R.Rng.stream c.args.self.now c.drop_frame.new.self same) c.drop_frame.ensures.keeps
+    on_err_weaker c.drop_frame.result (λ same. stays_same g.R.Rng.stream c.args.self.now c.drop_frame.new.self same) c.drop_frame.ensures.keeps
 
 pub returns-clause-adds : goal.returns-clause-adds
 returns-clause-adds g c =

@@ -1,21 +1,21 @@
 use Rattle.std.proofs.Common.{◌≡◌, ◌∷◌, ◌∙◌, sym}
+use Rattle.std.proofs.lemmas.Result.{on_ok_weaker}
 use Rattle.nd_chronicle.specs.Happening.{Passed}
 use Rattle.nd_chronicle.proofs.Hops.{one_next_hop}
 use Rattle.nd_decode.specs.Pieces.{options_left}
 use Rattle.nd_nexthop.specs.NextHop.{hop_of}
 use Rattle.nd_node.proofs.Judging.{directed, misdirected, next_later}
-use Rattle.nd_node.proofs.Rows.{on_ok}
 use Rattle.nd_node.proofs.node.Node.judge_redirect.Goals as goal
 
 pub returns-then-not-is_via-clause-adds : goal.returns-then-not-is_via-clause-adds
 returns-then-not-is_via-clause-adds g c =
-    on_ok c.drop_frame.result _ _ (λ adds. misdirected g.R.Rng.stream c.args.self.now c.next_hop-hop.new.self c.drop_frame.new.self c.args.outs.now.items c.drop_frame.new.outs.items c.args.now c.args.source c.args.destination c.args.redirect.now (options_left c.args.options) (hop_of c.next_hop-hop.result)
+    on_ok_weaker c.drop_frame.result (λ adds. misdirected g.R.Rng.stream c.args.self.now c.next_hop-hop.new.self c.drop_frame.new.self c.args.outs.now.items c.drop_frame.new.outs.items c.args.now c.args.source c.args.destination c.args.redirect.now (options_left c.args.options) (hop_of c.next_hop-hop.result)
     c.next_hop-hop.ensures.stands c.next_hop-hop.ensures.next (λ e. let both = c.is_via.ensures.1 e in let never : ⊥ = cc in never) adds)
     c.drop_frame.ensures.adds
 
 pub returns-clause-adds : goal.returns-clause-adds
 returns-clause-adds g c =
-    on_ok c.hear_redirect.result _ _ (λ adds. directed g.R.Rng.stream c.args.self.now c.next_hop-hop.new.self c.hear_redirect.new.self c.args.outs.now.items c.hear_redirect.new.outs.items c.args.now c.args.source c.args.destination c.args.redirect.now (options_left c.args.options) (hop_of c.next_hop-hop.result)
+    on_ok_weaker c.hear_redirect.result (λ adds. directed g.R.Rng.stream c.args.self.now c.next_hop-hop.new.self c.hear_redirect.new.self c.args.outs.now.items c.hear_redirect.new.outs.items c.args.now c.args.source c.args.destination c.args.redirect.now (options_left c.args.options) (hop_of c.next_hop-hop.result)
     c.next_hop-hop.ensures.stands c.next_hop-hop.ensures.next (c.is_via.ensures.0 c.if-not-is_via.false) adds)
     c.hear_redirect.ensures.adds
 

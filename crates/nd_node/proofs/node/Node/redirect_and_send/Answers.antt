@@ -4,13 +4,13 @@ use Rattle.nd_addr.specs.Number.{number_of}
 use Rattle.nd_neighbour.specs.Entry.{Node as Neighbour}
 use Rattle.nd_neighbour.specs.Room.{has_room}
 use Rattle.std.specs.Prelude.{List, Some, true}
+use Rattle.std.proofs.lemmas.Result.{on_ok_weaker}
 use Rattle.nd_node.proofs.InTransit.{both_go, both_refused, first_placed, one_left, place_left}
-use Rattle.nd_node.proofs.Rows.{on_ok}
 use Rattle.nd_node.proofs.node.Node.redirect_and_send.Goals as goal
 
 pub returns-then-not-room-clause-adds : goal.returns-then-not-room-clause-adds
 returns-then-not-room-clause-adds g c =
-    on_ok c.refuse.result _ _ (both_refused g.R.Rng.stream c.args.self.now c.refuse.new.self c.args.outs.now.items c.refuse.new.outs.items c.args.now (packet_parts c.args.packet.now) (number_of c.args.hop.0)
+    on_ok_weaker c.refuse.result (both_refused g.R.Rng.stream c.args.self.now c.refuse.new.self c.args.outs.now.items c.refuse.new.outs.items c.args.now (packet_parts c.args.packet.now) (number_of c.args.hop.0)
     c.args.bytes.now c.args.bytes.now c.args.target c.room.result c.room.ensures.history c.if-not-room.true) c.refuse.ensures.adds
 
 pub go-requires-clause-ring : goal.go-requires-clause-ring

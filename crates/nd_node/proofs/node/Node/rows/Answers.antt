@@ -1,4 +1,5 @@
 use Rattle.std.proofs.Common.{◌≡◌, ap}
+use Rattle.std.proofs.lemmas.Result.{IfOk-weaker}
 use Rattle.nd_advertiser.specs.Table as advertising
 use Rattle.nd_routes.specs.Table as routing
 use Rattle.nd_neighbour.specs.Table as neighbours
@@ -9,7 +10,7 @@ use Rattle.nd_nexthop.specs.Choice as choice
 use Rattle.nd_chronicle.specs.Histories.{neighbour_history, router_history, address_history, parameter_history, redirect_history, advertising_history, route_history}
 use Rattle.nd_chronicle.specs.Shown.{NeighbourTable, RouterTable, AddressTable, RedirectTable, ParameterTable, AdvertiseTable, RouteTable}
 use Rattle.nd_node.specs.Event.{table_of}
-use Rattle.nd_node.proofs.Rows.{if_ok, rows_shown, rows_shown_always}
+use Rattle.nd_node.proofs.Rows.{rows_shown, rows_shown_always}
 use Rattle.nd_node.proofs.node.Node.rows.Goals as goal
 
 pub returns-in-Neighbours : goal.returns-in-Neighbours
@@ -36,10 +37,10 @@ pub returns-in-Advertise : goal.returns-in-Advertise
 returns-in-Advertise g c =
     rows_shown_always g.R.Rng.stream c.args.self.now c.args.now (table_of c.args.table) AdvertiseTable (ap table_of c.in-Advertise.is) _
     (λ start c'. (c.args.self.now.role ≡ start.role) × advertising.Stands c.args.self.now.router.advertiser (advertising_history start c'))
-    c.advertise_rows.result (if_ok c.advertise_rows.result _ _ (λ rows given start c' now h. given start c' now h.0 h.1) c.advertise_rows.ensures.rows) (λ start c' s le. (s.role, s.router.advertiser))
+    c.advertise_rows.result (IfOk-weaker c.advertise_rows.result _ _ (λ rows given start c' now h. given start c' now h.0 h.1) c.advertise_rows.ensures.rows) (λ start c' s le. (s.role, s.router.advertiser))
 
 pub returns-in-Routes : goal.returns-in-Routes
 returns-in-Routes g c =
     rows_shown_always g.R.Rng.stream c.args.self.now c.args.now (table_of c.args.table) RouteTable (ap table_of c.in-Routes.is) _
     (λ start c'. (c.args.self.now.role ≡ start.role) × routing.Stands c.args.self.now.router.routes (route_history c'))
-    c.route_rows.result (if_ok c.route_rows.result _ _ (λ rows given start c' now h. given start c' now h.0 h.1) c.route_rows.ensures.rows) (λ start c' s le. (s.role, s.router.routes))
+    c.route_rows.result (IfOk-weaker c.route_rows.result _ _ (λ rows given start c' now h. given start c' now h.0 h.1) c.route_rows.ensures.rows) (λ start c' s le. (s.role, s.router.routes))

@@ -1,7 +1,7 @@
 use Rattle.std.proofs.Common.{◌∙◌, sym, ap, arith}
+use Rattle.nd_addr.specs.Same.{same_prefix, prefixes_tell}
 use Rattle.nd_decode.specs.Pieces.{options_left}
 use Rattle.nd_lifetime.specs.Listing.{fits}
-use Rattle.nd_lifetime.specs.Same.{same_prefix, prefixes_tell}
 use Rattle.nd_lifetime.proofs.Behind.{fits_open}
 use Rattle.nd_lifetime.proofs.Unique.{one_listing}
 use Rattle.nd_routers.specs.PrefixOptions.{max_prefixes, prefixes_in}

@@ -1,5 +1,6 @@
 -- Places of a chronicle: what it was at some time.
-use Rattle.std.specs.Prelude.{◌≡◌, ◌⊎◌, ℕ, ◌+◌, true, List, [], ◌∷◌, Option}
+use Rattle.std.specs.Prelude.{◌≡◌, ℕ, ◌+◌, true, List, ◌∷◌, Option}
+use Rattle.nd_table.specs.History.{Past}
 use Rattle.nd_addr.specs.Number.{addr_at}
 use Rattle.nd_frames.specs.Frames.{detection_frame}
 use Rattle.nd_slaac.specs.History.{Row, RowKind, Lifetimes, Formed, Solicited, Assigned}
@@ -8,11 +9,6 @@ use Rattle.nd_chronicle.specs.Start.{Start}
 use Rattle.nd_chronicle.specs.Happening.{Chronicle, Address, Sent}
 use Rattle.nd_chronicle.specs.Histories.{address_history}
 use Rattle.nd_chronicle.specs.OwnAddress.{story_of}
-
--- the one is what the other was at some time, or is now
-abbrev pub Past : Chronicle → Chronicle → Type 0
-Past d [] = d ≡ []
-Past d (row ∷ c) = (d ≡ row ∷ c) ⊎ Past d c
 
 -- the place of a row of an own address, with this history of the own addresses below it
 pub record PlaceOf (at key : ℕ) (kind : RowKind) (below : List Row) (c : Chronicle) : Type 0 where

@@ -10,8 +10,9 @@ use Rattle.nd_addr.specs.declared.addr.Addr.{Addr}
 abbrev pub same_addr : Addr → Addr → Bool
 same_addr a b = bytes_eq a.0 b.0
 
+-- the same bits, and as many
 abbrev pub same_prefix : PrefixValue → PrefixValue → Bool
-same_prefix a b = nat_eq a.length b.length && bytes_eq a.address.0 b.address.0
+same_prefix a b = bytes_eq a.address.0 b.address.0 && nat_eq a.length b.length
 
 pub bytes_tell : (a b : List ℕ) → ((bytes_eq a b ≡ true) × (a ≡ b)) ⊎ ((bytes_eq a b ≡ false) × (a ≢ b))
 bytes_tell a b = by (bytes_eq a b) refl
@@ -26,14 +27,14 @@ addr_of bytes = record { 0 = bytes }
 pub addrs_tell : (a b : Addr) → ((same_addr a b ≡ true) × (a ≡ b)) ⊎ ((same_addr a b ≡ false) × (a ≢ b))
 addrs_tell a b = ⊎_elim (λ s. inl (s.0, ap addr_of s.1)) (λ d. inr (d.0, λ same. d.1 (ap (λ (x : Addr). x.0) same))) (bytes_tell a.0 b.0)
 
-abbrev made : ℕ → List ℕ → PrefixValue
-made length bytes = record { address = record { 0 = bytes }; length = length }
+abbrev made : List ℕ → ℕ → PrefixValue
+made bytes length = record { address = record { 0 = bytes }; length = length }
 
 pub prefixes_tell : (a b : PrefixValue) → ((same_prefix a b ≡ true) × (a ≡ b)) ⊎ ((same_prefix a b ≡ false) × (a ≢ b))
 prefixes_tell a b = ⊎_elim
-    (λ l. ⊎_elim
-    (λ s. inl (ap (λ t. t && bytes_eq a.address.0 b.address.0) l.0 ∙ s.0, ap (λ n. made n a.address.0) l.1 ∙ ap (λ bytes. made b.length bytes) s.1))
-    (λ d. inr (ap (λ t. t && bytes_eq a.address.0 b.address.0) l.0 ∙ d.0, λ same. d.1 (ap (λ (p : PrefixValue). p.address.0) same)))
-    (bytes_tell a.address.0 b.address.0))
-    (λ d. inr (ap (λ t. t && bytes_eq a.address.0 b.address.0) d.0, λ same. d.1 (ap (λ (p : PrefixValue). p.length) same)))
-    (eqb_tells a.length b.length)
+    (λ s. ⊎_elim
+    (λ l. inl (ap (λ t. t && nat_eq a.length b.length) s.0 ∙ l.0, ap (λ bytes. made bytes a.length) s.1 ∙ ap (λ n. made b.address.0 n) l.1))
+    (λ d. inr (ap (λ t. t && nat_eq a.length b.length) s.0 ∙ d.0, λ same. d.1 (ap (λ (p : PrefixValue). p.length) same)))
+    (eqb_tells a.length b.length))
+    (λ d. inr (ap (λ t. t && nat_eq a.length b.length) d.0, λ same. d.1 (ap (λ (p : PrefixValue). p.address.0) same)))
+    (bytes_tell a.address.0 b.address.0)
