@@ -15,6 +15,3 @@ pub use ends::{end_time, is_before};
 pub use moments::{is_at, lesser};
 pub use order::compare;
 pub use table::{find, holds, place, put};
-
-#[cfg(test)]
-mod tests;

@@ -7,6 +7,8 @@ mod addresses;
 #[cfg(test)]
 mod dns;
 #[cfg(test)]
+mod entries;
+#[cfg(test)]
 mod messages;
 #[cfg(test)]
 mod neighbours;

@@ -1,5 +1,5 @@
-use super::*;
 use nd_addr::Addr;
+use nd_table::*;
 use std::alloc::Global;
 use std::process::Abort;
 use std::test::*;
