@@ -32,6 +32,3 @@ pub use prefix::Prefix;
 pub use role::Role;
 pub use room::put_bytes;
 pub use why::Why;
-
-#[cfg(test)]
-mod tests;

@@ -37,6 +37,3 @@ pub use prefix_info::PrefixInfo;
 pub use redirect::Redirect;
 pub use router_advertisement::RouterAdvertisement;
 pub use servers::{Servers, is_server};
-
-#[cfg(test)]
-mod tests;

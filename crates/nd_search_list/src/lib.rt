@@ -10,6 +10,3 @@ mod text;
 pub use name_ref::NameRef;
 pub use names::Names;
 pub use reading::is_name;
-
-#[cfg(test)]
-mod tests;

@@ -12,6 +12,3 @@ pub use digits::{byte_digits, push_ascii, push_byte, write_hex};
 pub use groups::known_groups;
 pub use parse::parse_groups;
 pub use text::write_groups;
-
-#[cfg(test)]
-mod tests;

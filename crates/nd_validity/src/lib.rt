@@ -7,6 +7,3 @@ pub mod laws;
 mod validity;
 
 pub use hearing::{Heard, Hearing, hear, hear_in_some_role};
-
-#[cfg(test)]
-mod tests;

@@ -10,6 +10,3 @@ pub use packet::Packet;
 pub use packets::Packets;
 pub use ring::Ring;
 pub use waiting::{MAX_WAITING, Waiting};
-
-#[cfg(test)]
-mod tests;

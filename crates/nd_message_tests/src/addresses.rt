@@ -1,4 +1,4 @@
-use super::*;
+use nd_addr::*;
 use std::test::*;
 
 /// A Neighbor Solicitation from the unspecified address, for fe80::3656:78ff:fe9a:bcde.

@@ -1,5 +1,5 @@
-use super::*;
 use nd_addr::Mac;
+use nd_waiting::*;
 use std::alloc::Global;
 use std::test::*;
 

@@ -1,4 +1,4 @@
-use super::*;
+use nd_text::*;
 use std::test::*;
 
 fn text_of(rt: &HostRuntime, groups: [u16; 8]) -> Result<String, Fail> {

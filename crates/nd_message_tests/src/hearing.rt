@@ -1,6 +1,6 @@
-use super::*;
 use nd_addr::{Addr, Role, Why};
 use nd_decode::{Body, ICMPV6_NEIGHBOR_SOLICITATION};
+use nd_validity::*;
 use std::test::*;
 
 /// A Neighbor Solicitation from the unspecified address.

@@ -1,4 +1,4 @@
-use super::*;
+use nd_search_list::*;
 use std::test::*;
 
 /// A.example and its padding, as a DNS Search List of 24 bytes has them behind its lifetime.

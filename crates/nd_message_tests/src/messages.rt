@@ -1,5 +1,5 @@
-use super::*;
 use nd_addr::{Addr, Mac, Prefix, Why};
+use nd_decode::*;
 use std::test::*;
 
 /// A solicitation for fe80::3656:78ff:fe9a:bcde.
