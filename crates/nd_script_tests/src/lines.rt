@@ -63,10 +63,6 @@ fn at(moment: u64) -> Option<(u64, Said)> {
     Some((moment, Said::Settles))
 }
 
-fn show(moment: u64, table: Table) -> Option<(u64, Said)> {
-    Some((moment, Said::Shows(table)))
-}
-
 /// The frame of a line that says that one comes at 10 ms, in lower case digits.
 fn received(rt: &impl Abort, alloc: Global, line: &[u8], digits: &str) -> Result<(), Fail> {
     match reading(alloc, line)? {
@@ -76,53 +72,45 @@ fn received(rt: &impl Abort, alloc: Global, line: &[u8], digits: &str) -> Result
     Ok(())
 }
 
+/// None of the lines says anything.
+fn malformed(rt: &impl Abort, alloc: Global, lines: &[&str]) -> Result<(), Fail> {
+    for line in lines {
+        assert_eq!(rt; reading(alloc, line.as_bytes())?, None);
+    }
+    Ok(())
+}
+
 #[test]
 fn lines_of_settling_are_read(rt: HostRuntime) -> Result<(), Fail> {
-    assert_eq!(rt; reading(rt.alloc(), b"0 at")?, at(0));
-    assert_eq!(rt; reading(rt.alloc(), b"10 at")?, at(10));
-    assert_eq!(rt; reading(rt.alloc(), b"2200 at")?, at(2200));
-    assert_eq!(rt; reading(rt.alloc(), b"1801200 at")?, at(1801200));
+    for (line, moment) in [
+        ("0 at", 0),
+        ("10 at", 10),
+        ("2200 at", 2200),
+        ("1801200 at", 1801200),
+    ] {
+        assert_eq!(rt; reading(rt.alloc(), line.as_bytes())?, at(moment));
+    }
     Ok(())
 }
 
 #[test]
 fn lines_of_each_table_are_read(rt: HostRuntime) -> Result<(), Fail> {
-    assert_eq!(rt;
-        reading(rt.alloc(), b"86401199 show neighbours")?,
-        show(86401199, Table::Neighbours)
-    );
-    assert_eq!(rt;
-        reading(rt.alloc(), b"2200 show routers")?,
-        show(2200, Table::Routers)
-    );
-    assert_eq!(rt;
-        reading(rt.alloc(), b"1200 show prefixes")?,
-        show(1200, Table::Prefixes)
-    );
-    assert_eq!(rt;
-        reading(rt.alloc(), b"999 show addresses")?,
-        show(999, Table::Addresses)
-    );
-    assert_eq!(rt;
-        reading(rt.alloc(), b"1200 show dns")?,
-        show(1200, Table::Dns)
-    );
-    assert_eq!(rt;
-        reading(rt.alloc(), b"2300 show redirects")?,
-        show(2300, Table::Redirects)
-    );
-    assert_eq!(rt;
-        reading(rt.alloc(), b"10 show params")?,
-        show(10, Table::Params)
-    );
-    assert_eq!(rt;
-        reading(rt.alloc(), b"10 show advertise")?,
-        show(10, Table::Advertise)
-    );
-    assert_eq!(rt;
-        reading(rt.alloc(), b"10 show routes")?,
-        show(10, Table::Routes)
-    );
+    for (line, moment, table) in [
+        ("86401199 show neighbours", 86401199, Table::Neighbours),
+        ("2200 show routers", 2200, Table::Routers),
+        ("1200 show prefixes", 1200, Table::Prefixes),
+        ("999 show addresses", 999, Table::Addresses),
+        ("1200 show dns", 1200, Table::Dns),
+        ("2300 show redirects", 2300, Table::Redirects),
+        ("10 show params", 10, Table::Params),
+        ("10 show advertise", 10, Table::Advertise),
+        ("10 show routes", 10, Table::Routes),
+    ] {
+        assert_eq!(rt;
+            reading(rt.alloc(), line.as_bytes())?,
+            Some((moment, Said::Shows(table)))
+        );
+    }
     Ok(())
 }
 
@@ -137,26 +125,24 @@ fn lines_of_a_neighbour_are_read(rt: HostRuntime) -> Result<(), Fail> {
         reading(rt.alloc(), b"10 forget FE80:0:0::1")?,
         Some((10, Said::Forgets(neighbour)))
     );
-    for line in [
-        "10 confirm",
-        "10 confirm ",
-        "10 confirm fe80::1 ",
-        "10 confirm fe80",
-        "10 forget fe80::1/64",
-        "10 forget fe80::1 fe80::2",
-    ] {
-        assert_eq!(rt; reading(rt.alloc(), line.as_bytes())?, None);
-    }
-    Ok(())
+    malformed(
+        &rt,
+        rt.alloc(),
+        &[
+            "10 confirm",
+            "10 confirm ",
+            "10 confirm fe80::1 ",
+            "10 confirm fe80",
+            "10 forget fe80::1/64",
+            "10 forget fe80::1 fe80::2",
+        ],
+    )
 }
 
 #[test]
 fn lines_of_ceasing_are_read(rt: HostRuntime) -> Result<(), Fail> {
     assert_eq!(rt; reading(rt.alloc(), b"10 stop")?, Some((10, Said::Stops)));
-    assert_eq!(rt; reading(rt.alloc(), b"10 stop ")?, None);
-    assert_eq!(rt; reading(rt.alloc(), b"10 stop now")?, None);
-    assert_eq!(rt; reading(rt.alloc(), b"stop")?, None);
-    Ok(())
+    malformed(&rt, rt.alloc(), &["10 stop ", "10 stop now", "stop"])
 }
 
 #[test]
@@ -173,15 +159,16 @@ fn lines_of_tables_to_clear_are_read(rt: HostRuntime) -> Result<(), Fail> {
             Some((10, Said::Clears(table)))
         );
     }
-    for line in [
-        "10 clear",
-        "10 clear addresses",
-        "10 clear params",
-        "10 clear routers now",
-    ] {
-        assert_eq!(rt; reading(rt.alloc(), line.as_bytes())?, None);
-    }
-    Ok(())
+    malformed(
+        &rt,
+        rt.alloc(),
+        &[
+            "10 clear",
+            "10 clear addresses",
+            "10 clear params",
+            "10 clear routers now",
+        ],
+    )
 }
 
 #[test]
@@ -197,45 +184,54 @@ fn the_moment_is_below_2_to_the_62(rt: HostRuntime) -> Result<(), Fail> {
 
 #[test]
 fn words_are_parted_by_one_space(rt: HostRuntime) -> Result<(), Fail> {
-    assert_eq!(rt; reading(rt.alloc(), b"10  at")?, None);
-    assert_eq!(rt; reading(rt.alloc(), b" 10 at")?, None);
-    assert_eq!(rt; reading(rt.alloc(), b"10 at ")?, None);
-    assert_eq!(rt; reading(rt.alloc(), b"10 show  params")?, None);
-    assert_eq!(rt; reading(rt.alloc(), b"10 show params ")?, None);
-    assert_eq!(rt; reading(rt.alloc(), b"10\tat")?, None);
-    assert_eq!(rt; reading(rt.alloc(), b"10 at\r")?, None);
-    assert_eq!(rt; reading(rt.alloc(), b"10 show params\r")?, None);
-    Ok(())
+    malformed(
+        &rt,
+        rt.alloc(),
+        &[
+            "10  at",
+            " 10 at",
+            "10 at ",
+            "10 show  params",
+            "10 show params ",
+            "10\tat",
+            "10 at\r",
+            "10 show params\r",
+        ],
+    )
 }
 
 #[test]
 fn other_lines_are_malformed(rt: HostRuntime) -> Result<(), Fail> {
-    assert_eq!(rt; reading(rt.alloc(), b"")?, None);
-    assert_eq!(rt; reading(rt.alloc(), b" ")?, None);
-    assert_eq!(rt; reading(rt.alloc(), b"10")?, None);
-    assert_eq!(rt; reading(rt.alloc(), b"10 ")?, None);
-    assert_eq!(rt; reading(rt.alloc(), b"at")?, None);
-    assert_eq!(rt; reading(rt.alloc(), b"show params")?, None);
-    assert_eq!(rt; reading(rt.alloc(), b"10 show")?, None);
-    assert_eq!(rt; reading(rt.alloc(), b"10 show ")?, None);
-    assert_eq!(rt; reading(rt.alloc(), b"10 show neighbour")?, None);
-    assert_eq!(rt; reading(rt.alloc(), b"10 show Params")?, None);
-    assert_eq!(rt; reading(rt.alloc(), b"10 show params dns")?, None);
-    assert_eq!(rt; reading(rt.alloc(), b"10 At")?, None);
-    assert_eq!(rt; reading(rt.alloc(), b"10 at now")?, None);
-    assert_eq!(rt; reading(rt.alloc(), b"10 settle")?, None);
-    Ok(())
+    malformed(
+        &rt,
+        rt.alloc(),
+        &[
+            "",
+            " ",
+            "10",
+            "10 ",
+            "at",
+            "show params",
+            "10 show",
+            "10 show ",
+            "10 show neighbour",
+            "10 show Params",
+            "10 show params dns",
+            "10 At",
+            "10 at now",
+            "10 settle",
+        ],
+    )
 }
 
 #[test]
 fn moments_have_no_sign_and_no_leading_zero(rt: HostRuntime) -> Result<(), Fail> {
-    assert_eq!(rt; reading(rt.alloc(), b"010 at")?, None);
-    assert_eq!(rt; reading(rt.alloc(), b"00 at")?, None);
-    assert_eq!(rt; reading(rt.alloc(), b"+10 at")?, None);
-    assert_eq!(rt; reading(rt.alloc(), b"-10 at")?, None);
-    assert_eq!(rt; reading(rt.alloc(), b"1a at")?, None);
     assert_eq!(rt; reading(rt.alloc(), b"\xff at")?, None);
-    Ok(())
+    malformed(
+        &rt,
+        rt.alloc(),
+        &["010 at", "00 at", "+10 at", "-10 at", "1a at"],
+    )
 }
 
 /// A Router Advertisement of a router without a lifetime.
@@ -259,26 +255,27 @@ fn frames_are_read(rt: HostRuntime) -> Result<(), Fail> {
 
 #[test]
 fn other_words_are_no_frames(rt: HostRuntime) -> Result<(), Fail> {
-    for line in [
-        "10 rx",
-        "10 rx ",
-        "10 rx 0",
-        "10 rx 012",
-        "10 rx 0g",
-        "10 rx --",
-        "10 rx -00",
-        "10 rx 00-",
-        "10 rx 0x00",
-        "10 rx  00",
-        "10 rx 00 ",
-        "10 rx 00 00",
-        "10 rx 00\r",
-        "10 RX 00",
-        "rx 00",
-    ] {
-        assert_eq!(rt; reading(rt.alloc(), line.as_bytes())?, None);
-    }
-    Ok(())
+    malformed(
+        &rt,
+        rt.alloc(),
+        &[
+            "10 rx",
+            "10 rx ",
+            "10 rx 0",
+            "10 rx 012",
+            "10 rx 0g",
+            "10 rx --",
+            "10 rx -00",
+            "10 rx 00-",
+            "10 rx 0x00",
+            "10 rx  00",
+            "10 rx 00 ",
+            "10 rx 00 00",
+            "10 rx 00\r",
+            "10 RX 00",
+            "rx 00",
+        ],
+    )
 }
 
 /// The packet of a line that says that one is to be sent at 10 ms from fe80::1 to 2001:db8::2: its next header, and its payload in lower
@@ -326,28 +323,29 @@ fn packets_are_read(rt: HostRuntime) -> Result<(), Fail> {
 
 #[test]
 fn other_words_are_no_packets(rt: HostRuntime) -> Result<(), Fail> {
-    for line in [
-        "10 send",
-        "10 send ",
-        "10 send fe80::1",
-        "10 send fe80::1 2001:db8::2",
-        "10 send fe80::1 2001:db8::2 17",
-        "10 send fe80::1 2001:db8::2 17 ",
-        "10 send fe80::1 2001:db8::2 256 -",
-        "10 send fe80::1 2001:db8::2 017 -",
-        "10 send fe80::1 2001:db8::2 +17 -",
-        "10 send fe80::1 2001:db8::2 17 0",
-        "10 send fe80::1 2001:db8::2 17 - -",
-        "10 send fe80::1  2001:db8::2 17 -",
-        "10 send  fe80::1 2001:db8::2 17 -",
-        "10 send fe80::1:: 2001:db8::2 17 -",
-        "10 send fe80::1 2001:db8::2/64 17 -",
-        "10 send fe80::1 17 2001:db8::2 -",
-        "10 Send fe80::1 2001:db8::2 17 -",
-    ] {
-        assert_eq!(rt; reading(rt.alloc(), line.as_bytes())?, None);
-    }
-    Ok(())
+    malformed(
+        &rt,
+        rt.alloc(),
+        &[
+            "10 send",
+            "10 send ",
+            "10 send fe80::1",
+            "10 send fe80::1 2001:db8::2",
+            "10 send fe80::1 2001:db8::2 17",
+            "10 send fe80::1 2001:db8::2 17 ",
+            "10 send fe80::1 2001:db8::2 256 -",
+            "10 send fe80::1 2001:db8::2 017 -",
+            "10 send fe80::1 2001:db8::2 +17 -",
+            "10 send fe80::1 2001:db8::2 17 0",
+            "10 send fe80::1 2001:db8::2 17 - -",
+            "10 send fe80::1  2001:db8::2 17 -",
+            "10 send  fe80::1 2001:db8::2 17 -",
+            "10 send fe80::1:: 2001:db8::2 17 -",
+            "10 send fe80::1 2001:db8::2/64 17 -",
+            "10 send fe80::1 17 2001:db8::2 -",
+            "10 Send fe80::1 2001:db8::2 17 -",
+        ],
+    )
 }
 
 /// The first words of a source, if the text names one.
@@ -400,20 +398,24 @@ fn longer_words_are_of_32_bits(rt: HostRuntime) -> Result<(), Fail> {
 
 #[test]
 fn other_texts_name_no_source(rt: HostRuntime) {
-    assert_eq!(rt; words(b""), None);
-    assert_eq!(rt; words(b"0"), None);
-    assert_eq!(rt; words(b"seed"), None);
-    assert_eq!(rt; words(b"seed:"), None);
-    assert_eq!(rt; words(b"seed:01"), None);
-    assert_eq!(rt; words(b"seed:+1"), None);
-    assert_eq!(rt; words(b"seed:0x10"), None);
-    assert_eq!(rt; words(b"seed:1 "), None);
-    assert_eq!(rt; words(b"Seed:1"), None);
-    assert_eq!(rt; words(b"seed:18446744073709551616"), None);
-    assert_eq!(rt; words(b"word:"), None);
-    assert_eq!(rt; words(b"word:00"), None);
-    assert_eq!(rt; words(b"word:-1"), None);
-    assert_eq!(rt; words(b"word:4294967296"), None);
+    for text in [
+        "",
+        "0",
+        "seed",
+        "seed:",
+        "seed:01",
+        "seed:+1",
+        "seed:0x10",
+        "seed:1 ",
+        "Seed:1",
+        "seed:18446744073709551616",
+        "word:",
+        "word:00",
+        "word:-1",
+        "word:4294967296",
+    ] {
+        assert_eq!(rt; words(text.as_bytes()), None);
+    }
 }
 
 /// What a node tells whose generator answers one word, where its script is read in pieces of one byte, and in long ones.
