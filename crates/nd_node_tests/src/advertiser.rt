@@ -33,44 +33,48 @@ fn measured(reachable_time: u32, mtu: u32) -> Result<Config, ConfigFault> {
 
 #[test]
 fn a_configuration_breaks_no_rule_at_its_edges(rt: HostRuntime) {
-    assert_eq!(rt; timed(3, 3, 1800).err(), Some(ConfigFault::Max));
-    assert!(rt; timed(3, 4, 1800).is_ok());
-    assert!(rt; timed(3, 1800, 1800).is_ok());
-    assert_eq!(rt; timed(3, 1801, 1801).err(), Some(ConfigFault::Max));
-    assert_eq!(rt; timed(2, 600, 1800).err(), Some(ConfigFault::Min));
-    // Three quarters of the greatest interval.
-    assert!(rt; timed(450, 600, 1800).is_ok());
-    assert_eq!(rt; timed(451, 600, 1800).err(), Some(ConfigFault::Min));
-    assert!(rt; timed(200, 600, 0).is_ok());
-    assert_eq!(rt; timed(200, 600, 599).err(), Some(ConfigFault::Lifetime));
-    assert!(rt; timed(200, 600, 600).is_ok());
-    assert!(rt; timed(200, 600, 9000).is_ok());
-    assert_eq!(rt; timed(200, 600, 9001).err(), Some(ConfigFault::Lifetime));
-    assert!(rt; measured(3_600_000, 0).is_ok());
-    assert_eq!(rt; measured(3_600_001, 0).err(), Some(ConfigFault::Reachable));
-    assert_eq!(rt; measured(0, 1279).err(), Some(ConfigFault::Mtu));
-    assert!(rt; measured(0, 1280).is_ok());
-    assert!(rt; measured(0, 1500).is_ok());
-    assert_eq!(rt; measured(0, 1501).err(), Some(ConfigFault::Mtu));
+    for (min, max, lifetime, fault) in [
+        (3, 3, 1800, Some(ConfigFault::Max)),
+        (3, 4, 1800, None),
+        (3, 1800, 1800, None),
+        (3, 1801, 1801, Some(ConfigFault::Max)),
+        (2, 600, 1800, Some(ConfigFault::Min)),
+        // Three quarters of the greatest interval.
+        (450, 600, 1800, None),
+        (451, 600, 1800, Some(ConfigFault::Min)),
+        (200, 600, 0, None),
+        (200, 600, 599, Some(ConfigFault::Lifetime)),
+        (200, 600, 600, None),
+        (200, 600, 9000, None),
+        (200, 600, 9001, Some(ConfigFault::Lifetime)),
+    ] {
+        assert_eq!(rt; timed(min, max, lifetime).err(), fault);
+    }
+    for (reachable_time, mtu, fault) in [
+        (3_600_000, 0, None),
+        (3_600_001, 0, Some(ConfigFault::Reachable)),
+        (0, 1279, Some(ConfigFault::Mtu)),
+        (0, 1280, None),
+        (0, 1500, None),
+        (0, 1501, Some(ConfigFault::Mtu)),
+    ] {
+        assert_eq!(rt; measured(reachable_time, mtu).err(), fault);
+    }
 }
 
 #[test]
 fn the_first_rule_that_is_broken_is_told(rt: HostRuntime) {
     // Each breaks one rule less than the one before.
-    let broken = |min, max, lifetime, reachable_time| {
-        Config::new(min, max, lifetime, 64, NO_FLAGS, reachable_time, 0, 1).err()
-    };
-    assert_eq!(rt; broken(2, 3, 9001, 3_600_001), Some(ConfigFault::Max));
-    assert_eq!(rt; broken(2, 600, 9001, 3_600_001), Some(ConfigFault::Min));
-    assert_eq!(rt;
-        broken(200, 600, 9001, 3_600_001),
-        Some(ConfigFault::Lifetime)
-    );
-    assert_eq!(rt;
-        broken(200, 600, 1800, 3_600_001),
-        Some(ConfigFault::Reachable)
-    );
-    assert_eq!(rt; broken(200, 600, 1800, 0), Some(ConfigFault::Mtu));
+    for (min, max, lifetime, reachable_time, fault) in [
+        (2, 3, 9001, 3_600_001, ConfigFault::Max),
+        (2, 600, 9001, 3_600_001, ConfigFault::Min),
+        (200, 600, 9001, 3_600_001, ConfigFault::Lifetime),
+        (200, 600, 1800, 3_600_001, ConfigFault::Reachable),
+        (200, 600, 1800, 0, ConfigFault::Mtu),
+    ] {
+        let config = Config::new(min, max, lifetime, 64, NO_FLAGS, reachable_time, 0, 1);
+        assert_eq!(rt; config.err(), Some(fault));
+    }
     assert_eq!(rt; ConfigFault::Max as u8, 1);
     assert_eq!(rt; ConfigFault::Prefix as u8, 7);
 }
@@ -110,16 +114,20 @@ fn fault(first: u8, second: u8, length: u8, valid: u32, preferred: u32) -> Optio
 
 #[test]
 fn an_offer_breaks_no_rule(rt: HostRuntime) -> Result<(), Fail> {
-    assert_eq!(rt; fault(0x20, 1, 64, 10, 10), None);
-    assert_eq!(rt; fault(0x20, 1, 64, 10, 11), Some(ConfigFault::Preferred));
-    // The first rule that is broken is told.
-    assert_eq!(rt; fault(0xff, 2, 64, 10, 11), Some(ConfigFault::Preferred));
-    assert_eq!(rt; fault(0xff, 2, 64, 10, 10), Some(ConfigFault::Prefix));
-    assert_eq!(rt; fault(0xfe, 0x80, 64, 10, 10), Some(ConfigFault::Prefix));
-    // A prefix is judged with zeros past its length: fe80::/8 is fe00::/8, and ff00::/0 is ::/0.
-    assert_eq!(rt; fault(0xfe, 0x80, 9, 10, 10), Some(ConfigFault::Prefix));
-    assert_eq!(rt; fault(0xfe, 0x80, 8, 10, 10), None);
-    assert_eq!(rt; fault(0xff, 2, 0, 10, 10), None);
+    for (first, second, length, preferred, broken) in [
+        (0x20, 1, 64, 10, None),
+        (0x20, 1, 64, 11, Some(ConfigFault::Preferred)),
+        // The first rule that is broken is told.
+        (0xff, 2, 64, 11, Some(ConfigFault::Preferred)),
+        (0xff, 2, 64, 10, Some(ConfigFault::Prefix)),
+        (0xfe, 0x80, 64, 10, Some(ConfigFault::Prefix)),
+        // A prefix is judged with zeros past its length: fe80::/8 is fe00::/8, and ff00::/0 is ::/0.
+        (0xfe, 0x80, 9, 10, Some(ConfigFault::Prefix)),
+        (0xfe, 0x80, 8, 10, None),
+        (0xff, 2, 0, 10, None),
+    ] {
+        assert_eq!(rt; fault(first, second, length, 10, preferred), broken);
+    }
     let Some(Ok(offer)) = prefix(0x20, 1, 64).map(|prefix| Offer::new(
         prefix, 2_592_000, 604_800, FLAGS,
     )) else {
