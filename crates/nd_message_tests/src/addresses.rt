@@ -43,32 +43,20 @@ fn the_subnet_of_link_local_addresses_has_64_bits(rt: HostRuntime) {
 
 #[test]
 fn the_longest_run_of_zeros_is_shortened(rt: HostRuntime) -> Result<(), Fail> {
-    assert_eq!(rt; text_of(&rt, [0, 0, 0, 0, 0, 0, 0, 0])?.as_str(), "::");
-    assert_eq!(rt;
-        text_of(&rt, [1, 0, 0, 2, 0, 0, 0, 3])?.as_str(),
-        "1:0:0:2::3"
-    );
-    assert_eq!(rt;
-        text_of(&rt, [1, 0, 2, 3, 4, 5, 6, 7])?.as_str(),
-        "1:0:2:3:4:5:6:7"
-    );
-    assert_eq!(rt;
-        text_of(&rt, [1, 2, 3, 4, 5, 6, 7, 0])?.as_str(),
-        "1:2:3:4:5:6:7:0"
-    );
-    assert_eq!(rt;
-        text_of(&rt, [0xfe80, 0, 0, 0, 0x3656, 0x78ff, 0xfe9a, 0xbcde])?.as_str(),
-        "fe80::3656:78ff:fe9a:bcde"
-    );
-    Ok(())
-}
-
-#[test]
-fn the_first_of_two_runs_is_shortened(rt: HostRuntime) -> Result<(), Fail> {
-    assert_eq!(rt;
-        text_of(&rt, [1, 0, 0, 2, 3, 0, 0, 4])?.as_str(),
-        "1::2:3:0:0:4"
-    );
+    for (groups, text) in [
+        ([0, 0, 0, 0, 0, 0, 0, 0], "::"),
+        ([1, 0, 0, 2, 0, 0, 0, 3], "1:0:0:2::3"),
+        ([1, 0, 2, 3, 4, 5, 6, 7], "1:0:2:3:4:5:6:7"),
+        ([1, 2, 3, 4, 5, 6, 7, 0], "1:2:3:4:5:6:7:0"),
+        (
+            [0xfe80, 0, 0, 0, 0x3656, 0x78ff, 0xfe9a, 0xbcde],
+            "fe80::3656:78ff:fe9a:bcde",
+        ),
+        // The first of two.
+        ([1, 0, 0, 2, 3, 0, 0, 4], "1::2:3:0:0:4"),
+    ] {
+        assert_eq!(rt; text_of(&rt, groups)?.as_str(), text);
+    }
     Ok(())
 }
 
@@ -197,26 +185,25 @@ fn printed(rt: &HostRuntime, text: &str) -> Result<String, Fail> {
 }
 
 #[test]
-fn texts_of_rfc_4291_section_2_2_are_read(rt: HostRuntime) -> Result<(), Fail> {
-    assert_eq!(rt;
-        groups_of_text("ABCD:EF01:2345:6789:ABCD:EF01:2345:6789"),
-        Some([
-            0xabcd, 0xef01, 0x2345, 0x6789, 0xabcd, 0xef01, 0x2345, 0x6789
-        ])
-    );
-    let unicast = Some([0x2001, 0xdb8, 0, 0, 8, 0x800, 0x200c, 0x417a]);
-    assert_eq!(rt; groups_of_text("2001:DB8:0:0:8:800:200C:417A"), unicast);
-    assert_eq!(rt; groups_of_text("2001:DB8::8:800:200C:417A"), unicast);
-    let multicast = Some([0xff01, 0, 0, 0, 0, 0, 0, 0x101]);
-    assert_eq!(rt; groups_of_text("FF01:0:0:0:0:0:0:101"), multicast);
-    assert_eq!(rt; groups_of_text("FF01::101"), multicast);
-    assert_eq!(rt;
-        groups_of_text("0:0:0:0:0:0:0:1"),
-        Some([0, 0, 0, 0, 0, 0, 0, 1])
-    );
-    assert_eq!(rt; groups_of_text("::1"), Some([0, 0, 0, 0, 0, 0, 0, 1]));
-    assert_eq!(rt; groups_of_text("::"), Some([0; 8]));
-    Ok(())
+fn texts_of_rfc_4291_section_2_2_are_read(rt: HostRuntime) {
+    let full = [
+        0xabcd, 0xef01, 0x2345, 0x6789, 0xabcd, 0xef01, 0x2345, 0x6789,
+    ];
+    let unicast = [0x2001, 0xdb8, 0, 0, 8, 0x800, 0x200c, 0x417a];
+    let multicast = [0xff01, 0, 0, 0, 0, 0, 0, 0x101];
+    let loopback = [0, 0, 0, 0, 0, 0, 0, 1];
+    for (text, groups) in [
+        ("ABCD:EF01:2345:6789:ABCD:EF01:2345:6789", full),
+        ("2001:DB8:0:0:8:800:200C:417A", unicast),
+        ("2001:DB8::8:800:200C:417A", unicast),
+        ("FF01:0:0:0:0:0:0:101", multicast),
+        ("FF01::101", multicast),
+        ("0:0:0:0:0:0:0:1", loopback),
+        ("::1", loopback),
+        ("::", [0; 8]),
+    ] {
+        assert_eq!(rt; groups_of_text(text), Some(groups));
+    }
 }
 
 #[test]
@@ -238,24 +225,16 @@ fn spellings_of_rfc_5952_section_2_are_one_address(rt: HostRuntime) -> Result<()
 
 #[test]
 fn rules_of_rfc_5952_section_4_are_kept(rt: HostRuntime) -> Result<(), Fail> {
-    assert_eq!(rt; printed(&rt, "2001:0db8::0001")?.as_str(), "2001:db8::1");
-    assert_eq!(rt;
-        printed(&rt, "2001:db8:0:0:0:0:2:1")?.as_str(),
-        "2001:db8::2:1"
-    );
-    assert_eq!(rt;
-        printed(&rt, "2001:db8:0:1:1:1:1:1")?.as_str(),
-        "2001:db8:0:1:1:1:1:1"
-    );
-    assert_eq!(rt;
-        printed(&rt, "2001:0:0:1:0:0:0:1")?.as_str(),
-        "2001:0:0:1::1"
-    );
-    assert_eq!(rt;
-        printed(&rt, "2001:db8:0:0:1:0:0:1")?.as_str(),
-        "2001:db8::1:0:0:1"
-    );
-    assert_eq!(rt; printed(&rt, "2001:DB8::AAAA")?.as_str(), "2001:db8::aaaa");
+    for (text, shortest) in [
+        ("2001:0db8::0001", "2001:db8::1"),
+        ("2001:db8:0:0:0:0:2:1", "2001:db8::2:1"),
+        ("2001:db8:0:1:1:1:1:1", "2001:db8:0:1:1:1:1:1"),
+        ("2001:0:0:1:0:0:0:1", "2001:0:0:1::1"),
+        ("2001:db8:0:0:1:0:0:1", "2001:db8::1:0:0:1"),
+        ("2001:DB8::AAAA", "2001:db8::aaaa"),
+    ] {
+        assert_eq!(rt; printed(&rt, text)?.as_str(), shortest);
+    }
     Ok(())
 }
 

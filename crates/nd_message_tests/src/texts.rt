@@ -9,20 +9,15 @@ fn text_of(rt: &HostRuntime, groups: [u16; 8]) -> Result<String, Fail> {
 
 #[test]
 fn the_longest_run_of_zeros_is_shortened(rt: HostRuntime) -> Result<(), Fail> {
-    assert_eq!(rt; text_of(&rt, [0; 8])?.as_str(), "::");
-    // RFC 5952, sections 4.2.2 and 4.2.3.
-    assert_eq!(rt;
-        text_of(&rt, [0x2001, 0xdb8, 0, 1, 1, 1, 1, 1])?.as_str(),
-        "2001:db8:0:1:1:1:1:1"
-    );
-    assert_eq!(rt;
-        text_of(&rt, [0x2001, 0, 0, 1, 0, 0, 0, 1])?.as_str(),
-        "2001:0:0:1::1"
-    );
-    assert_eq!(rt;
-        text_of(&rt, [0x2001, 0xdb8, 0, 0, 1, 0, 0, 1])?.as_str(),
-        "2001:db8::1:0:0:1"
-    );
+    for (groups, text) in [
+        ([0; 8], "::"),
+        // RFC 5952, sections 4.2.2 and 4.2.3.
+        ([0x2001, 0xdb8, 0, 1, 1, 1, 1, 1], "2001:db8:0:1:1:1:1:1"),
+        ([0x2001, 0, 0, 1, 0, 0, 0, 1], "2001:0:0:1::1"),
+        ([0x2001, 0xdb8, 0, 0, 1, 0, 0, 1], "2001:db8::1:0:0:1"),
+    ] {
+        assert_eq!(rt; text_of(&rt, groups)?.as_str(), text);
+    }
     Ok(())
 }
 
