@@ -13,9 +13,6 @@ pub use digits::are_digits;
 pub use hex::FromHexError;
 use std::alloc::Allocator;
 
-#[cfg(test)]
-mod tests;
-
 /// Decodes digits, in either case, to half as many bytes, as the library does. After an error the bytes are any.
 pub fn decode_to_slice(digits: &[u8], bytes: &mut [u8]) -> Result<(), FromHexError>
     ensures { MatchResult (decode_sized digits.now (length bytes.old)) (λ spelled. (result ≡ Ok tt) × (bytes.new ≡ spelled)) (λ e. result ≡ Err e) }

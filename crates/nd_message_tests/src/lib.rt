@@ -1,9 +1,11 @@
-//! Tests of texts, addresses, search names, messages, hearing, and of packets that wait, over their public calls alone. They stand here, so
+//! Tests of digits, texts, addresses, search names, messages, hearing, and of packets that wait, over their public calls alone. They stand here, so
 //! that none of these crates is proved a second time for its tests. There is nothing here but tests.
 #![tactic(auto)]
 
 #[cfg(test)]
 mod addresses;
+#[cfg(test)]
+mod digits;
 #[cfg(test)]
 mod hearing;
 #[cfg(test)]

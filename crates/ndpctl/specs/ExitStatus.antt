@@ -10,8 +10,8 @@ use Rattle.clap.specs.declared.error.kind.ErrorKind.TheVariants.{DisplayHelp, Di
 use Rattle.nd_io.specs.ToolFault.{status_of}
 use Rattle.nd_io.specs.declared.tool_fault.ToolFault.{ToolFault}
 use Rattle.nd_io.specs.declared.tool_fault.ToolFault.TheVariants as faults
-use Rattle.ndpctl.specs.declared.command_line.Refused.{Refused}
-use Rattle.ndpctl.specs.declared.command_line.Refused.TheVariants.{Told, Mac, Draws, Memory}
+use Rattle.nd_command_line.specs.declared.asked.Refused.{Refused}
+use Rattle.nd_command_line.specs.declared.asked.Refused.TheVariants.{Told, Mac, Draws, Memory}
 
 -- 0 where it was done
 abbrev pub status_of_done : {D : Type 0} → Result D ToolFault → ℕ

@@ -5,9 +5,9 @@ use Rattle.nd_check.specs.Check.{answer_to}
 use Rattle.nd_node.specs.Node.{starting}
 use Rattle.nd_script.specs.Script.{IsText}
 use Rattle.nd_script.specs.Source.{stream_of_source}
-use Rattle.ndpctl.specs.declared.command_line.Asked.{Asked}
-use Rattle.ndpctl.specs.declared.command_line.Asked.TheVariants.{Check, Run, Link}
-use Rattle.ndpctl.specs.declared.command_line.Carrier.TheVariants.{Udp}
+use Rattle.nd_command_line.specs.declared.asked.Asked.{Asked}
+use Rattle.nd_command_line.specs.declared.asked.Asked.TheVariants.{Check, Run, Link}
+use Rattle.nd_command_line.specs.declared.asked.Carrier.TheVariants.{Udp}
 use Rattle.nd_link_script.specs.Script.{IsLinkText}
 
 -- Which text the lines of the input have: of `check`, what each frame is; of `run`, the text of the chronicle of what they say to a node of

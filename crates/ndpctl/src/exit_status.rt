@@ -5,8 +5,8 @@ ghost use Rattle.std.specs.Process.{exit_status};
 ghost use Rattle.nd_io.specs.ToolFault.{status_of};
 ghost use Rattle.ndpctl.specs.ExitStatus.{status_of_done, status_of_refused, status_of_unread};
 
-use crate::command_line::Refused;
 use clap::error::ErrorKind;
+use nd_command_line::Refused;
 use nd_io::tool_fault::ToolFault;
 use std::io;
 use std::process::ExitCode;

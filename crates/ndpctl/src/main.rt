@@ -1,15 +1,12 @@
 //! `ndpctl`: commands of IPv6 Neighbor Discovery on one link.
 #![tactic(auto)]
 
-mod command_line;
 mod exit_status;
 mod link;
 mod run;
-#[cfg(test)]
-mod tests;
 
-use command_line::read_words;
 use exit_status::{end, fail, fail_on_refused, fail_on_unread};
+use nd_command_line::read_words;
 use nd_io::input::Reading;
 use nd_io::output::Writing;
 use nd_io::tool_fault::ToolFault;

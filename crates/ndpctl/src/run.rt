@@ -5,9 +5,9 @@ ghost use Rattle.nd_io.specs.Counts.{HasRisen, HasGrownBy, most_reads};
 ghost use Rattle.nd_io.specs.Told.{TellsAll, TellsBeginning, TellsAsRead};
 ghost use Rattle.ndpctl.specs.Run.{IsClaimed, texts_asked};
 
-use crate::command_line::{Asked, Carrier};
 use crate::link::{link_over_datagrams, link_over_memory};
 use nd_check::run_check;
+use nd_command_line::{Asked, Carrier};
 use nd_io::input::Input;
 use nd_io::output::Output;
 use nd_io::tool_fault::ToolFault;
