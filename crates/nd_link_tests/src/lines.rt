@@ -77,7 +77,7 @@ fn nodes_start(rt: HostRuntime) -> Result<(), Fail> {
         rt.alloc(),
         "1 node host 34:56:78:9a:bc:de seed:18446744073709551615",
     )? {
-        Some((1, Said::Starts(Role::Host, mac, _))) => assert_eq!(rt; mac, MAC),
+        Some((1, Said::Starts(Role::Host, mac, _))) => assert!(rt; mac == MAC),
         _ => assert!(rt; false),
     }
     Ok(())
@@ -85,14 +85,8 @@ fn nodes_start(rt: HostRuntime) -> Result<(), Fail> {
 
 #[test]
 fn commands_come_to_nodes(rt: HostRuntime) -> Result<(), Fail> {
-    assert_eq!(rt;
-        reading(rt.alloc(), "10 on 0 at")?,
-        Some((10, Said::Passes(0)))
-    );
-    assert_eq!(rt;
-        reading(rt.alloc(), "10 on 15 stop")?,
-        Some((10, Said::Stops(15)))
-    );
+    assert!(rt; reading(rt.alloc(), "10 on 0 at")? == Some((10, Said::Passes(0))));
+    assert!(rt; reading(rt.alloc(), "10 on 15 stop")? == Some((10, Said::Stops(15))));
     assert_eq!(rt;
         reading(
             rt.alloc(),
@@ -128,14 +122,8 @@ fn commands_come_to_nodes(rt: HostRuntime) -> Result<(), Fail> {
 
 #[test]
 fn frames_are_carried(rt: HostRuntime) -> Result<(), Fail> {
-    assert_eq!(rt;
-        reading(rt.alloc(), "400 deliver 1 0")?,
-        Some((400, Said::Delivers(1, 0)))
-    );
-    assert_eq!(rt;
-        reading(rt.alloc(), "2800 deliver 0 9")?,
-        Some((2800, Said::Delivers(0, 9)))
-    );
+    assert!(rt; reading(rt.alloc(), "400 deliver 1 0")? == Some((400, Said::Delivers(1, 0))));
+    assert!(rt; reading(rt.alloc(), "2800 deliver 0 9")? == Some((2800, Said::Delivers(0, 9))));
     assert_eq!(rt;
         reading(
             rt.alloc(),

@@ -68,8 +68,8 @@ fn two_try<W: Wire + Drop>(rt: &impl Abort, alloc: Global, wire: W) {
     let wanted = format!(in alloc;
         "n0 234 tx {F1}\nn1 234 tx {F1}\nn1 400 heard ns\nn1 400 duplicate fe80::3656:78ff:fe9a:bcde\nn0 400 heard ns\nn0 400 duplicate fe80::3656:78ff:fe9a:bcde\n"
     ).expect(rt, "memory");
-    assert_eq!(rt; text.as_str(), wanted.as_str());
-    assert_eq!(rt; link.failures(), 0);
+    assert!(rt; text.as_str() == wanted.as_str());
+    assert!(rt; link.failures() == 0);
 }
 
 #[test]
@@ -109,7 +109,7 @@ fn a_holder_answers(rt: HostRuntime) {
     let wanted = format!(in rt.alloc();
         "n0 234 tx {F1}\nn0 1234 assigned fe80::3656:78ff:fe9a:bcde\nn0 1234 tx {F2}\nn1 2234 tx {F1}\nn0 2400 heard ns\nn0 2400 tx {F9}\nn1 2800 heard na\nn1 2800 duplicate fe80::3656:78ff:fe9a:bcde\nlink 2800 refused no-frame\nlink 2800 refused own\nlink 2800 refused no-node\nlink 2800 refused no-node\nlink 2799 refused past 2800\n"
     ).expect(&rt, "memory");
-    assert_eq!(rt; text.as_str(), wanted.as_str());
+    assert!(rt; text.as_str() == wanted.as_str());
 }
 
 /// Where a frame may take half of RetransTimer the answer may come when the address is assigned, and then two nodes have it: so a timely link
@@ -129,7 +129,7 @@ fn an_answer_after_retrans_timer_is_too_late(rt: HostRuntime) {
     let wanted = format!(in rt.alloc();
         "n0 234 tx {F1}\nn0 1234 assigned fe80::3656:78ff:fe9a:bcde\nn0 1234 tx {F2}\nn1 2234 tx {F1}\nn0 2734 heard ns\nn0 2734 tx {F9}\nn1 3234 assigned fe80::3656:78ff:fe9a:bcde\nn1 3234 tx {F2}\nn1 3234 heard na\n"
     ).expect(&rt, "memory");
-    assert_eq!(rt; text.as_str(), wanted.as_str());
+    assert!(rt; text.as_str() == wanted.as_str());
 }
 
 /// A frame that comes twice is heard twice, and one that comes late is heard.
@@ -148,7 +148,7 @@ fn repeated_and_late_frames_are_heard(rt: HostRuntime) {
     let wanted = format!(in rt.alloc();
         "n0 234 tx {F1}\nn1 234 tx {F1}\nn1 1100 heard ns\nn1 1100 duplicate fe80::3656:78ff:fe9a:bcde\nn1 1100 drop 19 NotForUs\n"
     ).expect(&rt, "memory");
-    assert_eq!(rt; text.as_str(), wanted.as_str());
+    assert!(rt; text.as_str() == wanted.as_str());
 }
 
 #[test]
@@ -171,7 +171,7 @@ fn a_fault_of_the_wire_leaves_the_turns(rt: HostRuntime) {
     link.event(0, host(), &mut told).expect(&rt, "memory");
     link.event(0, host(), &mut told).expect(&rt, "memory");
     assert!(rt; link.event(400, LinkEvent::Delivers(1, 0), &mut told) == Err(LinkFault::Wire));
-    assert_eq!(rt; link.failures(), 1);
+    assert!(rt; link.failures() == 1);
     link.event(400, LinkEvent::Delivers(1, 0), &mut told)
         .expect(&rt, "memory");
     let mut text = String::new(rt.alloc());
@@ -179,8 +179,8 @@ fn a_fault_of_the_wire_leaves_the_turns(rt: HostRuntime) {
     let wanted = format!(in rt.alloc();
         "n0 234 tx {F1}\nn1 234 tx {F1}\nn1 400 heard ns\nn1 400 duplicate fe80::3656:78ff:fe9a:bcde\n"
     ).expect(&rt, "memory");
-    assert_eq!(rt; text.as_str(), wanted.as_str());
-    assert_eq!(rt; link.failures(), 1);
+    assert!(rt; text.as_str() == wanted.as_str());
+    assert!(rt; link.failures() == 1);
 }
 
 /// Events come by one call, up to a fault of the wire, and those that are left by another.
@@ -207,6 +207,6 @@ fn events_come_one_after_the_other(rt: HostRuntime) {
     let wanted = format!(in rt.alloc();
         "n0 234 tx {F1}\nn1 234 tx {F1}\nn1 400 heard ns\nn1 400 duplicate fe80::3656:78ff:fe9a:bcde\nn0 400 heard ns\nn0 400 duplicate fe80::3656:78ff:fe9a:bcde\n"
     ).expect(&rt, "memory");
-    assert_eq!(rt; text.as_str(), wanted.as_str());
-    assert_eq!(rt; link.failures(), 1);
+    assert!(rt; text.as_str() == wanted.as_str());
+    assert!(rt; link.failures() == 1);
 }

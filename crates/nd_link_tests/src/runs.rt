@@ -57,33 +57,33 @@ fn they_try_it_over_datagrams(rt: HostRuntime) {
     let wanted = format!(in rt.alloc(); "{BOTH_SENT}{FIRST_HEARD}{SECOND_HEARD}").expect(
         &rt, "memory",
     );
-    assert_eq!(rt; text.as_slice(), wanted.as_bytes());
-    assert_eq!(rt; done, Ok(()));
+    assert!(rt; text.as_slice() == wanted.as_bytes());
+    assert!(rt; done == Ok(()));
 }
 
 #[test]
 fn one_holds_the_address(rt: HostRuntime) {
     let (text, done) = run(rt.alloc(), MemoryWire, ONE_HOLDS, 4096);
-    assert_eq!(rt; text.as_slice(), HELD.as_bytes());
-    assert_eq!(rt; done, Ok(()));
+    assert!(rt; text.as_slice() == HELD.as_bytes());
+    assert!(rt; done == Ok(()));
     let wire = UdpWire::new(&rt, rt.alloc(), 2).expect(&rt, "sockets");
     let (text, done) = run(rt.alloc(), wire, ONE_HOLDS, 4096);
-    assert_eq!(rt; text.as_slice(), HELD.as_bytes());
-    assert_eq!(rt; done, Ok(()));
+    assert!(rt; text.as_slice() == HELD.as_bytes());
+    assert!(rt; done == Ok(()));
 }
 
 /// Where the wire fails at one frame, what came before it is written, the nodes' turns included.
 #[test]
 fn a_wire_that_fails_ends_the_run(rt: HostRuntime) {
     let (text, done) = run(rt.alloc(), FailingWire::new(MemoryWire, 0), TWO_TRY, 4096);
-    assert_eq!(rt; done, Err(ToolFault::Wire));
+    assert!(rt; done == Err(ToolFault::Wire));
     assert!(rt; BOTH_SENT.as_bytes().starts_with(&text));
     let (text, done) = run(rt.alloc(), FailingWire::new(MemoryWire, 1), TWO_TRY, 4096);
-    assert_eq!(rt; done, Err(ToolFault::Wire));
+    assert!(rt; done == Err(ToolFault::Wire));
     let wanted = format!(in rt.alloc(); "{BOTH_SENT}{FIRST_HEARD}").expect(&rt, "memory");
     assert!(rt; wanted.as_bytes().starts_with(&text));
     let (_, done) = run(rt.alloc(), FailingWire::new(MemoryWire, 2), TWO_TRY, 4096);
-    assert_eq!(rt; done, Ok(()));
+    assert!(rt; done == Ok(()));
 }
 
 #[test]
@@ -95,6 +95,6 @@ fn a_malformed_line_ends_the_run(rt: HostRuntime) {
     let wanted = format!(in rt.alloc(); "{BOTH_SENT}{FIRST_HEARD}{SECOND_HEARD}").expect(
         &rt, "memory",
     );
-    assert_eq!(rt; text.as_slice(), wanted.as_bytes());
-    assert_eq!(rt; done, Err(ToolFault::Line(5)));
+    assert!(rt; text.as_slice() == wanted.as_bytes());
+    assert!(rt; done == Err(ToolFault::Line(5)));
 }

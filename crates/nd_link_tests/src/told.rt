@@ -4,7 +4,7 @@ use nd_link::{Refusal, Told};
 use nd_link_script::*;
 use nd_out::Out;
 use nd_waiting::Packet;
-use std::alloc::{AllocError, Global};
+use std::alloc::Global;
 use std::process::Abort;
 use std::test::*;
 
@@ -42,10 +42,11 @@ fn duplicate(rt: &(impl Abort + AllocGlobal), node: usize, at: u64) -> Told<Glob
     Told::Node(node, outs)
 }
 
-fn text_of(alloc: Global, told: &[Told<Global>]) -> Result<String, AllocError> {
-    let mut text = String::new(alloc);
-    write_told(&mut text, told)?;
-    Ok(text)
+/// This text is written of what is told.
+fn is_told(rt: &(impl Abort + AllocGlobal), told: &[Told<Global>], wanted: &str) {
+    let mut text = String::new(rt.alloc());
+    write_told(&mut text, told).expect(rt, "memory");
+    assert_eq!(rt; text.as_str(), wanted);
 }
 
 #[test]
@@ -56,10 +57,11 @@ fn each_line_is_told_of_its_node(rt: HostRuntime) {
         Told::Node(2, Vec::new(rt.alloc())),
         Told::Refused(2800, Refusal::NoFrame),
     ];
-    assert_eq!(rt;
-        text_of(rt.alloc(), &told).expect(&rt, "memory").as_str(),
+    is_told(
+        &rt,
+        &told,
         "n0 0 tx 3333ff9abcde3456789abcde86dd6000000000183aff00000000000000000000000000000000ff0200000000000000000001ff9abcde870053df00000000fe80000000000000365678fffe9abcde\n\
-        n1 400 heard ns\nn1 400 duplicate fe80::3656:78ff:fe9a:bcde\nlink 2800 refused no-frame\n"
+        n1 400 heard ns\nn1 400 duplicate fe80::3656:78ff:fe9a:bcde\nlink 2800 refused no-frame\n",
     );
 }
 
@@ -73,11 +75,10 @@ fn rows_of_a_table_are_told_of_its_node(rt: HostRuntime) {
         .expect(&rt, "memory");
     let mut outs = Vec::new(alloc);
     outs.push((2200, Out::Shown(rows))).expect(&rt, "memory");
-    assert_eq!(rt;
-        text_of(alloc, &[Told::Node(3, outs)])
-            .expect(&rt, "memory")
-            .as_str(),
-        "n3 2200 server 2001:db8::53 1799000\nn3 2200 search a.example 1799000\nn3 2200 end 2\n"
+    is_told(
+        &rt,
+        &[Told::Node(3, outs)],
+        "n3 2200 server 2001:db8::53 1799000\nn3 2200 search a.example 1799000\nn3 2200 end 2\n",
     );
 }
 
@@ -90,9 +91,10 @@ fn refusals_are_told_of_the_link(rt: HostRuntime) {
         Told::Refused(12, Refusal::Own),
         Told::Refused(13, Refusal::Full),
     ];
-    assert_eq!(rt;
-        text_of(rt.alloc(), &told).expect(&rt, "memory").as_str(),
+    is_told(
+        &rt,
+        &told,
         "link 9 refused past 10\nlink 10 refused no-node\nlink 11 refused no-frame\nlink 12 refused own\n\
-        link 13 refused full nodes\n"
+        link 13 refused full nodes\n",
     );
 }

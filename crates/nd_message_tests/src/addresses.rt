@@ -31,7 +31,7 @@ fn text_of(rt: &HostRuntime, groups: [u16; 8]) -> Result<String, Fail> {
 #[test]
 fn the_subnet_of_link_local_addresses_has_64_bits(rt: HostRuntime) {
     let subnet = Prefix::link_local_subnet();
-    assert_eq!(rt; subnet.length(), 64);
+    assert!(rt; subnet.length() == 64);
     let mut inside = Addr::LINK_LOCAL;
     inside.0[8] = 0xff;
     assert!(rt; subnet.holds(inside));
@@ -64,33 +64,30 @@ fn the_longest_run_of_zeros_is_shortened(rt: HostRuntime) -> Result<(), Fail> {
 fn ethernet_addresses_and_prefixes_have_texts(rt: HostRuntime) -> Result<(), Fail> {
     let mut text = String::new(rt.alloc());
     Mac([0x34, 0x56, 0x78, 0x9a, 0xbc, 0xde]).write_text(&mut text)?;
-    assert_eq!(rt; text.as_str(), "34:56:78:9a:bc:de");
+    assert!(rt; text.as_str() == "34:56:78:9a:bc:de");
     let mut address = Addr([0xff; 16]);
     address.0[..4].copy_from_slice(&[0x20, 0x01, 0x0d, 0xb8]);
     let prefix = Prefix::new(address, 33).ok_or("a prefix")?;
     text.clear();
     prefix.write_text(&mut text)?;
-    assert_eq!(rt; text.as_str(), "2001:db8:8000::/33");
-    assert_eq!(rt; prefix.length(), 33);
-    assert_eq!(rt; Prefix::new(address, 129), None);
+    assert!(rt; text.as_str() == "2001:db8:8000::/33");
+    assert!(rt; prefix.length() == 33);
+    assert!(rt; Prefix::new(address, 129) == None);
     Ok(())
 }
 
 #[test]
 fn a_frame_is_read(rt: HostRuntime) -> Result<(), Fail> {
     let frame = Frame::read(SOLICITATION_FOR_LINK_LOCAL).map_err(Why::name)?;
-    assert_eq!(rt;
-        frame.destination,
-        Mac([0x33, 0x33, 0xff, 0x9a, 0xbc, 0xde])
-    );
-    assert_eq!(rt; frame.source, Mac([0x34, 0x56, 0x78, 0x9a, 0xbc, 0xde]));
+    assert!(rt; frame.destination == Mac([0x33, 0x33, 0xff, 0x9a, 0xbc, 0xde]));
+    assert!(rt; frame.source == Mac([0x34, 0x56, 0x78, 0x9a, 0xbc, 0xde]));
     let packet = Ip6::read(frame.rest).map_err(Why::name)?;
-    assert_eq!(rt; packet.header.source, Addr([0; 16]));
-    assert_eq!(rt; packet.header.next_header, 58);
-    assert_eq!(rt; packet.header.hop_limit, 255);
-    assert_eq!(rt; packet.header.traffic_class, 0);
-    assert_eq!(rt; packet.header.flow_label, 0);
-    assert_eq!(rt; packet.payload.len(), 24);
+    assert!(rt; packet.header.source == Addr([0; 16]));
+    assert!(rt; packet.header.next_header == 58);
+    assert!(rt; packet.header.hop_limit == 255);
+    assert!(rt; packet.header.traffic_class == 0);
+    assert!(rt; packet.header.flow_label == 0);
+    assert!(rt; packet.payload.len() == 24);
     assert!(rt;
         sum_is_good(
             packet.header.source,
@@ -98,14 +95,12 @@ fn a_frame_is_read(rt: HostRuntime) -> Result<(), Fail> {
             packet.payload
         )
     );
-    assert_eq!(rt;
-        sum_for(
-            packet.header.source,
-            packet.header.destination,
-            packet.payload
-        ),
-        0x53df
+    let sum = sum_for(
+        packet.header.source,
+        packet.header.destination,
+        packet.payload,
     );
+    assert!(rt; sum == 0x53df);
     Ok(())
 }
 
@@ -120,7 +115,7 @@ fn what_was_read_is_written_again(rt: HostRuntime) -> Result<(), Fail> {
         &packet.header,
         packet.payload,
     )?;
-    assert_eq!(rt; written.as_slice(), SOLICITATION_FOR_LINK_LOCAL);
+    assert!(rt; written.as_slice() == SOLICITATION_FOR_LINK_LOCAL);
     Ok(())
 }
 
@@ -135,26 +130,24 @@ fn both_spellings_of_a_zero_checksum_are_good(rt: HostRuntime) -> Result<(), Fai
             packet.payload
         )
     );
-    assert_eq!(rt;
-        sum_for(
-            packet.header.source,
-            packet.header.destination,
-            packet.payload
-        ),
-        0
+    let sum = sum_for(
+        packet.header.source,
+        packet.header.destination,
+        packet.payload,
     );
+    assert!(rt; sum == 0);
     Ok(())
 }
 
 #[test]
 fn short_and_foreign_frames_have_their_reasons(rt: HostRuntime) -> Result<(), Fail> {
     let frame = SOLICITATION_FOR_LINK_LOCAL;
-    assert_eq!(rt; frame.len(), 78);
-    assert_eq!(rt; Frame::read(&frame[..13]).err(), Some(Why::FrameShort));
-    assert_eq!(rt; Frame::read(&frame[1..]).err(), Some(Why::NotIpv6));
-    assert_eq!(rt; Ip6::read(&frame[14..53]).err(), Some(Why::HeaderShort));
-    assert_eq!(rt; Ip6::read(&frame[15..]).err(), Some(Why::Version));
-    assert_eq!(rt; Ip6::read(&frame[14..77]).err(), Some(Why::PayloadShort));
+    assert!(rt; frame.len() == 78);
+    assert!(rt; Frame::read(&frame[..13]).err() == Some(Why::FrameShort));
+    assert!(rt; Frame::read(&frame[1..]).err() == Some(Why::NotIpv6));
+    assert!(rt; Ip6::read(&frame[14..53]).err() == Some(Why::HeaderShort));
+    assert!(rt; Ip6::read(&frame[15..]).err() == Some(Why::Version));
+    assert!(rt; Ip6::read(&frame[14..77]).err() == Some(Why::PayloadShort));
     Ok(())
 }
 
@@ -263,17 +256,14 @@ fn malformed_texts_spell_no_address(rt: HostRuntime) -> Result<(), Fail> {
             "{text}"
         );
     }
-    assert_eq!(rt;
-        groups_of_text("1:2:3:4:5:6:7::"),
-        Some([1, 2, 3, 4, 5, 6, 7, 0])
-    );
+    assert!(rt; groups_of_text("1:2:3:4:5:6:7::") == Some([1, 2, 3, 4, 5, 6, 7, 0]));
     Ok(())
 }
 
 #[test]
 fn interfaces_have_their_addresses(rt: HostRuntime) -> Result<(), Fail> {
     let link_local = Prefix::parse(b"fe80::/64").map_err(|_| "a prefix")?;
-    assert_eq!(rt; link_local.length(), 64);
+    assert!(rt; link_local.length() == 64);
     for (mac, address, node) in [
         (
             "34:56:78:9A:bc:de",
@@ -311,8 +301,8 @@ fn kinds_of_address_are_told(rt: HostRuntime) -> Result<(), Fail> {
     assert!(rt; at("::").is_unspecified());
     assert!(rt; at("::1").is_loopback());
     assert!(rt; !at("::1").is_unspecified());
-    assert_eq!(rt; at("ff02::1"), Addr::ALL_NODES);
-    assert_eq!(rt; at("ff02::2"), Addr::ALL_ROUTERS);
+    assert!(rt; at("ff02::1") == Addr::ALL_NODES);
+    assert!(rt; at("ff02::2") == Addr::ALL_ROUTERS);
     assert!(rt; Addr::ALL_NODES.is_multicast());
     assert!(rt; !at("fe80::1").is_multicast());
     assert!(rt; at("febf::1").is_link_local());
@@ -329,7 +319,7 @@ fn prefixes_are_read_and_hold_addresses(rt: HostRuntime) -> Result<(), Fail> {
     let prefix = Prefix::parse(b"2001:db8:ffff::/33").map_err(|_| "a prefix")?;
     let mut text = String::new(rt.alloc());
     prefix.write_text(&mut text)?;
-    assert_eq!(rt; text.as_str(), "2001:db8:8000::/33");
+    assert!(rt; text.as_str() == "2001:db8:8000::/33");
     let at = |text: &str| Addr::parse(text.as_bytes()).unwrap_or(Addr::UNSPECIFIED);
     assert!(rt; prefix.holds(at("2001:db8:8000::1")));
     assert!(rt; prefix.holds(at("2001:db8:ffff::1")));

@@ -78,8 +78,8 @@ fn hears_an_advertisement_at_a_host(rt: HostRuntime) -> Result<(), Fail> {
         Hearing::Valid(heard) => heard,
         _ => return Err("valid")?,
     };
-    assert_eq!(rt; heard.source, ROUTER);
-    assert_eq!(rt; heard.destination, Addr::ALL_NODES);
+    assert!(rt; heard.source == ROUTER);
+    assert!(rt; heard.destination == Addr::ALL_NODES);
     assert!(rt; matches!(heard.message.body, Body::Ra(ra) if ra.router_lifetime == 1800));
     Ok(())
 }
@@ -101,18 +101,15 @@ fn hears_a_router_solicitation_at_a_router_alone(rt: HostRuntime) {
     assert!(rt;
         matches!(hear(&ROUTER_SOLICITATION, Role::Router), Hearing::Valid(heard) if heard.message.body == Body::Rs)
     );
-    assert_eq!(rt;
-        dropped(&ROUTER_SOLICITATION, Role::Host),
-        Some(Why::NotForUs)
-    );
+    assert!(rt; dropped(&ROUTER_SOLICITATION, Role::Host) == Some(Why::NotForUs));
 }
 
 #[test]
 fn hears_what_routers_send_at_a_host_alone(rt: HostRuntime) {
     assert!(rt; dropped(&ADVERTISEMENT, Role::Host).is_none());
-    assert_eq!(rt; dropped(&ADVERTISEMENT, Role::Router), Some(Why::NotForUs));
+    assert!(rt; dropped(&ADVERTISEMENT, Role::Router) == Some(Why::NotForUs));
     assert!(rt; dropped(&REDIRECT, Role::Host).is_none());
-    assert_eq!(rt; dropped(&REDIRECT, Role::Router), Some(Why::NotForUs));
+    assert!(rt; dropped(&REDIRECT, Role::Router) == Some(Why::NotForUs));
 }
 
 /// The role that takes a message is found by the message: what a router takes, and what a host takes, is valid to some role.
@@ -142,7 +139,7 @@ fn hands_on_what_is_no_message(rt: HostRuntime) {
     );
     // An ICMPv6 packet of a type that is no message: an echo request.
     let mut echo = SOLICITATION_FOR_LINK_LOCAL;
-    assert_eq!(rt; echo[54], ICMPV6_NEIGHBOR_SOLICITATION);
+    assert!(rt; echo[54] == ICMPV6_NEIGHBOR_SOLICITATION);
     echo[54] = 128;
     assert!(rt; matches!(hear(&echo, Role::Host), Hearing::Other(_)));
 }
@@ -151,7 +148,7 @@ fn hands_on_what_is_no_message(rt: HostRuntime) {
 fn looks_at_the_hop_limit_before_the_sum(rt: HostRuntime) {
     let mut frame = SOLICITATION_FOR_LINK_LOCAL;
     frame[57] = 0xde;
-    assert_eq!(rt; dropped(&frame, Role::Host), Some(Why::Sum));
+    assert!(rt; dropped(&frame, Role::Host) == Some(Why::Sum));
     frame[21] = 254;
-    assert_eq!(rt; dropped(&frame, Role::Host), Some(Why::HopLimit));
+    assert!(rt; dropped(&frame, Role::Host) == Some(Why::HopLimit));
 }

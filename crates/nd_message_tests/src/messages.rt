@@ -68,20 +68,11 @@ const DNS_ADVERTISEMENT: [u8; 72] = [
 /// The types of RFC 4861, sections 4.1 to 4.5.
 #[test]
 fn tells_the_five_types(rt: HostRuntime) {
-    assert_eq!(rt; MessageType::of(133), Some(MessageType::RouterSolicitation));
-    assert_eq!(rt;
-        MessageType::of(134),
-        Some(MessageType::RouterAdvertisement)
-    );
-    assert_eq!(rt;
-        MessageType::of(135),
-        Some(MessageType::NeighborSolicitation)
-    );
-    assert_eq!(rt;
-        MessageType::of(136),
-        Some(MessageType::NeighborAdvertisement)
-    );
-    assert_eq!(rt; MessageType::of(137), Some(MessageType::Redirect));
+    assert!(rt; MessageType::of(133) == Some(MessageType::RouterSolicitation));
+    assert!(rt; MessageType::of(134) == Some(MessageType::RouterAdvertisement));
+    assert!(rt; MessageType::of(135) == Some(MessageType::NeighborSolicitation));
+    assert!(rt; MessageType::of(136) == Some(MessageType::NeighborAdvertisement));
+    assert!(rt; MessageType::of(137) == Some(MessageType::Redirect));
     assert!(rt; MessageType::of(132).is_none());
     assert!(rt; MessageType::of(138).is_none());
 }
@@ -92,7 +83,7 @@ fn reads_solicitation(rt: HostRuntime) -> Result<(), Fail> {
     let target = Addr([
         0xfe, 0x80, 0, 0, 0, 0, 0, 0, 0x36, 0x56, 0x78, 0xff, 0xfe, 0x9a, 0xbc, 0xde,
     ]);
-    assert_eq!(rt; message.body, Body::Ns(NeighborSolicitation { target }));
+    assert!(rt; message.body == Body::Ns(NeighborSolicitation { target }));
     let mut options = message.options;
     assert!(rt; options.next().is_none());
     Ok(())
@@ -109,7 +100,7 @@ fn reads_advertisement(rt: HostRuntime) -> Result<(), Fail> {
         reachable_time: 0,
         retrans_timer: 0,
     };
-    assert_eq!(rt; message.body, Body::Ra(body));
+    assert!(rt; message.body == Body::Ra(body));
     let address = Addr([0x20, 0x01, 0x0d, 0xb8, 0, 0, 0, 0, 0, 0, 0, 0, 0, 0, 0, 0]);
     let told = PrefixInfo {
         prefix: Prefix::new(address, 64).ok_or("prefix")?,
@@ -138,23 +129,20 @@ fn reads_reachable_time(rt: HostRuntime) -> Result<(), Fail> {
         reachable_time: 32047,
         retrans_timer: 0,
     };
-    assert_eq!(rt; message.body, Body::Ra(body));
+    assert!(rt; message.body == Body::Ra(body));
     Ok(())
 }
 
 #[test]
 fn tells_the_first_reason(rt: HostRuntime) {
-    assert_eq!(rt;
-        decode(&ADVERTISEMENT_AND_ZERO).err(),
-        Some(Why::OptionZero)
-    );
-    assert_eq!(rt; decode(&[134, 1]).err(), Some(Why::Code));
-    assert_eq!(rt; decode(&[135]).err(), Some(Why::Length));
-    assert_eq!(rt; decode(&ADVERTISEMENT[..15]).err(), Some(Why::Length));
-    assert_eq!(rt; decode(&SOLICITATION[..23]).err(), Some(Why::Length));
+    assert!(rt; decode(&ADVERTISEMENT_AND_ZERO).err() == Some(Why::OptionZero));
+    assert!(rt; decode(&[134, 1]).err() == Some(Why::Code));
+    assert!(rt; decode(&[135]).err() == Some(Why::Length));
+    assert!(rt; decode(&ADVERTISEMENT[..15]).err() == Some(Why::Length));
+    assert!(rt; decode(&SOLICITATION[..23]).err() == Some(Why::Length));
     // An option that passes the end, and a last byte alone.
-    assert_eq!(rt; decode(&ADVERTISEMENT[..48]).err(), Some(Why::OptionOver));
-    assert_eq!(rt; decode(&ADVERTISEMENT[..17]).err(), Some(Why::OptionOver));
+    assert!(rt; decode(&ADVERTISEMENT[..48]).err() == Some(Why::OptionOver));
+    assert!(rt; decode(&ADVERTISEMENT[..17]).err() == Some(Why::OptionOver));
 }
 
 #[test]
@@ -206,13 +194,13 @@ fn ignores_bits_past_the_prefix(rt: HostRuntime) -> Result<(), Fail> {
 #[test]
 fn reads_router_solicitation(rt: HostRuntime) -> Result<(), Fail> {
     let message = decode(&ROUTER_SOLICITATION).ok().ok_or("message")?;
-    assert_eq!(rt; message.body, Body::Rs);
+    assert!(rt; message.body == Body::Rs);
     let mut options = message.options;
     assert!(rt;
         matches!(options.next(), Some(OptionRef::Slla(mac)) if mac == Mac([0x34, 0x56, 0x78, 0x9a, 0xbc, 0xde]))
     );
     assert!(rt; options.next().is_none());
-    assert_eq!(rt; decode(&ROUTER_SOLICITATION[..7]).err(), Some(Why::Length));
+    assert!(rt; decode(&ROUTER_SOLICITATION[..7]).err() == Some(Why::Length));
     Ok(())
 }
 
@@ -228,15 +216,12 @@ fn reads_neighbor_advertisement(rt: HostRuntime) -> Result<(), Fail> {
         override_flag: true,
         target,
     };
-    assert_eq!(rt; message.body, Body::Na(body));
+    assert!(rt; message.body == Body::Na(body));
     let mut options = message.options;
     assert!(rt;
         matches!(options.next(), Some(OptionRef::Tlla(mac)) if mac == Mac([2, 0, 0, 0, 0, 1]))
     );
-    assert_eq!(rt;
-        decode(&NEIGHBOR_ADVERTISEMENT[..23]).err(),
-        Some(Why::Length)
-    );
+    assert!(rt; decode(&NEIGHBOR_ADVERTISEMENT[..23]).err() == Some(Why::Length));
     Ok(())
 }
 
@@ -249,13 +234,13 @@ fn reads_redirect(rt: HostRuntime) -> Result<(), Fail> {
             0x20, 0x01, 0x0d, 0xb8, 0, 0x01, 0, 0, 0, 0, 0, 0, 0, 0, 0, 0x05,
         ]),
     };
-    assert_eq!(rt; message.body, Body::Redirect(body));
+    assert!(rt; message.body == Body::Redirect(body));
     let mut options = message.options;
     assert!(rt;
         matches!(options.next(), Some(OptionRef::Redirected(packet)) if packet == &REDIRECT[48..88])
     );
     assert!(rt; options.next().is_none());
-    assert_eq!(rt; decode(&REDIRECT[..39]).err(), Some(Why::Length));
+    assert!(rt; decode(&REDIRECT[..39]).err() == Some(Why::Length));
     Ok(())
 }
 
@@ -267,19 +252,19 @@ fn reads_servers_and_names(rt: HostRuntime) -> Result<(), Fail> {
         Some(OptionRef::Rdnss(lifetime, servers)) => (lifetime, servers),
         _ => return Err("servers")?,
     };
-    assert_eq!(rt; lifetime, 1800);
-    assert_eq!(rt; servers.len(), 1);
+    assert!(rt; lifetime == 1800);
+    assert!(rt; servers.len() == 1);
     let server = Addr([
         0x20, 0x01, 0x0d, 0xb8, 0, 0, 0, 0, 0, 0, 0, 0, 0, 0, 0, 0x53,
     ]);
-    assert_eq!(rt; servers.next(), Some(server));
+    assert!(rt; servers.next() == Some(server));
     assert!(rt; servers.next().is_none());
     let (lifetime, mut names) = match options.next() {
         Some(OptionRef::Dnssl(lifetime, names)) => (lifetime, names),
         _ => return Err("names")?,
     };
-    assert_eq!(rt; lifetime, 1800);
-    assert_eq!(rt; names.len(), 1);
+    assert!(rt; lifetime == 1800);
+    assert!(rt; names.len() == 1);
     let name = names.next().ok_or("name")?;
     assert!(rt; name.is(b"\x01a\x07example"));
     assert!(rt; names.next().is_none());

@@ -20,21 +20,18 @@ fn name_of_labels(rt: &HostRuntime, lengths: &[u8]) -> Result<Vec<u8>, Fail> {
 #[test]
 fn reads_capital_letters_as_small(rt: HostRuntime) -> Result<(), Fail> {
     let mut names = Names::read(&A_EXAMPLE).ok_or("names")?;
-    assert_eq!(rt; names.len(), 1);
+    assert!(rt; names.len() == 1);
     let name = names.next().ok_or("name")?;
     assert!(rt; names.next().is_none());
-    assert_eq!(rt; name.as_bytes(), &b"\x01A\x07example"[..]);
+    assert!(rt; name.as_bytes() == &b"\x01A\x07example"[..]);
     assert!(rt; name.is(b"\x01a\x07example"));
     assert!(rt; !name.is(b"\x01A\x07example"));
     assert!(rt; !name.is(b"\x01a\x07exampl"));
     assert!(rt; !name.is(b"\x01a\x07example\0"));
-    assert_eq!(rt;
-        name.lowered(rt.alloc())?.as_slice(),
-        &b"\x01a\x07example"[..]
-    );
+    assert!(rt; name.lowered(rt.alloc())?.as_slice() == &b"\x01a\x07example"[..]);
     let mut text = String::new(rt.alloc());
     name.write_text(&mut text)?;
-    assert_eq!(rt; text.as_str(), "a.example");
+    assert!(rt; text.as_str() == "a.example");
     Ok(())
 }
 
@@ -42,13 +39,13 @@ fn reads_capital_letters_as_small(rt: HostRuntime) -> Result<(), Fail> {
 fn reads_names_in_order(rt: HostRuntime) -> Result<(), Fail> {
     let bytes = b"\x03lab\x04Test\0\x0bx-1_y-22-33\0\x03lab\0";
     let names = Names::read(bytes).ok_or("names")?;
-    assert_eq!(rt; names.len(), 3);
+    assert!(rt; names.len() == 3);
     let mut text = String::new(rt.alloc());
     for name in names {
         name.write_text(&mut text)?;
         text.push(' ')?;
     }
-    assert_eq!(rt; text.as_str(), "lab.test x-1_y-22-33 lab ");
+    assert!(rt; text.as_str() == "lab.test x-1_y-22-33 lab ");
     Ok(())
 }
 
@@ -62,11 +59,11 @@ fn refuses_label_of_64_bytes(rt: HostRuntime) -> Result<(), Fail> {
 #[test]
 fn refuses_name_of_256_bytes(rt: HostRuntime) -> Result<(), Fail> {
     let longest = name_of_labels(&rt, &[63, 63, 63, 61])?;
-    assert_eq!(rt; longest.len(), 255);
+    assert!(rt; longest.len() == 255);
     assert!(rt; Names::read(&longest).is_some());
     assert!(rt; is_name(longest.get(..254).ok_or("labels")?));
     let longer = name_of_labels(&rt, &[63, 63, 63, 62])?;
-    assert_eq!(rt; longer.len(), 256);
+    assert!(rt; longer.len() == 256);
     assert!(rt; Names::read(&longer).is_none());
     assert!(rt; !is_name(longer.get(..255).ok_or("labels")?));
     Ok(())
@@ -90,7 +87,7 @@ fn refuses_padding_with_another_byte(rt: HostRuntime) {
 
 #[test]
 fn takes_padding_of_any_length(rt: HostRuntime) -> Result<(), Fail> {
-    assert_eq!(rt; Names::read(b"\x01a\0").ok_or("names")?.len(), 1);
+    assert!(rt; Names::read(b"\x01a\0").ok_or("names")?.len() == 1);
     assert_eq!(rt;
         Names::read(b"\x01a\0\0\0\0\0\0\0\0\0\0\0\0\0\0\0\0")
             .ok_or("names")?

@@ -75,8 +75,8 @@ fn the_first_rule_that_is_broken_is_told(rt: HostRuntime) {
         let config = Config::new(min, max, lifetime, 64, NO_FLAGS, reachable_time, 0, 1);
         assert_eq!(rt; config.err(), Some(fault));
     }
-    assert_eq!(rt; ConfigFault::Max as u8, 1);
-    assert_eq!(rt; ConfigFault::Prefix as u8, 7);
+    assert!(rt; ConfigFault::Max as u8 == 1);
+    assert!(rt; ConfigFault::Prefix as u8 == 7);
 }
 
 #[test]
@@ -88,14 +88,14 @@ fn a_configuration_says_what_is_advertised(rt: HostRuntime) -> Result<(), Fail> 
     let Ok(config) = Config::new(200, 600, 1800, 64, flags, 30_000, 1_000, 1400) else {
         return Err(Fail::new("not taken"));
     };
-    assert_eq!(rt; config.interval(), (200_000, 600_000));
-    assert_eq!(rt; config.mtu(), 1400);
+    assert!(rt; config.interval() == (200_000, 600_000));
+    assert!(rt; config.mtu() == 1400);
     let fields = config.fields();
-    assert_eq!(rt; fields.hop_limit, 64);
+    assert!(rt; fields.hop_limit == 64);
     assert!(rt; fields.managed && !fields.other);
-    assert_eq!(rt; fields.router_lifetime, 1800);
-    assert_eq!(rt; fields.reachable_time, 30_000);
-    assert_eq!(rt; fields.retrans_timer, 1_000);
+    assert!(rt; fields.router_lifetime == 1800);
+    assert!(rt; fields.reachable_time == 30_000);
+    assert!(rt; fields.retrans_timer == 1_000);
     Ok(())
 }
 
@@ -135,9 +135,9 @@ fn an_offer_breaks_no_rule(rt: HostRuntime) -> Result<(), Fail> {
     };
     let info = offer.info();
     assert!(rt; info.on_link && info.autonomous);
-    assert_eq!(rt; info.valid_lifetime, 2_592_000);
-    assert_eq!(rt; info.preferred_lifetime, 604_800);
-    assert_eq!(rt; info.prefix.length(), 64);
+    assert!(rt; info.valid_lifetime == 2_592_000);
+    assert!(rt; info.preferred_lifetime == 604_800);
+    assert!(rt; info.prefix.length() == 64);
     Ok(())
 }
 
@@ -159,7 +159,7 @@ fn send(rt: &impl Abort, advertiser: &mut Advertiser<Global>, now: u64, interval
     requires positive { 0 < interval }
 {
     let next = advertiser.next_due();
-    assert_eq!(rt; next, Some(now));
+    assert!(rt; next == Some(now));
     if let Some(next) = next
         && next < 1 << 62
     {
@@ -186,22 +186,22 @@ fn a_solicitation_is_answered_three_seconds_after_the_last_advertisement(rt: Hos
     assert!(rt; !solicit(&mut advertiser, 2000, 200));
     send(&rt, &mut advertiser, 2000, 200_000);
     // It is cut to 16 seconds, since it is one of the first three.
-    assert_eq!(rt; advertiser.next_due(), Some(18_000));
+    assert!(rt; advertiser.next_due() == Some(18_000));
     assert!(rt; solicit(&mut advertiser, 3000, 200));
     // The first one alone counts.
     assert!(rt; !solicit(&mut advertiser, 3001, 0));
     send(&rt, &mut advertiser, 5200, 200_000);
     assert!(rt; advertiser.stop(6000));
     assert!(rt; !advertiser.is_on());
-    assert_eq!(rt; advertiser.next_due(), None);
+    assert!(rt; advertiser.next_due() == None);
     assert!(rt; !advertiser.stop(6001));
     // The last advertisement counts for the three seconds, and the first three begin anew.
     advertiser.begin(6500, timed(200, 600, 1800).expect(&rt, "settings"));
     send(&rt, &mut advertiser, 9000, 200_000);
-    assert_eq!(rt; advertiser.next_due(), Some(25_000));
+    assert!(rt; advertiser.next_due() == Some(25_000));
     // Three seconds after it the delay alone counts.
     assert!(rt; solicit(&mut advertiser, 12_000, 500));
-    assert_eq!(rt; advertiser.next_due(), Some(12_500));
+    assert!(rt; advertiser.next_due() == Some(12_500));
 }
 
 #[test]
@@ -224,23 +224,23 @@ fn the_fourth_interval_is_as_it_was_drawn(rt: HostRuntime) {
     advertiser.begin(20_000, timed(3, 4, 1800).expect(&rt, "settings"));
     send(&rt, &mut advertiser, 34_000, 600_000);
     send(&rt, &mut advertiser, 50_000, 600_000);
-    assert_eq!(rt; advertiser.next_due(), Some(650_000));
+    assert!(rt; advertiser.next_due() == Some(650_000));
 }
 
 #[test]
 fn the_first_advertisement_waits_for_the_address(rt: HostRuntime) {
     let mut advertiser = Advertiser::new(rt.alloc()).expect(&rt, "memory");
-    assert_eq!(rt; advertiser.next_due(), None);
-    assert_eq!(rt; advertiser.interval(), None);
+    assert!(rt; advertiser.next_due() == None);
+    assert!(rt; advertiser.interval() == None);
     advertiser.begin(200, timed(200, 600, 1800).expect(&rt, "settings"));
     assert!(rt; advertiser.is_on());
-    assert_eq!(rt; advertiser.interval(), Some((200_000, 600_000)));
-    assert_eq!(rt; advertiser.next_due(), None);
+    assert!(rt; advertiser.interval() == Some((200_000, 600_000)));
+    assert!(rt; advertiser.next_due() == None);
     // Nothing was sent, so no last one is.
     assert!(rt; !advertiser.stop(300));
     advertiser.begin(400, timed(200, 600, 1800).expect(&rt, "settings"));
     advertiser.assigned(1200);
-    assert_eq!(rt; advertiser.next_due(), Some(1200));
+    assert!(rt; advertiser.next_due() == Some(1200));
 }
 
 /// The offer of the prefix that begins with these two bytes.
@@ -279,13 +279,13 @@ fn offers(rt: &impl Abort, advertiser: &Advertiser<Global>, wanted: &[(u8, u32)]
 fn a_prefix_that_is_there_is_replaced_in_its_place(rt: HostRuntime) {
     let mut advertiser = Advertiser::new(rt.alloc()).expect(&rt, "memory");
     offers(&rt, &advertiser, &[]);
-    assert_eq!(rt; put(&mut advertiser, 3, 64, 100), Some(Ok(())));
-    assert_eq!(rt; put(&mut advertiser, 1, 64, 100), Some(Ok(())));
-    assert_eq!(rt; put(&mut advertiser, 2, 64, 100), Some(Ok(())));
-    assert_eq!(rt; put(&mut advertiser, 1, 64, 200), Some(Ok(())));
+    assert!(rt; put(&mut advertiser, 3, 64, 100) == Some(Ok(())));
+    assert!(rt; put(&mut advertiser, 1, 64, 100) == Some(Ok(())));
+    assert!(rt; put(&mut advertiser, 2, 64, 100) == Some(Ok(())));
+    assert!(rt; put(&mut advertiser, 1, 64, 200) == Some(Ok(())));
     offers(&rt, &advertiser, &[(3, 100), (1, 200), (2, 100)]);
     // Another length is another prefix.
-    assert_eq!(rt; put(&mut advertiser, 3, 48, 300), Some(Ok(())));
+    assert!(rt; put(&mut advertiser, 3, 48, 300) == Some(Ok(())));
     offers(&rt, &advertiser, &[(3, 100), (1, 200), (2, 100), (3, 300)]);
 }
 
@@ -295,11 +295,11 @@ fn sixteen_prefixes_are_advertised(rt: HostRuntime) {
     for second in 0..16u8 {
         assert_eq!(rt; put(&mut advertiser, second, 64, 100), Some(Ok(())));
     }
-    assert_eq!(rt; put(&mut advertiser, 16, 64, 100), Some(Err(Full)));
+    assert!(rt; put(&mut advertiser, 16, 64, 100) == Some(Err(Full)));
     // One that is there finds its place.
-    assert_eq!(rt; put(&mut advertiser, 0, 64, 200), Some(Ok(())));
-    assert_eq!(rt; put(&mut advertiser, 15, 64, 200), Some(Ok(())));
-    assert_eq!(rt; put(&mut advertiser, 17, 64, 100), Some(Err(Full)));
+    assert!(rt; put(&mut advertiser, 0, 64, 200) == Some(Ok(())));
+    assert!(rt; put(&mut advertiser, 15, 64, 200) == Some(Ok(())));
+    assert!(rt; put(&mut advertiser, 17, 64, 100) == Some(Err(Full)));
     let mut count = 0u8;
     for offer in advertiser.rows() {
         let second = offer.info().prefix.address().0[1];
@@ -312,7 +312,7 @@ fn sixteen_prefixes_are_advertised(rt: HostRuntime) {
         assert_eq!(rt; offer.info().valid_lifetime, valid);
         count = count.saturating_add(1);
     }
-    assert_eq!(rt; count, 16);
+    assert!(rt; count == 16);
 }
 
 /// An advertisement of fe80::ff:fe00:1 with a router lifetime of 1800 seconds, and no MTU and no prefix.
@@ -368,14 +368,14 @@ fn advertisements_are_written_as_frames(rt: HostRuntime) {
     );
     assert!(rt; begin(&mut advertiser, 200, 600, 2000));
     match advertiser.contents(rt.alloc(), MAC).expect(&rt, "memory") {
-        Some(message) => assert_eq!(rt; frame(&rt, &message).as_slice(), &ADVERTISEMENT[..]),
+        Some(message) => assert!(rt; frame(&rt, &message).as_slice() == &ADVERTISEMENT[..]),
         None => assert!(rt; false),
     }
     match advertiser
         .last_contents(rt.alloc(), MAC)
         .expect(&rt, "memory")
     {
-        Some(message) => assert_eq!(rt; frame(&rt, &message).as_slice(), &LAST_ADVERTISEMENT[..]),
+        Some(message) => assert!(rt; frame(&rt, &message).as_slice() == &LAST_ADVERTISEMENT[..]),
         None => assert!(rt; false),
     }
 }

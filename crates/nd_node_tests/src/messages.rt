@@ -116,7 +116,7 @@ fn writes_solicitation(rt: HostRuntime) {
     let bytes = encode(rt.alloc(), &message, Addr::UNSPECIFIED, SOLICITED_NODE).expect(
         &rt, "memory",
     );
-    assert_eq!(rt; bytes.as_slice(), &SOLICITATION[..]);
+    assert!(rt; bytes.as_slice() == &SOLICITATION[..]);
 }
 
 /// A message is put behind what stands there, in room that was made before.
@@ -125,17 +125,14 @@ fn puts_a_message_behind_other_bytes(rt: HostRuntime) {
     let body = Body::Ns(NeighborSolicitation { target: TARGET });
     let options: Vec<Opt<Global>> = Vec::new(rt.alloc());
     let length = written_length(&body, &options).expect(&rt, "a length");
-    assert_eq!(rt; length, 24);
+    assert!(rt; length == 24);
     let mut out = Vec::new(rt.alloc());
     out.extend_from_slice(&[1, 2, 3]).expect(&rt, "memory");
     out.reserve(length).expect(&rt, "memory");
     put_message(&mut out, &body, &options, Addr::UNSPECIFIED, SOLICITED_NODE);
-    assert_eq!(rt; out.len(), 27);
-    assert_eq!(rt;
-        out.get(..3).expect(&rt, "what stood there"),
-        &[1, 2, 3][..]
-    );
-    assert_eq!(rt; out.get(3..).expect(&rt, "the message"), &SOLICITATION[..]);
+    assert!(rt; out.len() == 27);
+    assert!(rt; out.get(..3).expect(&rt, "what stood there") == &[1, 2, 3][..]);
+    assert!(rt; out.get(3..).expect(&rt, "the message") == &SOLICITATION[..]);
 }
 
 /// What stands in front of that solicitation in its frame: to 33:33:ff:9a:bc:de from 34:56:78:9a:bc:de, and to ff02::1:ff9a:bcde
@@ -162,12 +159,9 @@ fn puts_a_frame(rt: HostRuntime) {
         &body,
         &options,
     );
-    assert_eq!(rt; out.len(), 78);
-    assert_eq!(rt;
-        out.get(..54).expect(&rt, "headers"),
-        &SOLICITATION_HEADERS[..]
-    );
-    assert_eq!(rt; out.get(54..).expect(&rt, "message"), &SOLICITATION[..]);
+    assert!(rt; out.len() == 78);
+    assert!(rt; out.get(..54).expect(&rt, "headers") == &SOLICITATION_HEADERS[..]);
+    assert!(rt; out.get(54..).expect(&rt, "message") == &SOLICITATION[..]);
 }
 
 #[test]
@@ -190,7 +184,7 @@ fn writes_advertisement(rt: HostRuntime) {
     };
     assert!(rt; message.is_well_formed());
     let bytes = encode(rt.alloc(), &message, ROUTER, Addr::ALL_NODES).expect(&rt, "memory");
-    assert_eq!(rt; bytes.as_slice(), &ADVERTISEMENT[..]);
+    assert!(rt; bytes.as_slice() == &ADVERTISEMENT[..]);
 }
 
 /// A message with one option.
@@ -217,9 +211,9 @@ fn writes_router_solicitation(rt: HostRuntime) {
     let message = message_with(&rt, Body::Rs, Opt::Slla(mac));
     assert!(rt; message.is_well_formed());
     let bytes = encode(rt.alloc(), &message, TARGET, Addr::ALL_ROUTERS).expect(&rt, "memory");
-    assert_eq!(rt; bytes.as_slice(), &ROUTER_SOLICITATION[..]);
+    assert!(rt; bytes.as_slice() == &ROUTER_SOLICITATION[..]);
     let read = decode(&bytes).ok().expect(&rt, "message");
-    assert_eq!(rt; read.body, Body::Rs);
+    assert!(rt; read.body == Body::Rs);
     let mut left = read.options;
     assert!(rt; matches!(left.next(), Some(OptionRef::Slla(told)) if told == mac));
     assert!(rt; left.next().is_none());
@@ -236,8 +230,8 @@ fn writes_neighbor_advertisements(rt: HostRuntime) {
     let message = message_with(&rt, body, Opt::Tlla(Mac([2, 0, 0, 0, 0, 1])));
     assert!(rt; message.is_well_formed());
     let bytes = encode(rt.alloc(), &message, ROUTER, TARGET).expect(&rt, "memory");
-    assert_eq!(rt; bytes.as_slice(), &ADVERTISEMENT_OF_A_ROUTER[..]);
-    assert_eq!(rt; decode(&bytes).ok().expect(&rt, "message").body, body);
+    assert!(rt; bytes.as_slice() == &ADVERTISEMENT_OF_A_ROUTER[..]);
+    assert!(rt; decode(&bytes).ok().expect(&rt, "message").body == body);
     let body = Body::Na(NeighborAdvertisement {
         router: false,
         solicited: false,
@@ -248,8 +242,8 @@ fn writes_neighbor_advertisements(rt: HostRuntime) {
     let message = message_with(&rt, body, Opt::Tlla(mac));
     assert!(rt; message.is_well_formed());
     let bytes = encode(rt.alloc(), &message, TARGET, Addr::ALL_NODES).expect(&rt, "memory");
-    assert_eq!(rt; bytes.as_slice(), &ADVERTISEMENT_UNSOLICITED[..]);
-    assert_eq!(rt; decode(&bytes).ok().expect(&rt, "message").body, body);
+    assert!(rt; bytes.as_slice() == &ADVERTISEMENT_UNSOLICITED[..]);
+    assert!(rt; decode(&bytes).ok().expect(&rt, "message").body == body);
 }
 
 #[test]
@@ -261,8 +255,8 @@ fn writes_redirect(rt: HostRuntime) {
     let message = message_with(&rt, body, Opt::Tlla(Mac([2, 0, 0, 0, 0, 2])));
     assert!(rt; message.is_well_formed());
     let bytes = encode(rt.alloc(), &message, ROUTER, TARGET).expect(&rt, "memory");
-    assert_eq!(rt; bytes.as_slice(), &REDIRECT[..]);
-    assert_eq!(rt; decode(&bytes).ok().expect(&rt, "message").body, body);
+    assert!(rt; bytes.as_slice() == &REDIRECT[..]);
+    assert!(rt; decode(&bytes).ok().expect(&rt, "message").body == body);
 }
 
 #[test]
@@ -276,7 +270,7 @@ fn writes_redirect_with_packet(rt: HostRuntime) {
     let message = message_with(&rt, body, Opt::Redirected(owned(&rt, packet)));
     assert!(rt; message.is_well_formed());
     let bytes = encode(rt.alloc(), &message, ROUTER, NEAR).expect(&rt, "memory");
-    assert_eq!(rt; bytes.as_slice(), &REDIRECT_WITH_PACKET[..]);
+    assert!(rt; bytes.as_slice() == &REDIRECT_WITH_PACKET[..]);
     let mut left = decode(&bytes).ok().expect(&rt, "message").options;
     assert!(rt; matches!(left.next(), Some(OptionRef::Redirected(told)) if told == packet));
     assert!(rt; left.next().is_none());
@@ -313,9 +307,9 @@ fn writes_mtu_servers_and_names(rt: HostRuntime) {
     let mut small = ADVERTISEMENT_WITH_NAMES;
     small[57] = 0x61;
     small[3] = 0xbe - 0x20;
-    assert_eq!(rt; bytes.as_slice(), &small[..]);
+    assert!(rt; bytes.as_slice() == &small[..]);
     let read = decode(&bytes).ok().expect(&rt, "message");
-    assert_eq!(rt; read.body, body);
+    assert!(rt; read.body == body);
     let mut left = read.options;
     assert!(rt; matches!(left.next(), Some(OptionRef::Mtu(1400))));
     let servers = match left.next() {
@@ -323,7 +317,7 @@ fn writes_mtu_servers_and_names(rt: HostRuntime) {
         _ => None,
     };
     let mut told = servers.expect(&rt, "servers");
-    assert_eq!(rt; told.next(), Some(SERVER));
+    assert!(rt; told.next() == Some(SERVER));
     assert!(rt; told.next().is_none());
     let names = match left.next() {
         Some(OptionRef::Dnssl(1800, told)) => Some(told),
@@ -352,14 +346,14 @@ fn writes_the_least_padding(rt: HostRuntime) {
     assert!(rt; message.is_well_formed());
     let bytes = encode(rt.alloc(), &message, ROUTER, Addr::ALL_NODES).expect(&rt, "memory");
     let written = bytes.get(16..).expect(&rt, "option");
-    assert_eq!(rt; written, &b"\x1f\x02\0\0\0\0\x07\x08\x06abcdef\0"[..]);
+    assert!(rt; written == &b"\x1f\x02\0\0\0\0\x07\x08\x06abcdef\0"[..]);
     // Nine need seven.
     let message = advertisement_of_names(&rt, &[b"\x01a\x01b", b"\x02cd"]);
     assert!(rt; message.is_well_formed());
     let bytes = encode(rt.alloc(), &message, ROUTER, Addr::ALL_NODES).expect(&rt, "memory");
     let written = bytes.get(16..).expect(&rt, "option");
     let expected = b"\x1f\x03\0\0\0\0\x07\x08\x01a\x01b\0\x02cd\0\0\0\0\0\0\0\0";
-    assert_eq!(rt; written, &expected[..]);
+    assert!(rt; written == &expected[..]);
 }
 
 #[test]
@@ -503,7 +497,7 @@ fn reads_what_it_wrote(rt: HostRuntime) {
     assert!(rt; message.is_well_formed());
     let bytes = encode(rt.alloc(), &message, ROUTER, Addr::ALL_NODES).expect(&rt, "memory");
     let read = decode(&bytes).ok().expect(&rt, "message");
-    assert_eq!(rt; read.body, body);
+    assert!(rt; read.body == body);
     let mut left = read.options;
     assert!(rt;
         matches!(left.next(), Some(OptionRef::Tlla(mac)) if mac == Mac([2, 0, 0, 0, 0, 1]))
@@ -586,14 +580,14 @@ fn writes_the_longest_message(rt: HostRuntime) {
     let message = Message { body, options };
     assert!(rt; message.is_well_formed());
     let bytes = encode(rt.alloc(), &message, ROUTER, Addr::ALL_NODES).expect(&rt, "memory");
-    assert_eq!(rt; bytes.len(), 65528);
+    assert!(rt; bytes.len() == 65528);
     let fields = bytes.get(..16).expect(&rt, "fields");
     let spelled = [134, 0, 0x4e, 0x9a, 64, 0, 7, 8, 0, 0, 0, 0, 0, 0, 0, 0];
-    assert_eq!(rt; fields, &spelled[..]);
-    assert_eq!(rt; bytes.get(16..168).expect(&rt, "first"), &FIVE_OPTIONS[..]);
-    assert_eq!(rt; bytes.get(65376..).expect(&rt, "last"), &FIVE_OPTIONS[..]);
+    assert!(rt; fields == &spelled[..]);
+    assert!(rt; bytes.get(16..168).expect(&rt, "first") == &FIVE_OPTIONS[..]);
+    assert!(rt; bytes.get(65376..).expect(&rt, "last") == &FIVE_OPTIONS[..]);
     let read = decode(&bytes).ok().expect(&rt, "message");
-    assert_eq!(rt; read.body, body);
+    assert!(rt; read.body == body);
     let mut left = read.options;
     for _ in 0..431 {
         assert!(rt; next_are_five(&mut left));

@@ -204,7 +204,7 @@ fn keeps_64_redirects(rt: HostRuntime) {
     // An ended one keeps its place.
     choice.target_gone(link_local(2));
     assert!(rt; choice.next_hop(global(1, 2), &view) == Hop::NoRoute);
-    assert_eq!(rt; count(&choice), 63);
+    assert!(rt; count(&choice) == 63);
     // Asking changes no order: the first goes where a 65th comes.
     assert!(rt; choice.next_hop(global(1, 0), &view) == Hop::Via(link_local(0)));
     choice
@@ -212,22 +212,22 @@ fn keeps_64_redirects(rt: HostRuntime) {
         .expect(&rt, "memory");
     assert!(rt; choice.next_hop(global(1, 0), &view) == Hop::NoRoute);
     assert!(rt; choice.next_hop(global(1, 1), &view) == Hop::Via(link_local(1)));
-    assert_eq!(rt; count(&choice), 63);
+    assert!(rt; count(&choice) == 63);
     // One that is redirected again is the newest, and pushes none out.
     choice
         .redirected(global(1, 1), link_local(99))
         .expect(&rt, "memory");
     assert!(rt; choice.next_hop(global(1, 1), &view) == Hop::Via(link_local(99)));
-    assert_eq!(rt; count(&choice), 63);
+    assert!(rt; count(&choice) == 63);
     // The next one pushes out the one that ended, the next again one that is kept.
     choice
         .redirected(global(1, 65), link_local(65))
         .expect(&rt, "memory");
-    assert_eq!(rt; count(&choice), 64);
+    assert!(rt; count(&choice) == 64);
     choice
         .redirected(global(1, 66), link_local(66))
         .expect(&rt, "memory");
-    assert_eq!(rt; count(&choice), 64);
+    assert!(rt; count(&choice) == 64);
     assert!(rt; choice.next_hop(global(1, 3), &view) == Hop::NoRoute);
     assert!(rt; choice.next_hop(global(1, 4), &view) == Hop::Via(link_local(4)));
 }

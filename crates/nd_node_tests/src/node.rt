@@ -42,7 +42,7 @@ fn tells(rt: &(impl Abort + AllocGlobal), events: &[(u64, Event<Global>)], wante
     node.run(events, &mut outs).expect(rt, "memory");
     let mut text = String::new(rt.alloc());
     write_outs(&mut text, &outs).expect(rt, "memory");
-    assert_eq!(rt; text.as_str().strip_prefix(STARTED), Some(wanted));
+    assert!(rt; text.as_str().strip_prefix(STARTED) == Some(wanted));
 }
 
 /// Events come one after the other, and all that is due up to each comes first.
@@ -75,14 +75,8 @@ fn a_host_settles(rt: HostRuntime) {
 #[test]
 fn a_new_host_has_one_row(rt: HostRuntime) {
     let counts = host(&rt).counts();
-    assert_eq!(rt;
-        (counts.neighbours, counts.routers, counts.prefixes),
-        (0, 0, 0)
-    );
-    assert_eq!(rt;
-        (counts.addresses, counts.servers, counts.search_names),
-        (1, 0, 0)
-    );
+    assert!(rt; (counts.neighbours, counts.routers, counts.prefixes) == (0, 0, 0));
+    assert!(rt; (counts.addresses, counts.servers, counts.search_names) == (1, 0, 0));
 }
 
 /// A packet of three bytes is to be sent.

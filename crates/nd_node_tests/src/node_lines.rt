@@ -2,7 +2,8 @@ use nd_addr::Addr;
 use nd_decode::{Body, NeighborSolicitation};
 use nd_out::*;
 use nd_waiting::Packet;
-use std::alloc::{AllocError, Global};
+use std::alloc::Global;
+use std::process::Abort;
 use std::test::*;
 
 /// fe80::3656:78ff:fe9a:bcde.
@@ -18,11 +19,11 @@ const SOLICITATION: [u8; 78] = [
     0, 0, 0, 0, 0x36, 0x56, 0x78, 0xff, 0xfe, 0x9a, 0xbc, 0xde,
 ];
 
-/// What is told of one thing that happened at a node of a link.
-fn told(alloc: Global, node: usize, at: u64, out: Out<Global>) -> Result<String, AllocError> {
-    let mut text = String::new(alloc);
-    write_node_out(&mut text, node, at, &out)?;
-    Ok(text)
+/// This text is told of one thing that happened at a node of a link.
+fn is_told(rt: &(impl Abort + AllocGlobal), node: usize, at: u64, out: Out<Global>, text: &str) {
+    let mut told = String::new(rt.alloc());
+    write_node_out(&mut told, node, at, &out).expect(rt, "memory");
+    assert_eq!(rt; told.as_str(), text);
 }
 
 #[test]
@@ -30,11 +31,12 @@ fn a_frame_is_told_of_its_node(rt: HostRuntime) {
     let mut bytes = Vec::new(rt.alloc());
     bytes.extend_from_slice(&SOLICITATION).expect(&rt, "memory");
     let frame = Packet::new(bytes).expect(&rt, "too short");
-    assert_eq!(rt;
-        told(rt.alloc(), 0, 0, Out::Frame(frame))
-            .expect(&rt, "memory")
-            .as_str(),
-        "n0 0 tx 3333ff9abcde3456789abcde86dd6000000000183aff00000000000000000000000000000000ff0200000000000000000001ff9abcde870053df00000000fe80000000000000365678fffe9abcde\n"
+    is_told(
+        &rt,
+        0,
+        0,
+        Out::Frame(frame),
+        "n0 0 tx 3333ff9abcde3456789abcde86dd6000000000183aff00000000000000000000000000000000ff0200000000000000000001ff9abcde870053df00000000fe80000000000000365678fffe9abcde\n",
     );
 }
 
@@ -46,23 +48,20 @@ fn a_line_begins_with_the_number_of_its_node(rt: HostRuntime) {
         destination: LINK_LOCAL,
         body,
     };
-    assert_eq!(rt;
-        told(rt.alloc(), 1, 400, heard)
-            .expect(&rt, "memory")
-            .as_str(),
-        "n1 400 heard ns\n"
+    is_told(&rt, 1, 400, heard, "n1 400 heard ns\n");
+    is_told(
+        &rt,
+        0,
+        1000,
+        Out::Assigned(LINK_LOCAL),
+        "n0 1000 assigned fe80::3656:78ff:fe9a:bcde\n",
     );
-    assert_eq!(rt;
-        told(rt.alloc(), 0, 1000, Out::Assigned(LINK_LOCAL))
-            .expect(&rt, "memory")
-            .as_str(),
-        "n0 1000 assigned fe80::3656:78ff:fe9a:bcde\n"
-    );
-    assert_eq!(rt;
-        told(rt.alloc(), 15, 2800, Out::Duplicate(LINK_LOCAL))
-            .expect(&rt, "memory")
-            .as_str(),
-        "n15 2800 duplicate fe80::3656:78ff:fe9a:bcde\n"
+    is_told(
+        &rt,
+        15,
+        2800,
+        Out::Duplicate(LINK_LOCAL),
+        "n15 2800 duplicate fe80::3656:78ff:fe9a:bcde\n",
     );
 }
 
@@ -74,16 +73,12 @@ fn each_line_of_a_table_begins_so(rt: HostRuntime) {
         .expect(&rt, "memory");
     rows.push(String::from_str(alloc, "search a.example 1799000").expect(&rt, "memory"))
         .expect(&rt, "memory");
-    assert_eq!(rt;
-        told(alloc, 2, 2200, Out::Shown(rows))
-            .expect(&rt, "memory")
-            .as_str(),
-        "n2 2200 server 2001:db8::53 1799000\nn2 2200 search a.example 1799000\nn2 2200 end 2\n"
+    is_told(
+        &rt,
+        2,
+        2200,
+        Out::Shown(rows),
+        "n2 2200 server 2001:db8::53 1799000\nn2 2200 search a.example 1799000\nn2 2200 end 2\n",
     );
-    assert_eq!(rt;
-        told(alloc, 2, 2200, Out::Shown(Vec::new(alloc)))
-            .expect(&rt, "memory")
-            .as_str(),
-        "n2 2200 end 0\n"
-    );
+    is_told(&rt, 2, 2200, Out::Shown(Vec::new(alloc)), "n2 2200 end 0\n");
 }

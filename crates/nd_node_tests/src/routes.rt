@@ -23,6 +23,11 @@ fn via(n: u8) -> Route {
     Route::Via(link_local(n))
 }
 
+/// A route is put.
+fn puts(rt: &impl Abort, routes: &mut Routes<Global>, prefix: Prefix, route: Route) {
+    assert!(rt; routes.put(prefix, route) == Ok(()));
+}
+
 /// The routes are these, in this order.
 fn has_rows(rt: &impl Abort, routes: &Routes<Global>, wanted: &[(Prefix, Route)]) {
     let mut rest = wanted;
@@ -48,14 +53,14 @@ fn longest_prefix_decides(rt: HostRuntime) {
     let everything = prefix(&rt, Addr::UNSPECIFIED, 0);
     let subnet = prefix(&rt, global(1, 0), 64);
     let host = prefix(&rt, global(1, 5), 128);
-    assert_eq!(rt; routes.put(wide, via(2)), Ok(()));
-    assert_eq!(rt; routes.put(host, via(5)), Ok(()));
-    assert_eq!(rt; routes.put(subnet, Route::Direct), Ok(()));
-    assert_eq!(rt; routes.put(everything, via(9)), Ok(()));
-    assert_eq!(rt; routes.look(global(1, 5)), Some(via(5)));
-    assert_eq!(rt; routes.look(global(1, 6)), Some(Route::Direct));
-    assert_eq!(rt; routes.look(global(2, 5)), Some(via(2)));
-    assert_eq!(rt; routes.look(Addr::LOOPBACK), Some(via(9)));
+    puts(&rt, &mut routes, wide, via(2));
+    puts(&rt, &mut routes, host, via(5));
+    puts(&rt, &mut routes, subnet, Route::Direct);
+    puts(&rt, &mut routes, everything, via(9));
+    assert!(rt; routes.look(global(1, 5)) == Some(via(5)));
+    assert!(rt; routes.look(global(1, 6)) == Some(Route::Direct));
+    assert!(rt; routes.look(global(2, 5)) == Some(via(2)));
+    assert!(rt; routes.look(Addr::LOOPBACK) == Some(via(9)));
 }
 
 #[test]
@@ -65,13 +70,13 @@ fn routes_are_replaced_in_their_places(rt: HostRuntime) {
     let second = prefix(&rt, global(1, 0), 64);
     // The same address, with another length.
     let third = prefix(&rt, global(0, 0), 48);
-    assert_eq!(rt; routes.put(first, Route::Direct), Ok(()));
-    assert_eq!(rt; routes.put(second, via(2)), Ok(()));
-    assert_eq!(rt; routes.put(third, via(3)), Ok(()));
-    assert_eq!(rt; routes.put(first, via(4)), Ok(()));
+    puts(&rt, &mut routes, first, Route::Direct);
+    puts(&rt, &mut routes, second, via(2));
+    puts(&rt, &mut routes, third, via(3));
+    puts(&rt, &mut routes, first, via(4));
     let rows = [(first, via(4)), (second, via(2)), (third, via(3))];
     has_rows(&rt, &routes, &rows);
-    assert_eq!(rt; routes.look(global(0, 7)), Some(via(4)));
+    assert!(rt; routes.look(global(0, 7)) == Some(via(4)));
 }
 
 #[test]
@@ -84,7 +89,7 @@ fn a_65th_prefix_is_refused(rt: HostRuntime) {
         );
     }
     let new = prefix(&rt, global(64, 0), 64);
-    assert_eq!(rt; routes.put(new, via(2)), Err(Full));
+    assert!(rt; routes.put(new, via(2)) == Err(Full));
     assert!(rt; routes.look(global(64, 1)).is_none());
     // Replacing is never refused.
     for net in 0..64u8 {
@@ -93,8 +98,8 @@ fn a_65th_prefix_is_refused(rt: HostRuntime) {
             Ok(())
         );
     }
-    assert_eq!(rt; routes.look(global(63, 1)), Some(via(63)));
-    assert_eq!(rt; routes.put(new, via(2)), Err(Full));
+    assert!(rt; routes.look(global(63, 1)) == Some(via(63)));
+    assert!(rt; routes.put(new, via(2)) == Err(Full));
 }
 
 /// A packet of these addresses and this hop limit.
@@ -112,11 +117,8 @@ fn packet(source: Addr, destination: Addr, hop_limit: u8) -> Ip6 {
 /// 2001:db8::/64 is on the link, and 2001:db8:1::/64 behind fe80::2.
 fn make_routes(rt: &impl Abort, alloc: Global) -> Routes<Global> {
     let mut routes = Routes::new(alloc).expect(rt, "memory");
-    assert_eq!(rt;
-        routes.put(prefix(rt, global(0, 0), 64), Route::Direct),
-        Ok(())
-    );
-    assert_eq!(rt; routes.put(prefix(rt, global(1, 0), 64), via(2)), Ok(()));
+    puts(rt, &mut routes, prefix(rt, global(0, 0), 64), Route::Direct);
+    puts(rt, &mut routes, prefix(rt, global(1, 0), 64), via(2));
     routes
 }
 
@@ -138,15 +140,14 @@ fn hops_go_by_the_order_of_5_2(rt: HostRuntime) {
         assert!(rt; routes.next_hop(*destination, true) == Hop::NoRoute);
     }
     // No route counts before these rules.
-    assert_eq!(rt;
-        routes.put(prefix(&rt, Addr::UNSPECIFIED, 0), via(3)),
-        Ok(())
-    );
-    assert!(rt; routes.next_hop(Addr::UNSPECIFIED, false) == Hop::NoRoute);
-    assert!(rt; routes.next_hop(Addr::LOOPBACK, false) == Hop::NoRoute);
-    assert!(rt; routes.next_hop(Addr::ALL_NODES, false) == Hop::Direct);
-    assert!(rt; routes.next_hop(link_local(7), false) == Hop::Direct);
-    assert!(rt; routes.next_hop(global(2, 5), false) == Hop::Via(link_local(3)));
+    puts(&rt, &mut routes, prefix(&rt, Addr::UNSPECIFIED, 0), via(3));
+    let last = global(2, 5);
+    for (destination, hop) in &table {
+        if *destination != last {
+            assert!(rt; routes.next_hop(*destination, false) == *hop);
+        }
+    }
+    assert!(rt; routes.next_hop(last, false) == Hop::Via(link_local(3)));
     // fe80::/10 is wider than the subnet that is on the link.
     let other = Addr([0xfe, 0x80, 0, 0, 0, 0, 0, 1, 0, 0, 0, 0, 0, 0, 0, 7]);
     assert!(rt; routes.next_hop(other, false) == Hop::Via(link_local(3)));
@@ -168,14 +169,30 @@ fn packets_are_forwarded_or_lost(rt: HostRuntime) {
         assert!(rt; !may_be_forwarded(&packet(*address, away, 64)));
         assert!(rt; !may_be_forwarded(&packet(host, *address, 64)));
     }
-    assert!(rt; routes.forward(&packet(host, away, 64), false) == Fate::Via(link_local(2)));
-    assert!(rt; routes.forward(&packet(away, host, 64), false) == Fate::Direct);
-    assert!(rt; routes.forward(&packet(host, away, 2), false) == Fate::Via(link_local(2)));
-    assert!(rt; routes.forward(&packet(host, away, 1), false) == Fate::HopLimit);
-    assert!(rt; routes.forward(&packet(host, away, 0), false) == Fate::HopLimit);
-    // Without a route it is lost for want of one.
-    assert!(rt; routes.forward(&packet(host, global(2, 5), 1), false) == Fate::NoRoute);
+    for (source, destination, hop_limit, fate) in [
+        (host, away, 64, Fate::Via(link_local(2))),
+        (away, host, 64, Fate::Direct),
+        (host, away, 2, Fate::Via(link_local(2))),
+        (host, away, 1, Fate::HopLimit),
+        (host, away, 0, Fate::HopLimit),
+        // Without a route it is lost for want of one.
+        (host, global(2, 5), 1, Fate::NoRoute),
+    ] {
+        let packet = packet(source, destination, hop_limit);
+        assert_eq!(rt; routes.forward(&packet, false), fate);
+    }
     assert!(rt; routes.forward(&packet(host, away, 64), true) == Fate::NoRoute);
+}
+
+/// The sender of a packet, which isn't for the router, is redirected there.
+fn redirects(
+    rt: &impl Abort,
+    routes: &Routes<Global>,
+    now: u64,
+    packet: &Ip6,
+    target: Option<Addr>,
+) {
+    assert_eq!(rt; routes.redirect_for(now, packet, false), target);
 }
 
 #[test]
@@ -183,72 +200,44 @@ fn a_neighbour_is_redirected(rt: HostRuntime) {
     let mut routes = make_routes(&rt, rt.alloc());
     let host = global(0, 9);
     let away = global(1, 5);
-    assert_eq!(rt;
-        routes.redirect_for(2000, &packet(host, away, 64), false),
-        Some(link_local(2))
-    );
-    // A destination on the link is its own better first hop, unless it is who sent the packet.
-    assert_eq!(rt;
-        routes.redirect_for(2000, &packet(host, global(0, 8), 64), false),
-        Some(global(0, 8))
-    );
-    assert!(rt;
-        routes
-            .redirect_for(2000, &packet(host, host, 64), false)
-            .is_none()
-    );
-    // The source isn't on the link, or has no route.
-    assert!(rt;
-        routes
-            .redirect_for(2000, &packet(away, host, 64), false)
-            .is_none()
-    );
-    assert!(rt;
-        routes
-            .redirect_for(2000, &packet(global(2, 5), host, 64), false)
-            .is_none()
-    );
-    // The packet is lost, or isn't forwarded.
-    assert!(rt;
-        routes
-            .redirect_for(2000, &packet(host, away, 1), false)
-            .is_none()
-    );
-    assert!(rt;
-        routes
-            .redirect_for(2000, &packet(host, global(2, 5), 64), false)
-            .is_none()
-    );
-    assert!(rt;
-        routes
-            .redirect_for(2000, &packet(host, away, 64), true)
-            .is_none()
-    );
-    assert!(rt;
-        routes
-            .redirect_for(2000, &packet(host, link_local(2), 64), false)
-            .is_none()
-    );
+    for (source, destination, hop_limit, target) in [
+        (host, away, 64, Some(link_local(2))),
+        // A destination on the link is its own better first hop, unless it is who sent the packet.
+        (host, global(0, 8), 64, Some(global(0, 8))),
+        (host, host, 64, None),
+        // The source isn't on the link, or has no route.
+        (away, host, 64, None),
+        (global(2, 5), host, 64, None),
+        // The packet is lost, or isn't forwarded.
+        (host, away, 1, None),
+        (host, global(2, 5), 64, None),
+        (host, link_local(2), 64, None),
+    ] {
+        redirects(
+            &rt,
+            &routes,
+            2000,
+            &packet(source, destination, hop_limit),
+            target,
+        );
+    }
+    assert!(rt; routes.redirect_for(2000, &packet(host, away, 64), true) == None);
     // A router is told by its link-local address alone.
-    assert_eq!(rt;
-        routes.put(prefix(&rt, global(3, 0), 64), Route::Via(global(0, 3))),
-        Ok(())
+    puts(
+        &rt,
+        &mut routes,
+        prefix(&rt, global(3, 0), 64),
+        Route::Via(global(0, 3)),
     );
-    assert!(rt;
-        routes
-            .redirect_for(2000, &packet(host, global(3, 5), 64), false)
-            .is_none()
-    );
+    redirects(&rt, &routes, 2000, &packet(host, global(3, 5), 64), None);
     // The router that sent it isn't redirected to itself.
-    assert_eq!(rt;
-        routes.put(prefix(&rt, link_local(0), 64), Route::Direct),
-        Ok(())
+    puts(
+        &rt,
+        &mut routes,
+        prefix(&rt, link_local(0), 64),
+        Route::Direct,
     );
-    assert!(rt;
-        routes
-            .redirect_for(2000, &packet(link_local(2), away, 64), false)
-            .is_none()
-    );
+    redirects(&rt, &routes, 2000, &packet(link_local(2), away, 64), None);
 }
 
 #[test]
@@ -256,32 +245,17 @@ fn redirects_are_limited(rt: HostRuntime) {
     let mut routes = make_routes(&rt, rt.alloc());
     let packet = packet(global(0, 9), global(1, 5), 64);
     // Asking alone limits nothing.
-    assert_eq!(rt;
-        routes.redirect_for(2000, &packet, false),
-        Some(link_local(2))
-    );
-    assert_eq!(rt;
-        routes.redirect_for(2000, &packet, false),
-        Some(link_local(2))
-    );
+    redirects(&rt, &routes, 2000, &packet, Some(link_local(2)));
+    redirects(&rt, &routes, 2000, &packet, Some(link_local(2)));
     routes.redirected(2000);
-    assert!(rt; routes.redirect_for(2000, &packet, false).is_none());
-    assert!(rt; routes.redirect_for(2099, &packet, false).is_none());
-    assert_eq!(rt;
-        routes.redirect_for(2100, &packet, false),
-        Some(link_local(2))
-    );
+    redirects(&rt, &routes, 2000, &packet, None);
+    redirects(&rt, &routes, 2099, &packet, None);
+    redirects(&rt, &routes, 2100, &packet, Some(link_local(2)));
     // A new route leaves the limit.
-    assert_eq!(rt; routes.put(prefix(&rt, global(1, 0), 64), via(4)), Ok(()));
-    assert!(rt; routes.redirect_for(2099, &packet, false).is_none());
-    assert_eq!(rt;
-        routes.redirect_for(2100, &packet, false),
-        Some(link_local(4))
-    );
+    puts(&rt, &mut routes, prefix(&rt, global(1, 0), 64), via(4));
+    redirects(&rt, &routes, 2099, &packet, None);
+    redirects(&rt, &routes, 2100, &packet, Some(link_local(4)));
     routes.redirected(2100);
-    assert!(rt; routes.redirect_for(2199, &packet, false).is_none());
-    assert_eq!(rt;
-        routes.redirect_for(2200, &packet, false),
-        Some(link_local(4))
-    );
+    redirects(&rt, &routes, 2199, &packet, None);
+    redirects(&rt, &routes, 2200, &packet, Some(link_local(4)));
 }

@@ -12,7 +12,7 @@ use nd_routers::{Prefixes, Routers};
 use nd_routes::{Route, Routes};
 use nd_slaac::{AddressRoom, Addresses, Due};
 use nd_waiting::Packet;
-use std::alloc::{AllocError, Global};
+use std::alloc::Global;
 use std::process::Abort;
 use std::test::*;
 
@@ -63,11 +63,11 @@ fn packet(rt: &(impl Abort + AllocGlobal), bytes: &[u8]) -> Packet<Global> {
     Packet::new(frame).expect(rt, "too short")
 }
 
-/// What is told of one thing that happened at a moment.
-fn told(alloc: Global, at: u64, out: Out<Global>) -> Result<String, AllocError> {
-    let mut text = String::new(alloc);
-    write_outs(&mut text, &[(at, out)])?;
-    Ok(text)
+/// This text is told of one thing that happened at a moment.
+fn is_told(rt: &(impl Abort + AllocGlobal), at: u64, out: Out<Global>, text: &str) {
+    let mut told = String::new(rt.alloc());
+    write_outs(&mut told, &[(at, out)]).expect(rt, "memory");
+    assert_eq!(rt; told.as_str(), text);
 }
 
 /// The message that some bytes spell.
@@ -99,55 +99,55 @@ fn addresses_are_told(rt: HostRuntime) {
 #[test]
 fn a_frame_is_told_in_hexadecimal(rt: HostRuntime) {
     let frame = packet(&rt, &DATAGRAM);
-    assert_eq!(rt;
-        told(rt.alloc(), 5000, Out::Frame(frame))
-            .expect(&rt, "memory")
-            .as_str(),
-        "5000 tx 02000000000102000000000986dd600000000000114020010db800000000000000000000000920010db8000100000000000000000005\n"
+    is_told(
+        &rt,
+        5000,
+        Out::Frame(frame),
+        "5000 tx 02000000000102000000000986dd600000000000114020010db800000000000000000000000920010db8000100000000000000000005\n",
     );
 }
 
 #[test]
 fn a_lost_packet_is_told_by_its_addresses(rt: HostRuntime) {
     let frame = packet(&rt, &DATAGRAM);
-    assert_eq!(rt;
-        told(rt.alloc(), 5000, Out::Lost(Loss::Unreachable, frame))
-            .expect(&rt, "memory")
-            .as_str(),
-        "5000 lost unreachable 2001:db8::9 2001:db8:1::5\n"
+    is_told(
+        &rt,
+        5000,
+        Out::Lost(Loss::Unreachable, frame),
+        "5000 lost unreachable 2001:db8::9 2001:db8:1::5\n",
     );
     let frame = packet(&rt, &DATAGRAM);
-    assert_eq!(rt;
-        told(rt.alloc(), 3000, Out::Lost(Loss::Replaced, frame))
-            .expect(&rt, "memory")
-            .as_str(),
-        "3000 lost replaced 2001:db8::9 2001:db8:1::5\n"
+    is_told(
+        &rt,
+        3000,
+        Out::Lost(Loss::Replaced, frame),
+        "3000 lost replaced 2001:db8::9 2001:db8:1::5\n",
     );
     let frame = packet(&rt, &DATAGRAM);
-    assert_eq!(rt;
-        told(rt.alloc(), 10_000, Out::Lost(Loss::NoRoute, frame))
-            .expect(&rt, "memory")
-            .as_str(),
-        "10000 lost no-route 2001:db8::9 2001:db8:1::5\n"
+    is_told(
+        &rt,
+        10_000,
+        Out::Lost(Loss::NoRoute, frame),
+        "10000 lost no-route 2001:db8::9 2001:db8:1::5\n",
     );
     // What a short frame lacks of its addresses is zeros.
     let frame = packet(&rt, &[0; 14]);
-    assert_eq!(rt;
-        told(rt.alloc(), 0, Out::Lost(Loss::Forgotten, frame))
-            .expect(&rt, "memory")
-            .as_str(),
-        "0 lost forgotten :: ::\n"
+    is_told(
+        &rt,
+        0,
+        Out::Lost(Loss::Forgotten, frame),
+        "0 lost forgotten :: ::\n",
     );
 }
 
 #[test]
 fn a_packet_whose_hop_limit_is_spent_is_told(rt: HostRuntime) {
     let frame = packet(&rt, &DATAGRAM);
-    assert_eq!(rt;
-        told(rt.alloc(), 7000, Out::Lost(Loss::HopLimit, frame))
-            .expect(&rt, "memory")
-            .as_str(),
-        "7000 lost hop-limit 2001:db8::9 2001:db8:1::5\n"
+    is_told(
+        &rt,
+        7000,
+        Out::Lost(Loss::HopLimit, frame),
+        "7000 lost hop-limit 2001:db8::9 2001:db8:1::5\n",
     );
 }
 
@@ -159,31 +159,23 @@ fn full_tables_of_a_router_are_told(rt: HostRuntime) {
         (6, Out::Refused(Refusal::Full(Limit::StaticRoutes))),
     ];
     write_outs(&mut text, &outs).expect(&rt, "memory");
-    assert_eq!(rt;
-        text.as_str(),
-        "5 refused full offers\n6 refused full routes\n"
-    );
+    assert!(rt; text.as_str() == "5 refused full offers\n6 refused full routes\n");
 }
 
 #[test]
 fn a_late_event_is_told_by_the_last_moment(rt: HostRuntime) {
-    assert_eq!(rt;
-        told(rt.alloc(), 9, Out::Past(10))
-            .expect(&rt, "memory")
-            .as_str(),
-        "9 refused past 10\n"
-    );
+    is_told(&rt, 9, Out::Past(10), "9 refused past 10\n");
 }
 
 #[test]
 fn parameters_are_shown(rt: HostRuntime) {
     let alloc = rt.alloc();
     let rows = parameter_row(&alloc, &Params::new(0, 15_000)).expect(&rt, "memory");
-    assert_eq!(rt;
-        told(rt.alloc(), 10, Out::Shown(rows))
-            .expect(&rt, "memory")
-            .as_str(),
-        "10 params hop 64 mtu 1500 reachable 30000 15000 retrans 1000 managed 0 other 0\n10 end 1\n"
+    is_told(
+        &rt,
+        10,
+        Out::Shown(rows),
+        "10 params hop 64 mtu 1500 reachable 30000 15000 retrans 1000 managed 0 other 0\n10 end 1\n",
     );
 }
 
@@ -194,11 +186,11 @@ fn addresses_are_shown(rt: HostRuntime) {
     let mut addresses = Addresses::start(room, 0, MAC, 0, 1000);
     assert!(rt; addresses.conflict(LINK_LOCAL));
     let rows = address_rows(&alloc, &addresses, 999).expect(&rt, "memory");
-    assert_eq!(rt;
-        told(rt.alloc(), 999, Out::Shown(rows))
-            .expect(&rt, "memory")
-            .as_str(),
-        "999 address fe80::3656:78ff:fe9a:bcde duplicate inf inf\n999 end 1\n"
+    is_told(
+        &rt,
+        999,
+        Out::Shown(rows),
+        "999 address fe80::3656:78ff:fe9a:bcde duplicate inf inf\n999 end 1\n",
     );
 }
 
@@ -209,11 +201,11 @@ fn a_router_is_shown(rt: HostRuntime) {
     assert!(rt; routers.next_due().is_none());
     assert!(rt; routers.heard_ra(1200, ROUTER, 1800).is_ok());
     let rows = router_rows(&alloc, &routers, 2200).expect(&rt, "memory");
-    assert_eq!(rt;
-        told(rt.alloc(), 2200, Out::Shown(rows))
-            .expect(&rt, "memory")
-            .as_str(),
-        "2200 router fe80::ff:fe00:1 1799000\n2200 end 1\n"
+    is_told(
+        &rt,
+        2200,
+        Out::Shown(rows),
+        "2200 router fe80::ff:fe00:1 1799000\n2200 end 1\n",
     );
 }
 
@@ -222,20 +214,15 @@ fn a_prefix_is_shown(rt: HostRuntime) {
     let alloc = rt.alloc();
     let mut prefixes = Prefixes::new(rt.alloc()).expect(&rt, "memory");
     let rows = prefix_rows(&alloc, &prefixes, 1200).expect(&rt, "memory");
-    assert_eq!(rt;
-        told(rt.alloc(), 1200, Out::Shown(rows))
-            .expect(&rt, "memory")
-            .as_str(),
-        "1200 end 0\n"
-    );
+    is_told(&rt, 1200, Out::Shown(rows), "1200 end 0\n");
     let message = advertisement(&ADVERTISEMENT).expect(&rt, "message");
     assert!(rt; prefixes.heard_ra(1200, message.options).is_ok());
     let rows = prefix_rows(&alloc, &prefixes, 2200).expect(&rt, "memory");
-    assert_eq!(rt;
-        told(rt.alloc(), 2200, Out::Shown(rows))
-            .expect(&rt, "memory")
-            .as_str(),
-        "2200 prefix 2001:db8::/64 2591999000\n2200 end 1\n"
+    is_told(
+        &rt,
+        2200,
+        Out::Shown(rows),
+        "2200 prefix 2001:db8::/64 2591999000\n2200 end 1\n",
     );
 }
 
@@ -259,12 +246,12 @@ fn neighbours_are_shown(rt: HostRuntime) {
     assert!(rt; cache.heard(1200, given(ROUTER, 1), times).is_ok());
     assert!(rt; cache.heard(2300, given(OTHER_ROUTER, 2), times).is_ok());
     let rows = neighbour_rows(&alloc, &cache, 2300).expect(&rt, "memory");
-    assert_eq!(rt;
-        told(rt.alloc(), 2300, Out::Shown(rows))
-            .expect(&rt, "memory")
-            .as_str(),
+    is_told(
+        &rt,
+        2300,
+        Out::Shown(rows),
         "2300 neighbour fe80::2 02:00:00:00:00:02 stale router\n\
-        2300 neighbour fe80::ff:fe00:1 02:00:00:00:00:01 stale router\n2300 end 2\n"
+        2300 neighbour fe80::ff:fe00:1 02:00:00:00:00:01 stale router\n2300 end 2\n",
     );
 }
 
@@ -276,11 +263,11 @@ fn a_redirect_is_shown(rt: HostRuntime) {
         .redirected(REMOTE, OTHER_ROUTER)
         .expect(&rt, "memory");
     let rows = redirect_rows(&alloc, &choice).expect(&rt, "memory");
-    assert_eq!(rt;
-        told(rt.alloc(), 2300, Out::Shown(rows))
-            .expect(&rt, "memory")
-            .as_str(),
-        "2300 redirect 2001:db8:1::5 fe80::2\n2300 end 1\n"
+    is_told(
+        &rt,
+        2300,
+        Out::Shown(rows),
+        "2300 redirect 2001:db8:1::5 fe80::2\n2300 end 1\n",
     );
 }
 
@@ -295,11 +282,11 @@ fn a_server_and_a_name_are_shown(rt: HostRuntime) {
         Err(_) => assert!(rt; false),
     }
     let rows = dns_rows(&alloc, &dns, 2200).expect(&rt, "memory");
-    assert_eq!(rt;
-        told(rt.alloc(), 2200, Out::Shown(rows))
-            .expect(&rt, "memory")
-            .as_str(),
-        "2200 server 2001:db8::53 1799000\n2200 search a.example 1799000\n2200 end 2\n"
+    is_told(
+        &rt,
+        2200,
+        Out::Shown(rows),
+        "2200 server 2001:db8::53 1799000\n2200 search a.example 1799000\n2200 end 2\n",
     );
 }
 
@@ -323,18 +310,18 @@ fn a_confirmed_neighbour_is_shown_until_its_time_has_passed(rt: HostRuntime) {
     };
     assert!(rt; cache.heard(8500, advertised, times).is_ok());
     let rows = neighbour_rows(&alloc, &cache, 23_499).expect(&rt, "memory");
-    assert_eq!(rt;
-        told(rt.alloc(), 23_499, Out::Shown(rows))
-            .expect(&rt, "memory")
-            .as_str(),
-        "23499 neighbour fe80::ff:fe00:1 02:00:00:00:00:01 reachable router\n23499 end 1\n"
+    is_told(
+        &rt,
+        23_499,
+        Out::Shown(rows),
+        "23499 neighbour fe80::ff:fe00:1 02:00:00:00:00:01 reachable router\n23499 end 1\n",
     );
     let rows = neighbour_rows(&alloc, &cache, 23_500).expect(&rt, "memory");
-    assert_eq!(rt;
-        told(rt.alloc(), 23_500, Out::Shown(rows))
-            .expect(&rt, "memory")
-            .as_str(),
-        "23500 neighbour fe80::ff:fe00:1 02:00:00:00:00:01 stale router\n23500 end 1\n"
+    is_told(
+        &rt,
+        23_500,
+        Out::Shown(rows),
+        "23500 neighbour fe80::ff:fe00:1 02:00:00:00:00:01 stale router\n23500 end 1\n",
     );
 }
 
@@ -349,11 +336,11 @@ fn a_neighbour_without_an_address_is_shown(rt: HostRuntime) {
     let sent = cache.used(3000, ABSENT, packet(&rt, &DATAGRAM), times);
     assert!(rt; sent.is_ok());
     let rows = neighbour_rows(&alloc, &cache, 3000).expect(&rt, "memory");
-    assert_eq!(rt;
-        told(rt.alloc(), 3000, Out::Shown(rows))
-            .expect(&rt, "memory")
-            .as_str(),
-        "3000 neighbour 2001:db8::1 - incomplete host\n3000 end 1\n"
+    is_told(
+        &rt,
+        3000,
+        Out::Shown(rows),
+        "3000 neighbour 2001:db8::1 - incomplete host\n3000 end 1\n",
     );
 }
 
@@ -392,12 +379,12 @@ fn two_addresses_are_shown_in_their_order(rt: HostRuntime) {
     assert!(rt; turn_at(&rt, &mut addresses, 1200).is_some());
     assert!(rt; turn_at(&rt, &mut addresses, 2200).is_some());
     let rows = address_rows(&alloc, &addresses, 2200).expect(&rt, "memory");
-    assert_eq!(rt;
-        told(rt.alloc(), 2200, Out::Shown(rows))
-            .expect(&rt, "memory")
-            .as_str(),
+    is_told(
+        &rt,
+        2200,
+        Out::Shown(rows),
         "2200 address 2001:db8::3656:78ff:fe9a:bcde preferred 604799000 2591999000\n\
-        2200 address fe80::3656:78ff:fe9a:bcde preferred inf inf\n2200 end 2\n"
+        2200 address fe80::3656:78ff:fe9a:bcde preferred inf inf\n2200 end 2\n",
     );
 }
 
@@ -424,24 +411,25 @@ fn offered(
     advertiser.put(offer).is_ok()
 }
 
-/// What is shown of an advertiser.
-fn shown_of(
-    alloc: Global,
+/// This text is shown of an advertiser.
+fn advertises(
+    rt: &(impl Abort + AllocGlobal),
     role: Role,
     advertiser: &Advertiser<Global>,
-) -> Result<String, AllocError> {
-    let rows = advertise_rows(&alloc, role, advertiser)?;
-    told(alloc, 10, Out::Shown(rows))
+    text: &str,
+) {
+    let rows = advertise_rows(&rt.alloc(), role, advertiser).expect(rt, "memory");
+    is_told(rt, 10, Out::Shown(rows), text);
 }
 
 #[test]
 fn what_a_router_advertises_is_shown(rt: HostRuntime) {
     let mut advertiser = Advertiser::new(rt.alloc()).expect(&rt, "memory");
-    assert_eq!(rt;
-        shown_of(rt.alloc(), Role::Router, &advertiser)
-            .expect(&rt, "memory")
-            .as_str(),
-        "10 advertise off\n10 end 1\n"
+    advertises(
+        &rt,
+        Role::Router,
+        &advertiser,
+        "10 advertise off\n10 end 1\n",
     );
     let flags = ConfigFlags {
         managed: false,
@@ -453,29 +441,24 @@ fn what_a_router_advertises_is_shown(rt: HostRuntime) {
     );
     assert!(rt; offered(&mut advertiser, prefix_of(1, 48), true, false));
     assert!(rt; offered(&mut advertiser, prefix_of(0, 64), true, true));
-    assert_eq!(rt;
-        shown_of(rt.alloc(), Role::Router, &advertiser)
-            .expect(&rt, "memory")
-            .as_str(),
+    advertises(
+        &rt,
+        Role::Router,
+        &advertiser,
         "10 advertise on\n10 offer 2001:db8:1::/48 2592000 604800 l\n\
-        10 offer 2001:db8::/64 2592000 604800 la\n10 end 3\n"
+        10 offer 2001:db8::/64 2592000 604800 la\n10 end 3\n",
     );
-    assert_eq!(rt;
-        shown_of(rt.alloc(), Role::Host, &advertiser)
-            .expect(&rt, "memory")
-            .as_str(),
-        "10 end 0\n"
-    );
+    advertises(&rt, Role::Host, &advertiser, "10 end 0\n");
     // Its prefixes stay when it ceases, and are replaced in their places.
     assert!(rt; !advertiser.stop(10));
     assert!(rt; offered(&mut advertiser, prefix_of(1, 48), false, true));
     assert!(rt; offered(&mut advertiser, prefix_of(0, 64), false, false));
-    assert_eq!(rt;
-        shown_of(rt.alloc(), Role::Router, &advertiser)
-            .expect(&rt, "memory")
-            .as_str(),
+    advertises(
+        &rt,
+        Role::Router,
+        &advertiser,
         "10 advertise off\n10 offer 2001:db8:1::/48 2592000 604800 a\n\
-        10 offer 2001:db8::/64 2592000 604800 -\n10 end 3\n"
+        10 offer 2001:db8::/64 2592000 604800 -\n10 end 3\n",
     );
 }
 
@@ -494,17 +477,12 @@ fn static_routes_are_shown(rt: HostRuntime) {
     assert!(rt; put_route(&mut routes, prefix_of(1, 64), Route::Via(OTHER_ROUTER)));
     assert!(rt; put_route(&mut routes, prefix_of(0, 64), Route::Direct));
     let rows = route_rows(&alloc, Role::Router, &routes).expect(&rt, "memory");
-    assert_eq!(rt;
-        told(rt.alloc(), 10, Out::Shown(rows))
-            .expect(&rt, "memory")
-            .as_str(),
-        "10 route 2001:db8:1::/64 fe80::2\n10 route 2001:db8::/64 direct\n10 end 2\n"
+    is_told(
+        &rt,
+        10,
+        Out::Shown(rows),
+        "10 route 2001:db8:1::/64 fe80::2\n10 route 2001:db8::/64 direct\n10 end 2\n",
     );
     let rows = route_rows(&alloc, Role::Host, &routes).expect(&rt, "memory");
-    assert_eq!(rt;
-        told(rt.alloc(), 10, Out::Shown(rows))
-            .expect(&rt, "memory")
-            .as_str(),
-        "10 end 0\n"
-    );
+    is_told(&rt, 10, Out::Shown(rows), "10 end 0\n");
 }

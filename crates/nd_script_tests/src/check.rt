@@ -142,8 +142,8 @@ fn expect(
     let mut writer = Writing::new(Vec::new(rt.alloc()));
     let result = run_check(rt.alloc(), &mut reader, &mut writer);
     let written = writer.into_inner();
-    assert_eq!(rt; written.as_slice(), answers.as_bytes());
-    assert_eq!(rt; result, end);
+    assert!(rt; written.as_slice() == answers.as_bytes());
+    assert!(rt; result == end);
     Ok(())
 }
 
@@ -166,7 +166,7 @@ fn a_full_sum_is_good(rt: HostRuntime) -> Result<(), Fail> {
 #[test]
 fn padding_is_ignored_and_cut_frames_are_dropped(rt: HostRuntime) -> Result<(), Fail> {
     let frame = SOLICITATION_FOR_LINK_LOCAL;
-    assert_eq!(rt; frame.len(), 156);
+    assert!(rt; frame.len() == 156);
     let cut = (
         frame.get(..154).ok_or("154")?,
         frame.get(..106).ok_or("106")?,
@@ -411,14 +411,14 @@ fn answers_to(rt: &(impl Abort + AllocGlobal), lines: &[u8]) -> Result<Vec<u8>, 
     let mut reader = Pieces::new(lines, 65536);
     let mut writer = Writing::new(Vec::new(rt.alloc()));
     let result = run_check(rt.alloc(), &mut reader, &mut writer);
-    assert_eq!(rt; result, Ok(()));
+    assert!(rt; result == Ok(()));
     Ok(writer.into_inner())
 }
 
 /// Expects a line of answer to each line.
 fn expect_one_each(rt: &(impl Abort + AllocGlobal), lines: &[u8]) -> Result<(), Fail> {
     let written = answers_to(rt, lines)?;
-    assert_eq!(rt; count(&written), count(lines));
+    assert!(rt; count(&written) == count(lines));
     Ok(())
 }
 
@@ -544,7 +544,7 @@ fn the_longest_frame_is_told(rt: HostRuntime) -> Result<(), Fail> {
     }
     line.push_str("0000")?;
     answer.push_str("\n")?;
-    assert_eq!(rt; line.len(), 16384);
+    assert!(rt; line.len() == 16384);
     expect(&rt, &line, 65536, &answer, Ok(()))?;
     expect(&rt, &line, 1000, &answer, Ok(()))?;
     line.push_str("00")?;

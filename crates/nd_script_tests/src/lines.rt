@@ -66,7 +66,7 @@ fn at(moment: u64) -> Option<(u64, Said)> {
 /// The frame of a line that says that one comes at 10 ms, in lower case digits.
 fn received(rt: &impl Abort, alloc: Global, line: &[u8], digits: &str) -> Result<(), Fail> {
     match reading(alloc, line)? {
-        Some((10, Said::Receives(frame))) => assert_eq!(rt; frame.as_str(), digits),
+        Some((10, Said::Receives(frame))) => assert!(rt; frame.as_str() == digits),
         _ => return Err(Fail::new("no frame at 10 ms")),
     }
     Ok(())
@@ -141,7 +141,7 @@ fn lines_of_a_neighbour_are_read(rt: HostRuntime) -> Result<(), Fail> {
 
 #[test]
 fn lines_of_ceasing_are_read(rt: HostRuntime) -> Result<(), Fail> {
-    assert_eq!(rt; reading(rt.alloc(), b"10 stop")?, Some((10, Said::Stops)));
+    assert!(rt; reading(rt.alloc(), b"10 stop")? == Some((10, Said::Stops)));
     malformed(&rt, rt.alloc(), &["10 stop ", "10 stop now", "stop"])
 }
 
@@ -173,12 +173,9 @@ fn lines_of_tables_to_clear_are_read(rt: HostRuntime) -> Result<(), Fail> {
 
 #[test]
 fn the_moment_is_below_2_to_the_62(rt: HostRuntime) -> Result<(), Fail> {
-    assert_eq!(rt;
-        reading(rt.alloc(), b"4611686018427387903 at")?,
-        at(4611686018427387903)
-    );
-    assert_eq!(rt; reading(rt.alloc(), b"4611686018427387904 at")?, None);
-    assert_eq!(rt; reading(rt.alloc(), b"18446744073709551616 at")?, None);
+    assert!(rt; reading(rt.alloc(), b"4611686018427387903 at")? == at(4611686018427387903));
+    assert!(rt; reading(rt.alloc(), b"4611686018427387904 at")? == None);
+    assert!(rt; reading(rt.alloc(), b"18446744073709551616 at")? == None);
     Ok(())
 }
 
@@ -226,7 +223,7 @@ fn other_lines_are_malformed(rt: HostRuntime) -> Result<(), Fail> {
 
 #[test]
 fn moments_have_no_sign_and_no_leading_zero(rt: HostRuntime) -> Result<(), Fail> {
-    assert_eq!(rt; reading(rt.alloc(), b"\xff at")?, None);
+    assert!(rt; reading(rt.alloc(), b"\xff at")? == None);
     malformed(
         &rt,
         rt.alloc(),
@@ -289,13 +286,10 @@ fn sent(
 ) -> Result<(), Fail> {
     match reading(alloc, line)? {
         Some((10, Said::Sends(source, destination, of, payload))) => {
-            assert_eq!(rt; source.to_bits(), 0xfe80_0000_0000_0000_0000_0000_0000_0001);
-            assert_eq!(rt;
-                destination.to_bits(),
-                0x2001_0db8_0000_0000_0000_0000_0000_0002
-            );
-            assert_eq!(rt; of, next_header);
-            assert_eq!(rt; payload.as_str(), digits);
+            assert!(rt; source.to_bits() == 0xfe80_0000_0000_0000_0000_0000_0000_0001);
+            assert!(rt; destination.to_bits() == 0x2001_0db8_0000_0000_0000_0000_0000_0002);
+            assert!(rt; of == next_header);
+            assert!(rt; payload.as_str() == digits);
         }
         _ => return Err(Fail::new("no packet at 10 ms")),
     }
@@ -357,14 +351,8 @@ fn words(text: &[u8]) -> Option<[u32; 3]> {
 #[test]
 fn a_seed_gives_the_words_of_pcg32(rt: HostRuntime) {
     // The words of a generator written anew in Python, whose first two at seed 0 are those of rand_pcg's own test.
-    assert_eq!(rt;
-        words(b"seed:0"),
-        Some([0x11cd_d903, 0xfc84_3fd7, 0x1408_33d3])
-    );
-    assert_eq!(rt;
-        words(b"seed:1"),
-        Some([0x33a7_0be6, 0x7dbc_f3ee, 0xcadf_4751])
-    );
+    assert!(rt; words(b"seed:0") == Some([0x11cd_d903, 0xfc84_3fd7, 0x1408_33d3]));
+    assert!(rt; words(b"seed:1") == Some([0x33a7_0be6, 0x7dbc_f3ee, 0xcadf_4751]));
     assert_eq!(rt;
         words(b"seed:18446744073709551615"),
         Some([0x982f_997e, 0x513d_a686, 0xe017_d20c])
@@ -373,12 +361,9 @@ fn a_seed_gives_the_words_of_pcg32(rt: HostRuntime) {
 
 #[test]
 fn a_word_is_given_each_time(rt: HostRuntime) {
-    assert_eq!(rt; words(b"word:0"), Some([0, 0, 0]));
-    assert_eq!(rt; words(b"word:1001"), Some([1001, 1001, 1001]));
-    assert_eq!(rt;
-        words(b"word:4294967295"),
-        Some([u32::MAX, u32::MAX, u32::MAX])
-    );
+    assert!(rt; words(b"word:0") == Some([0, 0, 0]));
+    assert!(rt; words(b"word:1001") == Some([1001, 1001, 1001]));
+    assert!(rt; words(b"word:4294967295") == Some([u32::MAX, u32::MAX, u32::MAX]));
 }
 
 #[test]
@@ -386,13 +371,13 @@ fn longer_words_are_of_32_bits(rt: HostRuntime) -> Result<(), Fail> {
     let Some(mut source) = Source::parse(b"seed:0") else {
         return Err(Fail::new("no source"));
     };
-    assert_eq!(rt; source.next_u64(), 18195738587432868099);
+    assert!(rt; source.next_u64() == 18195738587432868099);
     let Some(mut source) = Source::parse(b"word:258") else {
         return Err(Fail::new("no source"));
     };
     let mut bytes = [0; 6];
     source.fill_bytes(&mut bytes);
-    assert_eq!(rt; bytes, [2, 1, 0, 0, 2, 1]);
+    assert!(rt; bytes == [2, 1, 0, 0, 2, 1]);
     Ok(())
 }
 
@@ -428,7 +413,7 @@ pub(crate) fn told_by(
     script: &[u8],
     ended: Result<(), ToolFault>,
     wanted: &str,
-) -> Result<(), Fail> {
+) {
     for piece in [1, 4096] {
         let mut reader = Pieces::new(script, piece);
         let mut writer = Writing::new(Vec::new(alloc));
@@ -437,19 +422,38 @@ pub(crate) fn told_by(
         assert_eq!(rt; done, ended);
         assert_eq!(rt; writer.into_inner().as_slice(), wanted.as_bytes());
     }
-    Ok(())
 }
 
-/// What a host of 34:56:78:9a:bc:de tells whose generator answers 0 to each word.
+/// These parts, one behind the other.
+fn joined(rt: &impl Abort, alloc: Global, parts: &[&str]) -> String {
+    let mut text = String::new(alloc);
+    for part in parts {
+        text.push_str(part).expect(rt, "memory");
+    }
+    text
+}
+
+/// What a host of 34:56:78:9a:bc:de tells whose generator answers 0 to each word: the script and the text by their parts.
 pub(crate) fn told(
     rt: &impl Abort,
     alloc: Global,
-    script: &[u8],
+    script: &[&str],
     ended: Result<(), ToolFault>,
-    wanted: &str,
-) -> Result<(), Fail> {
+    wanted: &[&str],
+) {
     let mac = Mac([0x34, 0x56, 0x78, 0x9a, 0xbc, 0xde]);
-    told_by(rt, alloc, Role::Host, mac, 0, script, ended, wanted)
+    let script = joined(rt, alloc, script);
+    let wanted = joined(rt, alloc, wanted);
+    told_by(
+        rt,
+        alloc,
+        Role::Host,
+        mac,
+        0,
+        script.as_bytes(),
+        ended,
+        &wanted,
+    );
 }
 
 /// The solicitation that tries the link-local address, and a Router Solicitation, each with its moment.
@@ -461,79 +465,83 @@ const ASSIGNED: &str = "1000 assigned fe80::3656:78ff:fe9a:bcde\n";
 const SOLICITED: &str =
     " tx 3333000000023456789abcde86dd6000000000103afffe80000000000000365678fffe9abcdeff0200000000000000000000000000028500a78f0000000001013456789abcde\n";
 
+/// What a host tells in its first 10 seconds.
+const STARTS: [&str; 8] = [
+    STARTED, ASSIGNED, "1000", SOLICITED, "5000", SOLICITED, "9000", SOLICITED,
+];
+
 /// The start of a host: its detection, its assignment, and three Router Solicitations.
 #[test]
-fn a_host_starts(rt: HostRuntime) -> Result<(), Fail> {
-    let started = format!(in rt.alloc();
-        "{STARTED}{ASSIGNED}1000{SOLICITED}5000{SOLICITED}9000{SOLICITED}"
-    )?;
-    told(&rt, rt.alloc(), b"", Ok(()), "")?;
-    told(&rt, rt.alloc(), b"0 at", Ok(()), STARTED)?;
-    told(&rt, rt.alloc(), b"10000 at\n", Ok(()), &started)
+fn a_host_starts(rt: HostRuntime) {
+    told(&rt, rt.alloc(), &[], Ok(()), &[]);
+    told(&rt, rt.alloc(), &["0 at"], Ok(()), &[STARTED]);
+    told(&rt, rt.alloc(), &["10000 at\n"], Ok(()), &STARTS);
 }
 
 /// A line for each second tells the same bytes.
 #[test]
 fn each_second_tells_the_same(rt: HostRuntime) -> Result<(), Fail> {
-    let started = format!(in rt.alloc();
-        "{STARTED}{ASSIGNED}1000{SOLICITED}5000{SOLICITED}9000{SOLICITED}"
-    )?;
     let mut script = String::new(rt.alloc());
     for second in 1..21u64 {
         script.push_str(&format!(in rt.alloc(); "{}000 at\n", second)?)?;
     }
-    told(&rt, rt.alloc(), script.as_bytes(), Ok(()), &started)
+    told(&rt, rt.alloc(), &[script.as_str()], Ok(()), &STARTS);
+    Ok(())
 }
 
 /// A past moment is told alone, and a malformed line ends the run.
 #[test]
-fn past_moments_and_malformed_lines(rt: HostRuntime) -> Result<(), Fail> {
-    let shown = format!(in rt.alloc();
-        "{STARTED}9 refused past 10\n10 params hop 64 mtu 1500 reachable 30000 15000 retrans 1000 managed 0 other 0\n10 end 1\n"
-    )?;
+fn past_moments_and_malformed_lines(rt: HostRuntime) {
     told(
         &rt,
         rt.alloc(),
-        b"10 at\n9 show params\n10 show params\n",
+        &["10 at\n9 show params\n10 show params\n"],
         Ok(()),
-        &shown,
-    )?;
+        &[
+            STARTED,
+            "9 refused past 10\n10 params hop 64 mtu 1500 reachable 30000 15000 retrans 1000 managed 0 other 0\n10 end 1\n",
+        ],
+    );
     told(
         &rt,
         rt.alloc(),
-        b"10 at\nshow params\n11 at\n",
+        &["10 at\nshow params\n11 at\n"],
         Err(ToolFault::Line(2)),
-        STARTED,
-    )
+        &[STARTED],
+    );
 }
 
 /// The empty frame is dropped, as it is too short; an empty word is malformed.
 #[test]
-fn frames_come_to_a_host(rt: HostRuntime) -> Result<(), Fail> {
-    let dropped = format!(in rt.alloc(); "{STARTED}10 drop 1 FrameShort\n")?;
-    told(&rt, rt.alloc(), b"10 rx -\n", Ok(()), &dropped)?;
+fn frames_come_to_a_host(rt: HostRuntime) {
+    let dropped = [STARTED, "10 drop 1 FrameShort\n"];
+    told(&rt, rt.alloc(), &["10 rx -\n"], Ok(()), &dropped);
     told(
         &rt,
         rt.alloc(),
-        b"10 rx -\n11 rx \n12 at\n",
+        &["10 rx -\n11 rx \n12 at\n"],
         Err(ToolFault::Line(2)),
         &dropped,
-    )
+    );
 }
 
 /// Each table of a host at its start; the link-local address is tentative up to its assignment.
 #[test]
-fn tables_of_a_start(rt: HostRuntime) -> Result<(), Fail> {
-    let shown = format!(in rt.alloc();
-        "{STARTED}999 address fe80::3656:78ff:fe9a:bcde tentative inf inf\n999 end 1\n{ASSIGNED}1000{SOLICITED}1000 address fe80::3656:78ff:fe9a:bcde preferred inf inf\n1000 end 1\n"
-    )?;
+fn tables_of_a_start(rt: HostRuntime) {
     told(
         &rt,
         rt.alloc(),
-        b"999 show addresses\n1000 show addresses\n",
+        &["999 show addresses\n1000 show addresses\n"],
         Ok(()),
-        &shown,
-    )?;
+        &[
+            STARTED,
+            "999 address fe80::3656:78ff:fe9a:bcde tentative inf inf\n999 end 1\n",
+            ASSIGNED,
+            "1000",
+            SOLICITED,
+            "1000 address fe80::3656:78ff:fe9a:bcde preferred inf inf\n1000 end 1\n",
+        ],
+    );
     for table in [
         "neighbours",
         "routers",
@@ -543,9 +551,12 @@ fn tables_of_a_start(rt: HostRuntime) -> Result<(), Fail> {
         "advertise",
         "routes",
     ] {
-        let script = format!(in rt.alloc(); "0 show {}\n", table)?;
-        let empty = format!(in rt.alloc(); "{STARTED}0 end 0\n")?;
-        told(&rt, rt.alloc(), script.as_bytes(), Ok(()), &empty)?;
+        told(
+            &rt,
+            rt.alloc(),
+            &["0 show ", table, "\n"],
+            Ok(()),
+            &[STARTED, "0 end 0\n"],
+        );
     }
-    Ok(())
 }

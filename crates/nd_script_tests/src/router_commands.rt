@@ -17,17 +17,19 @@ fn said(alloc: Global, line: &str) -> Result<Option<Event<Global>>, AllocError> 
 
 /// A host refuses what the lines ask for, fe80::/8 too, which is fe00::/8 and so not link-local; and a malformed one ends the run.
 #[test]
-fn a_host_refuses_a_routers_commands(rt: HostRuntime) -> Result<(), Fail> {
-    let refused = format!(in rt.alloc();
-        "{STARTED}0 refused wrong-role\n0 refused wrong-role\n0 refused wrong-role\n0 refused wrong-role\n0 refused wrong-role\n"
-    )?;
+fn a_host_refuses_a_routers_commands(rt: HostRuntime) {
     told(
         &rt,
         rt.alloc(),
-        b"0 advertise 3 4 - 0 - 0 0 0\n0 prefix 2001:db8::/64 - - la\n0 route 2001:db8::/64 direct\n0 route 2001:db8::/64 fe80::2\n0 prefix fe80::/8 - - -\n0 prefix 2001:db8::/64 3600 - la\n",
+        &[
+            "0 advertise 3 4 - 0 - 0 0 0\n0 prefix 2001:db8::/64 - - la\n0 route 2001:db8::/64 direct\n0 route 2001:db8::/64 fe80::2\n0 prefix fe80::/8 - - -\n0 prefix 2001:db8::/64 3600 - la\n",
+        ],
         Err(ToolFault::Line(6)),
-        &refused,
-    )
+        &[
+            STARTED,
+            "0 refused wrong-role\n0 refused wrong-role\n0 refused wrong-role\n0 refused wrong-role\n0 refused wrong-role\n",
+        ],
+    );
 }
 
 /// No defaults elsewhere, no leading zeros, one space between two words, flags in their order, values that their types hold, and the rules

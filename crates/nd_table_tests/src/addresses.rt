@@ -71,15 +71,26 @@ fn default_option(n: u16) -> Option<PrefixInfo> {
     option(n, 2_592_000, 604_800)
 }
 
-/// A turn at the moment that is next.
-fn turn_at(rt: &impl Abort, addresses: &mut Addresses<Global>, now: u64) -> Option<Due>
+/// This falls due next, at this moment.
+fn falls_due(rt: &impl Abort, addresses: &mut Addresses<Global>, now: u64, wanted: Due)
     requires { now < 2 ^ 62 }
 {
-    match addresses.next_due() {
-        Some(next) => assert!(rt; next == now),
-        None => assert!(rt; false),
-    }
-    addresses.turn(now)
+    assert!(rt; addresses.next_due() == Some(now));
+    assert_eq!(rt; addresses.turn(now), Some(wanted));
+}
+
+/// An option comes, and is taken so.
+fn hears(
+    rt: &impl Abort,
+    addresses: &mut Addresses<Global>,
+    now: u64,
+    info: &PrefixInfo,
+    retrans: u32,
+    wanted: Taken,
+)
+    requires { now < 2 ^ 62 }
+{
+    assert_eq!(rt; addresses.heard_prefix(now, info, 0, retrans), Ok(wanted));
 }
 
 /// A turn before the moment that is next.
@@ -102,18 +113,12 @@ fn started(rt: &impl Abort, alloc: Global) -> Addresses<Global> {
         0,
         1000,
     );
-    assert_eq!(rt; addresses.state(0, LINK_LOCAL), Some(State::Tentative));
-    assert_eq!(rt;
-        turn_at(rt, &mut addresses, 0),
-        Some(Due::Solicit(LINK_LOCAL))
-    );
-    assert_eq!(rt; addresses.state(999, LINK_LOCAL), Some(State::Tentative));
-    assert_eq!(rt;
-        turn_at(rt, &mut addresses, 1000),
-        Some(Due::Assign(LINK_LOCAL))
-    );
-    assert_eq!(rt; addresses.state(1000, LINK_LOCAL), Some(State::Preferred));
-    assert_eq!(rt; addresses.next_due(), None);
+    assert!(rt; addresses.state(0, LINK_LOCAL) == Some(State::Tentative));
+    falls_due(rt, &mut addresses, 0, Due::Solicit(LINK_LOCAL));
+    assert!(rt; addresses.state(999, LINK_LOCAL) == Some(State::Tentative));
+    falls_due(rt, &mut addresses, 1000, Due::Assign(LINK_LOCAL));
+    assert!(rt; addresses.state(1000, LINK_LOCAL) == Some(State::Preferred));
+    assert!(rt; addresses.next_due() == None);
     addresses
 }
 
@@ -122,54 +127,27 @@ fn an_address_is_tried_assigned_deprecated_and_ended(rt: HostRuntime) {
     let mut addresses = started(&rt, rt.alloc());
     let info = default_option(0).expect(&rt, "option");
     assert!(rt; addresses.would_form(&info));
-    assert_eq!(rt;
-        addresses.heard_prefix(1200, &info, 0, 1000),
-        Ok(Taken::Formed)
-    );
+    hears(&rt, &mut addresses, 1200, &info, 1000, Taken::Formed);
     assert!(rt; !addresses.would_form(&info));
-    assert_eq!(rt;
-        turn_at(&rt, &mut addresses, 1200),
-        Some(Due::Solicit(GLOBAL))
-    );
-    assert_eq!(rt; addresses.state(2199, GLOBAL), Some(State::Tentative));
-    assert_eq!(rt;
-        turn_at(&rt, &mut addresses, 2200),
-        Some(Due::Assign(GLOBAL))
-    );
-    assert_eq!(rt;
-        addresses.state(604_801_199, GLOBAL),
-        Some(State::Preferred)
-    );
-    assert_eq!(rt;
-        addresses.state(604_801_200, GLOBAL),
-        Some(State::Deprecated)
-    );
-    assert_eq!(rt;
-        turn_at(&rt, &mut addresses, 2_592_001_200),
-        Some(Due::End(GLOBAL))
-    );
-    assert_eq!(rt; addresses.state(2_592_001_200, GLOBAL), None);
-    assert_eq!(rt; addresses.next_due(), None);
+    falls_due(&rt, &mut addresses, 1200, Due::Solicit(GLOBAL));
+    assert!(rt; addresses.state(2199, GLOBAL) == Some(State::Tentative));
+    falls_due(&rt, &mut addresses, 2200, Due::Assign(GLOBAL));
+    assert!(rt; addresses.state(604_801_199, GLOBAL) == Some(State::Preferred));
+    assert!(rt; addresses.state(604_801_200, GLOBAL) == Some(State::Deprecated));
+    falls_due(&rt, &mut addresses, 2_592_001_200, Due::End(GLOBAL));
+    assert!(rt; addresses.state(2_592_001_200, GLOBAL) == None);
+    assert!(rt; addresses.next_due() == None);
 }
 
 #[test]
 fn addresses_are_shown_in_their_order(rt: HostRuntime) {
     let mut addresses = started(&rt, rt.alloc());
     let info = default_option(0).expect(&rt, "option");
-    assert_eq!(rt;
-        addresses.heard_prefix(1200, &info, 0, 1000),
-        Ok(Taken::Formed)
-    );
-    assert_eq!(rt;
-        turn_at(&rt, &mut addresses, 1200),
-        Some(Due::Solicit(GLOBAL))
-    );
-    assert_eq!(rt;
-        turn_at(&rt, &mut addresses, 2200),
-        Some(Due::Assign(GLOBAL))
-    );
+    hears(&rt, &mut addresses, 1200, &info, 1000, Taken::Formed);
+    falls_due(&rt, &mut addresses, 1200, Due::Solicit(GLOBAL));
+    falls_due(&rt, &mut addresses, 2200, Due::Assign(GLOBAL));
     let shown = addresses.rows(2200).expect(&rt, "memory");
-    assert_eq!(rt; shown.len(), 2);
+    assert!(rt; shown.len() == 2);
     let global = OwnAddress {
         addr: GLOBAL,
         state: State::Preferred,
@@ -198,26 +176,14 @@ fn addresses_are_shown_in_their_order(rt: HostRuntime) {
 fn a_conflict_makes_a_tentative_address_a_duplicate(rt: HostRuntime) {
     let mut addresses = started(&rt, rt.alloc());
     let info = default_option(0).expect(&rt, "option");
-    assert_eq!(rt;
-        addresses.heard_prefix(1200, &info, 0, 1000),
-        Ok(Taken::Formed)
-    );
-    assert_eq!(rt;
-        turn_at(&rt, &mut addresses, 1200),
-        Some(Due::Solicit(GLOBAL))
-    );
+    hears(&rt, &mut addresses, 1200, &info, 1000, Taken::Formed);
+    falls_due(&rt, &mut addresses, 1200, Due::Solicit(GLOBAL));
     assert!(rt; addresses.conflict(GLOBAL));
     assert!(rt; !addresses.conflict(GLOBAL));
-    assert_eq!(rt; addresses.state(2199, GLOBAL), Some(State::Duplicate));
-    assert_eq!(rt;
-        addresses.heard_prefix(3000, &info, 0, 1000),
-        Ok(Taken::Renewed)
-    );
-    assert_eq!(rt; addresses.state(3000, GLOBAL), Some(State::Duplicate));
-    assert_eq!(rt;
-        turn_at(&rt, &mut addresses, 2_592_003_000),
-        Some(Due::End(GLOBAL))
-    );
+    assert!(rt; addresses.state(2199, GLOBAL) == Some(State::Duplicate));
+    hears(&rt, &mut addresses, 3000, &info, 1000, Taken::Renewed);
+    assert!(rt; addresses.state(3000, GLOBAL) == Some(State::Duplicate));
+    falls_due(&rt, &mut addresses, 2_592_003_000, Due::End(GLOBAL));
 }
 
 #[test]
@@ -229,12 +195,9 @@ fn a_link_local_duplicate_has_no_end(rt: HostRuntime) {
         0,
         1000,
     );
-    assert_eq!(rt;
-        turn_at(&rt, &mut addresses, 0),
-        Some(Due::Solicit(LINK_LOCAL))
-    );
+    falls_due(&rt, &mut addresses, 0, Due::Solicit(LINK_LOCAL));
     assert!(rt; addresses.conflict(LINK_LOCAL));
-    assert_eq!(rt; addresses.next_due(), None);
+    assert!(rt; addresses.next_due() == None);
     let shown = addresses.rows(999).expect(&rt, "memory");
     let duplicate = OwnAddress {
         addr: LINK_LOCAL,
@@ -254,14 +217,8 @@ fn the_first_solicitation_waits_for_the_delay(rt: HostRuntime) {
         1000,
         400,
     );
-    assert_eq!(rt;
-        turn_at(&rt, &mut addresses, 1100),
-        Some(Due::Solicit(LINK_LOCAL))
-    );
-    assert_eq!(rt;
-        turn_at(&rt, &mut addresses, 1500),
-        Some(Due::Assign(LINK_LOCAL))
-    );
+    falls_due(&rt, &mut addresses, 1100, Due::Solicit(LINK_LOCAL));
+    falls_due(&rt, &mut addresses, 1500, Due::Assign(LINK_LOCAL));
 }
 
 #[test]
@@ -269,45 +226,27 @@ fn an_assigned_address_has_no_conflict(rt: HostRuntime) {
     let mut addresses = started(&rt, rt.alloc());
     assert!(rt; !addresses.conflict(LINK_LOCAL));
     assert!(rt; !addresses.conflict(GLOBAL));
-    assert_eq!(rt; addresses.state(1000, LINK_LOCAL), Some(State::Preferred));
+    assert!(rt; addresses.state(1000, LINK_LOCAL) == Some(State::Preferred));
 }
 
 #[test]
 fn a_detection_keeps_its_retrans_timer(rt: HostRuntime) {
     let mut addresses = started(&rt, rt.alloc());
     let info = default_option(0).expect(&rt, "option");
-    assert_eq!(rt;
-        addresses.heard_prefix(1200, &info, 0, 1000),
-        Ok(Taken::Formed)
-    );
-    assert_eq!(rt;
-        turn_at(&rt, &mut addresses, 1200),
-        Some(Due::Solicit(GLOBAL))
-    );
-    assert_eq!(rt;
-        addresses.heard_prefix(1300, &info, 0, 1),
-        Ok(Taken::Renewed)
-    );
-    assert_eq!(rt;
-        turn_at(&rt, &mut addresses, 2200),
-        Some(Due::Assign(GLOBAL))
-    );
+    hears(&rt, &mut addresses, 1200, &info, 1000, Taken::Formed);
+    falls_due(&rt, &mut addresses, 1200, Due::Solicit(GLOBAL));
+    hears(&rt, &mut addresses, 1300, &info, 1, Taken::Renewed);
+    falls_due(&rt, &mut addresses, 2200, Due::Assign(GLOBAL));
 }
 
 #[test]
 fn an_address_may_end_before_it_is_assigned(rt: HostRuntime) {
     let mut addresses = started(&rt, rt.alloc());
     let info = option(0, 1, 1).expect(&rt, "option");
-    assert_eq!(rt;
-        addresses.heard_prefix(1200, &info, 0, 5000),
-        Ok(Taken::Formed)
-    );
-    assert_eq!(rt;
-        turn_at(&rt, &mut addresses, 1200),
-        Some(Due::Solicit(GLOBAL))
-    );
-    assert_eq!(rt; turn_at(&rt, &mut addresses, 2200), Some(Due::End(GLOBAL)));
-    assert_eq!(rt; addresses.next_due(), None);
+    hears(&rt, &mut addresses, 1200, &info, 5000, Taken::Formed);
+    falls_due(&rt, &mut addresses, 1200, Due::Solicit(GLOBAL));
+    falls_due(&rt, &mut addresses, 2200, Due::End(GLOBAL));
+    assert!(rt; addresses.next_due() == None);
 }
 
 #[test]
@@ -315,29 +254,14 @@ fn ends_come_before_all_else(rt: HostRuntime) {
     let mut addresses = started(&rt, rt.alloc());
     let lasting = default_option(0).expect(&rt, "option");
     let short = option(1, 1, 1).expect(&rt, "option");
-    assert_eq!(rt;
-        addresses.heard_prefix(1200, &lasting, 0, 1000),
-        Ok(Taken::Formed)
-    );
-    assert_eq!(rt;
-        addresses.heard_prefix(1200, &short, 0, 1000),
-        Ok(Taken::Formed)
-    );
-    assert_eq!(rt;
-        turn_at(&rt, &mut addresses, 1200),
-        Some(Due::Solicit(GLOBAL))
-    );
-    assert_eq!(rt;
-        turn_at(&rt, &mut addresses, 1200),
-        Some(Due::Solicit(OTHER))
-    );
-    assert_eq!(rt; turn_at(&rt, &mut addresses, 2200), Some(Due::End(OTHER)));
-    assert_eq!(rt;
-        turn_at(&rt, &mut addresses, 2200),
-        Some(Due::Assign(GLOBAL))
-    );
-    assert_eq!(rt; turn_before(&rt, &mut addresses, 2200), None);
-    assert_eq!(rt; addresses.next_due(), Some(2_592_001_200));
+    hears(&rt, &mut addresses, 1200, &lasting, 1000, Taken::Formed);
+    hears(&rt, &mut addresses, 1200, &short, 1000, Taken::Formed);
+    falls_due(&rt, &mut addresses, 1200, Due::Solicit(GLOBAL));
+    falls_due(&rt, &mut addresses, 1200, Due::Solicit(OTHER));
+    falls_due(&rt, &mut addresses, 2200, Due::End(OTHER));
+    falls_due(&rt, &mut addresses, 2200, Due::Assign(GLOBAL));
+    assert!(rt; turn_before(&rt, &mut addresses, 2200) == None);
+    assert!(rt; addresses.next_due() == Some(2_592_001_200));
 }
 
 #[test]
@@ -376,7 +300,7 @@ fn some_options_say_nothing_of_an_address(rt: HostRuntime) {
             Ok(Taken::Ignored)
         );
     }
-    assert_eq!(rt; addresses.rows(1200).expect(&rt, "memory").len(), 1);
+    assert!(rt; addresses.rows(1200).expect(&rt, "memory").len() == 1);
 }
 
 /// The 64 addresses are shown in the order of their numbers, the link-local one behind those of 2001:db8::/32.
@@ -386,7 +310,7 @@ fn all_are_shown(rt: &impl Abort, addresses: &Addresses<Global>) {
         assert!(rt; row.addr == if n < 63 { formed_of(n) } else { LINK_LOCAL });
         n = n.saturating_add(1);
     }
-    assert_eq!(rt; n, 64);
+    assert!(rt; n == 64);
 }
 
 /// Hears the option for 2001:db8:n::/64.
@@ -422,50 +346,23 @@ fn the_65th_address_has_no_room(rt: HostRuntime) {
 #[test]
 fn a_rest_is_cut_to_two_hours(rt: HostRuntime) {
     let now = 1_000_000u64;
-    assert_eq!(rt;
-        renewed(now, Some(now + 10_800_000), 3600),
-        Some(now + 7_200_000)
-    );
-    assert_eq!(rt;
-        renewed(now, Some(now + 3_600_000), 1800),
-        Some(now + 3_600_000)
-    );
-    assert_eq!(rt;
-        renewed(now, Some(now + 3_600_000), 5400),
-        Some(now + 5_400_000)
-    );
-    assert_eq!(rt;
-        renewed(now, Some(now + 10_800_000), 7201),
-        Some(now + 7_201_000)
-    );
-    assert_eq!(rt; renewed(now, Some(now + 10_800_000), 0xffff_ffff), None);
-    assert_eq!(rt; renewed(now, None, 60), Some(now + 7_200_000));
+    assert!(rt; renewed(now, Some(now + 10_800_000), 3600) == Some(now + 7_200_000));
+    assert!(rt; renewed(now, Some(now + 3_600_000), 1800) == Some(now + 3_600_000));
+    assert!(rt; renewed(now, Some(now + 3_600_000), 5400) == Some(now + 5_400_000));
+    assert!(rt; renewed(now, Some(now + 10_800_000), 7201) == Some(now + 7_201_000));
+    assert!(rt; renewed(now, Some(now + 10_800_000), 0xffff_ffff) == None);
+    assert!(rt; renewed(now, None, 60) == Some(now + 7_200_000));
 }
 
 #[test]
 fn a_renewal_cuts_the_preferred_lifetime(rt: HostRuntime) {
     let mut addresses = started(&rt, rt.alloc());
     let info = default_option(0).expect(&rt, "option");
-    assert_eq!(rt;
-        addresses.heard_prefix(1200, &info, 0, 1000),
-        Ok(Taken::Formed)
-    );
-    assert_eq!(rt;
-        turn_at(&rt, &mut addresses, 1200),
-        Some(Due::Solicit(GLOBAL))
-    );
-    assert_eq!(rt;
-        turn_at(&rt, &mut addresses, 2200),
-        Some(Due::Assign(GLOBAL))
-    );
+    hears(&rt, &mut addresses, 1200, &info, 1000, Taken::Formed);
+    falls_due(&rt, &mut addresses, 1200, Due::Solicit(GLOBAL));
+    falls_due(&rt, &mut addresses, 2200, Due::Assign(GLOBAL));
     let over = option(0, 0, 0).expect(&rt, "option");
-    assert_eq!(rt;
-        addresses.heard_prefix(3000, &over, 0, 1000),
-        Ok(Taken::Renewed)
-    );
-    assert_eq!(rt; addresses.state(3000, GLOBAL), Some(State::Deprecated));
-    assert_eq!(rt;
-        turn_at(&rt, &mut addresses, 7_203_000),
-        Some(Due::End(GLOBAL))
-    );
+    hears(&rt, &mut addresses, 3000, &over, 1000, Taken::Renewed);
+    assert!(rt; addresses.state(3000, GLOBAL) == Some(State::Deprecated));
+    falls_due(&rt, &mut addresses, 7_203_000, Due::End(GLOBAL));
 }

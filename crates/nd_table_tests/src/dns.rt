@@ -56,6 +56,13 @@ fn hear_servers(
     Some(hear(dns, now, message.options))
 }
 
+/// They are taken.
+fn takes_servers(rt: &impl Abort, dns: &mut Dns<Global>, now: u64, a: Told, b: Told)
+    requires { now < 2 ^ 62 }
+{
+    assert!(rt; hear_servers(dns, now, a, b) == TAKEN);
+}
+
 /// Hears an advertisement with two options of names, each of one label that is an x and the byte.
 fn hear_names(dns: &mut Dns<Global>, now: u64, a: Told, b: Told) -> Option<Result<(), TableRefusal>>
     requires { now < 2 ^ 62 }
@@ -68,6 +75,13 @@ fn hear_names(dns: &mut Dns<Global>, now: u64, a: Told, b: Told) -> Option<Resul
     ];
     let message = advertisement(&bytes)?;
     Some(hear(dns, now, message.options))
+}
+
+/// They are taken.
+fn takes_names(rt: &impl Abort, dns: &mut Dns<Global>, now: u64, a: Told, b: Told)
+    requires { now < 2 ^ 62 }
+{
+    assert!(rt; hear_names(dns, now, a, b) == TAKEN);
 }
 
 /// The servers that stand, each by its last byte, with their ends.
@@ -135,7 +149,7 @@ fn hears_a_server_and_a_name(rt: HostRuntime) {
         assert!(rt; entry.end == Some(1_801_200));
         count = count.saturating_add(1);
     }
-    assert_eq!(rt; count, 1);
+    assert!(rt; count == 1);
     servers_are(&rt, &dns, 1_801_199, &[(0x53, Some(1_801_200))]);
     // They end silently.
     servers_are(&rt, &dns, 1_801_200, &[]);
@@ -149,18 +163,18 @@ fn keeps_servers_in_the_order_of_coming(rt: HostRuntime) {
         n: 1,
         lifetime: [0xff, 0xff, 0xff, 0xff],
     };
-    assert!(rt; hear_servers(&mut dns, 1_000, lasting(2, 100), forever) == TAKEN);
+    takes_servers(&rt, &mut dns, 1_000, lasting(2, 100), forever);
     servers_are(&rt, &dns, 1_000, &[(2, Some(101_000)), (1, None)]);
     // A refreshed one keeps its place; a new one with a lifetime of 0 is ignored.
-    assert!(rt; hear_servers(&mut dns, 2_000, lasting(2, 10), lasting(3, 0)) == TAKEN);
+    takes_servers(&rt, &mut dns, 2_000, lasting(2, 10), lasting(3, 0));
     servers_are(&rt, &dns, 2_000, &[(2, Some(12_000)), (1, None)]);
     // One that is removed and comes again in the same message is last.
-    assert!(rt; hear_servers(&mut dns, 3_000, lasting(2, 0), lasting(2, 100)) == TAKEN);
+    takes_servers(&rt, &mut dns, 3_000, lasting(2, 0), lasting(2, 100));
     servers_are(&rt, &dns, 3_000, &[(1, None), (2, Some(103_000))]);
     // So is one that is announced exactly at its end.
-    assert!(rt; hear_servers(&mut dns, 4_000, lasting(1, 10), lasting(2, 100)) == TAKEN);
+    takes_servers(&rt, &mut dns, 4_000, lasting(1, 10), lasting(2, 100));
     servers_are(&rt, &dns, 4_000, &[(1, Some(14_000)), (2, Some(104_000))]);
-    assert!(rt; hear_servers(&mut dns, 14_000, lasting(1, 10), lasting(2, 100)) == TAKEN);
+    takes_servers(&rt, &mut dns, 14_000, lasting(1, 10), lasting(2, 100));
     servers_are(&rt, &dns, 14_000, &[(2, Some(114_000)), (1, Some(24_000))]);
     dns.clear();
     servers_are(&rt, &dns, 14_000, &[]);
@@ -169,7 +183,7 @@ fn keeps_servers_in_the_order_of_coming(rt: HostRuntime) {
 #[test]
 fn keeps_names_in_the_order_of_coming(rt: HostRuntime) {
     let mut dns = Dns::new(rt.alloc()).expect(&rt, "memory");
-    assert!(rt; hear_names(&mut dns, 1_000, lasting(b'b', 100), lasting(b'a', 100)) == TAKEN);
+    takes_names(&rt, &mut dns, 1_000, lasting(b'b', 100), lasting(b'a', 100));
     names_are(
         &rt,
         &dns,
@@ -177,7 +191,7 @@ fn keeps_names_in_the_order_of_coming(rt: HostRuntime) {
         &[(b'b', Some(101_000)), (b'a', Some(101_000))],
     );
     // The same name in capital letters is refreshed, and keeps its place.
-    assert!(rt; hear_names(&mut dns, 2_000, lasting(b'c', 0), lasting(b'B', 10)) == TAKEN);
+    takes_names(&rt, &mut dns, 2_000, lasting(b'c', 0), lasting(b'B', 10));
     names_are(
         &rt,
         &dns,
@@ -185,7 +199,7 @@ fn keeps_names_in_the_order_of_coming(rt: HostRuntime) {
         &[(b'b', Some(12_000)), (b'a', Some(101_000))],
     );
     // One that is removed and comes again in the same message is last.
-    assert!(rt; hear_names(&mut dns, 3_000, lasting(b'B', 0), lasting(b'b', 100)) == TAKEN);
+    takes_names(&rt, &mut dns, 3_000, lasting(b'B', 0), lasting(b'b', 100));
     names_are(
         &rt,
         &dns,
@@ -193,7 +207,7 @@ fn keeps_names_in_the_order_of_coming(rt: HostRuntime) {
         &[(b'a', Some(101_000)), (b'b', Some(103_000))],
     );
     // So is one that is announced exactly at its end.
-    assert!(rt; hear_names(&mut dns, 101_000, lasting(b'a', 1), lasting(b'b', 1)) == TAKEN);
+    takes_names(&rt, &mut dns, 101_000, lasting(b'a', 1), lasting(b'b', 1));
     names_are(
         &rt,
         &dns,
@@ -226,7 +240,7 @@ fn count_names(dns: &Dns<Global>, now: u64) -> usize {
 fn has_room_for_thirty_two_servers(rt: HostRuntime) {
     let mut dns = Dns::new(rt.alloc()).expect(&rt, "memory");
     for n in 1..=32u8 {
-        assert!(rt; hear_servers(&mut dns, 1_000, lasting(n, 100), lasting(n, 200)) == TAKEN);
+        takes_servers(&rt, &mut dns, 1_000, lasting(n, 100), lasting(n, 200));
     }
     let mut n = 0u8;
     for entry in dns.servers(1_000) {
@@ -234,17 +248,17 @@ fn has_room_for_thirty_two_servers(rt: HostRuntime) {
         assert!(rt; entry.key == server(n));
         assert!(rt; entry.end == Some(201_000));
     }
-    assert_eq!(rt; n, 32);
+    assert!(rt; n == 32);
     // A new server before the old one leaves is one too many, and nothing changes.
     assert!(rt; hear_servers(&mut dns, 2_000, lasting(33, 9), lasting(1, 0)) == SERVERS_FULL);
-    assert_eq!(rt; count_servers(&dns, 2_000), 32);
+    assert!(rt; count_servers(&dns, 2_000) == 32);
     // In the other order it is taken.
-    assert!(rt; hear_servers(&mut dns, 2_000, lasting(1, 0), lasting(33, 9)) == TAKEN);
-    assert_eq!(rt; count_servers(&dns, 2_000), 32);
-    assert_eq!(rt; count_servers(&dns, 11_000), 31);
+    takes_servers(&rt, &mut dns, 2_000, lasting(1, 0), lasting(33, 9));
+    assert!(rt; count_servers(&dns, 2_000) == 32);
+    assert!(rt; count_servers(&dns, 11_000) == 31);
     // Those that have ended don't count.
-    assert!(rt; hear_servers(&mut dns, 201_000, lasting(40, 1), lasting(41, 1)) == TAKEN);
-    assert_eq!(rt; count_servers(&dns, 201_000), 2);
+    takes_servers(&rt, &mut dns, 201_000, lasting(40, 1), lasting(41, 1));
+    assert!(rt; count_servers(&dns, 201_000) == 2);
 }
 
 #[test]
@@ -252,10 +266,10 @@ fn has_room_for_thirty_two_names(rt: HostRuntime) {
     let mut dns = Dns::new(rt.alloc()).expect(&rt, "memory");
     // The letters from A to Z are those from a to z.
     for n in b'a'..=b'z' {
-        assert!(rt; hear_names(&mut dns, 1_000, lasting(n, 100), lasting(n, 200)) == TAKEN);
+        takes_names(&rt, &mut dns, 1_000, lasting(n, 100), lasting(n, 200));
     }
     for n in b'0'..=b'5' {
-        assert!(rt; hear_names(&mut dns, 1_000, lasting(n, 100), lasting(n, 200)) == TAKEN);
+        takes_names(&rt, &mut dns, 1_000, lasting(n, 100), lasting(n, 200));
     }
     let mut wanted = b"abcdefghijklmnopqrstuvwxyz012345".iter();
     for entry in dns.search_names(1_000) {
@@ -266,11 +280,11 @@ fn has_room_for_thirty_two_names(rt: HostRuntime) {
     assert!(rt; wanted.next().is_none());
     // A new name before the old one leaves is one too many, and nothing changes.
     assert!(rt; hear_names(&mut dns, 2_000, lasting(b'6', 9), lasting(b'A', 0)) == NAMES_FULL);
-    assert_eq!(rt; count_names(&dns, 2_000), 32);
-    assert!(rt; hear_names(&mut dns, 2_000, lasting(b'A', 0), lasting(b'6', 9)) == TAKEN);
-    assert_eq!(rt; count_names(&dns, 2_000), 32);
+    assert!(rt; count_names(&dns, 2_000) == 32);
+    takes_names(&rt, &mut dns, 2_000, lasting(b'A', 0), lasting(b'6', 9));
+    assert!(rt; count_names(&dns, 2_000) == 32);
     // A server is refused by its own limit alone.
-    assert!(rt; hear_servers(&mut dns, 2_000, lasting(1, 9), lasting(2, 9)) == TAKEN);
-    assert!(rt; hear_names(&mut dns, 201_000, lasting(b'7', 1), lasting(b'8', 1)) == TAKEN);
-    assert_eq!(rt; count_names(&dns, 201_000), 2);
+    takes_servers(&rt, &mut dns, 2_000, lasting(1, 9), lasting(2, 9));
+    takes_names(&rt, &mut dns, 201_000, lasting(b'7', 1), lasting(b'8', 1));
+    assert!(rt; count_names(&dns, 201_000) == 2);
 }

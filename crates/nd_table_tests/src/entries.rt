@@ -37,23 +37,23 @@ fn entries_are_put_in_order_and_found(rt: HostRuntime) -> Result<(), Fail> {
     put(&mut entries, Known(addr(5), Some(700)));
     put(&mut entries, Known(addr(1), None));
     put(&mut entries, Known(addr(3), Some(900)));
-    assert_eq!(rt; find(&entries, addr(1)), Some(0));
-    assert_eq!(rt; find(&entries, addr(3)), Some(1));
-    assert_eq!(rt; find(&entries, addr(5)), Some(2));
-    assert_eq!(rt; find(&entries, addr(4)), None);
+    assert!(rt; find(&entries, addr(1)) == Some(0));
+    assert!(rt; find(&entries, addr(3)) == Some(1));
+    assert!(rt; find(&entries, addr(5)) == Some(2));
+    assert!(rt; find(&entries, addr(4)) == None);
     assert!(rt; holds(&entries, addr(5)));
     assert!(rt; !holds(&entries, addr(2)));
-    assert_eq!(rt; place(&entries, addr(4)), 2);
-    assert_eq!(rt; next_date(&entries), Some(700));
-    assert_eq!(rt; first_at(&entries, 700), Some(2));
-    assert_eq!(rt; first_at(&entries, 800), None);
+    assert!(rt; place(&entries, addr(4)) == 2);
+    assert!(rt; next_date(&entries) == Some(700));
+    assert!(rt; first_at(&entries, 700) == Some(2));
+    assert!(rt; first_at(&entries, 800) == None);
     Ok(())
 }
 
 #[test]
 fn lifetimes_end_but_those_of_all_ones(rt: HostRuntime) {
-    assert_eq!(rt; end_time(500, 2), Some(2500));
-    assert_eq!(rt; end_time(500, 0xffff_ffff), None);
+    assert!(rt; end_time(500, 2) == Some(2500));
+    assert!(rt; end_time(500, 0xffff_ffff) == None);
     assert!(rt; is_before(2499, Some(2500)));
     assert!(rt; !is_before(2500, Some(2500)));
     assert!(rt; is_before(2500, None));

@@ -49,15 +49,12 @@ fn tell(due: Option<Due<Global>>) -> Told {
     }
 }
 
-/// A turn at the moment that is next.
-fn turn_at(rt: &impl Abort, cache: &mut Cache<Global>, now: u64) -> Told
+/// This falls due next, at this moment.
+fn falls_due(rt: &impl Abort, cache: &mut Cache<Global>, now: u64, wanted: Told)
     requires { now < 2 ^ 62 }
 {
-    match cache.next_due() {
-        Some(next) => assert!(rt; next == now),
-        None => assert!(rt; false),
-    }
-    tell(cache.turn(now))
+    assert!(rt; cache.next_due() == Some(now));
+    assert_eq!(rt; tell(cache.turn(now)), wanted);
 }
 
 /// The first byte of the oldest packet, or 0.
@@ -129,81 +126,88 @@ fn given(n: u16) -> News {
     }
 }
 
+/// The address of a neighbour is told.
+fn is_given(rt: &impl Abort, cache: &mut Cache<Global>, now: u64, n: u16)
+    requires { now < 2 ^ 62 }
+{
+    assert!(rt; cache.heard(now, given(n), TIMES).is_ok());
+}
+
 #[test]
 fn a_resolution_keeps_its_retrans_timer(rt: HostRuntime) {
     let mut cache = Cache::new(rt.alloc(), 4).expect(&rt, "memory");
     let a = addr(1);
     let sent = cache.used(0, a, packet(&rt, 1), TIMES);
-    assert_eq!(rt; is_queued(sent), Some(true));
+    assert!(rt; is_queued(sent) == Some(true));
     let faster = Times {
         retrans: 400,
         reachable: 15_000,
     };
     let sent = cache.used(500, a, packet(&rt, 2), faster);
-    assert_eq!(rt; is_queued(sent), Some(false));
-    assert_eq!(rt; cache.waiting(), 2);
-    assert_eq!(rt; turn_at(&rt, &mut cache, 1000), Told::Multicast(a));
-    assert_eq!(rt; turn_at(&rt, &mut cache, 2000), Told::Multicast(a));
-    assert_eq!(rt; turn_at(&rt, &mut cache, 3000), Told::Failed(a, 2));
-    assert_eq!(rt; cache.next_due(), None);
-    assert_eq!(rt; cache.entry(3000, a), None);
+    assert!(rt; is_queued(sent) == Some(false));
+    assert!(rt; cache.waiting() == 2);
+    falls_due(&rt, &mut cache, 1000, Told::Multicast(a));
+    falls_due(&rt, &mut cache, 2000, Told::Multicast(a));
+    falls_due(&rt, &mut cache, 3000, Told::Failed(a, 2));
+    assert!(rt; cache.next_due() == None);
+    assert!(rt; cache.entry(3000, a) == None);
 }
 
 #[test]
 fn a_use_of_a_stale_entry_leads_to_probes(rt: HostRuntime) {
     let mut cache = Cache::new(rt.alloc(), 4).expect(&rt, "memory");
     let a = addr(1);
-    assert!(rt; cache.heard(1000, given(1), TIMES).is_ok());
+    is_given(&rt, &mut cache, 1000, 1);
     let sent = cache.used(2000, a, packet(&rt, 1), TIMES);
-    assert_eq!(rt; sent_to(sent), Some(MAC));
-    assert_eq!(rt; state(&cache, 6999, a), Some(Reachability::Delay));
-    assert_eq!(rt; state(&cache, 7000, a), Some(Reachability::Probe));
-    assert_eq!(rt; turn_at(&rt, &mut cache, 7000), Told::Unicast(a, MAC));
-    assert_eq!(rt; turn_at(&rt, &mut cache, 8000), Told::Unicast(a, MAC));
-    assert_eq!(rt; turn_at(&rt, &mut cache, 9000), Told::Unicast(a, MAC));
-    assert_eq!(rt; turn_at(&rt, &mut cache, 10_000), Told::Failed(a, 0));
+    assert!(rt; sent_to(sent) == Some(MAC));
+    assert!(rt; state(&cache, 6999, a) == Some(Reachability::Delay));
+    assert!(rt; state(&cache, 7000, a) == Some(Reachability::Probe));
+    falls_due(&rt, &mut cache, 7000, Told::Unicast(a, MAC));
+    falls_due(&rt, &mut cache, 8000, Told::Unicast(a, MAC));
+    falls_due(&rt, &mut cache, 9000, Told::Unicast(a, MAC));
+    falls_due(&rt, &mut cache, 10_000, Told::Failed(a, 0));
 }
 
 #[test]
 fn a_confirmation_ends_and_the_entry_ages(rt: HostRuntime) {
     let mut cache = Cache::new(rt.alloc(), 4).expect(&rt, "memory");
     let a = addr(1);
-    assert!(rt; cache.heard(1000, given(1), TIMES).is_ok());
+    is_given(&rt, &mut cache, 1000, 1);
     let sent = cache.used(2000, a, packet(&rt, 1), TIMES);
-    assert_eq!(rt; sent_to(sent), Some(MAC));
+    assert!(rt; sent_to(sent) == Some(MAC));
     cache.confirmed(6999, a, 15_000);
-    assert_eq!(rt; state(&cache, 21_998, a), Some(Reachability::Reachable));
-    assert_eq!(rt; state(&cache, 21_999, a), Some(Reachability::Stale));
-    assert_eq!(rt; turn_at(&rt, &mut cache, 86_421_999), Told::Aged(a));
-    assert_eq!(rt; cache.next_due(), None);
+    assert!(rt; state(&cache, 21_998, a) == Some(Reachability::Reachable));
+    assert!(rt; state(&cache, 21_999, a) == Some(Reachability::Stale));
+    falls_due(&rt, &mut cache, 86_421_999, Told::Aged(a));
+    assert!(rt; cache.next_due() == None);
 }
 
 #[test]
 fn the_513th_neighbour_pushes_out_the_one_stale_for_longest(rt: HostRuntime) {
     let mut cache = Cache::new(rt.alloc(), 512).expect(&rt, "memory");
     for n in 0..512u16 {
-        assert!(rt; cache.heard(u64::from(n), given(n), TIMES).is_ok());
+        is_given(&rt, &mut cache, u64::from(n), n);
     }
-    assert!(rt; cache.heard(1000, given(512), TIMES).is_ok());
-    assert_eq!(rt; cache.entry(1000, addr(0)), None);
-    assert_eq!(rt; state(&cache, 1000, addr(1)), Some(Reachability::Stale));
-    assert_eq!(rt; state(&cache, 1000, addr(512)), Some(Reachability::Stale));
-    assert_eq!(rt; cache.rows(1000).expect(&rt, "memory").len(), 512);
+    is_given(&rt, &mut cache, 1000, 512);
+    assert!(rt; cache.entry(1000, addr(0)) == None);
+    assert!(rt; state(&cache, 1000, addr(1)) == Some(Reachability::Stale));
+    assert!(rt; state(&cache, 1000, addr(512)) == Some(Reachability::Stale));
+    assert!(rt; cache.rows(1000).expect(&rt, "memory").len() == 512);
 }
 
 #[test]
 fn the_513th_neighbour_is_full_where_none_is_stale(rt: HostRuntime) {
     let mut cache = Cache::new(rt.alloc(), 512).expect(&rt, "memory");
     for n in 0..512u16 {
-        assert!(rt; cache.heard(u64::from(n), given(n), TIMES).is_ok());
+        is_given(&rt, &mut cache, u64::from(n), n);
         cache.confirmed(999, addr(n), 15_000);
     }
     assert!(rt; cache.heard(1000, given(512), TIMES).is_err());
     let sent = cache.used(1000, addr(512), packet(&rt, 9), TIMES);
-    assert_eq!(rt; refusal(sent), Some((CacheRefusal::Full, 9)));
-    assert_eq!(rt; state(&cache, 1000, addr(0)), Some(Reachability::Reachable));
-    assert_eq!(rt; cache.rows(1000).expect(&rt, "memory").len(), 512);
-    assert_eq!(rt; cache.entry(1000, addr(512)), None);
+    assert!(rt; refusal(sent) == Some((CacheRefusal::Full, 9)));
+    assert!(rt; state(&cache, 1000, addr(0)) == Some(Reachability::Reachable));
+    assert!(rt; cache.rows(1000).expect(&rt, "memory").len() == 512);
+    assert!(rt; cache.entry(1000, addr(512)) == None);
 }
 
 #[test]
@@ -216,18 +220,18 @@ fn the_last_three_packets_wait_and_are_released_in_order(rt: HostRuntime) {
         assert_eq!(rt; is_queued(sent), Some(byte == 1));
     }
     let sent = cache.used(0, a, packet(&rt, 4), TIMES);
-    assert_eq!(rt; replaced(sent), Some(1));
-    assert_eq!(rt; cache.waiting(), 3);
+    assert!(rt; replaced(sent) == Some(1));
+    assert!(rt; cache.waiting() == 3);
     let mut touched = cache
         .heard(10, given(1), TIMES)
         .ok()
         .expect(&rt, "a refusal");
-    assert_eq!(rt; touched.released.len(), 3);
-    assert_eq!(rt; first_byte(&mut touched.released), 2);
-    assert_eq!(rt; first_byte(&mut touched.released), 3);
-    assert_eq!(rt; first_byte(&mut touched.released), 4);
+    assert!(rt; touched.released.len() == 3);
+    assert!(rt; first_byte(&mut touched.released) == 2);
+    assert!(rt; first_byte(&mut touched.released) == 3);
+    assert!(rt; first_byte(&mut touched.released) == 4);
     assert!(rt; touched.released.is_empty());
-    assert_eq!(rt; cache.waiting(), 0);
+    assert!(rt; cache.waiting() == 0);
 }
 
 #[test]
@@ -239,10 +243,10 @@ fn what_is_forgotten_hands_out_what_waited(rt: HostRuntime) {
         assert_eq!(rt; is_queued(sent), Some(true));
     }
     let mut packets = cache.forget(addr(3));
-    assert_eq!(rt; first_byte(&mut packets), 3);
+    assert!(rt; first_byte(&mut packets) == 3);
     assert!(rt; cache.forget(addr(9)).is_empty());
-    assert_eq!(rt; cache.clear().expect(&rt, "memory").len(), 2);
-    assert_eq!(rt; cache.rows(0).expect(&rt, "memory").len(), 0);
+    assert!(rt; cache.clear().expect(&rt, "memory").len() == 2);
+    assert!(rt; cache.rows(0).expect(&rt, "memory").len() == 0);
 }
 
 #[test]
@@ -436,7 +440,7 @@ fn an_advertisement_makes_no_entry(rt: HostRuntime) {
         mac: Some(MAC),
     };
     assert!(rt; cache.heard(20_000, news, TIMES).is_ok());
-    assert_eq!(rt; cache.entry(20_000, addr(1)), None);
+    assert!(rt; cache.entry(20_000, addr(1)) == None);
 }
 
 /// Whether an address that is given, the same one or another one, leads to a state.
@@ -472,14 +476,14 @@ fn an_address_that_is_given_makes_of_an_entry_what_the_table_says(rt: HostRuntim
         assert!(rt; given_makes(&rt, before, OTHER_MAC, Stale));
     }
     let mut cache = cache_with(&rt, None, true);
-    assert!(rt; cache.heard(20_000, given(1), TIMES).is_ok());
+    is_given(&rt, &mut cache, 20_000, 1);
     let after = Neighbour {
         addr: addr(1),
         mac: Some(MAC),
         router: false,
         state: Stale,
     };
-    assert_eq!(rt; cache.entry(20_000, addr(1)), Some(after));
+    assert!(rt; cache.entry(20_000, addr(1)) == Some(after));
 }
 
 #[test]
@@ -488,7 +492,7 @@ fn room_is_for_a_new_neighbour_and_for_a_second_one_after_it(rt: HostRuntime) {
     assert!(rt; cache.room(0, addr(1), None));
     assert!(rt; cache.room(0, addr(1), Some(addr(1))));
     assert!(rt; !cache.room(0, addr(1), Some(addr(2))));
-    assert!(rt; cache.heard(0, given(1), TIMES).is_ok());
+    is_given(&rt, &mut cache, 0, 1);
     // It is stale: it makes place, but only until it is used, and it is then not there any more.
     assert!(rt; cache.room(5, addr(2), None));
     assert!(rt; cache.room(5, addr(1), Some(addr(1))));
@@ -502,13 +506,13 @@ fn room_is_for_a_new_neighbour_and_for_a_second_one_after_it(rt: HostRuntime) {
 #[test]
 fn the_first_of_two_may_push_out_the_second(rt: HostRuntime) {
     let mut cache = Cache::new(rt.alloc(), 2).expect(&rt, "memory");
-    assert!(rt; cache.heard(0, given(1), TIMES).is_ok());
-    assert!(rt; cache.heard(1, given(2), TIMES).is_ok());
+    is_given(&rt, &mut cache, 0, 1);
+    is_given(&rt, &mut cache, 1, 2);
     assert!(rt; cache.room(5, addr(3), Some(addr(4))));
     assert!(rt; cache.room(5, addr(3), Some(addr(1))));
     assert!(rt; cache.room(5, addr(3), Some(addr(2))));
     let sent = cache.used(5, addr(2), packet(&rt, 1), TIMES);
-    assert_eq!(rt; sent_to(sent), Some(MAC));
+    assert!(rt; sent_to(sent) == Some(MAC));
     // One is left that is stale: it goes for the third, and then there is no place for it.
     assert!(rt; cache.room(5, addr(3), Some(addr(2))));
     assert!(rt; !cache.room(5, addr(3), Some(addr(1))));
@@ -520,7 +524,7 @@ fn five_hundred_and_eleven_in_use_leave_room_for_one(rt: HostRuntime) {
     let mut cache = Cache::new(rt.alloc(), 512).expect(&rt, "memory");
     for n in 0..511u16 {
         let now = 1001 + u64::from(n);
-        assert!(rt; cache.heard(now, given(n), TIMES).is_ok());
+        is_given(&rt, &mut cache, now, n);
         let sent = cache.used(now, addr(n), packet(&rt, 1), TIMES);
         assert_eq!(rt; sent_to(sent), Some(MAC));
     }
@@ -528,7 +532,7 @@ fn five_hundred_and_eleven_in_use_leave_room_for_one(rt: HostRuntime) {
     assert!(rt; !cache.room(1512, addr(600), Some(addr(601))));
     assert!(rt; cache.room(1512, addr(600), Some(addr(3))));
     assert!(rt; cache.room(1512, addr(3), Some(addr(600))));
-    assert_eq!(rt; cache.rows(1512).expect(&rt, "memory").len(), 511);
+    assert!(rt; cache.rows(1512).expect(&rt, "memory").len() == 511);
 }
 
 /// A packet whose last two bytes are this number.
@@ -549,20 +553,20 @@ fn five_hundred_and_twelve_neighbours_are_shown_and_cleared(rt: HostRuntime) {
         let sent = cache.used(0, addr(n), numbered(&rt, n), TIMES);
         assert!(rt; is_queued(sent) == Some(true));
     }
-    assert_eq!(rt; cache.waiting(), 512);
+    assert!(rt; cache.waiting() == 512);
     let mut n = 0u16;
     for row in &cache.rows(0).expect(&rt, "memory") {
         assert!(rt; row.addr == addr(n));
         assert!(rt; row.state == Reachability::Incomplete);
         n = n.saturating_add(1);
     }
-    assert_eq!(rt; n, 512);
+    assert!(rt; n == 512);
     let mut n = 0u16;
     for packet in &cache.clear().expect(&rt, "memory") {
         assert!(rt; packet.as_bytes().ends_with(&n.to_be_bytes()));
         n = n.saturating_add(1);
     }
-    assert_eq!(rt; n, 512);
-    assert_eq!(rt; cache.waiting(), 0);
+    assert!(rt; n == 512);
+    assert!(rt; cache.waiting() == 0);
     assert!(rt; cache.rows(0).expect(&rt, "memory").is_empty());
 }

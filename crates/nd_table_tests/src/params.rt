@@ -60,25 +60,22 @@ fn hear(params: &mut Params, now: u64, message: MessageRef<'_>, value: u64) -> b
 
 #[test]
 fn draws_between_half_and_one_and_a_half(rt: HostRuntime) {
-    assert_eq!(rt; reachable_range(30_000), (15_000, 45_000));
-    assert_eq!(rt; reachable_range(1), (0, 1));
-    assert_eq!(rt;
-        reachable_range(4_294_967_295),
-        (2_147_483_647, 6_442_450_942)
-    );
+    assert!(rt; reachable_range(30_000) == (15_000, 45_000));
+    assert!(rt; reachable_range(1) == (0, 1));
+    assert!(rt; reachable_range(4_294_967_295) == (2_147_483_647, 6_442_450_942));
 }
 
 #[test]
 fn begins_with_the_defaults(rt: HostRuntime) {
     let params = Params::new(0, 15_000);
-    assert_eq!(rt; params.hop_limit(), 64);
-    assert_eq!(rt; params.mtu(), 1500);
-    assert_eq!(rt; params.base_reachable_time(), 30_000);
-    assert_eq!(rt; params.reachable_time(), 15_000);
-    assert_eq!(rt; params.retrans_timer(), 1_000);
+    assert!(rt; params.hop_limit() == 64);
+    assert!(rt; params.mtu() == 1500);
+    assert!(rt; params.base_reachable_time() == 30_000);
+    assert!(rt; params.reachable_time() == 15_000);
+    assert!(rt; params.retrans_timer() == 1_000);
     assert!(rt; !params.managed());
     assert!(rt; !params.other());
-    assert_eq!(rt; params.next_due(), 7_200_000);
+    assert!(rt; params.next_due() == 7_200_000);
 }
 
 #[test]
@@ -86,27 +83,27 @@ fn takes_what_is_told(rt: HostRuntime) {
     let mut params = Params::new(0, 15_000);
     let message = advertisement(&EVERY_PARAMETER).expect(&rt, "message");
     assert!(rt; hear(&mut params, 1_200, message, 16_023));
-    assert_eq!(rt; params.hop_limit(), 32);
-    assert_eq!(rt; params.mtu(), 1280);
-    assert_eq!(rt; params.base_reachable_time(), 32_047);
-    assert_eq!(rt; params.reachable_time(), 16_023);
-    assert_eq!(rt; params.retrans_timer(), 2_000);
+    assert!(rt; params.hop_limit() == 32);
+    assert!(rt; params.mtu() == 1280);
+    assert!(rt; params.base_reachable_time() == 32_047);
+    assert!(rt; params.reachable_time() == 16_023);
+    assert!(rt; params.retrans_timer() == 2_000);
     assert!(rt; params.managed());
     assert!(rt; params.other());
-    assert_eq!(rt; params.next_due(), 7_201_200);
+    assert!(rt; params.next_due() == 7_201_200);
     // The same base again is no change, and draws nothing.
     assert!(rt; !hear(&mut params, 1_300, message, 1));
-    assert_eq!(rt; params.reachable_time(), 16_023);
+    assert!(rt; params.reachable_time() == 16_023);
     params.redrawn(7_201_200, 17_000);
-    assert_eq!(rt; params.reachable_time(), 17_000);
-    assert_eq!(rt; params.next_due(), 14_401_200);
+    assert!(rt; params.reachable_time() == 17_000);
+    assert!(rt; params.next_due() == 14_401_200);
     // What tells nothing leaves all but the flags.
     let nothing = advertisement(&NOTHING).expect(&rt, "message");
     assert!(rt; !hear(&mut params, 7_201_300, nothing, 1));
-    assert_eq!(rt; params.hop_limit(), 32);
-    assert_eq!(rt; params.mtu(), 1280);
-    assert_eq!(rt; params.base_reachable_time(), 32_047);
-    assert_eq!(rt; params.retrans_timer(), 2_000);
+    assert!(rt; params.hop_limit() == 32);
+    assert!(rt; params.mtu() == 1280);
+    assert!(rt; params.base_reachable_time() == 32_047);
+    assert!(rt; params.retrans_timer() == 2_000);
     assert!(rt; !params.managed());
     assert!(rt; !params.other());
 }
@@ -116,7 +113,7 @@ fn takes_no_mtu_that_the_link_cannot_have(rt: HostRuntime) {
     let mut params = Params::new(0, 15_000);
     let message = advertisement(&MTU_TOO_LARGE).expect(&rt, "message");
     assert!(rt; !hear(&mut params, 1_200, message, 1));
-    assert_eq!(rt; params.mtu(), 1500);
+    assert!(rt; params.mtu() == 1500);
 }
 
 #[test]
@@ -124,15 +121,15 @@ fn keeps_an_mtu_that_is_not_told_again(rt: HostRuntime) {
     let mut params = Params::new(0, 15_000);
     let dns = advertisement(&DNS_ADVERTISEMENT).expect(&rt, "message");
     assert!(rt; !hear(&mut params, 1_200, dns, 1));
-    assert_eq!(rt; params.hop_limit(), 64);
-    assert_eq!(rt; params.mtu(), 1400);
-    assert_eq!(rt; params.base_reachable_time(), 30_000);
-    assert_eq!(rt; params.reachable_time(), 15_000);
-    assert_eq!(rt; params.retrans_timer(), 1_000);
+    assert!(rt; params.hop_limit() == 64);
+    assert!(rt; params.mtu() == 1400);
+    assert!(rt; params.base_reachable_time() == 30_000);
+    assert!(rt; params.reachable_time() == 15_000);
+    assert!(rt; params.retrans_timer() == 1_000);
     assert!(rt; params.managed());
     assert!(rt; params.other());
     let plain = advertisement(&ADVERTISEMENT).expect(&rt, "message");
     assert!(rt; !hear(&mut params, 1_300, plain, 1));
-    assert_eq!(rt; params.mtu(), 1400);
+    assert!(rt; params.mtu() == 1400);
     assert!(rt; !params.managed());
 }

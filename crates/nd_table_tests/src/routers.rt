@@ -28,6 +28,20 @@ fn hear(
     }
 }
 
+/// A router is heard, with this change.
+fn hears(
+    rt: &impl Abort,
+    routers: &mut Routers<Global>,
+    now: u64,
+    source: Addr,
+    lifetime: u16,
+    wanted: Change,
+)
+    requires { now < 2 ^ 62 }
+{
+    assert_eq!(rt; hear(routers, now, source, lifetime), Some(Ok(wanted)));
+}
+
 /// Turns at the moment that is next.
 fn turn_next(routers: &mut Routers<Global>) -> Option<(u64, Addr)> {
     let next = routers.next_due()?;
@@ -54,10 +68,10 @@ fn listed(rt: &impl Abort, routers: &Routers<Global>, now: u64, wanted: &[(Addr,
 #[test]
 fn keeps_the_order_of_coming(rt: HostRuntime) {
     let mut routers = Routers::new(rt.alloc(), 16).expect(&rt, "memory");
-    assert!(rt; hear(&mut routers, 1_000, addr(2), 1_800) == Some(Ok(Change::Entered)));
-    assert!(rt; hear(&mut routers, 2_000, addr(1), 1_800) == Some(Ok(Change::Entered)));
+    hears(&rt, &mut routers, 1_000, addr(2), 1_800, Change::Entered);
+    hears(&rt, &mut routers, 2_000, addr(1), 1_800, Change::Entered);
     // A refreshed one keeps its place, with another end.
-    assert!(rt; hear(&mut routers, 3_000, addr(2), 10) == Some(Ok(Change::Refreshed)));
+    hears(&rt, &mut routers, 3_000, addr(2), 10, Change::Refreshed);
     listed(
         &rt,
         &routers,
@@ -65,23 +79,23 @@ fn keeps_the_order_of_coming(rt: HostRuntime) {
         &[(addr(2), Some(13_000)), (addr(1), Some(1_802_000))],
     );
     // One that is removed and comes again is last.
-    assert!(rt; hear(&mut routers, 4_000, addr(2), 0) == Some(Ok(Change::Removed)));
-    assert!(rt; hear(&mut routers, 4_000, addr(2), 0) == Some(Ok(Change::Nothing)));
-    assert!(rt; hear(&mut routers, 4_000, addr(2), 1_800) == Some(Ok(Change::Entered)));
+    hears(&rt, &mut routers, 4_000, addr(2), 0, Change::Removed);
+    hears(&rt, &mut routers, 4_000, addr(2), 0, Change::Nothing);
+    hears(&rt, &mut routers, 4_000, addr(2), 1_800, Change::Entered);
     listed(
         &rt,
         &routers,
         4_000,
         &[(addr(1), Some(1_802_000)), (addr(2), Some(1_804_000))],
     );
-    assert_eq!(rt; routers.len(), 2);
+    assert!(rt; routers.len() == 2);
 }
 
 #[test]
 fn ends_to_the_millisecond(rt: HostRuntime) {
     let mut routers = Routers::new(rt.alloc(), 16).expect(&rt, "memory");
-    assert!(rt; hear(&mut routers, 1_200, addr(2), 1_800) == Some(Ok(Change::Entered)));
-    assert!(rt; hear(&mut routers, 1_200, addr(1), 1_800) == Some(Ok(Change::Entered)));
+    hears(&rt, &mut routers, 1_200, addr(2), 1_800, Change::Entered);
+    hears(&rt, &mut routers, 1_200, addr(1), 1_800, Change::Entered);
     assert!(rt; routers.holds(1_801_199, addr(2)));
     assert!(rt; !routers.holds(1_801_200, addr(2)));
     assert!(rt; routers.next_due() == Some(1_801_200));
@@ -97,7 +111,7 @@ fn has_room_for_sixteen(rt: HostRuntime) {
     let mut routers = Routers::new(rt.alloc(), 16).expect(&rt, "memory");
     for n in 0..16u8 {
         assert!(rt; routers.fits(1_000, addr(n), 1_800));
-        assert!(rt; hear(&mut routers, 1_000, addr(n), 1_800) == Some(Ok(Change::Entered)));
+        hears(&rt, &mut routers, 1_000, addr(n), 1_800, Change::Entered);
     }
     assert!(rt; !routers.fits(1_000, addr(16), 1_800));
     assert!(rt; routers.fits(1_000, addr(16), 0));
@@ -105,12 +119,12 @@ fn has_room_for_sixteen(rt: HostRuntime) {
     assert!(rt;
         hear(&mut routers, 1_000, addr(16), 1_800) == Some(Err(TableRefusal::Full(Limit::Routers)))
     );
-    assert_eq!(rt; routers.len(), 16);
-    assert!(rt; hear(&mut routers, 1_000, addr(16), 0) == Some(Ok(Change::Nothing)));
-    assert!(rt; hear(&mut routers, 1_000, addr(3), 9_000) == Some(Ok(Change::Refreshed)));
-    assert!(rt; hear(&mut routers, 1_000, addr(0), 0) == Some(Ok(Change::Removed)));
-    assert!(rt; hear(&mut routers, 1_000, addr(16), 1_800) == Some(Ok(Change::Entered)));
-    assert_eq!(rt; routers.len(), 16);
+    assert!(rt; routers.len() == 16);
+    hears(&rt, &mut routers, 1_000, addr(16), 0, Change::Nothing);
+    hears(&rt, &mut routers, 1_000, addr(3), 9_000, Change::Refreshed);
+    hears(&rt, &mut routers, 1_000, addr(0), 0, Change::Removed);
+    hears(&rt, &mut routers, 1_000, addr(16), 1_800, Change::Entered);
+    assert!(rt; routers.len() == 16);
 }
 
 #[test]
@@ -118,7 +132,7 @@ fn has_room_for_as_many_as_it_was_made_for(rt: HostRuntime) {
     let mut routers = Routers::new(rt.alloc(), 2).expect(&rt, "memory");
     for n in 0..2u8 {
         assert!(rt; routers.fits(1_000, addr(n), 1_800));
-        assert!(rt; hear(&mut routers, 1_000, addr(n), 1_800) == Some(Ok(Change::Entered)));
+        hears(&rt, &mut routers, 1_000, addr(n), 1_800, Change::Entered);
         routers.failed(addr(n));
     }
     assert!(rt; !routers.fits(1_000, addr(2), 1_800));
@@ -127,8 +141,8 @@ fn has_room_for_as_many_as_it_was_made_for(rt: HostRuntime) {
     );
     assert!(rt; failed_at(&routers, 1) == Some(1));
     assert!(rt; routers.ended(addr(0)));
-    assert!(rt; hear(&mut routers, 1_000, addr(2), 1_800) == Some(Ok(Change::Entered)));
-    assert_eq!(rt; routers.len(), 2);
+    hears(&rt, &mut routers, 1_000, addr(2), 1_800, Change::Entered);
+    assert!(rt; routers.len() == 2);
     // One with room for none takes none.
     let mut none = Routers::new(rt.alloc(), 0).expect(&rt, "memory");
     assert!(rt;
@@ -148,7 +162,7 @@ fn failed_at(routers: &Routers<Global>, i: usize) -> Option<u64> {
 fn orders_failures_by_the_last_one(rt: HostRuntime) {
     let mut routers = Routers::new(rt.alloc(), 16).expect(&rt, "memory");
     for n in 0..3u8 {
-        assert!(rt; hear(&mut routers, 1_000, addr(n), 1_800) == Some(Ok(Change::Entered)));
+        hears(&rt, &mut routers, 1_000, addr(n), 1_800, Change::Entered);
     }
     assert!(rt;
         routers.at(2)
@@ -170,7 +184,7 @@ fn orders_failures_by_the_last_one(rt: HostRuntime) {
     // One that left and came again never failed.
     assert!(rt; routers.ended(addr(0)));
     assert!(rt; !routers.ended(addr(0)));
-    assert!(rt; hear(&mut routers, 1_500, addr(0), 1_800) == Some(Ok(Change::Entered)));
+    hears(&rt, &mut routers, 1_500, addr(0), 1_800, Change::Entered);
     assert!(rt;
         routers.at(2)
             == Some(Listed {
@@ -179,8 +193,8 @@ fn orders_failures_by_the_last_one(rt: HostRuntime) {
             })
     );
     assert!(rt; failed_at(&routers, 0) == Some(0));
-    assert!(rt; hear(&mut routers, 1_500, addr(1), 0) == Some(Ok(Change::Removed)));
-    assert!(rt; hear(&mut routers, 1_500, addr(1), 1_800) == Some(Ok(Change::Entered)));
+    hears(&rt, &mut routers, 1_500, addr(1), 0, Change::Removed);
+    hears(&rt, &mut routers, 1_500, addr(1), 1_800, Change::Entered);
     assert!(rt;
         routers.at(2)
             == Some(Listed {
@@ -193,14 +207,14 @@ fn orders_failures_by_the_last_one(rt: HostRuntime) {
 #[test]
 fn clears_in_the_order_of_the_list(rt: HostRuntime) {
     let mut routers = Routers::new(rt.alloc(), 16).expect(&rt, "memory");
-    assert!(rt; hear(&mut routers, 1_000, addr(2), 1_800) == Some(Ok(Change::Entered)));
-    assert!(rt; hear(&mut routers, 1_000, addr(1), 1_800) == Some(Ok(Change::Entered)));
+    hears(&rt, &mut routers, 1_000, addr(2), 1_800, Change::Entered);
+    hears(&rt, &mut routers, 1_000, addr(1), 1_800, Change::Entered);
     routers.failed(addr(1));
     let cleared = routers.clear().expect(&rt, "memory");
     assert!(rt; cleared.as_slice() == [addr(2), addr(1)].as_slice());
-    assert_eq!(rt; routers.len(), 0);
+    assert!(rt; routers.len() == 0);
     assert!(rt; routers.next_due().is_none());
-    assert!(rt; hear(&mut routers, 1_000, addr(1), 1_800) == Some(Ok(Change::Entered)));
+    hears(&rt, &mut routers, 1_000, addr(1), 1_800, Change::Entered);
     assert!(rt;
         routers.at(0)
             == Some(Listed {
@@ -215,7 +229,7 @@ fn sixteen_routers_are_shown_and_cleared_in_order(rt: HostRuntime) {
     let mut routers = Routers::new(rt.alloc(), 16).expect(&rt, "memory");
     // They come in another order than that of their addresses.
     for n in (0..16u8).rev() {
-        assert!(rt; hear(&mut routers, 1_000, addr(n), 1_800) == Some(Ok(Change::Entered)));
+        hears(&rt, &mut routers, 1_000, addr(n), 1_800, Change::Entered);
     }
     let mut n = 16u8;
     for entry in routers.rows(1_000) {
@@ -223,15 +237,15 @@ fn sixteen_routers_are_shown_and_cleared_in_order(rt: HostRuntime) {
         assert!(rt; entry.key.addr() == addr(n));
         assert!(rt; entry.end == Some(1_801_000));
     }
-    assert_eq!(rt; n, 0);
+    assert!(rt; n == 0);
     let cleared = routers.clear().expect(&rt, "memory");
-    assert_eq!(rt; cleared.len(), 16);
+    assert!(rt; cleared.len() == 16);
     let mut n = 16u8;
     for source in &cleared {
         n = n.saturating_sub(1);
         assert!(rt; *source == addr(n));
     }
-    assert_eq!(rt; routers.len(), 0);
+    assert!(rt; routers.len() == 0);
     assert!(rt; routers.at(0).is_none());
 }
 
@@ -294,6 +308,13 @@ fn hear_both(
     hear_from(prefixes, now, [0x20, 0x01], a, b)
 }
 
+/// They fit, and are taken.
+fn takes_both(rt: &impl Abort, prefixes: &mut Prefixes<Global>, now: u64, a: Told, b: Told)
+    requires { now < 2 ^ 62 }
+{
+    assert!(rt; hear_both(prefixes, now, a, b) == TAKEN);
+}
+
 /// The prefixes that stand, each by its byte n, with their ends.
 fn standing(rt: &impl Abort, prefixes: &Prefixes<Global>, now: u64, wanted: &[(u8, u64)]) {
     let mut rest = wanted;
@@ -329,19 +350,19 @@ const FULL: Option<(bool, Result<(), TableRefusal>)> = Some((
 #[test]
 fn keeps_prefixes_in_the_order_of_coming(rt: HostRuntime) {
     let mut prefixes = Prefixes::new(rt.alloc()).expect(&rt, "memory");
-    assert!(rt; hear_both(&mut prefixes, 1_000, lasting(2, 100), lasting(1, 50)) == TAKEN);
+    takes_both(&rt, &mut prefixes, 1_000, lasting(2, 100), lasting(1, 50));
     // A refreshed one keeps its place; a new one with a lifetime of 0 is ignored.
-    assert!(rt; hear_both(&mut prefixes, 2_000, lasting(2, 10), lasting(3, 0)) == TAKEN);
+    takes_both(&rt, &mut prefixes, 2_000, lasting(2, 10), lasting(3, 0));
     standing(&rt, &prefixes, 2_000, &[(2, 12_000), (1, 51_000)]);
     assert!(rt; prefixes.least_end(2_000) == Some(12_000));
     // One that is removed and comes again in the same message is last.
-    assert!(rt; hear_both(&mut prefixes, 3_000, lasting(2, 0), lasting(2, 100)) == TAKEN);
+    takes_both(&rt, &mut prefixes, 3_000, lasting(2, 0), lasting(2, 100));
     standing(&rt, &prefixes, 3_000, &[(1, 51_000), (2, 103_000)]);
     // They end silently, and one that is announced exactly at its end comes last.
     standing(&rt, &prefixes, 50_999, &[(1, 51_000), (2, 103_000)]);
     standing(&rt, &prefixes, 51_000, &[(2, 103_000)]);
     assert!(rt; prefixes.least_end(51_000) == Some(103_000));
-    assert!(rt; hear_both(&mut prefixes, 51_000, lasting(1, 100), lasting(2, 100)) == TAKEN);
+    takes_both(&rt, &mut prefixes, 51_000, lasting(1, 100), lasting(2, 100));
     standing(&rt, &prefixes, 51_000, &[(2, 151_000), (1, 151_000)]);
     prefixes.clear();
     standing(&rt, &prefixes, 51_000, &[]);
@@ -356,7 +377,7 @@ fn takes_no_prefix_that_is_not_on_the_link(rt: HostRuntime) {
         flags: 0x40,
         valid: 100,
     };
-    assert!(rt; hear_both(&mut prefixes, 1_000, without, without) == TAKEN);
+    takes_both(&rt, &mut prefixes, 1_000, without, without);
     assert!(rt;
         hear_from(
             &mut prefixes,
@@ -388,7 +409,7 @@ fn tells_which_addresses_are_on_the_link(rt: HostRuntime) {
     assert!(rt; !prefixes.on_link(1_000, inside));
     assert!(rt; prefixes.on_link(1_000, link_local));
     assert!(rt; !prefixes.on_link(1_000, no_subnet));
-    assert!(rt; hear_both(&mut prefixes, 1_000, lasting(1, 10), lasting(2, 10)) == TAKEN);
+    takes_both(&rt, &mut prefixes, 1_000, lasting(1, 10), lasting(2, 10));
     assert!(rt; prefixes.on_link(10_999, inside));
     assert!(rt; !prefixes.on_link(11_000, inside));
     assert!(rt; !prefixes.on_link(1_000, outside));
@@ -398,7 +419,7 @@ fn tells_which_addresses_are_on_the_link(rt: HostRuntime) {
 fn has_room_for_sixty_four(rt: HostRuntime) {
     let mut prefixes = Prefixes::new(rt.alloc()).expect(&rt, "memory");
     for n in 0..64u8 {
-        assert!(rt; hear_both(&mut prefixes, 1_000, lasting(n, 100), lasting(n, 200)) == TAKEN);
+        takes_both(&rt, &mut prefixes, 1_000, lasting(n, 100), lasting(n, 200));
     }
     let mut n = 0u8;
     for entry in prefixes.rows(1_000) {
@@ -406,7 +427,7 @@ fn has_room_for_sixty_four(rt: HostRuntime) {
         assert!(rt; entry.end == Some(201_000));
         n = n.saturating_add(1);
     }
-    assert_eq!(rt; n, 64);
+    assert!(rt; n == 64);
     // A new prefix before the old one leaves is one too many, and nothing changes.
     assert!(rt; hear_both(&mut prefixes, 2_000, lasting(64, 100), lasting(0, 0)) == FULL);
     assert!(rt; count_at(&prefixes, 2_000) == 64);
@@ -423,7 +444,7 @@ fn has_room_for_sixty_four(rt: HostRuntime) {
         )
     );
     // In the other order it is taken, and the new one is last.
-    assert!(rt; hear_both(&mut prefixes, 2_000, lasting(0, 0), lasting(64, 100)) == TAKEN);
+    takes_both(&rt, &mut prefixes, 2_000, lasting(0, 0), lasting(64, 100));
     assert!(rt; count_at(&prefixes, 2_000) == 64);
     let mut last = None;
     for entry in prefixes.rows(2_000) {
@@ -431,7 +452,13 @@ fn has_room_for_sixty_four(rt: HostRuntime) {
     }
     assert!(rt; last == prefix(64));
     // Those that have ended don't count.
-    assert!(rt; hear_both(&mut prefixes, 201_000, lasting(65, 100), lasting(66, 100)) == TAKEN);
+    takes_both(
+        &rt,
+        &mut prefixes,
+        201_000,
+        lasting(65, 100),
+        lasting(66, 100),
+    );
     assert!(rt; count_at(&prefixes, 201_000) == 2);
 }
 
@@ -465,10 +492,10 @@ fn takes_every_kind_of_option(rt: HostRuntime) {
         _ => assert!(rt; false),
     }
     assert!(rt; prefixes.heard_ra(1_200, message.options) == Ok(()));
-    assert_eq!(rt; params.mtu(), 1400);
-    assert_eq!(rt; params.base_reachable_time(), 32_047);
-    assert_eq!(rt; params.reachable_time(), 16_023);
-    assert_eq!(rt; params.retrans_timer(), 2_000);
+    assert!(rt; params.mtu() == 1400);
+    assert!(rt; params.base_reachable_time() == 32_047);
+    assert!(rt; params.reachable_time() == 16_023);
+    assert!(rt; params.retrans_timer() == 2_000);
     listed(&rt, &routers, 1_200, &[(addr(1), Some(1_801_200))]);
     standing(&rt, &prefixes, 1_200, &[(0, 2_592_001_200)]);
 }
