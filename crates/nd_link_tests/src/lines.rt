@@ -4,7 +4,8 @@ use nd_link_script::*;
 use nd_node::{Event, Table};
 use nd_script::Source;
 use rand_core::Rng;
-use std::alloc::{AllocError, Global};
+use std::alloc::Global;
+use std::process::Abort;
 use std::test::*;
 
 /// What a line says.
@@ -53,56 +54,53 @@ fn event_said(event: LinkEvent<Source, Global>) -> Option<Said> {
 }
 
 /// The moment of a line and what it says, or `None` where it is malformed.
-fn reading(alloc: Global, line: &str) -> Result<Option<(u64, Said)>, AllocError> {
-    let Some(read) = read_line(&alloc, line.as_bytes())? else {
-        return Ok(None);
-    };
-    Ok(event_said(read.event).map(|said| (read.at, said)))
+fn reading(rt: &(impl Abort + AllocGlobal), line: &str) -> Option<(u64, Said)> {
+    let read = read_line(&rt.alloc(), line.as_bytes()).expect(rt, "memory")?;
+    event_said(read.event).map(|said| (read.at, said))
+}
+
+/// The line says this at its moment, or is malformed.
+fn says(rt: &(impl Abort + AllocGlobal), line: &str, wanted: Option<(u64, Said)>) {
+    assert_eq!(rt; reading(rt, line), wanted);
 }
 
 #[test]
-fn nodes_start(rt: HostRuntime) -> Result<(), Fail> {
-    assert_eq!(rt;
-        reading(rt.alloc(), "0 node host 34:56:78:9a:bc:de word:0")?,
-        Some((0, Said::Starts(Role::Host, MAC, 0)))
+fn nodes_start(rt: HostRuntime) {
+    says(
+        &rt,
+        "0 node host 34:56:78:9a:bc:de word:0",
+        Some((0, Said::Starts(Role::Host, MAC, 0))),
     );
-    assert_eq!(rt;
-        reading(
-            rt.alloc(),
-            "2000 node router 34:56:78:9A:BC:DE word:4294967295"
-        )?,
-        Some((2000, Said::Starts(Role::Router, MAC, 4_294_967_295)))
+    says(
+        &rt,
+        "2000 node router 34:56:78:9A:BC:DE word:4294967295",
+        Some((2000, Said::Starts(Role::Router, MAC, 4_294_967_295))),
     );
     match reading(
-        rt.alloc(),
+        &rt,
         "1 node host 34:56:78:9a:bc:de seed:18446744073709551615",
-    )? {
+    ) {
         Some((1, Said::Starts(Role::Host, mac, _))) => assert!(rt; mac == MAC),
         _ => assert!(rt; false),
     }
-    Ok(())
 }
 
 #[test]
-fn commands_come_to_nodes(rt: HostRuntime) -> Result<(), Fail> {
-    assert!(rt; reading(rt.alloc(), "10 on 0 at")? == Some((10, Said::Passes(0))));
-    assert!(rt; reading(rt.alloc(), "10 on 15 stop")? == Some((10, Said::Stops(15))));
-    assert_eq!(rt;
-        reading(
-            rt.alloc(),
-            "4611686018427387903 on 18446744073709551615 show neighbours"
-        )?,
+fn commands_come_to_nodes(rt: HostRuntime) {
+    says(&rt, "10 on 0 at", Some((10, Said::Passes(0))));
+    says(&rt, "10 on 15 stop", Some((10, Said::Stops(15))));
+    says(
+        &rt,
+        "4611686018427387903 on 18446744073709551615 show neighbours",
         Some((
             4_611_686_018_427_387_903,
-            Said::Shows(18_446_744_073_709_551_615, Table::Neighbours)
-        ))
+            Said::Shows(18_446_744_073_709_551_615, Table::Neighbours),
+        )),
     );
-    assert_eq!(rt;
-        reading(
-            rt.alloc(),
-            "3000 on 1 send fe80::3656:78ff:fe9a:bcde fe80::ff:fe00:1 17 0102"
-        )?,
-        Some((3000, Said::Sends(1, LINK_LOCAL, ROUTER, 17, 2)))
+    says(
+        &rt,
+        "3000 on 1 send fe80::3656:78ff:fe9a:bcde fe80::ff:fe00:1 17 0102",
+        Some((3000, Said::Sends(1, LINK_LOCAL, ROUTER, 17, 2))),
     );
     for line in [
         "10 on 2 confirm fe80::1",
@@ -112,33 +110,26 @@ fn commands_come_to_nodes(rt: HostRuntime) -> Result<(), Fail> {
         "10 on 2 prefix 2001:db8::/64 - - la",
         "10 on 2 route 2001:db8::/64 direct",
     ] {
-        assert_eq!(rt;
-            reading(rt.alloc(), line)?,
-            Some((10, Said::CommandsOtherwise(2)))
-        );
+        says(&rt, line, Some((10, Said::CommandsOtherwise(2))));
     }
-    Ok(())
 }
 
 #[test]
-fn frames_are_carried(rt: HostRuntime) -> Result<(), Fail> {
-    assert!(rt; reading(rt.alloc(), "400 deliver 1 0")? == Some((400, Said::Delivers(1, 0))));
-    assert!(rt; reading(rt.alloc(), "2800 deliver 0 9")? == Some((2800, Said::Delivers(0, 9))));
-    assert_eq!(rt;
-        reading(
-            rt.alloc(),
-            "0 deliver 18446744073709551615 18446744073709551615"
-        )?,
+fn frames_are_carried(rt: HostRuntime) {
+    says(&rt, "400 deliver 1 0", Some((400, Said::Delivers(1, 0))));
+    says(&rt, "2800 deliver 0 9", Some((2800, Said::Delivers(0, 9))));
+    says(
+        &rt,
+        "0 deliver 18446744073709551615 18446744073709551615",
         Some((
             0,
-            Said::Delivers(18_446_744_073_709_551_615, 18_446_744_073_709_551_615)
-        ))
+            Said::Delivers(18_446_744_073_709_551_615, 18_446_744_073_709_551_615),
+        )),
     );
-    Ok(())
 }
 
 #[test]
-fn nodes_that_cannot_start_are_malformed(rt: HostRuntime) -> Result<(), Fail> {
+fn nodes_that_cannot_start_are_malformed(rt: HostRuntime) {
     for line in [
         "0 node 34:56:78:9a:bc:de word:0",
         "0 node Host 34:56:78:9a:bc:de word:0",
@@ -159,14 +150,13 @@ fn nodes_that_cannot_start_are_malformed(rt: HostRuntime) -> Result<(), Fail> {
         "node host 34:56:78:9a:bc:de word:0",
         "0 node",
     ] {
-        assert_eq!(rt; reading(rt.alloc(), line)?, None);
+        says(&rt, line, None);
     }
-    Ok(())
 }
 
 /// A frame comes to a node by the link alone.
 #[test]
-fn other_commands_are_malformed(rt: HostRuntime) -> Result<(), Fail> {
+fn other_commands_are_malformed(rt: HostRuntime) {
     for line in [
         "",
         "0",
@@ -205,7 +195,6 @@ fn other_commands_are_malformed(rt: HostRuntime) -> Result<(), Fail> {
         "-1 deliver 0 1",
         " 0 deliver 0 1",
     ] {
-        assert_eq!(rt; reading(rt.alloc(), line)?, None);
+        says(&rt, line, None);
     }
-    Ok(())
 }

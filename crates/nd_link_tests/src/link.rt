@@ -1,3 +1,6 @@
+ghost use Rattle.std.specs.Prelude.{◌<◌, ◌^◌};
+
+use crate::runs::joined;
 use nd_addr::{Mac, Role};
 use nd_link::*;
 use nd_node::Event;
@@ -53,22 +56,46 @@ fn write_lines(rt: &impl Abort, text: &mut String<Global>, told: &[Told<Global>]
     }
 }
 
+/// These lines are told: the text comes in parts.
+fn is_told(rt: &impl Abort, alloc: Global, told: &[Told<Global>], wanted: &[&str]) {
+    let mut text = String::new(alloc);
+    write_lines(rt, &mut text, told);
+    assert_eq!(rt; text.as_str(), joined(rt, alloc, wanted).as_str());
+}
+
+/// An event comes. A function of its own, so that no test's proof carries what an event adds.
+fn comes<W: Wire>(
+    rt: &impl Abort,
+    link: &mut Link<W, Pcg32, Global>,
+    now: u64,
+    event: LinkEvent<Pcg32, Global>,
+    told: &mut Vec<Told<Global>>,
+)
+    requires { now < 2 ^ 62 }
+{
+    link.event(now, event, told).expect(rt, "memory");
+}
+
 /// Two hosts that try one address at a time find it a duplicate (RFC 4862, section 5.4.3).
 fn two_try<W: Wire + Drop>(rt: &impl Abort, alloc: Global, wire: W) {
     let mut link = Link::new(alloc, wire);
     let mut told = Vec::new(alloc);
-    link.event(0, host(), &mut told).expect(rt, "memory");
-    link.event(0, host(), &mut told).expect(rt, "memory");
-    link.event(400, LinkEvent::Delivers(1, 0), &mut told)
-        .expect(rt, "memory");
-    link.event(400, LinkEvent::Delivers(0, 1), &mut told)
-        .expect(rt, "memory");
-    let mut text = String::new(alloc);
-    write_lines(rt, &mut text, &told);
-    let wanted = format!(in alloc;
-        "n0 234 tx {F1}\nn1 234 tx {F1}\nn1 400 heard ns\nn1 400 duplicate fe80::3656:78ff:fe9a:bcde\nn0 400 heard ns\nn0 400 duplicate fe80::3656:78ff:fe9a:bcde\n"
-    ).expect(rt, "memory");
-    assert!(rt; text.as_str() == wanted.as_str());
+    comes(rt, &mut link, 0, host(), &mut told);
+    comes(rt, &mut link, 0, host(), &mut told);
+    comes(rt, &mut link, 400, LinkEvent::Delivers(1, 0), &mut told);
+    comes(rt, &mut link, 400, LinkEvent::Delivers(0, 1), &mut told);
+    is_told(
+        rt,
+        alloc,
+        &told,
+        &[
+            "n0 234 tx ",
+            F1,
+            "\nn1 234 tx ",
+            F1,
+            "\nn1 400 heard ns\nn1 400 duplicate fe80::3656:78ff:fe9a:bcde\nn0 400 heard ns\nn0 400 duplicate fe80::3656:78ff:fe9a:bcde\n",
+        ],
+    );
     assert!(rt; link.failures() == 0);
 }
 
@@ -88,28 +115,37 @@ fn over_datagrams_they_find_it_too(rt: HostRuntime) {
 fn a_holder_answers(rt: HostRuntime) {
     let mut link = Link::new(rt.alloc(), MemoryWire);
     let mut told = Vec::new(rt.alloc());
-    link.event(0, host(), &mut told).expect(&rt, "memory");
-    link.event(2000, host(), &mut told).expect(&rt, "memory");
-    link.event(2400, LinkEvent::Delivers(0, 2), &mut told)
-        .expect(&rt, "memory");
-    link.event(2800, LinkEvent::Delivers(1, 3), &mut told)
-        .expect(&rt, "memory");
-    link.event(2800, LinkEvent::Delivers(0, 9), &mut told)
-        .expect(&rt, "memory");
-    link.event(2800, LinkEvent::Delivers(0, 3), &mut told)
-        .expect(&rt, "memory");
-    link.event(2800, LinkEvent::Delivers(2, 0), &mut told)
-        .expect(&rt, "memory");
-    link.event(2800, LinkEvent::Comes(2, Event::Passes), &mut told)
-        .expect(&rt, "memory");
-    link.event(2799, LinkEvent::Passes, &mut told)
-        .expect(&rt, "memory");
-    let mut text = String::new(rt.alloc());
-    write_lines(&rt, &mut text, &told);
-    let wanted = format!(in rt.alloc();
-        "n0 234 tx {F1}\nn0 1234 assigned fe80::3656:78ff:fe9a:bcde\nn0 1234 tx {F2}\nn1 2234 tx {F1}\nn0 2400 heard ns\nn0 2400 tx {F9}\nn1 2800 heard na\nn1 2800 duplicate fe80::3656:78ff:fe9a:bcde\nlink 2800 refused no-frame\nlink 2800 refused own\nlink 2800 refused no-node\nlink 2800 refused no-node\nlink 2799 refused past 2800\n"
-    ).expect(&rt, "memory");
-    assert!(rt; text.as_str() == wanted.as_str());
+    comes(&rt, &mut link, 0, host(), &mut told);
+    comes(&rt, &mut link, 2000, host(), &mut told);
+    comes(&rt, &mut link, 2400, LinkEvent::Delivers(0, 2), &mut told);
+    comes(&rt, &mut link, 2800, LinkEvent::Delivers(1, 3), &mut told);
+    comes(&rt, &mut link, 2800, LinkEvent::Delivers(0, 9), &mut told);
+    comes(&rt, &mut link, 2800, LinkEvent::Delivers(0, 3), &mut told);
+    comes(&rt, &mut link, 2800, LinkEvent::Delivers(2, 0), &mut told);
+    comes(
+        &rt,
+        &mut link,
+        2800,
+        LinkEvent::Comes(2, Event::Passes),
+        &mut told,
+    );
+    comes(&rt, &mut link, 2799, LinkEvent::Passes, &mut told);
+    is_told(
+        &rt,
+        rt.alloc(),
+        &told,
+        &[
+            "n0 234 tx ",
+            F1,
+            "\nn0 1234 assigned fe80::3656:78ff:fe9a:bcde\nn0 1234 tx ",
+            F2,
+            "\nn1 2234 tx ",
+            F1,
+            "\nn0 2400 heard ns\nn0 2400 tx ",
+            F9,
+            "\nn1 2800 heard na\nn1 2800 duplicate fe80::3656:78ff:fe9a:bcde\nlink 2800 refused no-frame\nlink 2800 refused own\nlink 2800 refused no-node\nlink 2800 refused no-node\nlink 2799 refused past 2800\n",
+        ],
+    );
 }
 
 /// Where a frame may take half of RetransTimer the answer may come when the address is assigned, and then two nodes have it: so a timely link
@@ -118,18 +154,28 @@ fn a_holder_answers(rt: HostRuntime) {
 fn an_answer_after_retrans_timer_is_too_late(rt: HostRuntime) {
     let mut link = Link::new(rt.alloc(), MemoryWire);
     let mut told = Vec::new(rt.alloc());
-    link.event(0, host(), &mut told).expect(&rt, "memory");
-    link.event(2000, host(), &mut told).expect(&rt, "memory");
-    link.event(2734, LinkEvent::Delivers(0, 2), &mut told)
-        .expect(&rt, "memory");
-    link.event(3234, LinkEvent::Delivers(1, 3), &mut told)
-        .expect(&rt, "memory");
-    let mut text = String::new(rt.alloc());
-    write_lines(&rt, &mut text, &told);
-    let wanted = format!(in rt.alloc();
-        "n0 234 tx {F1}\nn0 1234 assigned fe80::3656:78ff:fe9a:bcde\nn0 1234 tx {F2}\nn1 2234 tx {F1}\nn0 2734 heard ns\nn0 2734 tx {F9}\nn1 3234 assigned fe80::3656:78ff:fe9a:bcde\nn1 3234 tx {F2}\nn1 3234 heard na\n"
-    ).expect(&rt, "memory");
-    assert!(rt; text.as_str() == wanted.as_str());
+    comes(&rt, &mut link, 0, host(), &mut told);
+    comes(&rt, &mut link, 2000, host(), &mut told);
+    comes(&rt, &mut link, 2734, LinkEvent::Delivers(0, 2), &mut told);
+    comes(&rt, &mut link, 3234, LinkEvent::Delivers(1, 3), &mut told);
+    is_told(
+        &rt,
+        rt.alloc(),
+        &told,
+        &[
+            "n0 234 tx ",
+            F1,
+            "\nn0 1234 assigned fe80::3656:78ff:fe9a:bcde\nn0 1234 tx ",
+            F2,
+            "\nn1 2234 tx ",
+            F1,
+            "\nn0 2734 heard ns\nn0 2734 tx ",
+            F9,
+            "\nn1 3234 assigned fe80::3656:78ff:fe9a:bcde\nn1 3234 tx ",
+            F2,
+            "\nn1 3234 heard na\n",
+        ],
+    );
 }
 
 /// A frame that comes twice is heard twice, and one that comes late is heard.
@@ -137,18 +183,22 @@ fn an_answer_after_retrans_timer_is_too_late(rt: HostRuntime) {
 fn repeated_and_late_frames_are_heard(rt: HostRuntime) {
     let mut link = Link::new(rt.alloc(), MemoryWire);
     let mut told = Vec::new(rt.alloc());
-    link.event(0, host(), &mut told).expect(&rt, "memory");
-    link.event(0, host(), &mut told).expect(&rt, "memory");
-    link.event(1100, LinkEvent::Delivers(1, 0), &mut told)
-        .expect(&rt, "memory");
-    link.event(1100, LinkEvent::Delivers(1, 0), &mut told)
-        .expect(&rt, "memory");
-    let mut text = String::new(rt.alloc());
-    write_lines(&rt, &mut text, &told);
-    let wanted = format!(in rt.alloc();
-        "n0 234 tx {F1}\nn1 234 tx {F1}\nn1 1100 heard ns\nn1 1100 duplicate fe80::3656:78ff:fe9a:bcde\nn1 1100 drop 19 NotForUs\n"
-    ).expect(&rt, "memory");
-    assert!(rt; text.as_str() == wanted.as_str());
+    comes(&rt, &mut link, 0, host(), &mut told);
+    comes(&rt, &mut link, 0, host(), &mut told);
+    comes(&rt, &mut link, 1100, LinkEvent::Delivers(1, 0), &mut told);
+    comes(&rt, &mut link, 1100, LinkEvent::Delivers(1, 0), &mut told);
+    is_told(
+        &rt,
+        rt.alloc(),
+        &told,
+        &[
+            "n0 234 tx ",
+            F1,
+            "\nn1 234 tx ",
+            F1,
+            "\nn1 1100 heard ns\nn1 1100 duplicate fe80::3656:78ff:fe9a:bcde\nn1 1100 drop 19 NotForUs\n",
+        ],
+    );
 }
 
 #[test]
@@ -156,10 +206,10 @@ fn a_seventeenth_node_is_refused(rt: HostRuntime) {
     let mut link = Link::new(rt.alloc(), MemoryWire);
     let mut told = Vec::new(rt.alloc());
     for _ in 0..MAX_NODES {
-        link.event(7, host(), &mut told).expect(&rt, "memory");
+        comes(&rt, &mut link, 7, host(), &mut told);
     }
     assert!(rt; told.is_empty());
-    link.event(7, host(), &mut told).expect(&rt, "memory");
+    comes(&rt, &mut link, 7, host(), &mut told);
     assert!(rt; matches!(&told[..], [Told::Refused(7, Refusal::Full)]));
 }
 
@@ -168,18 +218,23 @@ fn a_seventeenth_node_is_refused(rt: HostRuntime) {
 fn a_fault_of_the_wire_leaves_the_turns(rt: HostRuntime) {
     let mut link = Link::new(rt.alloc(), FailingWire::new(MemoryWire, 0));
     let mut told = Vec::new(rt.alloc());
-    link.event(0, host(), &mut told).expect(&rt, "memory");
-    link.event(0, host(), &mut told).expect(&rt, "memory");
+    comes(&rt, &mut link, 0, host(), &mut told);
+    comes(&rt, &mut link, 0, host(), &mut told);
     assert!(rt; link.event(400, LinkEvent::Delivers(1, 0), &mut told) == Err(LinkFault::Wire));
     assert!(rt; link.failures() == 1);
-    link.event(400, LinkEvent::Delivers(1, 0), &mut told)
-        .expect(&rt, "memory");
-    let mut text = String::new(rt.alloc());
-    write_lines(&rt, &mut text, &told);
-    let wanted = format!(in rt.alloc();
-        "n0 234 tx {F1}\nn1 234 tx {F1}\nn1 400 heard ns\nn1 400 duplicate fe80::3656:78ff:fe9a:bcde\n"
-    ).expect(&rt, "memory");
-    assert!(rt; text.as_str() == wanted.as_str());
+    comes(&rt, &mut link, 400, LinkEvent::Delivers(1, 0), &mut told);
+    is_told(
+        &rt,
+        rt.alloc(),
+        &told,
+        &[
+            "n0 234 tx ",
+            F1,
+            "\nn1 234 tx ",
+            F1,
+            "\nn1 400 heard ns\nn1 400 duplicate fe80::3656:78ff:fe9a:bcde\n",
+        ],
+    );
     assert!(rt; link.failures() == 1);
 }
 
@@ -202,11 +257,17 @@ fn events_come_one_after_the_other(rt: HostRuntime) {
     rest.push((400, LinkEvent::Delivers(0, 1)))
         .expect(&rt, "memory");
     link.run(rest, &mut told).expect(&rt, "memory");
-    let mut text = String::new(rt.alloc());
-    write_lines(&rt, &mut text, &told);
-    let wanted = format!(in rt.alloc();
-        "n0 234 tx {F1}\nn1 234 tx {F1}\nn1 400 heard ns\nn1 400 duplicate fe80::3656:78ff:fe9a:bcde\nn0 400 heard ns\nn0 400 duplicate fe80::3656:78ff:fe9a:bcde\n"
-    ).expect(&rt, "memory");
-    assert!(rt; text.as_str() == wanted.as_str());
+    is_told(
+        &rt,
+        rt.alloc(),
+        &told,
+        &[
+            "n0 234 tx ",
+            F1,
+            "\nn1 234 tx ",
+            F1,
+            "\nn1 400 heard ns\nn1 400 duplicate fe80::3656:78ff:fe9a:bcde\nn0 400 heard ns\nn0 400 duplicate fe80::3656:78ff:fe9a:bcde\n",
+        ],
+    );
     assert!(rt; link.failures() == 1);
 }

@@ -4,6 +4,7 @@ use nd_io::tool_fault::ToolFault;
 use nd_link::{FailingWire, MemoryWire, UdpWire, Wire};
 use nd_link_script::*;
 use std::alloc::Global;
+use std::process::Abort;
 use std::test::*;
 
 /// Two hosts try one address at a time, and find it a duplicate (RFC 4862, section 5.4.3).
@@ -38,63 +39,84 @@ fn run<W: Wire + Drop>(
     (writer.into_inner(), done)
 }
 
+/// These parts, one behind the other.
+pub(crate) fn joined(rt: &impl Abort, alloc: Global, parts: &[&str]) -> String {
+    let mut text = String::new(alloc);
+    for part in parts {
+        text.push_str(part).expect(rt, "memory");
+    }
+    text
+}
+
+/// A link over a wire writes this for some lines, and the run ends so.
+fn writes<W: Wire + Drop>(
+    rt: &(impl Abort + AllocGlobal),
+    wire: W,
+    lines: &str,
+    piece: usize,
+    ended: Result<(), ToolFault>,
+    wanted: &[&str],
+) {
+    let (text, done) = run(rt.alloc(), wire, lines, piece);
+    let wanted = joined(rt, rt.alloc(), wanted);
+    assert!(rt; text.as_slice() == wanted.as_bytes());
+    assert!(rt; done == ended);
+}
+
 #[test]
 fn two_hosts_try_one_address(rt: HostRuntime) {
+    let wanted = [BOTH_SENT, FIRST_HEARD, SECOND_HEARD];
     for piece in [1, 7, 4096] {
-        let (text, done) = run(rt.alloc(), MemoryWire, TWO_TRY, piece);
-        let wanted = format!(in rt.alloc(); "{BOTH_SENT}{FIRST_HEARD}{SECOND_HEARD}").expect(
-            &rt, "memory",
-        );
-        assert_eq!(rt; text.as_slice(), wanted.as_bytes());
-        assert_eq!(rt; done, Ok(()));
+        writes(&rt, MemoryWire, TWO_TRY, piece, Ok(()), &wanted);
     }
 }
 
 #[test]
 fn they_try_it_over_datagrams(rt: HostRuntime) {
     let wire = UdpWire::new(&rt, rt.alloc(), 2).expect(&rt, "sockets");
-    let (text, done) = run(rt.alloc(), wire, TWO_TRY, 4096);
-    let wanted = format!(in rt.alloc(); "{BOTH_SENT}{FIRST_HEARD}{SECOND_HEARD}").expect(
-        &rt, "memory",
-    );
-    assert!(rt; text.as_slice() == wanted.as_bytes());
-    assert!(rt; done == Ok(()));
+    let wanted = [BOTH_SENT, FIRST_HEARD, SECOND_HEARD];
+    writes(&rt, wire, TWO_TRY, 4096, Ok(()), &wanted);
 }
 
 #[test]
 fn one_holds_the_address(rt: HostRuntime) {
-    let (text, done) = run(rt.alloc(), MemoryWire, ONE_HOLDS, 4096);
-    assert!(rt; text.as_slice() == HELD.as_bytes());
-    assert!(rt; done == Ok(()));
+    writes(&rt, MemoryWire, ONE_HOLDS, 4096, Ok(()), &[HELD]);
     let wire = UdpWire::new(&rt, rt.alloc(), 2).expect(&rt, "sockets");
-    let (text, done) = run(rt.alloc(), wire, ONE_HOLDS, 4096);
-    assert!(rt; text.as_slice() == HELD.as_bytes());
-    assert!(rt; done == Ok(()));
+    writes(&rt, wire, ONE_HOLDS, 4096, Ok(()), &[HELD]);
+}
+
+/// Where the wire fails at the frame of a number, what is written begins so.
+fn fails_at(rt: &(impl Abort + AllocGlobal), number: u64, wanted: &[&str]) {
+    let wire = FailingWire::new(MemoryWire, number);
+    let (text, done) = run(rt.alloc(), wire, TWO_TRY, 4096);
+    assert!(rt; done == Err(ToolFault::Wire));
+    let whole = joined(rt, rt.alloc(), wanted);
+    assert!(rt; whole.as_bytes().starts_with(&text));
 }
 
 /// Where the wire fails at one frame, what came before it is written, the nodes' turns included.
 #[test]
 fn a_wire_that_fails_ends_the_run(rt: HostRuntime) {
-    let (text, done) = run(rt.alloc(), FailingWire::new(MemoryWire, 0), TWO_TRY, 4096);
-    assert!(rt; done == Err(ToolFault::Wire));
-    assert!(rt; BOTH_SENT.as_bytes().starts_with(&text));
-    let (text, done) = run(rt.alloc(), FailingWire::new(MemoryWire, 1), TWO_TRY, 4096);
-    assert!(rt; done == Err(ToolFault::Wire));
-    let wanted = format!(in rt.alloc(); "{BOTH_SENT}{FIRST_HEARD}").expect(&rt, "memory");
-    assert!(rt; wanted.as_bytes().starts_with(&text));
+    fails_at(&rt, 0, &[BOTH_SENT]);
+    fails_at(&rt, 1, &[BOTH_SENT, FIRST_HEARD]);
     let (_, done) = run(rt.alloc(), FailingWire::new(MemoryWire, 2), TWO_TRY, 4096);
     assert!(rt; done == Ok(()));
 }
 
 #[test]
 fn a_malformed_line_ends_the_run(rt: HostRuntime) {
-    let lines = format!(in rt.alloc(); "{TWO_TRY}400 on 0 rx -\n400 deliver 1 0\n").expect(
-        &rt, "memory",
+    let lines = joined(
+        &rt,
+        rt.alloc(),
+        &[TWO_TRY, "400 on 0 rx -\n400 deliver 1 0\n"],
     );
-    let (text, done) = run(rt.alloc(), MemoryWire, lines.as_str(), 4096);
-    let wanted = format!(in rt.alloc(); "{BOTH_SENT}{FIRST_HEARD}{SECOND_HEARD}").expect(
-        &rt, "memory",
+    let wanted = [BOTH_SENT, FIRST_HEARD, SECOND_HEARD];
+    writes(
+        &rt,
+        MemoryWire,
+        &lines,
+        4096,
+        Err(ToolFault::Line(5)),
+        &wanted,
     );
-    assert!(rt; text.as_slice() == wanted.as_bytes());
-    assert!(rt; done == Err(ToolFault::Line(5)));
 }
