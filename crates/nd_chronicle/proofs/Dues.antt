@@ -41,7 +41,7 @@ module _ (start : Start) (c : Chronicle) (m : ℕ) where
   router_due (Some Redraws) due = due.0
   router_due None due = due.0
 
-  address_due : (w : Option What) → router_in w ≡ None → Due start c m w → addresses_due.FirstDue (address_history c) m (address_in w)
+  address_due : (w : Option What) → router_in w ≡ None → Due start c m w → addresses_due.FirstDue start.transmits (address_history c) m (address_in w)
   address_due (Some (RouterEnds key)) none due = absurd (let no : ⊥ = cc in no)
   address_due (Some (AddressFalls falls)) none due = due.1
   address_due (Some (NeighbourFalls falls)) none due = due.1
@@ -129,7 +129,7 @@ module _ (start : Start) (c : Chronicle) (m : ℕ) where
     by_router (Some x) e f = router_is a x e ∙ sym (router_is b x f)
     by_router None e f =
         by_address e f (address_in a) refl
-        (sym (addresses.one_due (address_history c) m (address_in a) (address_in b) (address_due a e h) (address_due b f k)))
+        (sym (addresses.one_due start.transmits (address_history c) m (address_in a) (address_in b) (address_due a e h) (address_due b f k)))
 
   pub one_due : (a b : Option What) → Due start c m a → Due start c m b → a ≡ b
   one_due a b h k =

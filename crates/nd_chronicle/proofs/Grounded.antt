@@ -96,13 +96,13 @@ module _ (own at key : ℕ) (kind : RowKind) (history : List Row) (g : Grounded 
       not_both s t a = let p = tentative_parts s t in true≢false (sym a ∙ rw (p.0, p.1, p.2) refl)
 
 -- what falls due
-at_turn : (own m : ℕ) (falls : Falls) (history : List Row) → FirstDue history m (Some falls) → Grounded own history → Rests own (due_row m falls) history
-at_turn own m (Ends key) history first g = elim (cases_Bool (eqb key own)) [
+at_turn : (transmits own m : ℕ) (falls : Falls) (history : List Row) → FirstDue transmits history m (Some falls) → Grounded own history → Rests own (due_row m falls) history
+at_turn transmits own m (Ends key) history first g = elim (cases_Bool (eqb key own)) [
   | inl e ↦ absurd (let due = subst (λ (k : ℕ). valid_end (story k history) ≡ Some m) (eqb-true key own e) first.due.1 in let no : ⊥ = let l = g.lasts in cc in no)
   | inr e ↦ beside own m key Ended history g e (λ known. absurd (true≢false (sym known ∙ ap is_known (ended_story key m history))))
 ]
-at_turn own m (Solicits key) history first g = of_tentative own m key Solicited history g refl (λ s. refl) first.due.0.tentative
-at_turn own m (Assigns key) history first g = of_tentative own m key Assigned history g refl (λ s. refl) first.due.0.tentative
+at_turn transmits own m (Solicits key) history first g = of_tentative own m key Solicited history g refl (λ s. refl) first.due.0.tentative
+at_turn transmits own m (Assigns key) history first g = of_tentative own m key Assigned history g refl (λ s. refl) first.due.0.tentative
 
 -- ---- a node
 
@@ -151,9 +151,9 @@ module _ (start : Start) where
 
   -- ---- whatever happens
 
-  stands_due : {c d : Chronicle} {m : ℕ} → BringsDue m c d → Stands (address_history c) → Stands (address_history d)
+  stands_due : {c d : Chronicle} {m : ℕ} → BringsDue start.transmits m c d → Stands (address_history c) → Stands (address_history d)
   stands_due (NoRow same) s = subst Stands (sym same) s
-  stands_due {c = c} {m = m} (ItsRow falls first is) s = subst Stands (sym is) (at_turn (link_local_key start) m falls (address_history c) first (ground (link_local_key start) (address_history c) s), s)
+  stands_due {c = c} {m = m} (ItsRow falls first is) s = subst Stands (sym is) (at_turn start.transmits (link_local_key start) m falls (address_history c) first (ground (link_local_key start) (address_history c) s), s)
 
   stands_walk : {c d : Chronicle} {m n : ℕ} → Walk start c m n d → Stands (address_history c) → Stands (address_history d)
   stands_walk (over lt) s = s

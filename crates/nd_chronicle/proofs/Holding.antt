@@ -1,5 +1,5 @@
 -- How an own address came to be held, in rows of the chronicle, at each of its places.
-use Rattle.std.proofs.Common.{◌≡◌, ◌⊎◌, inr, ℕ, Bool, true, false, List, ◌∷◌, sym, ap, subst, arith, ⊎_elim}
+use Rattle.std.proofs.Common.{◌≡◌, inl, inr, ℕ, ◌+◌, ◌*◌, ◌<◌, ◌≤◌, Bool, true, false, List, ◌∷◌, sym, ap, subst, arith, ⊎_elim}
 use Rattle.std.proofs.lemmas.Bool.{true≢false}
 use Rattle.nd_table.specs.History.{Past}
 use Rattle.nd_table.proofs.Pasts.{past_self, past_then, past_linear, past-length, all_before}
@@ -40,39 +40,74 @@ module _ (start : Start) (key sent assigned : ℕ) (earlier over : Chronicle) wh
 
 -- ---- in rows of the chronicle
 
-in_rows : (start : Start) (c d : Chronicle) (key : ℕ) → Paired start c → Past d c → rows.Held key (address_history d) → HeldInRows start key d
-in_rows start c d key paired p h =
-    let a : PlaceOf h.assigned key Assigned h.over d = place_of h.assigned key Assigned h.over d h.assigned_at in
-    let s : PlaceOf h.sent key Solicited h.earlier a.before =
-    place_of h.sent key Solicited h.earlier a.before (subst (λ (x : List Row). Past ((h.sent, key, Solicited) ∷ h.earlier) x) (sym a.history) h.solicited_at) in
-    let f : PlaceOf h.formed key (Formed h.delay h.retrans h.lifetimes) h.below s.before =
-    place_of h.formed key (Formed h.delay h.retrans h.lifetimes) h.below s.before
-    (subst (λ (x : List Row). Past ((h.formed, key, Formed h.delay h.retrans h.lifetimes) ∷ h.below) x) (sym s.history) h.solicited_since) in
-    let row : Past ((h.sent, Address key Solicited) ∷ s.before) d = past_then _ a.before d s.there (past_then a.before ((h.assigned, Address key Assigned) ∷ a.before) d (inr (past_self a.before)) a.there) in
-    record {
-      formed = h.formed;
-      delay = h.delay;
-      retrans = h.retrans;
-      lifetimes = h.lifetimes;
-      below = f.before;
-      sent = h.sent;
-      earlier = s.before;
-      assigned = h.assigned;
-      over = a.before;
-      formed_at = f.there;
-      solicited = sent_below start key h.sent h.assigned s.before a.before c (paired.each h.sent key s.before (past_then _ d c row p)) (past_then _ d c a.there p) s.there;
-      assigned_at = a.there;
-      wait = h.wait;
-      trying = λ e q r. h.tried.tentative (address_history e) (subst (λ (x : List Row). Past (address_history e) x) a.history (history_past e a.before q))
-          (subst (λ (x : List Row). Past ((h.formed, key, Formed h.delay h.retrans h.lifetimes) ∷ x) (address_history e)) f.history
-          (history_past (formed_with h.formed key h.delay h.retrans h.lifetimes f.before) e r));
-      since = λ e q r. h.since (address_history e) (history_past e d q)
-          (subst (λ (x : List Row). Past ((h.assigned, key, Assigned) ∷ x) (address_history e)) a.history (history_past ((h.assigned, Address key Assigned) ∷ a.before) e r));
-    }
+module _ (start : Start) (c d : Chronicle) (key : ℕ) (paired : Paired start c) (p : Past d c) (h : rows.Held start.transmits key (address_history d)) where
+  -- its assignment, and its forming below
+  assignment : PlaceOf h.assigned key Assigned h.over d
+  assignment = place_of h.assigned key Assigned h.over d h.assigned_at
+
+  abbrev formed_row : Row
+  formed_row = (h.formed, key, Formed h.delay h.retrans h.lifetimes)
+
+  forming : PlaceOf h.formed key (Formed h.delay h.retrans h.lifetimes) h.below assignment.before
+  forming = place_of h.formed key (Formed h.delay h.retrans h.lifetimes) h.below assignment.before (subst (λ (x : List Row). Past (formed_row ∷ h.below) x) (sym assignment.history) h.tried.formed_at)
+
+  abbrev formed_place : Chronicle
+  formed_place = formed_with h.formed key h.delay h.retrans h.lifetimes forming.before
+
+  -- a place of the own addresses' history that is there since the forming is one of the chronicle since then
+  since_formed : (e : Chronicle) → Past e assignment.before → Past (formed_row ∷ h.below) (address_history e) → Past formed_place e
+  since_formed e q r = ⊎_elim (λ under. under_forming under) (λ above. above) (past_linear e formed_place assignment.before q forming.there)
+    where
+      under_forming : Past e formed_place → Past formed_place e
+      under_forming (inl same) = subst (λ (x : Chronicle). Past formed_place x) (sym same) (past_self formed_place)
+      under_forming (inr below) =
+          let q' : Past (address_history e) h.below = subst (λ (x : List Row). Past (address_history e) x) forming.history (history_past e forming.before below) in
+          let le = past-length (formed_row ∷ h.below) h.below (past_then (formed_row ∷ h.below) (address_history e) h.below r q') in
+          absurd (omega (arith, le))
+
+  -- and the other way
+  formed_since : (e : Chronicle) → Past formed_place e → Past (formed_row ∷ h.below) (address_history e)
+  formed_since e r = subst (λ (x : List Row). Past ((h.formed, key, Formed h.delay h.retrans h.lifetimes) ∷ x) (address_history e)) forming.history (history_past formed_place e r)
+
+  solicitation : (back : ℕ) → 0 < back → back ≤ start.transmits → (sent : ℕ) × (earlier : Chronicle) × (h.assigned ≡ sent + back * h.retrans)
+      × Past (solicited_with start sent key earlier) assignment.before × Past formed_place earlier
+  solicitation back some few =
+      let s = h.solicited back some few in
+      let place : PlaceOf s.0 key Solicited s.1 assignment.before = place_of s.0 key Solicited s.1 assignment.before (subst (λ (x : List Row). Past ((s.0, key, Solicited) ∷ s.1) x) (sym assignment.history) s.3) in
+      let over : Past assignment.before d = past_then assignment.before ((h.assigned, Address key Assigned) ∷ assignment.before) d (inr (past_self assignment.before)) assignment.there in
+      let row : Past ((s.0, Address key Solicited) ∷ place.before) d = past_then _ assignment.before d place.there over in
+      let below : Past place.before assignment.before = past_then place.before ((s.0, Address key Solicited) ∷ place.before) assignment.before (inr (past_self place.before)) place.there in (
+        s.0,
+        place.before,
+        s.2,
+        sent_below start key s.0 h.assigned place.before assignment.before c (paired.each s.0 key place.before (past_then _ d c row p)) (past_then _ d c assignment.there p) place.there,
+        since_formed place.before below (subst (λ (x : List Row). Past (formed_row ∷ h.below) x) (sym place.history) s.4),
+      )
+
+  in_rows : HeldInRows start key d
+  in_rows = record {
+    formed = h.formed;
+    delay = h.delay;
+    retrans = h.retrans;
+    lifetimes = h.lifetimes;
+    below = forming.before;
+    assigned = h.assigned;
+    over = assignment.before;
+    formed_at = forming.there;
+    assigned_at = assignment.there;
+    solicited = solicitation;
+    each = λ sent earlier q r.
+        let row : Past ((sent, key, Solicited) ∷ address_history earlier) h.over = subst (λ (x : List Row). Past ((sent, key, Solicited) ∷ address_history earlier) x) assignment.history (history_past ((sent, Address key Solicited) ∷ earlier) assignment.before q) in
+        let le = h.tried.only sent (address_history earlier) row (formed_since earlier r) in
+        omega (arith, le, h.date);
+    trying = λ e q r. h.tried.tentative (address_history e) (subst (λ (x : List Row). Past (address_history e) x) assignment.history (history_past e assignment.before q)) (formed_since e r);
+    since = λ e q r. h.since (address_history e) (history_past e d q)
+        (subst (λ (x : List Row). Past ((h.assigned, key, Assigned) ∷ x) (address_history e)) assignment.history (history_past ((h.assigned, Address key Assigned) ∷ assignment.before) e r));
+  }
 
 module _ (start : Start) (events : List (ℕ × Event)) (c : Chronicle) (runs : IsChronicle start events c) (d : Chronicle) (p : Past d c) (key : ℕ) (assigned : states.is_assigned (story_of d key) ≡ true) where
-  pub tried_at : rows.Held key (address_history d)
-  tried_at = held (address_history d) key (all_before IsHistory (λ row h all. all.1) (address_history d) (address_history c) (history_past d c p) (rows_may_come start events c runs)) assigned
+  pub tried_at : rows.Held start.transmits key (address_history d)
+  tried_at = held start.transmits (address_history d) key (all_before (IsHistory start.transmits) (λ row h all. all.1) (address_history d) (address_history c) (history_past d c p) (rows_may_come start events c runs)) assigned
 
   pub tried_in_rows : HeldInRows start key d
   tried_in_rows = in_rows start c d key (all_paired start events c runs) p tried_at

@@ -171,7 +171,7 @@ module _ (start : Start) (mac : AreBytes 6 start.mac.0) where
     usable_options [] c f u = u
     usable_options (info ∷ infos) c f u = usable_options infos (then_option start now to_all info c) f.1 (usable_option (is_taken info) info c refl f.0 u)
 
-  usable_due : {c d : Chronicle} {m : ℕ} → BringsDue m c d → AllUsable (address_history c) → AllUsable (address_history d)
+  usable_due : {c d : Chronicle} {m : ℕ} → BringsDue start.transmits m c d → AllUsable (address_history c) → AllUsable (address_history d)
   usable_due (NoRow same) u = subst AllUsable (sym same) u
   usable_due (ItsRow (Ends key) first is) u = subst AllUsable (sym is) (tt, u)
   usable_due (ItsRow (Solicits key) first is) u = subst AllUsable (sym is) (tt, u)

@@ -310,9 +310,9 @@ event_brings start now events.Stops c d h =
 -- ---- what falls due
 
 -- What falls due brings the own addresses no row, or it is of one of them and brings its own.
-pub data BringsDue (m : ℕ) (c d : Chronicle) : Type 0 where
-  NoRow : Same c d → BringsDue m c d
-  ItsRow : (falls : Falls) → addresses_due.FirstDue (address_history c) m (Some falls) → address_history d ≡ due_row m falls ∷ address_history c → BringsDue m c d
+pub data BringsDue (transmits m : ℕ) (c d : Chronicle) : Type 0 where
+  NoRow : Same c d → BringsDue transmits m c d
+  ItsRow : (falls : Falls) → addresses_due.FirstDue transmits (address_history c) m (Some falls) → address_history d ≡ due_row m falls ∷ address_history c → BringsDue transmits m c d
 
 module _ (start : Start) (m : ℕ) (c : Chronicle) where
   address_row : (falls : Falls) → address_history (then_address start m falls c) ≡ due_row m falls ∷ address_history c
@@ -320,7 +320,7 @@ module _ (start : Start) (m : ℕ) (c : Chronicle) where
   address_row (Solicits key) = refl
   address_row (Assigns key) = refl
 
-  pub comes_brings : (what : What) → Due start c m (Some what) → BringsDue m c (comes start m what c)
+  pub comes_brings : (what : What) → Due start c m (Some what) → BringsDue start.transmits m c (comes start m what c)
   comes_brings (RouterEnds key) due = NoRow refl
   comes_brings (AddressFalls falls) due = ItsRow falls due.1 (address_row falls)
   comes_brings (NeighbourFalls falls) due = NoRow (neighbour_same m start falls c)

@@ -37,74 +37,75 @@ retrans_positive (parameters.Drew at value ∷ history) = retrans_positive histo
 
 -- ---- each row came where it may come, and nothing is overdue
 
-pub record Fine (c : Chronicle) (m : ℕ) : Type 0 where
-  pub history : IsHistory (address_history c)
-  pub none : NoneOverdue (address_history c) m
+module _ (transmits : ℕ) where
+  pub record Fine (c : Chronicle) (m : ℕ) : Type 0 where
+    pub history : IsHistory transmits (address_history c)
+    pub none : NoneOverdue transmits (address_history c) m
 
-fine_same : {c d : Chronicle} {m : ℕ} → Same c d → Fine c m → Fine d m
-fine_same {m = m} same f = record {
-  history = subst IsHistory (sym same) f.history;
-  none = subst (λ (h : List addresses.Row). NoneOverdue h m) (sym same) f.none;
-}
+  fine_same : {c d : Chronicle} {m : ℕ} → Same c d → Fine c m → Fine d m
+  fine_same {m = m} same f = record {
+    history = subst (λ (h : List addresses.Row). IsHistory transmits h) (sym same) f.history;
+    none = subst (λ (h : List addresses.Row). NoneOverdue transmits h m) (sym same) f.none;
+  }
 
-fine_row : {c : Chronicle} {m : ℕ} (key : ℕ) (kind : addresses.RowKind) → MayCome (m, key, kind) (address_history c) → Fine c m → Fine ((m, Address key kind) ∷ c) m
-fine_row {c = c} {m = m} key kind may f = record { history = (may, f.history); none = still_none (address_history c) m key kind f.none }
+  fine_row : {c : Chronicle} {m : ℕ} (key : ℕ) (kind : addresses.RowKind) → MayCome transmits (m, key, kind) (address_history c) → Fine c m → Fine ((m, Address key kind) ∷ c) m
+  fine_row {c = c} {m = m} key kind may f = record { history = (may, f.history); none = still_none transmits (address_history c) m key kind f.none }
 
-fine_before : {c : Chronicle} {m n : ℕ} → n ≤ m → Fine c m → Fine c n
-fine_before le f = record { history = f.history; none = record { none = λ moment falls due. let h = f.none.none moment falls due in omega (arith, h, le) } }
+  fine_before : {c : Chronicle} {m n : ℕ} → n ≤ m → Fine c m → Fine c n
+  fine_before le f = record { history = f.history; none = record { none = λ moment falls due. let h = f.none.none moment falls due in omega (arith, h, le) } }
 
--- what falls due came at its turn
-fine_turn : (c : Chronicle) (m : ℕ) (falls : Falls) → addresses_due.FirstDue (address_history c) m (Some falls) → Fine c m → MayCome (due_row m falls) (address_history c)
-fine_turn c m (Ends key) first f = record { first = first; none_before = f.none.none }
-fine_turn c m (Solicits key) first f = record { first = first; none_before = f.none.none }
-fine_turn c m (Assigns key) first f = record { first = first; none_before = f.none.none }
+  -- what falls due came at its turn
+  fine_turn : (c : Chronicle) (m : ℕ) (falls : Falls) → addresses_due.FirstDue transmits (address_history c) m (Some falls) → Fine c m → MayCome transmits (due_row m falls) (address_history c)
+  fine_turn c m (Ends key) first f = record { first = first; none_before = f.none.none }
+  fine_turn c m (Solicits key) first f = record { first = first; none_before = f.none.none }
+  fine_turn c m (Assigns key) first f = record { first = first; none_before = f.none.none }
 
-fine_due : {c d : Chronicle} {m : ℕ} → BringsDue m c d → Fine c m → Fine d m
-fine_due (NoRow same) f = fine_same same f
-fine_due {c = c} {m = m} (ItsRow falls first is) f =
-    fine_same {c = (m, Address (key_in falls) (happens falls)) ∷ c} is (fine_row (key_in falls) (happens falls) (fine_turn c m falls first f) f)
+  fine_due : {c d : Chronicle} {m : ℕ} → BringsDue transmits m c d → Fine c m → Fine d m
+  fine_due (NoRow same) f = fine_same same f
+  fine_due {c = c} {m = m} (ItsRow falls first is) f =
+      fine_same {c = (m, Address (key_in falls) (happens falls)) ∷ c} is (fine_row (key_in falls) (happens falls) (fine_turn c m falls first f) f)
 
 module _ (start : Start) where
   -- a millisecond in which nothing is due passes
-  fine_next : (c : Chronicle) (m : ℕ) → Due start c m None → Fine c m → Fine c (suc m)
+  fine_next : (c : Chronicle) (m : ℕ) → Due start c m None → Fine start.transmits c m → Fine start.transmits c (suc m)
   fine_next c m due f = record {
     history = f.history;
-    none = record { none = λ moment falls is. ⊎_elim (λ lt. lt) (λ ge. absurd (due.1 falls (subst (λ (x : ℕ). IsDue (address_history c) x falls) (let h = f.none.none moment falls is in omega (arith, h, ge)) is))) (cases_lt m moment) };
+    none = record { none = λ moment falls is. ⊎_elim (λ lt. lt) (λ ge. absurd (due.1 falls (subst (λ (x : ℕ). IsDue start.transmits (address_history c) x falls) (let h = f.none.none moment falls is in omega (arith, h, ge)) is))) (cases_lt m moment) };
   }
 
-  fine_walk : {c d : Chronicle} {m n : ℕ} → Walk start c m n d → Fine c m → Fine d n
-  fine_walk (over lt) f = fine_before (omega arith) f
-  fine_walk {c = c} {m = m} (adds what le due w) f = fine_walk w (fine_due (comes_brings start m c what due) f)
+  fine_walk : {c d : Chronicle} {m n : ℕ} → Walk start c m n d → Fine start.transmits c m → Fine start.transmits d n
+  fine_walk (over lt) f = fine_before start.transmits (omega arith) f
+  fine_walk {c = c} {m = m} (adds what le due w) f = fine_walk w (fine_due start.transmits (comes_brings start m c what due) f)
   fine_walk {c = c} {m = m} (passes le due w) f = fine_walk w (fine_next c m due f)
 
   -- ---- events
 
-  fine_if : {m : ℕ} (t : Bool) (c d : Chronicle) → Fine c m → Fine d m → Fine (cond t c d) m
+  fine_if : {m : ℕ} (t : Bool) (c d : Chronicle) → Fine start.transmits c m → Fine start.transmits d m → Fine start.transmits (cond t c d) m
   fine_if true c d f g = f
   fine_if false c d f g = g
 
   module _ (now : ℕ) where
-    fine_forming : (to_all : Bool) (key : ℕ) (lifetimes : addresses.Lifetimes) (c : Chronicle) → states.is_known (story_of c key) ≡ false → Fine c now → Fine (forming start now to_all key lifetimes c) now
+    fine_forming : (to_all : Bool) (key : ℕ) (lifetimes : addresses.Lifetimes) (c : Chronicle) → states.is_known (story_of c key) ≡ false → Fine start.transmits c now → Fine start.transmits (forming start now to_all key lifetimes c) now
     fine_forming to_all key lifetimes c unknown f =
-        fine_row key (addresses.Formed (delay_for start now to_all c) (retrans_timer c) (Some lifetimes))
+        fine_row start.transmits key (addresses.Formed (delay_for start now to_all c) (retrans_timer c) (Some lifetimes))
         (ap (λ (h : List addresses.Row). states.is_known (addresses.story key h)) (delay_same now start to_all c) ∙ unknown, retrans_positive (parameter_history c))
-        (fine_same (delay_same now start to_all c) f)
+        (fine_same start.transmits (delay_same now start to_all c) f)
 
-    fine_naming : (to_all known : Bool) (info : PrefixInfo) (c : Chronicle) → states.is_known (story_of c (named_by start.mac info)) ≡ known → Fine c now → Fine (naming start now to_all known info c) now
-    fine_naming to_all true info c known f = fine_row (named_by start.mac info) (addresses.Announced (lifetimes_of info)) known f
+    fine_naming : (to_all known : Bool) (info : PrefixInfo) (c : Chronicle) → states.is_known (story_of c (named_by start.mac info)) ≡ known → Fine start.transmits c now → Fine start.transmits (naming start now to_all known info c) now
+    fine_naming to_all true info c known f = fine_row start.transmits (named_by start.mac info) (addresses.Announced (lifetimes_of info)) known f
     fine_naming to_all false info c unknown f = fine_if (info.valid_lifetime == 0) c _ f (fine_forming to_all (named_by start.mac info) (lifetimes_of info) c unknown f)
 
-    fine_options : (to_all : Bool) (infos : List PrefixInfo) (c : Chronicle) → Fine c now → Fine (then_options start now to_all infos c) now
+    fine_options : (to_all : Bool) (infos : List PrefixInfo) (c : Chronicle) → Fine start.transmits c now → Fine start.transmits (then_options start now to_all infos c) now
     fine_options to_all [] c f = f
     fine_options to_all (info ∷ infos) c f =
         fine_options to_all infos (then_option start now to_all info c)
         (fine_if (is_taken info) _ c (fine_naming to_all (states.is_known (story_of c (named_by start.mac info))) info c refl f) f)
 
-    fine_event : (event : Event) (c d : Chronicle) → Brings start now event c d → Fine c now → Fine d now
-    fine_event event c d (Nothing same) f = fine_same same f
-    fine_event event c d (Conflicts key tentative is) f = fine_same {c = (now, Address key addresses.Conflict) ∷ c} is (fine_row key addresses.Conflict tentative f)
+    fine_event : (event : Event) (c d : Chronicle) → Brings start now event c d → Fine start.transmits c now → Fine start.transmits d now
+    fine_event event c d (Nothing same) f = fine_same start.transmits same f
+    fine_event event c d (Conflicts key tentative is) f = fine_same start.transmits {c = (now, Address key addresses.Conflict) ∷ c} is (fine_row start.transmits key addresses.Conflict tentative f)
     fine_event event c d (Announces frame message to_all e received spelled up same is) f =
-        subst (λ (x : Chronicle). Fine x now) (sym is) (fine_options to_all (prefixes_in message.options) e (fine_same same f))
+        subst (λ (x : Chronicle). Fine start.transmits x now) (sym is) (fine_options to_all (prefixes_in message.options) e (fine_same start.transmits same f))
 
   -- ---- the newest moment
 
@@ -113,34 +114,34 @@ module _ (start : Start) where
   newest now ((at, TooLate last) ∷ newer) c all e = newest now newer c all.2 e
   newest now ((at, _) ∷ newer) c all e = all.0
 
-  fine_follows : (t : Bool) (c : Chronicle) (now last : ℕ) (event : Event) (d : Chronicle) → Fine c (last_moment start.at c)
-      → MatchBool t (d ≡ (now, TooLate last) ∷ c) ((e : Chronicle) × Walk start c (last_moment start.at c) now e × EventAdds start now event ((now, Passed) ∷ e) d) → Fine d (last_moment start.at d)
-  fine_follows true c now last event d f h = subst (λ (x : Chronicle). Fine x (last_moment start.at x)) (sym h) (fine_same refl f)
+  fine_follows : (t : Bool) (c : Chronicle) (now last : ℕ) (event : Event) (d : Chronicle) → Fine start.transmits c (last_moment start.at c)
+      → MatchBool t (d ≡ (now, TooLate last) ∷ c) ((e : Chronicle) × Walk start c (last_moment start.at c) now e × EventAdds start now event ((now, Passed) ∷ e) d) → Fine start.transmits d (last_moment start.at d)
+  fine_follows true c now last event d f h = subst (λ (x : Chronicle). Fine start.transmits x (last_moment start.at x)) (sym h) (fine_same start.transmits refl f)
   fine_follows false c now last event d f h =
       let g = event_grows start now ((now, Passed) ∷ h.0) event d h.2 in
       let e : last_moment start.at d ≡ now = ap (last_moment start.at) g.all ∙ newest now g.newer ((now, Passed) ∷ h.0) g.each refl in
-      subst (λ (x : ℕ). Fine d x) (sym e) (fine_event now event ((now, Passed) ∷ h.0) d (event_brings start now event ((now, Passed) ∷ h.0) d h.2) (fine_same refl (fine_walk h.1 f)))
+      subst (λ (x : ℕ). Fine start.transmits d x) (sym e) (fine_event now event ((now, Passed) ∷ h.0) d (event_brings start now event ((now, Passed) ∷ h.0) d h.2) (fine_same start.transmits refl (fine_walk h.1 f)))
 
-  fine_run : (history : List (ℕ × Event)) (c d : Chronicle) → Runs start c history d → Fine c (last_moment start.at c) → Fine d (last_moment start.at d)
-  fine_run [] c d h f = subst (λ (x : Chronicle). Fine x (last_moment start.at x)) (sym h) f
+  fine_run : (history : List (ℕ × Event)) (c d : Chronicle) → Runs start c history d → Fine start.transmits c (last_moment start.at c) → Fine start.transmits d (last_moment start.at d)
+  fine_run [] c d h f = subst (λ (x : Chronicle). Fine start.transmits x (last_moment start.at x)) (sym h) f
   fine_run (event ∷ history) c d h f =
       fine_run history h.0 d h.2 (fine_follows (nat_lt event.0 (last_moment start.at c)) c event.0 (last_moment start.at c) event.1 h.0 f h.1)
 
   -- ---- the beginning
 
-  none_yet : (falls : Falls) (moment : ℕ) → IsDue [] moment falls → start.at ≤ moment
+  none_yet : (falls : Falls) (moment : ℕ) → IsDue start.transmits [] moment falls → start.at ≤ moment
   none_yet (Ends key) moment due = absurd (let e = due.0 in let no : ⊥ = cc in no)
   none_yet (Solicits key) moment due = absurd (let e = due.0.tentative in let no : ⊥ = cc in no)
   none_yet (Assigns key) moment due = absurd (let e = due.0.tentative in let no : ⊥ = cc in no)
 
-  fine_beginning : Fine (beginning start) start.at
+  fine_beginning : Fine start.transmits (beginning start) start.at
   fine_beginning = record {
     history = ((refl, omega arith), tt);
-    none = still_none [] start.at (link_local_key start) _ (record { none = λ moment falls due. none_yet falls moment due });
+    none = still_none start.transmits [] start.at (link_local_key start) _ (record { none = λ moment falls due. none_yet falls moment due });
   }
 
-  pub rows_may_come : (history : List (ℕ × Event)) (c : Chronicle) → Runs start (beginning start) history c → IsHistory (address_history c)
+  pub rows_may_come : (history : List (ℕ × Event)) (c : Chronicle) → Runs start (beginning start) history c → IsHistory start.transmits (address_history c)
   rows_may_come history c h = (fine_run history (beginning start) c h fine_beginning).history
 
-  pub untried_none : (history : List (ℕ × Event)) (c : Chronicle) (key : ℕ) → Runs start (beginning start) history c → states.is_assigned (story_of c key) ≡ true → Held key (address_history c)
-  untried_none history c key h assigned = held (address_history c) key (rows_may_come history c h) assigned
+  pub untried_none : (history : List (ℕ × Event)) (c : Chronicle) (key : ℕ) → Runs start (beginning start) history c → states.is_assigned (story_of c key) ≡ true → Held start.transmits key (address_history c)
+  untried_none history c key h assigned = held start.transmits (address_history c) key (rows_may_come history c h) assigned

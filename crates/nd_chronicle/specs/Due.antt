@@ -81,8 +81,8 @@ pub data What : Type 0 where
 abbrev pub NoRouter : Chronicle → ℕ → Type 0
 NoRouter c moment = routers.FirstDue (router_history c) moment None
 
-abbrev pub NoAddress : Chronicle → ℕ → Type 0
-NoAddress c moment = addresses.FirstDue (address_history c) moment None
+abbrev pub NoAddress : Start → Chronicle → ℕ → Type 0
+NoAddress start c moment = addresses.FirstDue start.transmits (address_history c) moment None
 
 abbrev pub NoNeighbour : Chronicle → ℕ → Type 0
 NoNeighbour c moment = neighbours.FirstDue (neighbour_history c) moment None
@@ -97,19 +97,19 @@ NoAdvertisement start c moment = router_advertisement_date start c ≢ Some mome
 -- Solicitations, Router Advertisements, a redraw, each pass in the order of addresses.
 abbrev pub Due : Start → Chronicle → ℕ → Option What → Type 0
 Due start c moment (Some (RouterEnds key)) = routers.FirstDue (router_history c) moment (Some key)
-Due start c moment (Some (AddressFalls falls)) = NoRouter c moment × addresses.FirstDue (address_history c) moment (Some falls)
+Due start c moment (Some (AddressFalls falls)) = NoRouter c moment × addresses.FirstDue start.transmits (address_history c) moment (Some falls)
 Due start c moment (Some (NeighbourFalls falls)) =
-    NoRouter c moment × NoAddress c moment × neighbours.FirstDue (neighbour_history c) moment (Some falls)
+    NoRouter c moment × NoAddress start c moment × neighbours.FirstDue (neighbour_history c) moment (Some falls)
 Due start c moment (Some RoutersSolicited) =
-    NoRouter c moment × NoAddress c moment × NoNeighbour c moment × (router_solicitation_date start c ≡ Some moment)
+    NoRouter c moment × NoAddress start c moment × NoNeighbour c moment × (router_solicitation_date start c ≡ Some moment)
 Due start c moment (Some RouterAdvertises) =
-    NoRouter c moment × NoAddress c moment × NoNeighbour c moment × NoSolicitation start c moment
+    NoRouter c moment × NoAddress start c moment × NoNeighbour c moment × NoSolicitation start c moment
     × (router_advertisement_date start c ≡ Some moment)
 Due start c moment (Some Redraws) =
-    NoRouter c moment × NoAddress c moment × NoNeighbour c moment × NoSolicitation start c moment × NoAdvertisement start c moment
+    NoRouter c moment × NoAddress start c moment × NoNeighbour c moment × NoSolicitation start c moment × NoAdvertisement start c moment
     × (next_redraw c ≡ moment)
 Due start c moment None =
-    NoRouter c moment × NoAddress c moment × NoNeighbour c moment × NoSolicitation start c moment × NoAdvertisement start c moment
+    NoRouter c moment × NoAddress start c moment × NoNeighbour c moment × NoSolicitation start c moment × NoAdvertisement start c moment
     × (next_redraw c ≢ moment)
 
 -- ---- what comes with it

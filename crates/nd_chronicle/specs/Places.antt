@@ -1,5 +1,5 @@
 -- Places of a chronicle: what it was at some time.
-use Rattle.std.specs.Prelude.{◌≡◌, ℕ, ◌+◌, true, List, ◌∷◌, Option}
+use Rattle.std.specs.Prelude.{◌≡◌, ℕ, ◌+◌, ◌*◌, ◌<◌, ◌≤◌, true, List, ◌∷◌, Option}
 use Rattle.nd_table.specs.History.{Past}
 use Rattle.nd_addr.specs.Number.{addr_at}
 use Rattle.nd_frames.specs.Frames.{detection_frame}
@@ -25,20 +25,23 @@ abbrev pub formed_with : ℕ → ℕ → ℕ → ℕ → Option Lifetimes → Ch
 formed_with at key delay retrans lifetimes c = (at, Address key (Formed delay retrans lifetimes)) ∷ c
 
 -- how an own address came to be held, in rows of the chronicle: it was formed, was tried from then on until it was assigned, and is held since;
--- a solicitation for it was sent, one RetransTimer before it was assigned (RFC 4862, section 5.4)
+-- each solicitation for it was sent a RetransTimer before the next one, and the last one a RetransTimer before it was assigned (RFC 4862,
+-- section 5.4)
 pub record HeldInRows (start : Start) (key : ℕ) (c : Chronicle) : Type 0 where
   pub formed : ℕ
   pub delay : ℕ
   pub retrans : ℕ
   pub lifetimes : Option Lifetimes
   pub below : Chronicle
-  pub sent : ℕ
-  pub earlier : Chronicle
   pub assigned : ℕ
   pub over : Chronicle
-  pub formed_at : Past (formed_with formed key delay retrans lifetimes below) earlier
-  pub solicited : Past (solicited_with start sent key earlier) over
+  pub formed_at : Past (formed_with formed key delay retrans lifetimes below) over
   pub assigned_at : Past ((assigned, Address key Assigned) ∷ over) c
-  pub wait : assigned ≡ sent + retrans
+  -- counted back from the assignment
+  pub solicited : (back : ℕ) → 0 < back → back ≤ start.transmits → (sent : ℕ) × (earlier : Chronicle) × (assigned ≡ sent + back * retrans)
+      × Past (solicited_with start sent key earlier) over × Past (formed_with formed key delay retrans lifetimes below) earlier
+  -- and there are no others: any that stands since it was formed was sent so early
+  pub each : (sent : ℕ) (earlier : Chronicle) → Past ((sent, Address key Solicited) ∷ earlier) over → Past (formed_with formed key delay retrans lifetimes below) earlier
+      → sent + retrans ≤ assigned
   pub trying : (d : Chronicle) → Past d over → Past (formed_with formed key delay retrans lifetimes below) d → is_tentative (story_of d key) ≡ true
   pub since : (d : Chronicle) → Past d c → Past ((assigned, Address key Assigned) ∷ over) d → is_assigned (story_of d key) ≡ true

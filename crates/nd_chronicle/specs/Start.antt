@@ -12,11 +12,13 @@ pub record Limits : Type 0 where
   pub neighbours : ℕ
   pub routers : ℕ
 
--- when it starts, in milliseconds, as a host or as a router, with which link-layer address, what its generator will answer, and its limits
+-- when it starts, in milliseconds, as a host or as a router, with which link-layer address, how many solicitations each of its detections sends
+-- (RFC 4862, section 5.1, DupAddrDetectTransmits), what its generator will answer, and its limits
 pub record Start : Type 0 where
   pub at : ℕ
   pub role : Role
   pub mac : Mac
+  pub transmits : ℕ
   pub stream : Stream
   pub limits : Limits
 

@@ -37,14 +37,15 @@ pub fn only_grows()
 {}
 
 /// No address is assigned untried (RFC 4862, section 5.4): whatever events come, an address that is assigned was formed, was tentative at each
-/// place up to its assignment, and was assigned one RetransTimer after the last solicitation for it, that in force when it was formed.
+/// place up to its assignment, and was assigned a RetransTimer after the last solicitation for it, each of which but the first came a RetransTimer
+/// after the one before; RetransTimer is that in force when it was formed, and there were as many of them as the node is to send.
 pub fn none_untried()
-    ensures { (start : Start) (events : List (ℕ × Event)) (c : Chronicle) (key : ℕ) → IsChronicle start events c → is_assigned (story_of c key) ≡ true → Held key (address_history c) }
+    ensures { (start : Start) (events : List (ℕ × Event)) (c : Chronicle) (key : ℕ) → IsChronicle start events c → is_assigned (story_of c key) ≡ true → Held start.transmits key (address_history c) }
 {}
 
 /// The same at each place of a chronicle, and in its rows.
 pub fn tried_before_held()
-    ensures history { (start : Start) (events : List (ℕ × Event)) (c d : Chronicle) (key : ℕ) → IsChronicle start events c → Past d c → is_assigned (story_of d key) ≡ true → Held key (address_history d) }
+    ensures history { (start : Start) (events : List (ℕ × Event)) (c d : Chronicle) (key : ℕ) → IsChronicle start events c → Past d c → is_assigned (story_of d key) ≡ true → Held start.transmits key (address_history d) }
     ensures rows { (start : Start) (events : List (ℕ × Event)) (c d : Chronicle) (key : ℕ) → IsChronicle start events c → Past d c → is_assigned (story_of d key) ≡ true → HeldInRows start key d }
 {}
 

@@ -13,6 +13,7 @@ use Rattle.nd_addr.specs.declared.mac.Mac.{Mac}
 use Rattle.nd_addr.specs.declared.role.Role.{Role}
 use Rattle.nd_addr.specs.declared.role.Role.TheVariants.{Host, Router}
 use Rattle.nd_script.specs.Source.{IsSource}
+use Rattle.nd_script.specs.Transmits.{IsTransmitsWord}
 use Rattle.nd_script.specs.declared.source.Source.{Source}
 use Rattle.nd_command_line.specs.declared.asked.Asked.{Asked}
 use Rattle.nd_command_line.specs.declared.asked.Asked.TheVariants as asked
@@ -34,9 +35,13 @@ mac_option = record (new_rule (codes "mac")) { long = Some (codes "mac"); requir
 abbrev pub draws_option : Rule
 draws_option = record (new_rule (codes "draws")) { long = Some (codes "draws"); defaults = codes "seed:0" ∷ [] }
 
--- `run` takes `--role`, one of these names, and `--mac`, both of which have to be there, and `--draws`, which is `seed:0` where it is not
+abbrev pub transmits_option : Rule
+transmits_option = record (new_rule (codes "transmits")) { long = Some (codes "transmits"); defaults = codes "1" ∷ [] }
+
+-- `run` takes `--role`, one of these names, and `--mac`, both of which have to be there, and `--draws` and `--transmits`, which are `seed:0` and `1`
+-- where they are not
 abbrev pub the_run : NameList → App
-the_run roles = with_rule (with_rule (with_rule (new_app (codes "run")) (role_option roles)) mac_option) draws_option
+the_run roles = with_rule (with_rule (with_rule (with_rule (new_app (codes "run")) (role_option roles)) mac_option) draws_option) transmits_option
 
 abbrev pub wire_option : NameList → Rule
 wire_option wires = record (new_rule (codes "wire")) { long = Some (codes "wire"); defaults = codes "memory" ∷ []; parser = Some (parsers.Names wires) }
@@ -88,11 +93,16 @@ GivesMac given bytes = IsSomeAnd (first_of (codes "mac") given) (λ text. Spells
 abbrev pub GivesDraws : List Row → Source → Type 0
 GivesDraws given source = IsSomeAnd (first_of (codes "draws") given) (λ text. IsSource text source)
 
+-- the value of `--transmits` is the number
+abbrev pub GivesTransmits : List Row → ℕ → Type 0
+GivesTransmits given transmits = IsSomeAnd (first_of (codes "transmits") given) (λ text. IsTransmitsWord text transmits)
+
 -- what the values of the options of `run` ask for
-pub record GivesRun (given : List Row) (role : Role) (mac : Mac) (source : Source) : Type 0 where
+pub record GivesRun (given : List Row) (role : Role) (mac : Mac) (transmits : ℕ) (source : Source) : Type 0 where
   pub role_is : role ≡ role_named (first_of (codes "role") given)
   pub mac_is : GivesMac given mac.0
   pub source_is : GivesDraws given source
+  pub transmits_is : GivesTransmits given transmits
 
 -- no address is spelled
 abbrev pub MacIsBad : List Row → Type 0
@@ -104,22 +114,31 @@ pub record DrawsAreBad (given : List Row) : Type 0 where
   pub mac_is : GivesMac given mac.0
   pub none : (source : Source) → GivesDraws given source → ⊥
 
+-- an address is spelled, a source is named, and no number is given
+pub record TransmitsAreBad (given : List Row) : Type 0 where
+  pub mac : Mac
+  pub mac_is : GivesMac given mac.0
+  pub source : Source
+  pub source_is : GivesDraws given source
+  pub none : (transmits : ℕ) → GivesTransmits given transmits → ⊥
+
 -- what `read_run` makes of the values of the options of `run`
 abbrev pub GivesAsked : List Row → Asked → Type 0
 GivesAsked given asked.Check = ⊥
-GivesAsked given (asked.Run role mac source) = GivesRun given role mac source
+GivesAsked given (asked.Run node) = GivesRun given node.role node.mac node.transmits node.source
 GivesAsked given (asked.Link carrier) = ⊥
 
 abbrev pub RefusesGiven : List Row → Refused → Type 0
 RefusesGiven given refused.Mac = MacIsBad given
 RefusesGiven given refused.Draws = DrawsAreBad given
+RefusesGiven given refused.Transmits = TransmitsAreBad given
 RefusesGiven given _ = ⊥
 
 -- right words ask for this
 abbrev pub AsksFor : Names → List (List ℕ) → Asked → Type 0
 AsksFor names words asked.Check = (named_in names words ≢ Some (codes "run")) × (named_in names words ≢ Some (codes "link"))
-AsksFor names words (asked.Run role mac source) =
-    (named_in names words ≡ Some (codes "run")) × GivesRun (given_in names words) role mac source
+AsksFor names words (asked.Run node) =
+    (named_in names words ≡ Some (codes "run")) × GivesRun (given_in names words) node.role node.mac node.transmits node.source
 AsksFor names words (asked.Link carrier) =
     (named_in names words ≡ Some (codes "link")) × (carrier ≡ carrier_named (first_of (codes "wire") (given_in names words)))
 
@@ -143,4 +162,5 @@ abbrev pub Refuses : List (List ℕ) → Refused → Type 0
 Refuses words (refused.Told error) = (names : Names) × IsFault names words (kind_of error)
 Refuses words refused.Mac = (names : Names) × IsBadRun names words MacIsBad
 Refuses words refused.Draws = (names : Names) × IsBadRun names words DrawsAreBad
+Refuses words refused.Transmits = (names : Names) × IsBadRun names words TransmitsAreBad
 Refuses words refused.Memory = Unit {0}

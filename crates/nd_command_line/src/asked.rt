@@ -3,6 +3,7 @@
 use clap::Error;
 use nd_addr::{Mac, Role};
 use nd_script::Source;
+use nd_slaac::Transmits;
 
 /// What carries the frames of a link.
 #[derive(Clone, Copy, Debug, PartialEq, Eq)]
@@ -13,13 +14,25 @@ pub enum Carrier {
     Udp,
 }
 
+/// The node that the words ask for.
+#[derive(Drop)]
+pub struct AskedNode {
+    pub role: Role,
+    /// Its Ethernet address.
+    pub mac: Mac,
+    /// How many solicitations it sends for an address.
+    pub transmits: Transmits,
+    /// Where its random words come from.
+    pub source: Source,
+}
+
 /// What the words ask for.
 #[derive(Drop)]
 pub enum Asked {
     /// To tell what the frames on standard input are.
     Check,
-    /// To be a node of this role and Ethernet address, whose random words come from this source, on the lines of standard input.
-    Run(Role, Mac, Source),
+    /// To be this node, on the lines of standard input.
+    Run(AskedNode),
     /// To be a link, whose frames are carried so, on the lines of standard input.
     Link(Carrier),
 }
@@ -33,6 +46,8 @@ pub enum Refused {
     Mac,
     /// The words are right but for the value of `--draws`, which names no source.
     Draws,
+    /// The words are right but for the value of `--transmits`, which is no number from 1 to 8.
+    Transmits,
     /// Memory was refused.
     Memory,
 }

@@ -26,6 +26,9 @@ const DEFAULT_WIRE: &str = "memory";
 /// The source of random words where none is named.
 const DEFAULT_DRAWS: &str = "seed:0";
 
+/// How many solicitations a detection sends where no number is given.
+const DEFAULT_TRANSMITS: &str = "1";
+
 /// The subcommand `run` with its options, where a node has one of these roles.
 fn run_command<'a>(alloc: Global, roles: &'a [&'a str]) -> Result<Command<'a>, AllocError>
     ensures shape { IfOk result (λ command. app_of command ≡ the_run roles.entry) }
@@ -44,11 +47,16 @@ fn run_command<'a>(alloc: Global, roles: &'a [&'a str]) -> Result<Command<'a>, A
         .long("draws")
         .default_value(DEFAULT_DRAWS)
         .help("Where its random words come from: seed:<number> or word:<number>");
+    let transmits = Arg::new(alloc, "transmits")
+        .long("transmits")
+        .default_value(DEFAULT_TRANSMITS)
+        .help("How many solicitations it sends for an address, 1 to 8");
     Command::new(alloc, "run")
         .about("Answers each line, an event at a moment, with what a node does")
         .arg(role)?
         .arg(mac)?
-        .arg(draws)
+        .arg(draws)?
+        .arg(transmits)
 }
 
 /// The subcommand `link` with its option, where a link has one of these wires.

@@ -5,5 +5,5 @@ mod asked;
 mod command;
 mod words;
 
-pub use asked::{Asked, Carrier, Refused};
+pub use asked::{Asked, AskedNode, Carrier, Refused};
 pub use words::read_words;

@@ -5,12 +5,12 @@ ghost use Rattle.clap.specs.Words.{first_of, found_of, rows_of};
 ghost use Rattle.nd_command_line.specs.CommandLine.{Names, faults_of, Asks, Refuses};
 ghost use Rattle.nd_command_line.specs.CommandLine.{GivesAsked, RefusesGiven, carrier_named, role_named};
 
-use crate::asked::{Asked, Carrier, Refused};
+use crate::asked::{Asked, AskedNode, Carrier, Refused};
 use crate::command::{ROLES, ROUTER, UDP, WIRES, command};
 use clap::ArgMatches;
 use clap::error::ErrorKind;
 use nd_addr::{Mac, Role};
-use nd_script::Source;
+use nd_script::{Source, read_transmits};
 use std::alloc::Global;
 
 /// The role that the value of `--role` names: `clap` lets no word through but its names.
@@ -26,7 +26,7 @@ fn read_role(given: &ArgMatches<'_>) -> Role
     Role::Host
 }
 
-/// What the values of the options of `run` ask for. The address is judged before the source.
+/// What the values of the options of `run` ask for. The address is judged before the source, and that before the number of solicitations.
 fn read_run(given: &ArgMatches<'_>) -> Result<Asked, Refused>
     ensures right { IfOk result (GivesAsked (rows_of (found_of given.now))) }
     ensures wrong { IfErr result (RefusesGiven (rows_of (found_of given.now))) }
@@ -43,7 +43,18 @@ fn read_run(given: &ArgMatches<'_>) -> Result<Asked, Refused>
     let Some(source) = Source::parse(draws.as_bytes()) else {
         return Err(Refused::Draws);
     };
-    Ok(Asked::Run(read_role(given), mac, source))
+    let Some(transmits) = given.get_str("transmits") else {
+        return Err(Refused::Transmits);
+    };
+    let Some(transmits) = read_transmits(transmits.as_bytes()) else {
+        return Err(Refused::Transmits);
+    };
+    Ok(Asked::Run(AskedNode {
+        role: read_role(given),
+        mac,
+        transmits,
+        source,
+    }))
 }
 
 /// What the value of `--wire` names: `clap` lets no word through but its names.
@@ -62,7 +73,7 @@ fn read_wire(given: &ArgMatches<'_>) -> Carrier
 /// What the words ask for, the first being the program's path.
 ///
 /// They are refused for the first of these: a fault that `clap` finds in them, no Ethernet address after `--mac`, no source after
-/// `--draws`; or for want of memory.
+/// `--draws`, no number from 1 to 8 after `--transmits`; or for want of memory.
 pub fn read_words<'a>(alloc: Global, words: &'a [String]) -> Result<Asked, Refused>
     ensures right { IfOk result (Asks (map (λ word. string_bytes word) words.now)) }
     ensures wrong { IfErr result (Refuses (map (λ word. string_bytes word) words.now)) }

@@ -8,6 +8,7 @@ use Rattle.nd_routers.specs.Routers as routers
 use Rattle.nd_routers.specs.Routers.{same}
 use Rattle.nd_nexthop.specs.History as redirect_rows
 use Rattle.nd_nexthop.specs.Choice as choice
+use Rattle.nd_nexthop.specs.Memo.{forgotten}
 use Rattle.nd_slaac.specs.Address as own
 use Rattle.nd_slaac.specs.History as address_rows
 use Rattle.nd_slaac.specs.State as states
@@ -31,11 +32,12 @@ conflicts_now now key old new x y out result is tentative gains told out_is = re
 both_hold : (e h s : Bool) → e ≡ true → h ≡ true → h ≡ s → true ≡ (e && s)
 both_hold e h s a b is = rw a (sym b ∙ is)
 
-pub leaves_now : {A : Type 0} (now key : ℕ) (ends held : Bool) (old new : routers.Table) (old_redirects new_redirects : List (ℕ × Option ℕ)) (x y : List (ℕ × Out A)) (out : Out A)
+pub leaves_now : {A : Type 0} (now key : ℕ) (ends held : Bool) (old new : routers.Table) (old_choice new_choice : choice.Table) (x y : List (ℕ × Out A)) (out : Out A)
     → ends ≡ true → held ≡ true → ((history : List router_rows.RouterRow) → routers.Stands old history → held ≡ stands same key (announcements history) now)
-    → routers.GainsRow old new (router_rows.LeftList now key) → choice.GainsRow old_redirects new_redirects (redirect_rows.TargetGone now key)
-    → y ≡ x ++ (now, out) ∷ [] → happening out ≡ LeftRouter key → Leaves now key ends old new old_redirects new_redirects x y true
-leaves_now now key ends held old new old_redirects new_redirects x y out e h held_is gains gone told out_is = record {
+    → routers.GainsRow old new (router_rows.LeftList now key) → choice.GainsRow old_choice new_choice (redirect_rows.TargetGone now key) → new_choice.memory ≡ forgotten old_choice.memory
+    → y ≡ x ++ (now, out) ∷ [] → happening out ≡ LeftRouter key → Leaves now key ends old new old_choice new_choice x y true
+leaves_now now key ends held old new old_choice new_choice x y out e h held_is gains gone forgets told out_is = record {
+  remembers = forgets;
   routers = λ history s. (both_hold ends held (stands same key (announcements history) now) e h (held_is history s), gains.stands history s);
   redirects = λ history s. gone.stands history s;
   told = one_more x y now out told ∙ ap (λ w. happenings x ++ (now, w) ∷ []) out_is;

@@ -102,7 +102,7 @@ module _ (start : Start) (now : ℕ) (c : Chronicle) where
     by_taken false known = refl
 
 module _ (start : Start) (now : ℕ) (to_all : Bool) (info : PrefixInfo) (old new : Table) (before after : Stream) (delay retrans : ℕ) (c : Chronicle)
-    (mac : new.mac ≡ old.mac) (s : Forms start old before retrans c) where
+    (mac : new.mac ≡ old.mac) (transmits : new.transmits ≡ old.transmits) (s : Forms start old before retrans c) where
   -- what was drawn, by the chronicle
   drawn_of : (formed : Bool) → (delay, after) ≡ delay_from (to_all && formed) before → (delay, after) ≡ delay_from (to_all && formed) (stream_left start c)
   drawn_of formed is = is ∙ ap (λ (stream : Stream). delay_from (to_all && formed) stream) s.generator
@@ -116,6 +116,7 @@ module _ (start : Start) (now : ℕ) (to_all : Bool) (info : PrefixInfo) (old ne
       record {
         addresses = moved (λ k d r rows. Stands new.addresses ((now, k, address_rows.Formed d r (Some (lifetimes_of info))) ∷ rows)) key d s.in_force (sym (rows_delayed start now c to_all)) (gains.stands (address_history c) s.addresses);
         mac = mac ∙ s.mac;
+        transmits = transmits ∙ s.transmits;
         generator = ap (λ (p : ℕ × Stream). p.1) drawn ∙ sym (stream_delayed start now c to_all);
         in_force = s.in_force ∙ sym (retrans_delayed start now c to_all);
       }
@@ -125,6 +126,7 @@ module _ (start : Start) (now : ℕ) (to_all : Bool) (info : PrefixInfo) (old ne
       record {
         addresses = subst (λ (k : ℕ). Stands new.addresses ((now, k, address_rows.Announced (lifetimes_of info)) ∷ address_history c)) key (gains.stands (address_history c) s.addresses);
         mac = mac ∙ s.mac;
+        transmits = transmits ∙ s.transmits;
         generator = ap (λ (p : ℕ × Stream). p.1) drawn;
         in_force = s.in_force;
       }
@@ -133,6 +135,7 @@ module _ (start : Start) (now : ℕ) (to_all : Bool) (info : PrefixInfo) (old ne
       record {
         addresses = subst (λ (xs : List Address). Stands xs (address_history c)) (sym gains) s.addresses;
         mac = mac ∙ s.mac;
+        transmits = transmits ∙ s.transmits;
         generator = ap (λ (p : ℕ × Stream). p.1) drawn;
         in_force = s.in_force;
       }

@@ -2,6 +2,9 @@ pub mod Quiet
 pub mod Telling
 pub mod Reading
 pub mod Released
+pub mod Resolved
+pub mod Remembering
+pub mod Refreshed
 pub mod Saying
 pub mod Placing
 pub mod Ours

@@ -6,6 +6,7 @@ pub mod Packet
 pub mod LinkLayerAddress
 pub mod ForUs
 pub mod FirstHop
+pub mod Remembered
 pub mod PrefixOptions
 pub mod LinkParameters
 pub mod DefaultRouter

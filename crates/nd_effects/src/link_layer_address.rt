@@ -1,6 +1,6 @@
 //! What a message says of a neighbour: its link-layer address, and whether it is a router.
 
-ghost use Rattle.std.specs.Prelude.{◌≡◌, ◌+◌, ◌++◌, ◌≤◌, ◌<◌, ◌^◌, None, Some, IfSome, is_some, length, map, true, vec_len, vec_capacity};
+ghost use Rattle.std.specs.Prelude.{◌≡◌, ◌+◌, ◌++◌, ◌≤◌, ◌<◌, ◌^◌, None, Some, IfSome, if◌then◌else◌, is_some, length, map, true, vec_len, vec_capacity};
 ghost use Rattle.std.specs.Option.{option_map};
 ghost use Rattle.nd_addr.specs.Frame.{addressed};
 ghost use Rattle.nd_addr.specs.Number.{number_of};
@@ -12,6 +12,9 @@ ghost use Rattle.nd_chronicle.specs.Happening.{Sent};
 ghost use Rattle.nd_chronicle.specs.Histories.{given_or_marked, mark_of_target, said_of_neighbour, said_of_source};
 ghost use Rattle.nd_chronicle.specs.LinkLayerAddress.{first_slla, first_tlla};
 ghost use Rattle.nd_waiting.specs.Waiting.{max_waiting};
+ghost use Rattle.nd_nexthop.specs.Memo.{forgotten};
+ghost use Rattle.nd_effects.specs.FirstHop.{is_resolved};
+ghost use Rattle.nd_effects.specs.Remembered.{MayRemember};
 ghost use Rattle.nd_effects.specs.LinkLayerAddress.{said_by, HasPlace, waiting_for, HearsOf};
 ghost use Rattle.nd_effects.specs.Told.{at_moment, happenings};
 
@@ -20,6 +23,7 @@ use nd_addr::{Addr, Mac};
 use nd_decode::{Body, NeighborAdvertisement, OptionRef, Options, Redirect};
 use nd_neighbour::laws::released_to_the_given_address;
 use nd_neighbour::{Cache, Flags, News, Times};
+use nd_nexthop::Choice;
 use nd_out::Out;
 use nd_waiting::Packets;
 use std::alloc::Allocator;
@@ -135,10 +139,30 @@ fn send_each<A: Allocator>(outs: &mut Vec<(u64, Out<A>), A>, at: u64, mac: Mac, 
     }
 }
 
+/// Whether the link-layer address of the neighbour that news are of is known.
+fn is_known<A: Allocator>(neighbours: &Cache<A>, now: u64, news: &News) -> bool
+    ensures { result ≡ is_resolved (node_in (news_key news.now) neighbours.now.nodes) }
+{
+    match neighbours.entry(now, neighbour_in(news)) {
+        Some(neighbour) => neighbour.mac.is_some(),
+        None => false,
+    }
+}
+
+/// What is remembered of next hops is kept, or nothing is remembered any more.
+pub fn keep_if<A: Allocator>(choice: &mut Choice<A>, keep: bool)
+    ensures { choice.new ≡ (if keep then choice.old else record choice.old { memory = forgotten choice.old.memory }) }
+{
+    if !keep {
+        choice.changed();
+    }
+}
+
 /// What a message says of a neighbour is taken, and what waited for the address that it gives is sent. Whether it says that a router is
 /// none any more.
 fn hear_news<A: Allocator>(
     neighbours: &mut Cache<A>,
+    choice: &mut Choice<A>,
     now: u64,
     news: News,
     times: Times,
@@ -149,6 +173,7 @@ fn hear_news<A: Allocator>(
     requires place { HasPlace neighbours.old.limit now (Some news) neighbours.old.nodes }
     requires room { vec_len outs.old + waiting_for (Some news) neighbours.old.nodes ≤ vec_capacity outs.old }
     ensures hears { HearsOf neighbours.old.limit now (Some (said_by times news)) neighbours.old.nodes neighbours.new.nodes outs.old.items outs.new.items result }
+    ensures remembers { MayRemember choice.old choice.new neighbours.old.nodes neighbours.new.nodes }
     ensures there { lets_enter news ≡ true → is_some (node_in (news_key news) neighbours.new.nodes) ≡ true }
     ensures len { vec_len outs.new ≤ vec_len outs.old + waiting_for (Some news) neighbours.old.nodes }
     ensures capacity { vec_capacity outs.new ≡ vec_capacity outs.old }
@@ -158,6 +183,8 @@ fn hear_news<A: Allocator>(
     addresses_are_told_by_numbers();
     released_to_the_given_address();
     let mac = news.mac();
+    let known = is_known(neighbours, now, &news);
+    keep_if(choice, known);
     match neighbours.heard(now, news, times) {
         Ok(touched) => {
             let ends_router = touched.ends_router;
@@ -173,9 +200,11 @@ fn hear_news<A: Allocator>(
 
 /// What a message may say of a neighbour at a moment is taken, with the times in force, and what waited for the address that it gives is
 /// sent; moment and times are in milliseconds (RFC 4861, sections 6.2.6, 6.3.4, 7.2.3, 7.2.5 and 8.3). Whether it says that a router is
-/// none any more. It takes no memory: the room for it was taken before.
+/// none any more. No next hop is remembered where the neighbour's link-layer address wasn't known. It takes no memory: the room for it was
+/// taken before.
 pub fn hear_of_neighbour<A: Allocator>(
     neighbours: &mut Cache<A>,
+    choice: &mut Choice<A>,
     now: u64,
     news: Option<News>,
     times: Times,
@@ -186,6 +215,7 @@ pub fn hear_of_neighbour<A: Allocator>(
     requires place { HasPlace neighbours.old.limit now news neighbours.old.nodes }
     requires room { vec_len outs.old + waiting_for news neighbours.old.nodes ≤ vec_capacity outs.old }
     ensures hears { HearsOf neighbours.old.limit now (option_map (said_by times) news) neighbours.old.nodes neighbours.new.nodes outs.old.items outs.new.items result }
+    ensures remembers { MayRemember choice.old choice.new neighbours.old.nodes neighbours.new.nodes }
 
     // A neighbour whose address is given is there then, and where nothing is said none is changed.
     ensures there { IfSome news (λ n. lets_enter n ≡ true → is_some (node_in (news_key n) neighbours.new.nodes) ≡ true) }
@@ -199,7 +229,7 @@ pub fn hear_of_neighbour<A: Allocator>(
     ensures rings { neighbours.new.rings ≡ neighbours.old.rings }
 {
     match news {
-        Some(news) => hear_news(neighbours, now, news, times, outs),
+        Some(news) => hear_news(neighbours, choice, now, news, times, outs),
         None => false,
     }
 }

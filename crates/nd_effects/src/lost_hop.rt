@@ -1,6 +1,7 @@
 ghost use Rattle.std.specs.Prelude.{◌≡◌, ℕ};
 ghost use Rattle.nd_neighbour.specs.View.{falls_of};
 ghost use Rattle.nd_effects.specs.LostHop.{Notes};
+ghost use Rattle.nd_effects.specs.Remembered.{Remembering};
 
 use nd_neighbour::Due;
 use nd_nexthop::Choice;
@@ -8,9 +9,10 @@ use nd_routers::Routers;
 use std::alloc::Allocator;
 
 /// What falls due for a neighbour is noted: where it failed, the router that it may be failed too, and the redirects to it end (RFC 4861,
-/// sections 6.3.6 and 7.3.3).
+/// sections 6.3.6 and 7.3.3). Where it is gone no next hop is remembered.
 pub fn note<A: Allocator + Clone>(routers: &mut Routers<A>, choice: &mut Choice<A>, due: &Due<A>)
     ensures notes { (at : ℕ) → Notes at (falls_of due.now) routers.old routers.new choice.old choice.new }
+    ensures remembers { Remembering (falls_of due.now) choice.old choice.new routers.old routers.new }
     ensures entries { routers.new.entries ≡ routers.old.entries }
     ensures limit { routers.new.limit ≡ routers.old.limit }
 {
@@ -19,6 +21,7 @@ pub fn note<A: Allocator + Clone>(routers: &mut Routers<A>, choice: &mut Choice<
             routers.failed(*addr);
             choice.target_gone(*addr);
         }
-        Due::Multicast(_) | Due::Unicast(_, _) | Due::Aged(_) => {}
+        Due::Aged(_) => choice.changed(),
+        Due::Multicast(_) | Due::Unicast(_, _) => {}
     }
 }

@@ -1,6 +1,7 @@
-ghost use Rattle.std.specs.Prelude.{◌≡◌, ◌+◌, ◌≤◌, ℕ, vec_len, vec_capacity};
+ghost use Rattle.std.specs.Prelude.{◌≡◌, ◌+◌, ◌≤◌, ℕ, if◌then◌else◌, vec_len, vec_capacity};
 ghost use Rattle.nd_addr.specs.Number.{number_of};
 ghost use Rattle.nd_routers.specs.Routers.{IsSettled};
+ghost use Rattle.nd_nexthop.specs.Memo.{forgotten};
 ghost use Rattle.nd_effects.specs.NeighborAdvertisement.{Conflicts, Leaves};
 
 use nd_addr::Addr;
@@ -11,20 +12,25 @@ use nd_slaac::Addresses;
 use std::alloc::Allocator;
 
 /// Another node has an address, as is heard at a moment, in milliseconds: it is a duplicate from now on where it is tentative, and that is
-/// told (RFC 4862, section 5.4.4). It answers whether it was tentative, and takes no memory: the room for it was taken before.
+/// told (RFC 4862, section 5.4.4). No next hop is remembered then. It answers whether it was tentative, and takes no memory: the room for it
+/// was taken before.
 pub fn hear_holder<A: Allocator>(
     addresses: &mut Addresses<A>,
+    choice: &mut Choice<A>,
     now: u64,
     target: Addr,
     outs: &mut Vec<(u64, Out<A>), A>,
 ) -> bool
     requires { vec_len outs.old + 1 ≤ vec_capacity outs.old }
     ensures conflicts { Conflicts now (number_of target.0) addresses.old.addresses addresses.new.addresses outs.old.items outs.new.items result }
+    ensures remembers { choice.new ≡ (if result then record choice.old { memory = forgotten choice.old.memory } else choice.old) }
     ensures mac { addresses.new.mac ≡ addresses.old.mac }
+    ensures transmits { addresses.new.transmits ≡ addresses.old.transmits }
     ensures len { vec_len outs.new ≤ vec_len outs.old + 1 }
     ensures capacity { vec_capacity outs.new ≡ vec_capacity outs.old }
 {
     if addresses.conflict(target) {
+        choice.changed();
         outs.push_reserved((now, Out::Duplicate(target)));
         return true;
     }

@@ -1,6 +1,8 @@
-ghost use Rattle.std.specs.Prelude.{◌≡◌, ◌+◌, ◌++◌, ◌<◌, ◌≤◌, ◌^◌, vec_len, vec_capacity};
+ghost use Rattle.std.specs.Prelude.{◌≡◌, ◌+◌, ◌++◌, ◌<◌, ◌≤◌, ◌^◌, if◌then◌else◌, vec_len, vec_capacity};
 ghost use Rattle.nd_addr.specs.Number.{number_of};
 ghost use Rattle.nd_neighbour.specs.View.{sending_of};
+ghost use Rattle.nd_nexthop.specs.Memo.{forgotten};
+ghost use Rattle.nd_effects.specs.Remembered.{begins};
 ghost use Rattle.nd_effects.specs.Packet.{told_of_packet};
 ghost use Rattle.nd_effects.specs.Told.{at_moment, happenings};
 
@@ -8,6 +10,7 @@ use nd_addr::laws::addresses_are_told_by_numbers;
 use nd_addr::{Addr, Mac};
 use nd_frames::FrameRoom;
 use nd_neighbour::{Times, Use};
+use nd_nexthop::Choice;
 use nd_out::{Loss, Out};
 use nd_params::Params;
 use std::alloc::Allocator;
@@ -21,6 +24,16 @@ pub fn times_in_force(params: &Params) -> Times
     Times {
         retrans: params.retrans_timer(),
         reachable: params.reachable_time(),
+    }
+}
+
+/// No next hop is remembered where a packet begins the resolution of a neighbour, which is new then, and may have pushed out another one.
+pub fn note_use<A: Allocator>(choice: &mut Choice<A>, used: &Use<A>)
+    ensures { choice.new ≡ (if begins (sending_of used.now) then record choice.old { memory = forgotten choice.old.memory } else choice.old) }
+{
+    match used {
+        Use::Queued { solicit: true, .. } => choice.changed(),
+        Use::Queued { .. } | Use::Send(_, _) => {}
     }
 }
 

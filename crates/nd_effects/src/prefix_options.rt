@@ -7,6 +7,7 @@ ghost use Rattle.nd_slaac.specs.Calls.{keys_in};
 ghost use Rattle.nd_chronicle.specs.Start.{Start};
 ghost use Rattle.nd_chronicle.specs.Happening.{Chronicle};
 ghost use Rattle.nd_chronicle.specs.RouterAdvertisement.{then_option, then_options};
+ghost use Rattle.nd_effects.specs.Remembered.{forms_none};
 ghost use Rattle.nd_effects.specs.PrefixOptions.{delay_from, Forms};
 
 use crate::draw::{MAX_RTR_SOLICITATION_DELAY, drawn_from};
@@ -47,6 +48,20 @@ fn hear_prefix_option<R: Rng, A: Allocator>(
         Ok(_) => {}
         Err(_) => unreachable!(),
     }
+}
+
+/// Whether none of the prefix options of a Router Advertisement would form an address.
+pub fn none_forms<A: Allocator>(addresses: &Addresses<A>, options: Options<'_>) -> bool
+    ensures { result ≡ forms_none addresses.now.mac (keys_in addresses.now.addresses) (prefixes_in (options_left options.entry)) }
+{
+    for option in options {
+        if let OptionRef::Prefix(info) = option {
+            if addresses.would_form(&info) {
+                return false;
+            }
+        }
+    }
+    true
 }
 
 /// The prefix options of a Router Advertisement may form addresses, in their order, for which there is room (RFC 4862, section 5.5.3).

@@ -13,27 +13,39 @@ ghost use Rattle.nd_dns.specs.Dns as known;
 ghost use Rattle.nd_dns.specs.Dns.{max_servers, max_names, new_names};
 ghost use Rattle.nd_dns.specs.Names.{same_name, names_told};
 ghost use Rattle.nd_dns.specs.Servers.{servers_told};
+ghost use Rattle.nd_effects.specs.Remembered.{AsStanding, Recollects};
 ghost use Rattle.nd_effects.specs.Told.{at_moment, happenings};
 ghost use Rattle.nd_effects.specs.RouterAdvertisement.{left_told};
 
+use crate::link_layer_address::keep_if;
 use nd_addr::Addr;
 use nd_decode::{Body, Options, RouterAdvertisement};
 use nd_dns::{Dns, NewNames};
+use nd_nexthop::Choice;
 use nd_out::Out;
 use nd_routers::Prefixes;
 use std::alloc::Allocator;
 
 /// The prefixes that a Router Advertisement says are on the link, at a moment in milliseconds, for which there is room (RFC 4861, section
-/// 6.3.4).
-pub fn hear_prefixes<A: Allocator>(prefixes: &mut Prefixes<A>, now: u64, options: Options<'_>)
+/// 6.3.4). No next hop is remembered but where prefixes only are refreshed.
+pub fn hear_prefixes<A: Allocator>(
+    prefixes: &mut Prefixes<A>,
+    choice: &mut Choice<A>,
+    now: u64,
+    options: Options<'_>,
+)
     requires moment { now < 2 ^ 62 }
     requires fits { fits same_prefix max_prefixes now (prefixes_in (options_left options)) prefixes.old ≡ true }
-    ensures { (history : List (Row PrefixValue)) → last_moment history ≤ now → lists.Stands same_prefix prefixes.old history → lists.Stands same_prefix prefixes.new (then_announced now (prefixes_in (options_left options.entry)) history) }
+    ensures stands { (history : List (Row PrefixValue)) → last_moment history ≤ now → lists.Stands same_prefix prefixes.old history → lists.Stands same_prefix prefixes.new (then_announced now (prefixes_in (options_left options.entry)) history) }
+    ensures recollects { Recollects choice.old choice.new (AsStanding now prefixes.old prefixes.new) }
+    ensures redirects { choice.new.redirects ≡ choice.old.redirects }
 {
+    let refreshes = prefixes.only_refreshes(now, options);
     match prefixes.heard_ra(now, options) {
         Ok(()) => {}
         Err(_) => unreachable!(),
     }
+    keep_if(choice, refreshes);
 }
 
 /// The DNS servers and search names that a Router Advertisement tells, at a moment in milliseconds, for which there is room, with copies

@@ -82,7 +82,7 @@ module _ {K : Type 0} (same : K → K → Bool) (tells : Tells same) where
   take_past (suc i) zero (p ∷ all) h le = absurd (omega (arith, le))
   take_past (suc i) (suc n) (p ∷ all) h le = ap (λ (x : List (K × ℕ)). p ∷ x) (take_past i n all h (omega (arith, le)))
 
-  Distinct-filter : (p : Lasting K → Bool) (es : List (Lasting K)) → Distinct same es → Distinct same (filter p es)
+  pub Distinct-filter : (p : Lasting K → Bool) (es : List (Lasting K)) → Distinct same es → Distinct same (filter p es)
   Distinct-filter p [] d = tt
   Distinct-filter p (e ∷ es) d =
       let rest = Distinct-filter p es d.1 in

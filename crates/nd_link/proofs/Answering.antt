@@ -66,14 +66,14 @@ module _ {W R A : Type 0} (stream : R → Stream) where
   count_reached : (link : Link W R A) (now : ℕ) (log : Log) → Stands stream link log → nodes (reached now log) ≡ length link.nodes.items
   count_reached link now log s = nodes_reached now log ∙ sym s.nodes.count
 
-  pub start_leads : (old mid new : Link W R A) (x : List (Told A)) (n : Node R A) (now : ℕ) (role : Role) (mac : Mac) (words : Stream) → length old.nodes.items < max_nodes
-      → ((log : Log) → Stands stream old log → Stands stream mid (reached now log)) → node.Stands stream (starting now role mac words) n (beginning (starting now role mac words))
-      → new.nodes.items ≡ mid.nodes.items ++ n ∷ [] → new.frames ≡ mid.frames → new.last ≡ mid.last → Leads stream old new x x (Happens now (links.Starts role mac words))
-  start_leads old mid new x n now role mac words few reaches stands nodes_are frames_are last_are = record {
+  pub start_leads : (old mid new : Link W R A) (x : List (Told A)) (n : Node R A) (now : ℕ) (role : Role) (mac : Mac) (transmits : ℕ) (words : Stream) → length old.nodes.items < max_nodes
+      → ((log : Log) → Stands stream old log → Stands stream mid (reached now log)) → node.Stands stream (starting now role mac transmits words) n (beginning (starting now role mac transmits words))
+      → new.nodes.items ≡ mid.nodes.items ++ n ∷ [] → new.frames ≡ mid.frames → new.last ≡ mid.last → Leads stream old new x x (Happens now (links.Starts role mac transmits words))
+  start_leads old mid new x n now role mac transmits words few reaches stands nodes_are frames_are last_are = record {
     each = λ log s.
         let base = reached now log in
         let m = reaches log s in
-        let start = starting now role mac words in
+        let start = starting now role mac transmits words in
         let at = moment_reached now log in
         let d : Log = started (nodes base) start base in (
           d,

@@ -10,13 +10,15 @@ use Rattle.nd_node.specs.Node.{usual_limits}
 use Rattle.nd_link_log.specs.Log.{Log, Begins, Adds, Carries, Reaches, Refuses}
 use Rattle.nd_link_log.specs.Event.{Event}
 use Rattle.nd_link_log.specs.Bytes.{AreOfBytes, IsOfBytes, SendsBytes}
+use Rattle.nd_link_log.specs.Sound.{IsSound}
 use Rattle.nd_link_log.proofs.Holding.{one_holder}
 use Rattle.nd_link_log.proofs.Sound.{sound}
+use Rattle.nd_link_log.proofs.Timely.{one_holder as timely_holder}
 use Rattle.nd_link.specs.declared.sent_frame.SentFrame.{SentFrame}
 use Rattle.nd_link.specs.declared.link.Link.{Link}
 use Rattle.nd_link.specs.declared.told.Told.{Told}
 use Rattle.nd_link.specs.Frames.{frames, kept_frames, of_sender}
-use Rattle.nd_link.specs.Holder.{KeepsOneHolder}
+use Rattle.nd_link.specs.Holder.{KeepsOneHolder, KeepsOneHolderWithLosses, StandsForEvents}
 use Rattle.nd_link.specs.Link.{Stands}
 use Rattle.nd_link.specs.Run.{RunsBy}
 use Rattle.nd_link.specs.Time.{Leads}
@@ -55,16 +57,23 @@ module _ {W R A : Type 0} (stream : R → Stream) where
   pub stands_for_bytes : (link : Link W R A) (log : Log) → Stands stream link log → SendsBytes log
   stands_for_bytes link log s = sent_bytes log (subst AreOfFrames s.frames (kept_bytes link.frames.items))
 
-  pub keeps_one_holder : (old new : Link W R A) (x y : List (Told A)) (events : List (ℕ × Event)) → AreOfBytes events → Leads stream old new x y (RunsBy events) → KeepsOneHolder stream old new events
-  keeps_one_holder old new x y events bytes leads = record {
-    each = λ before log s.
+  -- the log of all events that came, which is sound
+  module _ (old new : Link W R A) (x y : List (Told A)) (events : List (ℕ × Event)) (bytes : AreOfBytes events) (leads : Leads stream old new x y (RunsBy events)) where
+    log_of : (before : List (ℕ × Event)) (log : Log) → StandsForEvents stream old before log → (d : Log) × StandsForEvents stream new (before ++ events) d × IsSound d
+    log_of before log s =
         let l = leads.each log s.stands in
         let d : Log = l.0 in
         let whole = before ++ events in
         let all : AreOfBytes whole = All-append (λ (v : ℕ × Event). IsOfBytes v.1) before events s.bytes bytes in
-        let runs = runs_then before events [] log d s.runs l.1 in (
-          d,
-          record { bytes = all; runs = runs; stands = l.2 },
-          λ within timely. one_holder d (sound usual_limits whole d runs (all, stands_for_bytes new d l.2)) within timely,
-        );
-  }
+        let runs = runs_then before events [] log d s.runs l.1 in
+        (d, record { bytes = all; runs = runs; stands = l.2 }, sound usual_limits whole d runs (all, stands_for_bytes new d l.2))
+
+    pub keeps_one_holder : KeepsOneHolder stream old new events
+    keeps_one_holder = record {
+      each = λ before log s. let l = log_of before log s in (l.0, l.1, λ within timely. timely_holder l.0 l.2 within timely);
+    }
+
+    pub keeps_one_holder_with_losses : KeepsOneHolderWithLosses stream old new events
+    keeps_one_holder_with_losses = record {
+      each = λ before log s. let l = log_of before log s in (l.0, l.1, λ within little. one_holder l.0 l.2 within little);
+    }

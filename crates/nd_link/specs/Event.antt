@@ -9,7 +9,7 @@ use Rattle.nd_link.specs.declared.event.LinkEvent.TheVariants.{Passes, Starts, C
 
 abbrev pub link_event : {R A : Type 0} → (R → Stream) → LinkEvent R A → links.Event
 link_event stream Passes = links.Passes
-link_event stream (Starts role mac generator) = links.Starts role mac (stream generator)
+link_event stream (Starts role mac transmits generator) = links.Starts role mac transmits (stream generator)
 link_event stream (Comes node event) = links.Comes node (event_of event)
 link_event stream (Delivers node frame) = links.Delivers node frame
 

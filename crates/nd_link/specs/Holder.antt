@@ -7,6 +7,7 @@ use Rattle.nd_link_log.specs.Bytes.{AreOfBytes}
 use Rattle.nd_link_log.specs.Event.{Event}
 use Rattle.nd_link_log.specs.History.{IsLog}
 use Rattle.nd_link_log.specs.Holding.{HasOneHolder, IsTimely}
+use Rattle.nd_link_log.specs.Losing.{LosesLittle}
 use Rattle.nd_link.specs.declared.link.Link.{Link}
 use Rattle.nd_link.specs.Link.{Stands}
 
@@ -21,3 +22,8 @@ pub record StandsForEvents {W R A : Type 0} (stream : R → Stream) (link : Link
 pub record KeepsOneHolder {W R A : Type 0} (stream : R → Stream) (old new : Link W R A) (events : List (ℕ × Event)) : Type 0 where
   pub each : (before : List (ℕ × Event)) (log : Log) → StandsForEvents stream old before log
       → (d : Log) × StandsForEvents stream new (before ++ events) d × ((within : ℕ) → IsTimely within d → HasOneHolder d)
+
+-- The same where the log of all of them may lack frames: each attempt reached each other node.
+pub record KeepsOneHolderWithLosses {W R A : Type 0} (stream : R → Stream) (old new : Link W R A) (events : List (ℕ × Event)) : Type 0 where
+  pub each : (before : List (ℕ × Event)) (log : Log) → StandsForEvents stream old before log
+      → (d : Log) × StandsForEvents stream new (before ++ events) d × ((within : ℕ) → LosesLittle within d → HasOneHolder d)

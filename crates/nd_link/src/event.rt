@@ -7,7 +7,7 @@ ghost use Rattle.nd_link_log.specs.Bytes.{IsOfBytes};
 ghost use Rattle.nd_link.specs.Arrival.{Happens};
 ghost use Rattle.nd_link.specs.Due.{AreSettled};
 ghost use Rattle.nd_link.specs.Event.{AreEarly, link_event, link_events};
-ghost use Rattle.nd_link.specs.Holder.{KeepsOneHolder};
+ghost use Rattle.nd_link.specs.Holder.{KeepsOneHolder, KeepsOneHolderWithLosses};
 ghost use Rattle.nd_link.specs.Link.{Stands};
 ghost use Rattle.nd_link.specs.Run.{FollowsBy, RunsBy, RunsInPart, RunsUpTo};
 ghost use Rattle.nd_link.specs.Time.{Leads, Onward, Passes, TellsOf};
@@ -18,6 +18,7 @@ use crate::refusal::Refusal;
 use crate::told::{Told, tell_refused};
 use nd_addr::{Mac, Role};
 use nd_node::Event;
+use nd_slaac::Transmits;
 use nd_wire::Wire;
 use rand_core::Rng;
 use std::alloc::Allocator;
@@ -27,21 +28,23 @@ use std::alloc::Allocator;
 pub enum LinkEvent<R, A: Allocator> {
     /// Time passes.
     Passes,
-    /// Another node starts, with its role, its link-layer address and the generator of its random words, which it keeps.
-    Starts(Role, Mac, R),
+    /// Another node starts, with its role, its link-layer address, how many solicitations it sends for each address, and the generator of its random
+    /// words, which it keeps.
+    Starts(Role, Mac, Transmits, R),
     /// An event comes to a node, by its number.
     Comes(u64, Event<A>),
     /// A frame is carried to a node: the number of the node, and that of the frame.
     Delivers(u64, u64),
 }
 
-/// What the types of an event's parts say, that they are of bytes, is handed on as a clause.
+/// What the types of an event's parts say, that they are of bytes, and that a node solicits once or more often, is handed on as a clause.
 fn known<R: Rng + Drop, A: Allocator>(event: &LinkEvent<R, A>)
     ensures { IsOfBytes (link_event R.stream event.now) }
 {
     match event {
-        LinkEvent::Starts(_, mac, _) => {
+        LinkEvent::Starts(_, mac, transmits, _) => {
             mac.as_bytes();
+            transmits.number();
         }
         LinkEvent::Comes(_, Event::Receives(frame)) => known_frame(frame),
         LinkEvent::Passes | LinkEvent::Comes(..) | LinkEvent::Delivers(..) => {}
@@ -93,7 +96,8 @@ impl<W: Wire, R: Rng + Drop, A: Allocator + Copy> Link<W, R, A> {
     /// was due up to that event has come, and the link is in use as before.
     ///
     /// Where no fault came since the link was made and its log is timely, no address is preferred or deprecated at two nodes, at no moment up to
-    /// the last one (RFC 4862, section 5.4).
+    /// the last one (RFC 4862, section 5.4). So it is too where frames are lost, but of each attempt for an address one solicitation arrives in time at
+    /// each other node, and the answers to that one come back in time.
     pub fn run(
         &mut self,
         events: Vec<(u64, LinkEvent<R, A>), A>,
@@ -102,6 +106,7 @@ impl<W: Wire, R: Rng + Drop, A: Allocator + Copy> Link<W, R, A> {
         requires { AreEarly events.items }
         ensures runs { IsFaithful W.arrives → OnOk result (Leads R.stream self.old self.new told.old.items told.new.items (RunsBy (link_events R.stream events.items))) }
         ensures one_holder { IsFaithful W.arrives → OnOk result (KeepsOneHolder R.stream self.old self.new (link_events R.stream events.items)) }
+        ensures one_holder_where_frames_are_lost { IsFaithful W.arrives → OnOk result (KeepsOneHolderWithLosses R.stream self.old self.new (link_events R.stream events.items)) }
         ensures in_part { IsFaithful W.arrives → OnErr result (TellsOf R.stream self.old told.old.items told.new.items (RunsInPart (link_events R.stream events.items))) }
         ensures passes { IsFaithful W.arrives → IsErrOf result LinkFault.Wire → Leads R.stream self.old self.new told.old.items told.new.items (RunsUpTo (link_events R.stream events.items)) }
         ensures wire_failed { IsErrOf result LinkFault.Wire → W.failed self.new.wire ≡ one_more (W.failed self.old.wire) }
@@ -158,8 +163,8 @@ impl<W: Wire, R: Rng + Drop, A: Allocator + Copy> Link<W, R, A> {
     {
         match event {
             LinkEvent::Passes => Ok(self.reach(now)?),
-            LinkEvent::Starts(role, mac, generator) => {
-                Ok(self.start(now, role, mac, generator, told)?)
+            LinkEvent::Starts(role, mac, transmits, generator) => {
+                Ok(self.start(now, role, mac, transmits, generator, told)?)
             }
             LinkEvent::Comes(node, event) => Ok(self.come(now, node, &event, told)?),
             LinkEvent::Delivers(node, number) => self.deliver(now, node, number, told),

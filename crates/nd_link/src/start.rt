@@ -9,6 +9,7 @@ use crate::refusal::Refusal;
 use crate::told::Told;
 use nd_addr::{Mac, Role};
 use nd_node::Node;
+use nd_slaac::Transmits;
 use rand_core::Rng;
 use std::alloc::{AllocError, Allocator};
 
@@ -19,13 +20,14 @@ impl<W, R: Rng + Drop, A: Allocator + Copy> Link<W, R, A> {
         now: u64,
         role: Role,
         mac: Mac,
+        transmits: Transmits,
         generator: R,
         told: &mut Vec<Told<A>, A>,
     ) -> Result<(), AllocError>
         requires moment { now < 2 ^ 62 }
         requires settled { AreSettled now self.old.nodes.items }
         requires in_time { self.old.last ≤ now }
-        ensures leads { OnOk result (Leads R.stream self.old self.new told.old.items told.new.items (Happens now (Starts role mac (R.stream generator)))) }
+        ensures leads { OnOk result (Leads R.stream self.old self.new told.old.items told.new.items (Happens now (Starts role mac transmits (R.stream generator)))) }
         ensures told { OnErr result (told.new.items ≡ told.old.items) }
         ensures wire { self.new.wire ≡ self.old.wire }
         ensures spent { self.new.spent ≡ self.old.spent }
@@ -33,7 +35,7 @@ impl<W, R: Rng + Drop, A: Allocator + Copy> Link<W, R, A> {
         if self.nodes.len() == MAX_NODES {
             return self.refuse(now, Refusal::Full, told);
         }
-        let Ok(node) = Node::new(self.alloc, role, mac, now, generator) else {
+        let Ok(node) = Node::new(self.alloc, role, mac, now, transmits, generator) else {
             return Err(AllocError);
         };
         self.reach(now)?;

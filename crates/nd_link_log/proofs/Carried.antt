@@ -19,7 +19,8 @@ use Rattle.nd_chronicle.specs.OwnAddress.{is_assigned, is_own, is_tentative, sto
 use Rattle.nd_chronicle.specs.Event.{FrameAdds}
 use Rattle.nd_link_log.specs.Log.{Entry, Log, Adds, Carries, IsFrame, adding, chronicle_of}
 use Rattle.nd_link_log.specs.Holding.{Holds, IsTrying}
-use Rattle.nd_link_log.specs.Sound.{Brings, Claims, Gains, Tries}
+use Rattle.nd_link_log.specs.Attempt.{Claims, Tries}
+use Rattle.nd_link_log.specs.Sound.{Answers, Brings, Gains}
 use Rattle.nd_link_log.proofs.Chronicles.{past_with}
 use Rattle.nd_link_log.proofs.Lives.{Lives}
 use Rattle.nd_link_log.proofs.Rivals.{claims_address, defends, gives_way, tries_address, yields}
@@ -37,22 +38,32 @@ module _ (node now number : ℕ) (before : Log) (rows : Chronicle) where
   in_newer what [] more = inl refl
   in_newer what (row ∷ newer) more = inr (in_newer what newer more)
 
-  -- a row above the chronicle of the node is gained
-  gains : (what : Happening) (newer more : Chronicle) → rows ++ chronicle_of node before ≡ newer ++ ((now, what) ∷ (more ++ chronicle_of node before)) → Gains after before node now what
-  gains what newer more e =
+  -- a row above the chronicle of the node is one of the event
+  all_rows : (what : Happening) (newer more : Chronicle) → rows ++ chronicle_of node before ≡ newer ++ ((now, what) ∷ (more ++ chronicle_of node before))
+      → Past (Adds node now what ∷ adding node more carrying) after
+  all_rows what newer more e =
       let all : rows ≡ newer ++ ((now, what) ∷ more) =
-      append_cancel_right rows (newer ++ ((now, what) ∷ more)) (chronicle_of node before) (e ∙ sym (append_assoc newer ((now, what) ∷ more) (chronicle_of node before))) in record {
-        below = adding node more carrying;
-        gained = subst (λ (r : Chronicle). Past (Adds node now what ∷ adding node more carrying) (adding node r carrying)) (sym all) (in_newer what newer more);
-        above = past_then before carrying (adding node more carrying) (inr (past_self before)) (past_with node more carrying);
-      }
+      append_cancel_right rows (newer ++ ((now, what) ∷ more)) (chronicle_of node before) (e ∙ sym (append_assoc newer ((now, what) ∷ more) (chronicle_of node before))) in
+      subst (λ (r : Chronicle). Past (Adds node now what ∷ adding node more carrying) (adding node r carrying)) (sym all) (in_newer what newer more)
+
+  gives : (answer : List ℕ) (newer more : Chronicle) → rows ++ chronicle_of node before ≡ newer ++ ((now, Sent answer) ∷ (more ++ chronicle_of node before))
+      → Answers after before node now number answer
+  gives answer newer more e = record { rows = more; sends = all_rows (Sent answer) newer more e }
+
+  -- and so it is gained
+  gains : (what : Happening) (newer more : Chronicle) → rows ++ chronicle_of node before ≡ newer ++ ((now, what) ∷ (more ++ chronicle_of node before)) → Gains after before node now what
+  gains what newer more e = record {
+    below = adding node more carrying;
+    gained = all_rows what newer more e;
+    above = past_then before carrying (adding node more carrying) (inr (past_self before)) (past_with node more carrying);
+  }
 
   module _ (Bytes : Type 0) (b : Bytes) (start : Start) (l : Lives Bytes start (chronicle_of node before) now) (frame : List ℕ) (bytes : IsBytes frame)
       (adds : FrameAdds start now frame (chronicle_of node before) (rows ++ chronicle_of node before)) where
     abbrev c : Chronicle
     c = chronicle_of node before
 
-    answers : (key : ℕ) → Tries key frame → Holds node key before → (answer : List ℕ) × Claims key answer × Gains after before node now (Sent answer)
+    answers : (key : ℕ) → Tries key frame → Holds node key before → (answer : List ℕ) × Claims key answer × Answers after before node now number answer
     answers key tries holds =
         let address : Addr = tries.0 in
         let t : IsDetection frame address = tries.2 in
@@ -62,7 +73,7 @@ module _ (node now number : ℕ) (before : Log) (rows : Chronicle) where
         let answer : List ℕ = defence_frame (is_router start.role) start.mac address in (
           answer,
           (address, tries.1, defence_sent start.mac (l.mac b) (is_router start.role) address whole),
-          gains (Sent answer) [] ((now, Heard unspecified (solicited_node address) t.message) ∷ []) (defends Bytes b start c now l address whole own frame (rows ++ c) adds t assigned),
+          gives answer [] ((now, Heard unspecified (solicited_node address) t.message) ∷ []) (defends Bytes b start c now l address whole own frame (rows ++ c) adds t assigned),
         )
 
     clashes : (key : ℕ) → Tries key frame ⊎ Claims key frame → IsTrying node key before → Gains after before node now (Address key Conflict)
@@ -92,6 +103,9 @@ module _ (node now number : ℕ) (before : Log) (rows : Chronicle) where
 abbrev pub AllBring : Log → Type 0
 AllBring log = (node at number : ℕ) (before : Log) → Past (Carries node at number ∷ before) log → Brings log node at number before
 
+answers_later : {log d before : Log} {node at number : ℕ} {answer : List ℕ} → Past log d → Answers log before node at number answer → Answers d before node at number answer
+answers_later {log = log} {d = d} p a = record { rows = a.rows; sends = past_then _ log d a.sends p }
+
 gains_later : {log d before : Log} {node at : ℕ} {what : Happening} → Past log d → Gains log before node at what → Gains d before node at what
 gains_later {log = log} {d = d} p g = record { below = g.below; gained = past_then _ log d g.gained p; above = g.above }
 
@@ -101,7 +115,7 @@ brings_later p b = record {
   sent_at = b.sent_at;
   frame = b.frame;
   is_frame = b.is_frame;
-  answers = λ key tries holds. let a = b.answers key tries holds in (a.0, a.1, gains_later p a.2);
+  answers = λ key tries holds. let a = b.answers key tries holds in (a.0, a.1, answers_later p a.2);
   clashes = λ key says trying. gains_later p (b.clashes key says trying);
 }
 

@@ -72,7 +72,7 @@ abbrev moment_in_front : Chronicle → ℕ
 moment_in_front [] = 0
 moment_in_front (row ∷ c) = row.0
 
-abbrev what_in_front : Chronicle → Happening
+abbrev pub what_in_front : Chronicle → Happening
 what_in_front [] = Passed
 what_in_front (row ∷ c) = row.1
 

@@ -33,9 +33,9 @@ module _ (limits : Limits) (now : ℕ) (log d : Log) where
 
   happens_past : (event : Event) → EventHappens limits now event log d → Past log d
   happens_past Passes h = subst (Past log) (sym h) (past_self log)
-  happens_past (Starts role mac stream) h = by_either (nat_lt (nodes log) max_nodes)
+  happens_past (Starts role mac transmits stream) h = by_either (nat_lt (nodes log) max_nodes)
       (λ same.
-      let start : Start = record { at = now; role = role; mac = mac; stream = stream; limits = limits } in
+      let start : Start = record { at = now; role = role; mac = mac; transmits = transmits; stream = stream; limits = limits } in
       let begun : Log = Begins (nodes log) start ∷ log in
       subst (Past log) (sym same) (past_then log begun (adding (nodes log) (beginning start) begun) (inr (past_self log)) (past_with (nodes log) (beginning start) begun)))
       (refused Full) h

@@ -14,6 +14,8 @@ pub mod Standing
 pub mod Sound
 pub mod Places
 pub mod Bound
+pub mod Losses
 pub mod Frames
 pub mod Texts
 pub mod Holding
+pub mod Timely

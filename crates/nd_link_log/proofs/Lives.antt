@@ -1,5 +1,5 @@
 -- Each node of a link lives its own history: what the link walks is walked at each node, and an event at one node is time that passes at the others.
-use Rattle.std.proofs.Common.{◌≡◌, ℕ, ◌≤◌, Bool, true, false, List, [], ◌∷◌, ◌++◌, Some, refl, sym, ◌∙◌, ap, subst}
+use Rattle.std.proofs.Common.{◌≡◌, ℕ, ◌<◌, ◌≤◌, Bool, true, false, List, [], ◌∷◌, ◌++◌, Some, refl, sym, ◌∙◌, ap, subst}
 use Rattle.std.specs.Prelude.{◌==◌, nat_lt}
 use Rattle.std.specs.List.{All}
 use Rattle.std.proofs.lemmas.Bool.Decides.{Decides-eqb}
@@ -20,9 +20,11 @@ use Rattle.nd_link_log.specs.History.{Walk, over, adds, passes}
 use Rattle.nd_link_log.proofs.Chronicles.{other_rows, own_rows, start_with}
 use Rattle.nd_link_log.proofs.Moments.{each_in, newest_moment}
 
--- It is the chronicle of a history of the node, up to a moment; and if what is handed in is bytes, so are its events.
+-- It is the chronicle of a history of the node, up to a moment; and if what is handed in is bytes, so are its events, and it solicits once or more
+-- often for an address.
 pub record Lives (Bytes : Type 0) (start : Start) (c : Chronicle) (last : ℕ) : Type 0 where
   pub mac : Bytes → AreBytes 6 start.mac.0
+  pub transmits : Bytes → 0 < start.transmits
   pub events : List (ℕ × nodes.Event)
   pub bytes : Bytes → All (λ event. ComesAsBytes event.1) events
   pub runs : IsChronicle start events c
@@ -83,6 +85,7 @@ module _ (Bytes : Type 0) (start : Start) (c : Chronicle) (now : ℕ) (r : Reach
       let walked = subst (λ (n : ℕ). node.Walk start r.before n now r.over) (sym l.last_is) r.walked in
       let late = ap (nat_lt now) l.last_is ∙ r.in_time in record {
         mac = l.mac;
+        transmits = l.transmits;
         events = l.events ++ ((now, event) ∷ []);
         bytes = λ b. All-append each l.events ((now, event) ∷ []) (l.bytes b) (All-from_recursion each ((now, event) ∷ []) (bytes b, tt));
         runs = runs_further start l.events ((now, event) ∷ []) _ r.before d l.runs

@@ -1,5 +1,5 @@
 -- What a log was at some time.
-use Rattle.std.proofs.Common.{◌≡◌, ◌⊎◌, ℕ, true, false, Bool, [], ◌∷◌, Option, Some, refl, subst, ⊎_elim}
+use Rattle.std.proofs.Common.{◌≡◌, ℕ, true, false, Bool, [], ◌∷◌, Option, Some, refl, subst, ⊎_elim}
 use Rattle.std.specs.Prelude.{◌==◌, is_some, if◌then◌else◌}
 use Rattle.nd_table.specs.History.{Past}
 use Rattle.nd_chronicle.specs.Start.{Start}

@@ -1,5 +1,5 @@
 -- What an event adds to a log, seen by its parts.
-use Rattle.std.proofs.Common.{◌≡◌, ℕ, List, ◌∷◌, ◌++◌, Some, refl}
+use Rattle.std.proofs.Common.{◌≡◌, ℕ, ◌<◌, List, ◌∷◌, ◌++◌, Some, refl}
 use Rattle.std.specs.Prelude.{◌==◌, nat_lt}
 use Rattle.nd_addr.specs.Bytes.{AreBytes}
 use Rattle.nd_table.proofs.Tests.{by_either}
@@ -19,7 +19,7 @@ pub data Seen (Bytes : Type 0) (now : ℕ) (before d : Log) : Type 0 where
   -- it is refused
   Refused : (why : Refusal) → last_moment (Refuses now why ∷ before) ≡ now → d ≡ Refuses now why ∷ before → Seen Bytes now before d
   -- a node starts
-  Started : (start : Start) → start.at ≡ now → (Bytes → AreBytes 6 start.mac.0) → d ≡ adding (nodes before) (beginning start) (Begins (nodes before) start ∷ before)
+  Started : (start : Start) → start.at ≡ now → (Bytes → AreBytes 6 start.mac.0 × (0 < start.transmits)) → d ≡ adding (nodes before) (beginning start) (Begins (nodes before) start ∷ before)
       → Seen Bytes now before d
   -- an event comes to a node
   Came : (node : ℕ) (start : Start) (event : nodes.Event) (rows : Chronicle) → (Bytes → ComesAsBytes event) → start_of node before ≡ Some start
@@ -40,8 +40,8 @@ module _ (Bytes : Type 0) (limits : Limits) (now : ℕ) (before d : Log) where
 
   pub seen : (event : Event) → (Bytes → IsOfBytes event) → EventHappens limits now event before d → Seen Bytes now before d
   seen Passes bytes h = Nothing h
-  seen (Starts role mac stream) bytes h = by_either (nat_lt (nodes before) max_nodes)
-      (λ more. Started (record { at = now; role = role; mac = mac; stream = stream; limits = limits }) refl bytes more)
+  seen (Starts role mac transmits stream) bytes h = by_either (nat_lt (nodes before) max_nodes)
+      (λ more. Started (record { at = now; role = role; mac = mac; transmits = transmits; stream = stream; limits = limits }) refl bytes more)
       (λ full. Refused Full refl full) h
   seen (Comes node event) bytes h = by_either (nat_lt node (nodes before)) (came node event bytes) (λ none. Refused NoNode refl none) h
   seen (Delivers node number) bytes h = by_either (nat_lt node (nodes before))

@@ -5,9 +5,10 @@ use Rattle.std.specs.List.{AllByRecursion}
 use Rattle.std.proofs.lemmas.Bool.{true≢false}
 use Rattle.std.proofs.lemmas.List.Elements.{recursion_from_All}
 use Rattle.nd_table.specs.History.{Past}
-use Rattle.nd_table.proofs.Pasts.{past_then}
+use Rattle.nd_table.proofs.Pasts.{past_tail, past_then}
 use Rattle.nd_chronicle.specs.Start.{Limits, Start}
 use Rattle.nd_chronicle.specs.Happening.{Chronicle}
+use Rattle.nd_slaac.specs.History.{Lifetimes}
 use Rattle.nd_slaac.specs.State as states
 use Rattle.nd_chronicle.specs.OwnAddress.{story_of}
 use Rattle.nd_link_log.specs.Log.{Log, TooLate, Reaches, Refuses, chronicle_of, last_moment, nodes, start_of}
@@ -15,13 +16,14 @@ use Rattle.nd_link_log.specs.Event.{Event, EventHappens, passing}
 use Rattle.nd_link_log.specs.Bytes.{AreOfBytes, IsOfBytes, SendsBytes}
 use Rattle.nd_link_log.specs.History.{IsLog, Runs, Walk}
 use Rattle.nd_link_log.specs.Holding.{Holds}
+use Rattle.nd_link_log.specs.Attempt.{formed_entry}
 use Rattle.nd_link_log.specs.Sound.{IsSound, Tried}
 use Rattle.nd_link_log.proofs.Carried.{bring_entry}
 use Rattle.nd_link_log.proofs.Chronicles.{past_of}
 use Rattle.nd_link_log.proofs.Moments.{by_then, in_order}
 use Rattle.nd_link_log.proofs.Nodes.{no_rows, there_at}
 use Rattle.nd_link_log.proofs.Seen.{seen}
-use Rattle.nd_link_log.proofs.Tried.{tried}
+use Rattle.nd_link_log.proofs.Tried.{formed_unknown, tried}
 use Rattle.nd_link_log.proofs.Growth.{runs_past}
 use Rattle.nd_link_log.proofs.Standing.{Stands, reaching, stands_seen}
 
@@ -81,6 +83,16 @@ module _ (limits : Limits) (events : List (ℕ × Event)) (log : Log) (runs : Is
         let rows : chronicle_of i d ≡ [] = subst (Past (chronicle_of i d)) none (past_of i d log p) in
         absurd (true≢false (sym holds ∙ ap (λ (c : Chronicle). states.is_assigned (story_of c key)) rows))
 
+    -- and so is who forms one
+    forming : (i key at delay retrans : ℕ) (lifetimes : Option Lifetimes) (below : Log) → Past (formed_entry i key at delay retrans lifetimes ∷ below) log → (o : Option Start) → start_of i log ≡ o
+        → states.is_known (story_of (chronicle_of i below) key) ≡ false
+    forming i key at delay retrans lifetimes below p (Some start) is =
+        formed_unknown AreBytes log i start (last_moment log) (stands.lives i start is) key at delay retrans lifetimes below p
+    forming i key at delay retrans lifetimes below p None is =
+        let none : chronicle_of i log ≡ [] = no_rows i log stands.kept.there (ap is_some is) in
+        let rows : chronicle_of i below ≡ [] = subst (Past (chronicle_of i below)) none (past_of i below log (past_tail _ below log p)) in
+        ap (λ (c : Chronicle). states.is_known (story_of c key)) rows
+
     pub sound : IsSound log
     sound = record {
       in_order = in_order log stands.kept.rises.rising;
@@ -88,4 +100,5 @@ module _ (limits : Limits) (events : List (ℕ × Event)) (log : Log) (runs : Is
       there = there_at log stands.kept.there;
       brings = stands.kept.bring bytes;
       tried = λ i key d p holds. holder i key d p holds (start_of i log) refl;
+      forms = λ i key at delay retrans lifetimes below p. forming i key at delay retrans lifetimes below p (start_of i log) refl;
     }

@@ -87,7 +87,7 @@ module _ (limits : Limits) (now : ℕ) where
 
   one_happening : (event : Event) (log d e : Log) → EventHappens limits now event log d → EventHappens limits now event log e → d ≡ e
   one_happening Passes log d e h k = h ∙ sym k
-  one_happening (Starts role mac stream) log d e h k = by_test (nat_lt (nodes log) max_nodes) (λ a b. a ∙ sym b) (λ a b. a ∙ sym b) h k
+  one_happening (Starts role mac transmits stream) log d e h k = by_test (nat_lt (nodes log) max_nodes) (λ a b. a ∙ sym b) (λ a b. a ∙ sym b) h k
   one_happening (Comes node event) log d e h k = by_test (nat_lt node (nodes log)) (one_rows node event log d e) (λ a b. a ∙ sym b) h k
   one_happening (Delivers node number) log d e h k = by_test (nat_lt node (nodes log))
       (λ t u. by_test (nat_lt number (sent log)) (one_delivery node number log d e) (λ a b. a ∙ sym b) t u) (λ a b. a ∙ sym b) h k

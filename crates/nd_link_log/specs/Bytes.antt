@@ -1,5 +1,5 @@
 -- What is handed to a link is bytes, and so is what its nodes send.
-use Rattle.std.specs.Prelude.{ℕ, List, ◌∷◌}
+use Rattle.std.specs.Prelude.{ℕ, ◌<◌, List, ◌∷◌}
 use Rattle.std.specs.List.{All}
 use Rattle.nd_addr.specs.Bytes.{IsBytes, AreBytes}
 use Rattle.nd_table.specs.History.{Past}
@@ -8,10 +8,10 @@ use Rattle.nd_chronicle.specs.Event.{ComesAsBytes}
 use Rattle.nd_link_log.specs.Log.{Log, Adds}
 use Rattle.nd_link_log.specs.Event.{Event, Passes, Starts, Comes, Delivers}
 
--- the link-layer address of a node that starts is six bytes, and a frame that comes is bytes
+-- the link-layer address of a node that starts is six bytes, it solicits once or more often for an address, and a frame that comes is bytes
 abbrev pub IsOfBytes : Event → Type 0
 IsOfBytes Passes = Unit {0}
-IsOfBytes (Starts role mac stream) = AreBytes 6 mac.0
+IsOfBytes (Starts role mac transmits stream) = AreBytes 6 mac.0 × (0 < transmits)
 IsOfBytes (Comes node event) = ComesAsBytes event
 IsOfBytes (Delivers node number) = Unit {0}
 

@@ -17,7 +17,7 @@ max_nodes = 16
 -- time passes; another node starts; an event comes to a node, by its number; a frame is carried to a node, by the numbers of both
 pub data Event : Type 0 where
   Passes : Event
-  Starts : (role : Role) (mac : Mac) (stream : Stream) → Event
+  Starts : (role : Role) (mac : Mac) (transmits : ℕ) (stream : Stream) → Event
   Comes : (node : ℕ) (event : nodes.Event) → Event
   Delivers : (node frame : ℕ) → Event
 
@@ -49,9 +49,9 @@ module _ (limits : Limits) (now : ℕ) where
 
   abbrev pub EventHappens : Event → Log → Log → Type 0
   EventHappens Passes log d = d ≡ log
-  EventHappens (Starts role mac stream) log d =
+  EventHappens (Starts role mac transmits stream) log d =
       MatchBool (nat_lt (nodes log) max_nodes)
-      (let start : Start = record { at = now; role = role; mac = mac; stream = stream; limits = limits } in d ≡ adding (nodes log) (beginning start) (Begins (nodes log) start ∷ log))
+      (let start : Start = record { at = now; role = role; mac = mac; transmits = transmits; stream = stream; limits = limits } in d ≡ adding (nodes log) (beginning start) (Begins (nodes log) start ∷ log))
       (d ≡ Refuses now Full ∷ log)
   EventHappens (Comes node event) log d = IfThere node (AddsRows node event) log d
   EventHappens (Delivers node number) log d =

@@ -4,4 +4,6 @@ pub mod Bytes
 pub mod History
 pub mod Told
 pub mod Holding
+pub mod Attempt
+pub mod Losing
 pub mod Sound

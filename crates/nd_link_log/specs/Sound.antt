@@ -1,20 +1,14 @@
 -- What the nodes of a link, and the link, owe the law that no address is held twice. Nothing here knows a date, a table or a walk.
-use Rattle.std.specs.Prelude.{◌≡◌, ◌⊎◌, ℕ, ◌+◌, ◌<◌, ◌≤◌, true, is_some, List, ◌∷◌, Option}
-use Rattle.nd_addr.specs.declared.addr.Addr.{Addr}
-use Rattle.nd_addr.specs.Number.{number_of}
+use Rattle.std.specs.Prelude.{◌≡◌, ◌⊎◌, ℕ, ◌+◌, ◌<◌, ◌≤◌, true, false, is_some, List, ◌∷◌, Option}
 use Rattle.nd_table.specs.History.{Past}
-use Rattle.nd_frames.specs.Meaning.{IsDefence, IsDetection}
-use Rattle.nd_slaac.specs.History.{Assigned, Conflict, Formed, Lifetimes}
-use Rattle.nd_chronicle.specs.Happening.{Address, Happening, Sent}
-use Rattle.nd_link_log.specs.Log.{Entry, Log, Adds, Carries, IsFrame, last_moment, start_of}
+use Rattle.nd_slaac.specs.History.{Conflict, Lifetimes}
+use Rattle.nd_slaac.specs.State.{is_known}
+use Rattle.nd_chronicle.specs.Happening.{Address, Chronicle, Happening, Sent}
+use Rattle.nd_chronicle.specs.OwnAddress.{story_of}
+use Rattle.nd_link_log.specs.Log.{Entry, Log, Adds, Carries, IsFrame, chronicle_of, last_moment, start_of}
 use Rattle.nd_link_log.specs.Holding.{Holds, IsTrying}
-
--- the frame tries the address of this number, or tells all nodes that it is held (RFC 4862, section 5.4.2; RFC 4861, section 7.2.4)
-abbrev pub Tries : ℕ → List ℕ → Type 0
-Tries key frame = (address : Addr) × (number_of address.0 ≡ key) × IsDetection frame address
-
-abbrev pub Claims : ℕ → List ℕ → Type 0
-Claims key frame = (address : Addr) × (number_of address.0 ≡ key) × IsDefence frame address
+use Rattle.nd_link_log.specs.Attempt.{Attempt, Claims, Solicitation, Tries, ending_of, formed_entry}
+use Rattle.nd_link_log.specs.Losing.{answering}
 
 -- an entry of a node, or of a delivery, is of this moment
 abbrev pub IsAt : Entry → ℕ → Type 0
@@ -28,6 +22,11 @@ pub record Gains (log d : Log) (node at : ℕ) (what : Happening) : Type 0 where
   pub gained : Past (Adds node at what ∷ below) log
   pub above : Past d below
 
+-- a row of the event in which a frame was carried to a node says that it sent this one
+pub record Answers (log before : Log) (node at number : ℕ) (answer : List ℕ) : Type 0 where
+  pub rows : Chronicle
+  pub sends : Past (Adds node at (Sent answer) ∷ answering node at number rows before) log
+
 -- what comes of a frame that is carried to a node: who holds the address that it tries tells all nodes, and who tries the address itself finds
 -- it a duplicate (RFC 4861, section 7.2.4; RFC 4862, sections 5.4.3 and 5.4.4)
 pub record Brings (log : Log) (node at number : ℕ) (before : Log) : Type 0 where
@@ -35,32 +34,17 @@ pub record Brings (log : Log) (node at number : ℕ) (before : Log) : Type 0 whe
   pub sent_at : ℕ
   pub frame : List ℕ
   pub is_frame : IsFrame before number sender sent_at frame
-  pub answers : (key : ℕ) → Tries key frame → Holds node key before → (answer : List ℕ) × Claims key answer × Gains log before node at (Sent answer)
+  pub answers : (key : ℕ) → Tries key frame → Holds node key before → (answer : List ℕ) × Claims key answer × Answers log before node at number answer
   pub clashes : (key : ℕ) → Tries key frame ⊎ Claims key frame → IsTrying node key before → Gains log before node at (Address key Conflict)
 
-abbrev pub formed_entry : ℕ → ℕ → ℕ → ℕ → ℕ → Option Lifetimes → Entry
-formed_entry node key at delay retrans lifetimes = Adds node at (Address key (Formed delay retrans lifetimes))
-
--- how a node came to hold an address: it was formed, was tried from then on until it was assigned, and is held since; a solicitation for it
--- was sent, RetransTimer or longer before it was assigned (RFC 4862, section 5.4)
+-- how a node came to hold an address: an attempt for it ended, and it is held since. A solicitation was sent, and each that was sent tries the
+-- address, RetransTimer or longer before it was assigned (RFC 4862, section 5.4).
 pub record Tried (node key : ℕ) (log : Log) : Type 0 where
-  pub formed : ℕ
-  pub delay : ℕ
-  pub retrans : ℕ
-  pub lifetimes : Option Lifetimes
-  pub below : Log
-  pub sent : ℕ
-  pub frame : List ℕ
-  pub earlier : Log
-  pub assigned : ℕ
-  pub over : Log
-  pub formed_at : Past (formed_entry node key formed delay retrans lifetimes ∷ below) earlier
-  pub solicited : Past (Adds node sent (Sent frame) ∷ earlier) over
-  pub tries : Tries key frame
-  pub assigned_at : Past (Adds node assigned (Address key Assigned) ∷ over) log
-  pub wait : sent + retrans ≤ assigned
-  pub trying : (d : Log) → Past d over → Past (formed_entry node key formed delay retrans lifetimes ∷ below) d → IsTrying node key d
-  pub since : (d : Log) → Past d log → Past (Adds node assigned (Address key Assigned) ∷ over) d → Holds node key d
+  pub attempt : Attempt node key
+  pub ended : Past (ending_of attempt) log
+  pub solicited : (at : ℕ) × (frame : List ℕ) × (earlier : Log) × Solicitation attempt at frame earlier
+  pub each : (at : ℕ) (frame : List ℕ) (earlier : Log) → Solicitation attempt at frame earlier → Tries key frame × (at + attempt.retrans ≤ attempt.assigned)
+  pub since : (d : Log) → Past d log → Past (ending_of attempt) d → Holds node key d
 
 pub record IsSound (log : Log) : Type 0 where
   -- of two entries that of the earlier moment is below, and none is after the last moment
@@ -70,3 +54,6 @@ pub record IsSound (log : Log) : Type 0 where
   pub there : (node at : ℕ) (what : Happening) (a : Log) → Past (Adds node at what ∷ a) log → is_some (start_of node a) ≡ true
   pub brings : (node at number : ℕ) (before : Log) → Past (Carries node at number ∷ before) log → Brings log node at number before
   pub tried : (node key : ℕ) (d : Log) → Past d log → Holds node key d → Tried node key d
+  -- an address is formed where it isn't known
+  pub forms : (node key at delay retrans : ℕ) (lifetimes : Option Lifetimes) (below : Log) → Past (formed_entry node key at delay retrans lifetimes ∷ below) log
+      → is_known (story_of (chronicle_of node below) key) ≡ false

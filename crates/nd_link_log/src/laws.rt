@@ -8,11 +8,12 @@ ghost use Rattle.nd_chronicle.specs.Happening.{Sent};
 ghost use Rattle.nd_chronicle.specs.Event as chronicle;
 ghost use Rattle.nd_chronicle.specs.Event.{ComeAsBytes};
 ghost use Rattle.nd_chronicle.specs.History.{IsChronicle};
-ghost use Rattle.nd_link_log.specs.Log.{Adds, Entry, Log, chronicle_of, nodes, sent, start_of};
+ghost use Rattle.nd_link_log.specs.Log.{Adds, Carries, Entry, Log, chronicle_of, nodes, sent, start_of};
 ghost use Rattle.nd_link_log.specs.Event.{Event};
 ghost use Rattle.nd_link_log.specs.Bytes.{AreOfBytes, SendsBytes};
 ghost use Rattle.nd_link_log.specs.History.{IsLog, Runs};
 ghost use Rattle.nd_link_log.specs.Holding.{AllArrive, AllWait, Arrives, HasOneHolder, Holds, IsTimely};
+ghost use Rattle.nd_link_log.specs.Losing.{LosesLittle};
 ghost use Rattle.nd_link_log.specs.Sound.{IsSound};
 ghost use Rattle.nd_link_log.specs.Told.{text};
 
@@ -56,6 +57,16 @@ pub fn one_holder()
         → IsTimely within log → HasOneHolder log }
 {}
 
+/// The same on a link that loses frames, where of each attempt for an address one solicitation arrives in time at each other node that was there when
+/// the address was formed, and each answer to that one arrives in time at the node that asks, whatever else is lost. A timely link is one that loses
+/// nothing in time.
+pub fn one_holder_where_frames_are_lost()
+    ensures where_sound { (log : Log) (within : ℕ) → IsSound log → LosesLittle within log → HasOneHolder log }
+    ensures on_links { (limits : Limits) (events : List (ℕ × Event)) (log : Log) (within : ℕ) → AreOfBytes events → SendsBytes log → IsLog limits events log
+        → LosesLittle within log → HasOneHolder log }
+    ensures timely { (log : Log) (within : ℕ) → IsSound log → IsTimely within log → LosesLittle within log }
+{}
+
 /// The premises can be met: on a log of two nodes that is sound and timely a frame was carried, and one of them holds an address.
 pub fn premises_are_met()
     ensures { (start : Start) → start.at ≡ 0 → AreBytes 6 start.mac.0
@@ -66,4 +77,20 @@ pub fn premises_are_met()
 pub fn bound_is_sharp()
     ensures { (start : Start) → start.at ≡ 0 → AreBytes 6 start.mac.0
         → (log : Log) × (key : ℕ) × IsSound log × AllArrive 2 log × AllWait (2 * 2) log × Holds 0 key log × Holds 1 key log }
+{}
+
+/// A link may lose frames and still lose little: on a log of two nodes that is sound, of three solicitations the second alone is carried, and the
+/// address is held.
+pub fn losses_are_borne()
+    ensures { (start : Start) → start.at ≡ 0 → AreBytes 6 start.mac.0
+        → (log : Log) × (key : ℕ) × (nodes log ≡ 2) × (sent log ≡ 3) × IsSound log × LosesLittle 1 log
+        × ((node at number : ℕ) (before : Log) → Past (Carries node at number ∷ before) log → number ≡ 1) × Arrives log 1 1 4 1 × Holds 0 key log }
+{}
+
+/// Some solicitation has to arrive: on a sound log where RetransTimer is more than twice the time in which the frame of the first node arrives, and
+/// of the three frames of the second node, its solicitations, none does, both hold an address.
+pub fn some_solicitation_has_to_arrive()
+    ensures { (start : Start) → start.at ≡ 0 → AreBytes 6 start.mac.0
+        → (log : Log) × (key : ℕ) × (nodes log ≡ 2) × (sent log ≡ 4) × IsSound log × AllWait 3 log
+        × ((node at number : ℕ) (before : Log) → Past (Carries node at number ∷ before) log → number ≡ 0) × Arrives log 1 0 0 1 × Holds 0 key log × Holds 1 key log }
 {}

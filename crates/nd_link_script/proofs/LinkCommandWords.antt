@@ -27,9 +27,9 @@ pub of_link_command : (a b : LinkCommand) (words : List ℕ) (event : Event) →
 of_link_command a b words event e are = subst (λ (command : LinkCommand). AreLinkArguments command words event) e are
 
 one_link_event : (command : LinkCommand) (words : List ℕ) (a b : Event) → AreLinkArguments command words a → AreLinkArguments command words b → a ≡ b
-one_link_event Node words a b (role, mac, source, is, start) (role', mac', source', is', start') =
-    let same = one_start words role role' mac mac' source source' start start' in
-    is ∙ rw (same.0, same.1, same.2) (sym is')
+one_link_event Node words a b (role, mac, transmits, source, is, start) (role', mac', transmits', source', is', start') =
+    let same = one_start words role role' mac mac' transmits transmits' source source' start start' in
+    is ∙ rw (same.0, same.1, same.2, same.3) (sym is')
 one_link_event On words a b (node, own, is, command) (node', own', is', command') =
     let same = one_node_command words node node' own own' command command' in
     is ∙ rw (same.0, same.1) (sym is')

@@ -1,5 +1,5 @@
 -- A node that starts is told by its words.
-use Rattle.std.proofs.Common.{◌≡◌, ◌∙◌, ℕ, List, get_or, sym, refl, ap, arith}
+use Rattle.std.proofs.Common.{◌≡◌, ◌≤◌, ◌∙◌, ℕ, List, [], ◌∷◌, length, get_or, sym, refl, ap, subst, arith}
 use Rattle.std.specs.Fmt.{decimal}
 use Rattle.std.proofs.lemmas.Fmt.{decimal_injective}
 use Rattle.nd_addr.specs.declared.mac.Mac.{Mac}
@@ -12,7 +12,9 @@ use Rattle.nd_script.specs.declared.source.Source.TheVariants.{Seeded, Constant}
 use Rattle.nd_script.specs.Source.{IsSource, seeded}
 use Rattle.nd_script.proofs.Partings.{parts_at}
 use Rattle.nd_link_script.specs.Role.{role_word}
-use Rattle.nd_link_script.specs.Start.{IsStart}
+use Rattle.nd_script.specs.Words.{words_of}
+use Rattle.nd_script.specs.Transmits.{IsTransmitsWord}
+use Rattle.nd_link_script.specs.Start.{IsStart, SpellEnd}
 
 -- by the bytes of an address
 pub by_bytes : (a b : Mac) → a.0 ≡ b.0 → a ≡ b
@@ -41,9 +43,34 @@ one_source word (Constant v) (Constant w) (small, is) (small', is') =
     let same : decimal v ≡ decimal w = cc in
     ap Constant (decimal_injective v w (omega (arith, small)) (omega (arith, small')) same)
 
-pub one_start : (words : List ℕ) (role role' : Role) (mac mac' : Mac) (source source' : Source) → IsStart words role mac source → IsStart words role' mac' source'
-    → (role ≡ role') × (mac ≡ mac') × (source ≡ source')
-one_start words role role' mac mac' source source' p q =
+pub one_transmits : (word : List ℕ) (a b : ℕ) → IsTransmitsWord word a → IsTransmitsWord word b → a ≡ b
+one_transmits word a b p q = let few = p.0.1 in let few' = q.0.1 in decimal_injective a b (omega (arith, few)) (omega (arith, few')) (sym p.1 ∙ q.1)
+
+pub one_end : (words : List (List ℕ)) (transmits transmits' : ℕ) (source source' : Source) → SpellEnd words transmits source → SpellEnd words transmits' source'
+    → (transmits ≡ transmits') × (source ≡ source')
+one_end [] transmits transmits' source source' p q = absurd p
+one_end (word ∷ []) transmits transmits' source source' p q = (p.1 ∙ sym q.1, one_source word source source' p.0 q.0)
+one_end (word ∷ number ∷ []) transmits transmits' source source' p q = (one_transmits number transmits transmits' p.1 q.1, one_source word source source' p.0 q.0)
+one_end (word ∷ number ∷ more ∷ rest) transmits transmits' source source' p q = absurd p
+
+-- there are one or two
+pub few_words : (words : List (List ℕ)) (transmits : ℕ) (source : Source) → SpellEnd words transmits source → length words ≤ 2
+few_words [] transmits source p = absurd p
+few_words (word ∷ []) transmits source p = omega arith
+few_words (word ∷ number ∷ []) transmits source p = omega arith
+few_words (word ∷ number ∷ more ∷ rest) transmits source p = absurd p
+
+-- what is said by the words of a text, once they are known
+pub end_by : (text : List ℕ) (words : List (List ℕ)) (transmits : ℕ) (source : Source) → words_of text ≡ words → SpellEnd words transmits source → SpellEnd (words_of text) transmits source
+end_by text words transmits source e p = subst (λ ws. SpellEnd ws transmits source) (sym e) p
+
+pub end_at : (text : List ℕ) (words : List (List ℕ)) (transmits : ℕ) (source : Source) → words_of text ≡ words → SpellEnd (words_of text) transmits source → SpellEnd words transmits source
+end_at text words transmits source e p = subst (λ ws. SpellEnd ws transmits source) e p
+
+pub one_start : (words : List ℕ) (role role' : Role) (mac mac' : Mac) (transmits transmits' : ℕ) (source source' : Source) → IsStart words role mac transmits source
+    → IsStart words role' mac' transmits' source' → (role ≡ role') × (mac ≡ mac') × (transmits ≡ transmits') × (source ≡ source')
+one_start words role role' mac mac' transmits transmits' source source' p q =
     let first = parts_at words p.word p.rest _ _ p.parted q in
     let second = parts_at p.rest p.behind.word p.behind.rest _ _ p.behind.parted first.1 in
-    (one_role role role' (sym p.first ∙ first.0), one_mac p.behind.word mac mac' p.behind.first second.0, one_source p.behind.rest source source' p.behind.behind second.1)
+    let end = one_end (words_of p.behind.rest) transmits transmits' source source' p.behind.behind second.1 in
+    (one_role role role' (sym p.first ∙ first.0), one_mac p.behind.word mac mac' p.behind.first second.0, end.0, end.1)

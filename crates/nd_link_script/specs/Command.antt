@@ -21,7 +21,8 @@ link_word Deliver = codes "deliver"
 
 -- the words behind it spell the event
 abbrev pub AreLinkArguments : LinkCommand → List ℕ → Event → Type 0
-AreLinkArguments Node words event = (role : Role) × (mac : Mac) × (source : Source) × (event ≡ Starts role mac (stream_of_source source)) × IsStart words role mac source
+AreLinkArguments Node words event =
+    (role : Role) × (mac : Mac) × (transmits : ℕ) × (source : Source) × (event ≡ Starts role mac transmits (stream_of_source source)) × IsStart words role mac transmits source
 AreLinkArguments On words event = (node : ℕ) × (own : nodes.Event) × (event ≡ Comes node own) × IsNodeCommand words node own
 AreLinkArguments Deliver words event = (node : ℕ) × (frame : ℕ) × (event ≡ Delivers node frame) × IsDelivery words node frame
 

@@ -54,7 +54,12 @@ fn read_link_arguments<A: Allocator + Clone>(
 {
     match command {
         LinkCommand::Node => match read_start(words) {
-            Some((role, mac, source)) => Ok(Some(LinkEvent::Starts(role, mac, source))),
+            Some(start) => Ok(Some(LinkEvent::Starts(
+                start.role,
+                start.mac,
+                start.transmits,
+                start.source,
+            ))),
             None => Ok(None),
         },
         LinkCommand::On => match read_node_command(alloc, words)? {

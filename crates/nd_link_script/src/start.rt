@@ -3,12 +3,24 @@
 ghost use Rattle.std.specs.Prelude.{◌≡◌, List, ℕ, Some, IfSome};
 ghost use Rattle.std.specs.Option.{IsSomeAnd};
 ghost use Rattle.nd_addr.specs.Spelling.{SpellsMac};
-ghost use Rattle.nd_script.specs.Words.{Parts};
-ghost use Rattle.nd_link_script.specs.Start.{IsStart};
+ghost use Rattle.nd_script.specs.Words.{Parts, words_of};
+ghost use Rattle.nd_link_script.specs.Start.{IsStart, SpellEnd};
 
 use crate::role::split_role;
 use nd_addr::{Mac, Role};
-use nd_script::{Source, split_word};
+use nd_script::{Source, read_transmits, split_word, two_words};
+use nd_slaac::Transmits;
+
+/// How a node starts.
+#[derive(Drop)]
+pub(crate) struct NodeStart {
+    pub(crate) role: Role,
+    pub(crate) mac: Mac,
+    /// How many solicitations it sends for an address.
+    pub(crate) transmits: Transmits,
+    /// Where its random words come from.
+    pub(crate) source: Source,
+}
 
 /// The Ethernet address that a word spells.
 fn read_mac(word: &[u8]) -> Option<Mac>
@@ -32,14 +44,39 @@ fn split_mac(text: &[u8]) -> Option<(Mac, &[u8])>
     Some((mac, rest))
 }
 
-/// The node that some words start: its role, its Ethernet address, and the source of its random words.
-pub(crate) fn read_start(words: &[u8]) -> Option<(Role, Mac, Source)>
-    ensures found { IfSome result (λ start. IsStart words.now start.0 start.1 start.2) }
-    ensures only { (role : Role) (mac : Mac) (source : Source) → IsStart words.now role mac source
-        → IsSomeAnd result (λ start. (start.0 ≡ role) × (start.1 ≡ mac) × (start.2 ≡ source)) }
+/// How many solicitations the last words say, one where they don't, and the source of random words that they name.
+fn read_end(text: &[u8]) -> Option<(Transmits, Source)>
+    ensures found { IfSome result (λ end. SpellEnd (words_of text.now) end.0 end.1) }
+    ensures only { (transmits : ℕ) (source : Source) → SpellEnd (words_of text.now) transmits source → IsSomeAnd result (λ end. (end.0 ≡ transmits) × (end.1 ≡ source)) }
+{
+    match split_word(text) {
+        None => {
+            let source = Source::parse(text)?;
+            Some((Transmits::ONE, source))
+        }
+        Some(_) => {
+            let (word, number) = two_words(text)?;
+            let source = Source::parse(word)?;
+            let transmits = read_transmits(number)?;
+            Some((transmits, source))
+        }
+    }
+}
+
+/// The node that some words start: its role, its Ethernet address, how many solicitations it sends for an address, and the source of its random
+/// words.
+pub(crate) fn read_start(words: &[u8]) -> Option<NodeStart>
+    ensures found { IfSome result (λ start. IsStart words.now start.role start.mac start.transmits start.source) }
+    ensures only { (role : Role) (mac : Mac) (transmits : ℕ) (source : Source) → IsStart words.now role mac transmits source
+        → IsSomeAnd result (λ start. (start.role ≡ role) × (start.mac ≡ mac) × (start.transmits ≡ transmits) × (start.source ≡ source)) }
 {
     let (role, rest) = split_role(words)?;
     let (mac, rest) = split_mac(rest)?;
-    let source = Source::parse(rest)?;
-    Some((role, mac, source))
+    let (transmits, source) = read_end(rest)?;
+    Some(NodeStart {
+        role,
+        mac,
+        transmits,
+        source,
+    })
 }

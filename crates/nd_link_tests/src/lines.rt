@@ -11,7 +11,7 @@ use std::test::*;
 /// What a line says.
 #[derive(Clone, Copy, Debug, PartialEq, Eq)]
 enum Said {
-    /// With the first of the node's random words.
+    /// With the first of its random words.
     Starts(Role, Mac, u32),
     Passes(u64),
     Sends(u64, Addr, Addr, u8, usize),
@@ -34,7 +34,7 @@ const ROUTER: Addr = Addr([0xfe, 0x80, 0, 0, 0, 0, 0, 0, 0, 0, 0, 0xff, 0xfe, 0,
 fn event_said(event: LinkEvent<Source, Global>) -> Option<Said> {
     match event {
         LinkEvent::Passes => None,
-        LinkEvent::Starts(role, mac, source) => {
+        LinkEvent::Starts(role, mac, _, source) => {
             let mut source = source;
             Some(Said::Starts(role, mac, source.next_u32()))
         }
@@ -82,6 +82,25 @@ fn nodes_start(rt: HostRuntime) {
     ) {
         Some((1, Said::Starts(Role::Host, mac, _))) => assert!(rt; mac == MAC),
         _ => assert!(rt; false),
+    }
+}
+
+#[test]
+fn nodes_start_with_several_solicitations(rt: HostRuntime) {
+    says(
+        &rt,
+        "0 node host 34:56:78:9a:bc:de word:0 8",
+        Some((0, Said::Starts(Role::Host, MAC, 0))),
+    );
+    for line in [
+        "0 node host 34:56:78:9a:bc:de word:0 0",
+        "0 node host 34:56:78:9a:bc:de word:0 9",
+        "0 node host 34:56:78:9a:bc:de word:0 03",
+        "0 node host 34:56:78:9a:bc:de word:0 257",
+        "0 node host 34:56:78:9a:bc:de word:0 ",
+        "0 node host 34:56:78:9a:bc:de word:0 1 1",
+    ] {
+        says(&rt, line, None);
     }
 }
 

@@ -5,6 +5,7 @@ use nd_addr::{Mac, Role};
 use nd_link::*;
 use nd_node::Event;
 use nd_out::write_node_out;
+use nd_slaac::Transmits;
 use rand_core::SeedableRng;
 use rand_pcg::Pcg32;
 use std::alloc::Global;
@@ -26,7 +27,7 @@ const F9: &str =
 
 /// A host that starts: the second word of the generator of seed 0 is 0xfc843fd7, which delays its first solicitation by 234 ms.
 fn host() -> LinkEvent<Pcg32, Global> {
-    LinkEvent::Starts(Role::Host, MAC, Pcg32::seed_from_u64(0))
+    LinkEvent::Starts(Role::Host, MAC, Transmits::ONE, Pcg32::seed_from_u64(0))
 }
 
 /// The lines of what is told, each behind the number of its node.

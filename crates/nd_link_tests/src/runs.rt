@@ -25,6 +25,14 @@ const ONE_HOLDS: &str =
 const HELD: &str =
     "n0 0 tx 3333ff9abcde3456789abcde86dd6000000000183aff00000000000000000000000000000000ff0200000000000000000001ff9abcde870053df00000000fe80000000000000365678fffe9abcde\nn0 1000 assigned fe80::3656:78ff:fe9a:bcde\nn0 1000 tx 3333000000023456789abcde86dd6000000000103afffe80000000000000365678fffe9abcdeff0200000000000000000000000000028500a78f0000000001013456789abcde\nn1 2000 tx 3333ff9abcde3456789abcde86dd6000000000183aff00000000000000000000000000000000ff0200000000000000000001ff9abcde870053df00000000fe80000000000000365678fffe9abcde\nn0 2400 heard ns\nn0 2400 tx 3333000000013456789abcde86dd6000000000203afffe80000000000000365678fffe9abcdeff02000000000000000000000000000188001a3020000000fe80000000000000365678fffe9abcde02013456789abcde\nn1 2800 heard na\nn1 2800 duplicate fe80::3656:78ff:fe9a:bcde\nlink 2800 refused no-frame\n";
 
+/// One host tries an address three times that another holds. The first solicitation is lost; the second one comes, and its answer (RFC 4862,
+/// section 5.4).
+const SECOND_OF_THREE_COMES: &str =
+    "0 node host 34:56:78:9a:bc:de word:0\n2000 node host 34:56:78:9a:bc:de word:0 3\n3400 deliver 0 3\n3800 deliver 1 4\n5000 on 1 at\n";
+
+const HELD_AGAINST_THREE: &str =
+    "n0 0 tx 3333ff9abcde3456789abcde86dd6000000000183aff00000000000000000000000000000000ff0200000000000000000001ff9abcde870053df00000000fe80000000000000365678fffe9abcde\nn0 1000 assigned fe80::3656:78ff:fe9a:bcde\nn0 1000 tx 3333000000023456789abcde86dd6000000000103afffe80000000000000365678fffe9abcdeff0200000000000000000000000000028500a78f0000000001013456789abcde\nn1 2000 tx 3333ff9abcde3456789abcde86dd6000000000183aff00000000000000000000000000000000ff0200000000000000000001ff9abcde870053df00000000fe80000000000000365678fffe9abcde\nn1 3000 tx 3333ff9abcde3456789abcde86dd6000000000183aff00000000000000000000000000000000ff0200000000000000000001ff9abcde870053df00000000fe80000000000000365678fffe9abcde\nn0 3400 heard ns\nn0 3400 tx 3333000000013456789abcde86dd6000000000203afffe80000000000000365678fffe9abcdeff02000000000000000000000000000188001a3020000000fe80000000000000365678fffe9abcde02013456789abcde\nn1 3800 heard na\nn1 3800 duplicate fe80::3656:78ff:fe9a:bcde\nn0 5000 tx 3333000000023456789abcde86dd6000000000103afffe80000000000000365678fffe9abcdeff0200000000000000000000000000028500a78f0000000001013456789abcde\n";
+
 /// What a link over a wire writes for some lines, which are read in pieces, and how the run ends.
 fn run<W: Wire + Drop>(
     alloc: Global,
@@ -83,6 +91,18 @@ fn one_holds_the_address(rt: HostRuntime) {
     writes(&rt, MemoryWire, ONE_HOLDS, 4096, Ok(()), &[HELD]);
     let wire = UdpWire::new(&rt, rt.alloc(), 2).expect(&rt, "sockets");
     writes(&rt, wire, ONE_HOLDS, 4096, Ok(()), &[HELD]);
+}
+
+#[test]
+fn one_solicitation_of_three_is_enough(rt: HostRuntime) {
+    writes(
+        &rt,
+        MemoryWire,
+        SECOND_OF_THREE_COMES,
+        4096,
+        Ok(()),
+        &[HELD_AGAINST_THREE],
+    );
 }
 
 /// Where the wire fails at the frame of a number, what is written begins so.

@@ -1,7 +1,7 @@
 use crate::refusing::each_is_refused_once;
 use linked_list_allocator::LocalHeap;
 use nd_addr::{Addr, Mac};
-use nd_slaac::{AddressRoom, Addresses, State};
+use nd_slaac::{AddressRoom, Addresses, State, Transmits};
 use std::process::Abort;
 use std::test::*;
 
@@ -19,7 +19,7 @@ fn run(rt: &impl Abort, heap: &LocalHeap) -> Option<Call> {
     let Ok(room) = AddressRoom::new(heap) else {
         return Some(Call::Room);
     };
-    let mut addresses = Addresses::start(room, 0, MAC, 0, 1000);
+    let mut addresses = Addresses::start(room, 0, MAC, Transmits::ONE, 0, 1000);
     let addr = Addr([
         0xfe, 0x80, 0, 0, 0, 0, 0, 0, 0x36, 0x56, 0x78, 0xff, 0xfe, 0x9a, 0xbc, 0xde,
     ]);

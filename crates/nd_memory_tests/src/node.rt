@@ -6,6 +6,7 @@ use nd_advertiser::{Config, ConfigFlags};
 use nd_node::{Clearable, Event, Node, OutgoingPacket, Table};
 use nd_out::{Out, write_outs};
 use nd_routes::{KeptRoute, Route};
+use nd_slaac::Transmits;
 use rand_core::SeedableRng;
 use rand_pcg::Pcg32;
 use std::alloc::{AllocError, Global};
@@ -82,7 +83,9 @@ fn come<'h>(
 /// A host, at 3 s, up to which all that is due is done.
 fn host<'h>(rt: &impl Abort, heap: &'h LocalHeap) -> Node<Pcg32, &'h LocalHeap> {
     let generator = Pcg32::seed_from_u64(0);
-    let mut node = Node::new(heap, Role::Host, MAC, 0, generator).expect(rt, "memory");
+    let mut node = Node::new(heap, Role::Host, MAC, 0, Transmits::ONE, generator).expect(
+        rt, "memory",
+    );
     let mut outs = Vec::new(heap);
     come(&mut node, 3000, &Event::Passes, &mut outs).expect(rt, "memory");
     node
@@ -289,7 +292,9 @@ fn routes() -> Option<[KeptRoute; 2]> {
 /// A router that advertises, at 3 s, up to which all that is due is done: its first advertisement was sent.
 fn router<'h>(rt: &impl Abort, heap: &'h LocalHeap) -> Node<Pcg32, &'h LocalHeap> {
     let generator = Pcg32::seed_from_u64(0);
-    let mut node = Node::new(heap, Role::Router, MAC, 0, generator).expect(rt, "memory");
+    let mut node = Node::new(heap, Role::Router, MAC, 0, Transmits::ONE, generator).expect(
+        rt, "memory",
+    );
     let flags = ConfigFlags {
         managed: false,
         other: false,

@@ -15,7 +15,7 @@ found_is key ns i n lt is found = found ∙ (slice_get-get_or ns i n lt ∙ ap S
 
 -- what is said of the entry at the place that a look-up has found
 module _ (key : ℕ) (change : Node → Node) (old seen : List Node) (i : ℕ) (n m : Node) (same : seen ≡ old) (lt : i < length seen) (found : node_in key seen ≡ slice_get seen i) (is : n ≡ get_or old i n) (new_is : m ≡ change n) where
-  within : i < length old
+  pub within : i < length old
   within = subst (λ (l : List Node). i < length l) same lt
 
   pub there : node_in key old ≡ Some n

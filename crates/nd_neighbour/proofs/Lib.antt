@@ -17,3 +17,4 @@ pub mod Pushing
 pub mod Releasing
 pub mod Unique
 pub mod Second
+pub mod Planning

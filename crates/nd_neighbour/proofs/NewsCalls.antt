@@ -33,7 +33,7 @@ given_key at mac mark n (Known known c since p) = keys_of (eqb mac known) _ _ n 
 conforming_key : (flags : Flags) (at reachable mac : ℕ) (changed : Bool) (n : Node) → (conforming flags at reachable mac changed n).key ≡ n.key
 conforming_key flags at reachable mac changed n = keys_of flags.solicited _ _ n refl (keys_of changed _ _ n refl refl)
 
-advertised_key : (flags : Flags) (mac : Option ℕ) (at reachable : ℕ) (n : Node) (k : Stage) → (advertised_to k flags mac at reachable n).key ≡ n.key
+pub advertised_key : (flags : Flags) (mac : Option ℕ) (at reachable : ℕ) (n : Node) (k : Stage) → (advertised_to k flags mac at reachable n).key ≡ n.key
 advertised_key flags None at reachable n (Resolving r t ws) = refl
 advertised_key flags (Some mac) at reachable n (Resolving r t ws) = conforming_key flags at reachable mac true n
 advertised_key flags None at reachable n (Known known c since p) = conforming_key flags at reachable known false n
@@ -41,7 +41,7 @@ advertised_key flags (Some mac) at reachable n (Known known c since p) =
     keys_of (eqb mac known) _ _ n (conforming_key flags at reachable known false n)
     (keys_of flags.overrides _ _ n (conforming_key flags at reachable mac true n) (keys_of (c && ltb at since) _ _ n refl refl))
 
-confirmed_key : (at reachable : ℕ) (n : Node) (k : Stage) → (confirmed_to k at reachable n).key ≡ n.key
+pub confirmed_key : (at reachable : ℕ) (n : Node) (k : Stage) → (confirmed_to k at reachable n).key ≡ n.key
 confirmed_key at reachable n (Resolving r t ws) = refl
 confirmed_key at reachable n (Known mac c since p) = refl
 

@@ -1,12 +1,24 @@
 -- What a turn does to the table, and what that says of the history.
-use Rattle.std.proofs.Common.{◌≡◌, ℕ, ◌<◌, false, cond, List, length, get_or, set, Some, sym, ◌∙◌, ap}
+use Rattle.std.proofs.Common.{◌≡◌, ℕ, ◌<◌, true, false, cond, List, length, get_or, set, Some, sym, ◌∙◌, ap}
 use Rattle.std.specs.Prelude.{slice_get}
 use Rattle.std.specs.List.{remove}
 use Rattle.std.proofs.lemmas.List.{set-get_or, get_or_default}
 use Rattle.std.proofs.lemmas.Option.{slice_get-get_or}
-use Rattle.std.proofs.lemmas.Bool.{cond-false}
+use Rattle.std.proofs.lemmas.Bool.{cond-true, cond-false}
 use Rattle.nd_neighbour.specs.Entry.{Node}
 use Rattle.nd_neighbour.specs.Due.{Falls, falls, stays, solicited, due_in, Turns}
+
+-- an entry for which a solicitation is left stays
+pub stayed : (now : ℕ) (ns : List Node) (i : ℕ) (n m : Node) (what : Falls) → i < length ns → due_in now ns ≡ slice_get ns i → n ≡ get_or ns i n → m ≡ cond (stays (falls n)) (solicited now n) n → stays (falls n) ≡ true → what ≡ falls n → Turns now ns (set ns i m) what
+stayed now ns i n m what lt first is changed some what_is = record {
+  at = i;
+  node = n;
+  within = lt;
+  is = is;
+  first = first ∙ (slice_get-get_or ns i n lt ∙ ap Some (sym is));
+  falls_is = what_is;
+  new_is = ap (set ns i) (changed ∙ cond-true (stays (falls n)) (solicited now n) n some) ∙ sym (cond-true (stays (falls n)) (set ns i (solicited now n)) (remove ns i) some);
+}
 
 -- an entry for which no solicitation is left is taken out
 pub went : (now : ℕ) (ns : List Node) (i : ℕ) (n m r : Node) (new : List Node) (what : Falls) → i < length ns → due_in now ns ≡ slice_get ns i → n ≡ get_or ns i n → m ≡ cond (stays (falls n)) (solicited now n) n → stays (falls n) ≡ false → r ≡ get_or (set ns i m) i r → what ≡ falls r → new ≡ remove (set ns i m) i → Turns now ns new what

@@ -9,6 +9,7 @@ pub mod Story
 pub mod Table
 pub mod Shown
 pub mod Due
+pub mod Planned
 pub mod Place
 pub mod News
 pub mod Sending

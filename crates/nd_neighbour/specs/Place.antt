@@ -83,6 +83,12 @@ pub data Places (limit now : ℕ) (old new : List Node) : Type 0 where
   Enough : length old < limit → new ≡ old → Places limit now old new
   Went : (at : ℕ) (node : Node) → limit ≤ length old → at < length old → node ≡ slice_index_or old at node → stalest now old ≡ Some node → new ≡ remove old at → Places limit now old new
 
+-- the list with a new one in its place, for which another one may have gone
+pub record Enters (limit now : ℕ) (m : Node) (old new : List Node) : Type 0 where
+  pub mid : List Node
+  pub places : Places limit now old mid
+  pub new_is : new ≡ insert mid (place_in m.key mid) m
+
 -- the neighbour at a place that may be missing
 abbrev pub picked : List Node → Option ℕ → Option Node
 picked nodes None = None

@@ -2,13 +2,14 @@ ghost use Rattle.std.specs.Prelude.{None, true, vec_capacity, vec_len, ◌<◌, 
 ghost use Rattle.nd_addr.specs.Number.{number_of};
 ghost use Rattle.nd_neighbour.specs.AddressResolution.{asked_node};
 ghost use Rattle.nd_neighbour.specs.Table.{node_in};
+ghost use Rattle.nd_neighbour.specs.Planned.{IsPlanned};
 ghost use Rattle.nd_neighbour.specs.Place.{Gives, has_place};
 ghost use Rattle.nd_neighbour.specs.Sending.{used};
 
 use crate::entry::{Entry, Stage};
-use crate::place::make_place;
+use crate::place::enter;
 use nd_addr::Addr;
-use nd_table::put;
+use nd_table::Schedule;
 use nd_waiting::{Packet, Ring};
 use std::alloc::Allocator;
 
@@ -18,6 +19,7 @@ pub(crate) const MAX_MULTICAST_SOLICIT: u8 = 3;
 /// A resolution begins with a first packet, for an address that has no entry (RFC 4861, section 7.2.2).
 pub(crate) fn begin<A: Allocator>(
     entries: &mut Vec<Entry<A>, A>,
+    dates: &mut Schedule<A>,
     limit: usize,
     now: u64,
     addr: Addr,
@@ -30,12 +32,16 @@ pub(crate) fn begin<A: Allocator>(
     requires place { has_place limit now entries.old.items ≡ true }
     requires few { vec_len entries.old ≤ limit }
     requires capacity { limit ≤ vec_capacity entries.old }
+    requires planned { IsPlanned entries.old.items dates.old }
+    requires roomy { limit ≤ dates.old.room }
     ensures gives { Gives limit now (number_of addr.0) (λ n. used now retrans packet n) (asked_node (number_of addr.0) now retrans packet) entries.old.items entries.new.items }
+    ensures planned { IsPlanned entries.new.items dates.new }
+    ensures room { dates.new.room ≡ dates.old.room }
     ensures few { vec_len entries.new ≤ limit }
     ensures capacity { vec_capacity entries.new ≡ vec_capacity entries.old }
 {
-    make_place(entries, limit, now);
-    put(entries, Entry::asked(addr, now, retrans, packet, ring));
+    let entry = Entry::asked(addr, now, retrans, packet, ring);
+    enter(entries, dates, limit, now, entry);
 }
 
 impl<A: Allocator> Entry<A> {

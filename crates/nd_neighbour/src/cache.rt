@@ -1,6 +1,10 @@
-ghost use Rattle.std.specs.Prelude.{IfOk, [], ◌≡◌, ◌≤◌, length};
+ghost use Rattle.std.specs.Prelude.{IfOk, [], List, ◌≡◌, ◌≤◌, ◌+◌, is_some, length};
+ghost use Rattle.nd_addr.specs.Number.{number_of};
+ghost use Rattle.nd_table.specs.Keyed.{binary_digits};
 
 use crate::entry::Entry;
+use nd_addr::Addr;
+use nd_table::{Probes, Schedule, search};
 use nd_waiting::Ring;
 use std::alloc::{AllocError, Allocator};
 use std::marker::Model;
@@ -14,6 +18,8 @@ const MAX_RINGS: usize = 2;
 #[derive(Drop)]
 pub struct Cache<A: Allocator> {
     pub(crate) entries: Vec<Entry<A>, A>,
+    /// The dates of the entries.
+    pub(crate) dates: Schedule<A>,
     pub(crate) rings: Vec<Ring<A>, A>,
     pub(crate) limit: usize,
 }
@@ -22,12 +28,13 @@ impl<A: Allocator> Model for Cache<A> {
     ghost use Rattle.std.specs.Prelude.{◌≤◌, length};
     ghost use Rattle.std.specs.Vec.{vec_len, vec_capacity};
     ghost use Rattle.nd_neighbour.specs.Table.{Table, max_rings};
+    ghost use Rattle.nd_neighbour.specs.Planned.{IsPlanned};
 
     ghost Value = { Table };
 
     ghost view = { λ c. record { limit = c.limit; nodes = c.entries.items; rings = length c.rings.items } };
 
-    ghost invariant = { λ c. (vec_len c.entries ≤ c.limit) × (c.limit ≤ vec_capacity c.entries) × (vec_len c.rings ≤ max_rings) × (max_rings ≤ vec_capacity c.rings) };
+    ghost invariant = { λ c. (vec_len c.entries ≤ c.limit) × (c.limit ≤ vec_capacity c.entries) × (vec_len c.rings ≤ max_rings) × (max_rings ≤ vec_capacity c.rings) × (c.limit ≤ c.dates.room) × IsPlanned c.entries.items c.dates };
 }
 
 impl<A: Allocator + Clone> Cache<A> {
@@ -39,9 +46,11 @@ impl<A: Allocator + Clone> Cache<A> {
         ensures stands { IfOk result (λ cache. Stands cache.nodes []) }
     {
         let entries = Vec::with_capacity(alloc.clone()?, limit)?;
+        let dates = Schedule::new(alloc.clone()?, limit)?;
         let rings = Vec::with_capacity(alloc, MAX_RINGS)?;
         Ok(Cache {
             entries,
+            dates,
             rings,
             limit,
         })
@@ -49,6 +58,21 @@ impl<A: Allocator + Clone> Cache<A> {
 }
 
 impl<A: Allocator> Cache<A> {
+    ghost use Rattle.nd_neighbour.specs.History.{Row, story};
+    ghost use Rattle.nd_neighbour.specs.Story.{is_present};
+    ghost use Rattle.nd_neighbour.specs.Table.{Stands, node_in};
+
+    /// Whether a neighbour is present, with the entries counted that are looked at for it: at most as many as the number of neighbours
+    /// has binary digits.
+    pub fn find(&self, addr: Addr, probes: &mut Probes) -> bool
+        ensures value { result ≡ is_some (node_in (number_of addr.0) self.now.nodes) }
+        ensures present { (history : List Row) → Stands self.now.nodes history → result ≡ is_present (story (number_of addr.0) history) }
+        ensures looks { probes.new.looks ≤ probes.old.looks + binary_digits (length self.now.nodes) }
+        ensures counts { probes.old.looks ≤ probes.new.looks }
+    {
+        search(&self.entries, &addr, probes).is_ok()
+    }
+
     /// How many neighbours there are, at most as many as the cache has room for.
     pub fn len(&self) -> usize
         ensures value { result ≡ length self.now.nodes }

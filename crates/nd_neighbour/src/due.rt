@@ -1,13 +1,14 @@
 ghost use Rattle.std.specs.Prelude.{IfNone, IfSome, List, None, Some, false, if◌then◌else◌, true, vec_capacity, vec_len, ◌<◌, ◌^◌, ◌≡◌, ◌≢◌, ◌≤◌};
 ghost use Rattle.std.specs.Option.{option_map};
-ghost use Rattle.nd_neighbour.specs.Due.{Turns, due_in};
+ghost use Rattle.nd_neighbour.specs.Due.{NoneBefore, Turns, due_in};
+ghost use Rattle.nd_neighbour.specs.Planned.{IsPlanned};
 ghost use Rattle.nd_neighbour.specs.View.{falls_of};
 
 use crate::address_resolution::MAX_MULTICAST_SOLICIT;
 use crate::cache::Cache;
 use crate::entry::{Entry, Stage};
 use nd_addr::{Addr, Mac};
-use nd_table::{first_at, next_date};
+use nd_table::{Addressed, Schedule};
 use nd_waiting::Packets;
 use std::alloc::Allocator;
 
@@ -36,7 +37,7 @@ impl<A: Allocator> Cache<A> {
         ensures value { result ≡ next_in self.now.nodes }
         ensures due { (history : List Row) → Stands self.now.nodes history → NextDue history result }
     {
-        next_date(&self.entries)
+        self.dates.next()
     }
 
     /// What falls due at this moment, for the least address for which something does (RFC 4861, sections 7.2.2 and
@@ -59,22 +60,33 @@ impl<A: Allocator> Cache<A> {
         ensures none { IfNone result (next_in self.old.nodes ≢ Some now) }
         ensures later { NoneBefore self.new.nodes now }
     {
-        turn_first(&mut self.entries, now)
+        turn_first(&mut self.entries, &mut self.dates, now)
     }
 }
 
 /// What falls due now for the first entry for which something does: a solicitation, or its end.
-pub(crate) fn turn_first<A: Allocator>(entries: &mut Vec<Entry<A>, A>, now: u64) -> Option<Due<A>>
-    requires { now < 2 ^ 62 }
+pub(crate) fn turn_first<A: Allocator>(
+    entries: &mut Vec<Entry<A>, A>,
+    dates: &mut Schedule<A>,
+    now: u64,
+) -> Option<Due<A>>
+    requires moment { now < 2 ^ 62 }
+    requires planned { IsPlanned entries.old.items dates.old }
+    requires none_before { NoneBefore entries.old.items now }
     ensures turns { IfSome result (λ due. Turns now entries.old.items entries.new.items (falls_of due)) }
     ensures none { IfNone result (due_in now entries.old.items ≡ None) }
     ensures same { IfNone result (entries.new.items ≡ entries.old.items) }
+    ensures planned { IsPlanned entries.new.items dates.new }
+    ensures room { dates.new.room ≡ dates.old.room }
     ensures len { vec_len entries.new ≤ vec_len entries.old }
     ensures capacity { vec_capacity entries.new ≡ vec_capacity entries.old }
 {
-    let i = first_at(entries, now)?;
+    let i = dates.first_at(entries, now)?;
+    let addr = entries[i].addr();
+    dates.take_out(entries, addr);
     let entry = &mut entries[i];
     if let Some(due) = entry.solicit(now) {
+        dates.put_in(entries, addr);
         return Some(due);
     }
     let entry = entries.remove(i);

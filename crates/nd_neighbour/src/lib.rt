@@ -27,6 +27,7 @@ mod unreachability_detection;
 
 pub use cache::Cache;
 pub use due::Due;
+pub use nd_table::Probes;
 pub use nd_waiting::{Packet, Packets};
 pub use news::{Flags, News, Times, Touched};
 pub use refusal::CacheRefusal;

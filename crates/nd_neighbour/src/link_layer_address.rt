@@ -3,15 +3,16 @@ ghost use Rattle.nd_addr.specs.Number.{number_of};
 ghost use Rattle.nd_neighbour.specs.Entry.{stale_node};
 ghost use Rattle.nd_neighbour.specs.LinkLayerAddress.{given, mark_or};
 ghost use Rattle.nd_neighbour.specs.Table.{node_in, Alters};
+ghost use Rattle.nd_neighbour.specs.Planned.{IsPlanned};
 ghost use Rattle.nd_neighbour.specs.Place.{Gives, NoPlace};
 ghost use Rattle.nd_neighbour.specs.News.{told_released, told_turned};
 
 use crate::entry::{Entry, STALE_LIFETIME, Stage, is_same_mac};
 use crate::news::Touched;
-use crate::place::{has_place, make_place};
+use crate::place::{enter, has_place};
 use crate::refusal::CacheRefusal;
 use nd_addr::{Addr, Mac};
-use nd_table::{find, holds, put};
+use nd_table::{Schedule, find, holds};
 use nd_waiting::Packets;
 use std::alloc::Allocator;
 
@@ -19,6 +20,7 @@ use std::alloc::Allocator;
 /// there, or makes one that is STALE, where there is place. Else it answers Full.
 pub(crate) fn give_or_enter<A: Allocator>(
     entries: &mut Vec<Entry<A>, A>,
+    dates: &mut Schedule<A>,
     limit: usize,
     now: u64,
     addr: Addr,
@@ -28,48 +30,59 @@ pub(crate) fn give_or_enter<A: Allocator>(
     requires moment { now < 2 ^ 62 }
     requires few { vec_len entries.old ≤ limit }
     requires capacity { limit ≤ vec_capacity entries.old }
+    requires planned { IsPlanned entries.old.items dates.old }
+    requires roomy { limit ≤ dates.old.room }
     ensures gives { OnOk result (Gives limit now (number_of addr.0) (λ n. given now (number_of mac.0) mark n) (stale_node (number_of addr.0) (mark_or mark false) now (number_of mac.0)) entries.old.items entries.new.items) }
     ensures released { IfOk result (λ touched. touched.released ≡ told_released (λ n. given now (number_of mac.0) mark n) (node_in (number_of addr.0) entries.old.items)) }
     ensures ends_router { IfOk result (λ touched. touched.ends_router ≡ told_turned (λ n. given now (number_of mac.0) mark n) (node_in (number_of addr.0) entries.old.items)) }
     ensures full { IsErr result ↔ NoPlace limit now (number_of addr.0) entries.old.items }
     ensures err { IfErr result (λ refusal. refusal ≡ CacheRefusal.Full) }
     ensures same { OnErr result (entries.new.items ≡ entries.old.items) }
+    ensures planned { IsPlanned entries.new.items dates.new }
+    ensures room { dates.new.room ≡ dates.old.room }
     ensures few { vec_len entries.new ≤ limit }
     ensures capacity { vec_capacity entries.new ≡ vec_capacity entries.old }
 {
     if holds(entries, addr) {
-        return Ok(give(entries, now, addr, mac, mark));
+        return Ok(give(entries, dates, now, addr, mac, mark));
     }
     if !has_place(entries, limit, now) {
         return Err(CacheRefusal::Full);
     }
-    make_place(entries, limit, now);
-    put(entries, Entry::stale(addr, mark.unwrap_or(false), now, mac));
+    let entry = Entry::stale(addr, mark.unwrap_or(false), now, mac);
+    enter(entries, dates, limit, now, entry);
     Ok(Touched::nothing())
 }
 
 /// The same for an entry that may be there.
 pub(crate) fn give<A: Allocator>(
     entries: &mut Vec<Entry<A>, A>,
+    dates: &mut Schedule<A>,
     now: u64,
     addr: Addr,
     mac: Mac,
     mark: Option<bool>,
 ) -> Touched<A>
-    requires { now < 2 ^ 62 }
+    requires moment { now < 2 ^ 62 }
+    requires planned { IsPlanned entries.old.items dates.old }
     ensures alters { Alters (number_of addr.0) (λ n. given now (number_of mac.0) mark n) entries.old.items entries.new.items }
     ensures released { result.released ≡ told_released (λ n. given now (number_of mac.0) mark n) (node_in (number_of addr.0) entries.old.items) }
     ensures ends_router { result.ends_router ≡ told_turned (λ n. given now (number_of mac.0) mark n) (node_in (number_of addr.0) entries.old.items) }
+    ensures planned { IsPlanned entries.new.items dates.new }
+    ensures room { dates.new.room ≡ dates.old.room }
     ensures len { vec_len entries.new ≡ vec_len entries.old }
     ensures capacity { vec_capacity entries.new ≡ vec_capacity entries.old }
 {
     let Some(i) = find(entries, addr) else {
         return Touched::nothing();
     };
+    dates.take_out(entries, addr);
     let entry = &mut entries[i];
     let was_router = entry.router();
     let released = entry.given(now, mac, mark);
-    Touched::new(released, was_router, entry.router())
+    let touched = Touched::new(released, was_router, entry.router());
+    dates.put_in(entries, addr);
+    touched
 }
 
 impl<A: Allocator> Entry<A> {

@@ -3,18 +3,20 @@ ghost use Rattle.std.specs.Option.{option_map};
 ghost use Rattle.nd_addr.specs.Number.{number_of};
 ghost use Rattle.nd_neighbour.specs.NeighborAdvertisement.{advertised};
 ghost use Rattle.nd_neighbour.specs.Table.{node_in, Alters};
+ghost use Rattle.nd_neighbour.specs.Planned.{IsPlanned};
 ghost use Rattle.nd_neighbour.specs.News.{told_released, told_turned};
 
 use crate::entry::{Entry, is_same_mac};
 use crate::news::{Flags, Touched};
 use nd_addr::{Addr, Mac};
-use nd_table::find;
+use nd_table::{Schedule, find};
 use nd_waiting::Packets;
 use std::alloc::Allocator;
 
 /// A Neighbor Advertisement comes (RFC 4861, section 7.2.5). Where there is no entry it is discarded, and makes none.
 pub(crate) fn advertise<A: Allocator>(
     entries: &mut Vec<Entry<A>, A>,
+    dates: &mut Schedule<A>,
     now: u64,
     addr: Addr,
     flags: Flags,
@@ -23,19 +25,25 @@ pub(crate) fn advertise<A: Allocator>(
 ) -> Touched<A>
     requires moment { now < 2 ^ 62 }
     requires span { reachable < 2 ^ 62 }
+    requires planned { IsPlanned entries.old.items dates.old }
     ensures alters { Alters (number_of addr.0) (λ n. advertised now flags (option_map (λ m. number_of m.0) mac) reachable n) entries.old.items entries.new.items }
     ensures released { result.released ≡ told_released (λ n. advertised now flags (option_map (λ m. number_of m.0) mac) reachable n) (node_in (number_of addr.0) entries.old.items) }
     ensures ends_router { result.ends_router ≡ told_turned (λ n. advertised now flags (option_map (λ m. number_of m.0) mac) reachable n) (node_in (number_of addr.0) entries.old.items) }
+    ensures planned { IsPlanned entries.new.items dates.new }
+    ensures room { dates.new.room ≡ dates.old.room }
     ensures len { vec_len entries.new ≡ vec_len entries.old }
     ensures capacity { vec_capacity entries.new ≡ vec_capacity entries.old }
 {
     let Some(i) = find(entries, addr) else {
         return Touched::nothing();
     };
+    dates.take_out(entries, addr);
     let entry = &mut entries[i];
     let was_router = entry.router();
     let released = entry.advertised(now, flags, mac, reachable);
-    Touched::new(released, was_router, entry.router())
+    let touched = Touched::new(released, was_router, entry.router());
+    dates.put_in(entries, addr);
+    touched
 }
 
 impl<A: Allocator> Entry<A> {

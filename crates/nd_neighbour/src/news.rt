@@ -2,7 +2,7 @@ ghost use Rattle.std.specs.Prelude.{IfErr, IfOk, IfSome, IsErr, OnErr, OnOk, [],
 ghost use Rattle.nd_addr.specs.Bytes.{AreBytes};
 ghost use Rattle.nd_addr.specs.Number.{number_of};
 ghost use Rattle.nd_neighbour.specs.Entry.{with_mark};
-ghost use Rattle.nd_neighbour.specs.Table.{node_in, Alters};
+ghost use Rattle.nd_neighbour.specs.Table.{node_in, Alters, Rises};
 ghost use Rattle.nd_neighbour.specs.News.{told_released, told_turned};
 
 use crate::cache::Cache;
@@ -144,10 +144,26 @@ impl<A: Allocator> Cache<A> {
     {
         match news {
             News::Given { addr, mac, mark } => {
-                give_or_enter(&mut self.entries, self.limit, now, addr, mac, mark)
+                give_or_enter(
+                    &mut self.entries,
+                    &mut self.dates,
+                    self.limit,
+                    now,
+                    addr,
+                    mac,
+                    mark,
+                )
             }
             News::Advert { addr, flags, mac } => {
-                Ok(advertise(&mut self.entries, now, addr, flags, mac, times.reachable))
+                Ok(advertise(
+                    &mut self.entries,
+                    &mut self.dates,
+                    now,
+                    addr,
+                    flags,
+                    mac,
+                    times.reachable,
+                ))
             }
             News::Marked { addr, router } => Ok(mark(&mut self.entries, addr, router)),
         }
@@ -161,6 +177,7 @@ pub(crate) fn mark<A: Allocator>(
     addr: Addr,
     router: bool,
 ) -> Touched<A>
+    requires { Rises entries.old.items }
     ensures alters { Alters (number_of addr.0) (λ n. with_mark router n) entries.old.items entries.new.items }
     ensures released { result.released ≡ told_released (λ n. with_mark router n) (node_in (number_of addr.0) entries.old.items) }
     ensures ends_router { result.ends_router ≡ told_turned (λ n. with_mark router n) (node_in (number_of addr.0) entries.old.items) }

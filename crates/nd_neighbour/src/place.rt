@@ -1,7 +1,10 @@
-ghost use Rattle.std.specs.Prelude.{IfSome, length, slice_get, true, vec_capacity, vec_len, ◌<◌, ◌≡◌, ◌≤◌};
-ghost use Rattle.nd_neighbour.specs.Place.{Places, has_place, longer, picked, picked_stale, stalest};
+ghost use Rattle.std.specs.Prelude.{IfSome, None, length, slice_get, true, vec_capacity, vec_len, ◌<◌, ◌≡◌, ◌≤◌};
+ghost use Rattle.nd_neighbour.specs.Planned.{IsPlanned};
+ghost use Rattle.nd_neighbour.specs.Table.{node_in};
+ghost use Rattle.nd_neighbour.specs.Place.{Enters, Places, has_place, longer, picked, picked_stale, stalest};
 
 use crate::entry::{Entry, Stage};
+use nd_table::{Addressed, Schedule, put};
 use std::alloc::Allocator;
 
 /// The place of the one of two entries that is stale for longer, at a tie of the first.
@@ -47,19 +50,55 @@ pub(crate) fn has_place<A: Allocator>(entries: &[Entry<A>], limit: usize, now: u
 
 /// Makes place for one more entry: where all places are taken, the entry that is stale for longest goes. Our choice: RFC
 /// 4861, section 5.3, leaves it open.
-pub(crate) fn make_place<A: Allocator>(entries: &mut Vec<Entry<A>, A>, limit: usize, now: u64)
+pub(crate) fn make_place<A: Allocator>(
+    entries: &mut Vec<Entry<A>, A>,
+    dates: &mut Schedule<A>,
+    limit: usize,
+    now: u64,
+)
+    requires planned { IsPlanned entries.old.items dates.old }
     requires few { vec_len entries.old ≤ limit }
     requires place { has_place limit now entries.old.items ≡ true }
     ensures places { Places limit now entries.old.items entries.new.items }
-    ensures room { vec_len entries.new < limit }
+    ensures left { vec_len entries.new < limit }
+    ensures planned { IsPlanned entries.new.items dates.new }
+    ensures room { dates.new.room ≡ dates.old.room }
     ensures capacity { vec_capacity entries.new ≡ vec_capacity entries.old }
 {
     if entries.len() < limit {
         return;
     }
     if let Some(i) = stalest(entries, now) {
+        let addr = entries[i].addr();
+        dates.take_out(entries, addr);
         let _ = entries.remove(i);
     }
+}
+
+/// Lets an entry in for which there is place, and which isn't there.
+pub(crate) fn enter<A: Allocator>(
+    entries: &mut Vec<Entry<A>, A>,
+    dates: &mut Schedule<A>,
+    limit: usize,
+    now: u64,
+    entry: Entry<A>,
+)
+    requires absent { node_in entry.key entries.old.items ≡ None }
+    requires place { has_place limit now entries.old.items ≡ true }
+    requires few { vec_len entries.old ≤ limit }
+    requires capacity { limit ≤ vec_capacity entries.old }
+    requires planned { IsPlanned entries.old.items dates.old }
+    requires roomy { limit ≤ dates.old.room }
+    ensures enters { Enters limit now entry entries.old.items entries.new.items }
+    ensures planned { IsPlanned entries.new.items dates.new }
+    ensures room { dates.new.room ≡ dates.old.room }
+    ensures few { vec_len entries.new ≤ limit }
+    ensures capacity { vec_capacity entries.new ≡ vec_capacity entries.old }
+{
+    let addr = entry.addr();
+    make_place(entries, dates, limit, now);
+    put(entries, entry);
+    dates.put_in(entries, addr);
 }
 
 impl<A: Allocator> Entry<A> {

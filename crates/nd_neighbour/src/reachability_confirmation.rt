@@ -1,12 +1,13 @@
 ghost use Rattle.std.specs.Prelude.{vec_capacity, vec_len, ◌<◌, ◌^◌, ◌≡◌};
 ghost use Rattle.nd_addr.specs.Number.{number_of};
 ghost use Rattle.nd_neighbour.specs.ReachabilityConfirmation.{confirmed};
+ghost use Rattle.nd_neighbour.specs.Planned.{IsPlanned};
 ghost use Rattle.nd_neighbour.specs.Table.{Alters};
 
 use crate::cache::Cache;
 use crate::entry::Entry;
 use nd_addr::Addr;
-use nd_table::find;
+use nd_table::{Schedule, find};
 use std::alloc::Allocator;
 
 impl<A: Allocator> Cache<A> {
@@ -22,26 +23,32 @@ impl<A: Allocator> Cache<A> {
         ensures limit { self.new.limit ≡ self.old.limit }
         ensures rings { self.new.rings ≡ self.old.rings }
     {
-        confirm(&mut self.entries, now, addr, reachable);
+        confirm(&mut self.entries, &mut self.dates, now, addr, reachable);
     }
 }
 
 /// An upper layer confirms that an entry that may be there is reached (RFC 4861, section 7.3.1).
 pub(crate) fn confirm<A: Allocator>(
     entries: &mut Vec<Entry<A>, A>,
+    dates: &mut Schedule<A>,
     now: u64,
     addr: Addr,
     reachable: u64,
 )
     requires moment { now < 2 ^ 62 }
     requires span { reachable < 2 ^ 62 }
+    requires planned { IsPlanned entries.old.items dates.old }
     ensures alters { Alters (number_of addr.0) (λ n. confirmed now reachable n) entries.old.items entries.new.items }
+    ensures planned { IsPlanned entries.new.items dates.new }
+    ensures room { dates.new.room ≡ dates.old.room }
     ensures len { vec_len entries.new ≡ vec_len entries.old }
     ensures capacity { vec_capacity entries.new ≡ vec_capacity entries.old }
 {
     if let Some(i) = find(entries, addr) {
+        dates.take_out(entries, addr);
         let entry = &mut entries[i];
         entry.confirm(now, reachable);
+        dates.put_in(entries, addr);
     }
 }
 

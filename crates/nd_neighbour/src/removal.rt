@@ -1,13 +1,14 @@
 ghost use Rattle.std.specs.Prelude.{IfOk, List, OnErr, OnOk, [], length, vec_capacity, vec_len, ℕ, ◌++◌, ◌+◌, ◌≡◌, ◌≤◌};
 ghost use Rattle.nd_addr.specs.Number.{number_of};
 ghost use Rattle.nd_waiting.specs.Waiting.{max_waiting};
-ghost use Rattle.nd_neighbour.specs.Table.{node_in};
+ghost use Rattle.nd_neighbour.specs.Table.{node_in, Rises};
+ghost use Rattle.nd_neighbour.specs.Planned.{IsPlanned};
 ghost use Rattle.nd_neighbour.specs.Removal.{Removes, all_waiting, waiting_at};
 
 use crate::cache::Cache;
 use crate::entry::{Entry, Stage};
 use nd_addr::Addr;
-use nd_table::find;
+use nd_table::{Schedule, find};
 use nd_waiting::{Packet, Packets};
 use std::alloc::{AllocError, Allocator};
 
@@ -25,7 +26,7 @@ impl<A: Allocator> Cache<A> {
         ensures limit { self.new.limit ≡ self.old.limit }
         ensures rings { self.new.rings ≡ self.old.rings }
     {
-        remove(&mut self.entries, addr)
+        remove(&mut self.entries, &mut self.dates, addr)
     }
 
     /// How many packets wait for a neighbour, at most three: so many places a caller needs for what `heard`, `turn` or `forget` hands
@@ -61,26 +62,37 @@ impl<A: Allocator + Clone> Cache<A> {
         ensures limit { self.new.limit ≡ self.old.limit }
         ensures rings { self.new.rings ≡ self.old.rings }
     {
-        take_all(&mut self.entries)
+        let packets = take_all(&mut self.entries)?;
+        self.dates.clear();
+        Ok(packets)
     }
 }
 
 /// Takes an entry out, if it is there.
-pub(crate) fn remove<A: Allocator>(entries: &mut Vec<Entry<A>, A>, addr: Addr) -> Packets<A>
+pub(crate) fn remove<A: Allocator>(
+    entries: &mut Vec<Entry<A>, A>,
+    dates: &mut Schedule<A>,
+    addr: Addr,
+) -> Packets<A>
+    requires planned { IsPlanned entries.old.items dates.old }
     ensures removes { Removes (number_of addr.0) entries.old.items entries.new.items }
     ensures packets { result ≡ waiting_at (node_in (number_of addr.0) entries.old.items) }
+    ensures planned { IsPlanned entries.new.items dates.new }
+    ensures room { dates.new.room ≡ dates.old.room }
     ensures len { vec_len entries.new ≤ vec_len entries.old }
     ensures capacity { vec_capacity entries.new ≡ vec_capacity entries.old }
 {
     let Some(i) = find(entries, addr) else {
         return Packets::none();
     };
+    dates.take_out(entries, addr);
     let entry = entries.remove(i);
     entry.packets()
 }
 
 /// How many packets wait for a neighbour that may be there.
 fn count_at<A: Allocator>(entries: &[Entry<A>], addr: Addr) -> usize
+    requires { Rises entries.now }
     ensures few { result ≤ max_waiting }
     ensures value { result ≡ length (waiting_at (node_in (number_of addr.0) entries.now)) }
 {

@@ -3,6 +3,7 @@ ghost use Rattle.std.specs.List.{list_any};
 ghost use Rattle.std.specs.Option.{option_map};
 ghost use Rattle.nd_addr.specs.Number.{number_of};
 ghost use Rattle.nd_neighbour.specs.Entry.{Node};
+ghost use Rattle.nd_neighbour.specs.Table.{Rises};
 ghost use Rattle.nd_neighbour.specs.Place.{stalest};
 ghost use Rattle.nd_neighbour.specs.Room.{has_room, place_behind, place_beside, place_without, stale_beside, stays_stale};
 
@@ -36,6 +37,7 @@ fn has_room<A: Allocator>(
     addr: Addr,
     then: Option<Addr>,
 ) -> bool
+    requires { Rises entries.now }
     ensures { result ≡ has_room limit now (number_of addr.0) (option_map (λ next. number_of next.0) then) entries.now }
 {
     let here = holds(entries, addr);
@@ -57,6 +59,7 @@ fn place_beside<A: Allocator>(
     used: Addr,
     next: Addr,
 ) -> bool
+    requires { Rises entries.now }
     ensures { result ≡ place_beside limit now (number_of used.0) (number_of next.0) entries.now }
 {
     holds(entries, next) || entries.len() < limit || stays_stale(entries, used, now)
@@ -70,6 +73,7 @@ fn place_behind<A: Allocator>(
     entering: Addr,
     next: Addr,
 ) -> bool
+    requires { Rises entries.now }
     ensures { result ≡ place_behind limit now (number_of entering.0) (number_of next.0) entries.now (stalest now entries.now) }
 {
     match stalest(entries, now) {
@@ -90,7 +94,8 @@ fn place_without<A: Allocator>(
     entering: Addr,
     next: Addr,
 ) -> bool
-    requires { i < length entries.now }
+    requires within { i < length entries.now }
+    requires order { Rises entries.now }
     ensures { (gone : Node) → slice_get entries.now i ≡ Some gone → result ≡ place_without gone now (number_of entering.0) (number_of next.0) entries.now }
 {
     let gone = entries[i].addr();

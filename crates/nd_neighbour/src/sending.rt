@@ -1,6 +1,7 @@
 ghost use Rattle.std.specs.Prelude.{IfErr, IfOk, List, None, OnErr, OnOk, Some, if◌then◌else◌, is_some, true, vec_capacity, vec_len, ◌-◌, ◌<◌, ◌^◌, ◌↔◌, ◌≡◌};
 ghost use Rattle.nd_addr.specs.Number.{number_of};
 ghost use Rattle.nd_neighbour.specs.Table.{node_in, Alters};
+ghost use Rattle.nd_neighbour.specs.Planned.{IsPlanned};
 ghost use Rattle.nd_neighbour.specs.Sending.{used, sending_in};
 ghost use Rattle.nd_neighbour.specs.View.{sending_of};
 
@@ -13,7 +14,7 @@ use crate::refusal::CacheRefusal;
 use crate::rings::take_ring;
 use crate::unreachability_detection::Probing;
 use nd_addr::{Addr, Mac};
-use nd_table::{find, holds, put};
+use nd_table::{Schedule, find, holds};
 use nd_waiting::Packet;
 use std::alloc::Allocator;
 
@@ -74,7 +75,14 @@ impl<A: Allocator + Clone> Cache<A> {
         ensures rings { OnOk result (self.new.rings ≡ (if is_some (node_in (number_of addr.0) self.old.nodes) then self.old.rings else self.old.rings - 1)) }
     {
         if holds(&self.entries, addr) {
-            return Ok(pass(&mut self.entries, now, addr, times.retrans, packet));
+            return Ok(pass(
+                &mut self.entries,
+                &mut self.dates,
+                now,
+                addr,
+                times.retrans,
+                packet,
+            ));
         }
         if !has_place(&self.entries, self.limit, now) {
             return Err((CacheRefusal::Full, packet));
@@ -85,6 +93,7 @@ impl<A: Allocator + Clone> Cache<A> {
         };
         begin(
             &mut self.entries,
+            &mut self.dates,
             self.limit,
             now,
             addr,
@@ -102,23 +111,30 @@ impl<A: Allocator + Clone> Cache<A> {
 /// A packet is to be sent to a neighbour whose entry is there.
 pub(crate) fn pass<A: Allocator>(
     entries: &mut Vec<Entry<A>, A>,
+    dates: &mut Schedule<A>,
     now: u64,
     addr: Addr,
     retrans: u32,
     packet: Packet<A>,
 ) -> Use<A>
     requires moment { now < 2 ^ 62 }
+    requires planned { IsPlanned entries.old.items dates.old }
     requires there { is_some (node_in (number_of addr.0) entries.old.items) ≡ true }
     ensures alters { Alters (number_of addr.0) (λ n. used now retrans packet n) entries.old.items entries.new.items }
     ensures sending { sending_of result ≡ sending_in (node_in (number_of addr.0) entries.old.items) packet }
+    ensures planned { IsPlanned entries.new.items dates.new }
+    ensures room { dates.new.room ≡ dates.old.room }
     ensures len { vec_len entries.new ≡ vec_len entries.old }
     ensures capacity { vec_capacity entries.new ≡ vec_capacity entries.old }
 {
     let Some(i) = find(entries, addr) else {
         unreachable!();
     };
+    dates.take_out(entries, addr);
     let entry = &mut entries[i];
-    entry.send(now, retrans, packet)
+    let sent = entry.send(now, retrans, packet);
+    dates.put_in(entries, addr);
+    sent
 }
 
 impl<A: Allocator> Entry<A> {

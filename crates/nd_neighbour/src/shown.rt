@@ -1,7 +1,7 @@
 ghost use Rattle.std.specs.Prelude.{IfOk, List, map, ◌≡◌};
 ghost use Rattle.std.specs.Option.{option_map};
 ghost use Rattle.nd_addr.specs.Number.{number_of};
-ghost use Rattle.nd_neighbour.specs.Table.{node_in};
+ghost use Rattle.nd_neighbour.specs.Table.{node_in, Rises};
 ghost use Rattle.nd_neighbour.specs.Shown.{seen};
 ghost use Rattle.nd_neighbour.specs.View.{seen_in};
 
@@ -70,6 +70,7 @@ impl<A: Allocator + Clone> Cache<A> {
 
 /// What is shown of an entry that may be there.
 pub(crate) fn show<A: Allocator>(entries: &[Entry<A>], now: u64, addr: Addr) -> Option<Neighbour>
+    requires { Rises entries.now }
     ensures { option_map (λ n. seen_in n) result ≡ option_map (seen now) (node_in (number_of addr.0) entries.now) }
 {
     match find(entries, addr) {

@@ -7,7 +7,7 @@ use Rattle.std.proofs.lemmas.Bool.{cond-true, cond-false, cases_Bool, eqb-true, 
 use Rattle.std.proofs.lemmas.Bool.Decides.{nat_tests}
 use Rattle.lru.specs.LruCache.{LruCache, lru_cache, put_entries}
 use Rattle.nd_nexthop.specs.History.{RedirectRow, Redirected, TargetGone, Cleared, others, destinations, since, ends, target_of, target_left, unless_ended, max_redirects}
-use Rattle.nd_nexthop.specs.Choice.{GainsRow, left_of, ended}
+use Rattle.nd_nexthop.specs.Choice.{GainsRow, Table, left_of, ended}
 use Rattle.nd_nexthop.proofs.Keys.{has, AreApart, each_once}
 use Rattle.nd_nexthop.proofs.Places.{paired}
 
@@ -117,7 +117,7 @@ left_new at d t history =
     ap (λ rows. unless_ended (target_of d (Redirected at d t ∷ history)) rows) (cond-true (eqb d d) [] (Redirected at d t ∷ since d history) here)
     ∙ ap (λ (o : Option ℕ). unless_ended o []) (cond-true (eqb d d) (Some t) (target_of d history) here)
 
-pub gains_redirect : (old new : List (ℕ × Option ℕ)) (at d t : ℕ) → new ≡ put_entries nat_eq (lru_cache old max_redirects) d (Some t) → GainsRow old new (Redirected at d t)
+pub gains_redirect : (old new : Table) (at d t : ℕ) → new.redirects ≡ put_entries nat_eq (lru_cache old.redirects max_redirects) d (Some t) → GainsRow old new (Redirected at d t)
 gains_redirect old new at d t is = record {
   stands = λ history s. record {
     entries_are =
@@ -157,7 +157,7 @@ left_cleared at key history = by (target_of key history)
         split true = refl
         split false = refl
 
-pub gains_gone : (old new : List (ℕ × Option ℕ)) (at t : ℕ) → new ≡ map (ended (Some t)) old → GainsRow old new (TargetGone at t)
+pub gains_gone : (old new : Table) (at t : ℕ) → new.redirects ≡ map (ended (Some t)) old.redirects → GainsRow old new (TargetGone at t)
 gains_gone old new at t is = record {
   stands = λ history s. record {
     entries_are =
@@ -166,7 +166,7 @@ gains_gone old new at t is = record {
   };
 }
 
-pub gains_clear : (old new : List (ℕ × Option ℕ)) (at : ℕ) → new ≡ map (ended None) old → GainsRow old new (Cleared at)
+pub gains_clear : (old new : Table) (at : ℕ) → new.redirects ≡ map (ended None) old.redirects → GainsRow old new (Cleared at)
 gains_clear old new at is = record {
   stands = λ history s. record {
     entries_are =
@@ -176,11 +176,11 @@ gains_clear old new at is = record {
 }
 
 -- the same of the cache's own words
-pub gains_put : (old new : List (ℕ × Option ℕ)) (cache : LruCache ℕ (Option ℕ)) (at d t k : ℕ) (w : Option ℕ) → new ≡ put_entries nat_eq cache k w → cache.entries ≡ old → cache.cap ≡ max_redirects → k ≡ d → w ≡ Some t → GainsRow old new (Redirected at d t)
+pub gains_put : (old new : Table) (cache : LruCache ℕ (Option ℕ)) (at d t k : ℕ) (w : Option ℕ) → new.redirects ≡ put_entries nat_eq cache k w → cache.entries ≡ old.redirects → cache.cap ≡ max_redirects → k ≡ d → w ≡ Some t → GainsRow old new (Redirected at d t)
 gains_put old new cache at d t k w is entries cap key value = gains_redirect old new at d t (
     is
     ∙ (ap (λ (j : ℕ). put_entries nat_eq cache j w) key
     ∙ (ap (λ (o : Option ℕ). put_entries nat_eq cache d o) value
     ∙ (ap (λ es. put_entries nat_eq (lru_cache es cache.cap) d (Some t)) entries
-    ∙ ap (λ (n : ℕ). put_entries nat_eq (lru_cache old n) d (Some t)) cap)))
+    ∙ ap (λ (n : ℕ). put_entries nat_eq (lru_cache old.redirects n) d (Some t)) cap)))
     )

@@ -1,14 +1,21 @@
 -- What a choice of next hops is to the history that it stands for.
-use Rattle.std.specs.Prelude.{◌≡◌, ℕ, ◌==◌, if◌then◌else◌, List, [], ◌∷◌, ◌++◌, Option, Some, None}
+use Rattle.std.specs.Prelude.{◌≡◌, ℕ, Bool, true, ◌==◌, if◌then◌else◌, List, [], ◌∷◌, ◌++◌, Option, Some, None}
 use Rattle.nd_table.specs.History as growing
+use Rattle.nd_nexthop.specs.DefaultRouter.{DefaultRouter}
 use Rattle.nd_nexthop.specs.History.{RedirectRow, remembered}
+use Rattle.nd_nexthop.specs.Memo.{Memory, AreHops, is_asked}
 
--- The entries are the destinations that were redirected last, the newest first, each with what is left of its redirect.
-pub record Stands (entries : List (ℕ × Option ℕ)) (history : List RedirectRow) : Type 0 where
-  pub entries_are : entries ≡ remembered history
+-- the destinations that were redirected last, each with what is left of its redirect, and the next hops that are remembered
+pub record Table : Type 0 where
+  pub redirects : List (ℕ × Option ℕ)
+  pub memory : Memory
 
--- the entries gain a row
-abbrev pub GainsRow : List (ℕ × Option ℕ) → List (ℕ × Option ℕ) → RedirectRow → Type 0
+-- The redirects are the destinations that were redirected last, the newest first, each with what is left of its redirect.
+pub record Stands (choice : Table) (history : List RedirectRow) : Type 0 where
+  pub entries_are : choice.redirects ≡ remembered history
+
+-- the choice gains a row
+abbrev pub GainsRow : Table → Table → RedirectRow → Type 0
 GainsRow = growing.GainsRow Stands
 
 -- what is left of the destination's redirect
@@ -35,3 +42,9 @@ ended_at lost key (e ∷ es) = if key == e.0 then ended lost e ∷ es else e ∷
 abbrev pub turned : Option ℕ → List (ℕ × Option ℕ) → List (ℕ × Option ℕ)
 turned lost [] = []
 turned lost (e ∷ es) = es ++ ended lost e ∷ []
+
+-- Where the next hops that are remembered are asked for at the moment, each is the one that its destination has at a node that has these
+-- own addresses, these addresses on its link and these default routers.
+abbrev pub Agrees : ℕ → (List ℕ → Bool) → (List ℕ → Bool) → List DefaultRouter → Table → Type 0
+Agrees now own on_link routers choice =
+    is_asked now choice.memory.until ≡ true → AreHops own on_link routers (λ key. target_in key choice.redirects) choice.memory.hops

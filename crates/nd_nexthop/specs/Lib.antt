@@ -2,4 +2,5 @@ pub mod Choice
 pub mod DefaultRouter
 pub mod History
 pub mod Left
+pub mod Memo
 pub mod NextHop

@@ -1,8 +1,10 @@
-ghost use Rattle.std.specs.Prelude.{◌≡◌, ℕ, List, [], IfOk};
+ghost use Rattle.std.specs.Prelude.{◌≡◌, ◌≤◌, ℕ, List, Option, [], None, IfOk, length};
 ghost use Rattle.nd_nexthop.specs.History.{RedirectRow, those_left, redirects};
 ghost use Rattle.nd_nexthop.specs.Left.{redirects_left};
+ghost use Rattle.nd_nexthop.specs.Memo.{forgotten, is_asked, max_remembered};
 
 use crate::kept_redirects::KeptRedirects;
+use crate::memo::Memo;
 use crate::target::Target;
 use lru::{DefaultHasher, LruCache};
 use std::alloc::{AllocError, Allocator};
@@ -12,21 +14,23 @@ use std::num::NonZeroUsize;
 /// How many destinations have their redirects kept (our choice).
 const MAX_REDIRECTS: usize = 64;
 
-/// The choice of next hops, with the redirects that it keeps for it: the Destination Cache of RFC 4861, section 5.1, as far as
-/// Redirects update it.
+/// The choice of next hops, with the redirects that it keeps for it, and the next hops that it remembers: the Destination Cache of RFC
+/// 4861, section 5.1. What is remembered never changes an answer.
 #[derive(Drop)]
 pub struct Choice<A: Allocator> {
     /// The destinations that were redirected last, by their numbers. Those whose redirects ended keep their places.
     pub(crate) redirects: LruCache<u128, Target, DefaultHasher, A>,
+    pub(crate) memo: Memo<A>,
 }
 
 impl<A: Allocator> Model for Choice<A> {
-    ghost use Rattle.std.specs.Prelude.{◌≡◌, ℕ, List, Option};
+    ghost use Rattle.std.specs.Prelude.{◌≡◌};
+    ghost use Rattle.nd_nexthop.specs.Choice.{Table};
     ghost use Rattle.nd_nexthop.specs.History.{max_redirects};
 
-    ghost Value = { List (ℕ × Option ℕ) };
+    ghost Value = { Table };
 
-    ghost view = { λ c. c.redirects.entries };
+    ghost view = { λ c. record { redirects = c.redirects.entries; memory = c.memo } };
 
     ghost invariant = { λ c. c.redirects.cap ≡ max_redirects };
 }
@@ -34,14 +38,15 @@ impl<A: Allocator> Model for Choice<A> {
 impl<A: Allocator + Clone> Choice<A> {
     ghost use Rattle.nd_nexthop.specs.Choice.{Stands};
 
-    /// No redirects, with room for those of 64 destinations. The error is want of memory.
+    /// No redirects, with room for those of 64 destinations, and no next hop is remembered. The error is want of memory.
     pub fn new(alloc: A) -> Result<Self, AllocError>
-        ensures empty { IfOk result (λ choice. choice ≡ []) }
+        ensures empty { IfOk result (λ choice. choice ≡ record { redirects = []; memory = record { hops = []; until = None } }) }
         ensures stands { IfOk result (λ choice. Stands choice []) }
     {
         let limit = NonZeroUsize::new(MAX_REDIRECTS).unwrap();
         Ok(Choice {
-            redirects: LruCache::new(alloc, limit)?,
+            redirects: LruCache::new(alloc.clone()?, limit)?,
+            memo: Memo::new(alloc)?,
         })
     }
 }
@@ -51,9 +56,39 @@ impl<A: Allocator> Choice<A> {
 
     /// The kept redirects, the newest first.
     pub fn rows(&self) -> KeptRedirects<'_>
-        ensures value { redirects_left result ≡ those_left self.now }
+        ensures value { redirects_left result ≡ those_left self.now.redirects }
         ensures by_history { (history : List RedirectRow) → Stands self.now history → redirects_left result ≡ redirects history }
     {
         KeptRedirects::new(self.redirects.iter())
+    }
+
+    /// How many destinations have their next hops remembered, at most 256.
+    pub fn remembered(&self) -> usize
+        ensures value { result ≡ length self.now.memory.hops }
+        ensures few { result ≤ max_remembered }
+    {
+        self.memo.len()
+    }
+
+    /// Whether a remembered next hop is the answer at a moment, in milliseconds.
+    pub fn is_asked(&self, now: u64) -> bool
+        ensures { result ≡ is_asked now self.now.memory.until }
+    {
+        self.memo.is_asked(now)
+    }
+
+    /// What the choice is made of has changed: no next hop is remembered. It takes no memory.
+    pub fn changed(&mut self)
+        ensures { self.new ≡ record self.old { memory = forgotten self.old.memory } }
+    {
+        self.memo.forget();
+    }
+
+    /// The last moment at which a remembered next hop is the answer, in milliseconds, if there is one: the prefixes on the link end
+    /// silently. It takes no memory.
+    pub fn until(&mut self, until: Option<u64>)
+        ensures { self.new ≡ record self.old { memory = record self.old.memory { until = until } } }
+    {
+        self.memo.until(until);
     }
 }

@@ -2,6 +2,7 @@ ghost use Rattle.std.specs.Prelude.{◌≡◌, ℕ, map, option_map, slice_get};
 ghost use Rattle.lru.specs.LruCache.{lru_cache};
 ghost use Rattle.nd_addr.specs.Number.{number_of};
 ghost use Rattle.nd_nexthop.specs.Choice.{ended, ended_at, turned};
+ghost use Rattle.nd_nexthop.specs.Memo.{forgotten};
 
 use crate::choice::Choice;
 use crate::target::Target;
@@ -14,18 +15,22 @@ impl<A: Allocator> Choice<A> {
     ghost use Rattle.nd_nexthop.specs.Choice.{GainsRow};
 
     /// The redirects to an address end, since it can't be reached (RFC 4861, section 7.3.3) or is no router any more (section 6.3.5).
-    /// It takes no memory.
+    /// No next hop is remembered. It takes no memory.
     pub fn target_gone(&mut self, target: Addr)
         ensures stands { (at : ℕ) → GainsRow self.old self.new (TargetGone at (number_of target.0)) }
+        ensures memory { self.new.memory ≡ forgotten self.old.memory }
     {
         end_each(&mut self.redirects, Some(target));
+        self.memo.forget();
     }
 
-    /// All redirects end. It takes no memory.
+    /// All redirects end. No next hop is remembered. It takes no memory.
     pub fn clear(&mut self)
         ensures stands { (at : ℕ) → GainsRow self.old self.new (Cleared at) }
+        ensures memory { self.new.memory ≡ forgotten self.old.memory }
     {
         end_each(&mut self.redirects, None);
+        self.memo.forget();
     }
 }
 

@@ -1,16 +1,16 @@
 //! Laws of the definitions, each the contract of a function that does nothing.
 
-ghost use Rattle.std.specs.Prelude.{◌≡◌, ◌≤◌, ◌∷◌, ◌++◌, ℕ, true, None, Some, nat_eq, List, Option, length};
+ghost use Rattle.std.specs.Prelude.{◌≡◌, ◌≤◌, ◌∷◌, ◌++◌, ℕ, true, None, Some, nat_eq, List, length};
 ghost use Rattle.std.specs.Map.{lookup};
 ghost use Rattle.nd_nexthop.specs.History.{RedirectRow, kept, redirects, max_redirects};
-ghost use Rattle.nd_nexthop.specs.Choice.{Stands, target_in};
+ghost use Rattle.nd_nexthop.specs.Choice.{Stands, Table, target_in};
 ghost use Rattle.nd_nexthop.specs.DefaultRouter.{DefaultRouter, first_usable, chosen_router, AllLater, NoneBefore};
 
 /// What happened gives one table, in which a look-up finds the kept redirect of each destination; and one list, which has the kept
 /// redirect of each destination, and 64 at most.
 pub fn one_answer()
-    ensures table { (history : List RedirectRow) (a b : List (ℕ × Option ℕ)) → Stands a history → Stands b history → a ≡ b }
-    ensures found { (history : List RedirectRow) (entries : List (ℕ × Option ℕ)) (key : ℕ) → Stands entries history → target_in key entries ≡ kept key history }
+    ensures table { (history : List RedirectRow) (a b : Table) → Stands a history → Stands b history → a.redirects ≡ b.redirects }
+    ensures found { (history : List RedirectRow) (choice : Table) (key : ℕ) → Stands choice history → target_in key choice.redirects ≡ kept key history }
     ensures list { (history : List RedirectRow) (key : ℕ) → lookup (nat_eq key) (redirects history) ≡ kept key history }
     ensures few { (history : List RedirectRow) → length (redirects history) ≤ max_redirects }
 {}

@@ -6,6 +6,7 @@ mod default_router;
 mod end_of_redirects;
 mod kept_redirects;
 pub mod laws;
+mod memo;
 mod next_hop;
 mod redirect;
 mod target;

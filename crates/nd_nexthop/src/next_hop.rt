@@ -1,4 +1,4 @@
-ghost use Rattle.std.specs.Prelude.{◌≡◌, List, option_map};
+ghost use Rattle.std.specs.Prelude.{◌≡◌, ◌⊎◌, ℕ, List, Contains, option_map, true};
 ghost use Rattle.nd_addr.specs.Number.{number_of};
 ghost use Rattle.nd_nexthop.specs.NextHop.{hop_of, hop, by_redirect, is_own_or_none};
 ghost use Rattle.nd_nexthop.specs.DefaultRouter.{chosen_router};
@@ -8,6 +8,7 @@ use crate::choice::Choice;
 use crate::default_router::chosen_router;
 use crate::view::View;
 use nd_addr::Addr;
+use nd_addr::laws::addresses_are_told_by_numbers;
 use nd_table::compare;
 use std::alloc::Allocator;
 
@@ -22,21 +23,45 @@ pub enum Hop {
     NoRoute,
 }
 
-impl<A: Allocator> Choice<A> {
-    ghost use Rattle.nd_nexthop.specs.Choice.{Stands, target_in};
+impl<A: Allocator + Clone> Choice<A> {
+    ghost use Rattle.nd_nexthop.specs.declared.next_hop.Hop.{Hop as Answer};
+    ghost use Rattle.nd_nexthop.specs.Memo.{is_asked};
+    ghost use Rattle.nd_nexthop.specs.Choice.{Agrees, Stands, target_in};
 
-    /// The next hop of a packet (RFC 4861, section 5.2). It takes no memory.
-    pub fn next_hop<V: View>(&mut self, destination: Addr, view: &V) -> Hop
-        ensures value { hop_of result ≡ hop (V.own view.now) (V.linked view.now) (V.candidates view.now) (target_in (number_of destination.0) self.old) destination.0 }
-        ensures by_history { (history : List RedirectRow) → Stands self.old history → hop_of result ≡ hop (V.own view.now) (V.linked view.now) (V.candidates view.now) (kept (number_of destination.0) history) destination.0 }
+    /// The next hop of a packet at a moment, in milliseconds (RFC 4861, section 5.2), where what is remembered agrees with the view. It
+    /// remembers this answer, if it can: want of memory changes nothing else.
+    pub fn next_hop<V: View>(&mut self, now: u64, destination: Addr, view: &V) -> Hop
+        ensures value { Agrees now (V.own view.now) (V.linked view.now) (V.candidates view.now) self.old
+            → hop_of result ≡ hop (V.own view.now) (V.linked view.now) (V.candidates view.now) (target_in (number_of destination.0) self.old.redirects) destination.0 }
+        ensures by_history { Agrees now (V.own view.now) (V.linked view.now) (V.candidates view.now) self.old
+            → (history : List RedirectRow) → Stands self.old history → hop_of result ≡ hop (V.own view.now) (V.linked view.now) (V.candidates view.now) (kept (number_of destination.0) history) destination.0 }
+        ensures agrees { Agrees now (V.own view.now) (V.linked view.now) (V.candidates view.now) self.old → Agrees now (V.own view.now) (V.linked view.now) (V.candidates view.now) self.new }
         ensures stands { (history : List RedirectRow) → Stands self.old history → Stands self.new history }
+
+        // What is remembered then was remembered before, or is this answer, where it may be asked for at the moment.
+        ensures remembers { (e : ℕ × Answer) → Contains self.new.memory.hops e → Contains self.old.memory.hops e ⊎ ((is_asked now self.old.memory.until ≡ true) × (e ≡ (number_of destination.0, result))) }
+        ensures redirects { self.new.redirects ≡ self.old.redirects }
+        ensures until { self.new.memory.until ≡ self.old.memory.until }
     {
-        determine(self.target(destination), destination, view)
+        addresses_are_told_by_numbers();
+        let _bytes = destination.as_bytes();
+        match self.memo.recall(now, destination) {
+            Some(hop) => hop,
+            None => {
+                let hop = determine(self.target(destination), destination, view);
+                self.memo.remember(now, destination, hop);
+                hop
+            }
+        }
     }
+}
+
+impl<A: Allocator> Choice<A> {
+    ghost use Rattle.nd_nexthop.specs.Choice.{target_in};
 
     /// The target of a destination's kept redirect. Asking leaves the order in which redirects are forgotten.
     fn target(&self, destination: Addr) -> Option<Addr>
-        ensures { option_map (λ a. number_of a.0) result ≡ target_in (number_of destination.0) self.now }
+        ensures { option_map (λ a. number_of a.0) result ≡ target_in (number_of destination.0) self.now.redirects }
     {
         match self.redirects.peek(&destination.to_bits()) {
             Some(target) => target.addr(),

@@ -1,6 +1,7 @@
 ghost use Rattle.std.specs.Prelude.{◌≡◌, ℕ, OnOk, OnErr, IsOk, IsSome, nat_eq};
 ghost use Rattle.std.specs.Map.{lookup};
 ghost use Rattle.nd_addr.specs.Number.{number_of};
+ghost use Rattle.nd_nexthop.specs.Memo.{forgotten};
 
 use crate::choice::Choice;
 use crate::target::Target;
@@ -12,15 +13,17 @@ impl<A: Allocator + Clone> Choice<A> {
     ghost use Rattle.nd_nexthop.specs.Choice.{GainsRow};
 
     /// A Redirect tells the better first hop of a destination, its target (RFC 4861, section 8.3). Where 64 other destinations were
-    /// redirected since the last one of a destination, that one is forgotten. The error is want of memory, and then nothing has
-    /// changed.
+    /// redirected since the last one of a destination, that one is forgotten. No next hop is remembered. The error is want of memory, and
+    /// then nothing has changed.
     pub fn redirected(&mut self, destination: Addr, target: Addr) -> Result<(), AllocError>
         ensures stands { OnOk result ((at : ℕ) → GainsRow self.old self.new (Redirected at (number_of destination.0) (number_of target.0))) }
+        ensures memory { OnOk result (self.new.memory ≡ forgotten self.old.memory) }
         ensures same { OnErr result (self.new ≡ self.old) }
-        ensures known { IsSome (lookup (nat_eq (number_of destination.0)) self.old) → IsOk result }
+        ensures known { IsSome (lookup (nat_eq (number_of destination.0)) self.old.redirects) → IsOk result }
     {
         self.redirects
             .put(destination.to_bits(), Target::of(target))?;
+        self.memo.forget();
         Ok(())
     }
 }

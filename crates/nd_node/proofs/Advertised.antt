@@ -62,6 +62,11 @@ use Rattle.nd_effects.specs.DefaultRouter.{with_left, with_gone}
 use Rattle.nd_effects.specs.LinkLayerAddress.{PreparesFor, released_frames, HearsOf}
 use Rattle.nd_effects.specs.LinkParameters.{then_parameters, HearsParameters}
 use Rattle.nd_effects.specs.PrefixOptions.{Forms}
+use Rattle.nd_nexthop.specs.Memo.{is_asked}
+use Rattle.nd_slaac.specs.Calls.{keys_in}
+use Rattle.nd_effects.specs.Remembered.{AsListed, AsStanding, MayRemember, Recollects, forms_none, last_before_end}
+use Rattle.nd_node.proofs.Recalling.{Recalls, own_by}
+use Rattle.nd_node.proofs.Refreshing.{is_known_by, own_refreshed, recalls_refreshed}
 use Rattle.nd_effects.specs.RouterAdvertisement.{left_told}
 use Rattle.nd_effects.specs.RouterSolicitations as soliciting
 use Rattle.nd_effects.specs.RouterSolicitations.{Solicitations, next_solicitation}
@@ -81,14 +86,14 @@ use Rattle.nd_node.proofs.Turns.{all_later, addresses_before, neighbours_before,
 
 -- laws of the own addresses
 abbrev pub AddressesOverdue : Type 0
-AddressesOverdue = (table : List Address) (history : List address_rows.Row) (now : ℕ) → addresses.Stands table history → address_dates.NoneBefore table now ↔ address_due.NoneOverdue history now
+AddressesOverdue = (transmits : ℕ) (table : List Address) (history : List address_rows.Row) (now : ℕ) → addresses.Stands table history → address_dates.NoneBefore table now ↔ address_due.NoneOverdue transmits history now
 
 abbrev pub AddressesStill : Type 0
-AddressesStill = (history : List address_rows.Row) (now key : ℕ) (kind : address_rows.RowKind) → address_due.NoneOverdue history now → address_due.NoneOverdue ((now, key, kind) ∷ history) now
+AddressesStill = (transmits : ℕ) (history : List address_rows.Row) (now key : ℕ) (kind : address_rows.RowKind) → address_due.NoneOverdue transmits history now → address_due.NoneOverdue transmits ((now, key, kind) ∷ history) now
 
 -- ---- what the prefix options leave as it was
 
-module _ (now : ℕ) (still : AddressesStill) where
+module _ (transmits now : ℕ) (still : AddressesStill) where
   record Beside (c d : Chronicle) : Type 0 where
     parameters : parameter_history d ≡ parameter_history c
     neighbours : neighbour_history d ≡ neighbour_history c
@@ -100,7 +105,7 @@ module _ (now : ℕ) (still : AddressesStill) where
     solicited : solicited_routers d ≡ solicited_routers c
     router : (start : Start) → router_side start d ≡ router_side start c
     assigned : (key : ℕ) → assigned_at key (address_history d) ≡ assigned_at key (address_history c)
-    in_time : address_due.NoneOverdue (address_history c) now → address_due.NoneOverdue (address_history d) now
+    in_time : address_due.NoneOverdue transmits (address_history c) now → address_due.NoneOverdue transmits (address_history d) now
     last : ((at : ℕ) → last_moment at c ≡ now) → (at : ℕ) → last_moment at d ≡ now
     told : items d ≡ items c
 
@@ -168,7 +173,7 @@ module _ (now : ℕ) (still : AddressesStill) where
     solicited = refl;
     router = λ start. refl;
     assigned = λ key. refl;
-    in_time = λ h. still (address_history c) now key (address_rows.Formed delay retrans lifetimes) h;
+    in_time = λ h. still transmits (address_history c) now key (address_rows.Formed delay retrans lifetimes) h;
     last = λ h at. refl;
     told = append-nil (items c);
   }
@@ -185,7 +190,7 @@ module _ (now : ℕ) (still : AddressesStill) where
     solicited = refl;
     router = λ start. refl;
     assigned = λ key. refl;
-    in_time = λ h. still (address_history c) now key (address_rows.Announced lifetimes) h;
+    in_time = λ h. still transmits (address_history c) now key (address_rows.Announced lifetimes) h;
     last = λ h at. refl;
     told = append-nil (items c);
   }
@@ -362,6 +367,19 @@ pub record Takes {R A : Type 0} (stream : R → Stream) (old new : Node R A) (be
   pub times_out : (history : List router_rows.RouterRow) → router_list.Stands old.routers history → left_list ≡ ((ra.router_lifetime == 0) && lifetimes.stands same (number_of source.0) (announcements history) now)
   pub routers : (history : List router_rows.RouterRow) → router_list.Stands old.routers history → router_list.Stands new.routers (with_left now left_list (number_of source.0) (router_rows.Heard now (number_of source.0) ra.router_lifetime ∷ history))
   pub redirects : (history : List redirect_rows.RedirectRow) → choice.Stands old.choice history → choice.Stands new.choice (with_gone now left_list (number_of source.0) history)
+  -- the choice behind the news of the sender, behind the routers, and behind the prefixes
+  pub first : choice.Table
+  pub second : choice.Table
+  pub third : choice.Table
+  pub may : MayRemember old.choice first old.neighbours.nodes new.neighbours.nodes
+  pub listed : Recollects first second (AsListed first second old.routers new.routers)
+  pub linked : Recollects second third (AsStanding now old.prefixes new.prefixes)
+  pub redirects_third : third.redirects ≡ second.redirects
+  pub redirects_then : new.choice.redirects ≡ third.redirects
+  pub own : Bool
+  pub own_is : own ≡ forms_none old.addresses.mac (keys_in old.addresses.addresses) (prefixes_in options)
+  pub hops : new.choice.memory.hops ≡ (if own && is_asked now third.memory.until then third.memory.hops else [])
+  pub until : new.choice.memory.until ≡ last_before_end now new.prefixes
   pub routers_settled : router_list.IsSettled new.routers.entries now
   pub router_limit : new.routers.limit ≡ old.routers.limit
   pub left_is_told : told.happenings after ≡ told.happenings between ++ at_moment now (left_told left_list (number_of source.0))
@@ -431,8 +449,8 @@ module _ {R A : Type 0} (stream : R → Stream) (old new : Node R A) (before aft
   leaving_adds : Leaves now source_key leaves released left
   leaving_adds = leaves_by now source_key leaves released
 
-  options_add : Beside now laws.addresses_still left all
-  options_add = options_beside now laws.addresses_still start (holds multicast_prefix destination.0) (prefixes_in options) left
+  options_add : Beside start.transmits now laws.addresses_still left all
+  options_add = options_beside start.transmits now laws.addresses_still start (holds multicast_prefix destination.0) (prefixes_in options) left
 
   released_last : (at : ℕ) → last_moment at released ≡ now
   released_last at = frames_add.last at ∙ message_adds.last at
@@ -466,6 +484,7 @@ module _ {R A : Type 0} (stream : R → Stream) (old new : Node R A) (before aft
   forms_left = record {
     addresses = subst (λ (h : List address_rows.Row). addresses.Stands old.addresses.addresses h) (sym addresses_are) s.addresses;
     mac = s.address_mac;
+    transmits = s.address_transmits;
     generator = t.params.generator start placed source destination params_placed generator_placed ∙ sym (leaving_adds.stream start ∙ frames_add.stream start);
     in_force = t.in_force ∙ (params_begun.retrans_timer ∙ ap (λ (h : List parameter_rows.Row). parameter_rows.retrans_of h) (sym (leaving_adds.parameters ∙ frames_add.parameters)));
   }
@@ -532,8 +551,8 @@ module _ {R A : Type 0} (stream : R → Stream) (old new : Node R A) (before aft
 
   addresses_in_time : address_dates.NoneBefore new.addresses.addresses now
   addresses_in_time =
-      (laws.addresses_overdue new.addresses.addresses (address_history all) now forms_all.addresses).1
-      (options_add.in_time (subst (λ (h : List address_rows.Row). address_due.NoneOverdue h now) (sym addresses_are) ((laws.addresses_overdue old.addresses.addresses (address_history c) now s.addresses).0 (addresses_before old now not_past))))
+      (laws.addresses_overdue start.transmits new.addresses.addresses (address_history all) now forms_all.addresses).1
+      (options_add.in_time (subst (λ (h : List address_rows.Row). address_due.NoneOverdue start.transmits h now) (sym addresses_are) ((laws.addresses_overdue start.transmits old.addresses.addresses (address_history c) now s.addresses).0 (addresses_before old now not_past))))
 
   neighbours_in_time : neighbour_dates.NoneBefore new.neighbours.nodes now
   neighbours_in_time =
@@ -578,6 +597,15 @@ module _ {R A : Type 0} (stream : R → Stream) (old new : Node R A) (before aft
     outs = t.left_is_told;
   }
 
+  -- ---- what is remembered
+
+  recalls : Recalls now new
+  recalls =
+      recalls_refreshed old new old.last now (omega (arith, s.last, le)) s.memo t.first t.second t.third t.own t.may t.listed t.linked t.redirects_third t.redirects_then t.hops t.until (neighbour_history c) s.neighbours
+      (λ mine. own_by old.addresses.addresses new.addresses.addresses (address_history c) (address_history all) s.addresses forms_all.addresses
+      (own_refreshed start now (holds multicast_prefix destination.0) c left old.addresses.mac old.addresses.addresses (prefixes_in options) s.address_mac
+      (λ key. is_known_by key old.addresses.addresses (address_history c) s.addresses) addresses_are (sym t.own_is ∙ mine)))
+
   -- ---- the node stands for the chronicle with all of it
 
   stands_all : Stands stream start new all
@@ -585,6 +613,7 @@ module _ {R A : Type 0} (stream : R → Stream) (old new : Node R A) (before aft
     role = t.role ∙ s.role;
     mac = t.mac ∙ s.mac;
     address_mac = forms_all.mac;
+    address_transmits = forms_all.transmits;
     neighbour_limit = t.neighbour_limit ∙ s.neighbour_limit;
     router_limit = t.router_limit ∙ s.router_limit;
     params = subst (λ (h : List parameter_rows.Row). parameters.Stands new.params h) (sym parameters_are) params_begun;
@@ -602,6 +631,7 @@ module _ {R A : Type 0} (stream : R → Stream) (old new : Node R A) (before aft
     prefixes_by_then = rw (prefixes_are, all_last start.at) (last_announced now (on_link.prefixes_in options) (prefix_history c) prefixes_came);
     servers_by_then = rw (servers_are, all_last start.at) (last_announced now (servers_told options) (server_history c) servers_came);
     names_by_then = rw (names_are, all_last start.at) (last_announced now (names_told options) (name_history c) names_came);
+    memo = rw t.last recalls;
     in_time = rw (all_last start.at) in_time;
   }
 

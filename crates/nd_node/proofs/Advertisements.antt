@@ -1,6 +1,6 @@
 -- A Neighbor Advertisement, and the chronicle that a node stands for.
 use Rattle.std.proofs.Common.{◌≡◌, ◌↔◌, ℕ, ◌<◌, ◌≤◌, Bool, true, false, List, [], ◌∷◌, ◌++◌, append-nil, Option, Some, None, refl, sym, ◌∙◌, ap, subst, arith}
-use Rattle.std.specs.Prelude.{◌&&◌}
+use Rattle.std.specs.Prelude.{◌&&◌, if◌then◌else◌}
 use Rattle.std.specs.List.{flat_map}
 use Rattle.std.specs.Option.{option_map}
 use Rattle.rand_core.specs.Stream.{Stream}
@@ -47,6 +47,9 @@ use Rattle.nd_effects.proofs.Telling.{one, above_silent, Tells-then, one_more}
 use Rattle.nd_node.specs.declared.node.Node.{Node}
 use Rattle.nd_node.specs.Hearing.{AddsMessage}
 use Rattle.nd_node.specs.Node.{next_of}
+use Rattle.nd_nexthop.specs.Memo.{forgotten}
+use Rattle.nd_effects.specs.Remembered.{MayRemember}
+use Rattle.nd_node.proofs.Recalling.{Recalls, forgot_redirects, may_redirects, own_same, recalls_advertised, redirects_stand}
 use Rattle.nd_node.proofs.Standing.{Apart, Still, apart_quiet, apart_then, settled_none, stands_at}
 use Rattle.nd_node.proofs.Turns.{addresses_before, neighbours_before}
 
@@ -133,14 +136,14 @@ left_list now false key c is = record {
 -- ---- what it adds
 
 abbrev StillOverdue : Type 0
-StillOverdue = (history : List address_rows.Row) (now key : ℕ) (kind : address_rows.RowKind) → address_due.NoneOverdue history now → address_due.NoneOverdue ((now, key, kind) ∷ history) now
+StillOverdue = (transmits : ℕ) (history : List address_rows.Row) (now key : ℕ) (kind : address_rows.RowKind) → address_due.NoneOverdue transmits history now → address_due.NoneOverdue transmits ((now, key, kind) ∷ history) now
 
 abbrev ByTable : Type 0
-ByTable = (those : List own.Address) (history : List address_rows.Row) (now : ℕ) → addresses.Stands those history → address_dates.NoneBefore those now ↔ address_due.NoneOverdue history now
+ByTable = (transmits : ℕ) (those : List own.Address) (history : List address_rows.Row) (now : ℕ) → addresses.Stands those history → address_dates.NoneBefore those now ↔ address_due.NoneOverdue transmits history now
 
-conflict_later : StillOverdue → (now : ℕ) (b : Bool) (key : ℕ) (history : List address_rows.Row) → address_due.NoneOverdue history now → address_due.NoneOverdue (with_conflict now b key history) now
-conflict_later still now true key history h = still history now key address_rows.Conflict h
-conflict_later still now false key history h = h
+conflict_later : StillOverdue → (transmits now : ℕ) (b : Bool) (key : ℕ) (history : List address_rows.Row) → address_due.NoneOverdue transmits history now → address_due.NoneOverdue transmits (with_conflict now b key history) now
+conflict_later still transmits now true key history h = still transmits history now key address_rows.Conflict h
+conflict_later still transmits now false key history h = h
 
 module _ {R A : Type 0} (stream : R → Stream) (old new : Node R A) (x room y1 y2 y3 z : List (ℕ × Out A)) (now : ℕ) (source destination : Addr) (na : NeighborAdvertisement) (options : List Said)
     (settled : now < next_of old) (times : Times) (news : Option News) (ends left tentative : Bool) (heard : Out A)
@@ -150,7 +153,8 @@ module _ {R A : Type 0} (stream : R → Stream) (old new : Node R A) (x room y1 
     (reserved : room ≡ x) (told : y1 ≡ room ++ (now, heard) ∷ []) (heard_is : happening heard ≡ Heard source destination (record { body = bodies.Na na; options = [] }))
     (conflicts : Conflicts now (number_of na.target.0) old.addresses.addresses new.addresses.addresses y1 y2 tentative)
     (hears : HearsOf old.neighbours.limit now (option_map (said_by times) news) old.neighbours.nodes new.neighbours.nodes y2 y3 ends)
-    (leaves : Leaves now (number_of na.target.0) ends old.routers new.routers old.choice new.choice y3 z left)
+    (first second : choice.Table) (holds : first ≡ (if tentative then record old.choice { memory = forgotten old.choice.memory } else old.choice)) (may : MayRemember first second old.neighbours.nodes new.neighbours.nodes)
+    (leaves : Leaves now (number_of na.target.0) ends old.routers new.routers second new.choice y3 z left)
     (routers_settled : IsSettled new.routers.entries now) where
   pub adds_advertisement : AddsMessage stream old new x z now source destination (advertisement na options)
   adds_advertisement = record {
@@ -190,17 +194,19 @@ module _ {R A : Type 0} (stream : R → Stream) (old new : Node R A) (x room y1 
         let addresses_are : address_history d ≡ with_conflict now t key (address_history c) = k3.addresses ∙ (q.addresses ∙ k1.addresses) in
         let neighbours_are : neighbour_history d ≡ (now, key, kind) ∷ history = k3.neighbours ∙ (q.neighbours ∙ k1.neighbours) in
         let routers' = subst (λ r. routers.Stands new.routers r) (sym routers_are) (subst (λ (b : Bool). routers.Stands new.routers (with_left now b key (router_history c))) left_is lv.1) in
-        let redirects' = subst (λ r. choice.Stands new.choice r) (sym redirects_are) (subst (λ (b : Bool). choice.Stands new.choice (with_gone now b key (redirect_history c))) left_is (leaves.redirects (redirect_history c) s.redirects)) in
+        let redirects' = subst (λ r. choice.Stands new.choice r) (sym redirects_are) (subst (λ (b : Bool). choice.Stands new.choice (with_gone now b key (redirect_history c))) left_is (leaves.redirects (redirect_history c) (redirects_stand old.choice second (redirect_history c) (may_redirects first second old.neighbours.nodes new.neighbours.nodes may ∙ forgot_redirects tentative old.choice first holds) s.redirects))) in
         let own' : addresses.Stands new.addresses.addresses (with_conflict now t key (address_history c)) = subst (λ (b : Bool). addresses.Stands new.addresses.addresses (with_conflict now b key (address_history c))) cf.0 cf.1 in
         let addresses' = subst (λ r. addresses.Stands new.addresses.addresses r) (sym addresses_are) own' in
         let made_is : h.0 ≡ history = h.1 in
         let nodes' : neighbours.Stands new.neighbours.nodes ((now, key, kind) ∷ history) = subst (λ (m : List rows.Row). neighbours.Stands new.neighbours.nodes ((now, key, kind) ∷ m)) made_is h.2 in
         let neighbours' = subst (λ r. neighbours.Stands new.neighbours.nodes r) (sym neighbours_are) nodes' in
-        let none_address = (address_table new.addresses.addresses (with_conflict now t key (address_history c)) now own').1
-        (conflict_later still_addresses now t key (address_history c) ((address_table old.addresses.addresses (address_history c) now s.addresses).0 (addresses_before old now not_past))) in
+        let none_address = (address_table start.transmits new.addresses.addresses (with_conflict now t key (address_history c)) now own').1
+        (conflict_later still_addresses start.transmits now t key (address_history c) ((address_table start.transmits old.addresses.addresses (address_history c) now s.addresses).0 (addresses_before old now not_past))) in
         let none_neighbour = none_before_said table still one_goes limit now this old.neighbours.nodes new.neighbours.nodes history h.0 s.neighbours h.1 h.2 (neighbours_before old now not_past) in
+        let recalls : Recalls now new = recalls_advertised old new old.last now (omega (arith, s.last, le)) s.memo same'.prefixes first second tentative left holds may leaves.remembers history s.neighbours
+        (λ e. own_same old.addresses.addresses new.addresses.addresses (address_history c) s.addresses (subst (λ (b : Bool). addresses.Stands new.addresses.addresses (with_conflict now b key (address_history c))) e cf.1)) in
         let stands' = stands_at stream start old new c d now same' apart s le not_past (k3.last start.at)
-        routers' (settled_none now (routers.next_end new.routers.entries) routers_settled) addresses' none_address neighbours' none_neighbour redirects' in
+        routers' (settled_none now (routers.next_end new.routers.entries) routers_settled) addresses' none_address neighbours' none_neighbour redirects' recalls in
         let heard_items : Tells c e0 x y1 = record {
           newer = (now, Heard source destination (record { body = bodies.Na na; options = [] })) ∷ [];
           told = above_silent (items c) (items_at (now, Heard source destination message));

@@ -49,6 +49,7 @@ use Rattle.nd_node.specs.Node.{Stands, next_of}
 use Rattle.nd_node.specs.Packet.{PacketGoes}
 use Rattle.nd_node.specs.Time.{Leads}
 use Rattle.nd_node.specs.Hearing.{AddsMessage}
+use Rattle.nd_effects.specs.Remembered.{MayRemember}
 use Rattle.nd_node.proofs.Beside.{Beside, Same, beside_then, stands_neighbours}
 use Rattle.nd_node.proofs.Detections.{solicitation}
 use Rattle.nd_node.proofs.Quiet.{stands_quiet, refused_is_quiet}
@@ -195,7 +196,7 @@ module _ {R A : Type 0} (stream : R → Stream) (old new : Node R A) (x y : List
 module _ {R A : Type 0} (stream : R → Stream) (old mid : Node R A) (x room y z : List (ℕ × Out A)) (now : ℕ) (source destination : Addr) (ns : NeighborSolicitation) (options : List Said)
     (settled : now < next_of old) (times : Times) (news : Option News) (ends : Bool) (heard : Out A)
     (still : NoneOverdueStill) (table : OverdueByTable) (one_goes : OneGoes)
-    (same : Same (record old { last = now }) mid) (addresses_same : mid.addresses ≡ old.addresses)
+    (same : Same (record old { last = now }) mid) (addresses_same : mid.addresses ≡ old.addresses) (may : MayRemember old.choice mid.choice old.neighbours.nodes mid.neighbours.nodes)
     (news_is : option_map (said_by times) news ≡ said_of_neighbour source (bodies.Ns ns) options times.reachable) (reachable_is : times.reachable ≡ old.params.reachable_time)
     (hears : HearsOf old.neighbours.limit now (option_map (said_by times) news) old.neighbours.nodes mid.neighbours.nodes y z ends)
     (reserved : room ≡ x) (told : y ≡ room ++ (now, heard) ∷ []) (heard_is : happening heard ≡ Heard source destination (record { body = bodies.Ns ns; options = [] })) where
@@ -234,7 +235,7 @@ module _ {R A : Type 0} (stream : R → Stream) (old mid : Node R A) (x room y z
       let stands_base : Stands stream start base later = passed stream start old base c now s le settled refl in
       let b : Beside later before = beside_then later p.placed before (others_beside later p.placed p.others) (heard_beside now source destination ns options p.placed) in
       let stands_before : Stands stream start mid before =
-      stands_neighbours stream start base mid later before now same b stands_base refl refl addresses_same p.others.addresses n none in
+      stands_neighbours stream start base mid later before now same b stands_base refl refl addresses_same p.others.addresses n none may in
       let kept : released_frames now this (neighbour_history p.placed) ≡ released_frames now this history =
       ap (λ (l : List rows.Row). released_frames now this l) p.history ∙ released_kept limit now this history made h.1 in
       let row : List (ℕ × Told) = items_at (now, Heard source destination message) in

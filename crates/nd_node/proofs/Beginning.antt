@@ -22,6 +22,7 @@ use Rattle.nd_chronicle.specs.History.{beginning}
 use Rattle.nd_effects.specs.RouterSolicitations.{Solicitations, next_solicitation}
 use Rattle.nd_node.specs.declared.node.Node.{Node}
 use Rattle.nd_node.specs.Node.{Stands}
+use Rattle.nd_effects.proofs.Remembering.{remembers_nothing}
 use Rattle.nd_node.proofs.Turns.{all_later}
 
 abbrev none_sent : Solicitations
@@ -42,12 +43,15 @@ pub record Starts {R A : Type 0} (stream : R → Stream) (start : Start) (node :
   pub last : node.last ≡ start.at
   pub drawn_at : node.params.drawn_at ≡ start.at
   pub address_mac : node.addresses.mac ≡ start.mac
+  pub address_transmits : node.addresses.transmits ≡ start.transmits
   pub delay : ℕ
   pub retrans : ℕ
   pub formed : node.addresses.addresses ≡ formed (link_local_key start) start.at delay retrans None ∷ []
   pub routers : node.routers ≡ record { limit = start.limits.routers; entries = []; failed = [] }
   pub neighbours : node.neighbours ≡ record { limit = start.limits.neighbours; nodes = []; rings = 0 }
   pub solicitations : node.solicitations ≡ none_sent
+  pub no_prefixes : node.prefixes ≡ []
+  pub choice : node.choice ≡ record { redirects = []; memory = record { hops = []; until = None } }
   pub advertiser : node.router.advertiser ≡ record { assigned = None; last = None; advertising = None; offers = [] }
   pub routes : node.router.routes ≡ record { entries = []; redirected = None }
 
@@ -59,6 +63,7 @@ stands_beginning stream start node v params routers' prefixes addresses' neighbo
   role = v.role;
   mac = v.mac;
   address_mac = v.address_mac;
+  address_transmits = v.address_transmits;
   neighbour_limit = ap (λ (t : neighbours.Table). t.limit) v.neighbours;
   router_limit = ap (λ (t : routers.Table). t.limit) v.routers;
   params = params;
@@ -79,5 +84,6 @@ stands_beginning stream start node v params routers' prefixes addresses' neighbo
   prefixes_by_then = omega arith;
   servers_by_then = omega arith;
   names_by_then = omega arith;
+  memo = rw (v.no_prefixes, v.choice) (remembers_nothing node.last _ node.addresses.addresses [] node.neighbours.nodes node.routers refl (λ moment after asked. refl));
   in_time = all_later node start.at (rw v.routers tt) (rw v.formed (omega arith)) (rw v.neighbours tt) (rw v.solicitations (none_is_due node.role start.at)) (rw v.advertiser (none_advertised node.role start.at)) (omega (arith, v.drawn_at));
 }

@@ -1,5 +1,5 @@
 -- Where neighbours and own addresses alone have more rows, the other tables stand for the same.
-use Rattle.std.proofs.Common.{◌≡◌, ℕ, ◌≤◌, ◌∷◌, List, refl, sym, ◌∙◌, ap, arith}
+use Rattle.std.proofs.Common.{◌≡◌, ℕ, ◌≤◌, ◌∷◌, List, refl, sym, ◌∙◌, ap, subst, arith}
 use Rattle.rand_core.specs.Stream.{Stream}
 use Rattle.nd_neighbour.specs.History.{RowKind}
 use Rattle.nd_neighbour.specs.Table as neighbours
@@ -18,6 +18,10 @@ use Rattle.nd_effects.proofs.Quiet.{Quiet}
 use Rattle.nd_effects.proofs.RouterSide.{side_stands}
 use Rattle.nd_node.specs.declared.node.Node.{Node}
 use Rattle.nd_node.specs.Node.{Stands, next_of}
+use Rattle.nd_nexthop.specs.Choice.{Table}
+use Rattle.nd_nexthop.specs.Memo.{forgotten}
+use Rattle.nd_effects.specs.Remembered.{MayRemember}
+use Rattle.nd_node.proofs.Recalling.{Recalls, forgets_all, may_recall, redirects_stand}
 use Rattle.nd_node.proofs.Turns.{all_later, routers_before, addresses_before, neighbours_before, solicitation_before, advertisement_before, redraw_before}
 
 -- ---- the chronicle
@@ -107,10 +111,11 @@ pub record Same {R A : Type 0} (old new : Node R A) : Type 0 where
   pub routers : new.routers ≡ old.routers
   pub prefixes : new.prefixes ≡ old.prefixes
   pub dns : new.dns ≡ old.dns
-  pub choice : new.choice ≡ old.choice
+  pub redirects : new.choice.redirects ≡ old.choice.redirects
   pub solicitations : new.solicitations ≡ old.solicitations
   pub router : new.router ≡ old.router
   pub address_mac : new.addresses.mac ≡ old.addresses.mac
+  pub address_transmits : new.addresses.transmits ≡ old.addresses.transmits
   pub neighbour_limit : new.neighbours.limit ≡ old.neighbours.limit
 
 module _ {R A : Type 0} (stream : R → Stream) (start : Start) (old new : Node R A) (c d : Chronicle) (now : ℕ)
@@ -121,11 +126,12 @@ module _ {R A : Type 0} (stream : R → Stream) (start : Start) (old new : Node 
   -- the neighbours and the own addresses stand for their rows, and none is due in the past
   pub stands_beside : addresses.Stands new.addresses.addresses (address_history d) → address_dates.NoneBefore new.addresses.addresses now
       → neighbours.Stands new.neighbours.nodes (neighbour_history d) → neighbour_dates.NoneBefore new.neighbours.nodes now
-      → Stands stream start new d
-  stands_beside addresses' later_address neighbours' later_neighbour = record {
+      → Recalls now new → Stands stream start new d
+  stands_beside addresses' later_address neighbours' later_neighbour recalls = record {
     role = same.role ∙ s.role;
     mac = same.mac ∙ s.mac;
     address_mac = same.address_mac ∙ s.address_mac;
+    address_transmits = same.address_transmits ∙ s.address_transmits;
     neighbour_limit = same.neighbour_limit ∙ s.neighbour_limit;
     router_limit = rw same.routers s.router_limit;
     params = rw (same.params, b.parameters) s.params;
@@ -134,7 +140,7 @@ module _ {R A : Type 0} (stream : R → Stream) (start : Start) (old new : Node 
     addresses = addresses';
     neighbours = neighbours';
     dns = rw (same.dns, b.servers, b.names) s.dns;
-    redirects = rw (same.choice, b.redirects) s.redirects;
+    redirects = redirects_stand old.choice new.choice (redirect_history d) same.redirects (rw b.redirects s.redirects);
     solicitations = rw same.solicitations (record {
       assigned = s.solicitations.assigned ∙ sym (b.assigned (link_local_key start));
       sent = s.solicitations.sent ∙ sym b.solicited;
@@ -146,18 +152,21 @@ module _ {R A : Type 0} (stream : R → Stream) (start : Start) (old new : Node 
     prefixes_by_then = rw (b.prefixes, end) (omega (arith, s.prefixes_by_then, at));
     servers_by_then = rw (b.servers, end) (omega (arith, s.servers_by_then, at));
     names_by_then = rw (b.names, end) (omega (arith, s.names_by_then, at));
+    memo = subst (λ (t : ℕ). Recalls t new) (sym (same.last ∙ (s.last ∙ at))) recalls;
     in_time = rw end (all_later new now (rw same.routers (routers_before old now not_past)) later_address later_neighbour
         (rw (same.role, same.solicitations) (solicitation_before old now not_past)) (rw (same.role, same.router) (advertisement_before old now not_past)) (rw same.params (redraw_before old now not_past)));
   }
 
   -- rows of neighbours alone
   pub stands_neighbours : new.addresses ≡ old.addresses → address_history d ≡ address_history c
-      → neighbours.Stands new.neighbours.nodes (neighbour_history d) → neighbour_dates.NoneBefore new.neighbours.nodes now → Stands stream start new d
-  stands_neighbours is own neighbours' later =
+      → neighbours.Stands new.neighbours.nodes (neighbour_history d) → neighbour_dates.NoneBefore new.neighbours.nodes now → MayRemember old.choice new.choice old.neighbours.nodes new.neighbours.nodes → Stands stream start new d
+  stands_neighbours is own neighbours' later may =
       stands_beside (rw (is, own) s.addresses) (rw is (addresses_before old now not_past)) neighbours' later
+      (may_recall old new old.last now (omega (arith, s.last, at)) s.memo same.prefixes may same.routers (rw is (λ key. refl)) (neighbour_history c) s.neighbours)
 
   -- rows of own addresses alone
   pub stands_addresses : new.neighbours ≡ old.neighbours → neighbour_history d ≡ neighbour_history c
-      → addresses.Stands new.addresses.addresses (address_history d) → address_dates.NoneBefore new.addresses.addresses now → Stands stream start new d
-  stands_addresses is others addresses' later =
+      → addresses.Stands new.addresses.addresses (address_history d) → address_dates.NoneBefore new.addresses.addresses now → new.choice ≡ record old.choice { memory = forgotten old.choice.memory } → Stands stream start new d
+  stands_addresses is others addresses' later forgot =
       stands_beside addresses' later (rw (is, others) s.neighbours) (rw is (neighbours_before old now not_past))
+      (forgets_all old new old.last now (omega (arith, s.last, at)) s.memo same.prefixes (ap (λ (t : Table). t.memory) forgot))

@@ -38,6 +38,10 @@ use Rattle.nd_effects.proofs.Telling.{lost_at, lost_items, left_at, numbers}
 use Rattle.nd_node.specs.declared.node.Node.{Node}
 use Rattle.nd_node.specs.Event.{AddsEvent}
 use Rattle.nd_node.specs.Node.{Stands, next_of}
+use Rattle.nd_nexthop.specs.Memo.{forgotten}
+use Rattle.nd_effects.specs.Remembered.{MayRemember, Remembers}
+use Rattle.nd_effects.proofs.Remembering.{remembers_later, remembers_nothing}
+use Rattle.nd_node.proofs.Recalling.{forgets_all, redirects_stand}
 use Rattle.nd_node.proofs.Beside.{Beside, Same, beside_neighbour, beside_quiet, beside_then, stands_neighbours}
 use Rattle.nd_effects.proofs.RouterSide.{side_stands}
 use Rattle.nd_node.proofs.NextHops.{routers_listed}
@@ -59,18 +63,19 @@ record Silent (now : ℕ) (what : Happening) : Type 0 where
   last : (at : ℕ) (c : Chronicle) → last_moment at ((now, what) ∷ c) ≡ now
 
 module _ {R A : Type 0} (stream : R → Stream) (start : Start) (old : Node R A) (c : Chronicle) (now : ℕ) (what : Happening) (silent : Silent now what) (s : Stands stream start old c)
-    (settled : now < next_of old) (ps : List (Lasting PrefixValue)) (ds : dns.Table) (rs : List (ℕ × Option ℕ)) where
+    (settled : now < next_of old) (ps : List (Lasting PrefixValue)) (ds : dns.Table) (rs : choice.Table) where
   abbrev later : Chronicle
   later = (now, Passed) ∷ c
 
   silent_stands : lists.Stands same_prefix ps (prefix_history ((now, what) ∷ later)) → dns.Stands ds (server_history ((now, what) ∷ later)) (name_history ((now, what) ∷ later))
       → choice.Stands rs (redirect_history ((now, what) ∷ later)) → lifetimes.last_moment (prefix_history ((now, what) ∷ later)) ≤ now
       → lifetimes.last_moment (server_history ((now, what) ∷ later)) ≤ now → lifetimes.last_moment (name_history ((now, what) ∷ later)) ≤ now
-      → Stands stream start (record old { last = now; prefixes = ps; dns = ds; choice = rs }) ((now, what) ∷ later)
-  silent_stands prefixes' dns' redirects' prefixes_by servers_by names_by = record {
+      → Remembers now rs old.addresses.addresses ps old.neighbours.nodes old.routers → Stands stream start (record old { last = now; prefixes = ps; dns = ds; choice = rs }) ((now, what) ∷ later)
+  silent_stands prefixes' dns' redirects' prefixes_by servers_by names_by remembers = record {
     role = s.role;
     mac = s.mac;
     address_mac = s.address_mac;
+    address_transmits = s.address_transmits;
     neighbour_limit = s.neighbour_limit;
     router_limit = s.router_limit;
     params = rw (silent.parameters later) s.params;
@@ -91,6 +96,7 @@ module _ {R A : Type 0} (stream : R → Stream) (start : Start) (old : Node R A)
     prefixes_by_then = rw (silent.last start.at later) prefixes_by;
     servers_by_then = rw (silent.last start.at later) servers_by;
     names_by_then = rw (silent.last start.at later) names_by;
+    memo = remembers;
     in_time = rw (silent.last start.at later) (omega (arith, settled));
   }
 
@@ -104,30 +110,32 @@ cleared_dns : (now : ℕ) → Silent now ClearedDns
 cleared_dns now = record { parameters = λ c. refl; neighbours = λ c. refl; routers = λ c. refl; addresses = λ c. refl; solicited = λ c. refl; router = λ start' c. refl; stream = λ start c. refl; last = λ at c. refl }
 
 module _ {R A : Type 0} (stream : R → Stream) (old new : Node R A) (outs : List (ℕ × Out A)) (now : ℕ) (settled : now < next_of old) where
-  pub clears_prefixes : (ps : List (Lasting PrefixValue)) → new ≡ record old { last = now; prefixes = ps }
+  pub clears_prefixes : (ps : List (Lasting PrefixValue)) (rs : choice.Table) → ps ≡ [] → rs ≡ record old.choice { memory = record { hops = []; until = None } } → new ≡ record old { last = now; prefixes = ps; choice = rs }
       → ((at : ℕ) (history : List (lifetimes.Row PrefixValue)) → lists.Stands same_prefix ps (lifetimes.Cleared at ∷ history))
       → AddsEvent stream old new outs outs now (events.Clears events.ClearPrefixes)
-  clears_prefixes ps is stands = record {
+  clears_prefixes ps rs none forgot is stands = record {
     each = λ start c s le.
         let later' : Chronicle = (now, Passed) ∷ c in (
           (now, ClearedPrefixes) ∷ later',
           refl,
-          rw is (silent_stands stream start old c now ClearedPrefixes (cleared_prefixes now) s settled ps old.dns old.choice
-              (stands now (prefix_history c)) s.dns s.redirects (omega arith) (omega (arith, s.servers_by_then, le)) (omega (arith, s.names_by_then, le))),
+          rw is (silent_stands stream start old c now ClearedPrefixes (cleared_prefixes now) s settled ps old.dns rs
+              (stands now (prefix_history c)) s.dns (redirects_stand old.choice rs (redirect_history c) (ap (λ (t : choice.Table). t.redirects) forgot) s.redirects) (omega arith) (omega (arith, s.servers_by_then, le)) (omega (arith, s.names_by_then, le))
+              (rw (none, forgot) (remembers_nothing now _ old.addresses.addresses [] old.neighbours.nodes old.routers refl (λ moment after asked. refl)))),
           record { newer = []; told = append-nil (items later'); outs = sym (append-nil (happenings outs)) },
         );
   }
 
-  pub clears_redirects : (rs : List (ℕ × Option ℕ)) → new ≡ record old { last = now; choice = rs } → choice.GainsRow old.choice rs (redirect_rows.Cleared now)
+  pub clears_redirects : (rs : choice.Table) → new ≡ record old { last = now; choice = rs } → choice.GainsRow old.choice rs (redirect_rows.Cleared now) → rs.memory ≡ forgotten old.choice.memory
       → AddsEvent stream old new outs outs now (events.Clears events.ClearRedirects)
-  clears_redirects rs is gains = record {
+  clears_redirects rs is gains forgot = record {
     each = λ start c s le.
         let later' : Chronicle = (now, Passed) ∷ c in (
           (now, ClearedRedirects) ∷ later',
           refl,
           rw is (silent_stands stream start old c now ClearedRedirects (cleared_redirects now) s settled old.prefixes old.dns rs
               s.prefixes s.dns (gains.stands (redirect_history c) s.redirects)
-              (omega (arith, s.prefixes_by_then, le)) (omega (arith, s.servers_by_then, le)) (omega (arith, s.names_by_then, le))),
+              (omega (arith, s.prefixes_by_then, le)) (omega (arith, s.servers_by_then, le)) (omega (arith, s.names_by_then, le))
+              (forgets_all old (record old { last = now; choice = rs }) old.last now (omega (arith, s.last, le)) s.memo refl forgot)),
           record { newer = []; told = append-nil (items later'); outs = sym (append-nil (happenings outs)) },
         );
   }
@@ -141,7 +149,8 @@ module _ {R A : Type 0} (stream : R → Stream) (old new : Node R A) (outs : Lis
           (now, ClearedDns) ∷ later',
           refl,
           rw is (silent_stands stream start old c now ClearedDns (cleared_dns now) s settled old.prefixes ds old.choice
-              s.prefixes (stands now (server_history c) (name_history c)) s.redirects (omega (arith, s.prefixes_by_then, le)) (omega arith) (omega arith)),
+              s.prefixes (stands now (server_history c) (name_history c)) s.redirects (omega (arith, s.prefixes_by_then, le)) (omega arith) (omega arith)
+              (remembers_later old.last now old.choice old.addresses.addresses old.prefixes old.neighbours.nodes old.routers (omega (arith, s.last, le)) s.memo)),
           record { newer = []; told = append-nil (items later'); outs = sym (append-nil (happenings outs)) },
         );
   }
@@ -198,7 +207,7 @@ module _ (start : Start) (now : ℕ) where
       clearing_items nodes (going n c) ∙ (ap (λ (t : List (ℕ × Told)). t ++ forgotten_items nodes) first ∙ (append_assoc (items c) these (forgotten_items nodes) ∙ ap (λ (t : List (ℕ × Told)). items c ++ t) (sym both)))
 
 module _ {R A : Type 0} (stream : R → Stream) (old new : Node R A) (x room y : List (ℕ × Out A)) (now : ℕ) (settled : now < next_of old)
-    (same : Same (record old { last = now }) new) (is : new.addresses ≡ old.addresses) where
+    (same : Same (record old { last = now }) new) (is : new.addresses ≡ old.addresses) (may : MayRemember old.choice new.choice old.neighbours.nodes new.neighbours.nodes) where
   pub clears_neighbours : ((at : ℕ) (history : List rows.Row) → neighbours.Stands old.neighbours.nodes history → neighbours.Stands new.neighbours.nodes (cleared at old.neighbours.nodes history))
       → new.neighbours.nodes ≡ [] → (packets : List (List ℕ)) → packets ≡ all_waiting old.neighbours.nodes → room ≡ x → happenings y ≡ happenings room ++ lost_at now Forgotten packets
       → AddsEvent stream old new x y now (events.Clears events.ClearNeighbours)
@@ -213,7 +222,7 @@ module _ {R A : Type 0} (stream : R → Stream) (old new : Node R A) (x room y :
           d,
           (nodes, s.neighbours, refl),
           stands_neighbours stream start base new later' d now same (clearing_beside start now nodes later') (passed stream start old base c now s le settled refl) refl
-              (clearing_last start now nodes later' start.at refl) is (clearing_addresses start now nodes later') neighbours' (rw none tt),
+              (clearing_last start now nodes later' start.at refl) is (clearing_addresses start now nodes later') neighbours' (rw none tt) may,
           record {
             newer = lost_at now Forgotten (all_waiting nodes);
             told = clearing_items start now nodes later' ∙ ap (λ (t : List (ℕ × Told)). t ++ forgotten_items start now nodes) (append-nil (items c));
@@ -293,10 +302,10 @@ all_left start now (e ∷ es) c =
 module _ {R A : Type 0} (stream : R → Stream) (old new : Node R A) (x room y : List (ℕ × Out A)) (now : ℕ) (settled : now < next_of old)
     (same : Still old new now) (addresses_are : new.addresses ≡ old.addresses) (neighbours_are : new.neighbours ≡ old.neighbours) where
   pub clears_routers : ((at : ℕ) (history : List router_rows.RouterRow) → routers.Stands old.routers history → routers.Stands new.routers (then_left at (keys old.routers.entries) history))
-      → new.routers.entries ≡ [] → choice.GainsRow old.choice new.choice (redirect_rows.Cleared now)
+      → new.routers.entries ≡ [] → choice.GainsRow old.choice new.choice (redirect_rows.Cleared now) → new.choice.memory ≡ forgotten old.choice.memory
       → (addrs : List Addr) → numbers addrs ≡ keys old.routers.entries → room ≡ x → happenings y ≡ happenings room ++ left_at now (numbers addrs)
       → AddsEvent stream old new x y now (events.Clears events.ClearRouters)
-  clears_routers stands none gains addrs addrs_are reserved told = record {
+  clears_routers stands none gains forgot addrs addrs_are reserved told = record {
     each = λ start c s le.
         let es : List (Lasting ℕ) = old.routers.entries in
         let those : List ℕ = keys es in
@@ -318,7 +327,8 @@ module _ {R A : Type 0} (stream : R → Stream) (old new : Node R A) (x room y :
               (subst (λ (h : List router_rows.RouterRow). routers.Stands new.routers h) (sym left.routers) (stands now (router_history c) s.routers)) (rw none tt)
               (rw (addresses_are, left.addresses) s.addresses) (rw addresses_are (addresses_before old now not_past))
               (rw (neighbours_are, left.neighbours) s.neighbours) (rw neighbours_are (neighbours_before old now not_past))
-              (subst (λ (h : List RedirectRow). choice.Stands new.choice h) (sym redirects_are) redirects'),
+              (subst (λ (h : List RedirectRow). choice.Stands new.choice h) (sym redirects_are) redirects')
+              (forgets_all old new old.last now (omega (arith, s.last, le)) s.memo same.prefixes forgot),
           record {
             newer = left_at now those;
             told = append-nil (items mid) ∙ (left.told ∙ ap (λ (t : List (ℕ × Told)). t ++ flat_map items_at (left_at now those)) (append-nil (items c)));

@@ -25,13 +25,14 @@ use Rattle.nd_effects.proofs.Telling.{lost_at, lost_items}
 use Rattle.nd_node.specs.declared.node.Node.{Node}
 use Rattle.nd_node.specs.Event.{AddsEvent}
 use Rattle.nd_node.specs.Node.{Stands, next_of}
+use Rattle.nd_effects.specs.Remembered.{MayRemember}
 use Rattle.nd_node.proofs.Beside.{Same, beside_neighbour, stands_neighbours}
 use Rattle.nd_node.proofs.Quiet.{stands_quiet}
 use Rattle.nd_node.proofs.Steps.{passed}
 use Rattle.nd_node.proofs.Turns.{neighbours_before}
 
 module _ {R A : Type 0} (stream : R → Stream) (old new : Node R A) (now : ℕ) (neighbour : Addr) (settled : now < next_of old) (still : NoneOverdueStill) (table : OverdueByTable)
-    (same : Same (record old { last = now }) new) (is : new.addresses ≡ old.addresses) where
+    (same : Same (record old { last = now }) new) (is : new.addresses ≡ old.addresses) (may : MayRemember old.choice new.choice old.neighbours.nodes new.neighbours.nodes) where
   -- the neighbour has one more row, which is no failure
   row_stands : (kind : rows.RowKind) → ((history : List RouterRow) → then_failed now (number_of neighbour.0) kind history ≡ history)
       → ((history : List RedirectRow) → then_target now (number_of neighbour.0) kind history ≡ history)
@@ -47,7 +48,7 @@ module _ {R A : Type 0} (stream : R → Stream) (old new : Node R A) (now : ℕ)
       let before = (table old.neighbours.nodes history now s.neighbours).0 (neighbours_before old now not_past) in
       let none = (table new.neighbours.nodes ((now, key, kind) ∷ history) now stands').1 (still history now key kind before) in
       stands_neighbours stream start base new later ((now, Neighbour key kind) ∷ later) now same (beside_neighbour now key kind later routers' redirects')
-      (passed stream start old base c now s le settled refl) refl refl is refl stands' none
+      (passed stream start old base c now s le settled refl) refl refl is refl stands' none may
 
   -- it is confirmed, at the ReachableTime in force
   pub confirms : (reachable : ℕ) → reachable ≡ old.params.reachable_time

@@ -35,6 +35,7 @@ use Rattle.nd_effects.proofs.Telling.{handed_out}
 use Rattle.nd_node.specs.declared.node.Node.{Node}
 use Rattle.nd_node.specs.Node.{Stands, next_of}
 use Rattle.nd_node.specs.Hearing.{AddsMessage}
+use Rattle.nd_nexthop.specs.Memo.{forgotten}
 use Rattle.nd_node.proofs.Beside.{Beside, Same, stands_addresses}
 use Rattle.nd_node.proofs.Quiet.{stands_quiet}
 use Rattle.nd_node.proofs.Steps.{passed}
@@ -43,10 +44,10 @@ use Rattle.nd_node.proofs.Turns.{addresses_before}
 -- ---- what the addresses' laws say
 
 abbrev Still : Type 0
-Still = (history : List rows.Row) (now key : ℕ) (kind : rows.RowKind) → NoneOverdue history now → NoneOverdue ((now, key, kind) ∷ history) now
+Still = (transmits : ℕ) (history : List rows.Row) (now key : ℕ) (kind : rows.RowKind) → NoneOverdue transmits history now → NoneOverdue transmits ((now, key, kind) ∷ history) now
 
 abbrev ByTable : Type 0
-ByTable = (those : List own.Address) (history : List rows.Row) (now : ℕ) → addresses.Stands those history → NoneBefore those now ↔ NoneOverdue history now
+ByTable = (transmits : ℕ) (those : List own.Address) (history : List rows.Row) (now : ℕ) → addresses.Stands those history → NoneBefore those now ↔ NoneOverdue transmits history now
 
 -- ---- the rows
 
@@ -134,11 +135,11 @@ module _ {R A : Type 0} (stream : R → Stream) (old new : Node R A) (x room y z
 
   -- a tentative address is a duplicate
   pub duplicates : Still → ByTable → happening second ≡ Address (number_of ns.target.0) rows.Conflict
-      → Same (record old { last = now }) new → new.neighbours ≡ old.neighbours
+      → Same (record old { last = now }) new → new.choice ≡ record old.choice { memory = forgotten old.choice.memory } → new.neighbours ≡ old.neighbours
       → ((history : List rows.Row) → addresses.Stands old.addresses.addresses history → true ≡ states.is_tentative (story (number_of ns.target.0) history))
       → addresses.GainsRow old.addresses.addresses new.addresses.addresses (now, number_of ns.target.0, rows.Conflict)
       → AddsMessage stream old new x z now source destination (solicitation ns options)
-  duplicates still table second_is same others tentative gains = record {
+  duplicates still table second_is same forgot others tentative gains = record {
     each = λ start c s le takes.
         let key : ℕ = number_of ns.target.0 in
         let history : List rows.Row = address_history c in
@@ -150,12 +151,12 @@ module _ {R A : Type 0} (stream : R → Stream) (old new : Node R A) (x room y z
         not_both (states.is_known here && not (states.has_conflict here)) (states.was_assigned here) (sym (tentative history s.addresses)) in
         let not_past : now ≤ next_of old = omega (arith, settled) in
         let stands' = gains.stands history s.addresses in
-        let later = (table new.addresses.addresses ((now, key, rows.Conflict) ∷ history) now stands').1
-        (still history now key rows.Conflict ((table old.addresses.addresses history now s.addresses).0 (addresses_before old now not_past))) in (
+        let later = (table start.transmits new.addresses.addresses ((now, key, rows.Conflict) ∷ history) now stands').1
+        (still start.transmits history now key rows.Conflict ((table start.transmits old.addresses.addresses history now s.addresses).0 (addresses_before old now not_past))) in (
           d,
           adds_by start now source destination ns options ((now, Passed) ∷ c) d from
               (sym (ap (λ (b : Bool). if b then (now, Sent (defence_frame (is_router start.role) start.mac ns.target)) ∷ before else d) not_assigned)),
-          stands_addresses stream start mid new before d now same (conflict_beside now key before) (heard_at start c mid refl s le) refl refl others refl stands' later,
+          stands_addresses stream start mid new before d now same (conflict_beside now key before) (heard_at start c mid refl s le) refl refl others refl stands' later forgot,
           tells start c (Address key rows.Conflict) second_is,
         );
   }

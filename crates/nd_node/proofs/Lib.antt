@@ -1,4 +1,6 @@
 pub mod Moments
+pub mod Recalling
+pub mod Refreshing
 pub mod Quiet
 pub mod Turns
 pub mod Beginning

@@ -33,9 +33,9 @@ pub no_router : (history : List routers.RouterRow) (o : Option ℕ) (n moment : 
 no_router history None n moment due lt = λ key is. due moment key is
 no_router history (Some m) n moment due lt = λ key is. absurd (omega (arith, due.1 moment key is))
 
-pub no_address : (history : List addresses.Row) (o : Option ℕ) (n moment : ℕ) → addresses_due.NextDue history o → moment < earlier o n → addresses_due.FirstDue history moment None
-no_address history None n moment due lt = λ falls is. due moment falls is
-no_address history (Some m) n moment due lt = λ falls is. absurd (omega (arith, due.1 moment falls is))
+pub no_address : (transmits : ℕ) (history : List addresses.Row) (o : Option ℕ) (n moment : ℕ) → addresses_due.NextDue transmits history o → moment < earlier o n → addresses_due.FirstDue transmits history moment None
+no_address transmits history None n moment due lt = λ falls is. due moment falls is
+no_address transmits history (Some m) n moment due lt = λ falls is. absurd (omega (arith, due.1 moment falls is))
 
 pub no_neighbour : (history : List neighbours.Row) (o : Option ℕ) (n moment : ℕ) → neighbours_due.NextDue history o → moment < earlier o n → neighbours_due.FirstDue history moment None
 no_neighbour history None n moment due lt = λ key is. due moment key is

@@ -46,36 +46,16 @@ use Rattle.nd_chronicle.specs.NextHop.{candidate, IsHopOf, IsNextHop}
 use Rattle.nd_chronicle.specs.OwnAddress.{is_own}
 use Rattle.nd_effects.specs.Router.{next_advertisement}
 use Rattle.nd_effects.specs.RouterSolicitations.{next_solicitation}
-use Rattle.nd_effects.specs.FirstHop.{is_resolved, candidate_in, candidates_in}
+use Rattle.nd_effects.specs.FirstHop.{candidate_in, candidates_in}
+use Rattle.nd_effects.proofs.Remembering.{hop_by_own}
+use Rattle.nd_effects.proofs.Resolved.{resolved_by_history}
+use Rattle.nd_nexthop.specs.Choice as choice
+use Rattle.nd_node.proofs.Recalling.{Recalls}
 use Rattle.nd_node.specs.declared.node.Node as nodes
 use Rattle.nd_node.specs.Moments.{earlier}
 use Rattle.nd_node.specs.Node.{Stands, next_of}
 
 -- ---- a router in any state other than INCOMPLETE
-
-absent_unknown : (s : neighbour_rows.Story) → is_present s ≡ false → mac_of s ≡ None
-absent_unknown [] h = refl
-absent_unknown ((at, neighbour_rows.Given mac mark) ∷ s) h = let never : ⊥ = cc in absurd never
-absent_unknown ((at, neighbour_rows.Asked retrans) ∷ s) h = let never : ⊥ = cc in absurd never
-absent_unknown ((at, neighbour_rows.Advertised flags mac reachable) ∷ s) h = rw h refl
-absent_unknown ((at, neighbour_rows.Marked router) ∷ s) h = absent_unknown s h
-absent_unknown ((at, neighbour_rows.Solicited) ∷ s) h = absent_unknown s h
-absent_unknown ((at, neighbour_rows.Waits packet) ∷ s) h = absent_unknown s h
-absent_unknown ((at, neighbour_rows.Used retrans) ∷ s) h = absent_unknown s h
-absent_unknown ((at, neighbour_rows.Probed) ∷ s) h = absent_unknown s h
-absent_unknown ((at, neighbour_rows.Confirmed reachable) ∷ s) h = absent_unknown s h
-absent_unknown ((at, neighbour_rows.Forgot cause) ∷ s) h = absent_unknown s h
-
-resolved_story : (key : ℕ) (s : neighbour_rows.Story) (present : Bool) → is_present s ≡ present → (known : Option ℕ) → mac_of s ≡ known → is_resolved (node_of key s) ≡ is_some (mac_of s)
-resolved_story key s false h known k = rw (h, absent_unknown s h) refl
-resolved_story key s true h None k = rw (h, k) refl
-resolved_story key s true h (Some mac) k = rw (h, k) refl
-
-resolved_by_history : (key : ℕ) (kept : List Node) (history : List neighbour_rows.Row) → neighbours.Stands kept history
-    → is_resolved (neighbours.node_in key kept) ≡ is_some (mac_of (neighbour_rows.story key history))
-resolved_by_history key kept history s =
-    let st = neighbour_rows.story key history in
-    ap is_resolved (s.each key) ∙ resolved_story key st (is_present st) refl (mac_of st) refl
 
 candidates_are : (c : Chronicle) (kept : List Node) (failed : List ℕ) (entries : List (Lasting ℕ)) → neighbours.Stands kept (neighbour_history c)
     → map (λ key. candidate_in kept failed key) (routers.keys entries) ≡ map (λ (e : Lasting ℕ). candidate c failed e.key) entries
@@ -83,14 +63,6 @@ candidates_are c kept failed [] s = refl
 candidates_are c kept failed (e ∷ entries) s =
     ap (λ (u : Bool). record { key = e.key; usable = u; failed = place_among e.key failed } ∷ map (λ key. candidate_in kept failed key) (routers.keys entries)) (resolved_by_history e.key kept (neighbour_history c) s)
     ∙ ap (λ (l : List DefaultRouter). candidate c failed e.key ∷ l) (candidates_are c kept failed entries s)
-
--- the next hop asks only whether the destination itself is an own address
-hop_by_own : (own own' linked : List ℕ → Bool) (candidates : List DefaultRouter) (redirect : Option ℕ) (address : List ℕ) → own address ≡ own' address
-    → hop own linked candidates redirect address ≡ hop own' linked candidates redirect address
-hop_by_own own own' linked candidates redirect address is =
-    ap (λ (b : Bool). if bytes_eq address unspecified_address || bytes_eq address loopback_address || b then no_route
-    else (if holds multicast_prefix address then direct
-    else unless_redirected redirect (number_of address) (if linked address then direct else by_router (chosen_router candidates)))) is
 
 before_next : (end : Option ℕ) (rest now : ℕ) → now < earlier end rest → IsTrue (is_before now end)
 before_next None rest now lt = refl
@@ -139,3 +111,33 @@ pub hop_of_router : {R A : Type 0} (stream : R → Stream) (start : Start) (node
     → IsHopOf start.role c now destination next
 hop_of_router stream start node c now s router destination own next own_is by_history = subst (λ (r : Role). IsHopOf r c now destination next) (sym router ∙ s.role)
     (by_history (is_own c) (sym (own_is ∙ counted_by_history Own (number_of destination.0) node.addresses.addresses (address_history c) s.addresses)) (route_history c) s.router.routes)
+
+-- ---- the next hop is remembered
+
+-- a node whose choice was asked stands for the same
+pub stands_asked : {R A : Type 0} (stream : R → Stream) (start : Start) (node : nodes.Node R A) (c : Chronicle) (asked : choice.Table) → Stands stream start node c → choice.Stands asked (redirect_history c)
+    → Recalls node.last (record node { choice = asked }) → Stands stream start (record node { choice = asked }) c
+stands_asked stream start node c asked s redirects recalls = record {
+  role = s.role;
+  mac = s.mac;
+  address_mac = s.address_mac;
+  address_transmits = s.address_transmits;
+  neighbour_limit = s.neighbour_limit;
+  router_limit = s.router_limit;
+  params = s.params;
+  routers = s.routers;
+  prefixes = s.prefixes;
+  addresses = s.addresses;
+  neighbours = s.neighbours;
+  dns = s.dns;
+  redirects = redirects;
+  solicitations = s.solicitations;
+  router = s.router;
+  generator = s.generator;
+  last = s.last;
+  prefixes_by_then = s.prefixes_by_then;
+  servers_by_then = s.servers_by_then;
+  names_by_then = s.names_by_then;
+  memo = recalls;
+  in_time = s.in_time;
+}

@@ -27,6 +27,7 @@ use Rattle.nd_chronicle.specs.InForce.{retrans_timer}
 use Rattle.nd_chronicle.specs.Packet.{losing, with_pushed, then_packet}
 use Rattle.nd_chronicle.specs.Told.{items_at, items}
 use Rattle.nd_out.specs.declared.out.Out.{Out}
+use Rattle.nd_effects.specs.Remembered.{MayRemember}
 use Rattle.nd_effects.specs.Packet.{told_of_packet}
 use Rattle.nd_effects.specs.Told.{at_moment, happenings}
 use Rattle.nd_effects.proofs.Quiet.{losing_is_quiet}
@@ -88,7 +89,8 @@ replaced_by waiting packet = if nat_lt (length waiting) max_waiting then None el
 
 module _ {R A : Type 0} (stream : R → Stream) (start : Start) (old new : Node R A) (c placed : Chronicle) (now : ℕ) (still : NoneOverdueStill) (table : OverdueByTable)
     (same : Same old new) (is : new.addresses ≡ old.addresses) (s : Stands stream start old c) (at : last_moment start.at c ≡ now)
-    (b : Beside c placed) (own : address_history placed ≡ address_history c) (none : NoneOverdue (neighbour_history placed) now) where
+    (b : Beside c placed) (own : address_history placed ≡ address_history c) (none : NoneOverdue (neighbour_history placed) now)
+    (may : MayRemember old.choice new.choice old.neighbours.nodes new.neighbours.nodes) where
   later : (history : List rows.Row) → neighbours.Stands new.neighbours.nodes history → NoneOverdue history now → NoneBefore new.neighbours.nodes now
   later history n o = (table new.neighbours.nodes history now n).1 o
 
@@ -104,7 +106,7 @@ module _ {R A : Type 0} (stream : R → Stream) (start : Start) (old new : Node 
       let b2 = beside_then c asked sent b1 (beside_sent now frame asked) in
       let b3 = beside_then c sent waits b2 (beside_neighbour now key (rows.Waits packet) sent (λ h. refl) (λ h. refl)) in
       let o = still _ now key (rows.Waits packet) (still _ now key (rows.Asked retrans) none) in
-      stands_neighbours stream start old new c waits now same b3 s at refl is own n (later _ n o)
+      stands_neighbours stream start old new c waits now same b3 s at refl is own n (later _ n o) may
   packet_stands true None waiting key retrans packet n =
       let waits : Chronicle = (now, Neighbour key (rows.Waits packet)) ∷ placed in
       let oldest : List (List ℕ) = option_to_list (replaced_by waiting packet) in
@@ -114,19 +116,19 @@ module _ {R A : Type 0} (stream : R → Stream) (start : Start) (old new : Node 
       let b2 = beside_then c waits lost b1 (beside_quiet waits lost q) in
       let n' = subst (λ (h : List rows.Row). neighbours.Stands new.neighbours.nodes h) (sym q.neighbours) n in
       let o = subst (λ (h : List rows.Row). NoneOverdue h now) (sym q.neighbours) (still _ now key (rows.Waits packet) none) in
-      stands_neighbours stream start old new c lost now same b2 s at (q.last start.at) is (q.addresses ∙ own) n' (later _ n' o)
+      stands_neighbours stream start old new c lost now same b2 s at (q.last start.at) is (q.addresses ∙ own) n' (later _ n' o) may
   packet_stands true (Some mac) waiting key retrans packet n =
       let frame : List ℕ = addressed (mac_at mac) packet in
       let sent : Chronicle = (now, Sent frame) ∷ placed in
       let used : Chronicle = (now, Neighbour key (rows.Used retrans)) ∷ sent in
       let b1 = beside_then c placed sent b (beside_sent now frame placed) in
       let b2 = beside_then c sent used b1 (beside_neighbour now key (rows.Used retrans) sent (λ h. refl) (λ h. refl)) in
-      stands_neighbours stream start old new c used now same b2 s at refl is own n (later _ n (still _ now key (rows.Used retrans) none))
+      stands_neighbours stream start old new c used now same b2 s at refl is own n (later _ n (still _ now key (rows.Used retrans) none)) may
 
 -- ---- the packet
 
 module _ {R A : Type 0} (stream : R → Stream) (old new : Node R A) (x y : List (ℕ × Out A)) (now key retrans : ℕ) (packet : List ℕ) (still : NoneOverdueStill) (table : OverdueByTable) (one_is_pushed : OneGoes)
-    (last : old.last ≡ now) (same : Same old new) (is : new.addresses ≡ old.addresses) where
+    (last : old.last ≡ now) (same : Same old new) (is : new.addresses ≡ old.addresses) (may : MayRemember old.choice new.choice old.neighbours.nodes new.neighbours.nodes) where
   -- the packet goes, and is told
   pub packet_leads : retrans ≡ old.params.retrans_timer
       → GainsPacket old.neighbours.limit now key retrans packet old.neighbours.nodes new.neighbours.nodes
@@ -160,7 +162,7 @@ module _ {R A : Type 0} (stream : R → Stream) (old new : Node R A) (x y : List
         let own_is' : own ≡ link_local start = own_is ∙ ap (λ (m : Mac). addr_at (link_local_of m)) s.address_mac in (
           then_packet start now key timer packet sent placed,
           record { placed = placed; place = record { pushed = up.0; place = place; with_it = refl }; goes = refl },
-          packet_stands stream start old new c placed now still table same is s at (pushed_beside now up.0 c) (pushed_addresses now up.0 c) none
+          packet_stands stream start old new c placed now still table same is s at (pushed_beside now up.0 c) (pushed_addresses now up.0 c) none may
               (is_present this) (mac_of this) (waiting_of this) key timer packet n,
           record {
             newer = at_moment now (told_of_packet start.mac (link_local start) key sent);

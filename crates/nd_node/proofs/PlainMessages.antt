@@ -50,6 +50,7 @@ use Rattle.nd_node.specs.Hearing.{AddsMessage}
 use Rattle.nd_node.specs.Node.{Stands, next_of}
 use Rattle.nd_node.proofs.Quiet.{stands_quiet, refused_is_quiet}
 use Rattle.nd_node.proofs.RouterRows.{DrawsDelay, PlansAnswer, aside, aside_same, aside_then, stands_advertising, stands_aside}
+use Rattle.nd_node.proofs.Recalling.{Recalls}
 use Rattle.nd_node.proofs.Standing.{Apart, Still, apart_then, stands_at}
 use Rattle.nd_node.proofs.Steps.{passed}
 use Rattle.nd_node.proofs.Turns.{addresses_before, advertisement_before, neighbours_before, routers_before}
@@ -183,6 +184,7 @@ module _ {R A : Type 0} (stream : R → Stream) (old : Node R A) (now : ℕ) (so
 
   module _ (new final : Node R A) (x room y z : List (ℕ × Out A)) (ends : Bool) (heard : Out A)
       (still : NoneOverdueStill) (table : OverdueByTable) (one_goes : OneGoes) (same : Still old new now) (routers_same : new.routers ≡ old.routers) (addresses_same : new.addresses ≡ old.addresses)
+      (recalls : (start : Start) (c : Chronicle) → Stands stream start old c → last_moment start.at c ≤ now → Recalls now new)
       (placed : (start : Start) (c : Chronicle) → Stands stream start old c → Placed start c now (entering (option_map (said_by times) news)) true)
       (reserved : room ≡ x) (told : y ≡ room ++ (now, heard) ∷ []) (heard_is : happening heard ≡ Heard source destination (record { body = body; options = [] }))
       (redirects : (history : List redirect_rows.RedirectRow) → choice.Stands old.choice history → choice.Stands new.choice (then_redirect now body history))
@@ -219,7 +221,7 @@ module _ {R A : Type 0} (stream : R → Stream) (old : Node R A) (now : ℕ) (so
           let stands_before : Stands stream start new before = stands_at stream start old new c before now same apart s le not_past refl
           (subst (λ l. routers.Stands new.routers l) (sym (plain.routers p.placed ∙ p.others.routers)) (rw routers_same s.routers)) (rw routers_same (routers_before old now not_past))
           (subst (λ l. addresses.Stands new.addresses.addresses l) (sym p.others.addresses) (rw addresses_same s.addresses)) (rw addresses_same (addresses_before old now not_past))
-          neighbours' none redirects' in
+          neighbours' none redirects' (recalls start c s le) in
           let kept : released_frames now this (neighbour_history p.placed) ≡ released_frames now this history =
           ap (λ (l : List rows.Row). released_frames now this l) p.history ∙ released_kept limit now this history made h.1 in
           let heard_items : Tells c before x y = record {

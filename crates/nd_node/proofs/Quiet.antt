@@ -14,6 +14,7 @@ stands_quiet stream start node c d q s = record {
   role = s.role;
   mac = s.mac;
   address_mac = s.address_mac;
+  address_transmits = s.address_transmits;
   neighbour_limit = s.neighbour_limit;
   router_limit = s.router_limit;
   params = rw q.parameters s.params;
@@ -34,6 +35,7 @@ stands_quiet stream start node c d q s = record {
   prefixes_by_then = rw (q.prefixes, q.last start.at) s.prefixes_by_then;
   servers_by_then = rw (q.servers, q.last start.at) s.servers_by_then;
   names_by_then = rw (q.names, q.last start.at) s.names_by_then;
+  memo = s.memo;
   in_time = rw (q.last start.at) s.in_time;
 }
 

@@ -90,6 +90,7 @@ module _ {R A : Type 0} (stream : R → Stream) (start : Start) (old : Node R A)
     role = s.role;
     mac = s.mac;
     address_mac = s.address_mac;
+    address_transmits = s.address_transmits;
     neighbour_limit = s.neighbour_limit;
     router_limit = s.router_limit;
     params = rw a.parameters s.params;
@@ -107,6 +108,7 @@ module _ {R A : Type 0} (stream : R → Stream) (start : Start) (old : Node R A)
     router = stands';
     generator = generator;
     last = s.last ∙ sym (a.last);
+    memo = s.memo;
     prefixes_by_then = rw (a.prefixes, a.last) s.prefixes_by_then;
     servers_by_then = rw (a.servers, a.last) s.servers_by_then;
     names_by_then = rw (a.names, a.last) s.names_by_then;

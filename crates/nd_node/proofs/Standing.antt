@@ -21,6 +21,7 @@ use Rattle.nd_effects.proofs.Quiet.{Quiet}
 use Rattle.nd_effects.proofs.RouterSide.{side_stands}
 use Rattle.nd_node.specs.declared.node.Node.{Node}
 use Rattle.nd_node.specs.Node.{Stands, next_of}
+use Rattle.nd_node.proofs.Recalling.{Recalls}
 use Rattle.nd_node.proofs.Turns.{all_later, solicitation_before, advertisement_before, redraw_before}
 
 -- what happened between the two concerns none of these, assigned no address, and drew nothing
@@ -69,6 +70,7 @@ pub record Still {R A : Type 0} (old new : Node R A) (now : ℕ) : Type 0 where
   pub solicitations : new.solicitations ≡ old.solicitations
   pub router : new.router ≡ old.router
   pub address_mac : new.addresses.mac ≡ old.addresses.mac
+  pub address_transmits : new.addresses.transmits ≡ old.addresses.transmits
   pub neighbour_limit : new.neighbours.limit ≡ old.neighbours.limit
   pub router_limit : new.routers.limit ≡ old.routers.limit
   pub last : new.last ≡ now
@@ -83,11 +85,12 @@ module _ {R A : Type 0} (stream : R → Stream) (start : Start) (old new : Node 
   pub stands_at : routers.Stands new.routers (router_history d) → routers.NoneBefore new.routers.entries now
       → addresses.Stands new.addresses.addresses (address_history d) → address_dates.NoneBefore new.addresses.addresses now
       → neighbours.Stands new.neighbours.nodes (neighbour_history d) → neighbour_dates.NoneBefore new.neighbours.nodes now
-      → choice.Stands new.choice (redirect_history d) → Stands stream start new d
-  stands_at routers' later_router addresses' later_address neighbours' later_neighbour redirects' = record {
+      → choice.Stands new.choice (redirect_history d) → Recalls now new → Stands stream start new d
+  stands_at routers' later_router addresses' later_address neighbours' later_neighbour redirects' recalls = record {
     role = same.role ∙ s.role;
     mac = same.mac ∙ s.mac;
     address_mac = same.address_mac ∙ s.address_mac;
+    address_transmits = same.address_transmits ∙ s.address_transmits;
     neighbour_limit = same.neighbour_limit ∙ s.neighbour_limit;
     router_limit = same.router_limit ∙ s.router_limit;
     params = rw (same.params, b.parameters) s.params;
@@ -108,6 +111,7 @@ module _ {R A : Type 0} (stream : R → Stream) (start : Start) (old new : Node 
     prefixes_by_then = rw (b.prefixes, end) (omega (arith, s.prefixes_by_then, came));
     servers_by_then = rw (b.servers, end) (omega (arith, s.servers_by_then, came));
     names_by_then = rw (b.names, end) (omega (arith, s.names_by_then, came));
+    memo = rw same.last recalls;
     in_time = rw end (all_later new now later_router later_address later_neighbour
         (rw (same.role, same.solicitations) (solicitation_before old now not_past)) (rw (same.role, same.router) (advertisement_before old now not_past)) (rw same.params (redraw_before old now not_past)));
   }

@@ -16,6 +16,7 @@ use Rattle.nd_out.specs.declared.out.Out.{Out}
 use Rattle.nd_out.specs.Out.{happening}
 use Rattle.nd_effects.specs.Told.{happenings}
 use Rattle.nd_effects.proofs.Quiet.{Quiet}
+use Rattle.nd_effects.proofs.Remembering.{remembers_later}
 use Rattle.nd_effects.proofs.RouterSide.{side_stands}
 use Rattle.nd_effects.proofs.Telling.{one, above_silent, Tells-then, one_more}
 use Rattle.nd_node.specs.declared.node.Node.{Node}
@@ -34,6 +35,7 @@ passed stream start old new c now s le settled is = rw is (record {
   role = s.role;
   mac = s.mac;
   address_mac = s.address_mac;
+  address_transmits = s.address_transmits;
   neighbour_limit = s.neighbour_limit;
   router_limit = s.router_limit;
   params = s.params;
@@ -50,6 +52,7 @@ passed stream start old new c now s le settled is = rw is (record {
   prefixes_by_then = omega (arith, s.prefixes_by_then, le);
   servers_by_then = omega (arith, s.servers_by_then, le);
   names_by_then = omega (arith, s.names_by_then, le);
+  memo = remembers_later old.last now old.choice old.addresses.addresses old.prefixes old.neighbours.nodes old.routers (omega (arith, s.last, le)) s.memo;
   in_time = omega (arith, settled);
 })
 

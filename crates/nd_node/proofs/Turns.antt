@@ -1,6 +1,7 @@
 -- What a turn does to the chronicle that a node stands for.
 use Rattle.std.proofs.Common.{◌≡◌, ℕ, ◌+◌, ◌*◌, ◌<◌, ◌≤◌, Bool, true, false, List, ◌∷◌, Option, Some, None, refl, sym, ◌∙◌, ap, subst, arith}
 use Rattle.std.specs.Prelude.{◌==◌, ◌≢◌, nat_lt, not, ◌&&◌, if◌then◌else◌}
+use Rattle.std.specs.Option.{option_map}
 use Rattle.rand_core.specs.Stream.{Stream, next_u32}
 use Rattle.nd_addr.specs.declared.role.Role.{Role}
 use Rattle.nd_table.specs.Due.{NotBefore}
@@ -31,17 +32,24 @@ use Rattle.nd_chronicle.specs.Happening.{Advertised, Chronicle, Drew, ForInterva
 use Rattle.nd_chronicle.specs.Histories.{advertising_history, parameter_history, neighbour_history, router_history, prefix_history, address_history, server_history, name_history, redirect_history, then_failed, then_target}
 use Rattle.nd_chronicle.specs.InForce.{next_redraw}
 use Rattle.nd_chronicle.specs.Generator.{stream_left, interval_drawn, reachable_drawn}
-use Rattle.nd_chronicle.specs.Due.{RouterEnds, AddressFalls, NeighbourFalls, RouterAdvertises, Redraws, comes, max_rtr_solicitations, router_solicitation_date, rtr_solicitation_interval, is_host, solicited_routers, assigned_at}
+use Rattle.nd_chronicle.specs.Due.{RouterEnds, AddressFalls, NeighbourFalls, RoutersSolicited, RouterAdvertises, Redraws, comes, max_rtr_solicitations, router_solicitation_date, rtr_solicitation_interval, is_host, solicited_routers, assigned_at}
 use Rattle.nd_effects.specs.RouterSolicitations as solicitations
 use Rattle.nd_effects.specs.RouterSolicitations.{Solicitations, next_solicitation, after_address}
 use Rattle.nd_effects.specs.Router as router_only
 use Rattle.nd_effects.specs.Router.{Advertises, NotesAddress, next_advertisement}
 use Rattle.nd_effects.specs.LostHop.{Notes, with_failure, with_lost_target}
+use Rattle.nd_nexthop.specs.Memo.{forgotten}
+use Rattle.nd_neighbour.specs.Story.{mac_of}
+use Rattle.nd_slaac.specs.declared.destination.Counted.TheVariants.{Own}
+use Rattle.nd_slaac.specs.Destination.{counts}
+use Rattle.nd_effects.specs.Remembered.{Remembering}
+use Rattle.nd_effects.proofs.Resolved.{gains_as_resolved}
+use Rattle.nd_node.proofs.Recalling.{Recalls, forgets_all, keeps, own_by, own_row, redirects_stand}
 use Rattle.nd_effects.proofs.RouterSide.{advertisement_date, later_row, side_stands, stands_address, stands_row}
 use Rattle.nd_effects.proofs.Quiet.{sent_is_quiet, losing_is_quiet}
 use Rattle.nd_node.specs.declared.node.Node.{Node}
 use Rattle.nd_node.specs.Moments.{earlier}
-use Rattle.nd_node.specs.Node.{Stands, NextDue, next_of}
+use Rattle.nd_node.specs.Node.{ends, Stands, NextDue, next_of}
 use Rattle.nd_node.proofs.Moments.{no_router, no_address, no_neighbour, none_at, before_second, none_before, before_routers, before_addresses, before_neighbours, before_solicitation, before_advertisement, before_redraw, at_redraw}
 use Rattle.nd_node.proofs.Quiet.{stands_quiet}
 
@@ -114,6 +122,14 @@ addressed_stands start at (addresses_due.Assigns key) s c h = either (key == lin
     either true e = record { assigned = cc; sent = h.sent; heard = h.heard }
     either false e = record { assigned = cc; sent = h.sent; heard = h.heard }
 
+-- the next solicitation comes an interval later
+date_later : (b c : Bool) (assigned : Option ℕ) (sent now : ℕ) → (if c then option_map (λ at. at + sent * rtr_solicitation_interval) assigned else None) ≡ Some now
+    → NotBefore now (if b then option_map (λ at. at + (sent + 1) * rtr_solicitation_interval) assigned else None)
+date_later b false assigned sent now e = let never : ⊥ = cc in absurd never
+date_later b true None sent now e = let never : ⊥ = cc in absurd never
+date_later false true (Some at) sent now e = tt
+date_later true true (Some at) sent now e = let is : at + sent * rtr_solicitation_interval ≡ now = cc in omega (arith, is)
+
 -- ---- a row
 
 -- what no turn changes
@@ -123,6 +139,7 @@ pub record Turns {R A : Type 0} (old new : Node R A) (at : ℕ) : Type 0 where
   pub prefixes : new.prefixes ≡ old.prefixes
   pub dns : new.dns ≡ old.dns
   pub address_mac : new.addresses.mac ≡ old.addresses.mac
+  pub address_transmits : new.addresses.transmits ≡ old.addresses.transmits
   pub neighbour_limit : new.neighbours.limit ≡ old.neighbours.limit
   pub router_limit : new.routers.limit ≡ old.routers.limit
   pub last : new.last ≡ at
@@ -138,11 +155,12 @@ module _ {R A : Type 0} (stream : R → Stream) (start : Start) (old new : Node 
   then_row : (d : Chronicle) → last_moment start.at d ≡ now → prefix_history d ≡ prefix_history c → server_history d ≡ server_history c → name_history d ≡ name_history c
       → parameters.Stands new.params (parameter_history d) → routers.Stands new.routers (router_history d) → addresses.Stands new.addresses.addresses (address_history d)
       → neighbours.Stands new.neighbours.nodes (neighbour_history d) → choice.Stands new.choice (redirect_history d) → solicitations.Stands start new.solicitations d → router_only.Stands start new.router d
-      → stream new.generator ≡ stream_left start d → now ≤ next_of new → Stands stream start new d
-  then_row d at p v n params routers' addresses' neighbours' redirects' solicitations' router' generator' later = record {
+      → stream new.generator ≡ stream_left start d → Recalls now new → now ≤ next_of new → Stands stream start new d
+  then_row d at p v n params routers' addresses' neighbours' redirects' solicitations' router' generator' recalls later = record {
     role = turns.role ∙ s.role;
     mac = turns.mac ∙ s.mac;
     address_mac = turns.address_mac ∙ s.address_mac;
+    address_transmits = turns.address_transmits ∙ s.address_transmits;
     neighbour_limit = turns.neighbour_limit ∙ s.neighbour_limit;
     router_limit = turns.router_limit ∙ s.router_limit;
     params = params;
@@ -159,15 +177,24 @@ module _ {R A : Type 0} (stream : R → Stream) (start : Start) (old new : Node 
     prefixes_by_then = rw (p, at) (omega (arith, s.prefixes_by_then, came));
     servers_by_then = rw (v, at) (omega (arith, s.servers_by_then, came));
     names_by_then = rw (n, at) (omega (arith, s.names_by_then, came));
+    memo = rw turns.last recalls;
     in_time = rw at later;
   }
 
+  last_le : old.last ≤ now
+  last_le = omega (arith, s.last, came)
+
+  -- what is remembered, where nothing changed that it depends on
+  recalls_same : new.choice ≡ old.choice → new.routers ≡ old.routers → new.addresses ≡ old.addresses → new.neighbours ≡ old.neighbours → Recalls now new
+  recalls_same choice' routers' addresses' neighbours' =
+      keeps old new old.last now last_le s.memo turns.prefixes choice' routers' (rw addresses' (λ key. refl)) (rw neighbours' (λ key. refl))
+
   -- a router's lifetime ended
   pub router_ended : (key : ℕ) → routers.GainsRow old.routers new.routers (router_rows.LeftList now key) → routers.NoneBefore new.routers.entries now
-      → choice.GainsRow old.choice new.choice (redirect_rows.TargetGone now key)
+      → choice.GainsRow old.choice new.choice (redirect_rows.TargetGone now key) → new.choice.memory ≡ forgotten old.choice.memory
       → new.addresses ≡ old.addresses → new.neighbours ≡ old.neighbours → new.params ≡ old.params → new.solicitations ≡ old.solicitations → new.router ≡ old.router → stream new.generator ≡ stream old.generator
       → Stands stream start new (comes start now (RouterEnds key) c)
-  router_ended key gains later redirects' addresses' neighbours' params' solicitations' side generator =
+  router_ended key gains later redirects' forgot addresses' neighbours' params' solicitations' side generator =
       then_row ((now, LeftRouter key) ∷ c) refl refl refl refl
       (rw params' s.params)
       (gains.stands (router_history c) s.routers)
@@ -177,44 +204,59 @@ module _ {R A : Type 0} (stream : R → Stream) (start : Start) (old new : Node 
       (rw solicitations' (record { assigned = s.solicitations.assigned; sent = s.solicitations.sent; heard = s.solicitations.heard }))
       (rw side (side_stands start old.router c ((now, LeftRouter key) ∷ c) refl s.router))
       (generator ∙ s.generator)
+      (forgets_all old new old.last now last_le s.memo turns.prefixes forgot)
       (all_later new now later (rw addresses' (addresses_before old now not_past)) (rw neighbours' (neighbours_before old now not_past)) (rw (turns.role, solicitations') (solicitation_before old now not_past))
       (rw (turns.role, side) (advertisement_before old now not_past)) (rw params' (redraw_before old now not_past)))
 
   -- an own address ended, or its detection took a step
-  address_row : (falls : addresses_due.Falls) → new.routers ≡ old.routers → new.choice ≡ old.choice
+  address_row : (falls : addresses_due.Falls) → new.routers ≡ old.routers → new.choice.redirects ≡ old.choice.redirects → Recalls now new
       → addresses.GainsRow old.addresses.addresses new.addresses.addresses (addresses_due.due_row now falls) → address_dates.NoneBefore new.addresses.addresses now
       → new.neighbours ≡ old.neighbours → new.params ≡ old.params → new.solicitations ≡ after_address (link_local_key start) now falls old.solicitations → NotesAddress (link_local_key start) now falls old.router new.router → stream new.generator ≡ stream old.generator
       → Stands stream start new ((now, Address (addresses_due.key_in falls) (addresses_due.happens falls)) ∷ c)
-  address_row falls routers' choice' gains later neighbours' params' solicitations' notes generator =
+  address_row falls routers' choice' recalls gains later neighbours' params' solicitations' notes generator =
       let side = stands_address start old.role old.router new.router c now falls s.role notes s.router (advertisement_before old now not_past) in
       then_row ((now, Address (addresses_due.key_in falls) (addresses_due.happens falls)) ∷ c) refl refl refl refl
       (rw params' s.params)
       (rw routers' s.routers)
       (gains.stands (address_history c) s.addresses)
       (rw neighbours' s.neighbours)
-      (rw choice' s.redirects)
+      (redirects_stand old.choice new.choice (redirect_history c) choice' s.redirects)
       (rw solicitations' (addressed_stands start now falls old.solicitations c s.solicitations))
       side.0
       (generator ∙ s.generator)
+      recalls
       (all_later new now (rw routers' (routers_before old now not_past)) later (rw neighbours' (neighbours_before old now not_past))
       (rw (turns.role, solicitations') (addressed_later old.role (link_local_key start) now falls old.solicitations (solicitation_before old now not_past))) (rw turns.role side.1) (rw params' (redraw_before old now not_past)))
 
-  pub address_fell : (falls : addresses_due.Falls) → new.routers ≡ old.routers → new.choice ≡ old.choice
+  -- a step of a detection leaves the address an own one
+  detects : (falls : addresses_due.Falls) → ends falls ≡ false → (history : List address_rows.Row) → (k : ℕ) → counts Own (address_rows.story k (addresses_due.due_row now falls ∷ history)) ≡ counts Own (address_rows.story k history)
+  detects (addresses_due.Ends key) e history = let never : ⊥ = cc in absurd never
+  detects (addresses_due.Solicits key) e history = own_row now key address_rows.Solicited history refl (λ st. refl) (λ st. refl)
+  detects (addresses_due.Assigns key) e history = own_row now key address_rows.Assigned history refl (λ st. refl) (λ st. refl)
+
+  step_recalls : (falls : addresses_due.Falls) → ends falls ≡ false → new.choice ≡ old.choice → new.routers ≡ old.routers → addresses.GainsRow old.addresses.addresses new.addresses.addresses (addresses_due.due_row now falls)
+      → new.neighbours ≡ old.neighbours → Recalls now new
+  step_recalls falls e choice' routers' gains neighbours' =
+      keeps old new old.last now last_le s.memo turns.prefixes choice' routers'
+      (own_by old.addresses.addresses new.addresses.addresses (address_history c) (addresses_due.due_row now falls ∷ address_history c) s.addresses (gains.stands (address_history c) s.addresses) (detects falls e (address_history c)))
+      (rw neighbours' (λ key. refl))
+
+  pub address_fell : (falls : addresses_due.Falls) → new.routers ≡ old.routers → new.choice ≡ (if ends falls then record old.choice { memory = forgotten old.choice.memory } else old.choice)
       → addresses.GainsRow old.addresses.addresses new.addresses.addresses (addresses_due.due_row now falls) → address_dates.NoneBefore new.addresses.addresses now
       → new.neighbours ≡ old.neighbours → new.params ≡ old.params → new.solicitations ≡ after_address (link_local_key start) now falls old.solicitations → NotesAddress (link_local_key start) now falls old.router new.router → stream new.generator ≡ stream old.generator
       → Stands stream start new (comes start now (AddressFalls falls) c)
-  address_fell (addresses_due.Ends key) r ch g l n p sol notes gen = address_row (addresses_due.Ends key) r ch g l n p sol notes gen
+  address_fell (addresses_due.Ends key) r ch g l n p sol notes gen = address_row (addresses_due.Ends key) r (ap (λ (t : choice.Table). t.redirects) ch) (forgets_all old new old.last now last_le s.memo turns.prefixes (ap (λ (t : choice.Table). t.memory) ch)) g l n p sol notes gen
   address_fell (addresses_due.Solicits key) r ch g l n p sol notes gen =
-      stands_quiet stream start new _ _ (sent_is_quiet now _ _ (λ at. refl)) (address_row (addresses_due.Solicits key) r ch g l n p sol notes gen)
-  address_fell (addresses_due.Assigns key) r ch g l n p sol notes gen = address_row (addresses_due.Assigns key) r ch g l n p sol notes gen
+      stands_quiet stream start new _ _ (sent_is_quiet now _ _ (λ at. refl)) (address_row (addresses_due.Solicits key) r (ap (λ (t : choice.Table). t.redirects) ch) (step_recalls (addresses_due.Solicits key) refl ch r g n) g l n p sol notes gen)
+  address_fell (addresses_due.Assigns key) r ch g l n p sol notes gen = address_row (addresses_due.Assigns key) r (ap (λ (t : choice.Table). t.redirects) ch) (step_recalls (addresses_due.Assigns key) refl ch r g n) g l n p sol notes gen
 
   -- a row of a neighbour
   neighbour_row : (key : ℕ) (kind : neighbour_rows.RowKind) (mid : routers.Table) → mid.entries ≡ old.routers.entries → new.routers.entries ≡ mid.entries
       → routers.Stands new.routers (then_failed now key kind (router_history c)) → choice.Stands new.choice (then_target now key kind (redirect_history c))
       → neighbours.GainsRow old.neighbours.nodes new.neighbours.nodes (now, key, kind) → neighbours_due.NoneBefore new.neighbours.nodes now
-      → new.addresses ≡ old.addresses → new.params ≡ old.params → new.solicitations ≡ old.solicitations → new.router ≡ old.router → stream new.generator ≡ stream old.generator
+      → Recalls now new → new.addresses ≡ old.addresses → new.params ≡ old.params → new.solicitations ≡ old.solicitations → new.router ≡ old.router → stream new.generator ≡ stream old.generator
       → Stands stream start new ((now, Neighbour key kind) ∷ c)
-  neighbour_row key kind mid mid_is entries routers' redirects' gains later addresses' params' solicitations' side generator =
+  neighbour_row key kind mid mid_is entries routers' redirects' gains later recalls addresses' params' solicitations' side generator =
       then_row ((now, Neighbour key kind) ∷ c) refl refl refl refl
       (rw params' s.params)
       routers'
@@ -224,26 +266,36 @@ module _ {R A : Type 0} (stream : R → Stream) (start : Start) (old new : Node 
       (rw solicitations' (record { assigned = s.solicitations.assigned; sent = s.solicitations.sent; heard = s.solicitations.heard }))
       (rw side (side_stands start old.router c ((now, Neighbour key kind) ∷ c) refl s.router))
       (generator ∙ s.generator)
+      recalls
       (all_later new now (rw (entries, mid_is) (routers_before old now not_past)) (rw addresses' (addresses_before old now not_past)) later
       (rw (turns.role, solicitations') (solicitation_before old now not_past)) (rw (turns.role, side) (advertisement_before old now not_past)) (rw params' (redraw_before old now not_past)))
 
   -- a neighbour is asked once more, or is gone
-  pub neighbour_fell : (falls : neighbours_due.Falls) (mid : routers.Table) (kept : List (ℕ × Option ℕ)) → mid ≡ old.routers → kept ≡ old.choice → Notes now falls mid new.routers kept new.choice → new.routers.entries ≡ mid.entries
+  pub neighbour_fell : (falls : neighbours_due.Falls) (mid : routers.Table) (kept : choice.Table) → mid ≡ old.routers → kept ≡ old.choice → Notes now falls mid new.routers kept new.choice → new.routers.entries ≡ mid.entries → Remembering falls kept new.choice mid new.routers
       → new.addresses ≡ old.addresses → neighbours.GainsRow old.neighbours.nodes new.neighbours.nodes (neighbours_due.due_row now falls) → neighbours_due.NoneBefore new.neighbours.nodes now
       → new.params ≡ old.params → new.solicitations ≡ old.solicitations → new.router ≡ old.router → stream new.generator ≡ stream old.generator
       → Stands stream start new (comes start now (NeighbourFalls falls) c)
-  neighbour_fell falls mid kept mid_is kept_is notes entries addresses' gains later params' solicitations' side generator = by_kind falls gains (notes.routers (router_history c) (rw mid_is s.routers)) (notes.redirects (redirect_history c) (rw kept_is s.redirects))
+  neighbour_fell falls mid kept mid_is kept_is notes entries remembers addresses' gains later params' solicitations' side generator = by_kind falls gains remembers (notes.routers (router_history c) (rw mid_is s.routers)) (notes.redirects (redirect_history c) (rw kept_is s.redirects))
     where
-      by_kind : (falls : neighbours_due.Falls) → neighbours.GainsRow old.neighbours.nodes new.neighbours.nodes (neighbours_due.due_row now falls)
+      forgot : new.choice.memory ≡ forgotten kept.memory → Recalls now new
+      forgot is = forgets_all old new old.last now last_le s.memo turns.prefixes (is ∙ ap (λ (t : choice.Table). forgotten t.memory) kept_is)
+
+      asked : (key : ℕ) (kind : neighbour_rows.RowKind) → neighbour_rows.is_end kind ≡ false → ((st : neighbour_rows.Story) → mac_of ((now, kind) ∷ st) ≡ mac_of st)
+          → neighbours.GainsRow old.neighbours.nodes new.neighbours.nodes (now, key, kind) → (new.choice ≡ kept) × (new.routers ≡ mid) → Recalls now new
+      asked key kind goes_on same g m =
+          keeps old new old.last now last_le s.memo turns.prefixes (m.0 ∙ kept_is) (m.1 ∙ mid_is) (rw addresses' (λ k. refl))
+          (gains_as_resolved now key kind old.neighbours.nodes new.neighbours.nodes goes_on same g (neighbour_history c) s.neighbours)
+
+      by_kind : (falls : neighbours_due.Falls) → neighbours.GainsRow old.neighbours.nodes new.neighbours.nodes (neighbours_due.due_row now falls) → Remembering falls kept new.choice mid new.routers
           → routers.Stands new.routers (with_failure now falls (router_history c)) → choice.Stands new.choice (with_lost_target now falls (redirect_history c))
           → Stands stream start new (comes start now (NeighbourFalls falls) c)
-      by_kind (neighbours_due.Multicasts key) g r t =
-          stands_quiet stream start new _ _ (sent_is_quiet now _ _ (λ at. refl)) (neighbour_row key neighbour_rows.Solicited mid (ap (λ (x : routers.Table). x.entries) mid_is) entries r t g later addresses' params' solicitations' side generator)
-      by_kind (neighbours_due.Unicasts key mac) g r t =
-          stands_quiet stream start new _ _ (sent_is_quiet now _ _ (λ at. refl)) (neighbour_row key neighbour_rows.Probed mid (ap (λ (x : routers.Table). x.entries) mid_is) entries r t g later addresses' params' solicitations' side generator)
-      by_kind (neighbours_due.Fails key packets) g r t =
-          stands_quiet stream start new _ _ (losing_is_quiet now Unreachable packets _ (λ at. refl)) (neighbour_row key (neighbour_rows.Forgot neighbour_rows.Failed) mid (ap (λ (x : routers.Table). x.entries) mid_is) entries r t g later addresses' params' solicitations' side generator)
-      by_kind (neighbours_due.Ages key) g r t = neighbour_row key (neighbour_rows.Forgot neighbour_rows.Aged) mid (ap (λ (x : routers.Table). x.entries) mid_is) entries r t g later addresses' params' solicitations' side generator
+      by_kind (neighbours_due.Multicasts key) g m r t =
+          stands_quiet stream start new _ _ (sent_is_quiet now _ _ (λ at. refl)) (neighbour_row key neighbour_rows.Solicited mid (ap (λ (x : routers.Table). x.entries) mid_is) entries r t g later (asked key neighbour_rows.Solicited refl (λ st. refl) g m) addresses' params' solicitations' side generator)
+      by_kind (neighbours_due.Unicasts key mac) g m r t =
+          stands_quiet stream start new _ _ (sent_is_quiet now _ _ (λ at. refl)) (neighbour_row key neighbour_rows.Probed mid (ap (λ (x : routers.Table). x.entries) mid_is) entries r t g later (asked key neighbour_rows.Probed refl (λ st. refl) g m) addresses' params' solicitations' side generator)
+      by_kind (neighbours_due.Fails key packets) g m r t =
+          stands_quiet stream start new _ _ (losing_is_quiet now Unreachable packets _ (λ at. refl)) (neighbour_row key (neighbour_rows.Forgot neighbour_rows.Failed) mid (ap (λ (x : routers.Table). x.entries) mid_is) entries r t g later (forgot m) addresses' params' solicitations' side generator)
+      by_kind (neighbours_due.Ages key) g m r t = neighbour_row key (neighbour_rows.Forgot neighbour_rows.Aged) mid (ap (λ (x : routers.Table). x.entries) mid_is) entries r t g later (forgot m) addresses' params' solicitations' side generator
 
   -- a Router Advertisement is sent, and the time until the next one is drawn
   pub router_advertised : next_advertisement old.role old.router ≡ Some now → new.routers ≡ old.routers → new.choice ≡ old.choice → new.addresses ≡ old.addresses → new.neighbours ≡ old.neighbours → new.params ≡ old.params
@@ -268,10 +320,29 @@ module _ {R A : Type 0} (stream : R → Stream) (start : Start) (old new : Node 
       (rw solicitations' (record { assigned = s.solicitations.assigned; sent = s.solicitations.sent; heard = s.solicitations.heard }))
       side
       (sent.drawn ∙ ap (λ (x : Stream). (next_u32 x).1) s.generator)
+      (recalls_same choice' routers' addresses' neighbours')
       (all_later new now (rw routers' (routers_before old now not_past)) (rw addresses' (addresses_before old now not_past)) (rw neighbours' (neighbours_before old now not_past))
       (rw (turns.role, solicitations') (solicitation_before old now not_past))
       (rw turns.role (later_row start old.role old.router new.router c below now row is s.role refl s.router side (advertisement_before old now not_past)))
       (rw params' (redraw_before old now not_past)))))
+
+  -- a Router Solicitation is sent
+  pub routers_solicited : next_solicitation old.role old.solicitations ≡ Some now → new.solicitations ≡ record old.solicitations { sent = old.solicitations.sent + 1 } → new.routers ≡ old.routers → new.choice ≡ old.choice
+      → new.addresses ≡ old.addresses → new.neighbours ≡ old.neighbours → new.params ≡ old.params → new.router ≡ old.router → stream new.generator ≡ stream old.generator → Stands stream start new (comes start now RoutersSolicited c)
+  routers_solicited date solicitations' routers' choice' addresses' neighbours' params' side generator =
+      then_row (comes start now RoutersSolicited c) refl refl refl refl
+      (rw params' s.params)
+      (rw routers' s.routers)
+      (rw addresses' s.addresses)
+      (rw neighbours' s.neighbours)
+      (rw choice' s.redirects)
+      (rw solicitations' (record { assigned = s.solicitations.assigned; sent = ap (λ (n : ℕ). n + 1) s.solicitations.sent; heard = s.solicitations.heard }))
+      (rw side (side_stands start old.router c (comes start now RoutersSolicited c) refl s.router))
+      (generator ∙ s.generator)
+      (recalls_same choice' routers' addresses' neighbours')
+      (all_later new now (rw routers' (routers_before old now not_past)) (rw addresses' (addresses_before old now not_past)) (rw neighbours' (neighbours_before old now not_past))
+      (rw (turns.role, solicitations') (date_later (is_host old.role && nat_lt (old.solicitations.sent + 1) max_rtr_solicitations && not old.solicitations.heard) (is_host old.role && nat_lt old.solicitations.sent max_rtr_solicitations && not old.solicitations.heard) old.solicitations.assigned old.solicitations.sent now date))
+      (rw (turns.role, side) (advertisement_before old now not_past)) (rw params' (redraw_before old now not_past)))
 
   -- ReachableTime is drawn again
   pub redrawn : new.routers ≡ old.routers → new.choice ≡ old.choice → new.addresses ≡ old.addresses → new.neighbours ≡ old.neighbours → new.solicitations ≡ old.solicitations → new.router ≡ old.router
@@ -288,6 +359,7 @@ module _ {R A : Type 0} (stream : R → Stream) (start : Start) (old new : Node 
       (rw solicitations' (record { assigned = s.solicitations.assigned; sent = s.solicitations.sent; heard = s.solicitations.heard }))
       (rw side (side_stands start old.router c (comes start now Redraws c) refl s.router))
       (generator ∙ ap (λ (x : Stream). (next_u32 x).1) s.generator)
+      (recalls_same choice' routers' addresses' neighbours')
       (all_later new now (rw routers' (routers_before old now not_past)) (rw addresses' (addresses_before old now not_past)) (rw neighbours' (neighbours_before old now not_past))
       (rw (turns.role, solicitations') (solicitation_before old now not_past)) (rw (turns.role, side) (advertisement_before old now not_past)) (omega (arith, drawn_at)))
     where
@@ -307,7 +379,7 @@ module _ {R A : Type 0} (stream : R → Stream) (start : Start) (old : Node R A)
 -- before the earliest of the dates nothing is due
 pub next_due_at : {R A : Type 0} (stream : R → Stream) (start : Start) (node : Node R A) (c : Chronicle) → Stands stream start node c
     → (r a n : Option ℕ) → r ≡ routers.next_end node.routers.entries → a ≡ address_dates.next_in node.addresses.addresses → n ≡ neighbours_due.next_in node.neighbours.nodes
-    → routers_due.NextDue (router_history c) r → addresses_due.NextDue (address_history c) a → neighbours_due.NextDue (neighbour_history c) n
+    → routers_due.NextDue (router_history c) r → addresses_due.NextDue node.addresses.transmits (address_history c) a → neighbours_due.NextDue (neighbour_history c) n
     → (next : ℕ) → next ≡ next_of node → NextDue start c next
 next_due_at stream start node c s r a n r_is a_is n_is r_due a_due n_due next is = record {
   not_past = rw is s.in_time;
@@ -323,7 +395,7 @@ next_due_at stream start node c s r a n r_is a_is n_is r_due a_due n_due next is
       let lt5 = before_second moment date (earlier advertisement redraw) lt4 in
       let lt6 : moment < node.params.drawn_at + redraw_after = before_second moment advertisement redraw lt5 in (
         no_router (router_history c) r (earlier a (earlier n rest)) moment r_due lt1,
-        no_address (address_history c) a (earlier n rest) moment a_due lt2,
+        subst (λ (k : ℕ). addresses_due.FirstDue k (address_history c) moment None) s.address_transmits (no_address node.addresses.transmits (address_history c) a (earlier n rest) moment a_due lt2),
         no_neighbour (neighbour_history c) n rest moment n_due lt3,
         subst (λ (o : Option ℕ). o ≢ Some moment) (solicitation_date stream start node c s) (none_at moment date (earlier advertisement redraw) lt4),
         subst (λ (o : Option ℕ). o ≢ Some moment) (advertisement_date start node.role node.router c s.role s.router) (none_at moment advertisement redraw lt5),

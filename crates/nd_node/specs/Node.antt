@@ -1,5 +1,5 @@
 -- A node stands for a chronicle.
-use Rattle.std.specs.Prelude.{◌≡◌, ℕ, ◌+◌, ◌-◌, ◌<◌, ◌≤◌, length, Option, None}
+use Rattle.std.specs.Prelude.{◌≡◌, ℕ, ◌+◌, ◌-◌, ◌<◌, ◌≤◌, Bool, true, false, length, Option, None}
 use Rattle.rand_core.specs.Stream.{Stream}
 use Rattle.nd_addr.specs.declared.mac.Mac.{Mac}
 use Rattle.nd_addr.specs.declared.role.Role.{Role}
@@ -10,6 +10,7 @@ use Rattle.nd_neighbour.specs.Table as neighbours
 use Rattle.nd_neighbour.specs.Due as neighbour_dates
 use Rattle.nd_slaac.specs.Table as addresses
 use Rattle.nd_slaac.specs.Dates as address_dates
+use Rattle.nd_slaac.specs.Due.{Falls, Ends}
 use Rattle.nd_routers.specs.Routers as routers
 use Rattle.nd_params.specs.Params as parameters
 use Rattle.nd_params.specs.History.{redraw_after}
@@ -24,6 +25,7 @@ use Rattle.nd_effects.specs.Router as router
 use Rattle.nd_effects.specs.Router.{after_last, next_advertisement}
 use Rattle.nd_effects.specs.RouterSolicitations as solicitations
 use Rattle.nd_effects.specs.RouterSolicitations.{next_solicitation}
+use Rattle.nd_effects.specs.Remembered.{Remembers}
 use Rattle.nd_node.specs.Moments.{earlier}
 use Rattle.nd_node.specs.declared.node.Node.{Node}
 
@@ -31,8 +33,8 @@ use Rattle.nd_node.specs.declared.node.Node.{Node}
 abbrev pub usual_limits : Limits
 usual_limits = record { neighbours = 512; routers = 16 }
 
-abbrev pub starting : ℕ → Role → Mac → Stream → Start
-starting at role mac stream = record { at = at; role = role; mac = mac; stream = stream; limits = usual_limits }
+abbrev pub starting : ℕ → Role → Mac → ℕ → Stream → Start
+starting at role mac transmits stream = record { at = at; role = role; mac = mac; transmits = transmits; stream = stream; limits = usual_limits }
 
 -- the earliest of the routers', the addresses', the neighbours', the Router Solicitations', the Router Advertisements' and the redraw's
 abbrev pub earliest : Option ℕ → Option ℕ → Option ℕ → Option ℕ → Option ℕ → ℕ → ℕ
@@ -51,6 +53,7 @@ pub record Stands {R A : Type 0} (stream : R → Stream) (start : Start) (node :
   pub role : node.role ≡ start.role
   pub mac : node.mac ≡ start.mac
   pub address_mac : node.addresses.mac ≡ start.mac
+  pub address_transmits : node.addresses.transmits ≡ start.transmits
   pub neighbour_limit : node.neighbours.limit ≡ start.limits.neighbours
   pub router_limit : node.routers.limit ≡ start.limits.routers
   pub params : parameters.Stands node.params (parameter_history c)
@@ -67,6 +70,7 @@ pub record Stands {R A : Type 0} (stream : R → Stream) (start : Start) (node :
   pub prefixes_by_then : lifetimes.last_moment (prefix_history c) ≤ last_moment start.at c
   pub servers_by_then : lifetimes.last_moment (server_history c) ≤ last_moment start.at c
   pub names_by_then : lifetimes.last_moment (name_history c) ≤ last_moment start.at c
+  pub memo : Remembers node.last node.choice node.addresses.addresses node.prefixes node.neighbours.nodes node.routers
   pub in_time : last_moment start.at c ≤ next_of node
 
 -- Nothing is due before the moment, which isn't past.
@@ -74,8 +78,13 @@ pub record NextDue (start : Start) (c : Chronicle) (next : ℕ) : Type 0 where
   pub not_past : last_moment start.at c ≤ next
   pub nothing_before : (moment : ℕ) → moment < next → Due start c moment None
 
+-- an own address ends
+abbrev pub ends : Falls → Bool
+ends (Ends key) = true
+ends _ = false
+
 -- how many turns are left up to a moment, where nothing else happens, and the time since the last redraw and the last advertisement
 abbrev pub turns_left : {R A : Type 0} → ℕ → Node R A → ℕ
 turns_left end node =
-    length node.routers.entries + address_dates.turns_left node.addresses.addresses + neighbour_dates.turns_left node.neighbours.nodes
+    length node.routers.entries + address_dates.turns_left node.addresses.transmits node.addresses.addresses + neighbour_dates.turns_left node.neighbours.nodes
     + (max_rtr_solicitations - node.solicitations.sent) + (end + redraw_after - node.params.drawn_at) + (end + 1 - after_last node.router.advertiser.last)

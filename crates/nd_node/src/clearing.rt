@@ -44,6 +44,7 @@ impl<R: Rng + Drop, A: Allocator + Clone> Node<R, A> {
         let waiting = self.neighbours.waiting();
         outs.reserve(waiting)?;
         let packets = self.neighbours.clear()?;
+        self.choice.changed();
         self.last = now;
         tell_packets(outs, now, packets);
         Ok(())
@@ -90,6 +91,8 @@ impl<R: Rng + Drop, A: Allocator + Clone> Node<R, A> {
             Clearable::Routers => self.clear_routers(now, outs),
             Clearable::Prefixes => {
                 self.prefixes.clear();
+                self.choice.changed();
+                self.choice.until(None);
                 self.last = now;
                 Ok(())
             }

@@ -1,4 +1,4 @@
-ghost use Rattle.std.specs.Prelude.{◌≡◌, ℕ, ◌^◌, ◌<◌, ◌≤◌, ◌↔◌, ◌∷◌, IsTrue, Some};
+ghost use Rattle.std.specs.Prelude.{◌≡◌, ℕ, if◌then◌else◌, ◌^◌, ◌<◌, ◌≤◌, ◌↔◌, ◌∷◌, IsTrue, Some};
 ghost use Rattle.rand_core.specs.Stream.{next_u32};
 ghost use Rattle.nd_addr.specs.Number.{number_of};
 ghost use Rattle.nd_params.specs.History.{Drew};
@@ -6,11 +6,14 @@ ghost use Rattle.nd_slaac.specs.View.{falls_of};
 ghost use Rattle.nd_params.specs.Params.{GainsRows};
 ghost use Rattle.nd_chronicle.specs.Generator.{reachable_drawn};
 ghost use Rattle.nd_effects.specs.RouterSolicitations.{after_address};
+ghost use Rattle.nd_nexthop.specs.Memo.{forgotten};
 ghost use Rattle.nd_node.specs.Moments.{earlier};
+ghost use Rattle.nd_node.specs.Node.{ends};
 
 use crate::node::Node;
 use nd_addr::Addr;
 use nd_effects::{RouterSolicitations, Turned, note, reachable_drawn};
+use nd_nexthop::Choice;
 use nd_params::Params;
 use nd_table::compare;
 use rand_core::Rng;
@@ -64,6 +67,7 @@ impl<R: Rng + Drop, A: Allocator + Clone> Node<R, A> {
         }
         match self.addresses.turn(now) {
             Some(due) => {
+                forget_if_ended(&mut self.choice, due);
                 let own = self.addresses.link_local();
                 note_address(&mut self.solicitations, own, now, due);
                 self.router.note_address(own, now, due);
@@ -86,6 +90,16 @@ impl<R: Rng + Drop, A: Allocator + Clone> Node<R, A> {
         }
         redraw(&mut self.params, &mut self.generator, now);
         Turned::Redrawn
+    }
+}
+
+/// No next hop is remembered where an own address ended.
+fn forget_if_ended<A: Allocator>(choice: &mut Choice<A>, due: nd_slaac::Due)
+    ensures { choice.new ≡ (if ends (falls_of due) then record choice.old { memory = forgotten choice.old.memory } else choice.old) }
+{
+    match due {
+        nd_slaac::Due::End(_) => choice.changed(),
+        nd_slaac::Due::Solicit(_) | nd_slaac::Due::Assign(_) => {}
     }
 }
 

@@ -5,6 +5,7 @@ ghost use Rattle.nd_chronicle.specs.Happening.{Chronicle, last_moment};
 ghost use Rattle.nd_chronicle.specs.Start.{Start};
 
 use crate::node::Node;
+use nd_addr::laws::addresses_are_told_by_numbers;
 use nd_addr::{Addr, Role};
 use nd_effects::Tables;
 use nd_nexthop::Hop;
@@ -25,14 +26,18 @@ impl<R: Rng + Drop, A: Allocator + Clone> Node<R, A> {
         ensures stands { (start : Start) (c : Chronicle) → Stands R.stream start self.old c → Stands R.stream start self.new c }
         ensures due { next_of self.new ≡ next_of self.old }
     {
+        addresses_are_told_by_numbers();
+        let _bytes = destination.as_bytes();
+        // No earlier moment than the last one is asked for.
+        let at = now.max(self.last);
         let tables = Tables {
-            now,
+            now: at,
             routers: &self.routers,
             prefixes: &self.prefixes,
             addresses: &self.addresses,
             neighbours: &self.neighbours,
         };
-        self.choice.next_hop(destination, &tables)
+        self.choice.next_hop(at, destination, &tables)
     }
 
     /// The next hop of a packet of this node to a destination at a moment, in milliseconds, up to which nothing is due: at a host the choice

@@ -54,9 +54,16 @@ impl<R: Rng + Drop, A: Allocator + Clone> Node<R, A> {
                 body,
             },
         ));
-        hear_holder(&mut self.addresses, now, na.target, outs);
+        hear_holder(&mut self.addresses, &mut self.choice, now, na.target, outs);
         let times = times_in_force(&self.params);
-        let ends = hear_of_neighbour(&mut self.neighbours, now, news, times, outs);
+        let ends = hear_of_neighbour(
+            &mut self.neighbours,
+            &mut self.choice,
+            now,
+            news,
+            times,
+            outs,
+        );
         end_router(
             &mut self.routers,
             &mut self.choice,

@@ -90,6 +90,7 @@ impl<R: Rng + Drop, A: Allocator + Clone> Node<R, A> {
             },
         ));
         if self.addresses.conflict(ns.target) {
+            self.choice.changed();
             outs.push_reserved((now, Out::Duplicate(ns.target)));
             return Ok(());
         }
@@ -141,7 +142,14 @@ impl<R: Rng + Drop, A: Allocator + Clone> Node<R, A> {
             },
         ));
         let times = times_in_force(&self.params);
-        hear_of_neighbour(&mut self.neighbours, now, news, times, outs);
+        hear_of_neighbour(
+            &mut self.neighbours,
+            &mut self.choice,
+            now,
+            news,
+            times,
+            outs,
+        );
         let router = is_router(self.role);
         let answer = room.answer.answer(router, self.mac, ns.target, source);
         self.go(now, source, answer, room.solicitation, outs);

@@ -10,7 +10,7 @@ use nd_neighbour::Cache;
 use nd_nexthop::Choice;
 use nd_params::Params;
 use nd_routers::{Prefixes, Routers};
-use nd_slaac::Addresses;
+use nd_slaac::{Addresses, Transmits};
 use rand_core::Rng;
 use std::alloc::Allocator;
 
@@ -41,11 +41,18 @@ impl<R: Rng + Drop, A: Allocator + Copy> Node<R, A> {
     ghost use Rattle.nd_node.specs.Node.{Stands, starting};
 
     /// A node that starts: it draws its ReachableTime, and then the delay of the first solicitation for its link-local address, which it
-    /// forms (RFC 4861, section 6.3.2; RFC 4862, sections 5.3 and 5.4.2). The error is want of memory: it hands the generator back, of
-    /// which no word was taken.
-    pub fn new(alloc: A, role: Role, mac: Mac, start: u64, mut generator: R) -> Result<Self, R>
+    /// forms (RFC 4861, section 6.3.2; RFC 4862, sections 5.3 and 5.4.2). For each address that it forms it sends so many solicitations. The error is
+    /// want of memory: it hands the generator back, of which no word was taken.
+    pub fn new(
+        alloc: A,
+        role: Role,
+        mac: Mac,
+        start: u64,
+        transmits: Transmits,
+        mut generator: R,
+    ) -> Result<Self, R>
         requires { start < 2 ^ 62 }
-        ensures stands { IfOk result (λ node. let first = starting start role mac (R.stream generator) in Stands R.stream first node (beginning first)) }
+        ensures stands { IfOk result (λ node. let first = starting start role mac transmits (R.stream generator) in Stands R.stream first node (beginning first)) }
         ensures kept { IfErr result (λ rest. R.stream rest ≡ R.stream generator) }
     {
         let Ok(room) = Room::new(alloc) else {
@@ -63,7 +70,14 @@ impl<R: Rng + Drop, A: Allocator + Copy> Node<R, A> {
             params,
             routers: room.routers,
             prefixes: room.prefixes,
-            addresses: Addresses::start(room.addresses, start, mac, delay as u32, retrans),
+            addresses: Addresses::start(
+                room.addresses,
+                start,
+                mac,
+                transmits,
+                delay as u32,
+                retrans,
+            ),
             neighbours: room.neighbours,
             dns: room.dns,
             choice: room.choice,

@@ -7,7 +7,7 @@ ghost use Rattle.nd_node.specs.Time.{Leads};
 
 use crate::node::Node;
 use nd_addr::Addr;
-use nd_effects::{link_local, tell_use, times_in_force};
+use nd_effects::{link_local, note_use, tell_use, times_in_force};
 use nd_frames::FrameRoom;
 use nd_neighbour::laws::{none_overdue, one_is_pushed_out, room_is_place};
 use nd_out::Out;
@@ -48,7 +48,10 @@ impl<R: Rng + Drop, A: Allocator + Clone> Node<R, A> {
         let own = link_local(&self.addresses);
         let times = times_in_force(&self.params);
         match self.neighbours.used(now, to, packet, times) {
-            Ok(used) => tell_use(outs, now, solicitation, self.mac, own, to, used),
+            Ok(used) => {
+                note_use(&mut self.choice, &used);
+                tell_use(outs, now, solicitation, self.mac, own, to, used)
+            }
             Err(_) => unreachable!(),
         }
     }

@@ -38,6 +38,7 @@ impl<R: Rng + Drop, A: Allocator + Clone> Node<R, A> {
         outs.reserve(waiting)?;
         self.last = now;
         let packets = self.neighbours.forget(neighbour);
+        self.choice.changed();
         tell_lost(outs, now, Loss::Forgotten, packets);
         Ok(())
     }

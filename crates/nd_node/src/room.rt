@@ -38,10 +38,12 @@ impl<A: Allocator + Copy> Room<A> {
     pub(crate) fn new(alloc: A) -> Result<Self, AllocError>
         ensures routers { IfOk result (λ room. room.routers ≡ record { limit = usual_limits.routers; entries = []; failed = [] }) }
         ensures router_history { IfOk result (λ room. routers.Stands room.routers []) }
+        ensures no_prefixes { IfOk result (λ room. room.prefixes ≡ []) }
         ensures prefixes { IfOk result (λ room. lists.Stands same_prefix room.prefixes []) }
         ensures neighbours { IfOk result (λ room. room.neighbours ≡ record { limit = usual_limits.neighbours; nodes = []; rings = 0 }) }
         ensures neighbour_history { IfOk result (λ room. neighbours.Stands room.neighbours.nodes []) }
         ensures dns { IfOk result (λ room. dns.Stands room.dns [] []) }
+        ensures choice { IfOk result (λ room. room.choice ≡ record { redirects = []; memory = record { hops = []; until = None } }) }
         ensures redirects { IfOk result (λ room. choice.Stands room.choice []) }
         ensures advertiser { IfOk result (λ room. room.router.advertiser ≡ record { assigned = None; last = None; advertising = None; offers = [] }) }
         ensures routes { IfOk result (λ room. room.router.routes ≡ record { entries = []; redirected = None }) }

@@ -56,7 +56,14 @@ impl<R: Rng + Drop, A: Allocator + Clone> Node<R, A> {
             },
         ));
         let times = times_in_force(&self.params);
-        hear_of_neighbour(&mut self.neighbours, now, news, times, outs);
+        hear_of_neighbour(
+            &mut self.neighbours,
+            &mut self.choice,
+            now,
+            news,
+            times,
+            outs,
+        );
         self.router
             .hear_solicitation(self.role, now, &mut self.generator);
         Ok(())

@@ -136,22 +136,24 @@ fn goes_by_the_order_of_5_2(rt: HostRuntime) {
         panic!(rt; "no node");
     };
     for (destination, hop) in &table {
-        assert!(rt; choice.next_hop(*destination, &view) == *hop);
+        assert!(rt; choice.next_hop(0, *destination, &view) == *hop);
     }
     // Without routers the last one has no route; all else is as before.
+    choice.changed();
     let none: [Candidate; 0] = [];
     let Some(view) = make_node(&none) else {
         panic!(rt; "no node");
     };
-    assert!(rt; choice.next_hop(global(1, 8), &view) == Hop::NoRoute);
-    assert!(rt; choice.next_hop(global(0, 8), &view) == Hop::Direct);
-    assert!(rt; choice.next_hop(global(1, 5), &view) == Hop::Via(link_local(2)));
+    assert!(rt; choice.next_hop(0, global(1, 8), &view) == Hop::NoRoute);
+    assert!(rt; choice.next_hop(0, global(0, 8), &view) == Hop::Direct);
+    assert!(rt; choice.next_hop(0, global(1, 5), &view) == Hop::Via(link_local(2)));
 }
 
-/// The hop to an address off the link.
+/// The hop to an address off the link, where the routers have changed.
 fn off_link(routers: &[Candidate], choice: &mut Choice<Global>) -> Option<Hop> {
+    choice.changed();
     match make_node(routers) {
-        Some(view) => Some(choice.next_hop(global(9, 9), &view)),
+        Some(view) => Some(choice.next_hop(0, global(9, 9), &view)),
         None => None,
     }
 }
@@ -203,21 +205,21 @@ fn keeps_64_redirects(rt: HostRuntime) {
     };
     // An ended one keeps its place.
     choice.target_gone(link_local(2));
-    assert!(rt; choice.next_hop(global(1, 2), &view) == Hop::NoRoute);
+    assert!(rt; choice.next_hop(0, global(1, 2), &view) == Hop::NoRoute);
     assert!(rt; count(&choice) == 63);
     // Asking changes no order: the first goes where a 65th comes.
-    assert!(rt; choice.next_hop(global(1, 0), &view) == Hop::Via(link_local(0)));
+    assert!(rt; choice.next_hop(0, global(1, 0), &view) == Hop::Via(link_local(0)));
     choice
         .redirected(global(1, 64), link_local(64))
         .expect(&rt, "memory");
-    assert!(rt; choice.next_hop(global(1, 0), &view) == Hop::NoRoute);
-    assert!(rt; choice.next_hop(global(1, 1), &view) == Hop::Via(link_local(1)));
+    assert!(rt; choice.next_hop(0, global(1, 0), &view) == Hop::NoRoute);
+    assert!(rt; choice.next_hop(0, global(1, 1), &view) == Hop::Via(link_local(1)));
     assert!(rt; count(&choice) == 63);
     // One that is redirected again is the newest, and pushes none out.
     choice
         .redirected(global(1, 1), link_local(99))
         .expect(&rt, "memory");
-    assert!(rt; choice.next_hop(global(1, 1), &view) == Hop::Via(link_local(99)));
+    assert!(rt; choice.next_hop(0, global(1, 1), &view) == Hop::Via(link_local(99)));
     assert!(rt; count(&choice) == 63);
     // The next one pushes out the one that ended, the next again one that is kept.
     choice
@@ -228,8 +230,64 @@ fn keeps_64_redirects(rt: HostRuntime) {
         .redirected(global(1, 66), link_local(66))
         .expect(&rt, "memory");
     assert!(rt; count(&choice) == 64);
-    assert!(rt; choice.next_hop(global(1, 3), &view) == Hop::NoRoute);
-    assert!(rt; choice.next_hop(global(1, 4), &view) == Hop::Via(link_local(4)));
+    assert!(rt; choice.next_hop(0, global(1, 3), &view) == Hop::NoRoute);
+    assert!(rt; choice.next_hop(0, global(1, 4), &view) == Hop::Via(link_local(4)));
+}
+
+#[test]
+fn remembers_256_destinations(rt: HostRuntime) {
+    let routers = [usable(9, None)];
+    let Some(view) = make_node(&routers) else {
+        panic!(rt; "no node");
+    };
+    let mut choice = Choice::new(rt.alloc()).expect(&rt, "memory");
+    assert!(rt; choice.remembered() == 0);
+    for n in 0..128u8 {
+        assert!(rt; choice.next_hop(0, global(1, n), &view) == Hop::Via(link_local(9)));
+        assert!(rt; choice.next_hop(0, global(2, n), &view) == Hop::Via(link_local(9)));
+    }
+    assert!(rt; choice.remembered() == 256);
+    // The one that was asked for least recently makes place.
+    assert!(rt; choice.next_hop(0, global(3, 0), &view) == Hop::Via(link_local(9)));
+    assert!(rt; choice.remembered() == 256);
+    // A destination that is asked for again takes no other place.
+    assert!(rt; choice.next_hop(0, global(3, 0), &view) == Hop::Via(link_local(9)));
+    assert!(rt; choice.remembered() == 256);
+    choice.changed();
+    assert!(rt; choice.remembered() == 0);
+}
+
+#[test]
+fn remembers_up_to_its_last_moment(rt: HostRuntime) {
+    let routers = [usable(9, None)];
+    let none: [Candidate; 0] = [];
+    let mut choice = Choice::new(rt.alloc()).expect(&rt, "memory");
+    choice.until(Some(5));
+    let Some(view) = make_node(&routers) else {
+        panic!(rt; "no node");
+    };
+    assert!(rt; choice.next_hop(5, global(1, 1), &view) == Hop::Via(link_local(9)));
+    // Where it is asked without being told of a change, it answers by what it remembers, and afterwards by the view.
+    let Some(view) = make_node(&none) else {
+        panic!(rt; "no node");
+    };
+    assert!(rt; choice.is_asked(5));
+    assert!(rt; choice.next_hop(5, global(1, 1), &view) == Hop::Via(link_local(9)));
+    assert!(rt; !choice.is_asked(6));
+    assert!(rt; choice.next_hop(6, global(1, 1), &view) == Hop::NoRoute);
+    // What is asked for afterwards isn't remembered.
+    assert!(rt; choice.next_hop(6, global(1, 2), &view) == Hop::NoRoute);
+    assert!(rt; choice.remembered() == 1);
+    // A redirect forgets all, and so does the end of its target.
+    choice
+        .redirected(global(1, 1), link_local(2))
+        .expect(&rt, "memory");
+    assert!(rt; choice.remembered() == 0);
+    assert!(rt; choice.next_hop(5, global(1, 1), &view) == Hop::Via(link_local(2)));
+    assert!(rt; choice.remembered() == 1);
+    choice.target_gone(link_local(2));
+    assert!(rt; choice.remembered() == 0);
+    assert!(rt; choice.next_hop(5, global(1, 1), &view) == Hop::NoRoute);
 }
 
 #[test]

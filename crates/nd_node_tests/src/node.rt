@@ -3,6 +3,7 @@ ghost use Rattle.nd_node.specs.Event.{AreEarly};
 use nd_addr::{Addr, Mac, Role};
 use nd_node::*;
 use nd_out::{Out, write_outs};
+use nd_slaac::Transmits;
 use rand_core::SeedableRng;
 use rand_pcg::Pcg32;
 use std::alloc::Global;
@@ -30,7 +31,7 @@ const ROUTER: Addr = Addr([0xfe, 0x80, 0, 0, 0, 0, 0, 0, 0, 0, 0, 0xff, 0xfe, 0,
 /// A host that starts at 0.
 fn host(rt: &(impl Abort + AllocGlobal)) -> Node<Pcg32, Global> {
     let generator = Pcg32::seed_from_u64(0);
-    Node::new(rt.alloc(), Role::Host, MAC, 0, generator).expect(rt, "memory")
+    Node::new(rt.alloc(), Role::Host, MAC, 0, Transmits::ONE, generator).expect(rt, "memory")
 }
 
 /// Of events at a host that starts at 0 it tells this, behind what it tells of its start.

@@ -10,7 +10,7 @@ use nd_out::*;
 use nd_params::Params;
 use nd_routers::{Prefixes, Routers};
 use nd_routes::{Route, Routes};
-use nd_slaac::{AddressRoom, Addresses, Due};
+use nd_slaac::{AddressRoom, Addresses, Due, Transmits};
 use nd_waiting::Packet;
 use std::alloc::Global;
 use std::process::Abort;
@@ -183,7 +183,7 @@ fn parameters_are_shown(rt: HostRuntime) {
 fn addresses_are_shown(rt: HostRuntime) {
     let alloc = rt.alloc();
     let room = AddressRoom::new(rt.alloc()).expect(&rt, "memory");
-    let mut addresses = Addresses::start(room, 0, MAC, 0, 1000);
+    let mut addresses = Addresses::start(room, 0, MAC, Transmits::ONE, 0, 1000);
     assert!(rt; addresses.conflict(LINK_LOCAL));
     let rows = address_rows(&alloc, &addresses, 999).expect(&rt, "memory");
     is_told(
@@ -371,7 +371,7 @@ fn month_and_week() -> Option<PrefixInfo> {
 fn two_addresses_are_shown_in_their_order(rt: HostRuntime) {
     let alloc = rt.alloc();
     let room = AddressRoom::new(rt.alloc()).expect(&rt, "memory");
-    let mut addresses = Addresses::start(room, 0, MAC, 0, 1000);
+    let mut addresses = Addresses::start(room, 0, MAC, Transmits::ONE, 0, 1000);
     assert!(rt; turn_at(&rt, &mut addresses, 0).is_some());
     assert!(rt; turn_at(&rt, &mut addresses, 1000).is_some());
     let info = month_and_week().expect(&rt, "option");

@@ -30,7 +30,7 @@ pub fn redirect_rows<A: Allocator + Clone>(
     alloc: &A,
     choice: &Choice<A>,
 ) -> Result<Vec<String<A>, A>, AllocError>
-    ensures value { IfOk result (λ rows. map string_bytes rows.items ≡ map redirect_row (those_left choice.now)) }
+    ensures value { IfOk result (λ rows. map string_bytes rows.items ≡ map redirect_row (those_left choice.now.redirects)) }
     ensures rows { IfOk result (λ rows. (start : Start) (c : Chronicle) (now : ℕ) → Stands choice.now (redirect_history c) → AreRows start c now RedirectTable (map string_bytes rows.items)) }
 {
     let mut rows = Vec::new(alloc.clone()?);

@@ -26,14 +26,14 @@ AllAfter-other f n (e ∷ es) key end h is =
     cond_both (eqb e.key key) (Some e.end) (end_in same key es) (λ (o : Option (Option ℕ)). o ≡ Some end → n < f key)
     (λ at _. subst (λ (k : ℕ). n < f k) (eqb-true e.key key at) h.0) (λ _ is'. AllAfter-other f n es key end h.1 is') is
 
-key_at-now : (now : ℕ) (e : Lasting ℕ) (key : ℕ) → e.key ≡ key → e.end ≡ Some now → key_at now e ≡ Some key
+pub key_at-now : (now : ℕ) (e : Lasting ℕ) (key : ℕ) → e.key ≡ key → e.end ≡ Some now → key_at now e ≡ Some key
 key_at-now now e key at is = ap (λ o. cond (is_at now o) (Some e.key) None) is ∙ (cond-true (eqb now now) (Some e.key) None (eq-eqb now now refl) ∙ ap Some at)
 
 at-key-by : (now key k : ℕ) (end : Option ℕ) → cond (is_at now end) (Some k) None ≡ Some key → (k ≡ key) × (end ≡ Some now)
 at-key-by now key k None h = absurd (grind arith)
 at-key-by now key k (Some m) h = (grind (arith, nat_tests, h), grind (arith, nat_tests, h))
 
-at-key : (now : ℕ) (e : Lasting ℕ) (key : ℕ) → key_at now e ≡ Some key → (e.key ≡ key) × (e.end ≡ Some now)
+pub at-key : (now : ℕ) (e : Lasting ℕ) (key : ℕ) → key_at now e ≡ Some key → (e.key ≡ key) × (e.end ≡ Some now)
 at-key now e key h = at-key-by now key e.key e.end h
 
 lesser_is_none : (a b : Option ℕ) → lesser a b ≡ None → (a ≡ None) × (b ≡ None)

@@ -1,7 +1,9 @@
 pub mod Clearing
 pub mod Dues
 pub mod Failing
+pub mod Refreshing
 pub mod Settled
 pub mod Steps
 pub mod Told
 pub mod Unique
+pub mod Planning

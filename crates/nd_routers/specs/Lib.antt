@@ -3,5 +3,7 @@ pub mod Due
 pub mod History
 pub mod OnLink
 pub mod PrefixOptions
+pub mod Refreshing
 pub mod RouterAdvertisement
 pub mod Routers
+pub mod Planned

@@ -1,8 +1,8 @@
 ghost use Rattle.std.specs.Prelude.{◌≡◌, Some, ◌≢◌, ◌<◌, ℕ, List, IfSome, IfNone, is_some, length};
 ghost use Rattle.std.specs.Option.{option_map};
 ghost use Rattle.nd_addr.specs.Number.{number_of};
-ghost use Rattle.nd_routers.specs.Routers.{first_due};
-ghost use Rattle.nd_table.specs.Due.{lesser};
+ghost use Rattle.nd_table.specs.Dates.{date_at};
+ghost use Rattle.nd_routers.specs.Planned.{key_of, date_of};
 ghost use Rattle.nd_lifetime.specs.History.{end_of};
 ghost use Rattle.nd_lifetime.specs.Listing.{end_in};
 
@@ -11,7 +11,7 @@ use crate::router::Router;
 use crate::routers::Routers;
 use nd_addr::Addr;
 use nd_lifetime::{Lasting, has, remove, stands};
-use nd_table::{compare, is_at, next_date};
+use nd_table::compare;
 use std::alloc::Allocator;
 
 impl<A: Allocator> Routers<A> {
@@ -24,7 +24,7 @@ impl<A: Allocator> Routers<A> {
         ensures value { result ≡ next_end self.now.entries }
         ensures due { (history : List RouterRow) → Stands self.now history → NextDue history result }
     {
-        next_date(&self.entries)
+        self.dates.next()
     }
 
     /// The least address of the routers whose lifetime ends at this moment, in milliseconds, which leaves the list (RFC 4861, section
@@ -42,7 +42,8 @@ impl<A: Allocator> Routers<A> {
         ensures none { IfNone result (next_end self.old.entries ≢ Some now) }
         ensures later { NoneBefore self.new.entries now }
     {
-        let source = first_due(&self.entries, now)?;
+        let source = self.dates.first_due(now)?;
+        self.dates.take_date(end_of(&self.entries, source), source);
         remove(&mut self.entries, &source);
         forget(&mut self.failed, source);
         Some(source)
@@ -58,31 +59,21 @@ impl<A: Allocator> Routers<A> {
         ensures limit { self.new.limit ≡ self.old.limit }
     {
         let listed = has(&self.entries, &source);
+        self.dates.take_date(end_of(&self.entries, source), source);
         remove(&mut self.entries, &source);
         forget(&mut self.failed, source);
         listed
     }
 }
 
-/// The lesser of two addresses, of which the first may be missing.
-fn lesser_addr(a: Option<Addr>, b: Addr) -> Addr
-    ensures { Some (number_of result.0) ≡ lesser (option_map (λ x. number_of x.0) a) (Some (number_of b.0)) }
+/// The end of a router's lifetime, if it is in the list and has one.
+pub(crate) fn end_of(entries: &[Lasting<Router>], source: Addr) -> Option<u64>
+    ensures { result ≡ date_at key_of date_of (number_of source.0) entries.now }
 {
-    match a {
-        Some(a) if compare(a, b).is_lt() => a,
-        _ => b,
-    }
-}
-
-/// The least address of those whose end is now.
-pub(crate) fn first_due(entries: &[Lasting<Router>], now: u64) -> Option<Addr>
-    ensures { option_map (λ a. number_of a.0) result ≡ first_due now entries.now }
-{
-    let mut least = None;
     for entry in entries {
-        if is_at(now, entry.end) {
-            least = Some(lesser_addr(least, entry.key.addr()));
+        if compare(entry.key.addr(), source).is_eq() {
+            return entry.end;
         }
     }
-    least
+    None
 }

@@ -5,12 +5,14 @@ ghost use Rattle.nd_addr.specs.Same.{same_prefix};
 ghost use Rattle.nd_decode.specs.Pieces.{options_left};
 ghost use Rattle.nd_lifetime.specs.History.{Row, last_moment};
 ghost use Rattle.nd_lifetime.specs.Listing.{fits, announced_all, then_announced, Lists, Stands};
-ghost use Rattle.nd_lifetime.specs.declared.lasting.Lasting.{Lasting};
+ghost use Rattle.nd_lifetime.specs.declared.lasting.Lasting.{Lasting as Entry};
+ghost use Rattle.nd_routers.specs.PrefixOptions.{prefixes_left};
+ghost use Rattle.nd_routers.specs.Refreshing.{only_refreshes};
 
 use crate::prefixes::{MAX_PREFIXES, Prefixes};
 use nd_addr::Prefix;
 use nd_decode::{OptionRef, Options, PrefixInfo};
-use nd_lifetime::{Announces, Limit, TableRefusal, announce_all, fits_all};
+use nd_lifetime::{Announces, Lasting, Limit, TableRefusal, announce_all, fits_all, stands};
 use std::alloc::Allocator;
 
 impl<A: Allocator> Prefixes<A> {
@@ -20,10 +22,18 @@ impl<A: Allocator> Prefixes<A> {
     /// is so, `heard_ra` isn't refused. It takes no memory.
     pub fn fits(&self, now: u64, options: Options<'_>) -> bool
         ensures value { result ≡ fits same_prefix max_prefixes now (prefixes_in (options_left options.entry)) self.now }
-        ensures by_history { (history : List (Row PrefixValue)) (es : List (Lasting PrefixValue)) → Stands same_prefix self.now history → last_moment history ≤ now → Lists same_prefix history now es
+        ensures by_history { (history : List (Row PrefixValue)) (es : List (Entry PrefixValue)) → Stands same_prefix self.now history → last_moment history ≤ now → Lists same_prefix history now es
             → result ≡ fits same_prefix max_prefixes now (prefixes_in (options_left options.entry)) es }
     {
         fits_all(&self.entries, MAX_PREFIXES, now, OnLink { options })
+    }
+
+    /// Whether the options of a Router Advertisement only refresh prefixes that are on the link at a moment, in milliseconds: none comes
+    /// or goes with them. It takes no memory.
+    pub fn only_refreshes(&self, now: u64, options: Options<'_>) -> bool
+        ensures { result ≡ only_refreshes same_prefix now (prefixes_in (options_left options.entry)) self.now }
+    {
+        only_refreshes(&self.entries, now, OnLink { options })
     }
 
     /// The options of a Router Advertisement are heard at a moment in milliseconds, in order (RFC 4861, section 6.3.4): a prefix that is
@@ -47,6 +57,19 @@ impl<A: Allocator> Prefixes<A> {
         announce_all(&mut self.entries, MAX_PREFIXES, now, OnLink { options });
         Ok(())
     }
+}
+
+/// Whether each prefix that is announced stands, and goes on.
+fn only_refreshes(entries: &[Lasting<Prefix>], now: u64, announced: OnLink<'_>) -> bool
+    ensures { result ≡ only_refreshes same_prefix now (prefixes_left announced.entry) entries.now }
+{
+    let mut rest = announced;
+    while let Some((prefix, lifetime)) = rest.next_told() {
+        if lifetime == 0 || !stands(entries, now, &prefix) {
+            return false;
+        }
+    }
+    true
 }
 
 /// The prefixes that the options of a Router Advertisement say are on the link, with their valid lifetimes (RFC 4861, sections 4.6.2 and

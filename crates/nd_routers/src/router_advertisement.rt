@@ -1,12 +1,13 @@
-ghost use Rattle.std.specs.Prelude.{◌≡◌, ◌≤◌, ◌<◌, ◌^◌, ◌↔◌, ◌∷◌, ℕ, length, List, [], IfOk, IfErr, OnOk, OnErr, IsErr, Some, false};
+ghost use Rattle.std.specs.Prelude.{◌≡◌, ◌≤◌, ◌<◌, ◌^◌, ◌↔◌, ◌∷◌, ℕ, length, List, [], IfOk, IfErr, OnOk, OnErr, IsErr, Some, false, true, not, ◌==◌};
 ghost use Rattle.nd_routers.specs.RouterAdvertisement.{change_of};
 ghost use Rattle.nd_addr.specs.Number.{number_of};
 ghost use Rattle.nd_lifetime.specs.History.{stands};
-ghost use Rattle.nd_lifetime.specs.Listing.{fits, Lists};
+ghost use Rattle.nd_lifetime.specs.Listing.{announced, fits, Lists};
 ghost use Rattle.nd_lifetime.specs.declared.lasting.Lasting.{Lasting};
 ghost use Rattle.nd_routers.specs.Routers.{same};
 
 use crate::default_router_selection::forget;
+use crate::due::end_of;
 use crate::router::Router;
 use crate::routers::Routers;
 use nd_addr::Addr;
@@ -55,6 +56,8 @@ impl<A: Allocator> Routers<A> {
         requires settled { IsSettled self.old.entries now }
 
         ensures stands { OnOk result (GainsRow self.old self.new (Heard now (number_of source.0) lifetime)) }
+        ensures entries { OnOk result (self.new.entries ≡ announced same now (number_of source.0) lifetime self.old.entries) }
+        ensures failed { OnOk result (not (lifetime == 0) ≡ true → self.new.failed ≡ self.old.failed) }
         ensures settled { IsSettled self.new.entries now }
         ensures limit { self.new.limit ≡ self.old.limit }
         ensures change { IfOk result (λ change. (history : List RouterRow) → Stands self.old history
@@ -69,6 +72,7 @@ impl<A: Allocator> Routers<A> {
             return Err(TableRefusal::Full(Limit::Routers));
         }
         let before = has(&self.entries, &source);
+        self.dates.take_date(end_of(&self.entries, source), source);
         announce(
             &mut self.entries,
             now,
@@ -76,6 +80,7 @@ impl<A: Allocator> Routers<A> {
             Some(Router::of(source)),
             u32::from(lifetime),
         );
+        self.dates.put_date(end_of(&self.entries, source), source);
         if lifetime == 0 {
             forget(&mut self.failed, source);
             return Ok(change_by(before, false));

@@ -7,6 +7,7 @@ ghost use Rattle.nd_lifetime.specs.Left.{standing_left};
 use crate::router::Router;
 use nd_addr::Addr;
 use nd_lifetime::{Lasting, Standing, stands};
+use nd_table::Schedule;
 use std::alloc::{AllocError, Allocator};
 use std::marker::Model;
 
@@ -17,6 +18,8 @@ pub const MAX_ROUTERS: usize = 16;
 #[derive(Drop)]
 pub struct Routers<A: Allocator> {
     pub(crate) entries: Vec<Lasting<Router>, A>,
+    /// The dates at which their lifetimes end.
+    pub(crate) dates: Schedule<A>,
     /// Those that failed, by their last failures, the oldest first.
     pub(crate) failed: Vec<Router, A>,
     pub(crate) limit: usize,
@@ -26,12 +29,13 @@ impl<A: Allocator> Model for Routers<A> {
     ghost use Rattle.std.specs.Prelude.{◌≤◌};
     ghost use Rattle.std.specs.Vec.{vec_len, vec_capacity};
     ghost use Rattle.nd_routers.specs.Routers.{Table, max_routers};
+    ghost use Rattle.nd_routers.specs.Planned.{IsPlanned};
 
     ghost Value = { Table };
 
     ghost view = { λ r. record { limit = r.limit; entries = r.entries.items; failed = r.failed.items } };
 
-    ghost invariant = { λ r. (r.limit ≤ max_routers) × (vec_len r.entries ≤ r.limit) × (r.limit ≤ vec_capacity r.entries) × (vec_len r.failed ≤ r.limit) × (r.limit ≤ vec_capacity r.failed) };
+    ghost invariant = { λ r. (r.limit ≤ max_routers) × (vec_len r.entries ≤ r.limit) × (r.limit ≤ vec_capacity r.entries) × (vec_len r.failed ≤ r.limit) × (r.limit ≤ vec_capacity r.failed) × (r.limit ≤ r.dates.room) × IsPlanned r.entries.items r.dates };
 }
 
 impl<A: Allocator + Clone> Routers<A> {
@@ -45,9 +49,11 @@ impl<A: Allocator + Clone> Routers<A> {
         ensures stands { IfOk result (λ routers. Stands routers []) }
     {
         let entries = Vec::with_capacity(alloc.clone()?, limit)?;
+        let dates = Schedule::new(alloc.clone()?, limit)?;
         let failed = Vec::with_capacity(alloc, limit)?;
         Ok(Routers {
             entries,
+            dates,
             failed,
             limit,
         })
@@ -63,6 +69,7 @@ impl<A: Allocator + Clone> Routers<A> {
     {
         let routers = addresses(&self.entries)?;
         self.entries.clear();
+        self.dates.clear();
         self.failed.clear();
         Ok(routers)
     }

@@ -14,3 +14,4 @@ pub mod Said
 pub mod Script
 pub mod ScriptLaws
 pub mod Answer
+pub mod Transmits

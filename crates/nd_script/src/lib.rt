@@ -17,6 +17,7 @@ mod script;
 mod settings;
 mod source;
 mod table;
+mod transmits;
 mod words;
 
 pub use command::{Command, read_command};
@@ -24,4 +25,5 @@ pub use line::{Line, read_line, split_moment};
 pub use number::{read_number, split_number};
 pub use run::run_script;
 pub use source::Source;
-pub use words::split_word;
+pub use transmits::read_transmits;
+pub use words::{split_word, two_words};

@@ -16,7 +16,7 @@ pub fn split_word(text: &[u8]) -> Option<(&[u8], &[u8])>
 }
 
 /// The words of a text that has two.
-pub(crate) fn two_words(text: &[u8]) -> Option<(&[u8], &[u8])>
+pub fn two_words(text: &[u8]) -> Option<(&[u8], &[u8])>
     ensures found { IfSome result (λ words. words_of text.now ≡ words.0.now ∷ words.1.now ∷ []) }
     ensures only { length (words_of text.now) ≡ 2 → IsSome result }
 {

@@ -1,10 +1,13 @@
 //! Packets of the upper layer and commands in scripts: worked rows of lines and texts.
 
-use crate::lines::told;
+use crate::lines::{told, told_by};
 use nd_addr::{Mac, Role};
 use nd_io::input::Pieces;
 use nd_io::output::Writing;
 use nd_script::{Source, run_script};
+use nd_slaac::Transmits;
+use std::alloc::Global;
+use std::process::Abort;
 use std::test::*;
 
 /// A Router Advertisement of fe80::ff:fe00:1 with a prefix that is on the link and forms addresses.
@@ -92,6 +95,45 @@ fn a_duplicate_sends_nothing(rt: HostRuntime) {
         &[
             "0 tx 3333ff9abcde3456789abcde86dd6000000000183aff00000000000000000000000000000000ff0200000000000000000001ff9abcde870053df00000000fe80000000000000365678fffe9abcde\n999 heard ns\n999 duplicate fe80::3656:78ff:fe9a:bcde\n999 address fe80::3656:78ff:fe9a:bcde duplicate inf inf\n999 end 1\n1000 refused disabled\n",
         ],
+    );
+}
+
+/// A node that is to send three solicitations for each of its addresses.
+fn tried_three_times(rt: &impl Abort, alloc: Global, script: &str, wanted: &str) {
+    let mac = Mac([0x34, 0x56, 0x78, 0x9a, 0xbc, 0xde]);
+    let three = Transmits::new(3).expect(rt, "three");
+    told_by(
+        rt,
+        alloc,
+        Role::Host,
+        mac,
+        three,
+        0,
+        script.as_bytes(),
+        Ok(()),
+        wanted,
+    );
+}
+
+/// Three solicitations go out, RetransTimer apart, before an address is assigned (RFC 4862, section 5.4.2).
+#[test]
+fn three_solicitations_are_sent(rt: HostRuntime) {
+    tried_three_times(
+        &rt,
+        rt.alloc(),
+        "7000 at\n",
+        "0 tx 3333ff9abcde3456789abcde86dd6000000000183aff00000000000000000000000000000000ff0200000000000000000001ff9abcde870053df00000000fe80000000000000365678fffe9abcde\n1000 tx 3333ff9abcde3456789abcde86dd6000000000183aff00000000000000000000000000000000ff0200000000000000000001ff9abcde870053df00000000fe80000000000000365678fffe9abcde\n2000 tx 3333ff9abcde3456789abcde86dd6000000000183aff00000000000000000000000000000000ff0200000000000000000001ff9abcde870053df00000000fe80000000000000365678fffe9abcde\n3000 assigned fe80::3656:78ff:fe9a:bcde\n3000 tx 3333000000023456789abcde86dd6000000000103afffe80000000000000365678fffe9abcdeff0200000000000000000000000000028500a78f0000000001013456789abcde\n7000 tx 3333000000023456789abcde86dd6000000000103afffe80000000000000365678fffe9abcdeff0200000000000000000000000000028500a78f0000000001013456789abcde\n",
+    );
+}
+
+/// A conflict after the last one ends the attempt at once (RFC 4862, section 5.4.3).
+#[test]
+fn a_conflict_ends_three_solicitations(rt: HostRuntime) {
+    tried_three_times(
+        &rt,
+        rt.alloc(),
+        "2999 rx 3333ff9abcde3456789abcde86dd6000000000183aff00000000000000000000000000000000ff0200000000000000000001ff9abcde870053df00000000fe80000000000000365678fffe9abcde\n9000 at\n",
+        "0 tx 3333ff9abcde3456789abcde86dd6000000000183aff00000000000000000000000000000000ff0200000000000000000001ff9abcde870053df00000000fe80000000000000365678fffe9abcde\n1000 tx 3333ff9abcde3456789abcde86dd6000000000183aff00000000000000000000000000000000ff0200000000000000000001ff9abcde870053df00000000fe80000000000000365678fffe9abcde\n2000 tx 3333ff9abcde3456789abcde86dd6000000000183aff00000000000000000000000000000000ff0200000000000000000001ff9abcde870053df00000000fe80000000000000365678fffe9abcde\n2999 heard ns\n2999 duplicate fe80::3656:78ff:fe9a:bcde\n",
     );
 }
 
@@ -253,7 +295,15 @@ fn a_513th_neighbour_has_no_place(rt: HostRuntime) -> Result<(), Fail> {
     let mut reader = Pieces::new(script.as_bytes(), 4096);
     let mut writer = Writing::new(Vec::new(rt.alloc()));
     let zeros = Source::Constant(0);
-    let done = run_script(rt.alloc(), &mut reader, &mut writer, Role::Host, mac, zeros);
+    let done = run_script(
+        rt.alloc(),
+        &mut reader,
+        &mut writer,
+        Role::Host,
+        mac,
+        Transmits::ONE,
+        zeros,
+    );
     assert!(rt; done == Ok(()));
     let text = writer.into_inner();
     let refused = b"3000 refused full neighbours\n".as_slice();

@@ -4,6 +4,7 @@ use nd_io::output::Writing;
 use nd_io::tool_fault::ToolFault;
 use nd_node::{Clearable, Event, Table};
 use nd_script::*;
+use nd_slaac::Transmits;
 use nd_text::write_hex;
 use rand_core::Rng;
 use std::alloc::{AllocError, Global};
@@ -409,6 +410,7 @@ pub(crate) fn told_by(
     alloc: Global,
     role: Role,
     mac: Mac,
+    transmits: Transmits,
     word: u32,
     script: &[u8],
     ended: Result<(), ToolFault>,
@@ -418,7 +420,7 @@ pub(crate) fn told_by(
         let mut reader = Pieces::new(script, piece);
         let mut writer = Writing::new(Vec::new(alloc));
         let words = Source::Constant(word);
-        let done = run_script(alloc, &mut reader, &mut writer, role, mac, words);
+        let done = run_script(alloc, &mut reader, &mut writer, role, mac, transmits, words);
         assert_eq!(rt; done, ended);
         assert_eq!(rt; writer.into_inner().as_slice(), wanted.as_bytes());
     }
@@ -449,6 +451,7 @@ pub(crate) fn told(
         alloc,
         Role::Host,
         mac,
+        Transmits::ONE,
         0,
         script.as_bytes(),
         ended,

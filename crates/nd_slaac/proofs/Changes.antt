@@ -9,7 +9,7 @@ use Rattle.nd_slaac.specs.Ends.{preferred_end, valid_end}
 use Rattle.nd_slaac.specs.TwoHours.{renewed}
 use Rattle.nd_slaac.specs.State.{Forming, forming_of, has_conflict, was_assigned, sent_of}
 use Rattle.nd_slaac.specs.Address.{Address, step_at, stage_by, address_by, address_of}
-use Rattle.nd_slaac.specs.Due.{dup_addr_detect_transmits, happens}
+use Rattle.nd_slaac.specs.Due.{happens}
 use Rattle.nd_slaac.specs.Dates.{next_step, falls_by, stepped}
 use Rattle.nd_slaac.specs.Calls.{formed, announced, failed}
 use Rattle.nd_slaac.proofs.Stories.{made, was_formed, steps}
@@ -25,15 +25,6 @@ detecting_by key f c w sent p v not_c not_w = rw (not_c, not_w) refl
 detecting : (key : ℕ) (f : Forming) (s : Story) → has_conflict s ≡ false → was_assigned s ≡ false → made key f s ≡ record { key = key; preferred_end = preferred_end s; valid_end = valid_end s; stage = Detecting (sent_of s) (step_at f (sent_of s)) f.retrans }
 detecting key f s c w = detecting_by key f (has_conflict s) (was_assigned s) (sent_of s) (preferred_end s) (valid_end s) c w
 
--- a step of a detection that goes on
-stepping : (key at : ℕ) (s : Story) (f : Forming) → forming_of s ≡ Some f → has_conflict s ≡ false → was_assigned s ≡ false → step_at f (sent_of s) ≡ at → let a : Address = record { key = key; preferred_end = preferred_end s; valid_end = valid_end s; stage = Detecting (sent_of s) (step_at f (sent_of s)) f.retrans } in address_of key ((at, happens (falls_by key a.stage)) ∷ s) ≡ Some (stepped at a)
-stepping key at s f is c w d = elim (cases_Bool (ltb (sent_of s) dup_addr_detect_transmits)) [
-  | inl more ↦
-      let e : step_at f (sent_of s + 1) ≡ at + f.retrans = omega (arith, d) in
-      rw more (rw (is, c, w, e) refl)
-  | inr last ↦ rw last (rw (is, c) refl)
-]
-
 module _ (key at : ℕ) (s : Story) (a : Address) (there : address_of key s ≡ Some a) where
   pub when_announced : (lifetimes : Lifetimes) → address_of key ((at, kinds.Announced lifetimes) ∷ s) ≡ Some (announced at lifetimes a)
   when_announced lifetimes =
@@ -46,10 +37,20 @@ module _ (key at : ℕ) (s : Story) (a : Address) (there : address_of key s ≡ 
       let was = was_formed key s a there in
       ap (λ o. address_by key o true (was_assigned s) (sent_of s) (preferred_end s) (valid_end s)) was.1 ∙ ap (λ (m : Address). Some (failed m)) (sym was.2)
 
-  pub when_stepped : next_step a ≡ Some at → address_of key ((at, happens (falls_by a.key a.stage)) ∷ s) ≡ Some (stepped at a)
+-- a step of a detection that goes on
+stepping : (transmits key at : ℕ) (s : Story) (f : Forming) → forming_of s ≡ Some f → has_conflict s ≡ false → was_assigned s ≡ false → step_at f (sent_of s) ≡ at → let a : Address = record { key = key; preferred_end = preferred_end s; valid_end = valid_end s; stage = Detecting (sent_of s) (step_at f (sent_of s)) f.retrans } in address_of key ((at, happens (falls_by transmits key a.stage)) ∷ s) ≡ Some (stepped transmits at a)
+stepping transmits key at s f is c w d = elim (cases_Bool (ltb (sent_of s) transmits)) [
+  | inl more ↦
+      let e : step_at f (sent_of s + 1) ≡ at + f.retrans = omega (arith, d) in
+      rw more (rw (is, c, w, e) refl)
+  | inr last ↦ rw last (rw (is, c) refl)
+]
+
+module _ (transmits key at : ℕ) (s : Story) (a : Address) (there : address_of key s ≡ Some a) where
+  pub when_stepped : next_step a ≡ Some at → address_of key ((at, happens (falls_by transmits a.key a.stage)) ∷ s) ≡ Some (stepped transmits at a)
   when_stepped now =
       let was = was_formed key s a there in
       let step = steps key s a was.0 at was.2 now in
       let is : a ≡ record { key = key; preferred_end = preferred_end s; valid_end = valid_end s; stage = Detecting (sent_of s) (step_at was.0 (sent_of s)) was.0.retrans } =
       was.2 ∙ detecting key was.0 s step.0 step.1 in
-      subst (λ (m : Address). address_of key ((at, happens (falls_by m.key m.stage)) ∷ s) ≡ Some (stepped at m)) (sym is) (stepping key at s was.0 was.1 step.0 step.1 step.2)
+      subst (λ (m : Address). address_of key ((at, happens (falls_by transmits m.key m.stage)) ∷ s) ≡ Some (stepped transmits at m)) (sym is) (stepping transmits key at s was.0 was.1 step.0 step.1 step.2)

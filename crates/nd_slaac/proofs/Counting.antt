@@ -186,11 +186,11 @@ gains_taken now mac info delay retrans (Ok Ignored) old new changes = changes
 gains_taken now mac info delay retrans (Err full) old new changes = changes
 
 -- and that this may come
-pub comes_taken : (now : ℕ) (mac : Mac) (info : PrefixInfo) (delay retrans count : ℕ) (r : Result Taken Full) (history : List Row) → r ≡ taken_by (is_known (story (named_by mac info) history)) info.valid_lifetime count → 0 < retrans → IfSome (row_taken now mac info delay retrans r) (λ row. MayCome row history)
-comes_taken now mac info delay retrans count (Ok Formed) history is positive = ((formed_parts (is_known (story (named_by mac info) history)) info.valid_lifetime count is).0, positive)
-comes_taken now mac info delay retrans count (Ok Renewed) history is positive = renewed_parts (is_known (story (named_by mac info) history)) info.valid_lifetime count is
-comes_taken now mac info delay retrans count (Ok Ignored) history is positive = tt
-comes_taken now mac info delay retrans count (Err full) history is positive = tt
+pub comes_taken : (transmits now : ℕ) (mac : Mac) (info : PrefixInfo) (delay retrans count : ℕ) (r : Result Taken Full) (history : List Row) → r ≡ taken_by (is_known (story (named_by mac info) history)) info.valid_lifetime count → 0 < retrans → IfSome (row_taken now mac info delay retrans r) (λ row. MayCome transmits row history)
+comes_taken transmits now mac info delay retrans count (Ok Formed) history is positive = ((formed_parts (is_known (story (named_by mac info) history)) info.valid_lifetime count is).0, positive)
+comes_taken transmits now mac info delay retrans count (Ok Renewed) history is positive = renewed_parts (is_known (story (named_by mac info) history)) info.valid_lifetime count is
+comes_taken transmits now mac info delay retrans count (Ok Ignored) history is positive = tt
+comes_taken transmits now mac info delay retrans count (Err full) history is positive = tt
 
 -- all were looked at, and there was room
 pub fits_all : (mac : Mac) (entries : List Address) (count : ℕ) (rest all : List PrefixInfo) → length entries ≤ 64 → count ≤ 64 → rest ≡ [] → count + new_in mac (keys_in entries) rest ≡ length entries + new_in mac (keys_in entries) all → true ≡ fits_in mac (keys_in entries) all

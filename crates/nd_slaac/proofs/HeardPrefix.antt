@@ -32,10 +32,10 @@ module _ (now : ℕ) (info : PrefixInfo) (delay retrans key : ℕ) (r : Result T
       value ∙ (ap (λ k. taken_by (is_some (address_in k inside)) info.valid_lifetime (length inside)) (named ∙ ap (λ m. named_by m info) mac_is)
       ∙ ap (λ (l : List Address). taken_by (is_some (address_in (named_by t.mac info) l)) info.valid_lifetime (length l)) same)
 
-  pub comes_heard : r ≡ taken_by (is_some (address_in key inside)) info.valid_lifetime (length inside) → (history : List Row) → Stands t.addresses history → 0 < retrans → IfSome (row_taken now t.mac info delay retrans r) (λ row. MayCome row history)
+  pub comes_heard : r ≡ taken_by (is_some (address_in key inside)) info.valid_lifetime (length inside) → (history : List Row) → Stands t.addresses history → 0 < retrans → IfSome (row_taken now t.mac info delay retrans r) (λ row. MayCome t.transmits row history)
   comes_heard value history s positive =
       let known : is_some (address_in (named_by t.mac info) t.addresses) ≡ is_known (story (named_by t.mac info) history) = ap is_some (s.each (named_by t.mac info)) ∙ known_story (named_by t.mac info) (story (named_by t.mac info) history) in
-      comes_taken now t.mac info delay retrans (length t.addresses) r history (valued value ∙ ap (λ b. taken_by b info.valid_lifetime (length t.addresses)) known) positive
+      comes_taken t.transmits now t.mac info delay retrans (length t.addresses) r history (valued value ∙ ap (λ b. taken_by b info.valid_lifetime (length t.addresses)) known) positive
 
   pub fits_heard : is_taken info ≡ true → r ≡ taken_by (is_some (address_in key inside)) info.valid_lifetime (length inside) → (infos : List PrefixInfo) → fits_in t.mac (keys_in t.addresses) (info ∷ infos) ≡ true → IsOk r × (fits_in mac (keys_in new) infos ≡ true)
   fits_heard taken value infos fit =

@@ -11,6 +11,7 @@ pub mod Keys
 pub mod Counting
 pub mod HeardPrefix
 pub mod Histories
+pub mod Planning
 pub mod Overdue
 pub mod Unique
 pub mod Destinations

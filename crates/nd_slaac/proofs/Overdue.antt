@@ -10,7 +10,7 @@ use Rattle.nd_slaac.specs.TwoHours.{two_hours, renewed, within_two_hours}
 use Rattle.nd_slaac.specs.State.{Forming, forming_of, is_known, sent_of}
 use Rattle.nd_slaac.specs.Address.{Address, step_at}
 use Rattle.nd_slaac.specs.Table.{Stands}
-use Rattle.nd_slaac.specs.Due.{dup_addr_detect_transmits, Falls, Ends, Solicits, Assigns, IsStep, date_by, IsDue, NextDue, NoneOverdue}
+use Rattle.nd_slaac.specs.Due.{Falls, Ends, Solicits, Assigns, IsStep, date_by, IsDue, NextDue, NoneOverdue}
 use Rattle.nd_slaac.specs.Dates.{next_in, NoneBefore}
 use Rattle.nd_slaac.proofs.Dues.{next_is_due, tentative_parts}
 
@@ -63,44 +63,46 @@ module _ (now : ℕ) (s : Story) (late : NoneLate s now) where
   }
   story_later Ended e = absurd (true≢false e)
 
-late_in : (history : List Row) (now key : ℕ) → NoneOverdue history now → NoneLate (story key history) now
-late_in history now key none = record {
-  ends = λ moment known is. none.none moment (Ends key) (known, is);
-  steps = λ moment step. ⊎_elim (λ lt. none.none moment (Solicits key) (step, lt)) (λ ge. none.none moment (Assigns key) (step, ge)) (cases_lt (sent_of (story key history)) dup_addr_detect_transmits);
-}
+-- a detection sends so many solicitations
+module _ (transmits : ℕ) where
+  late_in : (history : List Row) (now key : ℕ) → NoneOverdue transmits history now → NoneLate (story key history) now
+  late_in history now key none = record {
+    ends = λ moment known is. none.none moment (Ends key) (known, is);
+    steps = λ moment step. ⊎_elim (λ lt. none.none moment (Solicits key) (step, lt)) (λ ge. none.none moment (Assigns key) (step, ge)) (cases_lt (sent_of (story key history)) transmits);
+  }
 
-late_none : (now : ℕ) → NoneLate [] now
-late_none now = record {
-  ends = λ moment known is. absurd (true≢false (sym known));
-  steps = λ moment step. absurd (true≢false (sym step.tentative));
-}
+  late_none : (now : ℕ) → NoneLate [] now
+  late_none now = record {
+    ends = λ moment known is. absurd (true≢false (sym known));
+    steps = λ moment step. absurd (true≢false (sym step.tentative));
+  }
 
-late_after : (history : List Row) (now key k : ℕ) (kind : RowKind) → NoneOverdue history now → NoneLate (story k ((now, key, kind) ∷ history)) now
-late_after history now key k kind none =
-    cond_both (eqb key k) (cond (is_end kind) [] ((now, kind) ∷ story k history)) (story k history) (λ (s : Story). NoneLate s now)
-    (λ _. cond_both (is_end kind) [] ((now, kind) ∷ story k history) (λ (s : Story). NoneLate s now) (λ _. late_none now) (λ e. story_later now (story k history) (late_in history now k none) kind e))
-    (λ _. late_in history now k none)
+  late_after : (history : List Row) (now key k : ℕ) (kind : RowKind) → NoneOverdue transmits history now → NoneLate (story k ((now, key, kind) ∷ history)) now
+  late_after history now key k kind none =
+      cond_both (eqb key k) (cond (is_end kind) [] ((now, kind) ∷ story k history)) (story k history) (λ (s : Story). NoneLate s now)
+      (λ _. cond_both (is_end kind) [] ((now, kind) ∷ story k history) (λ (s : Story). NoneLate s now) (λ _. late_none now) (λ e. story_later now (story k history) (late_in history now k none) kind e))
+      (λ _. late_in history now k none)
 
--- what happens now makes nothing fall due in the past
-pub still_none : (history : List Row) (now key : ℕ) (kind : RowKind) → NoneOverdue history now → NoneOverdue ((now, key, kind) ∷ history) now
-still_none history now key kind none = record { none = λ moment falls due. by_late falls moment due }
-  where
-    by_late : (falls : Falls) (moment : ℕ) → IsDue ((now, key, kind) ∷ history) moment falls → now ≤ moment
-    by_late (Ends k) moment due = (late_after history now key k kind none).ends moment due.0 due.1
-    by_late (Solicits k) moment due = (late_after history now key k kind none).steps moment due.0
-    by_late (Assigns k) moment due = (late_after history now key k kind none).steps moment due.0
+  -- what happens now makes nothing fall due in the past
+  pub still_none : (history : List Row) (now key : ℕ) (kind : RowKind) → NoneOverdue transmits history now → NoneOverdue transmits ((now, key, kind) ∷ history) now
+  still_none history now key kind none = record { none = λ moment falls due. by_late falls moment due }
+    where
+      by_late : (falls : Falls) (moment : ℕ) → IsDue transmits ((now, key, kind) ∷ history) moment falls → now ≤ moment
+      by_late (Ends k) moment due = (late_after history now key k kind none).ends moment due.0 due.1
+      by_late (Solicits k) moment due = (late_after history now key k kind none).steps moment due.0
+      by_late (Assigns k) moment due = (late_after history now key k kind none).steps moment due.0
 
--- and the table says so
-pub by_table : (addresses : List Address) (history : List Row) → Stands addresses history → (now : ℕ) → NoneBefore addresses now → NoneOverdue history now
-by_table addresses history s now h = record { none = least (next_in addresses) (next_is_due addresses history s (next_in addresses) refl) h }
-  where
-    least : (next : Option ℕ) → NextDue history next → NotBefore now next → (moment : ℕ) (falls : Falls) → IsDue history moment falls → now ≤ moment
-    least None due h moment falls is = absurd (due moment falls is)
-    least (Some next) due h moment falls is = omega (arith, due.1 moment falls is)
+  -- and the table says so
+  pub by_table : (addresses : List Address) (history : List Row) → Stands addresses history → (now : ℕ) → NoneBefore addresses now → NoneOverdue transmits history now
+  by_table addresses history s now h = record { none = least (next_in addresses) (next_is_due transmits addresses history s (next_in addresses) refl) h }
+    where
+      least : (next : Option ℕ) → NextDue transmits history next → NotBefore now next → (moment : ℕ) (falls : Falls) → IsDue transmits history moment falls → now ≤ moment
+      least None due h moment falls is = absurd (due moment falls is)
+      least (Some next) due h moment falls is = omega (arith, due.1 moment falls is)
 
-pub to_table : (addresses : List Address) (history : List Row) → Stands addresses history → (now : ℕ) → NoneOverdue history now → NoneBefore addresses now
-to_table addresses history s now none = least (next_in addresses) (next_is_due addresses history s (next_in addresses) refl)
-  where
-    least : (next : Option ℕ) → NextDue history next → NotBefore now next
-    least None due = tt
-    least (Some next) due = none.none next due.0.0 due.0.1
+  pub to_table : (addresses : List Address) (history : List Row) → Stands addresses history → (now : ℕ) → NoneOverdue transmits history now → NoneBefore addresses now
+  to_table addresses history s now none = least (next_in addresses) (next_is_due transmits addresses history s (next_in addresses) refl)
+    where
+      least : (next : Option ℕ) → NextDue transmits history next → NotBefore now next
+      least None due = tt
+      least (Some next) due = none.none next due.0.0 due.0.1

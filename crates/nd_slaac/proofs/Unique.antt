@@ -23,31 +23,33 @@ same_key x y (inl lt) (inr e) = let f = e.0 in absurd (omega arith)
 same_key x y (inr e) (inl lt) = let f = e.0 in absurd (omega arith)
 same_key x y (inr e) (inr f) = omega (arith, e.1, f.1)
 
--- of one address and pass one thing is due
-same_falls : (history : List Row) (moment : ℕ) (x y : Falls) → IsDue history moment x → IsDue history moment y → NotAfter x y → NotAfter y x → key_in x ≡ key_in y → x ≡ y
-same_falls history moment (Ends j) (Ends k) h i n m e = ap Ends e
-same_falls history moment (Ends j) (Solicits k) h i n (inl lt) e = absurd (omega arith)
-same_falls history moment (Ends j) (Solicits k) h i n (inr f) e = let g = f.0 in absurd (omega arith)
-same_falls history moment (Ends j) (Assigns k) h i n (inl lt) e = absurd (omega arith)
-same_falls history moment (Ends j) (Assigns k) h i n (inr f) e = let g = f.0 in absurd (omega arith)
-same_falls history moment (Solicits j) (Ends k) h i (inl lt) m e = absurd (omega arith)
-same_falls history moment (Solicits j) (Ends k) h i (inr f) m e = let g = f.0 in absurd (omega arith)
-same_falls history moment (Assigns j) (Ends k) h i (inl lt) m e = absurd (omega arith)
-same_falls history moment (Assigns j) (Ends k) h i (inr f) m e = let g = f.0 in absurd (omega arith)
-same_falls history moment (Solicits j) (Solicits k) h i n m e = ap Solicits e
-same_falls history moment (Assigns j) (Assigns k) h i n m e = ap Assigns e
-same_falls history moment (Solicits j) (Assigns k) h i n m e =
-    let f : sent_of (story j history) ≡ sent_of (story k history) = ap (λ key. sent_of (story key history)) e in
-    absurd (omega (arith, h.1, i.1, f))
-same_falls history moment (Assigns j) (Solicits k) h i n m e =
-    let f : sent_of (story j history) ≡ sent_of (story k history) = ap (λ key. sent_of (story key history)) e in
-    absurd (omega (arith, h.1, i.1, f))
+-- a detection sends so many solicitations
+module _ (transmits : ℕ) where
+  -- of one address and pass one thing is due
+  same_falls : (history : List Row) (moment : ℕ) (x y : Falls) → IsDue transmits history moment x → IsDue transmits history moment y → NotAfter x y → NotAfter y x → key_in x ≡ key_in y → x ≡ y
+  same_falls history moment (Ends j) (Ends k) h i n m e = ap Ends e
+  same_falls history moment (Ends j) (Solicits k) h i n (inl lt) e = absurd (omega arith)
+  same_falls history moment (Ends j) (Solicits k) h i n (inr f) e = let g = f.0 in absurd (omega arith)
+  same_falls history moment (Ends j) (Assigns k) h i n (inl lt) e = absurd (omega arith)
+  same_falls history moment (Ends j) (Assigns k) h i n (inr f) e = let g = f.0 in absurd (omega arith)
+  same_falls history moment (Solicits j) (Ends k) h i (inl lt) m e = absurd (omega arith)
+  same_falls history moment (Solicits j) (Ends k) h i (inr f) m e = let g = f.0 in absurd (omega arith)
+  same_falls history moment (Assigns j) (Ends k) h i (inl lt) m e = absurd (omega arith)
+  same_falls history moment (Assigns j) (Ends k) h i (inr f) m e = let g = f.0 in absurd (omega arith)
+  same_falls history moment (Solicits j) (Solicits k) h i n m e = ap Solicits e
+  same_falls history moment (Assigns j) (Assigns k) h i n m e = ap Assigns e
+  same_falls history moment (Solicits j) (Assigns k) h i n m e =
+      let f : sent_of (story j history) ≡ sent_of (story k history) = ap (λ key. sent_of (story key history)) e in
+      absurd (omega (arith, h.1, i.1, f))
+  same_falls history moment (Assigns j) (Solicits k) h i n m e =
+      let f : sent_of (story j history) ≡ sent_of (story k history) = ap (λ key. sent_of (story key history)) e in
+      absurd (omega (arith, h.1, i.1, f))
 
-pub one_due : (history : List Row) (moment : ℕ) (a b : Option Falls) → FirstDue history moment a → FirstDue history moment b → a ≡ b
-one_due history moment None None h k = refl
-one_due history moment None (Some y) h k = absurd (h y k.due)
-one_due history moment (Some x) None h k = absurd (k x h.due)
-one_due history moment (Some x) (Some y) h k =
-    let n = h.first y k.due in
-    let m = k.first x h.due in
-    ap Some (same_falls history moment x y h.due k.due n m (same_key x y n m))
+  pub one_due : (history : List Row) (moment : ℕ) (a b : Option Falls) → FirstDue transmits history moment a → FirstDue transmits history moment b → a ≡ b
+  one_due history moment None None h k = refl
+  one_due history moment None (Some y) h k = absurd (h y k.due)
+  one_due history moment (Some x) None h k = absurd (k x h.due)
+  one_due history moment (Some x) (Some y) h k =
+      let n = h.first y k.due in
+      let m = k.first x h.due in
+      ap Some (same_falls history moment x y h.due k.due n m (same_key x y n m))

@@ -6,7 +6,7 @@ use Rattle.nd_table.specs.Due.{lesser, least_date, NotBefore}
 use Rattle.nd_slaac.specs.declared.stage.Stage.{Stage}
 use Rattle.nd_slaac.specs.declared.stage.Stage.TheVariants.{Detecting, Failed, Passed}
 use Rattle.nd_slaac.specs.Address.{Address}
-use Rattle.nd_slaac.specs.Due.{dup_addr_detect_transmits, Falls, Ends, Solicits, Assigns}
+use Rattle.nd_slaac.specs.Due.{Falls, Ends, Solicits, Assigns}
 
 abbrev pub end_date : Address → Option ℕ
 end_date a = a.valid_end
@@ -35,25 +35,25 @@ next_in addresses = least_date earlier addresses
 abbrev pub NoneBefore : List Address → ℕ → Type 0
 NoneBefore addresses now = NotBefore now (next_in addresses)
 
--- the step that an address takes
-abbrev pub falls_by : ℕ → Stage → Falls
-falls_by key (Detecting sent due retrans) = if nat_lt sent dup_addr_detect_transmits then Solicits key else Assigns key
-falls_by key Failed = Ends key
-falls_by key Passed = Ends key
+-- the step that an address takes, where a detection sends so many solicitations
+abbrev pub falls_by : ℕ → ℕ → Stage → Falls
+falls_by transmits key (Detecting sent due retrans) = if nat_lt sent transmits then Solicits key else Assigns key
+falls_by transmits key Failed = Ends key
+falls_by transmits key Passed = Ends key
 
 -- and its stage afterwards
-abbrev pub stage_after : ℕ → Stage → Stage
-stage_after now (Detecting sent due retrans) = if nat_lt sent dup_addr_detect_transmits then Detecting (sent + 1) (now + retrans) retrans else Passed
-stage_after now Failed = Failed
-stage_after now Passed = Passed
+abbrev pub stage_after : ℕ → ℕ → Stage → Stage
+stage_after transmits now (Detecting sent due retrans) = if nat_lt sent transmits then Detecting (sent + 1) (now + retrans) retrans else Passed
+stage_after transmits now Failed = Failed
+stage_after transmits now Passed = Passed
 
-abbrev pub stepped : ℕ → Address → Address
-stepped now a = record { key = a.key; preferred_end = a.preferred_end; valid_end = a.valid_end; stage = stage_after now a.stage }
+abbrev pub stepped : ℕ → ℕ → Address → Address
+stepped transmits now a = record { key = a.key; preferred_end = a.preferred_end; valid_end = a.valid_end; stage = stage_after transmits now a.stage }
 
 -- an address at a place of the list goes where its end has come, and else takes a step
-pub data Turns (now : ℕ) (old new : List Address) (what : Falls) : Type 0 where
-  Goes : (at : ℕ) (a : Address) → at < length old → a ≡ slice_index_or old at a → first_at end_date now old ≡ Some a → what ≡ Ends a.key → new ≡ remove old at → Turns now old new what
-  Steps : (at : ℕ) (a : Address) → at < length old → a ≡ slice_index_or old at a → first_at end_date now old ≡ None → first_at next_step now old ≡ Some a → what ≡ falls_by a.key a.stage → new ≡ slice_set old at (stepped now a) → Turns now old new what
+pub data Turns (transmits now : ℕ) (old new : List Address) (what : Falls) : Type 0 where
+  Goes : (at : ℕ) (a : Address) → at < length old → a ≡ slice_index_or old at a → first_at end_date now old ≡ Some a → what ≡ Ends a.key → new ≡ remove old at → Turns transmits now old new what
+  Steps : (at : ℕ) (a : Address) → at < length old → a ≡ slice_index_or old at a → first_at end_date now old ≡ None → first_at next_step now old ≡ Some a → what ≡ falls_by transmits a.key a.stage → new ≡ slice_set old at (stepped transmits now a) → Turns transmits now old new what
 
 -- nothing of the list falls due at the moment
 pub record Rests (now : ℕ) (addresses : List Address) : Type 0 where
@@ -61,11 +61,11 @@ pub record Rests (now : ℕ) (addresses : List Address) : Type 0 where
   pub steps : first_at next_step now addresses ≡ None
 
 -- how many turns an address can still take, where nothing else happens
-abbrev pub turns_to : Stage → ℕ
-turns_to (Detecting sent due retrans) = dup_addr_detect_transmits - sent + 2
-turns_to Failed = 1
-turns_to Passed = 1
+abbrev pub turns_to : ℕ → Stage → ℕ
+turns_to transmits (Detecting sent due retrans) = transmits - sent + 2
+turns_to transmits Failed = 1
+turns_to transmits Passed = 1
 
-abbrev pub turns_left : List Address → ℕ
-turns_left [] = 0
-turns_left (a ∷ addresses) = turns_to a.stage + turns_left addresses
+abbrev pub turns_left : ℕ → List Address → ℕ
+turns_left transmits [] = 0
+turns_left transmits (a ∷ addresses) = turns_to transmits a.stage + turns_left transmits addresses

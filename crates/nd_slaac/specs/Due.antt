@@ -5,10 +5,6 @@ use Rattle.nd_slaac.specs.Ends.{valid_end}
 use Rattle.nd_slaac.specs.State.{Forming, forming_of, is_known, is_tentative, sent_of}
 use Rattle.nd_slaac.specs.Address.{step_at}
 
--- how many solicitations a detection sends (RFC 4862, section 5.1, DupAddrDetectTransmits)
-abbrev pub dup_addr_detect_transmits : ℕ
-dup_addr_detect_transmits = 1
-
 -- an address falls due: its valid lifetime ends, a solicitation for it is to be sent, or it is assigned
 pub data Falls : Type 0 where
   Ends : (key : ℕ) → Falls
@@ -29,12 +25,6 @@ pub record IsStep (s : Story) (moment : ℕ) : Type 0 where
   pub tentative : is_tentative s ≡ true
   pub date : step_date s ≡ Some moment
 
--- it falls due at the moment, and no row has come for it yet
-abbrev pub IsDue : List Row → ℕ → Falls → Type 0
-IsDue history moment (Ends key) = (is_known (story key history) ≡ true) × (valid_end (story key history) ≡ Some moment)
-IsDue history moment (Solicits key) = IsStep (story key history) moment × (sent_of (story key history) < dup_addr_detect_transmits)
-IsDue history moment (Assigns key) = IsStep (story key history) moment × (dup_addr_detect_transmits ≤ sent_of (story key history))
-
 abbrev pub key_in : Falls → ℕ
 key_in (Ends key) = key
 key_in (Solicits key) = key
@@ -50,23 +40,31 @@ pass_of (Assigns key) = 1
 abbrev pub NotAfter : Falls → Falls → Type 0
 NotAfter a b = (pass_of a < pass_of b) ⊎ ((pass_of a ≡ pass_of b) × (key_in a ≤ key_in b))
 
--- it falls due at the moment, and nothing that does comes before it
-pub record IsFirst (history : List Row) (moment : ℕ) (falls : Falls) : Type 0 where
-  pub due : IsDue history moment falls
-  pub first : (others : Falls) → IsDue history moment others → NotAfter falls others
+-- how many solicitations a detection sends is the interface's own choice (RFC 4862, section 5.1, DupAddrDetectTransmits)
+module _ (transmits : ℕ) where
+  -- it falls due at the moment, and no row has come for it yet
+  abbrev pub IsDue : List Row → ℕ → Falls → Type 0
+  IsDue history moment (Ends key) = (is_known (story key history) ≡ true) × (valid_end (story key history) ≡ Some moment)
+  IsDue history moment (Solicits key) = IsStep (story key history) moment × (sent_of (story key history) < transmits)
+  IsDue history moment (Assigns key) = IsStep (story key history) moment × (transmits ≤ sent_of (story key history))
 
-abbrev pub FirstDue : List Row → ℕ → Option Falls → Type 0
-FirstDue history moment None = (falls : Falls) → IsDue history moment falls → ⊥
-FirstDue history moment (Some falls) = IsFirst history moment falls
+  -- it falls due at the moment, and nothing that does comes before it
+  pub record IsFirst (history : List Row) (moment : ℕ) (falls : Falls) : Type 0 where
+    pub due : IsDue history moment falls
+    pub first : (others : Falls) → IsDue history moment others → NotAfter falls others
 
--- the moment is the first at which something falls due, if there is one
-abbrev pub NextDue : List Row → Option ℕ → Type 0
-NextDue history None = (moment : ℕ) (falls : Falls) → IsDue history moment falls → ⊥
-NextDue history (Some next) = ((falls : Falls) × IsDue history next falls) × ((moment : ℕ) (falls : Falls) → IsDue history moment falls → next ≤ moment)
+  abbrev pub FirstDue : List Row → ℕ → Option Falls → Type 0
+  FirstDue history moment None = (falls : Falls) → IsDue history moment falls → ⊥
+  FirstDue history moment (Some falls) = IsFirst history moment falls
 
--- nothing that is due was due before the moment
-pub record NoneOverdue (history : List Row) (now : ℕ) : Type 0 where
-  pub none : (moment : ℕ) (falls : Falls) → IsDue history moment falls → now ≤ moment
+  -- the moment is the first at which something falls due, if there is one
+  abbrev pub NextDue : List Row → Option ℕ → Type 0
+  NextDue history None = (moment : ℕ) (falls : Falls) → IsDue history moment falls → ⊥
+  NextDue history (Some next) = ((falls : Falls) × IsDue history next falls) × ((moment : ℕ) (falls : Falls) → IsDue history moment falls → next ≤ moment)
+
+  -- nothing that is due was due before the moment
+  pub record NoneOverdue (history : List Row) (now : ℕ) : Type 0 where
+    pub none : (moment : ℕ) (falls : Falls) → IsDue history moment falls → now ≤ moment
 
 -- what has come then
 abbrev pub happens : Falls → RowKind

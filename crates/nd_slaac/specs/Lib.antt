@@ -3,9 +3,11 @@ pub mod TwoHours
 pub mod Ends
 pub mod State
 pub mod Address
+pub mod Transmits
 pub mod Table
 pub mod Due
 pub mod Dates
+pub mod Planned
 pub mod PrefixOption
 pub mod Room
 pub mod Calls

@@ -6,9 +6,11 @@ use Rattle.nd_table.specs.Keyed.{at_key, Rises}
 use Rattle.nd_slaac.specs.History.{Row, story}
 use Rattle.nd_slaac.specs.Address.{Address, address_of}
 
--- the link-layer address that addresses are formed of, and the addresses that are known
+-- the link-layer address that addresses are formed of, how many solicitations a detection sends (RFC 4862, section 5.1,
+-- DupAddrDetectTransmits), and the addresses that are known
 pub record Table : Type 0 where
   pub mac : Mac
+  pub transmits : ℕ
   pub addresses : List Address
 
 abbrev pub key_of : Address → ℕ

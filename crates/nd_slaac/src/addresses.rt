@@ -1,9 +1,12 @@
 ghost use Rattle.std.specs.Prelude.{◌≡◌, ◌≤◌, ◌<◌, ◌^◌, [], ◌∷◌, None, length, vec_capacity};
 ghost use Rattle.nd_slaac.specs.Room.{max_addresses};
 
+use crate::due::NextStep;
 use crate::entry::Entry;
 use crate::link_local::link_local;
+use crate::transmits::Transmits;
 use nd_addr::Mac;
+use nd_table::Schedule;
 use std::alloc::{AllocError, Allocator};
 use std::marker::Model;
 
@@ -14,15 +17,26 @@ pub const MAX_ADDRESSES: usize = 64;
 #[derive(Drop)]
 pub struct AddressRoom<A: Allocator> {
     entries: Vec<Entry, A>,
+    ends: Schedule<A>,
+    steps: Schedule<A>,
     ghost empty: { entries.items ≡ [] },
     ghost room: { max_addresses ≤ vec_capacity entries },
+    ghost no_ends: { ends.dates ≡ [] },
+    ghost room_for_ends: { max_addresses ≤ ends.room },
+    ghost no_steps: { steps.dates ≡ [] },
+    ghost room_for_steps: { max_addresses ≤ steps.room },
 }
 
-impl<A: Allocator> AddressRoom<A> {
-    /// Room for 64 addresses, which is all that an interface ever takes. The error is want of memory.
+impl<A: Allocator + Clone> AddressRoom<A> {
+    /// Room for 64 addresses and their dates, which is all that an interface ever takes. The error is want of memory.
     pub fn new(alloc: A) -> Result<Self, AllocError> {
+        let entries = Vec::with_capacity(alloc.clone()?, MAX_ADDRESSES)?;
+        let ends = Schedule::new(alloc.clone()?, MAX_ADDRESSES)?;
+        let steps = Schedule::new(alloc, MAX_ADDRESSES)?;
         Ok(AddressRoom {
-            entries: Vec::with_capacity(alloc, MAX_ADDRESSES)?,
+            entries,
+            ends,
+            steps,
         })
     }
 }
@@ -32,7 +46,13 @@ impl<A: Allocator> AddressRoom<A> {
 #[derive(Drop)]
 pub struct Addresses<A: Allocator> {
     pub(crate) mac: Mac,
+    /// How many solicitations each detection sends.
+    pub(crate) transmits: Transmits,
     pub(crate) entries: Vec<Entry, A>,
+    /// The dates at which valid lifetimes end.
+    pub(crate) ends: Schedule<A>,
+    /// The dates of the next steps of detections.
+    pub(crate) steps: Schedule<A>,
 }
 
 impl<A: Allocator> Model for Addresses<A> {
@@ -40,12 +60,13 @@ impl<A: Allocator> Model for Addresses<A> {
     ghost use Rattle.std.specs.Vec.{vec_len, vec_capacity};
     ghost use Rattle.nd_slaac.specs.Table.{Table};
     ghost use Rattle.nd_slaac.specs.Room.{max_addresses};
+    ghost use Rattle.nd_slaac.specs.Planned.{IsPlanned};
 
     ghost Value = { Table };
 
-    ghost view = { λ a. record { mac = a.mac; addresses = a.entries.items } };
+    ghost view = { λ a. record { mac = a.mac; transmits = a.transmits; addresses = a.entries.items } };
 
-    ghost invariant = { λ a. (vec_len a.entries ≤ max_addresses) × (max_addresses ≤ vec_capacity a.entries) };
+    ghost invariant = { λ a. (vec_len a.entries ≤ max_addresses) × (max_addresses ≤ vec_capacity a.entries) × IsPlanned a.entries.items a.ends a.steps };
 }
 
 impl<A: Allocator> Addresses<A> {
@@ -55,16 +76,33 @@ impl<A: Allocator> Addresses<A> {
     ghost use Rattle.nd_slaac.specs.Calls.{formed};
 
     /// The addresses of an interface that starts: its link-local address, whose first solicitation waits for a delay
-    /// (RFC 4862, sections 5.3 and 5.4.2). Moment, delay and RetransTimer are in milliseconds. The room was taken before, so this takes
-    /// no memory, and a delay that was drawn for it is never lost.
-    pub fn start(room: AddressRoom<A>, now: u64, mac: Mac, delay: u32, retrans: u32) -> Self
+    /// (RFC 4862, sections 5.3 and 5.4.2). Moment, delay and RetransTimer are in milliseconds, and each detection sends so many
+    /// solicitations. The room was taken before, so this takes no memory, and a delay that was drawn for it is never lost.
+    pub fn start(
+        room: AddressRoom<A>,
+        now: u64,
+        mac: Mac,
+        transmits: Transmits,
+        delay: u32,
+        retrans: u32,
+    ) -> Self
         requires { now < 2 ^ 62 }
-        ensures first { result ≡ record { mac = mac; addresses = formed (link_local_of mac) now delay retrans None ∷ [] } }
+        ensures first { result ≡ record { mac = mac; transmits = transmits; addresses = formed (link_local_of mac) now delay retrans None ∷ [] } }
         ensures stands { Stands result.addresses ((now, link_local_of mac, Formed delay retrans None) ∷ []) }
     {
         let mut entries = room.entries;
-        entries.push_reserved(Entry::link_local(link_local(mac), now, delay, retrans));
-        Addresses { mac, entries }
+        let mut ends = room.ends;
+        let mut steps = room.steps;
+        let addr = link_local(mac);
+        entries.push_reserved(Entry::link_local(addr, now, delay, retrans));
+        steps.put_in::<NextStep, _>(&entries, addr);
+        Addresses {
+            mac,
+            transmits,
+            entries,
+            ends,
+            steps,
+        }
     }
 
     /// How many addresses there are, the link-local one among them, at most 64.

@@ -1,7 +1,8 @@
 ghost use Rattle.std.specs.Prelude.{◌≡◌, ◌↔◌, List, true};
 ghost use Rattle.std.specs.List.{list_any};
 ghost use Rattle.nd_addr.specs.Number.{number_of};
-ghost use Rattle.nd_slaac.specs.Table.{address_in};
+ghost use Rattle.nd_table.specs.Keyed.{Rises};
+ghost use Rattle.nd_slaac.specs.Table.{address_in, key_of};
 ghost use Rattle.nd_slaac.specs.Destination.{counted_in, is_meant, is_to};
 
 use crate::addresses::Addresses;
@@ -45,6 +46,7 @@ impl<A: Allocator> Addresses<A> {
 
 /// Whether the entry of an address is there and counts.
 fn entry_counts(entries: &[Entry], counted: Counted, addr: Addr) -> bool
+    requires { Rises key_of entries.now }
     ensures { result ≡ counted_in counted (address_in (number_of addr.0) entries.now) }
 {
     match find(entries, addr) {

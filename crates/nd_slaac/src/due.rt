@@ -1,13 +1,16 @@
 ghost use Rattle.std.specs.Prelude.{◌≡◌, ◌≢◌, ◌<◌, ◌^◌, List, IfSome, IfNone, Some, None, ◌≤◌, vec_len, vec_capacity};
 ghost use Rattle.std.specs.Option.{option_map};
-ghost use Rattle.nd_slaac.specs.Dates.{next_in, Turns, Rests};
+ghost use Rattle.nd_slaac.specs.Dates.{Turns, Rests, NoneBefore};
+ghost use Rattle.nd_slaac.specs.Planned.{IsPlanned};
+ghost use Rattle.nd_slaac.specs.Room.{max_addresses};
 ghost use Rattle.nd_slaac.specs.View.{falls_of};
 
 use crate::addresses::Addresses;
 use crate::entry::Entry;
 use crate::stage::Stage;
+use crate::transmits::Transmits;
 use nd_addr::Addr;
-use nd_table::{Addressed, Dated, first_at, lesser, next_date};
+use nd_table::{Addressed, Dated, Schedule, lesser};
 use std::alloc::Allocator;
 
 /// What falls due for an address.
@@ -32,9 +35,9 @@ impl<A: Allocator> Addresses<A> {
     /// The earliest moment at which something falls due, in milliseconds; `None` where nothing does.
     pub fn next_due(&self) -> Option<u64>
         ensures value { result ≡ next_in self.now.addresses }
-        ensures due { (history : List Row) → Stands self.now.addresses history → NextDue history result }
+        ensures due { (history : List Row) → Stands self.now.addresses history → NextDue self.now.transmits history result }
     {
-        next(&self.entries)
+        lesser(self.ends.next(), self.steps.next())
     }
 
     /// What falls due at this moment, in milliseconds: the end of the least address whose valid lifetime ends, and where there is none,
@@ -47,18 +50,25 @@ impl<A: Allocator> Addresses<A> {
         requires moment { now < 2 ^ 62 }
         requires none_before { NoneBefore self.old.addresses now }
 
-        ensures due { (history : List Row) → Stands self.old.addresses history → FirstDue history now (option_map (λ due. falls_of due) result) }
+        ensures due { (history : List Row) → Stands self.old.addresses history → FirstDue self.old.transmits history now (option_map (λ due. falls_of due) result) }
         ensures gains { IfSome result (λ due. GainsRow self.old.addresses self.new.addresses (due_row now (falls_of due))) }
-        ensures comes { IfSome result (λ due. (history : List Row) → Stands self.old.addresses history → MayCome (due_row now (falls_of due)) history) }
+        ensures comes { IfSome result (λ due. (history : List Row) → Stands self.old.addresses history → MayCome self.old.transmits (due_row now (falls_of due)) history) }
         ensures same { IfNone result (self.new ≡ self.old) }
         ensures mac { self.new.mac ≡ self.old.mac }
+        ensures transmits { self.new.transmits ≡ self.old.transmits }
 
         // Turns at one moment end.
-        ensures fewer { IfSome result (λ _. turns_left self.new.addresses < turns_left self.old.addresses) }
+        ensures fewer { IfSome result (λ _. turns_left self.new.transmits self.new.addresses < turns_left self.old.transmits self.old.addresses) }
         ensures none { IfNone result (next_in self.old.addresses ≢ Some now) }
         ensures later { NoneBefore self.new.addresses now }
     {
-        turn_first(&mut self.entries, now)
+        turn_first(
+            &mut self.entries,
+            &mut self.ends,
+            &mut self.steps,
+            self.transmits,
+            now,
+        )
     }
 }
 
@@ -91,30 +101,38 @@ impl Dated<NextStep> for Entry {
     }
 }
 
-/// The earliest moment at which something falls due.
-pub(crate) fn next(entries: &[Entry]) -> Option<u64>
-    ensures { result ≡ next_in entries.now }
-{
-    let end = next_date::<ValidEnd, _>(entries);
-    let step = next_date::<NextStep, _>(entries);
-    lesser(end, step)
-}
-
 /// The first entry whose valid lifetime ends now goes; where there is none, the first whose detection has a step now
 /// takes it.
-pub(crate) fn turn_first<A: Allocator>(entries: &mut Vec<Entry, A>, now: u64) -> Option<Due>
-    requires { now < 2 ^ 62 }
-    ensures turns { IfSome result (λ due. Turns now entries.old.items entries.new.items (falls_of due)) }
+pub(crate) fn turn_first<A: Allocator>(
+    entries: &mut Vec<Entry, A>,
+    ends: &mut Schedule<A>,
+    steps: &mut Schedule<A>,
+    transmits: Transmits,
+    now: u64,
+) -> Option<Due>
+    requires moment { now < 2 ^ 62 }
+    requires few { vec_len entries.old ≤ max_addresses }
+    requires planned { IsPlanned entries.old.items ends.old steps.old }
+    requires none_before { NoneBefore entries.old.items now }
+    ensures turns { IfSome result (λ due. Turns transmits now entries.old.items entries.new.items (falls_of due)) }
     ensures rests { IfNone result (Rests now entries.old.items) }
     ensures same { IfNone result (entries.new.items ≡ entries.old.items) }
+    ensures planned { IsPlanned entries.new.items ends.new steps.new }
     ensures len { vec_len entries.new ≤ vec_len entries.old }
     ensures capacity { vec_capacity entries.new ≡ vec_capacity entries.old }
 {
-    if let Some(i) = first_at::<ValidEnd, _>(entries, now) {
+    if let Some(i) = ends.first_at::<ValidEnd, _>(entries, now) {
+        let addr = entries[i].addr();
+        ends.take_out::<ValidEnd, _>(entries, addr);
+        steps.take_out::<NextStep, _>(entries, addr);
         let entry = entries.remove(i);
         return Some(Due::End(entry.addr()));
     }
-    let i = first_at::<NextStep, _>(entries, now)?;
+    let i = steps.first_at::<NextStep, _>(entries, now)?;
+    let addr = entries[i].addr();
+    steps.take_out::<NextStep, _>(entries, addr);
     let entry = &mut entries[i];
-    Some(entry.step(now))
+    let due = entry.step(transmits, now);
+    steps.put_in::<NextStep, _>(entries, addr);
+    Some(due)
 }

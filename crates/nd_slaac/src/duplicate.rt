@@ -1,9 +1,11 @@
 ghost use Rattle.std.specs.Prelude.{◌≡◌, ℕ, List, Some, true, false, vec_len, vec_capacity};
 ghost use Rattle.nd_addr.specs.Number.{number_of};
-ghost use Rattle.nd_slaac.specs.Table.{address_in};
+ghost use Rattle.nd_table.specs.Keyed.{Rises};
+ghost use Rattle.nd_slaac.specs.Table.{address_in, key_of};
 ghost use Rattle.nd_slaac.specs.Calls.{Alters, failed, detects_in};
 
 use crate::addresses::Addresses;
+use crate::due::NextStep;
 use crate::entry::Entry;
 use nd_addr::Addr;
 use nd_table::find;
@@ -22,16 +24,21 @@ impl<A: Allocator> Addresses<A> {
         ensures value { result ≡ detects_in (address_in (number_of addr.0) self.old.addresses) }
         ensures tentative { (history : List Row) → Stands self.old.addresses history → result ≡ is_tentative (story (number_of addr.0) history) }
         ensures gains { result ≡ true → (at : ℕ) → GainsRow self.old.addresses self.new.addresses (at, number_of addr.0, Conflict) }
-        ensures comes { result ≡ true → (history : List Row) (at : ℕ) → Stands self.old.addresses history → MayCome (at, number_of addr.0, Conflict) history }
+        ensures comes { result ≡ true → (history : List Row) (at : ℕ) → Stands self.old.addresses history → MayCome self.old.transmits (at, number_of addr.0, Conflict) history }
         ensures same { result ≡ false → self.new ≡ self.old }
         ensures mac { self.new.mac ≡ self.old.mac }
+        ensures transmits { self.new.transmits ≡ self.old.transmits }
     {
-        fail(&mut self.entries, addr)
+        self.steps.take_out::<NextStep, _>(&self.entries, addr);
+        let failed = fail(&mut self.entries, addr);
+        self.steps.put_in::<NextStep, _>(&self.entries, addr);
+        failed
     }
 }
 
 /// Another node has an address, or tries for it: where its detection goes on, it fails.
 pub(crate) fn fail<A: Allocator>(entries: &mut Vec<Entry, A>, addr: Addr) -> bool
+    requires { Rises key_of entries.old.items }
     ensures value { result ≡ detects_in (address_in (number_of addr.0) entries.old.items) }
     ensures alters { result ≡ true → Alters (number_of addr.0) failed entries.old.items entries.new.items }
     ensures same { result ≡ false → entries.new.items ≡ entries.old.items }

@@ -6,14 +6,12 @@ use crate::due::Due;
 use crate::shown::OwnAddress;
 use crate::stage::Stage;
 use crate::state::State;
+use crate::transmits::Transmits;
 use crate::two_hours::renewed;
 use nd_addr::Addr;
 use nd_decode::PrefixInfo;
 use nd_table::{Addressed, end_time, is_before};
 use std::marker::Model;
-
-/// How many solicitations a detection sends (RFC 4862, section 5.1, DupAddrDetectTransmits).
-const DUP_ADDR_DETECT_TRANSMITS: u8 = 1;
 
 /// An address that is known.
 #[derive(Drop)]
@@ -136,15 +134,15 @@ impl Entry {
         self.stage = Stage::Failed;
     }
 
-    /// The next step of its detection: a further solicitation, or the assignment.
-    pub(crate) fn step(&mut self, now: u64) -> Due
+    /// The next step of its detection, which sends so many solicitations: a further one, or the assignment.
+    pub(crate) fn step(&mut self, transmits: Transmits, now: u64) -> Due
         requires moment { now < 2 ^ 62 }
         requires detecting { is_detecting self.old.stage ≡ true }
-        ensures entry { self.new ≡ stepped now self.old }
-        ensures due { falls_of result ≡ falls_by self.old.key self.old.stage }
+        ensures entry { self.new ≡ stepped transmits now self.old }
+        ensures due { falls_of result ≡ falls_by transmits self.old.key self.old.stage }
     {
         match &mut self.stage {
-            Stage::Detecting { sent, due, retrans } if *sent < DUP_ADDR_DETECT_TRANSMITS => {
+            Stage::Detecting { sent, due, retrans } if *sent < transmits.number() => {
                 *sent += 1;
                 *due = now + u64::from(*retrans);
                 Due::Solicit(self.addr)

@@ -18,22 +18,23 @@ ghost use Rattle.nd_slaac.specs.MayCome.{IsHistory, Held};
 pub fn one_answer()
     ensures table { (history : List Row) (a b : List Address) → Stands a history → Stands b history → a ≡ b }
     ensures fits { (mac : Mac) (history : List Row) (infos : List PrefixInfo) (a b : Bool) → FitsBy mac history infos a → FitsBy mac history infos b → a ≡ b }
-    ensures due { (history : List Row) (moment : ℕ) (a b : Option Falls) → FirstDue history moment a → FirstDue history moment b → a ≡ b }
+    ensures due { (transmits : ℕ) (history : List Row) (moment : ℕ) (a b : Option Falls) → FirstDue transmits history moment a → FirstDue transmits history moment b → a ≡ b }
 {}
 
 /// Nothing that happens falls due in the past. Where nothing in a history is overdue at a moment, nothing is after one more row of that
 /// moment, whatever it is; and a table that stands for a history has no date before a moment exactly where nothing in the history is
 /// overdue then.
 pub fn none_overdue()
-    ensures still { (history : List Row) (now key : ℕ) (kind : RowKind) → NoneOverdue history now → NoneOverdue ((now, key, kind) ∷ history) now }
-    ensures table { (addresses : List Address) (history : List Row) (now : ℕ) → Stands addresses history → NoneBefore addresses now ↔ NoneOverdue history now }
+    ensures still { (transmits : ℕ) (history : List Row) (now key : ℕ) (kind : RowKind) → NoneOverdue transmits history now → NoneOverdue transmits ((now, key, kind) ∷ history) now }
+    ensures table { (transmits : ℕ) (addresses : List Address) (history : List Row) (now : ℕ) → Stands addresses history → NoneBefore addresses now ↔ NoneOverdue transmits history now }
 {}
 
 /// No address is assigned untried (RFC 4862, section 5.4): in every history an address that is assigned was formed with
-/// a RetransTimer above 0, was tentative at each place up to its assignment, which came one RetransTimer after the last
-/// solicitation for it and before its valid lifetime ended, and has been assigned at each place since. And where
+/// a RetransTimer above 0, was tentative at each place up to its assignment, before which each of its solicitations stands, the last one a
+/// RetransTimer before and each other one a RetransTimer before the next; its valid lifetime hadn't ended then, and it has been assigned at each
+/// place since. And where
 /// nothing is due any more up to a moment, the valid lifetime of no address that is known has ended by then.
 pub fn none_untried()
-    ensures held { (history : List Row) (key : ℕ) → IsHistory history → is_assigned (story key history) ≡ true → Held key history }
-    ensures valid { (history : List Row) (now : ℕ) → ((moment : ℕ) (falls : Falls) → IsDue history moment falls → now < moment) → (key : ℕ) → is_known (story key history) ≡ true → is_before now (valid_end (story key history)) ≡ true }
+    ensures held { (transmits : ℕ) (history : List Row) (key : ℕ) → IsHistory transmits history → is_assigned (story key history) ≡ true → Held transmits key history }
+    ensures valid { (transmits : ℕ) (history : List Row) (now : ℕ) → ((moment : ℕ) (falls : Falls) → IsDue transmits history moment falls → now < moment) → (key : ℕ) → is_known (story key history) ≡ true → is_before now (valid_end (story key history)) ≡ true }
 {}

@@ -13,6 +13,7 @@ mod room;
 mod shown;
 mod stage;
 mod state;
+mod transmits;
 mod two_hours;
 
 pub use addresses::{AddressRoom, Addresses, MAX_ADDRESSES};
@@ -21,4 +22,5 @@ pub use due::Due;
 pub use prefix_option::{Full, Taken};
 pub use shown::OwnAddress;
 pub use state::State;
+pub use transmits::Transmits;
 pub use two_hours::renewed;

@@ -3,10 +3,12 @@ ghost use Rattle.nd_addr.specs.Number.{number_of};
 ghost use Rattle.nd_slaac.specs.PrefixOption.{is_taken, named_by, lifetimes_of};
 ghost use Rattle.nd_decode.specs.declared.prefix_info.PrefixInfo.{PrefixInfo};
 ghost use Rattle.nd_slaac.specs.Room.{max_addresses};
-ghost use Rattle.nd_slaac.specs.Table.{address_in};
+ghost use Rattle.nd_table.specs.Keyed.{Rises};
+ghost use Rattle.nd_slaac.specs.Table.{address_in, key_of};
 ghost use Rattle.nd_slaac.specs.Calls.{taken_by, Changes};
 
 use crate::addresses::{Addresses, MAX_ADDRESSES};
+use crate::due::{NextStep, ValidEnd};
 use crate::entry::Entry;
 use nd_addr::{Addr, Mac};
 use nd_decode::PrefixInfo;
@@ -54,8 +56,9 @@ impl<A: Allocator> Addresses<A> {
         ensures story { (history : List Row) → Stands self.old.addresses history → result ≡ taken_of info.now (is_known (story (named_by self.old.mac info.now) history)) (length self.old.addresses) }
         ensures by_history { (history : List Row) → Stands self.old.addresses history → TakenBy self.old.mac history info.now result }
         ensures gains { GainsRowIfAny (row_taken now self.old.mac info.now delay retrans result) self.old.addresses self.new.addresses }
-        ensures comes { (history : List Row) → Stands self.old.addresses history → 0 < retrans → IfSome (row_taken now self.old.mac info.now delay retrans result) (λ row. MayCome row history) }
+        ensures comes { (history : List Row) → Stands self.old.addresses history → 0 < retrans → IfSome (row_taken now self.old.mac info.now delay retrans result) (λ row. MayCome self.old.transmits row history) }
         ensures mac { self.new.mac ≡ self.old.mac }
+        ensures transmits { self.new.transmits ≡ self.old.transmits }
 
         // Where the options fit, the first isn't refused, and the others still fit.
         ensures fits { (infos : List PrefixInfo) → fits_in self.old.mac (keys_in self.old.addresses) (info.now ∷ infos) ≡ true → IsOk result × (fits_in self.new.mac (keys_in self.new.addresses) infos ≡ true) }
@@ -64,7 +67,12 @@ impl<A: Allocator> Addresses<A> {
             return Ok(Taken::Ignored);
         }
         let addr = named_by(info, self.mac);
-        take(&mut self.entries, now, addr, info, delay, retrans)
+        self.ends.take_out::<ValidEnd, _>(&self.entries, addr);
+        self.steps.take_out::<NextStep, _>(&self.entries, addr);
+        let taken = take(&mut self.entries, now, addr, info, delay, retrans);
+        self.ends.put_in::<ValidEnd, _>(&self.entries, addr);
+        self.steps.put_in::<NextStep, _>(&self.entries, addr);
+        taken
     }
 }
 
@@ -103,6 +111,7 @@ pub(crate) fn take<A: Allocator>(
     retrans: u32,
 ) -> Result<Taken, Full>
     requires moment { now < 2 ^ 62 }
+    requires order { Rises key_of entries.old.items }
     requires few { vec_len entries.old ≤ max_addresses }
     requires capacity { max_addresses ≤ vec_capacity entries.old }
     ensures value { result ≡ taken_by (is_some (address_in (number_of addr.0) entries.old.items)) info.now.valid_lifetime (length entries.old.items) }

@@ -3,6 +3,8 @@ ghost use Rattle.nd_addr.specs.Number.{number_of};
 ghost use Rattle.nd_decode.specs.Pieces.{options_left};
 ghost use Rattle.nd_slaac.specs.PrefixOption.{is_forming, named_by, prefixes_in};
 ghost use Rattle.nd_slaac.specs.Room.{is_among, would_form, is_formed_by, fits_in, max_addresses};
+ghost use Rattle.nd_table.specs.Keyed.{Rises};
+ghost use Rattle.nd_slaac.specs.Table.{key_of};
 ghost use Rattle.nd_slaac.specs.Calls.{keys_in};
 ghost use Rattle.nd_decode.specs.declared.prefix_info.PrefixInfo.{PrefixInfo};
 
@@ -43,6 +45,7 @@ impl<A: Allocator> Addresses<A> {
 
 /// Whether an address is known.
 fn is_known(entries: &[Entry], addr: Addr) -> bool
+    requires { Rises key_of entries.now }
     ensures { result ≡ is_among (number_of addr.0) (keys_in entries.now) }
 {
     find(entries, addr).is_some()
@@ -57,6 +60,7 @@ fn is_forming(info: &PrefixInfo) -> bool
 
 /// Whether an option would form an address, where there is room.
 pub(crate) fn would_form(entries: &[Entry], mac: Mac, info: &PrefixInfo) -> bool
+    requires { Rises key_of entries.now }
     ensures { result ≡ would_form mac (keys_in entries.now) info.now }
 {
     is_forming(info) && !is_known(entries, named_by(info, mac))
@@ -85,7 +89,8 @@ fn is_formed_by(options: Options<'_>, mac: Mac, addr: Addr) -> bool
 
 /// Whether there is room for each address that the options would form.
 pub(crate) fn fits(entries: &[Entry], mac: Mac, options: Options<'_>) -> bool
-    requires { length entries.now ≤ max_addresses }
+    requires few { length entries.now ≤ max_addresses }
+    requires order { Rises key_of entries.now }
     ensures { result ≡ fits_in mac (keys_in entries.now) (prefixes_in (options_left options.entry)) }
 {
     let mut count = entries.len();
@@ -107,6 +112,7 @@ pub(crate) fn fits(entries: &[Entry], mac: Mac, options: Options<'_>) -> bool
 
 /// Whether an option would form an address, and none of those behind it would form the same.
 fn is_new(entries: &[Entry], mac: Mac, info: &PrefixInfo, behind: Options<'_>) -> bool
+    requires { Rises key_of entries.now }
     ensures { result ≡ (would_form mac (keys_in entries.now) info.now && not (is_formed_by mac (named_by mac info.now) (prefixes_in (options_left behind.entry)))) }
 {
     would_form(entries, mac, info) && !is_formed_by(behind, mac, named_by(info, mac))

@@ -1,7 +1,8 @@
 ghost use Rattle.std.specs.Prelude.{◌≡◌, List, map, IfOk};
 ghost use Rattle.std.specs.Option.{option_map};
 ghost use Rattle.nd_addr.specs.Number.{number_of};
-ghost use Rattle.nd_slaac.specs.Table.{address_in};
+ghost use Rattle.nd_table.specs.Keyed.{Rises};
+ghost use Rattle.nd_slaac.specs.Table.{address_in, key_of};
 ghost use Rattle.nd_slaac.specs.Shown.{state_at, seen};
 ghost use Rattle.nd_slaac.specs.View.{seen_in};
 
@@ -62,6 +63,7 @@ impl<A: Allocator + Clone> Addresses<A> {
 
 /// The state of an entry that may be there.
 pub(crate) fn show(entries: &[Entry], now: u64, addr: Addr) -> Option<State>
+    requires { Rises key_of entries.now }
     ensures { result ≡ option_map (state_at now) (address_in (number_of addr.0) entries.now) }
 {
     match find(entries, addr) {

@@ -5,10 +5,10 @@ use Rattle.std.specs.List.{remove}
 use Rattle.std.proofs.Math.Seq.{drop-cons}
 use Rattle.std.proofs.lemmas.Option.{slice_get-get_or}
 use Rattle.std.proofs.lemmas.Bool.Decides.{nat_tests}
-use Rattle.std.proofs.lemmas.Bool.{cond_both, cond-true, cond-false, eqb-true, eq-eqb, true≢false, cases_Bool}
-use Rattle.nd_table.specs.Keyed.{at_key, Rises}
+use Rattle.std.proofs.lemmas.Bool.{cond_both, cond-true, cond-false, eqb-true, eq-eqb, ne_eqb, true≢false, cases_Bool}
+use Rattle.nd_table.specs.Keyed.{at_key, Rises, Unique}
 use Rattle.nd_table.specs.Due.{lesser, is_at, least_date, first_at, NotBefore}
-use Rattle.nd_table.proofs.Keyed.{above_in}
+use Rattle.nd_table.proofs.Keyed.{above_in, Rises-unique}
 
 -- the least is at most this
 abbrev pub AtMost : Option ℕ → ℕ → Type 0
@@ -181,13 +181,16 @@ module _ {N : Type 0} (key : N → ℕ) (date : N → Option ℕ) where
       (λ _ e. AtMost-right (date x) (least_date date ns) moment (least_at_most k ns m moment e at)) is
 
   -- and it is that of an entry
-  pub least_found : (ns : List N) (n : ℕ) → Rises key ns → least_date date ns ≡ Some n → (m : N) × (at_key key (key m) ns ≡ Some m) × (date m ≡ Some n)
-  least_found [] n r h = absurd (cc)
-  least_found (x ∷ ns) n r h = elim (lesser_is (date x) (least_date date ns) n h) [
+  pub least_unique : (ns : List N) (n : ℕ) → Unique key ns → least_date date ns ≡ Some n → (m : N) × (at_key key (key m) ns ≡ Some m) × (date m ≡ Some n)
+  least_unique [] n u h = absurd (cc)
+  least_unique (x ∷ ns) n u h = elim (lesser_is (date x) (least_date date ns) n h) [
     | inl e ↦ (x, cond-true (eqb (key x) (key x)) (Some x) (at_key key (key x) ns) (eq-eqb (key x) (key x) refl), e)
     | inr e ↦
-        let f = least_found ns n r.1 e in
-        let above : key x < key f.0 = above_in key (key f.0) (key x) ns f.0 r.0 f.1 in
+        let f = least_unique ns n u.1 e in
         let rest : at_key key (key f.0) ns ≡ Some f.0 = f.1 in
-        (f.0, grind (arith, nat_tests, above, rest), f.2)
+        let other : (key x ≡ key f.0) → ⊥ = λ same. let g : None ≡ Some f.0 = sym (ap (λ k. at_key key k ns) (sym same) ∙ u.0) ∙ rest in cc in
+        (f.0, cond-false (eqb (key x) (key f.0)) (Some x) (at_key key (key f.0) ns) (ne_eqb (key x) (key f.0) other) ∙ rest, f.2)
   ]
+
+  pub least_found : (ns : List N) (n : ℕ) → Rises key ns → least_date date ns ≡ Some n → (m : N) × (at_key key (key m) ns ≡ Some m) × (date m ≡ Some n)
+  least_found ns n r h = least_unique ns n (Rises-unique key ns r) h

@@ -1,12 +1,12 @@
 -- Entries found by their numbers in a list in the order of these.
 use Rattle.std.proofs.Common.{◌≡◌, ℕ, ◌<◌, ◌≤◌, true, false, cond, eqb, ltb, List, [], ◌∷◌, length, get_or, set, Some, None, refl, sym, ◌∙◌, ap, subst, drop, arith, suc, zero, add-one, inl, inr}
-use Rattle.std.specs.Prelude.{slice_get}
+use Rattle.std.specs.Prelude.{slice_get, filter, not}
 use Rattle.std.proofs.Math.Seq.{drop-cons}
 use Rattle.std.proofs.lemmas.Option.{slice_get-get_or}
 use Rattle.std.specs.List.{insert, remove}
 use Rattle.std.proofs.lemmas.Bool.Decides.{nat_tests}
 use Rattle.std.proofs.lemmas.Bool.{cond_both, cond-true, cond-false, eqb-true, eq-eqb, cases_Bool}
-use Rattle.nd_table.specs.Keyed.{at_key, AllAbove, Rises, place_of}
+use Rattle.nd_table.specs.Keyed.{at_key, AllAbove, Rises, Unique, place_of}
 
 module _ {N : Type 0} (key : N → ℕ) where
   pub key_is : (k : ℕ) (ns : List N) (n : N) → at_key key k ns ≡ Some n → key n ≡ k
@@ -49,9 +49,42 @@ module _ {N : Type 0} (key : N → ℕ) where
   Rises-set (n ∷ ns) (suc i) m d h same = (AllAbove-set (key n) ns i m d h.0 same, Rises-set ns i m d h.1 same)
 
   -- nothing lower is behind
-  none_above : (k : ℕ) (ns : List N) → AllAbove key k ns → at_key key k ns ≡ None
+  pub none_above : (k : ℕ) (ns : List N) → AllAbove key k ns → at_key key k ns ≡ None
   none_above k [] h = refl
   none_above k (n ∷ ns) h = let lt = h.0 in grind (arith, nat_tests, none_above k ns h.1)
+
+  pub Rises-unique : (ns : List N) → Rises key ns → Unique key ns
+  Rises-unique [] r = tt
+  Rises-unique (n ∷ ns) r = (none_above (key n) ns r.0, Rises-unique ns r.1)
+
+  -- the list without the entries of a number
+  abbrev pub others : ℕ → List N → List N
+  others k ns = filter (λ n. not (eqb (key n) k)) ns
+
+  pub at_key-others : (j k : ℕ) (ns : List N) → at_key key j (others k ns) ≡ cond (eqb k j) None (at_key key j ns)
+  at_key-others j k [] = grind (arith, nat_tests)
+  at_key-others j k (n ∷ ns) = grind (arith, nat_tests, at_key-others j k ns)
+
+  pub Unique-others : (k : ℕ) (ns : List N) → Unique key ns → Unique key (others k ns)
+  Unique-others k [] u = tt
+  Unique-others k (n ∷ ns) u =
+      let rest = Unique-others k ns u.1 in
+      cond_both (not (eqb (key n) k)) (n ∷ others k ns) (others k ns) (Unique key)
+      (λ _. (grind (arith, nat_tests, u.0, at_key-others (key n) k ns), rest)) (λ _. rest)
+
+  no_longer : (k : ℕ) (ns : List N) → length (others k ns) ≤ length ns
+  no_longer k [] = omega arith
+  no_longer k (n ∷ ns) = grind (arith, nat_tests, no_longer k ns)
+
+  pub length-others : (k : ℕ) (n : N) (ns : List N) → at_key key k ns ≡ Some n → suc (length (others k ns)) ≤ length ns
+  length-others k n [] there = absurd (cc)
+  length-others k n (x ∷ ns) there = elim (cases_Bool (eqb (key x) k)) [
+    | inl here ↦ let e : others k (x ∷ ns) ≡ others k ns = rw here refl in let le : length (others k ns) ≤ length ns = no_longer k ns in omega (arith, ap length e, le)
+    | inr behind ↦
+        let e : others k (x ∷ ns) ≡ x ∷ others k ns = rw behind refl in
+        let rest : suc (length (others k ns)) ≤ length ns = length-others k n ns (sym (cond-false (eqb (key x) k) (Some x) (at_key key k ns) behind) ∙ there) in
+        omega (arith, ap length e, rest)
+  ]
 
   pub at_key-remove : (k : ℕ) (ns : List N) (i : ℕ) (d : N) → Rises key ns → i < length ns → at_key key k (remove ns i) ≡ cond (eqb (key (get_or ns i d)) k) None (at_key key k ns)
   at_key-remove k [] i d r lt = absurd (omega arith)
@@ -79,10 +112,10 @@ module _ {N : Type 0} (key : N → ℕ) where
   abbrev pub put_in : N → List N → List N
   put_in m ns = insert ns (place_of key (key m) ns) m
 
-  put_low : (m n : N) (ns : List N) → ltb (key n) (key m) ≡ true → put_in m (n ∷ ns) ≡ n ∷ put_in m ns
+  pub put_low : (m n : N) (ns : List N) → ltb (key n) (key m) ≡ true → put_in m (n ∷ ns) ≡ n ∷ put_in m ns
   put_low m n ns lt = rw (lt, add-one) refl
 
-  put_high : (m n : N) (ns : List N) → ltb (key n) (key m) ≡ false → put_in m (n ∷ ns) ≡ m ∷ n ∷ ns
+  pub put_high : (m n : N) (ns : List N) → ltb (key n) (key m) ≡ false → put_in m (n ∷ ns) ≡ m ∷ n ∷ ns
   put_high m n ns ge = rw ge refl
 
   pub at_key-put : (k : ℕ) (m : N) (ns : List N) → at_key key k (put_in m ns) ≡ cond (eqb (key m) k) (Some m) (at_key key k ns)

@@ -1,4 +1,7 @@
 pub mod Keyed
+pub mod Dates
+pub mod Searching
+pub mod Stays
 pub mod Unique
 pub mod Due
 pub mod Any

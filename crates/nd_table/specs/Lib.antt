@@ -2,3 +2,4 @@ pub mod History
 pub mod Keyed
 pub mod Due
 pub mod Ends
+pub mod Dates

@@ -110,6 +110,7 @@ fn started(rt: &impl Abort, alloc: Global) -> Addresses<Global> {
         AddressRoom::new(alloc).expect(rt, "memory"),
         0,
         MAC,
+        Transmits::ONE,
         0,
         1000,
     );
@@ -192,6 +193,7 @@ fn a_link_local_duplicate_has_no_end(rt: HostRuntime) {
         AddressRoom::new(rt.alloc()).expect(&rt, "memory"),
         0,
         MAC,
+        Transmits::ONE,
         0,
         1000,
     );
@@ -214,6 +216,7 @@ fn the_first_solicitation_waits_for_the_delay(rt: HostRuntime) {
         AddressRoom::new(rt.alloc()).expect(&rt, "memory"),
         100,
         MAC,
+        Transmits::ONE,
         1000,
         400,
     );
@@ -365,4 +368,49 @@ fn a_renewal_cuts_the_preferred_lifetime(rt: HostRuntime) {
     hears(&rt, &mut addresses, 3000, &over, 1000, Taken::Renewed);
     assert!(rt; addresses.state(3000, GLOBAL) == Some(State::Deprecated));
     falls_due(&rt, &mut addresses, 7_203_000, Due::End(GLOBAL));
+}
+
+/// Three solicitations, a RetransTimer apart, and the assignment a RetransTimer after the last one; a conflict ends them at once.
+#[test]
+fn three_solicitations_a_retrans_timer_apart(rt: HostRuntime) {
+    let three = Transmits::new(3).expect(&rt, "from 1 to 8");
+    let mut addresses = Addresses::start(
+        AddressRoom::new(rt.alloc()).expect(&rt, "memory"),
+        0,
+        MAC,
+        three,
+        0,
+        1000,
+    );
+    falls_due(&rt, &mut addresses, 0, Due::Solicit(LINK_LOCAL));
+    falls_due(&rt, &mut addresses, 1000, Due::Solicit(LINK_LOCAL));
+    falls_due(&rt, &mut addresses, 2000, Due::Solicit(LINK_LOCAL));
+    assert!(rt; addresses.state(2999, LINK_LOCAL) == Some(State::Tentative));
+    falls_due(&rt, &mut addresses, 3000, Due::Assign(LINK_LOCAL));
+    assert!(rt; addresses.next_due() == None);
+}
+
+#[test]
+fn a_conflict_after_the_second_solicitation_is_the_last_thing(rt: HostRuntime) {
+    let three = Transmits::new(3).expect(&rt, "from 1 to 8");
+    let mut addresses = Addresses::start(
+        AddressRoom::new(rt.alloc()).expect(&rt, "memory"),
+        0,
+        MAC,
+        three,
+        0,
+        1000,
+    );
+    falls_due(&rt, &mut addresses, 0, Due::Solicit(LINK_LOCAL));
+    falls_due(&rt, &mut addresses, 1000, Due::Solicit(LINK_LOCAL));
+    assert!(rt; addresses.conflict(LINK_LOCAL));
+    assert!(rt; addresses.next_due() == None);
+}
+
+#[test]
+fn one_to_eight_solicitations(rt: HostRuntime) {
+    assert!(rt; Transmits::new(0) == None);
+    assert!(rt; Transmits::new(1) == Some(Transmits::ONE));
+    assert!(rt; Transmits::new(8).is_some());
+    assert!(rt; Transmits::new(9) == None);
 }

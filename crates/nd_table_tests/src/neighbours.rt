@@ -570,3 +570,28 @@ fn five_hundred_and_twelve_neighbours_are_shown_and_cleared(rt: HostRuntime) {
     assert!(rt; cache.waiting() == 0);
     assert!(rt; cache.rows(0).expect(&rt, "memory").is_empty());
 }
+
+#[test]
+fn looks_at_no_more_entries_than_their_number_has_binary_digits(
+    rt: HostRuntime,
+) -> Result<(), Fail> {
+    let mut cache = Cache::new(rt.alloc(), 512)?;
+    let mut probes = Probes::new();
+    assert!(rt; !cache.find(addr(7), &mut probes));
+    assert!(rt; probes.looks == 0);
+    for n in 0..512u16 {
+        let news = News::Given {
+            addr: addr(n * 2),
+            mac: MAC,
+            mark: None,
+        };
+        assert!(rt; cache.heard(0, news, TIMES).is_ok());
+    }
+    for n in 0..512u16 {
+        let mut probes = Probes::new();
+        assert!(rt; cache.find(addr(n * 2), &mut probes));
+        assert!(rt; !cache.find(addr(n * 2 + 1), &mut probes));
+        assert!(rt; probes.looks <= 20);
+    }
+    Ok(())
+}

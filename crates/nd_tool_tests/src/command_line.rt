@@ -1,6 +1,7 @@
 use nd_addr::{Mac, Role};
-use nd_command_line::{Asked, Carrier, Refused, read_words};
+use nd_command_line::{Asked, AskedNode, Carrier, Refused, read_words};
 use nd_script::Source;
+use nd_slaac::Transmits;
 use std::process::Abort;
 use std::test::*;
 
@@ -48,10 +49,10 @@ fn run_is_read(rt: HostRuntime) {
         "word:7",
     ];
     match read(&rt, &words) {
-        Ok(Asked::Run(role, mac, Source::Constant(word))) => {
-            assert!(rt; role == Role::Host);
-            assert!(rt; mac == Mac([0x34, 0x56, 0x78, 0x9a, 0xbc, 0xde]));
-            assert!(rt; word == 7);
+        Ok(Asked::Run(node)) => {
+            assert!(rt; node.role == Role::Host);
+            assert!(rt; node.mac == Mac([0x34, 0x56, 0x78, 0x9a, 0xbc, 0xde]));
+            assert!(rt; matches!(node.source, Source::Constant(7)));
         }
         _ => panic!(rt; "no host"),
     }
@@ -61,7 +62,7 @@ fn run_is_read(rt: HostRuntime) {
 fn a_router_runs(rt: HostRuntime) {
     let words = ["run", "--role=router", "--mac=02:00:00:00:00:01"];
     match read(&rt, &words) {
-        Ok(Asked::Run(role, _, _)) => assert!(rt; role == Role::Router),
+        Ok(Asked::Run(node)) => assert!(rt; node.role == Role::Router),
         _ => panic!(rt; "no router"),
     }
 }
@@ -78,7 +79,15 @@ fn link_is_read(rt: HostRuntime) {
 #[test]
 fn draws_have_a_default(rt: HostRuntime) {
     let asked = read(&rt, &["run", "--mac=02:00:00:00:00:01", "--role=host"]);
-    assert!(rt; matches!(asked, Ok(Asked::Run(_, _, Source::Seeded(_)))));
+    assert!(rt;
+        matches!(
+            asked,
+            Ok(Asked::Run(AskedNode {
+                source: Source::Seeded(_),
+                ..
+            }))
+        )
+    );
 }
 
 #[test]
@@ -99,6 +108,38 @@ fn the_mac_is_judged_before_the_draws(rt: HostRuntime) {
         "run", "--role", "host", "--draws", "seed:01", "--mac", "02:00",
     ];
     assert!(rt; matches!(read(&rt, &both_bad), Err(Refused::Mac)));
+}
+
+/// The words of a run that is to send so many solicitations for each of its addresses.
+fn tried<'a>(transmits: &'a str) -> [&'a str; 7] {
+    [
+        "run",
+        "--role",
+        "host",
+        "--mac",
+        "02:00:00:00:00:01",
+        "--transmits",
+        transmits,
+    ]
+}
+
+#[test]
+fn solicitations_are_counted(rt: HostRuntime) {
+    match read(&rt, &["run", "--role=host", "--mac=02:00:00:00:00:01"]) {
+        Ok(Asked::Run(node)) => assert!(rt; node.transmits == Transmits::ONE),
+        _ => panic!(rt; "no host"),
+    }
+    for (word, number) in [("1", 1), ("3", 3), ("8", 8)] {
+        match read(&rt, &tried(word)) {
+            Ok(Asked::Run(node)) => assert!(rt; node.transmits.number() == number),
+            _ => panic!(rt; "no host"),
+        }
+    }
+    for word in ["", "0", "9", "10", "03", "+1", "1 ", "one", "256", "257"] {
+        assert!(rt; matches!(read(&rt, &tried(word)), Err(Refused::Transmits)));
+    }
+    // A sign stands before an option.
+    is_told(&rt, &tried("-1"), 2);
 }
 
 #[test]

@@ -14,7 +14,7 @@ use Rattle.nd_link_script.specs.Script.{IsLinkText}
 -- the role; of `link`, that of the log of what they say.
 abbrev pub texts_asked : Asked → Texts
 texts_asked Check = Only (text_of_each answer_to) (malformed_of_each answer_to)
-texts_asked (Run role mac source) = IsText (starting 0 role mac (stream_of_source source))
+texts_asked (Run node) = IsText (starting 0 node.role node.mac node.transmits (stream_of_source node.source))
 texts_asked (Link carrier) = IsLinkText
 
 -- the text is claimed: that of a link over datagrams isn't

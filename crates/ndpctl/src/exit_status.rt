@@ -47,6 +47,7 @@ pub fn fail_on_refused(rt: &HostRuntime, refused: Refused) -> ExitCode
         }
         Refused::Mac => fail_on_value(rt, "bad mac"),
         Refused::Draws => fail_on_value(rt, "bad draws"),
+        Refused::Transmits => fail_on_value(rt, "bad transmits"),
         Refused::Memory => fail(rt, ToolFault::Memory),
     }
 }

@@ -34,7 +34,15 @@ pub fn run<N: Net, R: Input, W: Output, A: Allocator + Copy>(
 {
     match asked {
         Asked::Check => run_check(alloc, reader, writer),
-        Asked::Run(role, mac, source) => run_script(alloc, reader, writer, role, mac, source),
+        Asked::Run(node) => run_script(
+            alloc,
+            reader,
+            writer,
+            node.role,
+            node.mac,
+            node.transmits,
+            node.source,
+        ),
         Asked::Link(Carrier::Memory) => link_over_memory(alloc, reader, writer),
         Asked::Link(Carrier::Udp) => link_over_datagrams(net, alloc, reader, writer),
     }

@@ -6,7 +6,7 @@ use Rattle.clap.specs.declared.builder.arg.Arg.{Arg}
 use Rattle.clap.specs.declared.builder.command.Command.TheViews.{out-Command}
 use Rattle.clap.specs.declared.builder.value_parser.ValueParser.{ValueParser}
 use Rattle.clap.specs.declared.builder.value_parser.ValueParser.TheVariants.{Names}
-use Rattle.nd_command_line.specs.CommandLine.{role_option, mac_option, draws_option}
+use Rattle.nd_command_line.specs.CommandLine.{role_option, mac_option, draws_option, transmits_option}
 use Rattle.nd_command_line.proofs.command.run_command.Goals as goal
 
 pub returns-clause-local : goal.returns-clause-local
@@ -17,10 +17,12 @@ returns-clause-local c =
     ∙ ap (λ (a : Arg). a.global) c.required-2.ensures ∙ ap (λ (a : Arg). a.global) c.long-2.ensures ∙ c.new-2.ensures.optional.1 in
     let draws : c.help-draws.result.global ≡ false = ap (λ (a : Arg). a.global) c.help-draws.ensures
     ∙ ap (λ (a : Arg). a.global) c.default_value.ensures ∙ ap (λ (a : Arg). a.global) c.long-3.ensures ∙ c.new-3.ensures.optional.1 in
-    let run : (out-Command c.about.result).has_globals ≡ false = ap (λ f. f.has_globals) c.about.ensures ∙ c.new-4.ensures.local in
-    IfOk-weaker c.arg-3.result _ _ (λ command h. h.globals
-    ∙ ap₂ ◌||◌ (c.in_ok-arg-2.ensures.globals ∙ ap₂ ◌||◌ (c.in_ok-arg.ensures.globals ∙ ap₂ ◌||◌ run role) mac) draws)
-    c.arg-3.ensures
+    let transmits : c.help-transmits.result.global ≡ false = ap (λ (a : Arg). a.global) c.help-transmits.ensures
+    ∙ ap (λ (a : Arg). a.global) c.default_value-2.ensures ∙ ap (λ (a : Arg). a.global) c.long-4.ensures ∙ c.new-4.ensures.optional.1 in
+    let run : (out-Command c.about.result).has_globals ≡ false = ap (λ f. f.has_globals) c.about.ensures ∙ c.new-5.ensures.local in
+    IfOk-weaker c.arg-4.result _ _ (λ command h. h.globals
+    ∙ ap₂ ◌||◌ (c.in_ok-arg-3.ensures.globals ∙ ap₂ ◌||◌ (c.in_ok-arg-2.ensures.globals ∙ ap₂ ◌||◌ (c.in_ok-arg.ensures.globals ∙ ap₂ ◌||◌ run role) mac) draws) transmits)
+    c.arg-4.ensures
 
 pub returns-clause-shape : goal.returns-clause-shape
 returns-clause-shape c =
@@ -29,15 +31,21 @@ returns-clause-shape c =
     ap rule_of c.required.ensures ∙ ap (λ (r : Rule). record r { required = true }) (ap rule_of c.long.ensures ∙ ap (λ (r : Rule). record r { long = Some (codes "role") }) c.new.ensures.rule) in
     let role_is : rule_of c.help-role.result ≡ role_option c.args.roles =
     ap rule_of c.help-role.ensures ∙ ap rule_of c.value_parser.ensures.others ∙ ap₂ (λ (r : Rule) (p : Option ValueParser). record r { parser = p }) named parser_is in
-    let mac_is : rule_of c.help-mac.result ≡ mac_option = search rules in
+    let mac_named : rule_of c.required-2.result ≡ mac_option =
+    ap rule_of c.required-2.ensures ∙ ap (λ (r : Rule). record r { required = true }) (ap rule_of c.long-2.ensures ∙ ap (λ (r : Rule). record r { long = Some (codes "mac") }) c.new-2.ensures.rule) in
+    let mac_is : rule_of c.help-mac.result ≡ mac_option = ap rule_of c.help-mac.ensures ∙ mac_named in
     let draws_is : rule_of c.help-draws.result ≡ draws_option = search rules in
+    let transmits_is : rule_of c.help-transmits.result ≡ transmits_option = search rules in
     let role : c.help-role.result.global ≡ false = ap (λ (a : Arg). a.global) (c.help-role.ensures) ∙ ap (λ (a : Arg). a.global) c.value_parser.ensures.others
     ∙ ap (λ (a : Arg). a.global) c.required.ensures ∙ ap (λ (a : Arg). a.global) c.long.ensures ∙ c.new.ensures.optional.1 in
     let mac : c.help-mac.result.global ≡ false = ap (λ (a : Arg). a.global) c.help-mac.ensures
     ∙ ap (λ (a : Arg). a.global) c.required-2.ensures ∙ ap (λ (a : Arg). a.global) c.long-2.ensures ∙ c.new-2.ensures.optional.1 in
     let draws : c.help-draws.result.global ≡ false = ap (λ (a : Arg). a.global) c.help-draws.ensures
     ∙ ap (λ (a : Arg). a.global) c.default_value.ensures ∙ ap (λ (a : Arg). a.global) c.long-3.ensures ∙ c.new-3.ensures.optional.1 in
-    let run_is : app_of c.about.result ≡ new_app (codes "run") = ap app_of_fields c.about.ensures ∙ c.new-4.ensures.app in
-    IfOk-weaker c.arg-3.result _ _ (λ command h. h.shape draws
-    ∙ ap₂ with_rule (c.in_ok-arg-2.ensures.shape mac ∙ ap₂ with_rule (c.in_ok-arg.ensures.shape role ∙ ap₂ with_rule run_is role_is) mac_is) draws_is)
-    c.arg-3.ensures
+    let transmits : c.help-transmits.result.global ≡ false = ap (λ (a : Arg). a.global) c.help-transmits.ensures
+    ∙ ap (λ (a : Arg). a.global) c.default_value-2.ensures ∙ ap (λ (a : Arg). a.global) c.long-4.ensures ∙ c.new-4.ensures.optional.1 in
+    let run_is : app_of c.about.result ≡ new_app (codes "run") = ap app_of_fields c.about.ensures ∙ c.new-5.ensures.app in
+    IfOk-weaker c.arg-4.result _ _ (λ command h. h.shape transmits
+    ∙ ap₂ with_rule (c.in_ok-arg-3.ensures.shape draws
+    ∙ ap₂ with_rule (c.in_ok-arg-2.ensures.shape mac ∙ ap₂ with_rule (c.in_ok-arg.ensures.shape role ∙ ap₂ with_rule run_is role_is) mac_is) draws_is) transmits_is)
+    c.arg-4.ensures

@@ -3,6 +3,7 @@ use Rattle.std.proofs.lemmas.Option.{none-some}
 use Rattle.clap.specs.Words.{found_of}
 use Rattle.nd_addr.specs.Spelling.{SpellsMac}
 use Rattle.nd_script.specs.Source.{IsSource}
+use Rattle.nd_script.specs.Transmits.{IsTransmitsWord}
 use Rattle.nd_command_line.proofs.Values.{none_given, other_given, is_given}
 use Rattle.nd_command_line.proofs.words.read_run.Goals as goal
 
@@ -37,4 +38,29 @@ returns-clause-right c = record {
       (subst (λ text. SpellsMac text c.in-Ok.mac.0) c.as_bytes.ensures.value c.in-Ok.ensures.found);
   source_is = is_given (found_of c.args.given.now) (codes "draws") c.in-Some-get_str.draws.now (λ text. IsSource text c.in-Some-parse.source) c.in-Some-get_str.ensures
       (subst (λ text. IsSource text c.in-Some-parse.source) c.as_bytes-2.ensures.value c.in-Some-parse.ensures.found);
+  transmits_is = is_given (found_of c.args.given.now) (codes "transmits") c.in-Some-get_str-2.transmits.now (λ text. IsTransmitsWord text c.in-Some-read_transmits.transmits) c.in-Some-get_str-2.ensures
+      (subst (λ text. IsTransmitsWord text c.in-Some-read_transmits.transmits) c.as_bytes-3.ensures.value c.in-Some-read_transmits.ensures.found);
+}
+
+pub returns-in_default-get_str-2-clause-wrong : goal.returns-in_default-get_str-2-clause-wrong
+returns-in_default-get_str-2-clause-wrong c = record {
+  mac = c.in-Ok.mac;
+  mac_is = is_given (found_of c.args.given.now) (codes "mac") c.in-Some.mac.now (λ text. SpellsMac text c.in-Ok.mac.0) c.in-Some.ensures
+      (subst (λ text. SpellsMac text c.in-Ok.mac.0) c.as_bytes.ensures.value c.in-Ok.ensures.found);
+  source = c.in-Some-parse.source;
+  source_is = is_given (found_of c.args.given.now) (codes "draws") c.in-Some-get_str.draws.now (λ text. IsSource text c.in-Some-parse.source) c.in-Some-get_str.ensures
+      (subst (λ text. IsSource text c.in-Some-parse.source) c.as_bytes-2.ensures.value c.in-Some-parse.ensures.found);
+  none = λ transmits. none_given (found_of c.args.given.now) (codes "transmits") (λ text. IsTransmitsWord text transmits) c.in_default-get_str-2.ensures;
+}
+
+pub returns-in_default-read_transmits-clause-wrong : goal.returns-in_default-read_transmits-clause-wrong
+returns-in_default-read_transmits-clause-wrong c = record {
+  mac = c.in-Ok.mac;
+  mac_is = is_given (found_of c.args.given.now) (codes "mac") c.in-Some.mac.now (λ text. SpellsMac text c.in-Ok.mac.0) c.in-Some.ensures
+      (subst (λ text. SpellsMac text c.in-Ok.mac.0) c.as_bytes.ensures.value c.in-Ok.ensures.found);
+  source = c.in-Some-parse.source;
+  source_is = is_given (found_of c.args.given.now) (codes "draws") c.in-Some-get_str.draws.now (λ text. IsSource text c.in-Some-parse.source) c.in-Some-get_str.ensures
+      (subst (λ text. IsSource text c.in-Some-parse.source) c.as_bytes-2.ensures.value c.in-Some-parse.ensures.found);
+  none = λ transmits. other_given (found_of c.args.given.now) (codes "transmits") c.in-Some-get_str-2.transmits.now (λ text. IsTransmitsWord text transmits) c.in-Some-get_str-2.ensures
+      (λ said. none-some transmits (c.in_default-read_transmits.ensures.only transmits (subst (λ text. IsTransmitsWord text transmits) (sym c.as_bytes-3.ensures.value) said)));
 }

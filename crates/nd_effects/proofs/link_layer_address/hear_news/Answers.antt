@@ -1,5 +1,6 @@
 use Rattle.std.proofs.Common.{refl, sym, ◌∙◌}
 use Rattle.nd_effects.proofs.Released.{hears_given, hears_none}
+use Rattle.nd_effects.proofs.Resolved.{news_may_remember}
 use Rattle.nd_effects.proofs.link_layer_address.hear_news.Goals as goal
 
 pub returns-in-Some-clause-hears : goal.returns-in-Some-clause-hears
@@ -13,3 +14,11 @@ returns-in-None-clause-hears g c =
     hears_none c.args.neighbours.now.limit c.args.now c.args.news c.args.times c.args.neighbours.now.nodes c.heard.new.self.nodes c.args.outs.now.items c.args.outs.now.items _ _ c.in-Ok.ensures.stands c.in-Ok.ensures.told
     (λ s. c.released_to_the_given_address.ensures.given c.args.now c.args.news c.args.times s)
     (sym c.mac-mac.ensures.value ∙ c.in-None.is) refl
+
+pub returns-in-Some-clause-remembers : goal.returns-in-Some-clause-remembers
+returns-in-Some-clause-remembers g c =
+    news_may_remember c.is_known-known.result c.args.choice.now c.keep_if.new.choice c.args.neighbours.now.limit c.args.now c.args.news c.args.times c.args.neighbours.now.nodes c.heard.new.self.nodes c.is_known-known.ensures c.keep_if.ensures c.in-Ok.ensures.stands
+
+pub returns-in-None-clause-remembers : goal.returns-in-None-clause-remembers
+returns-in-None-clause-remembers g c =
+    news_may_remember c.is_known-known.result c.args.choice.now c.keep_if.new.choice c.args.neighbours.now.limit c.args.now c.args.news c.args.times c.args.neighbours.now.nodes c.heard.new.self.nodes c.is_known-known.ensures c.keep_if.ensures c.in-Ok.ensures.stands

@@ -1,4 +1,4 @@
-use Rattle.nd_link_log.proofs.Holding.{one_holder}
+use Rattle.nd_link_log.proofs.Timely.{one_holder}
 use Rattle.nd_link_log.proofs.Sound.{sound}
 use Rattle.nd_link_log.proofs.laws.one_holder.Goals as goal
 

@@ -17,18 +17,19 @@ returns-in_err-node-in-On-clause-malformed g c = λ none.
 pub returns-in-Some-clause-only : goal.returns-in-Some-clause-only
 returns-in-Some-clause-only g c = λ event are.
     let theirs = of_link_command c.args.command Node c.args.words.now event c.in-Node.is are in
-    let same = c.in-Some.ensures.only theirs.0 theirs.1 theirs.2 theirs.4 in
-    ap (λ (e : Event). Some e) (rw (same.0, same.1, same.2) (sym theirs.3))
+    let same = c.in-Some.ensures.only theirs.0 theirs.1 theirs.2 theirs.3 theirs.5 in
+    ap (λ (e : Event). Some e) (rw (same.0, same.1, same.2, same.3) (sym theirs.4))
 
 pub returns-in-Some-clause-malformed : goal.returns-in-Some-clause-malformed
 returns-in-Some-clause-malformed g c = λ none.
-    let event = Starts c.in-Some.role c.in-Some.mac (stream_of_source c.in-Some.source) in
-    absurd (none event (of_link_command Node c.args.command c.args.words.now event (sym c.in-Node.is) (c.in-Some.role, c.in-Some.mac, c.in-Some.source, refl, c.in-Some.ensures.found)))
+    let start = c.in-Some.start in
+    let event = Starts start.role start.mac start.transmits (stream_of_source start.source) in
+    absurd (none event (of_link_command Node c.args.command c.args.words.now event (sym c.in-Node.is) (start.role, start.mac, start.transmits, start.source, refl, c.in-Some.ensures.found)))
 
 pub returns-in-None-clause-only : goal.returns-in-None-clause-only
 returns-in-None-clause-only g c = λ event are.
     let theirs = of_link_command c.args.command Node c.args.words.now event c.in-Node.is are in
-    absurd (c.in-None.ensures.only theirs.0 theirs.1 theirs.2 theirs.4)
+    absurd (c.in-None.ensures.only theirs.0 theirs.1 theirs.2 theirs.3 theirs.5)
 
 pub returns-in-Some-2-clause-only : goal.returns-in-Some-2-clause-only
 returns-in-Some-2-clause-only g c = λ event are.

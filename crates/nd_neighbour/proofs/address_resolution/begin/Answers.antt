@@ -7,5 +7,5 @@ use Rattle.nd_neighbour.proofs.address_resolution.begin.Goals as goal
 
 pub returns-clause-gives : goal.returns-clause-gives
 returns-clause-gives g c =
-    let mid = c.make_place.new.entries.items in
-    Came mid c.requires.absent c.make_place.ensures.places (c.put.ensures.items ∙ ap (λ (x : Node). insert mid (place_in x.key mid) x) c.asked.ensures)
+    let enters = c.enter.ensures.enters in
+    Came enters.mid c.requires.absent enters.places (enters.new_is ∙ ap (λ (x : Node). insert enters.mid (place_in x.key enters.mid) x) c.asked-entry.ensures)

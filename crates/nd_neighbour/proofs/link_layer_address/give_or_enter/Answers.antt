@@ -15,5 +15,5 @@ returns-then-holds-clause-full g c =
 pub returns-clause-gives : goal.returns-clause-gives
 returns-clause-gives g c =
     came_in c.args.limit c.args.now (number_of c.args.addr.0) _ _ c.holds.result c.deref.ensures.value c.holds.ensures c.if-holds.false _ _ _ _ _
-    (c.stale.ensures ∙ ap (λ b. stale_node (number_of c.args.addr.0) b c.args.now (number_of c.args.mac.0)) c.unwrap_or.ensures)
-    c.make_place.ensures.places c.put.ensures.items
+    (c.stale-entry.ensures ∙ ap (λ b. stale_node (number_of c.args.addr.0) b c.args.now (number_of c.args.mac.0)) c.unwrap_or.ensures)
+    c.enter.ensures.enters.places c.enter.ensures.enters.new_is

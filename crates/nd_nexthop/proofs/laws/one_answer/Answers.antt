@@ -7,7 +7,7 @@ pub returns-clause-table : goal.returns-clause-table
 returns-clause-table c = λ history a b s t. s.entries_are ∙ sym t.entries_are
 
 pub returns-clause-found : goal.returns-clause-found
-returns-clause-found c = λ history entries key s. ap (target_in key) s.entries_are ∙ look_remembered key history
+returns-clause-found c = λ history choice key s. ap (target_in key) s.entries_are ∙ look_remembered key history
 
 pub returns-clause-list : goal.returns-clause-list
 returns-clause-list c = λ history key. look_redirects key history

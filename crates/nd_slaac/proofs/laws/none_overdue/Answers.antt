@@ -5,4 +5,4 @@ pub returns-clause-still : goal.returns-clause-still
 returns-clause-still c = still_none
 
 pub returns-clause-table : goal.returns-clause-table
-returns-clause-table c addresses history now s = (by_table addresses history s now, to_table addresses history s now)
+returns-clause-table c transmits addresses history now s = (by_table transmits addresses history s now, to_table transmits addresses history s now)

@@ -12,9 +12,9 @@ returns-then-count-ge-MAX_ADDRESSES c =
     let rest_is : prefixes_in (options_left c.loop-option.rest) ≡ c.in-Prefix.info ∷ behind =
     ap prefixes_in c.in-Some.ensures.steps ∙ ap (λ (o : OptionRef). prefixes_in (view o ∷ options_left c.next.new.self)) c.in-Prefix.is in
     fits_not c.args.mac c.args.entries.now c.loop-option.count c.in-Prefix.info behind (prefixes_in (options_left c.loop-option.rest)) (prefixes_in (options_left c.args.options))
-    c.requires c.if-count-ge-MAX_ADDRESSES.true rest_is c.if-is_new.ensures c.loop-option.invariant.all
+    c.requires.few c.if-count-ge-MAX_ADDRESSES.true rest_is c.if-is_new.ensures c.loop-option.invariant.all
 
 pub returns : goal.returns
 returns c =
     fits_all c.args.mac c.args.entries.now c.loop-option.count (prefixes_in (options_left c.loop-option.rest)) (prefixes_in (options_left c.args.options))
-    c.requires c.loop-option.invariant.few (ap prefixes_in c.in_default.ensures.steps.0) c.loop-option.invariant.all
+    c.requires.few c.loop-option.invariant.few (ap prefixes_in c.in_default.ensures.steps.0) c.loop-option.invariant.all

@@ -5,7 +5,7 @@ use Rattle.nd_wire.specs.Wire.{IsFaithful}
 use Rattle.nd_node.proofs.Running.{on_err_any}
 use Rattle.nd_link.specs.Event.{link_events}
 use Rattle.nd_link.proofs.Coming.{all_came, all_of_bytes, came_in_part, came_up_to, handed_back, handed_on, none_came, one_came}
-use Rattle.nd_link.proofs.Holder.{keeps_one_holder}
+use Rattle.nd_link.proofs.Holder.{keeps_one_holder, keeps_one_holder_with_losses}
 use Rattle.nd_link.proofs.link.Link.run.Goals as goal
 
 pub loop-at-init : goal.loop-at-init
@@ -55,5 +55,16 @@ returns-clause-one_holder g c = λ faithful.
     let over = nil_from_length (into_iter_items c.loop-at.at-iterator) len in
     let rest = into_iter_items c.loop-at.at-iterator in
     keeps_one_holder g.R.Rng.stream c.args.self.now c.loop-at.self c.args.told.now.items c.loop-at.told.items (link_events g.R.Rng.stream c.args.events.items)
+    (all_of_bytes (IsFaithful g.W.Wire.arrives) g.R.Rng.stream c.args.self.now c.loop-at.self c.args.told.now.items c.loop-at.told.items c.args.events.items rest over c.loop-at.invariant.came)
+    (all_came (IsFaithful g.W.Wire.arrives) g.R.Rng.stream c.args.self.now c.loop-at.self c.args.told.now.items c.loop-at.told.items c.args.events.items rest over c.loop-at.invariant.came faithful)
+
+pub returns-clause-one_holder_where_frames_are_lost : goal.returns-clause-one_holder_where_frames_are_lost
+returns-clause-one_holder_where_frames_are_lost g c = λ faithful.
+    let ok = c.loop-at.at-iterator.rest.ok.0 in
+    let none = c.in-None.ensures.steps.0 in
+    let len : length (into_iter_items c.loop-at.at-iterator) ≡ 0 = omega (arith, ok, none) in
+    let over = nil_from_length (into_iter_items c.loop-at.at-iterator) len in
+    let rest = into_iter_items c.loop-at.at-iterator in
+    keeps_one_holder_with_losses g.R.Rng.stream c.args.self.now c.loop-at.self c.args.told.now.items c.loop-at.told.items (link_events g.R.Rng.stream c.args.events.items)
     (all_of_bytes (IsFaithful g.W.Wire.arrives) g.R.Rng.stream c.args.self.now c.loop-at.self c.args.told.now.items c.loop-at.told.items c.args.events.items rest over c.loop-at.invariant.came)
     (all_came (IsFaithful g.W.Wire.arrives) g.R.Rng.stream c.args.self.now c.loop-at.self c.args.told.now.items c.loop-at.told.items c.args.events.items rest over c.loop-at.invariant.came faithful)

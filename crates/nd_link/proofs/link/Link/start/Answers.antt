@@ -10,4 +10,4 @@ returns-clause-leads g c =
     let e = c.len.ensures in
     let ne = c.if-len-eq-MAX_NODES.false in
     let less : length c.args.self.now.nodes.items < max_nodes = omega (arith, ok, few, e, ne) in
-    start_leads g.R.Rng.stream c.args.self.now c.reach.new.self _ c.args.told.now.items c.in-Ok.node c.args.now c.args.role c.args.mac (g.R.Rng.stream c.args.generator) less c.in_ok-reach.ensures.reaches c.in-Ok.ensures.stands c.in_ok-push.ensures.items refl refl
+    start_leads g.R.Rng.stream c.args.self.now c.reach.new.self _ c.args.told.now.items c.in-Ok.node c.args.now c.args.role c.args.mac c.args.transmits (g.R.Rng.stream c.args.generator) less c.in_ok-reach.ensures.reaches c.in-Ok.ensures.stands c.in_ok-push.ensures.items refl refl

@@ -1,4 +1,4 @@
-use Rattle.std.proofs.Common.{◌≡◌, refl, subst, false}
+use Rattle.std.proofs.Common.{◌≡◌, ◌≤◌, ℕ, refl, sym, subst, false}
 use Rattle.std.specs.Prelude.{OnOk, IfOk}
 use Rattle.std.specs.Option.{option_map}
 use Rattle.std.proofs.lemmas.Result.{on_ok_weaker, IfOk-weaker}
@@ -12,6 +12,7 @@ use Rattle.nd_neighbour.specs.News.{told_released, told_turned}
 use Rattle.nd_neighbour.proofs.Results.{if_ok_both}
 use Rattle.nd_neighbour.proofs.NewsCalls.{given_key, given_hears, advertised_gains, marked_gains, given_tells, advertised_tells, marked_tells, few_released}
 use Rattle.nd_neighbour.proofs.Second.{gives_there}
+use Rattle.nd_neighbour.proofs.Planning.{marked_planned}
 use Rattle.nd_neighbour.proofs.cache.Cache.heard.Goals as goal
 
 pub returns-in-Given-clause-stands : goal.returns-in-Given-clause-stands
@@ -94,3 +95,14 @@ returns-in-Marked-clause-few g c =
     let change : Node → Node = λ n. with_mark c.in-Marked.router n in
     rw c.in-Marked.is (few_released change (node_in key c.args.self.now.nodes) c.mark.result.released
     (subst (λ (t : Table). c.mark.result.released ≡ told_released change (node_in key t.nodes)) c.self.view_is c.mark.ensures.released))
+
+pub invariant_of-self-in-Marked : goal.invariant_of-self-in-Marked
+invariant_of-self-in-Marked g c =
+    let was = c.self.invariant in (
+      subst (λ (n : ℕ). n ≤ c.self.inside.limit) (sym c.mark.ensures.len) was.0,
+      subst (λ (n : ℕ). c.self.inside.limit ≤ n) (sym c.mark.ensures.capacity) was.1,
+      was.2,
+      was.3,
+      was.4,
+      marked_planned (number_of c.in-Marked.addr.0) c.in-Marked.router c.self.inside.entries.items c.mark.new.entries.items c.self.inside.dates c.mark.ensures.alters was.5,
+    )

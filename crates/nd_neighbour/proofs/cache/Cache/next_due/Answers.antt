@@ -1,9 +1,16 @@
-use Rattle.std.proofs.Common.{◌∙◌, sym, ap}
+use Rattle.std.proofs.Common.{◌≡◌, ◌∙◌, sym, ap}
 use Rattle.nd_neighbour.specs.Table.{Table}
 use Rattle.nd_neighbour.specs.Due.{next_in}
 use Rattle.nd_neighbour.proofs.Dues.{next_is_due}
+use Rattle.nd_neighbour.proofs.Planning.{next_planned}
 use Rattle.nd_neighbour.proofs.cache.Cache.next_due.Goals as goal
+
+pub returns-clause-value : goal.returns-clause-value
+returns-clause-value g c =
+    c.next.ensures.moment ∙ (next_planned c.self.inside.entries.items c.self.inside.dates c.self.invariant.5 c.next.ensures.order c.next.ensures.addresses ∙ ap (λ (t : Table). next_in t.nodes) c.self.view_is)
 
 pub returns-clause-due : goal.returns-clause-due
 returns-clause-due g c = λ history s.
-    next_is_due c.args.self.now.nodes history s c.next_date.result (sym (c.next_date.ensures ∙ ap next_in (c.deref.ensures.value ∙ ap (λ (t : Table). t.nodes) c.self.view_is)))
+    let value : c.next.result ≡ next_in c.args.self.now.nodes =
+    c.next.ensures.moment ∙ (next_planned c.self.inside.entries.items c.self.inside.dates c.self.invariant.5 c.next.ensures.order c.next.ensures.addresses ∙ ap (λ (t : Table). next_in t.nodes) c.self.view_is) in
+    next_is_due c.args.self.now.nodes history s c.next.result (sym value)

@@ -1,9 +1,13 @@
 use Rattle.std.proofs.Common.{refl}
+use Rattle.nd_addr.specs.Number.{number_of}
+use Rattle.nd_neighbour.specs.History.{Confirmed}
+use Rattle.nd_effects.specs.Remembered.{Keeps}
+use Rattle.nd_effects.proofs.Resolved.{gains_as_resolved}
 use Rattle.nd_node.proofs.Commands.{confirms}
 use Rattle.nd_node.proofs.node.Node.confirm.Goals as goal
 
 pub returns : goal.returns
 returns g c =
     confirms g.R.Rng.stream c.args.self.now _ c.args.now c.args.neighbour c.requires.settled c.none_overdue.ensures.still c.none_overdue.ensures.table
-    (record { role = refl; mac = refl; generator = refl; last = refl; params = refl; routers = refl; prefixes = refl; dns = refl; choice = refl; solicitations = refl; router = refl; address_mac = refl; neighbour_limit = c.confirmed.ensures.limit })
-    refl c.times_in_force-times.result.reachable c.times_in_force-times.ensures.reachable c.confirmed.ensures.stands
+    (record { role = refl; mac = refl; generator = refl; last = refl; params = refl; routers = refl; prefixes = refl; dns = refl; redirects = refl; solicitations = refl; router = refl; address_mac = refl; address_transmits = refl; neighbour_limit = c.confirmed.ensures.limit })
+    refl (Keeps refl (gains_as_resolved c.args.now (number_of c.args.neighbour.0) (Confirmed c.times_in_force-times.result.reachable) c.args.self.now.neighbours.nodes c.confirmed.new.self.nodes refl (λ s. refl) c.confirmed.ensures.stands)) c.times_in_force-times.result.reachable c.times_in_force-times.ensures.reachable c.confirmed.ensures.stands

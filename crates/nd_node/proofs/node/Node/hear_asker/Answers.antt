@@ -5,6 +5,8 @@ use Rattle.nd_decode.specs.Pieces.{options_left}
 use Rattle.nd_neighbour.specs.declared.news.Times.{Times}
 use Rattle.nd_neighbour.specs.Entry as entries
 use Rattle.nd_effects.specs.LinkLayerAddress.{said_by, HearsOf}
+use Rattle.nd_effects.specs.Remembered.{MayRemember}
+use Rattle.nd_node.proofs.Recalling.{may_redirects}
 use Rattle.nd_node.proofs.Asking.{answered, of_asker, place_for_news, refused}
 use Rattle.nd_node.proofs.node.Node.hear_asker.Goals as goal
 
@@ -25,11 +27,12 @@ returns-clause-adds g c =
     let heard = c.hear_of_neighbour in
     let before = c.push_reserved.new.self.items in
     let after = heard.new.outs.items in
-    answered g.R.Rng.stream c.args.self.now (record c.args.self.now { last = c.args.now; neighbours = heard.new.neighbours }) c.args.outs.now.items c.make_room.new.outs.items before after
+    answered g.R.Rng.stream c.args.self.now (record c.args.self.now { last = c.args.now; neighbours = heard.new.neighbours; choice = heard.new.choice }) c.args.outs.now.items c.make_room.new.outs.items before after
     c.args.now c.args.source c.args.destination c.args.ns.now (options_left c.args.options) c.requires.settled times c.news_of-news.result heard.result _
     c.none_overdue.ensures.still c.none_overdue.ensures.table c.one_is_pushed_out.ensures
-    (record { role = refl; mac = refl; generator = refl; last = refl; params = refl; routers = refl; prefixes = refl; dns = refl; choice = refl; solicitations = refl; router = refl; address_mac = refl; neighbour_limit = heard.ensures.limit ∙ c.make_room.ensures.limit })
-    refl (c.news_of-news.ensures times) c.times_in_force-times.ensures.reachable
+    (record { role = refl; mac = refl; generator = refl; last = refl; params = refl; routers = refl; prefixes = refl; dns = refl; redirects = may_redirects c.args.self.now.choice heard.new.choice c.make_room.new.neighbours.nodes heard.new.neighbours.nodes heard.ensures.remembers; solicitations = refl; router = refl; address_mac = refl; address_transmits = refl; neighbour_limit = heard.ensures.limit ∙ c.make_room.ensures.limit })
+    refl (subst (λ (nodes : List entries.Node). MayRemember c.args.self.now.choice heard.new.choice nodes heard.new.neighbours.nodes) c.make_room.ensures.nodes heard.ensures.remembers)
+    (c.news_of-news.ensures times) c.times_in_force-times.ensures.reachable
     (subst (λ (limit : ℕ). HearsOf limit c.args.now (option_map (said_by times) c.news_of-news.result) c.args.self.now.neighbours.nodes heard.new.neighbours.nodes before after heard.result) c.make_room.ensures.limit
     (subst (λ (nodes : List entries.Node). HearsOf c.make_room.new.neighbours.limit c.args.now (option_map (said_by times) c.news_of-news.result) nodes heard.new.neighbours.nodes before after heard.result) c.make_room.ensures.nodes heard.ensures.hears))
     c.make_room.ensures.same c.push_reserved.ensures.items refl

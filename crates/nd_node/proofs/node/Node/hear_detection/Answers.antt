@@ -8,8 +8,8 @@ returns-then-conflict-clause-adds g c = λ options.
     duplicates g.R.Rng.stream c.args.self.now _ c.args.outs.now.items _ _ c.push_reserved-then-conflict.new.self.items c.args.now c.args.source c.args.destination c.args.ns.now options
     c.requires.unspecified c.requires.settled _ _ refl c.in_ok-reserve.ensures.items c.push_reserved.ensures.items c.push_reserved-then-conflict.ensures.items
     c.none_overdue.ensures.still c.none_overdue.ensures.table refl
-    (record { role = refl; mac = refl; generator = refl; last = refl; params = refl; routers = refl; prefixes = refl; dns = refl; choice = refl; solicitations = refl; router = refl; address_mac = c.if-conflict.ensures.mac; neighbour_limit = refl })
-    refl c.if-conflict.ensures.tentative (c.if-conflict.ensures.gains refl c.args.now)
+    (record { role = refl; mac = refl; generator = refl; last = refl; params = refl; routers = refl; prefixes = refl; dns = refl; redirects = ap (λ t. t.redirects) c.changed.ensures; solicitations = refl; router = refl; address_mac = c.if-conflict.ensures.mac; address_transmits = c.if-conflict.ensures.transmits; neighbour_limit = refl })
+    c.changed.ensures refl c.if-conflict.ensures.tentative (c.if-conflict.ensures.gains refl c.args.now)
 
 pub returns-clause-adds : goal.returns-clause-adds
 returns-clause-adds g c = λ options.

@@ -16,6 +16,7 @@ returns-clause-adds g c =
     adds_advertisement g.R.Rng.stream c.args.self.now _ c.args.outs.now.items c.reserve.new.self.items c.push_reserved.new.self.items c.hear_holder.new.outs.items c.hear_of_neighbour-ends.new.outs.items c.end_router.new.outs.items
     c.args.now c.args.source c.args.destination c.args.na.now (options_left c.args.options) c.requires.settled times c.news_of-news.result c.hear_of_neighbour-ends.result c.end_router.result c.hear_holder.result _
     c.none_overdue.ensures.still c.none_overdue.ensures.table c.one_is_pushed_out.ensures c.none_overdue-2.ensures.still c.none_overdue-2.ensures.table
-    (record { role = refl; mac = refl; generator = refl; params = refl; prefixes = refl; dns = refl; solicitations = refl; router = refl; address_mac = c.hear_holder.ensures.mac; neighbour_limit = c.hear_of_neighbour-ends.ensures.limit; router_limit = c.end_router.ensures.limit; last = refl })
-    (c.news_of-news.ensures times) c.times_in_force-times.ensures.reachable c.reserve.ensures.items c.push_reserved.ensures.items refl c.hear_holder.ensures.conflicts c.hear_of_neighbour-ends.ensures.hears c.end_router.ensures.leaves
+    (record { role = refl; mac = refl; generator = refl; params = refl; prefixes = refl; dns = refl; solicitations = refl; router = refl; address_mac = c.hear_holder.ensures.mac; address_transmits = c.hear_holder.ensures.transmits; neighbour_limit = c.hear_of_neighbour-ends.ensures.limit; router_limit = c.end_router.ensures.limit; last = refl })
+    (c.news_of-news.ensures times) c.times_in_force-times.ensures.reachable c.reserve.ensures.items c.push_reserved.ensures.items refl c.hear_holder.ensures.conflicts c.hear_of_neighbour-ends.ensures.hears
+    c.hear_holder.new.choice c.hear_of_neighbour-ends.new.choice c.hear_holder.ensures.remembers c.hear_of_neighbour-ends.ensures.remembers c.end_router.ensures.leaves
     (c.end_router.ensures.settled c.args.now (settled_routers c.args.self.now c.args.now c.requires.settled))

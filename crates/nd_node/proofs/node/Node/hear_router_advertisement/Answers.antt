@@ -39,3 +39,6 @@ returns-in_err-reserve-clause-quiet g c = λ adds.
     let options = options_left c.args.options in
     let waits = waits_for_sender (record { retrans = 0; reachable = 0 }) (number_of c.args.source.0) (first_slla options) c.news_of-news.result c.args.self.now.neighbours.nodes (c.news_of-news.ensures (record { retrans = 0; reachable = 0 })) in
     absurd (omega (arith, adds.told, waits, c.waiting_for-waiting.ensures.value, c.in_err-reserve.ensures.full))
+
+pub returns-in_default-clause-quiet : goal.returns-in_default-clause-quiet
+returns-in_default-clause-quiet g c = λ adds. c.in_default.ensures.quiet adds.names

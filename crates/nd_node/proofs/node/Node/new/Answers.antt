@@ -15,7 +15,7 @@ pub returns-clause-stands : goal.returns-clause-stands
 returns-clause-stands g c =
     let stream = g.R.Rng.stream in
     let at = c.args.start in
-    let first = starting at c.args.role c.args.mac (stream c.args.generator) in
+    let first = starting at c.args.role c.args.mac c.args.transmits (stream c.args.generator) in
     let delay_is : c.drawn_from-delay.result ≡ drawn_from 0 1000 (next_u32 (stream c.args.generator)).1 =
     c.drawn_from-delay.ensures.value ∙ ap (λ (s : Stream). drawn_from 0 1000 s) c.reachable_drawn-reachable.ensures.left in
     let retrans_is : c.retrans_timer-retrans.result ≡ 1000 = c.retrans_timer-retrans.ensures.value ∙ ap (λ (v : parameters.Values). v.retrans_timer) c.new-params.ensures.value in
@@ -26,6 +26,7 @@ returns-clause-stands g c =
       last = refl;
       drawn_at = ap (λ (v : parameters.Values). v.drawn_at) c.new-params.ensures.value;
       address_mac = ap (λ (t : addresses.Table). t.mac) c.start.ensures.first;
+      address_transmits = ap (λ (t : addresses.Table). t.transmits) c.start.ensures.first;
       delay = _;
       retrans = _;
       formed = ap (λ (t : addresses.Table). t.addresses) c.start.ensures.first;
@@ -34,6 +35,8 @@ returns-clause-stands g c =
       solicitations = c.new-2.ensures;
       advertiser = c.in-Ok.ensures.advertiser;
       routes = c.in-Ok.ensures.routes;
+      no_prefixes = c.in-Ok.ensures.no_prefixes;
+      choice = c.in-Ok.ensures.choice;
     })
     (subst (λ (v : ℕ). parameters.Stands c.new-params.result (Drew at v ∷ [])) c.reachable_drawn-reachable.ensures.value c.new-params.ensures.stands)
     c.in-Ok.ensures.router_history

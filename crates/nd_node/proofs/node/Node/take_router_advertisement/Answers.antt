@@ -1,8 +1,9 @@
-use Rattle.std.proofs.Common.{refl, subst}
+use Rattle.std.proofs.Common.{refl, subst, ◌∙◌}
 use Rattle.std.specs.Prelude.{Option, ℕ}
 use Rattle.nd_neighbour.specs.History.{RowKind}
 use Rattle.nd_decode.specs.Pieces.{options_left}
 use Rattle.nd_effects.specs.LinkLayerAddress.{HearsOf}
+use Rattle.nd_node.proofs.Recalling.{may_redirects, redirects_stand}
 use Rattle.nd_node.proofs.Advertised.{takes_advertisement}
 use Rattle.nd_node.proofs.node.Node.take_router_advertisement.Goals as goal
 
@@ -32,11 +33,25 @@ returns g c =
       left_list = _;
       times_out = c.hear_router-times_out.ensures.times_out;
       routers = c.hear_router-times_out.ensures.routers;
-      redirects = c.hear_router-times_out.ensures.redirects;
+      redirects = λ history s.
+          redirects_stand c.hear_router-times_out.new.choice c.ask_on.new.choice _ (c.ask_on.ensures.redirects ∙ c.hear_prefixes.ensures.redirects) (c.hear_router-times_out.ensures.redirects history
+          (redirects_stand c.args.self.now.choice c.hear_of_neighbour.new.choice history (may_redirects c.args.self.now.choice c.hear_of_neighbour.new.choice c.args.self.now.neighbours.nodes c.hear_of_neighbour.new.neighbours.nodes c.hear_of_neighbour.ensures.remembers) s));
+      first = c.hear_of_neighbour.new.choice;
+      second = c.hear_router-times_out.new.choice;
+      third = c.hear_prefixes.new.choice;
+      may = c.hear_of_neighbour.ensures.remembers;
+      listed = c.hear_router-times_out.ensures.recollects;
+      linked = c.hear_prefixes.ensures.recollects;
+      redirects_third = c.hear_prefixes.ensures.redirects;
+      redirects_then = c.ask_on.ensures.redirects;
+      own = c.none_forms-own.result;
+      own_is = c.none_forms-own.ensures;
+      hops = c.ask_on.ensures.hops;
+      until = c.ask_on.ensures.until;
       routers_settled = c.hear_router-times_out.ensures.settled;
       router_limit = c.hear_router-times_out.ensures.limit;
       left_is_told = c.tell_left.ensures;
-      prefixes = c.hear_prefixes.ensures;
+      prefixes = c.hear_prefixes.ensures.stands;
       retrans = _;
       in_force = c.retrans_timer-retrans.ensures.value;
       to_all = _;

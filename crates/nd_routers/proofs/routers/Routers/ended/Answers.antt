@@ -1,9 +1,12 @@
-use Rattle.std.proofs.Common.{◌∙◌, ap}
+use Rattle.std.proofs.Common.{arith, ◌∙◌, ap}
 use Rattle.std.specs.Prelude.{is_some}
 use Rattle.nd_addr.specs.Number.{number_of}
+use Rattle.nd_table.specs.Dates.{without_any, date_at}
+use Rattle.nd_routers.specs.Planned.{key_of, date_of}
 use Rattle.nd_lifetime.specs.Listing.{end_in, without}
 use Rattle.nd_routers.specs.DefaultRouterSelection.{others}
 use Rattle.nd_routers.specs.Routers.{same}
+use Rattle.nd_routers.proofs.Planning.{without_planned}
 use Rattle.nd_routers.proofs.Steps.{gains_left, settled_without}
 use Rattle.nd_routers.proofs.routers.Routers.ended.Goals as goal
 
@@ -24,3 +27,17 @@ returns-clause-by_history g c = λ history s.
     let key = number_of c.args.source.0 in
     c.has-listed.ensures ∙ (ap (λ es. is_some (end_in same key es)) c.deref.ensures.value
     ∙ (ap (λ t. is_some (end_in same key t.entries)) c.self.view_is ∙ ap is_some (s.routers.ends key)))
+
+pub invariant_of-self : goal.invariant_of-self
+invariant_of-self g c =
+    let was = c.self.invariant in
+    let key = number_of c.args.source.0 in (
+      was.0,
+      omega (arith, was.1, c.remove.ensures.shorter),
+      omega (arith, was.2, c.remove.ensures.capacity),
+      omega (arith, was.3, c.forget.ensures.shorter),
+      omega (arith, was.4, c.forget.ensures.capacity),
+      omega (arith, was.5, c.take_date.ensures.room),
+      without_planned key c.self.inside.entries.items c.remove.new.entries.items c.self.inside.dates c.take_date.new.self was.6 c.take_date.ensures.was c.remove.ensures.items
+          (c.take_date.ensures.dates ∙ ap (λ o. without_any o key c.self.inside.dates.dates) (c.end_of.ensures ∙ ap (date_at key_of date_of key) c.deref-2.ensures.value)),
+    )

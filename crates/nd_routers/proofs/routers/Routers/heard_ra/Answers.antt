@@ -1,13 +1,16 @@
-use Rattle.std.proofs.Common.{◌≡◌, ◌∙◌, sym, ap, subst, true, false, ℕ, List, arith}
+use Rattle.std.proofs.Common.{◌≤◌, length, [], ◌∷◌, ◌≡◌, ◌∙◌, sym, ap, subst, true, false, ℕ, List, arith}
 use Rattle.std.specs.Prelude.{is_some}
 use Rattle.std.proofs.lemmas.Bool.{ne_eqb}
 use Rattle.std.proofs.lemmas.Bool.Decides.{nat_tests}
 use Rattle.nd_addr.specs.Number.{number_of}
+use Rattle.nd_table.specs.Dates.{without_any, date_at}
+use Rattle.nd_routers.specs.Planned.{key_of, date_of}
+use Rattle.nd_routers.proofs.Planning.{announced_but, announced_room, announced_planned, fits_length}
 use Rattle.nd_lifetime.specs.declared.lasting.Lasting.{Lasting}
-use Rattle.nd_lifetime.specs.Listing.{end_in, announced}
+use Rattle.nd_lifetime.specs.Listing.{end_in, announced, fits}
 use Rattle.nd_routers.specs.History.{Heard}
 use Rattle.nd_routers.specs.DefaultRouterSelection.{others}
-use Rattle.nd_routers.specs.Routers.{same, IsSettled, GainsRow}
+use Rattle.nd_routers.specs.Routers.{Table, same, IsSettled, GainsRow}
 use Rattle.nd_routers.proofs.Steps.{gains_removed, gains_heard, settled_announced, changes}
 use Rattle.nd_routers.proofs.routers.Routers.heard_ra.Goals as goal
 
@@ -47,3 +50,74 @@ returns-clause-change g c = λ history s.
     let key = number_of c.args.source.0 in
     let listed : c.has-before.result ≡ is_some (end_in same key c.args.self.now.entries) = c.has-before.ensures ∙ (ap (λ es. is_some (end_in same key es)) c.deref.ensures.value ∙ ap (λ t. is_some (end_in same key t.entries)) c.self.view_is) in
     c.change_by-2.ensures ∙ changes c.args.self.now history c.args.now key c.args.lifetime c.has-before.result true s c.requires.settled listed (grind (arith, nat_tests, c.if-lifetime-eq0.false))
+
+pub put_date-requires-clause-none : goal.put_date-requires-clause-none
+put_date-requires-clause-none g c =
+    let was = c.self.invariant in
+    let key = number_of c.args.source.0 in
+    let w = c.from.result in
+    let es = c.self.inside.entries.items in
+    let new = c.announce.new.entries.items in
+    let settled : IsSettled es c.args.now = subst (λ (t : Table). IsSettled t.entries c.args.now) (sym c.self.view_is) c.requires.settled in
+    let ds = c.take_date.new.self.dates in
+    let taken : ds ≡ without_any (date_at key_of date_of key es) key c.self.inside.dates.dates = c.take_date.ensures.dates ∙ ap (λ o. without_any o key c.self.inside.dates.dates) (c.end_of.ensures ∙ ap (date_at key_of date_of key) c.deref-2.ensures.value) in
+    (announced_but key c.args.now w es new c.self.inside.dates was.6 c.take_date.ensures.was settled c.announce.ensures.items ds taken).none
+
+pub put_date-requires-clause-room : goal.put_date-requires-clause-room
+put_date-requires-clause-room g c =
+    let was = c.self.invariant in
+    let key = number_of c.args.source.0 in
+    let w = c.from.result in
+    let es = c.self.inside.entries.items in
+    let new = c.announce.new.entries.items in
+    let settled : IsSettled es c.args.now = subst (λ (t : Table). IsSettled t.entries c.args.now) (sym c.self.view_is) c.requires.settled in
+    let ds = c.take_date.new.self.dates in
+    let taken : ds ≡ without_any (date_at key_of date_of key es) key c.self.inside.dates.dates = c.take_date.ensures.dates ∙ ap (λ o. without_any o key c.self.inside.dates.dates) (c.end_of.ensures ∙ ap (date_at key_of date_of key) c.deref-2.ensures.value) in
+    let fit : fits same c.self.inside.limit c.args.now ((key, c.args.lifetime) ∷ []) es ≡ true = ap (λ (t : Table). fits same t.limit c.args.now ((key, c.args.lifetime) ∷ []) t.entries) c.self.view_is ∙ (sym c.fits.ensures.value ∙ c.if-not-fits.false) in
+    let few : length new ≤ c.self.inside.limit = subst (λ n. n ≤ c.self.inside.limit) (sym (ap length c.announce.ensures.items ∙ ap (λ x. length (announced same c.args.now key x es)) c.from.ensures)) (fits_length c.self.inside.limit c.args.now key c.args.lifetime es fit) in
+    announced_room key c.args.now w es new c.self.inside.dates was.6 c.take_date.ensures.was settled c.announce.ensures.items ds c.take_date.new.self.room c.end_of-2.result taken c.take_date.ensures.order
+    (c.end_of-2.ensures ∙ ap (date_at key_of date_of key) c.deref-3.ensures.value) (omega (arith, few, was.5, c.take_date.ensures.room))
+
+pub invariant_of-self : goal.invariant_of-self
+invariant_of-self g c =
+    let was = c.self.invariant in
+    let key = number_of c.args.source.0 in
+    let w = c.from.result in
+    let es = c.self.inside.entries.items in
+    let new = c.announce.new.entries.items in
+    let settled : IsSettled es c.args.now = subst (λ (t : Table). IsSettled t.entries c.args.now) (sym c.self.view_is) c.requires.settled in
+    let ds = c.take_date.new.self.dates in
+    let taken : ds ≡ without_any (date_at key_of date_of key es) key c.self.inside.dates.dates = c.take_date.ensures.dates ∙ ap (λ o. without_any o key c.self.inside.dates.dates) (c.end_of.ensures ∙ ap (date_at key_of date_of key) c.deref-2.ensures.value) in
+    let fit : fits same c.self.inside.limit c.args.now ((key, c.args.lifetime) ∷ []) es ≡ true = ap (λ (t : Table). fits same t.limit c.args.now ((key, c.args.lifetime) ∷ []) t.entries) c.self.view_is ∙ (sym c.fits.ensures.value ∙ c.if-not-fits.false) in
+    let few : length new ≤ c.self.inside.limit = subst (λ n. n ≤ c.self.inside.limit) (sym (ap length c.announce.ensures.items ∙ ap (λ x. length (announced same c.args.now key x es)) c.from.ensures)) (fits_length c.self.inside.limit c.args.now key c.args.lifetime es fit) in (
+      was.0,
+      omega (arith, few, c.announce.new.entries.ok.0),
+      omega (arith, was.2, c.announce.ensures.capacity),
+      omega (arith, was.3, c.forget.ensures.shorter),
+      omega (arith, was.4, c.forget.ensures.capacity),
+      omega (arith, was.5, c.take_date.ensures.room, c.put_date.ensures.room),
+      announced_planned key c.args.now w es new c.self.inside.dates was.6 c.take_date.ensures.was settled c.announce.ensures.items ds c.put_date.new.self c.end_of-2.result taken
+          (c.end_of-2.ensures ∙ ap (date_at key_of date_of key) c.deref-3.ensures.value) c.put_date.ensures.dates,
+    )
+
+pub invariant_of-self-else-lifetime-eq0 : goal.invariant_of-self-else-lifetime-eq0
+invariant_of-self-else-lifetime-eq0 g c =
+    let was = c.self.invariant in
+    let key = number_of c.args.source.0 in
+    let w = c.from.result in
+    let es = c.self.inside.entries.items in
+    let new = c.announce.new.entries.items in
+    let settled : IsSettled es c.args.now = subst (λ (t : Table). IsSettled t.entries c.args.now) (sym c.self.view_is) c.requires.settled in
+    let ds = c.take_date.new.self.dates in
+    let taken : ds ≡ without_any (date_at key_of date_of key es) key c.self.inside.dates.dates = c.take_date.ensures.dates ∙ ap (λ o. without_any o key c.self.inside.dates.dates) (c.end_of.ensures ∙ ap (date_at key_of date_of key) c.deref-2.ensures.value) in
+    let fit : fits same c.self.inside.limit c.args.now ((key, c.args.lifetime) ∷ []) es ≡ true = ap (λ (t : Table). fits same t.limit c.args.now ((key, c.args.lifetime) ∷ []) t.entries) c.self.view_is ∙ (sym c.fits.ensures.value ∙ c.if-not-fits.false) in
+    let few : length new ≤ c.self.inside.limit = subst (λ n. n ≤ c.self.inside.limit) (sym (ap length c.announce.ensures.items ∙ ap (λ x. length (announced same c.args.now key x es)) c.from.ensures)) (fits_length c.self.inside.limit c.args.now key c.args.lifetime es fit) in (
+      was.0,
+      omega (arith, few, c.announce.new.entries.ok.0),
+      omega (arith, was.2, c.announce.ensures.capacity),
+      was.3,
+      was.4,
+      omega (arith, was.5, c.take_date.ensures.room, c.put_date.ensures.room),
+      announced_planned key c.args.now w es new c.self.inside.dates was.6 c.take_date.ensures.was settled c.announce.ensures.items ds c.put_date.new.self c.end_of-2.result taken
+          (c.end_of-2.ensures ∙ ap (date_at key_of date_of key) c.deref-3.ensures.value) c.put_date.ensures.dates,
+    )

@@ -1,29 +1,32 @@
-use Rattle.std.proofs.Common.{◌≡◌, ◌∙◌, sym, ap, Some, None}
+use Rattle.std.proofs.Common.{arith, ◌≡◌, ◌∙◌, sym, ap, Some, None}
 use Rattle.std.specs.Option.{option_map}
 use Rattle.nd_addr.specs.Number.{number_of}
+use Rattle.nd_table.specs.Dates.{without_any, date_at}
+use Rattle.nd_routers.specs.Planned.{key_of, date_of}
 use Rattle.nd_lifetime.specs.Listing.{without}
 use Rattle.nd_routers.specs.DefaultRouterSelection.{others}
 use Rattle.nd_routers.specs.Routers.{same, first_due}
 use Rattle.nd_routers.proofs.Dues.{first_is_due, first_has, first_at_next, NoneBefore-without, length-without}
 use Rattle.nd_routers.proofs.Steps.{gains_left}
+use Rattle.nd_routers.proofs.Planning.{first_planned, without_planned}
 use Rattle.nd_routers.proofs.routers.Routers.turn.Goals as goal
 
 pub returns-in_err-source-clause-due : goal.returns-in_err-source-clause-due
 returns-in_err-source-clause-due g c =
     let number = option_map (λ a. number_of a.0) in
-    let none : first_due c.args.now c.args.self.now.entries ≡ number c.from_residual.result = ap (λ t. first_due c.args.now t.entries) (sym c.self.view_is) ∙ (ap (first_due c.args.now) (sym c.deref.ensures.value) ∙ (sym c.first_due.ensures ∙ ap number (c.in_err-source.was ∙ sym c.from_residual.ensures))) in
+    let none : first_due c.args.now c.args.self.now.entries ≡ number c.from_residual.result = first_planned c.args.now c.self.inside.entries.items c.args.self.now.entries c.self.inside.dates c.first_due.result (ap (λ t. t.entries) c.self.view_is) c.self.invariant.6 c.first_due.ensures.order c.first_due.ensures.addresses c.requires c.first_due.ensures.here c.first_due.ensures.some c.first_due.ensures.none ∙ ((ap number (c.in_err-source.was ∙ sym c.from_residual.ensures))) in
     λ history s. first_is_due c.args.self.now.entries history s.routers c.args.now _ none
 
 pub returns-in_err-source-clause-none : goal.returns-in_err-source-clause-none
 returns-in_err-source-clause-none g c =
     let number = option_map (λ a. number_of a.0) in
-    let none : first_due c.args.now c.args.self.now.entries ≡ None = ap (λ t. first_due c.args.now t.entries) (sym c.self.view_is) ∙ (ap (first_due c.args.now) (sym c.deref.ensures.value) ∙ (sym c.first_due.ensures ∙ ap number c.in_err-source.was)) in
+    let none : first_due c.args.now c.args.self.now.entries ≡ None = first_planned c.args.now c.self.inside.entries.items c.args.self.now.entries c.self.inside.dates c.first_due.result (ap (λ t. t.entries) c.self.view_is) c.self.invariant.6 c.first_due.ensures.order c.first_due.ensures.addresses c.requires c.first_due.ensures.here c.first_due.ensures.some c.first_due.ensures.none ∙ ((ap number c.in_err-source.was)) in
     rw c.from_residual.ensures (λ h. first_at_next c.args.now c.args.self.now.entries h none)
 
 pub returns-clause-due : goal.returns-clause-due
 returns-clause-due g c =
     let number = option_map (λ a. number_of a.0) in
-    let some : first_due c.args.now c.args.self.now.entries ≡ Some (number_of c.in_ok-source.source.0) = ap (λ t. first_due c.args.now t.entries) (sym c.self.view_is) ∙ (ap (first_due c.args.now) (sym c.deref.ensures.value) ∙ (sym c.first_due.ensures ∙ ap number c.in_ok-source.was)) in
+    let some : first_due c.args.now c.args.self.now.entries ≡ Some (number_of c.in_ok-source.source.0) = first_planned c.args.now c.self.inside.entries.items c.args.self.now.entries c.self.inside.dates c.first_due.result (ap (λ t. t.entries) c.self.view_is) c.self.invariant.6 c.first_due.ensures.order c.first_due.ensures.addresses c.requires c.first_due.ensures.here c.first_due.ensures.some c.first_due.ensures.none ∙ ((ap number c.in_ok-source.was)) in
     λ history s. first_is_due c.args.self.now.entries history s.routers c.args.now _ some
 
 pub returns-clause-gains : goal.returns-clause-gains
@@ -37,7 +40,7 @@ pub returns-clause-fewer : goal.returns-clause-fewer
 returns-clause-fewer g c =
     let number = option_map (λ a. number_of a.0) in
     let key = number_of c.in_ok-source.source.0 in
-    let some : first_due c.args.now c.args.self.now.entries ≡ Some key = ap (λ t. first_due c.args.now t.entries) (sym c.self.view_is) ∙ (ap (first_due c.args.now) (sym c.deref.ensures.value) ∙ (sym c.first_due.ensures ∙ ap number c.in_ok-source.was)) in
+    let some : first_due c.args.now c.args.self.now.entries ≡ Some key = first_planned c.args.now c.self.inside.entries.items c.args.self.now.entries c.self.inside.dates c.first_due.result (ap (λ t. t.entries) c.self.view_is) c.self.invariant.6 c.first_due.ensures.order c.first_due.ensures.addresses c.requires c.first_due.ensures.here c.first_due.ensures.some c.first_due.ensures.none ∙ ((ap number c.in_ok-source.was)) in
     let has = first_has c.args.now key c.args.self.now.entries some in
     rw (c.remove.ensures.items ∙ ap (λ t. without same key t.entries) c.self.view_is) (length-without key has.0 c.args.self.now.entries has.1)
 
@@ -45,3 +48,17 @@ pub returns-clause-later : goal.returns-clause-later
 returns-clause-later g c =
     let key = number_of c.in_ok-source.source.0 in
     rw (c.remove.ensures.items ∙ ap (λ t. without same key t.entries) c.self.view_is) (NoneBefore-without c.args.now key c.args.self.now.entries c.requires)
+
+pub invariant_of-self : goal.invariant_of-self
+invariant_of-self g c =
+    let was = c.self.invariant in
+    let key = number_of c.in_ok-source.source.0 in (
+      was.0,
+      omega (arith, was.1, c.remove.ensures.shorter),
+      omega (arith, was.2, c.remove.ensures.capacity),
+      omega (arith, was.3, c.forget.ensures.shorter),
+      omega (arith, was.4, c.forget.ensures.capacity),
+      omega (arith, was.5, c.take_date.ensures.room),
+      without_planned key c.self.inside.entries.items c.remove.new.entries.items c.self.inside.dates c.take_date.new.self was.6 c.take_date.ensures.was c.remove.ensures.items
+          (c.take_date.ensures.dates ∙ ap (λ o. without_any o key c.self.inside.dates.dates) (c.end_of.ensures ∙ ap (date_at key_of date_of key) c.deref.ensures.value)),
+    )

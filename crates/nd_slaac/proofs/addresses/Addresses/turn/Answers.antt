@@ -1,23 +1,21 @@
-use Rattle.std.proofs.Common.{ap}
-use Rattle.nd_slaac.specs.Table.{Table}
 use Rattle.nd_slaac.specs.View.{falls_of}
 use Rattle.nd_slaac.proofs.TurnCalls.{due_call, gains_call, comes_call, fewer_call, later_call, none_call}
 use Rattle.nd_slaac.proofs.addresses.Addresses.turn.Goals as goal
 
 pub returns-clause-due : goal.returns-clause-due
-returns-clause-due g c = due_call falls_of c.args.now _ c.turn_first.result _ _ (ap (λ (t : Table). t.addresses) c.self.view_is) c.turn_first.ensures.turns c.turn_first.ensures.rests
+returns-clause-due g c = due_call falls_of c.args.now _ c.turn_first.result _ _ c.self.view_is c.turn_first.ensures.turns c.turn_first.ensures.rests
 
 pub returns-clause-gains : goal.returns-clause-gains
-returns-clause-gains g c = gains_call falls_of c.args.now _ c.turn_first.result _ _ (ap (λ (t : Table). t.addresses) c.self.view_is) c.turn_first.ensures.turns
+returns-clause-gains g c = gains_call falls_of c.args.now _ c.turn_first.result _ _ c.self.view_is c.turn_first.ensures.turns
 
 pub returns-clause-fewer : goal.returns-clause-fewer
-returns-clause-fewer g c = fewer_call falls_of c.args.now _ c.turn_first.result _ _ (ap (λ (t : Table). t.addresses) c.self.view_is) c.turn_first.ensures.turns
+returns-clause-fewer g c = fewer_call falls_of c.args.now _ c.turn_first.result _ _ c.self.view_is c.turn_first.ensures.turns
 
 pub returns-clause-none : goal.returns-clause-none
-returns-clause-none g c = none_call c.args.now c.turn_first.result _ _ (ap (λ (t : Table). t.addresses) c.self.view_is) c.turn_first.ensures.rests
+returns-clause-none g c = none_call c.args.now c.turn_first.result _ _ c.self.view_is c.turn_first.ensures.rests
 
 pub returns-clause-later : goal.returns-clause-later
-returns-clause-later g c = later_call falls_of c.args.now _ c.turn_first.result _ _ (ap (λ (t : Table). t.addresses) c.self.view_is) c.turn_first.ensures.turns c.turn_first.ensures.same c.requires.none_before
+returns-clause-later g c = later_call falls_of c.args.now _ c.turn_first.result _ _ c.self.view_is c.turn_first.ensures.turns c.turn_first.ensures.same c.requires.none_before
 
 pub returns-clause-comes : goal.returns-clause-comes
-returns-clause-comes g c = comes_call falls_of c.args.now _ c.turn_first.result _ _ (ap (λ (t : Table). t.addresses) c.self.view_is) c.requires.none_before c.turn_first.ensures.turns
+returns-clause-comes g c = comes_call falls_of c.args.now _ c.turn_first.result _ _ c.self.view_is c.requires.none_before c.turn_first.ensures.turns

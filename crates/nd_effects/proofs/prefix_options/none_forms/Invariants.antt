@@ -1,0 +1,13 @@
+use Rattle.std.proofs.Common.{◌≡◌}
+use Rattle.nd_decode.specs.Pieces.{options_left}
+use Rattle.nd_slaac.specs.Calls.{keys_in}
+use Rattle.nd_slaac.specs.PrefixOption.{prefixes_in}
+use Rattle.nd_effects.specs.Remembered.{forms_none}
+use Rattle.nd_effects.proofs.prefix_options.none_forms.Given as goal
+
+-- what is left decides
+abbrev pub invariant-loop-option : goal.invariant-loop-option
+invariant-loop-option g l =
+    (goal.iterator-loop-option g).can_next l.option-iterator ×
+    (goal.iterator-loop-option g).is_finite l.option-iterator ×
+    (forms_none l.addresses.mac (keys_in l.addresses.addresses) (prefixes_in (options_left l.option-iterator)) ≡ forms_none l.addresses.mac (keys_in l.addresses.addresses) (prefixes_in (options_left l.initial.option-iterator)))

@@ -1,0 +1,84 @@
+-- The next hops that a choice remembers, and the tables that it was asked with (RFC 4861, section 5.1, the Destination Cache).
+use Rattle.std.specs.Prelude.{◌≡◌, ◌≤◌, ◌-◌, ◌⊎◌, ◌&&◌, not, ℕ, Bool, true, false, List, [], ◌∷◌, Option}
+use Rattle.std.specs.Option.{option_map}
+use Rattle.nd_addr.specs.Number.{number_of}
+use Rattle.nd_addr.specs.Prefix.{PrefixValue}
+use Rattle.nd_lifetime.specs.declared.lasting.Lasting.{Lasting}
+use Rattle.nd_lifetime.specs.Listing.{open_at}
+use Rattle.nd_neighbour.specs.Due as neighbours_due
+use Rattle.nd_neighbour.specs.Entry.{Node}
+use Rattle.nd_neighbour.specs.History.{Row}
+use Rattle.nd_neighbour.specs.Sending.{Sending, Sends, Queues}
+use Rattle.nd_neighbour.specs.Table as neighbours
+use Rattle.nd_neighbour.specs.Table.{node_in}
+use Rattle.nd_routers.specs.OnLink.{is_held, least_end}
+use Rattle.nd_routers.specs.Routers as routers
+use Rattle.nd_addr.specs.declared.mac.Mac.{Mac}
+use Rattle.nd_decode.specs.declared.prefix_info.PrefixInfo.{PrefixInfo}
+use Rattle.nd_slaac.specs.Address.{Address}
+use Rattle.nd_slaac.specs.Room.{would_form}
+use Rattle.nd_slaac.specs.declared.destination.Counted.TheVariants.{Own}
+use Rattle.nd_slaac.specs.Destination.{counted_in}
+use Rattle.nd_slaac.specs.Table.{address_in}
+use Rattle.nd_nexthop.specs.Choice.{Table, Agrees}
+use Rattle.nd_nexthop.specs.Memo.{forgotten, is_asked}
+use Rattle.nd_effects.specs.FirstHop.{candidates_in, is_resolved}
+
+-- an own address
+abbrev pub own_in : List Address → List ℕ → Bool
+own_in addresses address = counted_in Own (address_in (number_of address) addresses)
+
+-- an address on the link
+abbrev pub linked_by : List (Lasting PrefixValue) → List ℕ → Bool
+linked_by standing address = is_held address standing
+
+-- What a choice remembers at a moment, and as long as it may be asked for, is what these tables say: no prefix that stands at the moment
+-- ends before.
+pub record Remembers (at : ℕ) (choice : Table) (addresses : List Address) (prefixes : List (Lasting PrefixValue)) (nodes : List Node) (table : routers.Table) : Type 0 where
+  pub until : (moment : ℕ) → at ≤ moment → is_asked moment choice.memory.until ≡ true → open_at moment prefixes ≡ open_at at prefixes
+  pub agrees : Agrees at (own_in addresses) (linked_by (open_at at prefixes)) (candidates_in nodes table) choice
+
+-- the last moment at which no prefix has ended that stands at this one
+abbrev pub last_before_end : ℕ → List (Lasting PrefixValue) → Option ℕ
+last_before_end now prefixes = option_map (λ end. end - 1) (least_end (open_at now prefixes))
+
+-- the same neighbours are resolved, whatever history they stood for
+abbrev pub AsResolved : List Node → List Node → Type 0
+AsResolved old new = (history : List Row) → neighbours.Stands old history → (key : ℕ) → is_resolved (node_in key new) ≡ is_resolved (node_in key old)
+
+-- Nothing is remembered any more, or the same, where the same neighbours are resolved.
+pub data MayRemember (old_choice new_choice : Table) (old new : List Node) : Type 0 where
+  Forgets : new_choice ≡ record old_choice { memory = forgotten old_choice.memory } → MayRemember old_choice new_choice old new
+  Keeps : new_choice ≡ old_choice → AsResolved old new → MayRemember old_choice new_choice old new
+
+-- nothing is remembered where a neighbour failed or aged, and else the same; where it only is asked once more nothing changes for the routers
+-- either
+abbrev pub Remembering : neighbours_due.Falls → Table → Table → routers.Table → routers.Table → Type 0
+Remembering (neighbours_due.Fails key packets) old new old_routers new_routers = new.memory ≡ forgotten old.memory
+Remembering (neighbours_due.Ages key) old new old_routers new_routers = new.memory ≡ forgotten old.memory
+Remembering _ old new old_routers new_routers = (new ≡ old) × (new_routers ≡ old_routers)
+
+-- the packet begins a resolution
+abbrev pub begins : Sending → Bool
+begins (Sends mac packet) = false
+begins (Queues solicit replaced) = solicit
+
+-- What is remembered behind a change: nothing, or what was, where the change is none to the next hops.
+pub record Recollects (old new : Table) (Same : Type 0) : Type 0 where
+  pub hops : (new.memory.hops ≡ []) ⊎ ((new.memory.hops ≡ old.memory.hops) × Same)
+  pub until : new.memory.until ≡ old.memory.until
+
+-- the list of routers is the same to the next hops: a router was only refreshed
+pub record AsListed (old_choice new_choice : Table) (old new : routers.Table) : Type 0 where
+  pub redirects : new_choice.redirects ≡ old_choice.redirects
+  pub keys : routers.keys new.entries ≡ routers.keys old.entries
+  pub failed : new.failed ≡ old.failed
+
+-- the same prefixes stand at the moment
+abbrev pub AsStanding : ℕ → List (Lasting PrefixValue) → List (Lasting PrefixValue) → Type 0
+AsStanding now old new = (address : List ℕ) → is_held address (open_at now new) ≡ is_held address (open_at now old)
+
+-- no option forms an address, where these are known
+abbrev pub forms_none : Mac → List ℕ → List PrefixInfo → Bool
+forms_none mac keys [] = true
+forms_none mac keys (info ∷ infos) = not (would_form mac keys info) && forms_none mac keys infos

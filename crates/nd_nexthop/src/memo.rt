@@ -1,0 +1,106 @@
+ghost use Rattle.std.specs.Prelude.{◌≡◌, ◌≤◌, ◌⊎◌, ℕ, [], true, Some, None, Contains, IfOk, IfSome, IsSome, length};
+ghost use Rattle.nd_addr.specs.Number.{number_of};
+ghost use Rattle.nd_nexthop.specs.declared.next_hop.Hop.{Hop as Answer};
+ghost use Rattle.nd_nexthop.specs.Memo.{forgotten, is_asked, max_remembered};
+
+use crate::next_hop::Hop;
+use lru::{DefaultHasher, LruCache};
+use nd_addr::Addr;
+use std::alloc::{AllocError, Allocator};
+use std::marker::Model;
+use std::num::NonZeroUsize;
+
+/// How many destinations have their next hops remembered (our choice).
+const MAX_REMEMBERED: usize = 256;
+
+/// The next hops of the destinations that were asked for last.
+#[derive(Drop)]
+pub(crate) struct Memo<A: Allocator> {
+    /// The destinations by their numbers.
+    hops: LruCache<u128, Hop, DefaultHasher, A>,
+    /// The last moment at which they are asked for, in milliseconds, if there is one.
+    until: Option<u64>,
+}
+
+impl<A: Allocator> Model for Memo<A> {
+    ghost use Rattle.std.specs.Prelude.{◌≡◌};
+    ghost use Rattle.nd_nexthop.specs.Memo.{Memory, max_remembered};
+
+    ghost Value = { Memory };
+
+    ghost view = { λ m. record { hops = m.hops.entries; until = m.until } };
+
+    ghost invariant = { λ m. m.hops.cap ≡ max_remembered };
+}
+
+impl<A: Allocator + Clone> Memo<A> {
+    /// Nothing is remembered. The error is want of memory.
+    pub(crate) fn new(alloc: A) -> Result<Self, AllocError>
+        ensures { IfOk result (λ memo. memo ≡ record { hops = []; until = None }) }
+    {
+        let limit = NonZeroUsize::new(MAX_REMEMBERED).unwrap();
+        Ok(Memo {
+            hops: LruCache::new(alloc, limit)?,
+            until: None,
+        })
+    }
+
+    /// The next hop that a destination has at a moment, in milliseconds, is remembered, if it may be asked for then, and unless memory is
+    /// wanted for it.
+    pub(crate) fn remember(&mut self, now: u64, destination: Addr, hop: Hop)
+        ensures hops { (e : ℕ × Answer) → Contains self.new.hops e → Contains self.old.hops e ⊎ ((is_asked now self.old.until ≡ true) × (e ≡ (number_of destination.0, hop))) }
+        ensures until { self.new.until ≡ self.old.until }
+    {
+        if self.is_asked(now) {
+            let _ = self.hops.put(destination.to_bits(), hop);
+        }
+    }
+}
+
+impl<A: Allocator> Memo<A> {
+    /// The next hop that is remembered of a destination, if it may be asked for at a moment, in milliseconds. The destination becomes the one
+    /// that was asked for last.
+    pub(crate) fn recall(&mut self, now: u64, destination: Addr) -> Option<Hop>
+        ensures asked { IsSome result → is_asked now self.old.until ≡ true }
+        ensures found { IfSome result (λ hop. Contains self.old.hops (number_of destination.0, hop)) }
+        ensures hops { (e : ℕ × Answer) → Contains self.new.hops e → Contains self.old.hops e }
+        ensures until { self.new.until ≡ self.old.until }
+    {
+        if !self.is_asked(now) {
+            return None;
+        }
+        self.hops.get(&destination.to_bits()).copied()
+    }
+
+    /// Whether what is remembered is asked for at a moment, in milliseconds.
+    pub(crate) fn is_asked(&self, now: u64) -> bool
+        ensures { result ≡ is_asked now self.now.until }
+    {
+        match self.until {
+            Some(until) => now <= until,
+            None => true,
+        }
+    }
+
+    /// How many destinations are remembered.
+    pub(crate) fn len(&self) -> usize
+        ensures value { result ≡ length self.now.hops }
+        ensures few { result ≤ max_remembered }
+    {
+        self.hops.len()
+    }
+
+    /// Nothing is remembered any more.
+    pub(crate) fn forget(&mut self)
+        ensures { self.new ≡ forgotten self.old }
+    {
+        self.hops.clear();
+    }
+
+    /// What is remembered is asked for up to a moment, in milliseconds, or at each.
+    pub(crate) fn until(&mut self, until: Option<u64>)
+        ensures { self.new ≡ record self.old { until = until } }
+    {
+        self.until = until;
+    }
+}

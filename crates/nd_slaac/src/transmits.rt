@@ -1,0 +1,51 @@
+ghost use Rattle.std.specs.Prelude.{◌≡◌, ◌≤◌, ◌<◌};
+ghost use Rattle.std.specs.Option.{SomeIff};
+ghost use Rattle.nd_slaac.specs.Transmits.{IsTransmits, max_transmits};
+
+use std::marker::Model;
+
+/// How many solicitations a duplicate address detection may send at most (our choice).
+const MAX_TRANSMITS: u8 = 8;
+
+/// How many solicitations each duplicate address detection of an interface sends, 1 to 8 (RFC 4862, section 5.1, DupAddrDetectTransmits). None
+/// at all, which would be no detection, isn't to be had.
+#[derive(Clone, Copy, Debug, PartialEq, Eq)]
+pub struct Transmits {
+    number: u8,
+}
+
+impl Model for Transmits {
+    ghost use Rattle.std.specs.Prelude.{ℕ};
+    ghost use Rattle.nd_slaac.specs.Transmits.{IsTransmits};
+
+    ghost Value = { ℕ };
+
+    ghost view = { λ t. t.number };
+
+    ghost invariant = { λ t. IsTransmits t.number };
+
+    ghost inverse = { λ n. record { number = n } };
+}
+
+impl Transmits {
+    /// What RFC 4862 has where nothing else is asked for: one.
+    pub const ONE: Transmits = Transmits { number: 1 };
+
+    /// So many, where that is 1 to 8.
+    pub fn new(number: u8) -> Option<Transmits>
+        ensures { SomeIff result (IsTransmits number) number }
+    {
+        if number < 1 || number > MAX_TRANSMITS {
+            return None;
+        }
+        Some(Transmits { number })
+    }
+
+    /// How many they are.
+    pub fn number(self) -> u8
+        ensures value { result ≡ self }
+        ensures range { IsTransmits self }
+    {
+        self.number
+    }
+}

@@ -1,0 +1,36 @@
+ghost use Rattle.std.specs.Prelude.{◌≡◌, ◌<◌, ◌≤◌, ◌+◌, length, slice_get, IfOk, IfErr, None};
+ghost use Rattle.nd_table.specs.Keyed.{at_key, Rises, place_of, binary_digits};
+
+use crate::probes::Probes;
+use crate::ranked::Ranked;
+use std::cmp::Ordering;
+
+/// The place of a key in a list in the order of keys, or the place where it belongs. It looks at no more entries than their number has
+/// binary digits.
+pub fn search<K, E: Ranked<K>>(
+    entries: &[E],
+    sought: &K,
+    probes: &mut Probes,
+) -> Result<usize, usize>
+    requires { Rises E.key entries.now }
+    ensures within { IfOk result (λ i. i < length entries.now) }
+    ensures found { IfOk result (λ i. at_key E.key (E.number sought.now) entries.now ≡ slice_get entries.now i) }
+    ensures absent { IfErr result (λ _. at_key E.key (E.number sought.now) entries.now ≡ None) }
+    ensures place { IfErr result (λ i. i ≡ place_of E.key (E.number sought.now) entries.now) }
+    ensures fits { IfErr result (λ i. i ≤ length entries.now) }
+    ensures looks { probes.new.looks ≤ probes.old.looks + binary_digits (length entries.now) }
+    ensures counts { probes.old.looks ≤ probes.new.looks }
+{
+    let mut low = 0;
+    let mut high = entries.len();
+    while low < high {
+        let middle = low + (high - low) / 2;
+        probes.look();
+        match entries[middle].compare(sought) {
+            Ordering::Less => low = middle + 1,
+            Ordering::Greater => high = middle,
+            Ordering::Equal => return Ok(middle),
+        }
+    }
+    Err(low)
+}
