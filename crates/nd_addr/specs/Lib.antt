@@ -1,6 +1,7 @@
 pub mod Bytes
 pub mod Given
 pub mod Why
+pub mod Preference
 pub mod Frame
 pub mod Ip6
 pub mod Prefix

@@ -13,6 +13,7 @@ mod mac;
 mod parse;
 mod parse_mac;
 mod parse_prefix;
+mod preference;
 mod prefix;
 mod role;
 mod room;
@@ -28,6 +29,7 @@ pub use frame::{
 pub use ip6::{Ip6, Ip6Ref, LEAST_MTU, NEXT_HEADER_ICMPV6};
 pub use mac::Mac;
 pub use parse::TextFault;
+pub use preference::Preference;
 pub use prefix::Prefix;
 pub use role::Role;
 pub use room::put_bytes;

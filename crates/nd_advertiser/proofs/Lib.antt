@@ -3,3 +3,4 @@ pub mod Keyed
 pub mod OptionList
 pub mod ByRows
 pub mod Dates
+pub mod Medium

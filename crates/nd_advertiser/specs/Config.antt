@@ -1,7 +1,9 @@
--- What a router may be configured to advertise of itself and of its link (RFC 4861, section 6.2.1).
-use Rattle.std.specs.Prelude.{ℕ, ◌*◌, Bool, ◌&&◌, ◌||◌, ◌==◌, nat_le, if◌then◌else◌, Option, Some, None, Result, Ok, Err}
+-- What a router may be configured to advertise of itself and of its link (RFC 4861, section 6.2.1; RFC 4191, section 2.2).
+use Rattle.std.specs.Prelude.{ℕ, ◌*◌, Bool, true, false, ◌&&◌, ◌||◌, not, ◌==◌, nat_le, if◌then◌else◌, Option, Some, None, Result, Ok, Err}
 use Rattle.nd_addr.specs.Frame.{ethernet_mtu}
 use Rattle.nd_addr.specs.Ip6.{least_mtu}
+use Rattle.nd_addr.specs.declared.preference.Preference.{Preference}
+use Rattle.nd_addr.specs.declared.preference.Preference.TheVariants.{High, Medium, Low}
 use Rattle.nd_decode.specs.declared.router_advertisement.RouterAdvertisement.{RouterAdvertisement}
 use Rattle.nd_advertiser.specs.declared.config_fault.ConfigFault.{ConfigFault}
 use Rattle.nd_advertiser.specs.declared.config_fault.ConfigFault.TheVariants as faults
@@ -56,6 +58,16 @@ is_reachable_time time = nat_le time greatest_reachable_time
 abbrev pub is_mtu : ℕ → Bool
 is_mtu mtu = (mtu == 0) || is_from least_mtu ethernet_mtu mtu
 
+-- it is Medium
+abbrev pub is_medium : Preference → Bool
+is_medium High = false
+is_medium Medium = true
+is_medium Low = false
+
+-- "If the Router Lifetime is zero, the preference value MUST be set to (00) by the sender" (RFC 4191, section 2.2), so to Medium
+abbrev pub may_prefer : ℕ → Preference → Bool
+may_prefer lifetime preference = not (lifetime == 0) || is_medium preference
+
 -- the milliseconds of a second
 abbrev pub milliseconds : ℕ → ℕ
 milliseconds seconds = 1000 * seconds
@@ -71,7 +83,9 @@ config_fault s =
     (if is_min_interval s.min_interval s.max_interval then
     (if is_router_lifetime s.max_interval s.fields.router_lifetime then
     (if is_reachable_time s.fields.reachable_time then
-    (if is_mtu s.mtu then None else Some faults.Mtu)
+    (if is_mtu s.mtu then
+    (if may_prefer s.fields.router_lifetime s.fields.preference then None else Some faults.Preference)
+    else Some faults.Mtu)
     else Some faults.Reachable)
     else Some faults.Lifetime)
     else Some faults.Min)

@@ -1,6 +1,7 @@
 -- What an advertisement says (RFC 4861, section 6.2.3), and the last one (section 6.2.5).
 use Rattle.std.specs.Prelude.{ℕ, ◌+◌, ◌*◌, ◌==◌, if◌then◌else◌, List, [], ◌∷◌, ◌++◌, map, Option, option_map}
 use Rattle.nd_addr.specs.declared.mac.Mac.{Mac}
+use Rattle.nd_addr.specs.declared.preference.Preference.TheVariants.{Medium}
 use Rattle.nd_decode.specs.declared.router_advertisement.RouterAdvertisement.{RouterAdvertisement}
 use Rattle.nd_decode.specs.declared.body.Body.TheVariants.{Ra}
 use Rattle.nd_decode.specs.declared.prefix_info.PrefixInfo.{PrefixInfo}
@@ -24,9 +25,10 @@ options_of mac n offers = slla mac ∷ mtu_options n ++ map prefix offers
 abbrev pub contents : Mac → List PrefixInfo → Settings → Parts
 contents mac offers s = record { body = Ra s.fields; options = options_of mac s.mtu offers }
 
--- "set the Router Lifetime field to zero": it is no default router any more
+-- "set the Router Lifetime field to zero": it is no default router any more, and so "the preference value MUST be set to (00)" (RFC 4191,
+-- section 2.2)
 abbrev pub without_lifetime : RouterAdvertisement → RouterAdvertisement
-without_lifetime fields = record fields { router_lifetime = 0 }
+without_lifetime fields = record fields { router_lifetime = 0; preference = Medium }
 
 -- the last one
 abbrev pub last_contents : Mac → List PrefixInfo → Settings → Parts

@@ -1,8 +1,9 @@
 ghost use Rattle.std.specs.Prelude.{◌≡◌, None};
-ghost use Rattle.nd_advertiser.specs.Config.{Settings, config_fault, interval_range, is_max_interval, is_min_interval, is_mtu, is_router_lifetime, milliseconds, unless};
+ghost use Rattle.nd_message.specs.WellFormed.{IsMediumAtZero};
+ghost use Rattle.nd_advertiser.specs.Config.{Settings, config_fault, interval_range, is_max_interval, is_medium, is_min_interval, is_mtu, is_router_lifetime, may_prefer, milliseconds, unless};
 
 use crate::config_fault::ConfigFault;
-use nd_addr::{ETHERNET_MTU, LEAST_MTU};
+use nd_addr::{ETHERNET_MTU, LEAST_MTU, Preference};
 use nd_decode::RouterAdvertisement;
 use std::marker::Model;
 
@@ -22,16 +23,19 @@ const GREATEST_LIFETIME: u16 = 9000;
 /// AdvReachableTime at most, in milliseconds: an hour (RFC 4861, section 6.2.1).
 const GREATEST_REACHABLE_TIME: u32 = 3_600_000;
 
-/// The flags of a Router Advertisement (RFC 4861, section 4.2).
+/// What a Router Advertisement says in its byte of flags (RFC 4861, section 4.2; RFC 4191, section 2.2).
 #[derive(Clone, Copy, Debug, PartialEq, Eq)]
 pub struct ConfigFlags {
     /// AdvManagedFlag: addresses are to be had by DHCPv6.
     pub managed: bool,
     /// AdvOtherConfigFlag: other configuration is to be had by DHCPv6.
     pub other: bool,
+    /// How the router is to be preferred to other default routers.
+    pub preference: Preference,
 }
 
-/// What a router is configured to advertise of itself and of its link (RFC 4861, section 6.2.1). It breaks none of that section's rules.
+/// What a router is configured to advertise of itself and of its link (RFC 4861, section 6.2.1). It breaks none of that section's rules, and
+/// has no preference where it is no default router (RFC 4191, section 2.2).
 #[derive(Clone, Copy, Debug, PartialEq, Eq)]
 pub struct Config {
     min_interval: u16,
@@ -57,7 +61,7 @@ impl Config {
     /// Such a configuration: MinRtrAdvInterval, MaxRtrAdvInterval and AdvDefaultLifetime in seconds, AdvCurHopLimit, the flags,
     /// AdvReachableTime and AdvRetransTimer in milliseconds, and AdvLinkMTU in bytes, 0 standing for none.
     ///
-    /// The error is the first rule that is broken: `Max`, `Min`, `Lifetime`, `Reachable` or `Mtu`.
+    /// The error is the first rule that is broken: `Max`, `Min`, `Lifetime`, `Reachable`, `Mtu` or `Preference`.
     pub fn new(
         min_interval: u16,
         max_interval: u16,
@@ -68,7 +72,7 @@ impl Config {
         retrans_timer: u32,
         mtu: u32,
     ) -> Result<Config, ConfigFault>
-        ensures { let settings : Settings = record { min_interval = min_interval; max_interval = max_interval; fields = record { hop_limit = hop_limit; managed = flags.managed; other = flags.other; router_lifetime = lifetime; reachable_time = reachable_time; retrans_timer = retrans_timer }; mtu = mtu } in
+        ensures { let settings : Settings = record { min_interval = min_interval; max_interval = max_interval; fields = record { hop_limit = hop_limit; managed = flags.managed; other = flags.other; preference = flags.preference; router_lifetime = lifetime; reachable_time = reachable_time; retrans_timer = retrans_timer }; mtu = mtu } in
             result ≡ unless (config_fault settings) settings }
     {
         if !is_max_interval(max_interval) {
@@ -86,6 +90,9 @@ impl Config {
         if !is_mtu(mtu) {
             return Err(ConfigFault::Mtu);
         }
+        if !may_prefer(lifetime, flags.preference) {
+            return Err(ConfigFault::Preference);
+        }
         Ok(Config {
             min_interval,
             max_interval,
@@ -93,6 +100,7 @@ impl Config {
                 hop_limit,
                 managed: flags.managed,
                 other: flags.other,
+                preference: flags.preference,
                 router_lifetime: lifetime,
                 reachable_time,
                 retrans_timer,
@@ -115,6 +123,7 @@ impl Config {
     pub fn fields(&self) -> RouterAdvertisement
         ensures value { result ≡ self.now.fields }
         ensures right { config_fault self.now ≡ None }
+        ensures medium { IsMediumAtZero self.now.fields }
     {
         self.fields
     }
@@ -156,4 +165,19 @@ fn is_mtu(mtu: u32) -> bool
     ensures { result ≡ is_mtu mtu }
 {
     mtu == 0 || (mtu >= LEAST_MTU && mtu <= ETHERNET_MTU)
+}
+
+fn may_prefer(lifetime: u16, preference: Preference) -> bool
+    ensures { result ≡ may_prefer lifetime preference }
+{
+    lifetime != 0 || is_medium(preference)
+}
+
+fn is_medium(preference: Preference) -> bool
+    ensures { result ≡ is_medium preference }
+{
+    match preference {
+        Preference::Medium => true,
+        Preference::High | Preference::Low => false,
+    }
 }

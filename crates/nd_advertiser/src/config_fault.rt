@@ -1,5 +1,5 @@
-/// Why a configuration or an offer isn't taken: the rule of RFC 4861, section 6.2.1, that it breaks. The numbers are our choice, and the
-/// order in which they are looked at.
+/// Why a configuration or an offer isn't taken: the rule of RFC 4861, section 6.2.1, that it breaks, or that of RFC 4191. The numbers are
+/// our choice, and the order in which they are looked at.
 #[derive(Clone, Copy, Debug, PartialEq, Eq)]
 pub enum ConfigFault {
     /// MaxRtrAdvInterval is below 4 or above 1800 seconds.
@@ -16,4 +16,6 @@ pub enum ConfigFault {
     Preferred = 6,
     /// The prefix is link-local, which section 6.2.1 forbids, or multicast, which is our choice.
     Prefix = 7,
+    /// AdvDefaultLifetime is 0, and the preference isn't Medium (RFC 4191, section 2.2).
+    Preference = 8,
 }

@@ -5,14 +5,14 @@ ghost use Rattle.nd_decode.specs.Option.{prefix};
 ghost use Rattle.nd_message.specs.Fitting.{FitsOption};
 ghost use Rattle.nd_message.specs.Owned.{said, whole};
 ghost use Rattle.nd_message.specs.Spelling.{piece_of, written_length};
-ghost use Rattle.nd_message.specs.WellFormed.{IsWellFormed};
+ghost use Rattle.nd_message.specs.WellFormed.{IsMediumAtZero, IsWellFormed};
 ghost use Rattle.nd_advertiser.specs.Calls.{settings_in};
 ghost use Rattle.nd_advertiser.specs.Contents.{contents, contents_of, last_contents, last_contents_of, max_contents_length, max_options_length, options_of, without_lifetime};
 
 use crate::advertiser::Advertiser;
 use crate::offer::Offer;
 use crate::offers::MAX_OFFERS;
-use nd_addr::Mac;
+use nd_addr::{Mac, Preference};
 use nd_decode::{Body, RouterAdvertisement};
 use nd_message::{Message, Opt};
 use std::alloc::{AllocError, Allocator};
@@ -48,7 +48,7 @@ impl<A: Allocator> Advertiser<A> {
     }
 
     /// What the last advertisement says, which is sent when it ceases to advertise: the same, with a router lifetime of 0 (RFC 4861,
-    /// section 6.2.5).
+    /// section 6.2.5) and no preference (RFC 4191, section 2.2).
     pub fn last_contents<B: Allocator>(
         &self,
         alloc: B,
@@ -104,6 +104,7 @@ fn first_options<B: Allocator>(alloc: B, mac: Mac, mtu: u32) -> Result<Vec<Opt<B
 
 /// The advertisement of these fields and options.
 fn advertisement<B: Allocator>(fields: RouterAdvertisement, options: Vec<Opt<B>, B>) -> Message<B>
+    requires medium { IsMediumAtZero fields }
     requires fits { AllByRecursion FitsOption (map said options.items) }
     requires short { length (flat_map piece_of (map said options.items)) ≤ max_options_length }
     ensures value { whole result ≡ record { body = Ra fields; options = map said options.items } }
@@ -132,6 +133,7 @@ fn without_lifetime(fields: RouterAdvertisement) -> RouterAdvertisement
 {
     RouterAdvertisement {
         router_lifetime: 0,
+        preference: Preference::Medium,
         ..fields
     }
 }

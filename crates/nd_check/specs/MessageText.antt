@@ -1,7 +1,6 @@
 -- The texts of messages without their options.
 use Rattle.std.specs.Prelude.{ℕ, List, ◌++◌, codes}
 use Rattle.std.specs.Fmt.{decimal}
-use Rattle.nd_text.specs.Flags.{flags_text}
 use Rattle.nd_addr.specs.Text.{address_text}
 use Rattle.nd_addr.specs.declared.addr.Addr.{Addr}
 use Rattle.nd_decode.specs.declared.router_advertisement.RouterAdvertisement.{RouterAdvertisement}
@@ -9,6 +8,7 @@ use Rattle.nd_decode.specs.declared.neighbor_advertisement.NeighborAdvertisement
 use Rattle.nd_decode.specs.declared.redirect.Redirect.{Redirect}
 use Rattle.nd_decode.specs.declared.body.Body.{Body}
 use Rattle.nd_decode.specs.declared.body.Body.TheVariants as bodies
+use Rattle.nd_decode.specs.RouterFlags.{router_flags_text}
 use Rattle.nd_check.specs.Words.{three_flags_text}
 
 -- an address behind a word
@@ -25,7 +25,7 @@ times_text r = codes " lifetime " ++ decimal r.router_lifetime ++ codes " reacha
 
 -- the fields of a Router Advertisement
 abbrev pub router_advertisement_text : RouterAdvertisement → List ℕ
-router_advertisement_text r = codes " hop " ++ decimal r.hop_limit ++ codes " flags " ++ flags_text r.managed r.other (codes "m") (codes "o") ++ times_text r
+router_advertisement_text r = codes " hop " ++ decimal r.hop_limit ++ codes " flags " ++ router_flags_text r.managed r.other r.preference ++ times_text r
 
 -- the fields of a Neighbor Advertisement
 abbrev pub neighbor_advertisement_text : NeighborAdvertisement → List ℕ

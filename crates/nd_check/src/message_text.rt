@@ -1,9 +1,9 @@
 ghost use Rattle.std.specs.Prelude.{◌≡◌, ◌++◌, OnOk, string_bytes};
 ghost use Rattle.nd_check.specs.MessageText.{labelled, way_text, times_text, router_advertisement_text, neighbor_advertisement_text, redirect_text, body_text};
 
-use crate::words::{write_flags, write_number, write_three_flags};
+use crate::words::{write_number, write_three_flags};
 use nd_addr::Addr;
-use nd_decode::{Body, NeighborAdvertisement, Redirect, RouterAdvertisement};
+use nd_decode::{Body, NeighborAdvertisement, Redirect, RouterAdvertisement, router_flags_text};
 use std::alloc::{AllocError, Allocator};
 
 /// Writes the name of a message, its source and its destination.
@@ -42,8 +42,13 @@ fn write_router_advertisement<A: Allocator>(
 {
     write_number(text, " hop ", advertisement.hop_limit as u32)?;
     text.push_str(" flags ")?;
-    let flags = (advertisement.managed, advertisement.other);
-    write_flags(text, flags, ("m", "o"))?;
+    let RouterAdvertisement {
+        managed,
+        other,
+        preference,
+        ..
+    } = *advertisement;
+    text.push_str(router_flags_text(managed, other, preference))?;
     write_times(text, advertisement)
 }
 

@@ -27,7 +27,7 @@ use Rattle.nd_slaac.proofs.Unique.{one_fit}
 use Rattle.nd_dns.specs.Names.{same_name}
 use Rattle.nd_chronicle.specs.Start.{Start}
 use Rattle.nd_chronicle.specs.Happening.{Chronicle, Heard, ClearedRedirects, RedirectMade, Shown, Limit, Refusal, Full, Passed, TooLate, last_moment}
-use Rattle.nd_chronicle.specs.Histories.{neighbour_history, prefix_history, address_history, server_history, name_history, route_history}
+use Rattle.nd_chronicle.specs.Histories.{neighbour_history, prefix_history, address_history, server_history, name_history, route_history, router_history}
 use Rattle.nd_chronicle.specs.Message.{said, PlaceFor, releasing}
 use Rattle.nd_chronicle.specs.RouterAdvertisement.{then_advertised}
 use Rattle.nd_chronicle.specs.NeighborSolicitation as asked
@@ -45,6 +45,7 @@ use Rattle.nd_chronicle.specs.Shown as tables
 use Rattle.nd_chronicle.specs.Shown.{Table, AreRows, neighbour_row, router_row, prefix_row, address_row, server_row, search_row}
 use Rattle.nd_chronicle.specs.Event as events
 use Rattle.nd_chronicle.specs.Event.{Event, Clearable, packet_bytes, MessageAdds, VerdictAdds, FrameAdds, PacketAdds, SendAdds, refusal_of_packet, ClearAdds, clearing, all_leaving, EventAdds}
+use Rattle.nd_routers.specs.History.{preference_of}
 use Rattle.nd_chronicle.specs.History.{Walk, Follows, Runs}
 use Rattle.nd_chronicle.proofs.Places.{one_place, one_has_place, have_one_place, one_goes}
 use Rattle.nd_chronicle.proofs.Hops.{one_router_list, one_hop, one_heard}
@@ -174,7 +175,7 @@ module _ (start : Start) (c : Chronicle) (now : ℕ) where
   pub one_rows : (table : Table) (a b : List (List ℕ)) → AreRows start c now table a → AreRows start c now table b → a ≡ b
   one_rows tables.NeighbourTable a b h k =
       h.2 ∙ ap (map neighbour_row) (one_list neighbours.seen_key h.0 k.0 h.1.order k.1.order (λ key. h.1.each key ∙ sym (k.1.each key))) ∙ sym k.2
-  one_rows tables.RouterTable a b h k = h.2 ∙ ap (map (router_row now)) (one_router_list c now h.0 k.0 h.1 k.1) ∙ sym k.2
+  one_rows tables.RouterTable a b h k = h.2 ∙ ap (map (router_row now (λ key. preference_of key (router_history c)))) (one_router_list c now h.0 k.0 h.1 k.1) ∙ sym k.2
   one_rows tables.PrefixTable a b h k = h.2 ∙ ap (map (prefix_row now)) (one_listing same_prefix prefixes_tell (prefix_history c) now h.0 k.0 h.1 k.1) ∙ sym k.2
   one_rows tables.AddressTable a b h k =
       h.2 ∙ ap (map address_row) (one_list addresses.seen_key h.0 k.0 h.1.order k.1.order (λ key. h.1.each key ∙ sym (k.1.each key))) ∙ sym k.2

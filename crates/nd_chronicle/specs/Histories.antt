@@ -83,7 +83,7 @@ neighbour_history ((at, _) ∷ c) = neighbour_history c
 -- ---- the default routers: what they announce (RFC 4861, section 6.3.4), that one left, and that one failed as a neighbour (section 6.3.6)
 
 abbrev pub then_router : ℕ → Addr → Body → List routers.RouterRow → List routers.RouterRow
-then_router at source (bodies.Ra ra) history = routers.Heard at (number_of source.0) ra.router_lifetime ∷ history
+then_router at source (bodies.Ra ra) history = routers.Heard at (number_of source.0) ra.router_lifetime ra.preference ∷ history
 then_router at source _ history = history
 
 abbrev pub then_failed : ℕ → ℕ → neighbours.RowKind → List routers.RouterRow → List routers.RouterRow

@@ -11,7 +11,7 @@ use Rattle.nd_lifetime.specs.Listing.{Lists}
 use Rattle.nd_neighbour.specs.History.{story}
 use Rattle.nd_neighbour.specs.Story as neighbours
 use Rattle.nd_routers.specs.DefaultRouterSelection.{Failures, place_among}
-use Rattle.nd_routers.specs.History.{announcements}
+use Rattle.nd_routers.specs.History.{announcements, preference_of}
 use Rattle.nd_routers.specs.OnLink.{is_held}
 use Rattle.nd_routers.specs.Routers.{same}
 use Rattle.nd_nexthop.specs.DefaultRouter.{DefaultRouter}
@@ -28,6 +28,7 @@ abbrev pub candidate : Chronicle → List ℕ → ℕ → DefaultRouter
 candidate c failed key = record {
   key = key;
   usable = is_some (neighbours.mac_of (story key (neighbour_history c)));
+  preference = preference_of key (router_history c);
   failed = place_among key failed;
 }
 

@@ -7,6 +7,8 @@ use Rattle.nd_addr.specs.declared.role.Role.{Role}
 use Rattle.nd_addr.specs.declared.role.Role.TheVariants.{Host, Router}
 use Rattle.nd_addr.specs.Number.{addr_at, mac_at}
 use Rattle.nd_addr.specs.Prefix.{PrefixValue}
+use Rattle.nd_addr.specs.Preference.{name_of}
+use Rattle.nd_addr.specs.declared.preference.Preference.{Preference}
 use Rattle.nd_addr.specs.Text.{address_text, mac_text, prefix_text}
 use Rattle.nd_addr.specs.Same.{same_addr, same_prefix}
 use Rattle.nd_search_list.specs.Text.{name_text}
@@ -23,7 +25,7 @@ use Rattle.nd_params.specs.History.{managed_of, other_of}
 use Rattle.nd_neighbour.specs.declared.shown.Reachability.{Reachability}
 use Rattle.nd_neighbour.specs.declared.shown.Reachability.TheVariants.{Incomplete, Reachable, Stale, Delay, Probe}
 use Rattle.nd_neighbour.specs.Shown as neighbours
-use Rattle.nd_routers.specs.History.{announcements}
+use Rattle.nd_routers.specs.History.{announcements, preference_of}
 use Rattle.nd_routers.specs.Routers.{same}
 use Rattle.nd_slaac.specs.declared.state.State.{State}
 use Rattle.nd_slaac.specs.declared.state.State.TheVariants.{Tentative, Preferred, Deprecated, Duplicate}
@@ -86,8 +88,9 @@ abbrev pub neighbour_row : neighbours.Seen → List ℕ
 neighbour_row n =
     codes "neighbour " ++ key_text n.key ++ codes " " ++ mac_or_none_text n.mac ++ codes " " ++ reachability_text n.state ++ codes " " ++ router_or_host_text n.router
 
-abbrev pub router_row : ℕ → Lasting ℕ → List ℕ
-router_row now e = codes "router " ++ key_text e.key ++ codes " " ++ left_text (rest_until now e.end)
+-- a router, by the preference that each has
+abbrev pub router_row : ℕ → (ℕ → Preference) → Lasting ℕ → List ℕ
+router_row now preference e = codes "router " ++ key_text e.key ++ codes " " ++ left_text (rest_until now e.end) ++ codes " " ++ name_of (preference e.key)
 
 abbrev pub prefix_row : ℕ → Lasting PrefixValue → List ℕ
 prefix_row now e = codes "prefix " ++ prefix_text e.key ++ codes " " ++ left_text (rest_until now e.end)
@@ -150,7 +153,7 @@ route_rows Router kept = map route_row kept
 abbrev pub AreRows : Start → Chronicle → ℕ → Table → List (List ℕ) → Type 0
 AreRows start c now NeighbourTable rows = (seen : List neighbours.Seen) × neighbours.Lists (neighbour_history c) now seen × (rows ≡ map neighbour_row seen)
 AreRows start c now RouterTable rows =
-    (entries : List (Lasting ℕ)) × Lists same (announcements (router_history c)) now entries × (rows ≡ map (router_row now) entries)
+    (entries : List (Lasting ℕ)) × Lists same (announcements (router_history c)) now entries × (rows ≡ map (router_row now (λ key. preference_of key (router_history c))) entries)
 AreRows start c now PrefixTable rows =
     (entries : List (Lasting PrefixValue)) × Lists same_prefix (prefix_history c) now entries × (rows ≡ map (prefix_row now) entries)
 AreRows start c now AddressTable rows = (seen : List addresses.Seen) × addresses.Lists (address_history c) now seen × (rows ≡ map address_row seen)

@@ -4,5 +4,6 @@ pub mod Pieces
 pub mod Options
 pub mod MessageType
 pub mod Message
+pub mod RouterFlags
 pub mod Decoding
 pub mod Carried

@@ -1,6 +1,8 @@
 -- Which bytes spell which message, and why the others do not (RFC 4861, section 4).
 use Rattle.std.specs.Prelude.{◌≡◌, ◌≢◌, ℕ, ◌<◌, ◌≤◌, nat_eq, List, length, drop, slice_index, slice_range, if◌then◌else◌}
 use Rattle.byteorder.specs.Endian.{big_number}
+use Rattle.nd_addr.specs.declared.preference.Preference.{Preference}
+use Rattle.nd_addr.specs.declared.preference.Preference.TheVariants.{High, Medium, Low}
 use Rattle.nd_addr.specs.declared.why.Why.{Why}
 use Rattle.nd_addr.specs.declared.why.Why.TheVariants.{Code, Length, OptionZero, OptionOver}
 use Rattle.nd_decode.specs.declared.router_advertisement.RouterAdvertisement.{RouterAdvertisement}
@@ -23,12 +25,18 @@ pub record Parts : Type 0 where
 abbrev pub parts : MessageRef → Parts
 parts m = record { body = m.body; options = options_left m.options }
 
--- the fields of a Router Advertisement at their places (RFC 4861, section 4.2)
+-- The preference in a byte of flags, by two bits of it: 01 is High, 11 is Low, 00 is Medium (RFC 4191, section 2.1), and so is 10: "If the
+-- Reserved (10) value is received, the receiver MUST treat the value as if it were (00)" (section 2.2).
+abbrev pub preference_of : ℕ → Preference
+preference_of flags = if is_set flags 0x08 then (if is_set flags 0x10 then Low else High) else Medium
+
+-- the fields of a Router Advertisement at their places (RFC 4861, section 4.2; RFC 4191, section 2.2)
 abbrev pub router_advertisement_of : List ℕ → RouterAdvertisement
 router_advertisement_of bytes = record {
   hop_limit = slice_index bytes 4;
   managed = is_set (slice_index bytes 5) 0x80;
   other = is_set (slice_index bytes 5) 0x40;
+  preference = preference_of (slice_index bytes 5);
   router_lifetime = big_number 2 (drop 6 bytes);
   reachable_time = big_number 4 (drop 8 bytes);
   retrans_timer = big_number 4 (drop 12 bytes);

@@ -13,6 +13,7 @@ mod options;
 mod prefix_info;
 mod redirect;
 mod router_advertisement;
+mod router_flags;
 mod servers;
 
 pub use body::Body;
@@ -36,4 +37,5 @@ pub use options::Options;
 pub use prefix_info::PrefixInfo;
 pub use redirect::Redirect;
 pub use router_advertisement::RouterAdvertisement;
+pub use router_flags::router_flags_text;
 pub use servers::{Servers, is_server};

@@ -1,9 +1,10 @@
 ghost use Rattle.std.specs.Prelude.{◌≡◌, ◌≤◌, length};
-ghost use Rattle.nd_decode.specs.Message.{router_advertisement_of};
+ghost use Rattle.nd_decode.specs.Message.{preference_of, router_advertisement_of};
 
 use byteorder::{BigEndian, ByteOrder};
+use nd_addr::Preference;
 
-/// What a router tells of itself and of its link (RFC 4861, section 4.2).
+/// What a router tells of itself and of its link (RFC 4861, section 4.2; RFC 4191, section 2.2).
 #[derive(Clone, Copy, Debug, PartialEq, Eq)]
 pub struct RouterAdvertisement {
     /// The hop limit for the packets that a host sends; 0 where the router does not say.
@@ -12,6 +13,8 @@ pub struct RouterAdvertisement {
     pub managed: bool,
     /// Whether other configuration is to be had by DHCPv6.
     pub other: bool,
+    /// How it is preferred to other default routers. Where it is none, this says nothing.
+    pub preference: Preference,
     /// For how many seconds it is a default router; 0 where it is none.
     pub router_lifetime: u16,
     /// For how many milliseconds a neighbor is reachable once it was confirmed; 0 where the router does not say.
@@ -36,6 +39,12 @@ impl RouterAdvertisement {
     /// The flag O, Other configuration.
     pub const FLAG_OTHER: u8 = 0x40;
 
+    /// The lower one of the two bits of the preference, which High and Low have.
+    pub const FLAG_NOT_MEDIUM: u8 = 0x08;
+
+    /// The higher one, which Low has.
+    pub const FLAG_LOW: u8 = 0x10;
+
     /// Where Router Lifetime stands, in 2 bytes.
     pub const ROUTER_LIFETIME_AT: usize = 6;
 
@@ -54,9 +63,25 @@ impl RouterAdvertisement {
             hop_limit: bytes[Self::HOP_LIMIT_AT],
             managed: bytes[Self::FLAGS_AT] & Self::FLAG_MANAGED != 0,
             other: bytes[Self::FLAGS_AT] & Self::FLAG_OTHER != 0,
+            preference: preference_of(bytes[Self::FLAGS_AT]),
             router_lifetime: BigEndian::read_u16(&bytes[Self::ROUTER_LIFETIME_AT..]),
             reachable_time: BigEndian::read_u32(&bytes[Self::REACHABLE_TIME_AT..]),
             retrans_timer: BigEndian::read_u32(&bytes[Self::RETRANS_TIMER_AT..]),
         }
+    }
+}
+
+/// The preference in a byte of flags (RFC 4191, section 2.1).
+fn preference_of(flags: u8) -> Preference
+    ensures { result ≡ preference_of flags }
+{
+    match (
+        flags & RouterAdvertisement::FLAG_NOT_MEDIUM != 0,
+        flags & RouterAdvertisement::FLAG_LOW != 0,
+    ) {
+        (true, false) => Preference::High,
+        (true, true) => Preference::Low,
+        // "If the Reserved (10) value is received, the receiver MUST treat the value as if it were (00)."
+        (false, _) => Preference::Medium,
     }
 }

@@ -13,6 +13,7 @@ use Rattle.nd_neighbour.specs.Entry.{Node}
 use Rattle.nd_neighbour.specs.Table.{node_in}
 use Rattle.nd_routers.specs.OnLink.{is_held, least_end}
 use Rattle.nd_routers.specs.DefaultRouterSelection.{place_among}
+use Rattle.nd_routers.specs.Preferences.{preference_among}
 use Rattle.nd_routers.specs.Routers as routers
 use Rattle.nd_slaac.specs.Address.{Address}
 use Rattle.nd_slaac.specs.declared.destination.Counted.TheVariants.{Own}
@@ -67,11 +68,11 @@ remembers_nothing at choice addresses prefixes nodes table none until = record {
 pub candidates_same : (old new : List Node) (table : routers.Table) → ((key : ℕ) → is_resolved (node_in key new) ≡ is_resolved (node_in key old)) → candidates_in new table ≡ candidates_in old table
 candidates_same old new table same = by (routers.keys table.entries)
   where
-    by : (keys : List ℕ) → map (λ key. candidate_in new table.failed key) keys ≡ map (λ key. candidate_in old table.failed key) keys
+    by : (keys : List ℕ) → map (λ key. candidate_in new table key) keys ≡ map (λ key. candidate_in old table key) keys
     by [] = refl
     by (key ∷ keys) =
-        ap (λ (u : Bool). record { key = key; usable = u; failed = place_among key table.failed } ∷ map (λ k. candidate_in new table.failed k) keys) (same key)
-        ∙ ap (λ (l : List DefaultRouter). candidate_in old table.failed key ∷ l) (by keys)
+        ap (λ (u : Bool). record { key = key; usable = u; preference = preference_among key table.preferences; failed = place_among key table.failed } ∷ map (λ k. candidate_in new table k) keys) (same key)
+        ∙ ap (λ (l : List DefaultRouter). candidate_in old table key ∷ l) (by keys)
 
 -- a next hop asks only whether the destination itself is an own address
 pub hop_by_own : (own other linked : List ℕ → Bool) (candidates : List DefaultRouter) (redirect : Option ℕ) (address : List ℕ) → own address ≡ other address

@@ -1,10 +1,11 @@
 -- The next hops that a choice remembers, and the tables that it was asked with (RFC 4861, section 5.1, the Destination Cache).
-use Rattle.std.specs.Prelude.{◌≡◌, ◌≤◌, ◌-◌, ◌⊎◌, ◌&&◌, not, ℕ, Bool, true, false, List, [], ◌∷◌, Option}
+use Rattle.std.specs.Prelude.{◌≡◌, ◌≤◌, ◌-◌, ◌⊎◌, ◌&&◌, ◌==◌, not, is_some, ℕ, Bool, true, false, List, [], ◌∷◌, Option}
 use Rattle.std.specs.Option.{option_map}
 use Rattle.nd_addr.specs.Number.{number_of}
 use Rattle.nd_addr.specs.Prefix.{PrefixValue}
+use Rattle.nd_addr.specs.declared.preference.Preference.{Preference}
 use Rattle.nd_lifetime.specs.declared.lasting.Lasting.{Lasting}
-use Rattle.nd_lifetime.specs.Listing.{open_at}
+use Rattle.nd_lifetime.specs.Listing.{end_in, open_at}
 use Rattle.nd_neighbour.specs.Due as neighbours_due
 use Rattle.nd_neighbour.specs.Entry.{Node}
 use Rattle.nd_neighbour.specs.History.{Row}
@@ -12,6 +13,7 @@ use Rattle.nd_neighbour.specs.Sending.{Sending, Sends, Queues}
 use Rattle.nd_neighbour.specs.Table as neighbours
 use Rattle.nd_neighbour.specs.Table.{node_in}
 use Rattle.nd_routers.specs.OnLink.{is_held, least_end}
+use Rattle.nd_routers.specs.Preferences.{preference_among}
 use Rattle.nd_routers.specs.Routers as routers
 use Rattle.nd_addr.specs.declared.mac.Mac.{Mac}
 use Rattle.nd_decode.specs.declared.prefix_info.PrefixInfo.{PrefixInfo}
@@ -68,10 +70,17 @@ pub record Recollects (old new : Table) (Same : Type 0) : Type 0 where
   pub hops : (new.memory.hops ≡ []) ⊎ ((new.memory.hops ≡ old.memory.hops) × Same)
   pub until : new.memory.until ≡ old.memory.until
 
+-- an advertisement only refreshes a router that is listed at the moment, which says the same preference as before
+pub record Refreshes (now key lifetime : ℕ) (preference : Preference) (table : routers.Table) : Type 0 where
+  pub goes_on : not (lifetime == 0) ≡ true
+  pub listed : is_some (end_in routers.same key (open_at now table.entries)) ≡ true
+  pub preferred : preference_among key table.preferences ≡ preference
+
 -- the list of routers is the same to the next hops: a router was only refreshed
 pub record AsListed (old_choice new_choice : Table) (old new : routers.Table) : Type 0 where
   pub redirects : new_choice.redirects ≡ old_choice.redirects
   pub keys : routers.keys new.entries ≡ routers.keys old.entries
+  pub preferences : (key : ℕ) → preference_among key new.preferences ≡ preference_among key old.preferences
   pub failed : new.failed ≡ old.failed
 
 -- the same prefixes stand at the moment

@@ -1,17 +1,17 @@
-ghost use Rattle.std.specs.Prelude.{◌≡◌, ◌<◌, ◌^◌, ◌&&◌, ◌==◌, ◌∷◌, not, is_some, List, [], true};
+ghost use Rattle.std.specs.Prelude.{◌≡◌, ◌<◌, ◌^◌, ◌↔◌, ◌&&◌, ◌==◌, ◌∷◌, IsTrue, List, [], true};
 ghost use Rattle.nd_addr.specs.Number.{number_of};
 ghost use Rattle.nd_lifetime.specs.History.{stands};
-ghost use Rattle.nd_lifetime.specs.Listing.{end_in, fits, open_at};
+ghost use Rattle.nd_lifetime.specs.Listing.{fits};
 ghost use Rattle.nd_routers.specs.History.{RouterRow, Heard, announcements};
 ghost use Rattle.nd_routers.specs.Routers as list;
 ghost use Rattle.nd_routers.specs.Routers.{same, IsSettled};
 ghost use Rattle.nd_nexthop.specs.History.{RedirectRow};
 ghost use Rattle.nd_nexthop.specs.Choice as redirects;
-ghost use Rattle.nd_effects.specs.Remembered.{AsListed, Recollects};
+ghost use Rattle.nd_effects.specs.Remembered.{AsListed, Recollects, Refreshes};
 ghost use Rattle.nd_effects.specs.DefaultRouter.{with_left, with_gone};
 
 use crate::link_layer_address::keep_if;
-use nd_addr::Addr;
+use nd_addr::{Addr, Preference};
 use nd_nexthop::Choice;
 use nd_routers::Routers;
 use std::alloc::Allocator;
@@ -24,36 +24,44 @@ fn times_out<A: Allocator>(routers: &Routers<A>, now: u64, source: Addr, lifetim
     lifetime == 0 && routers.holds(now, source)
 }
 
-/// Whether a Router Advertisement with this lifetime, in seconds, only refreshes a router of the list at a moment, in milliseconds.
-fn only_refreshes<A: Allocator>(routers: &Routers<A>, now: u64, source: Addr, lifetime: u16) -> bool
-    ensures { result ≡ (not (lifetime == 0) && is_some (end_in same (number_of source.0) (open_at now routers.now.entries))) }
+/// Whether a Router Advertisement with this lifetime, in seconds, and this preference only refreshes a router of the list at a moment, in
+/// milliseconds.
+fn only_refreshes<A: Allocator>(
+    routers: &Routers<A>,
+    now: u64,
+    source: Addr,
+    lifetime: u16,
+    preference: Preference,
+) -> bool
+    ensures { IsTrue result ↔ Refreshes now (number_of source.0) lifetime preference routers.now }
 {
-    lifetime != 0 && routers.holds(now, source)
+    lifetime != 0 && routers.holds(now, source) && routers.preference(source) == preference
 }
 
-/// What a Router Advertisement says of its sender as a default router, for a lifetime in seconds, at a moment in milliseconds. There is
-/// room for it (RFC 4861, section 6.3.4). It answers whether a router of the list was timed out, with which the redirects to it end
-/// (section 6.3.5). No next hop is remembered but where it only is refreshed.
+/// What a Router Advertisement says of its sender as a default router, for a lifetime in seconds, with its preference, at a moment in
+/// milliseconds. There is room for it (RFC 4861, section 6.3.4; RFC 4191, section 2.2). It answers whether a router of the list was timed out,
+/// with which the redirects to it end (section 6.3.5). No next hop is remembered but where it only is refreshed, with the same preference.
 pub fn hear_router<A: Allocator>(
     routers: &mut Routers<A>,
     choice: &mut Choice<A>,
     now: u64,
     source: Addr,
     lifetime: u16,
+    preference: Preference,
 ) -> bool
     requires moment { now < 2 ^ 62 }
     requires settled { IsSettled routers.old.entries now }
     requires fits { fits same routers.old.limit now ((number_of source.0, lifetime) ∷ []) routers.old.entries ≡ true }
     ensures times_out { (history : List RouterRow) → list.Stands routers.old history → result ≡ ((lifetime == 0) && stands same (number_of source.0) (announcements history) now) }
-    ensures routers { (history : List RouterRow) → list.Stands routers.old history → list.Stands routers.new (with_left now result (number_of source.0) (Heard now (number_of source.0) lifetime ∷ history)) }
+    ensures routers { (history : List RouterRow) → list.Stands routers.old history → list.Stands routers.new (with_left now result (number_of source.0) (Heard now (number_of source.0) lifetime preference ∷ history)) }
     ensures redirects { (history : List RedirectRow) → redirects.Stands choice.old history → redirects.Stands choice.new (with_gone now result (number_of source.0) history) }
     ensures recollects { Recollects choice.old choice.new (AsListed choice.old choice.new routers.old routers.new) }
     ensures settled { IsSettled routers.new.entries now }
     ensures limit { routers.new.limit ≡ routers.old.limit }
 {
     let times_out = times_out(routers, now, source, lifetime);
-    let refreshes = only_refreshes(routers, now, source, lifetime);
-    match routers.heard_ra(now, source, lifetime) {
+    let refreshes = only_refreshes(routers, now, source, lifetime, preference);
+    match routers.heard_ra(now, source, lifetime, preference) {
         Ok(_) => {}
         Err(_) => unreachable!(),
     }

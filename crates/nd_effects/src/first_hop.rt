@@ -69,6 +69,7 @@ impl<A: Allocator> View for Tables<'_, A> {
             Some(listed) => Some(Candidate {
                 addr: listed.addr,
                 usable: is_resolved(self.neighbours, self.now, listed.addr),
+                preference: listed.preference,
                 failed: listed.failed,
             }),
             None => None,

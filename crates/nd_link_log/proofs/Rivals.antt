@@ -14,6 +14,7 @@ use Rattle.nd_addr.proofs.Numbered.{addr_back}
 use Rattle.nd_decode.specs.declared.body.Body.{Body}
 use Rattle.nd_decode.specs.declared.body.Body.TheVariants as bodies
 use Rattle.nd_message.specs.Fitting.{FitsBody}
+use Rattle.nd_message.specs.WellFormed.{MayBeSent}
 use Rattle.nd_message.proofs.Formed.{body_fits}
 use Rattle.nd_table.proofs.Pasts.{past_self}
 use Rattle.nd_frames.specs.Frames.{all_nodes, defence_frame, solicited_node, unspecified}
@@ -45,10 +46,10 @@ payload_bytes frame bytes =
 
 module _ (frame : List ℕ) (address : Addr) (bytes : IsBytes frame) where
   pub tries_address : IsDetection frame address → AreBytes 16 address.0
-  tries_address t = subst FitsBody t.body_is (body_fits (payload_in frame) t.message.body (payload_bytes frame bytes) t.carried.packet.spelled.fields t.carried.packet.spelled.body).0
+  tries_address t = subst FitsBody t.body_is (body_fits (payload_in frame) t.message.body (payload_bytes frame bytes) t.carried.packet.spelled.fields t.carried.packet.spelled.body (subst MayBeSent (sym t.body_is) tt)).0
 
   pub claims_address : IsDefence frame address → AreBytes 16 address.0
-  claims_address t = subst FitsBody t.body_is (body_fits (payload_in frame) t.message.body (payload_bytes frame bytes) t.carried.packet.spelled.fields t.carried.packet.spelled.body).0
+  claims_address t = subst FitsBody t.body_is (body_fits (payload_in frame) t.message.body (payload_bytes frame bytes) t.carried.packet.spelled.fields t.carried.packet.spelled.body (subst MayBeSent (sym t.body_is) tt)).0
 
 -- ---- a node that has the address, or tries it
 

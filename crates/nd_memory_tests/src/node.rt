@@ -1,7 +1,7 @@
 ghost use Rattle.std.specs.Prelude.{◌<◌, ◌^◌};
 
 use linked_list_allocator::LocalHeap;
-use nd_addr::{Addr, Mac, Prefix, Role};
+use nd_addr::{Addr, Mac, Preference, Prefix, Role};
 use nd_advertiser::{Config, ConfigFlags};
 use nd_node::{Clearable, Event, Node, OutgoingPacket, Table};
 use nd_out::{Out, write_outs};
@@ -205,7 +205,7 @@ fn a_host_without_memory_takes_what_asks_for_none(rt: HostRuntime) {
     let tables = shown(&rt, &node, &heap);
     assert_eq!(rt;
         tables.as_str(),
-        "neighbour fe80::ff:fe00:1 02:00:00:00:00:01 reachable router\nrouter fe80::ff:fe00:1 1800000\naddress fe80::3656:78ff:fe9a:bcde preferred inf inf\nparams hop 64 mtu 1500 reachable 30000 28151 retrans 1000 managed 0 other 0\n"
+        "neighbour fe80::ff:fe00:1 02:00:00:00:00:01 reachable router\nrouter fe80::ff:fe00:1 1800000 medium\naddress fe80::3656:78ff:fe9a:bcde preferred inf inf\nparams hop 64 mtu 1500 reachable 30000 28151 retrans 1000 managed 0 other 0\n"
     );
 }
 
@@ -298,6 +298,7 @@ fn router<'h>(rt: &impl Abort, heap: &'h LocalHeap) -> Node<Pcg32, &'h LocalHeap
     let flags = ConfigFlags {
         managed: false,
         other: false,
+        preference: Preference::Medium,
     };
     let config = Config::new(200, 600, 1800, 64, flags, 0, 0, 0).expect(rt, "settings");
     let [on_link, behind] = routes().expect(rt, "routes");

@@ -1,6 +1,6 @@
 use crate::refusing::each_is_refused_once;
 use linked_list_allocator::LocalHeap;
-use nd_addr::Addr;
+use nd_addr::{Addr, Preference};
 use nd_routers::{Prefixes, Routers};
 use std::process::Abort;
 use std::test::*;
@@ -24,7 +24,7 @@ fn run(rt: &impl Abort, heap: &LocalHeap) -> Option<Call> {
         return Some(Call::NewPrefixes);
     };
     assert!(rt; prefixes.on_link(0, ROUTER));
-    assert!(rt; routers.heard_ra(0, ROUTER, 1800).is_ok());
+    assert!(rt; routers.heard_ra(0, ROUTER, 1800, Preference::High).is_ok());
     match routers.clear() {
         Ok(left) => assert!(rt; left.first() == Some(&ROUTER)),
         Err(_) => {

@@ -7,14 +7,16 @@ use Rattle.byteorder.specs.Numbers.{big_from-lt}
 use Rattle.nd_addr.specs.Bytes.{IsBytes, AreBytes}
 use Rattle.nd_addr.specs.Prefix.{masked}
 use Rattle.nd_addr.specs.declared.mac.Mac.{Mac}
+use Rattle.nd_addr.specs.declared.preference.Preference.{Preference}
+use Rattle.nd_addr.specs.declared.preference.Preference.TheVariants.{High, Medium, Low}
 use Rattle.nd_addr.proofs.Masking.{IsBytes-masked, masked_is_prefix}
 use Rattle.nd_decode.specs.declared.body.Body.{Body}
 use Rattle.nd_decode.specs.declared.body.Body.TheVariants as bodies
 use Rattle.nd_decode.specs.Option.{Said, slla, tlla, prefix, redirected, mtu, rdnss, dnssl, other, IsPiece, SaysKnown, Says, known_of, mac_of, prefix_of}
 use Rattle.nd_decode.specs.Options.{SpellsOptions}
 use Rattle.nd_decode.specs.Message.{Parts, Spells, HasBody, HasFields, behind_fields, least_length, router_advertisement_of}
-use Rattle.nd_message.specs.Spelling.{flags_of, three_flags_of, other_piece, piece_of, fields_of, spelling}
-use Rattle.nd_message.specs.WellFormed.{IsWellFormed}
+use Rattle.nd_message.specs.Spelling.{flags_of, router_flags_of, three_flags_of, other_piece, piece_of, fields_of, spelling}
+use Rattle.nd_message.specs.WellFormed.{IsMediumAtZero, IsWellFormed, MayBeSent}
 use Rattle.nd_message.specs.Fitting.{IsOther, FitsRedirected, FitsPrefix, FitsOption, FitsRouterAdvertisement, FitsBody, FitsBehind}
 use Rattle.nd_addr.proofs.ByteLists.{AreSmall, IsBytes-from, AreSmall-from, AreSmall-append, IsBytes-drop, IsBytes-left, IsBytes-right, small_four, small_two, AreBytes-part}
 use Rattle.nd_decode.proofs.Says.{known_says}
@@ -27,6 +29,20 @@ flags_small true true = omega arith
 flags_small true false = omega arith
 flags_small false true = omega arith
 flags_small false false = omega arith
+
+router_flags_small : (a b : Bool) (p : Preference) → router_flags_of a b p < 256
+router_flags_small true true High = omega arith
+router_flags_small true false High = omega arith
+router_flags_small false true High = omega arith
+router_flags_small false false High = omega arith
+router_flags_small true true Medium = omega arith
+router_flags_small true false Medium = omega arith
+router_flags_small false true Medium = omega arith
+router_flags_small false false Medium = omega arith
+router_flags_small true true Low = omega arith
+router_flags_small true false Low = omega arith
+router_flags_small false true Low = omega arith
+router_flags_small false false Low = omega arith
 
 three_flags_small : (a b c : Bool) → three_flags_of a b c < 256
 three_flags_small true true true = omega arith
@@ -73,7 +89,7 @@ fields_small (bodies.Ra r) h = (
         (
           h.hop_limit,
           (
-            flags_small r.managed r.other,
+            router_flags_small r.managed r.other r.preference,
             small_two r.router_lifetime (big_bytes 4 r.reachable_time ++ big_bytes 4 r.retrans_timer) (small_four r.reachable_time (big_bytes 4 r.retrans_timer) (small_four r.retrans_timer [] tt)),
           ),
         ),
@@ -146,21 +162,21 @@ options_fit (o ∷ os) bytes h s =
     let more = options_fit os s.1 (IsBytes-right s.0 s.1 all) s.5 in
     ((one.0, more.0), omega (arith, length-append (piece_of o) (flat_map piece_of os), length-append s.0 s.1, one.1, more.1, ap length s.2))
 
-pub body_fits : (bytes : List ℕ) (b : Body) → IsBytes bytes → HasFields bytes → HasBody bytes b → FitsBody b × (length (fields_of 0 b) ≡ least_length (slice_index bytes 0))
-body_fits bytes bodies.Rs h f s = let kind : least_length (slice_index bytes 0) ≡ 8 = rw s refl in (tt, sym kind)
-body_fits bytes (bodies.Ra r) h f s =
-    let fits : FitsRouterAdvertisement (router_advertisement_of bytes) = record { hop_limit = h 4; lifetime = big_from-lt 0 2 (drop 6 bytes) (IsBytes-drop 6 bytes h); reachable = big_from-lt 0 4 (drop 8 bytes) (IsBytes-drop 8 bytes h); retrans = big_from-lt 0 4 (drop 12 bytes) (IsBytes-drop 12 bytes h) } in
+pub body_fits : (bytes : List ℕ) (b : Body) → IsBytes bytes → HasFields bytes → HasBody bytes b → MayBeSent b → FitsBody b × (length (fields_of 0 b) ≡ least_length (slice_index bytes 0))
+body_fits bytes bodies.Rs h f s may = let kind : least_length (slice_index bytes 0) ≡ 8 = rw s refl in (tt, sym kind)
+body_fits bytes (bodies.Ra r) h f s may =
+    let fits : FitsRouterAdvertisement (router_advertisement_of bytes) = record { hop_limit = h 4; lifetime = big_from-lt 0 2 (drop 6 bytes) (IsBytes-drop 6 bytes h); reachable = big_from-lt 0 4 (drop 8 bytes) (IsBytes-drop 8 bytes h); retrans = big_from-lt 0 4 (drop 12 bytes) (IsBytes-drop 12 bytes h); medium = subst IsMediumAtZero s.1 may } in
     let kind : least_length (slice_index bytes 0) ≡ 16 = rw s.0 refl in
     (rw s.1 fits, sym kind)
-body_fits bytes (bodies.Ns n) h f s =
+body_fits bytes (bodies.Ns n) h f s may =
     let kind : least_length (slice_index bytes 0) ≡ 24 = rw s.0 refl in
     let a = AreBytes-part 8 16 bytes (omega (arith, f.long, kind)) h in
     (rw s.1 a, rw (s.1, kind) (omega (arith, a.len_is)))
-body_fits bytes (bodies.Na n) h f s =
+body_fits bytes (bodies.Na n) h f s may =
     let kind : least_length (slice_index bytes 0) ≡ 24 = rw s.0 refl in
     let a = AreBytes-part 8 16 bytes (omega (arith, f.long, kind)) h in
     (rw s.1 a, rw (s.1, kind) (omega (arith, a.len_is)))
-body_fits bytes (bodies.Redirect r) h f s =
+body_fits bytes (bodies.Redirect r) h f s may =
     let kind : least_length (slice_index bytes 0) ≡ 40 = rw s.0 refl in
     let a = AreBytes-part 8 16 bytes (omega (arith, f.long, kind)) h in
     let b = AreBytes-part 24 16 bytes (omega (arith, f.long, kind)) h in
@@ -169,6 +185,13 @@ body_fits bytes (bodies.Redirect r) h f s =
 
 -- ---- well-formed messages
 
+may_be_sent : (b : Body) → FitsBody b → MayBeSent b
+may_be_sent bodies.Rs h = tt
+may_be_sent (bodies.Ra r) h = h.medium
+may_be_sent (bodies.Ns n) h = tt
+may_be_sent (bodies.Na n) h = tt
+may_be_sent (bodies.Redirect r) h = tt
+
 pub formed : (m : Parts) → FitsBody m.body → FitsBehind (length (fields_of 0 m.body)) m.options → IsWellFormed m
 unfolding spelling
 formed m b f = record {
@@ -176,6 +199,7 @@ formed m b f = record {
   are_bytes = IsBytes-from (spelling 0 m) (AreSmall-append (fields_of 0 m.body) (flat_map piece_of m.options) (fields_small m.body b) (pieces_small m.options f.each));
   len = omega (arith, f.most, length-append (fields_of 0 m.body) (flat_map piece_of m.options));
   spelled = spelling_spells 0 m b f.each;
+  medium = may_be_sent m.body b;
 }
 
 pub record IsFit (m : Parts) : Type 0 where
@@ -184,7 +208,7 @@ pub record IsFit (m : Parts) : Type 0 where
 
 pub fits_of : (m : Parts) → IsWellFormed m → IsFit m
 fits_of m w =
-    let b = body_fits w.bytes m.body w.are_bytes w.spelled.fields w.spelled.body in
+    let b = body_fits w.bytes m.body w.are_bytes w.spelled.fields w.spelled.body w.medium in
     let os = options_fit m.options (behind_fields w.bytes) (IsBytes-drop (least_length (slice_index w.bytes 0)) w.bytes w.are_bytes) w.spelled.options in
     record { body = b.0; behind = record { each = os.0; most = omega (arith, b.1, os.1, w.len, w.spelled.fields.long, length-drop (least_length (slice_index w.bytes 0)) w.bytes) } }
 

@@ -9,6 +9,8 @@ use Rattle.nd_addr.specs.Bytes.{AreBytes}
 use Rattle.nd_addr.specs.Prefix.{PrefixValue, masked}
 use Rattle.nd_addr.specs.declared.addr.Addr.{Addr}
 use Rattle.nd_addr.specs.declared.mac.Mac.{Mac}
+use Rattle.nd_addr.specs.declared.preference.Preference.{Preference}
+use Rattle.nd_addr.specs.declared.preference.Preference.TheVariants.{High, Medium, Low}
 use Rattle.nd_decode.specs.declared.router_advertisement.RouterAdvertisement.{RouterAdvertisement}
 use Rattle.nd_decode.specs.declared.neighbor_solicitation.NeighborSolicitation.{NeighborSolicitation}
 use Rattle.nd_decode.specs.declared.neighbor_advertisement.NeighborAdvertisement.{NeighborAdvertisement}
@@ -18,15 +20,57 @@ use Rattle.nd_decode.specs.declared.body.Body.TheVariants as bodies
 use Rattle.nd_decode.specs.declared.prefix_info.PrefixInfo.{PrefixInfo}
 use Rattle.nd_decode.specs.Option.{Said, slla, tlla, prefix, redirected, mtu, rdnss, dnssl, other, IsPiece, Says, known_of, mac_of, prefix_of, is_set}
 use Rattle.nd_decode.specs.Options.{SpellsOptions}
-use Rattle.nd_decode.specs.Message.{Parts, HasBody, HasFields, Spells, behind_fields, router_advertisement_of, neighbor_solicitation_of, neighbor_advertisement_of, redirect_of}
+use Rattle.nd_decode.specs.Message.{Parts, HasBody, HasFields, Spells, behind_fields, preference_of, router_advertisement_of, neighbor_solicitation_of, neighbor_advertisement_of, redirect_of}
 use Rattle.nd_decode.proofs.Says.{known_one}
-use Rattle.nd_message.specs.Spelling.{flags_of, three_flags_of, prefix_piece, other_piece, piece_of, fields_of, spelling}
+use Rattle.nd_message.specs.Spelling.{flags_of, router_flags_of, three_flags_of, prefix_piece, other_piece, piece_of, fields_of, spelling}
 use Rattle.nd_message.specs.Dnssl.{names_data, missing}
 use Rattle.nd_message.specs.Fitting.{FitsPrefix, FitsOption, FitsRouterAdvertisement, FitsBody}
 use Rattle.nd_message.proofs.DnsServers.{rdnss_whole, rdnss_row, servers_spell}
 use Rattle.nd_message.proofs.SearchNames.{dnssl_whole, dnssl_row, names_spell}
 
 -- ---- flags and numbers
+
+managed_flag : (a b : Bool) (p : Preference) → a ≡ is_set (router_flags_of a b p) 0x80
+managed_flag true true High = refl
+managed_flag true false High = refl
+managed_flag false true High = refl
+managed_flag false false High = refl
+managed_flag true true Medium = refl
+managed_flag true false Medium = refl
+managed_flag false true Medium = refl
+managed_flag false false Medium = refl
+managed_flag true true Low = refl
+managed_flag true false Low = refl
+managed_flag false true Low = refl
+managed_flag false false Low = refl
+
+other_flag : (a b : Bool) (p : Preference) → b ≡ is_set (router_flags_of a b p) 0x40
+other_flag true true High = refl
+other_flag true false High = refl
+other_flag false true High = refl
+other_flag false false High = refl
+other_flag true true Medium = refl
+other_flag true false Medium = refl
+other_flag false true Medium = refl
+other_flag false false Medium = refl
+other_flag true true Low = refl
+other_flag true false Low = refl
+other_flag false true Low = refl
+other_flag false false Low = refl
+
+preference_back : (a b : Bool) (p : Preference) → p ≡ preference_of (router_flags_of a b p)
+preference_back true true High = refl
+preference_back true false High = refl
+preference_back false true High = refl
+preference_back false false High = refl
+preference_back true true Medium = refl
+preference_back true false Medium = refl
+preference_back false true Medium = refl
+preference_back false false Medium = refl
+preference_back true true Low = refl
+preference_back true false Low = refl
+preference_back false true Low = refl
+preference_back false false Low = refl
 
 high_flag : (a b : Bool) → a ≡ is_set (flags_of a b) 0x80
 high_flag true true = refl
@@ -132,20 +176,21 @@ pieces_spell (o ∷ os) h = let p = piece_says o h.0 in (piece_of o, flat_map pi
 
 -- ---- fields
 
-made_fields : ℕ → Bool → Bool → ℕ → ℕ → ℕ → RouterAdvertisement
-made_fields h m o l r t = record { hop_limit = h; managed = m; other = o; router_lifetime = l; reachable_time = r; retrans_timer = t }
+made_fields : ℕ → Bool → Bool → Preference → ℕ → ℕ → ℕ → RouterAdvertisement
+made_fields h m o p l r t = record { hop_limit = h; managed = m; other = o; preference = p; router_lifetime = l; reachable_time = r; retrans_timer = t }
 
-same_fields : (h h' : ℕ) (m m' o o' : Bool) (l l' r r' t t' : ℕ) → h ≡ h' → m ≡ m' → o ≡ o' → l ≡ l' → r ≡ r' → t ≡ t' → made_fields h m o l r t ≡ made_fields h' m' o' l' r' t'
-same_fields h h' m m' o o' l l' r r' t t' a b c d e f = cc
+same_fields : (h h' : ℕ) (m m' o o' : Bool) (p p' : Preference) (l l' r r' t t' : ℕ) → h ≡ h' → m ≡ m' → o ≡ o' → p ≡ p' → l ≡ l' → r ≡ r' → t ≡ t'
+    → made_fields h m o p l r t ≡ made_fields h' m' o' p' l' r' t'
+same_fields h h' m m' o o' p p' l l' r r' t t' a b c d e f g = cc
 
-same_router_advertisement : (r s : RouterAdvertisement) → r.hop_limit ≡ s.hop_limit → r.managed ≡ s.managed → r.other ≡ s.other → r.router_lifetime ≡ s.router_lifetime → r.reachable_time ≡ s.reachable_time → r.retrans_timer ≡ s.retrans_timer → r ≡ s
+same_router_advertisement : (r s : RouterAdvertisement) → r.hop_limit ≡ s.hop_limit → r.managed ≡ s.managed → r.other ≡ s.other → r.preference ≡ s.preference → r.router_lifetime ≡ s.router_lifetime → r.reachable_time ≡ s.reachable_time → r.retrans_timer ≡ s.retrans_timer → r ≡ s
 unfolding made_fields
-same_router_advertisement r s a b c d e f =
-    same_fields r.hop_limit s.hop_limit r.managed s.managed r.other s.other r.router_lifetime s.router_lifetime r.reachable_time s.reachable_time r.retrans_timer s.retrans_timer a b c d e f
+same_router_advertisement r s a b c d e f g =
+    same_fields r.hop_limit s.hop_limit r.managed s.managed r.other s.other r.preference s.preference r.router_lifetime s.router_lifetime r.reachable_time s.reachable_time r.retrans_timer s.retrans_timer a b c d e f g
 
 router_advertisement_back : (x : ℕ) (r : RouterAdvertisement) (rest : List ℕ) → FitsRouterAdvertisement r → r ≡ router_advertisement_of (fields_of x (bodies.Ra r) ++ rest)
 router_advertisement_back x r rest h =
-    same_router_advertisement r (router_advertisement_of (fields_of x (bodies.Ra r) ++ rest)) refl (high_flag r.managed r.other) (low_flag r.managed r.other) (two r.router_lifetime (big_bytes 4 r.reachable_time ++ big_bytes 4 r.retrans_timer ++ rest) h.lifetime) (four r.reachable_time (big_bytes 4 r.retrans_timer ++ rest) h.reachable) (four r.retrans_timer rest h.retrans)
+    same_router_advertisement r (router_advertisement_of (fields_of x (bodies.Ra r) ++ rest)) refl (managed_flag r.managed r.other r.preference) (other_flag r.managed r.other r.preference) (preference_back r.managed r.other r.preference) (two r.router_lifetime (big_bytes 4 r.reachable_time ++ big_bytes 4 r.retrans_timer ++ rest) h.lifetime) (four r.reachable_time (big_bytes 4 r.retrans_timer ++ rest) h.reachable) (four r.retrans_timer rest h.retrans)
 
 made_flags : Bool → Bool → Bool → Addr → NeighborAdvertisement
 made_flags r s o t = record { router = r; solicited = s; override_flag = o; target = t }

@@ -1,4 +1,4 @@
--- Which messages have a spelling, part by part.
+-- Which messages are well formed, part by part.
 use Rattle.std.specs.Prelude.{◌≡◌, ℕ, ◌+◌, ◌%◌, ◌^◌, ◌<◌, ◌≤◌, List, length, None}
 use Rattle.std.specs.List.{flat_map, AllByRecursion}
 use Rattle.nd_addr.specs.Bytes.{IsBytes, AreBytes}
@@ -11,6 +11,7 @@ use Rattle.nd_decode.specs.Option.{Said, slla, tlla, prefix, redirected, mtu, rd
 use Rattle.nd_message.specs.Spelling.{piece_of, other_piece}
 use Rattle.nd_message.specs.Rdnss.{FitsRdnss}
 use Rattle.nd_message.specs.Dnssl.{FitsDnssl}
+use Rattle.nd_message.specs.WellFormed.{IsMediumAtZero}
 
 -- whole units of 8 bytes with the type, the length and six bytes that are reserved, 255 at most
 pub record FitsRedirected (packet : List ℕ) : Type 0 where
@@ -42,14 +43,15 @@ FitsOption (rdnss lifetime servers) = FitsRdnss lifetime servers
 FitsOption (dnssl lifetime names) = FitsDnssl lifetime names
 FitsOption (other kind rest) = (kind < 256) × IsBytes rest × IsOther kind rest
 
--- numbers of one, two and four bytes
+-- numbers of one, two and four bytes, and no preference where it is no default router
 pub record FitsRouterAdvertisement (r : RouterAdvertisement) : Type 0 where
   pub hop_limit : r.hop_limit < 256
   pub lifetime : r.router_lifetime < 2 ^ 16
   pub reachable : r.reachable_time < 2 ^ 32
   pub retrans : r.retrans_timer < 2 ^ 32
+  pub medium : IsMediumAtZero r
 
--- some fields hold the body
+-- some fields hold the body, which may be sent
 abbrev pub FitsBody : Body → Type 0
 FitsBody bodies.Rs = Unit {0}
 FitsBody (bodies.Ra r) = FitsRouterAdvertisement r

@@ -3,6 +3,8 @@ use Rattle.std.specs.Prelude.{ℕ, ◌+◌, ◌/◌, Bool, bit_or, if◌then◌e
 use Rattle.std.specs.List.{flat_map}
 use Rattle.byteorder.specs.Endian.{big_bytes}
 use Rattle.nd_addr.specs.declared.addr.Addr.{Addr}
+use Rattle.nd_addr.specs.declared.preference.Preference.{Preference}
+use Rattle.nd_addr.specs.declared.preference.Preference.TheVariants.{High, Medium, Low}
 use Rattle.nd_addr.specs.Checksum.{sum_to_write}
 use Rattle.nd_decode.specs.declared.body.Body.{Body}
 use Rattle.nd_decode.specs.declared.body.Body.TheVariants as bodies
@@ -19,6 +21,16 @@ flags_of first second = bit_or (if first then 0x80 else 0) (if second then 0x40 
 -- a byte of three flags, at its highest bits
 abbrev pub three_flags_of : Bool → Bool → Bool → ℕ
 three_flags_of first second third = bit_or (flags_of first second) (if third then 0x20 else 0)
+
+-- the two bits of a preference, 01, 00 and 11; 10 is never written (RFC 4191, section 2.1)
+abbrev pub preference_bits : Preference → ℕ
+preference_bits High = 0x08
+preference_bits Medium = 0
+preference_bits Low = 0x18
+
+-- the byte of flags of a Router Advertisement (RFC 4861, section 4.2; RFC 4191, section 2.2)
+abbrev pub router_flags_of : Bool → Bool → Preference → ℕ
+router_flags_of managed other_config preference = bit_or (flags_of managed other_config) (preference_bits preference)
 
 -- a Prefix Information (RFC 4861, section 4.6.2)
 abbrev pub prefix_piece : PrefixInfo → List ℕ
@@ -41,11 +53,11 @@ piece_of (rdnss lifetime servers) = rdnss_piece lifetime servers
 piece_of (dnssl lifetime names) = dnssl_piece lifetime names
 piece_of (other kind rest) = other_piece kind rest
 
--- the table of messages: type, code, this number as the checksum, fields (RFC 4861, sections 4.1 to 4.5)
+-- the table of messages: type, code, this number as the checksum, fields (RFC 4861, sections 4.1 to 4.5; RFC 4191, section 2.2)
 abbrev pub fields_of : ℕ → Body → List ℕ
 fields_of sum bodies.Rs = 133 ∷ 0 ∷ big_bytes 2 sum ++ (0 ∷ 0 ∷ 0 ∷ 0 ∷ [])
 fields_of sum (bodies.Ra r) =
-    134 ∷ 0 ∷ big_bytes 2 sum ++ (r.hop_limit ∷ flags_of r.managed r.other ∷ []) ++ big_bytes 2 r.router_lifetime
+    134 ∷ 0 ∷ big_bytes 2 sum ++ (r.hop_limit ∷ router_flags_of r.managed r.other r.preference ∷ []) ++ big_bytes 2 r.router_lifetime
     ++ big_bytes 4 r.reachable_time ++ big_bytes 4 r.retrans_timer
 fields_of sum (bodies.Ns n) = 135 ∷ 0 ∷ big_bytes 2 sum ++ (0 ∷ 0 ∷ 0 ∷ 0 ∷ []) ++ n.target.0
 fields_of sum (bodies.Na n) = 136 ∷ 0 ∷ big_bytes 2 sum ++ (three_flags_of n.router n.solicited n.override_flag ∷ 0 ∷ 0 ∷ 0 ∷ []) ++ n.target.0

@@ -1,4 +1,5 @@
-ghost use Rattle.std.specs.Prelude.{◌≡◌, length};
+ghost use Rattle.std.specs.Prelude.{length};
+ghost use Rattle.std.specs.Option.{SomeIff};
 ghost use Rattle.nd_addr.specs.Room.{HasRoom, Puts};
 ghost use Rattle.nd_message.specs.Fitting.{FitsBody};
 ghost use Rattle.nd_message.specs.Spelling.{fields_of};
@@ -13,20 +14,20 @@ use nd_decode::{
 };
 use std::alloc::Allocator;
 
-/// How many bytes the fields of a body have. They hold each value that it can have.
-pub(crate) fn fields_length(body: &Body) -> usize
-    ensures len { result ≡ length (fields_of 0 body.now) }
-    ensures fits { FitsBody body.now }
+/// How many bytes the fields of a body have. They hold each value that it can have, and there are none where it is a Router Advertisement
+/// that is not to be sent.
+pub(crate) fn fields_length(body: &Body) -> Option<usize>
+    ensures { SomeIff result (FitsBody body.now) (length (fields_of 0 body.now)) }
 {
     match body {
-        Body::Rs => ROUTER_SOLICITATION_LENGTH,
+        Body::Rs => Some(ROUTER_SOLICITATION_LENGTH),
         Body::Ra(ra) => router_advertisement_length(ra),
-        Body::Ns(ns) => ns.target.as_bytes().len() + NeighborSolicitation::TARGET_AT,
-        Body::Na(na) => na.target.as_bytes().len() + NeighborAdvertisement::TARGET_AT,
+        Body::Ns(ns) => Some(ns.target.as_bytes().len() + NeighborSolicitation::TARGET_AT),
+        Body::Na(na) => Some(na.target.as_bytes().len() + NeighborAdvertisement::TARGET_AT),
         Body::Redirect(redirect) => {
             let addresses = redirect.target.as_bytes().len()
                 + redirect.destination.as_bytes().len();
-            addresses + Redirect::TARGET_AT
+            Some(addresses + Redirect::TARGET_AT)
         }
     }
 }

@@ -13,13 +13,13 @@ use std::alloc::Allocator;
 const LONGEST_PAYLOAD: usize = 65535;
 
 /// How many bytes are written of a message of these fields and options, which is the room that `put_message` needs. There are
-/// none where no list of at most 65535 bytes spells it: where the options are too long, where an `Other` reads as one of the known
-/// options, and where its piece would be no multiple of 8 bytes.
+/// none where it is not well formed: where the options are too long, where an `Other` reads as one of the known options, where its piece
+/// would be no multiple of 8 bytes, and where a Router Advertisement has a preference and no router lifetime.
 pub fn written_length<A: Allocator>(body: &Body, options: &[Opt<A>]) -> Option<usize>
     ensures len { SomeIff result (IsWellFormed (whole_of body.now options.now)) (written_length (whole_of body.now options.now)) }
     ensures short { IfSome result (λ len. len ≤ 65535) }
 {
-    let mut length = fields_length(body);
+    let mut length = fields_length(body)?;
     for option in options {
         let more = option.piece_length()?;
         length += more;

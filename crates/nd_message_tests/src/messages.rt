@@ -1,4 +1,4 @@
-use nd_addr::{Addr, Mac, Prefix, Why};
+use nd_addr::{Addr, Mac, Preference, Prefix, Why};
 use nd_decode::*;
 use std::test::*;
 
@@ -96,6 +96,7 @@ fn reads_advertisement(rt: HostRuntime) -> Result<(), Fail> {
         hop_limit: 64,
         managed: false,
         other: false,
+        preference: Preference::Medium,
         router_lifetime: 1800,
         reachable_time: 0,
         retrans_timer: 0,
@@ -125,11 +126,35 @@ fn reads_reachable_time(rt: HostRuntime) -> Result<(), Fail> {
         hop_limit: 0,
         managed: false,
         other: false,
+        preference: Preference::Medium,
         router_lifetime: 0,
         reachable_time: 32047,
         retrans_timer: 0,
     };
     assert!(rt; message.body == Body::Ra(body));
+    Ok(())
+}
+
+/// The preference is told by two bits of the byte of flags (RFC 4191, section 2.1), whatever the router lifetime.
+#[test]
+fn reads_preferences(rt: HostRuntime) -> Result<(), Fail> {
+    for (flags, managed, preference) in [
+        (0x00u8, false, Preference::Medium),
+        (0x08, false, Preference::High),
+        (0x18, false, Preference::Low),
+        // The reserved value.
+        (0x10, false, Preference::Medium),
+        (0x88, true, Preference::High),
+        (0xff, true, Preference::Low),
+    ] {
+        let mut bytes = REACHABLE_TIME;
+        bytes[5] = flags;
+        let message = decode(&bytes).ok().ok_or("message")?;
+        match message.body {
+            Body::Ra(ra) => assert!(rt; ra.preference == preference && ra.managed == managed),
+            _ => return Err(Fail::new("another message")),
+        }
+    }
     Ok(())
 }
 

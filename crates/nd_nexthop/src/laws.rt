@@ -1,10 +1,10 @@
 //! Laws of the definitions, each the contract of a function that does nothing.
 
-ghost use Rattle.std.specs.Prelude.{◌≡◌, ◌≤◌, ◌∷◌, ◌++◌, ℕ, true, None, Some, nat_eq, List, length};
+ghost use Rattle.std.specs.Prelude.{◌≡◌, ◌≤◌, ◌∷◌, ◌++◌, ℕ, true, false, Some, nat_eq, List, length};
 ghost use Rattle.std.specs.Map.{lookup};
 ghost use Rattle.nd_nexthop.specs.History.{RedirectRow, kept, redirects, max_redirects};
 ghost use Rattle.nd_nexthop.specs.Choice.{Stands, Table, target_in};
-ghost use Rattle.nd_nexthop.specs.DefaultRouter.{DefaultRouter, first_usable, chosen_router, AllLater, NoneBefore};
+ghost use Rattle.nd_nexthop.specs.DefaultRouter.{DefaultRouter, chosen_router, AllLater, AllLessPreferred, NoneBefore, NonePreferred, NoneUsable};
 
 /// What happened gives one table, in which a look-up finds the kept redirect of each destination; and one list, which has the kept
 /// redirect of each destination, and 64 at most.
@@ -15,9 +15,10 @@ pub fn one_answer()
     ensures few { (history : List RedirectRow) → length (redirects history) ≤ max_redirects }
 {}
 
-/// The default router that is chosen is the first of the list that is usable; where none is, the first one of those that failed least
-/// recently (RFC 4861, section 6.3.6).
+/// The default router that is chosen is of those that are usable the one with the highest preference; where none is, the one that failed least
+/// recently, and of those that never failed the one with the highest preference (RFC 4861, section 6.3.6; RFC 4191, section 3.2). Of several it is
+/// the first of the list.
 pub fn one_router()
-    ensures usable { (before behind : List DefaultRouter) (r : DefaultRouter) → first_usable before ≡ None → r.usable ≡ true → chosen_router (before ++ r ∷ behind) ≡ Some r.key }
-    ensures least_recent { (before behind : List DefaultRouter) (r : DefaultRouter) → first_usable (before ++ r ∷ behind) ≡ None → AllLater r before → NoneBefore r behind → chosen_router (before ++ r ∷ behind) ≡ Some r.key }
+    ensures usable { (before behind : List DefaultRouter) (r : DefaultRouter) → r.usable ≡ true → AllLessPreferred r before → NonePreferred r behind → chosen_router (before ++ r ∷ behind) ≡ Some r.key }
+    ensures least_recent { (before behind : List DefaultRouter) (r : DefaultRouter) → r.usable ≡ false → NoneUsable before → NoneUsable behind → AllLater r before → NoneBefore r behind → chosen_router (before ++ r ∷ behind) ≡ Some r.key }
 {}

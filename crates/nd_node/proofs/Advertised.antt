@@ -225,7 +225,7 @@ module _ (start : Start) (now : ℕ) (source destination : Addr) (ra : RouterAdv
 
   record Begun (c d : Chronicle) : Type 0 where
     neighbours : neighbour_history d ≡ then_neighbour now news (neighbour_history c)
-    routers : router_history d ≡ router_rows.Heard now key ra.router_lifetime ∷ router_history c
+    routers : router_history d ≡ router_rows.Heard now key ra.router_lifetime ra.preference ∷ router_history c
     prefixes : prefix_history d ≡ then_announced now (on_link.prefixes_in options) (prefix_history c)
     addresses : address_history d ≡ address_history c
     servers : server_history d ≡ then_announced now (servers_told options) (server_history c)
@@ -365,7 +365,7 @@ pub record Takes {R A : Type 0} (stream : R → Stream) (old new : Node R A) (be
   pub neighbour_limit : new.neighbours.limit ≡ old.neighbours.limit
   pub left_list : Bool
   pub times_out : (history : List router_rows.RouterRow) → router_list.Stands old.routers history → left_list ≡ ((ra.router_lifetime == 0) && lifetimes.stands same (number_of source.0) (announcements history) now)
-  pub routers : (history : List router_rows.RouterRow) → router_list.Stands old.routers history → router_list.Stands new.routers (with_left now left_list (number_of source.0) (router_rows.Heard now (number_of source.0) ra.router_lifetime ∷ history))
+  pub routers : (history : List router_rows.RouterRow) → router_list.Stands old.routers history → router_list.Stands new.routers (with_left now left_list (number_of source.0) (router_rows.Heard now (number_of source.0) ra.router_lifetime ra.preference ∷ history))
   pub redirects : (history : List redirect_rows.RedirectRow) → choice.Stands old.choice history → choice.Stands new.choice (with_gone now left_list (number_of source.0) history)
   -- the choice behind the news of the sender, behind the routers, and behind the prefixes
   pub first : choice.Table
@@ -494,9 +494,9 @@ module _ {R A : Type 0} (stream : R → Stream) (old new : Node R A) (before aft
 
   -- ---- the other tables
 
-  routers_are : router_history all ≡ with_left now t.left_list source_key (router_rows.Heard now source_key ra.router_lifetime ∷ router_history c)
+  routers_are : router_history all ≡ with_left now t.left_list source_key (router_rows.Heard now source_key ra.router_lifetime ra.preference ∷ router_history c)
   routers_are = options_add.routers ∙ (leaving_adds.routers ∙ (ap (λ (x : Bool). with_left now x source_key (router_history released)) (sym leaves_is)
-      ∙ ap (λ (h : List router_rows.RouterRow). with_left now t.left_list source_key h) (frames_add.routers ∙ (message_adds.routers ∙ ap (λ (h : List router_rows.RouterRow). router_rows.Heard now source_key ra.router_lifetime ∷ h) place.others.routers))))
+      ∙ ap (λ (h : List router_rows.RouterRow). with_left now t.left_list source_key h) (frames_add.routers ∙ (message_adds.routers ∙ ap (λ (h : List router_rows.RouterRow). router_rows.Heard now source_key ra.router_lifetime ra.preference ∷ h) place.others.routers))))
 
   redirects_are : redirect_history all ≡ with_gone now t.left_list source_key (redirect_history c)
   redirects_are = options_add.redirects ∙ (leaving_adds.redirects ∙ (ap (λ (x : Bool). with_gone now x source_key (redirect_history released)) (sym leaves_is)

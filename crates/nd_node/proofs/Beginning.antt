@@ -47,7 +47,7 @@ pub record Starts {R A : Type 0} (stream : R → Stream) (start : Start) (node :
   pub delay : ℕ
   pub retrans : ℕ
   pub formed : node.addresses.addresses ≡ formed (link_local_key start) start.at delay retrans None ∷ []
-  pub routers : node.routers ≡ record { limit = start.limits.routers; entries = []; failed = [] }
+  pub routers : node.routers ≡ record { limit = start.limits.routers; entries = []; preferences = []; failed = [] }
   pub neighbours : node.neighbours ≡ record { limit = start.limits.neighbours; nodes = []; rings = 0 }
   pub solicitations : node.solicitations ≡ none_sent
   pub no_prefixes : node.prefixes ≡ []

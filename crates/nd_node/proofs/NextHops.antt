@@ -6,11 +6,13 @@ use Rattle.std.proofs.lemmas.Bool.{lt-ltb}
 use Rattle.nd_addr.specs.declared.addr.Addr.{Addr}
 use Rattle.nd_addr.specs.Kind.{multicast_prefix, unspecified_address, loopback_address}
 use Rattle.nd_addr.specs.Number.{number_of, holds}
+use Rattle.nd_addr.specs.declared.preference.Preference.{Preference}
 use Rattle.nd_addr.specs.declared.role.Role.{Role}
 use Rattle.nd_addr.specs.declared.role.Role.TheVariants.{Host, Router}
 use Rattle.nd_lifetime.specs.declared.lasting.Lasting.{Lasting}
 use Rattle.nd_lifetime.specs.Listing.{Lists, open_at}
 use Rattle.nd_lifetime.proofs.Behind.{open_all}
+use Rattle.nd_lifetime.proofs.Finding.{Has, Has-head, Has-tail}
 use Rattle.nd_lifetime.proofs.Steps.{lists_at}
 use Rattle.nd_neighbour.specs.Entry.{Node}
 use Rattle.nd_neighbour.specs.History as neighbour_rows
@@ -19,11 +21,13 @@ use Rattle.nd_neighbour.specs.Table as neighbours
 use Rattle.nd_neighbour.specs.Due as neighbour_dates
 use Rattle.nd_slaac.specs.Dates as address_dates
 use Rattle.nd_params.specs.History.{redraw_after}
-use Rattle.nd_routers.specs.History.{announcements}
+use Rattle.nd_routers.specs.History.{announcements, preference_of}
+use Rattle.nd_routers.specs.Preferences.{preference_among}
 use Rattle.nd_routers.specs.OnLink.{is_held}
 use Rattle.nd_routers.specs.DefaultRouterSelection.{place_among}
 use Rattle.nd_routers.specs.Routers as routers
 use Rattle.nd_routers.specs.Routers.{same}
+use Rattle.nd_routers.proofs.Preferring.{found_among}
 use Rattle.nd_routers.proofs.Settled.{open_each}
 use Rattle.nd_table.specs.Ends.{is_before}
 use Rattle.nd_nexthop.specs.DefaultRouter.{DefaultRouter}
@@ -57,12 +61,15 @@ use Rattle.nd_node.specs.Node.{Stands, next_of}
 
 -- ---- a router in any state other than INCOMPLETE
 
-candidates_are : (c : Chronicle) (kept : List Node) (failed : List ℕ) (entries : List (Lasting ℕ)) → neighbours.Stands kept (neighbour_history c)
-    → map (λ key. candidate_in kept failed key) (routers.keys entries) ≡ map (λ (e : Lasting ℕ). candidate c failed e.key) entries
-candidates_are c kept failed [] s = refl
-candidates_are c kept failed (e ∷ entries) s =
-    ap (λ (u : Bool). record { key = e.key; usable = u; failed = place_among e.key failed } ∷ map (λ key. candidate_in kept failed key) (routers.keys entries)) (resolved_by_history e.key kept (neighbour_history c) s)
-    ∙ ap (λ (l : List DefaultRouter). candidate c failed e.key ∷ l) (candidates_are c kept failed entries s)
+candidates_are : (c : Chronicle) (kept : List Node) (table : routers.Table) (entries : List (Lasting ℕ)) → neighbours.Stands kept (neighbour_history c)
+    → ((key : ℕ) → Has same eqb_tells entries key → preference_among key table.preferences ≡ preference_of key (router_history c))
+    → map (λ key. candidate_in kept table key) (routers.keys entries) ≡ map (λ (e : Lasting ℕ). candidate c table.failed e.key) entries
+candidates_are c kept table [] s preferred = refl
+candidates_are c kept table (e ∷ entries) s preferred =
+    let rest = map (λ key. candidate_in kept table key) (routers.keys entries) in
+    ap (λ (u : Bool). record { key = e.key; usable = u; preference = preference_among e.key table.preferences; failed = place_among e.key table.failed } ∷ rest) (resolved_by_history e.key kept (neighbour_history c) s)
+    ∙ (ap (λ (p : Preference). record { key = e.key; usable = is_some (mac_of (neighbour_rows.story e.key (neighbour_history c))); preference = p; failed = place_among e.key table.failed } ∷ rest) (preferred e.key (Has-head same eqb_tells e entries))
+    ∙ ap (λ (l : List DefaultRouter). candidate c table.failed e.key ∷ l) (candidates_are c kept table entries s (λ key h. preferred key (Has-tail same eqb_tells e entries key h))))
 
 before_next : (end : Option ℕ) (rest now : ℕ) → now < earlier end rest → IsTrue (is_before now end)
 before_next None rest now lt = refl
@@ -93,7 +100,8 @@ module _ {R A : Type 0} (stream : R → Stream) (start : Start) (node : nodes.No
       listed = routers_listed;
       failed = node.routers.failed;
       failures = s.routers.failures;
-      routers_are = candidates_are c node.neighbours.nodes node.routers.failed node.routers.entries s.neighbours;
+      routers_are = candidates_are c node.neighbours.nodes node.routers node.routers.entries s.neighbours
+          (λ key h. ap (λ ps. preference_among key ps) s.routers.preferred ∙ found_among (λ k. preference_of k (router_history c)) key node.routers.entries h);
     };
     next_is = is ∙ hop_by_own (λ (a : List ℕ). counted_in Own (address_in (number_of a) node.addresses.addresses)) (is_own c) (λ (a : List ℕ). is_held a (open_at now node.prefixes)) (candidates_in node.neighbours.nodes node.routers) (kept (number_of destination.0) (redirect_history c)) destination.0
         (counted_by_history Own (number_of destination.0) node.addresses.addresses (address_history c) s.addresses);

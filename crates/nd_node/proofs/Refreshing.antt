@@ -4,6 +4,7 @@ use Rattle.std.specs.Prelude.{◌==◌, ◌&&◌, ◌||◌, ◌⊎◌, not, is_s
 use Rattle.std.proofs.lemmas.Bool.{and_parts, cond-true, cond-false}
 use Rattle.nd_addr.specs.Number.{addr_at, number_of}
 use Rattle.nd_addr.specs.declared.mac.Mac.{Mac}
+use Rattle.nd_addr.specs.declared.preference.Preference.{Preference}
 use Rattle.nd_decode.specs.declared.prefix_info.PrefixInfo.{PrefixInfo}
 use Rattle.nd_lifetime.specs.Listing.{open_at}
 use Rattle.nd_neighbour.specs.History as neighbour_rows
@@ -11,6 +12,7 @@ use Rattle.nd_neighbour.specs.Entry as neighbour_entries
 use Rattle.nd_neighbour.specs.Table as neighbours
 use Rattle.nd_neighbour.specs.Table.{node_in}
 use Rattle.nd_routers.specs.DefaultRouterSelection.{place_among}
+use Rattle.nd_routers.specs.Preferences.{preference_among}
 use Rattle.nd_routers.specs.Routers as routers
 use Rattle.nd_slaac.specs.Address.{Address, address_of}
 use Rattle.nd_slaac.specs.Calls.{keys_in}
@@ -121,9 +123,16 @@ own_refreshed start now to_all c d mac list infos mac_is known same none =
 
 -- ---- what is remembered
 
-listed_same : (nodes : List neighbour_entries.Node) (old new : routers.Table) → routers.keys new.entries ≡ routers.keys old.entries → new.failed ≡ old.failed → candidates_in nodes new ≡ candidates_in nodes old
-listed_same nodes old new keys failed =
-    ap (λ (f : List ℕ). map (λ key. candidate_in nodes f key) (routers.keys new.entries)) failed ∙ ap (λ (ks : List ℕ). map (λ key. candidate_in nodes old.failed key) ks) keys
+listed_same : (nodes : List neighbour_entries.Node) (old new : routers.Table) → routers.keys new.entries ≡ routers.keys old.entries → ((key : ℕ) → preference_among key new.preferences ≡ preference_among key old.preferences)
+    → new.failed ≡ old.failed → candidates_in nodes new ≡ candidates_in nodes old
+listed_same nodes old new keys preferences failed = by (routers.keys new.entries) ∙ ap (λ (ks : List ℕ). map (λ key. candidate_in nodes old key) ks) keys
+  where
+    by : (ks : List ℕ) → map (λ key. candidate_in nodes new key) ks ≡ map (λ key. candidate_in nodes old key) ks
+    by [] = refl
+    by (key ∷ ks) =
+        ap (λ (p : Preference). record { key = key; usable = is_resolved (node_in key nodes); preference = p; failed = place_among key new.failed } ∷ map (λ k. candidate_in nodes new k) ks) (preferences key)
+        ∙ (ap (λ (f : List ℕ). record { key = key; usable = is_resolved (node_in key nodes); preference = preference_among key old.preferences; failed = place_among key f } ∷ map (λ k. candidate_in nodes new k) ks) failed
+        ∙ ap (λ (l : List DefaultRouter). candidate_in nodes old key ∷ l) (by ks))
 
 -- a next hop asks only whether the destination itself is on the link
 hop_by_link : (own linked other : List ℕ → Bool) (candidates : List DefaultRouter) (redirect : Option ℕ) (address : List ℕ) → linked address ≡ other address
@@ -151,7 +160,7 @@ module _ {R A : Type 0} (old new : Node R A) (at now : ℕ) (le : at ≤ now) (r
         let address = (addr_at e.0).0 in
         let kept = target_in e.0 old.choice.redirects in
         let candidates : candidates_in new.neighbours.nodes new.routers ≡ candidates_in old.neighbours.nodes old.routers =
-        listed_same new.neighbours.nodes old.routers new.routers lists.keys lists.failed ∙ candidates_same old.neighbours.nodes new.neighbours.nodes old.routers resolved in
+        listed_same new.neighbours.nodes old.routers new.routers lists.keys lists.preferences lists.failed ∙ candidates_same old.neighbours.nodes new.neighbours.nodes old.routers resolved in
         was
         ∙ (hop_by_own (own_in old.addresses.addresses) (own_in new.addresses.addresses) (linked_by (open_at now old.prefixes)) (candidates_in old.neighbours.nodes old.routers) kept address (sym (owns (number_of address)))
         ∙ (hop_by_link (own_in new.addresses.addresses) (linked_by (open_at now old.prefixes)) (linked_by (open_at now new.prefixes)) (candidates_in old.neighbours.nodes old.routers) kept address (sym (standing address))

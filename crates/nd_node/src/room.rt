@@ -36,7 +36,7 @@ pub(crate) struct Room<A: Allocator> {
 impl<A: Allocator + Copy> Room<A> {
     /// Takes the room. The error is want of memory.
     pub(crate) fn new(alloc: A) -> Result<Self, AllocError>
-        ensures routers { IfOk result (λ room. room.routers ≡ record { limit = usual_limits.routers; entries = []; failed = [] }) }
+        ensures routers { IfOk result (λ room. room.routers ≡ record { limit = usual_limits.routers; entries = []; preferences = []; failed = [] }) }
         ensures router_history { IfOk result (λ room. routers.Stands room.routers []) }
         ensures no_prefixes { IfOk result (λ room. room.prefixes ≡ []) }
         ensures prefixes { IfOk result (λ room. lists.Stands same_prefix room.prefixes []) }

@@ -101,6 +101,7 @@ impl<R: Rng + Drop, A: Allocator + Clone> Node<R, A> {
             now,
             heard.source,
             heard.ra.router_lifetime,
+            heard.ra.preference,
         );
         tell_left(outs, now, heard.source, times_out);
         hear_prefixes(&mut self.prefixes, &mut self.choice, now, heard.options);

@@ -4,7 +4,7 @@ ghost use Rattle.nd_message.specs.Spelling.{written_length};
 ghost use Rattle.nd_message.specs.WellFormed.{IsWellFormed};
 ghost use Rattle.nd_advertiser.specs.Contents.{max_contents_length};
 
-use nd_addr::{Addr, HEADERS_LENGTH, Mac, Prefix};
+use nd_addr::{Addr, HEADERS_LENGTH, Mac, Preference, Prefix};
 use nd_advertiser::*;
 use nd_message::{Message, put_frame};
 use std::alloc::Global;
@@ -14,6 +14,7 @@ use std::test::*;
 const NO_FLAGS: ConfigFlags = ConfigFlags {
     managed: false,
     other: false,
+    preference: Preference::Medium,
 };
 
 const FLAGS: OfferFlags = OfferFlags {
@@ -77,6 +78,27 @@ fn the_first_rule_that_is_broken_is_told(rt: HostRuntime) {
     }
     assert!(rt; ConfigFault::Max as u8 == 1);
     assert!(rt; ConfigFault::Prefix as u8 == 7);
+    assert!(rt; ConfigFault::Preference as u8 == 8);
+}
+
+/// A router that is no default router has no preference (RFC 4191, section 2.2), which is the last rule.
+#[test]
+fn a_preference_needs_a_lifetime(rt: HostRuntime) {
+    for (lifetime, preference, mtu, fault) in [
+        (0, Preference::Medium, 0, None),
+        (0, Preference::High, 0, Some(ConfigFault::Preference)),
+        (0, Preference::Low, 0, Some(ConfigFault::Preference)),
+        (0, Preference::Low, 1, Some(ConfigFault::Mtu)),
+        (600, Preference::High, 0, None),
+        (600, Preference::Low, 0, None),
+    ] {
+        let flags = ConfigFlags {
+            preference,
+            ..NO_FLAGS
+        };
+        let config = Config::new(200, 600, lifetime, 64, flags, 0, 0, mtu);
+        assert_eq!(rt; config.err(), fault);
+    }
 }
 
 #[test]
@@ -84,6 +106,7 @@ fn a_configuration_says_what_is_advertised(rt: HostRuntime) -> Result<(), Fail> 
     let flags = ConfigFlags {
         managed: true,
         other: false,
+        preference: Preference::High,
     };
     let Ok(config) = Config::new(200, 600, 1800, 64, flags, 30_000, 1_000, 1400) else {
         return Err(Fail::new("not taken"));
@@ -93,6 +116,7 @@ fn a_configuration_says_what_is_advertised(rt: HostRuntime) -> Result<(), Fail> 
     let fields = config.fields();
     assert!(rt; fields.hop_limit == 64);
     assert!(rt; fields.managed && !fields.other);
+    assert!(rt; fields.preference == Preference::High);
     assert!(rt; fields.router_lifetime == 1800);
     assert!(rt; fields.reachable_time == 30_000);
     assert!(rt; fields.retrans_timer == 1_000);

@@ -1,4 +1,4 @@
-use nd_addr::{Addr, Mac};
+use nd_addr::{Addr, Mac, Preference};
 use nd_frames::*;
 use nd_message::{Body, Message, Opt, Redirect, RouterAdvertisement};
 use nd_waiting::Packet;
@@ -237,6 +237,7 @@ fn advertisement(rt: &(impl Abort + AllocGlobal), router_lifetime: u16) -> Packe
             hop_limit: 64,
             managed: false,
             other: false,
+            preference: Preference::Medium,
             router_lifetime,
             reachable_time: 0,
             retrans_timer: 0,

@@ -1,4 +1,4 @@
-use nd_addr::{Addr, HEADERS_LENGTH, Mac, Prefix};
+use nd_addr::{Addr, HEADERS_LENGTH, Mac, Preference, Prefix};
 use nd_message::*;
 use std::alloc::Global;
 use std::process::Abort;
@@ -101,6 +101,7 @@ const BODY: RouterAdvertisement = RouterAdvertisement {
     hop_limit: 64,
     managed: false,
     other: false,
+    preference: Preference::Medium,
     router_lifetime: 1800,
     reachable_time: 0,
     retrans_timer: 0,
@@ -296,6 +297,7 @@ fn writes_mtu_servers_and_names(rt: HostRuntime) {
         hop_limit: 64,
         managed: true,
         other: true,
+        preference: Preference::Medium,
         router_lifetime: 0,
         reachable_time: 0,
         retrans_timer: 0,
@@ -476,6 +478,36 @@ fn refuses_a_long_message(rt: HostRuntime) {
     assert!(rt; !message.is_well_formed());
 }
 
+/// A preference is written, but not with a router lifetime of 0 (RFC 4191, section 2.2).
+#[test]
+fn writes_preferences(rt: HostRuntime) {
+    for (router_lifetime, preference, flags) in [
+        (0, Preference::Medium, Some(0x00)),
+        (0, Preference::High, None),
+        (0, Preference::Low, None),
+        (1, Preference::High, Some(0x08)),
+        (1800, Preference::Low, Some(0x18)),
+        (1800, Preference::Medium, Some(0x00)),
+    ] {
+        let body = Body::Ra(RouterAdvertisement {
+            router_lifetime,
+            preference,
+            ..BODY
+        });
+        let message: Message<_> = Message {
+            body,
+            options: Vec::new(rt.alloc()),
+        };
+        assert_eq!(rt; message.is_well_formed(), flags.is_some());
+        if message.is_well_formed() {
+            let bytes = encode(rt.alloc(), &message, ROUTER, Addr::ALL_NODES).expect(&rt, "memory");
+            assert!(rt; bytes.get(5).copied() == flags);
+            let read = decode(&bytes).ok().expect(&rt, "message");
+            assert!(rt; read.body == body);
+        }
+    }
+}
+
 #[test]
 fn reads_what_it_wrote(rt: HostRuntime) {
     let mut options = Vec::new(rt.alloc());
@@ -489,6 +521,7 @@ fn reads_what_it_wrote(rt: HostRuntime) {
         hop_limit: 255,
         managed: true,
         other: false,
+        preference: Preference::Medium,
         router_lifetime: 9000,
         reachable_time: 3600000,
         retrans_timer: 1000,

@@ -1,7 +1,7 @@
 ghost use Rattle.std.specs.Prelude.{◌≡◌};
 ghost use Rattle.nd_addr.specs.Number.{holds};
 
-use nd_addr::{Addr, Prefix};
+use nd_addr::{Addr, Preference, Prefix};
 use nd_nexthop::*;
 use std::alloc::Global;
 use std::process::Abort;
@@ -72,6 +72,7 @@ fn usable(n: u8, failed: Option<u64>) -> Candidate {
     Candidate {
         addr: link_local(n),
         usable: true,
+        preference: Preference::Medium,
         failed,
     }
 }
@@ -80,7 +81,15 @@ fn unusable(n: u8, failed: Option<u64>) -> Candidate {
     Candidate {
         addr: link_local(n),
         usable: false,
+        preference: Preference::Medium,
         failed,
+    }
+}
+
+fn preferred(candidate: Candidate, preference: Preference) -> Candidate {
+    Candidate {
+        preference,
+        ..candidate
     }
 }
 
@@ -180,6 +189,61 @@ fn chooses_a_router(rt: HostRuntime) {
         unusable(4, Some(1)),
     ];
     assert!(rt; off_link(&routers, &mut choice) == via(3));
+}
+
+/// Of the usable routers the preferred one, and else of those that failed least recently (RFC 4191, section 3.2).
+#[test]
+fn chooses_the_preferred_router(rt: HostRuntime) {
+    let mut choice = Choice::new(rt.alloc()).expect(&rt, "memory");
+    let high = Preference::High;
+    let low = Preference::Low;
+    for (routers, chosen) in [
+        // The first of those that are preferred.
+        (
+            [
+                usable(2, None),
+                preferred(usable(3, Some(0)), high),
+                preferred(usable(4, None), high),
+            ],
+            3,
+        ),
+        (
+            [
+                preferred(usable(2, None), low),
+                usable(3, Some(1)),
+                usable(4, None),
+            ],
+            3,
+        ),
+        // A usable one comes before a preferred one.
+        (
+            [
+                preferred(unusable(2, None), high),
+                preferred(usable(3, Some(0)), low),
+                preferred(unusable(4, None), high),
+            ],
+            3,
+        ),
+        // None is usable: one that never failed comes first, the preferred one of those.
+        (
+            [
+                preferred(unusable(2, Some(0)), high),
+                preferred(unusable(3, None), low),
+                unusable(4, None),
+            ],
+            4,
+        ),
+        (
+            [
+                preferred(unusable(2, Some(2)), high),
+                preferred(unusable(3, Some(0)), low),
+                unusable(4, Some(1)),
+            ],
+            3,
+        ),
+    ] {
+        assert!(rt; off_link(&routers, &mut choice) == via(chosen));
+    }
 }
 
 /// How many redirects are kept.

@@ -1,6 +1,6 @@
 ghost use Rattle.std.specs.Prelude.{◌<◌, ◌^◌};
 
-use nd_addr::{Addr, Mac, Prefix, Role};
+use nd_addr::{Addr, Mac, Preference, Prefix, Role};
 use nd_advertiser::{Advertiser, Config, ConfigFlags, Offer, OfferFlags};
 use nd_decode::{MessageRef, PrefixInfo, decode};
 use nd_dns::Dns;
@@ -198,15 +198,27 @@ fn addresses_are_shown(rt: HostRuntime) {
 fn a_router_is_shown(rt: HostRuntime) {
     let alloc = rt.alloc();
     let mut routers = Routers::new(rt.alloc(), 16).expect(&rt, "memory");
-    assert!(rt; routers.next_due().is_none());
-    assert!(rt; routers.heard_ra(1200, ROUTER, 1800).is_ok());
-    let rows = router_rows(&alloc, &routers, 2200).expect(&rt, "memory");
-    is_told(
-        &rt,
-        2200,
-        Out::Shown(rows),
-        "2200 router fe80::ff:fe00:1 1799000\n2200 end 1\n",
-    );
+    for (preference, text) in [
+        (
+            Preference::Medium,
+            "2200 router fe80::ff:fe00:1 1799000 medium\n2200 end 1\n",
+        ),
+        (
+            Preference::High,
+            "2200 router fe80::ff:fe00:1 1799000 high\n2200 end 1\n",
+        ),
+        (
+            Preference::Low,
+            "2200 router fe80::ff:fe00:1 1799000 low\n2200 end 1\n",
+        ),
+    ] {
+        match routers.next_due() {
+            Some(next) if next <= 1200 => panic!(&rt; "an end is due"),
+            _ => assert!(rt; routers.heard_ra(1200, ROUTER, 1800, preference).is_ok()),
+        }
+        let rows = router_rows(&alloc, &routers, 2200).expect(&rt, "memory");
+        is_told(&rt, 2200, Out::Shown(rows), text);
+    }
 }
 
 #[test]
@@ -434,6 +446,7 @@ fn what_a_router_advertises_is_shown(rt: HostRuntime) {
     let flags = ConfigFlags {
         managed: false,
         other: false,
+        preference: Preference::Medium,
     };
     advertiser.begin(
         10,

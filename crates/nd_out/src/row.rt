@@ -99,7 +99,7 @@ pub(crate) fn rows_of<R: Row, A: Allocator + Clone>(
 }
 
 /// The text of a key that stands, and what is left of its lifetime at a moment, both in milliseconds.
-fn lasting_text<K: Row, A: Allocator>(
+pub(crate) fn lasting_text<K: Row, A: Allocator>(
     alloc: A,
     now: u64,
     entry: &Lasting<K>,

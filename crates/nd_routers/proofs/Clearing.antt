@@ -8,6 +8,8 @@ use Rattle.nd_lifetime.specs.Listing.{without}
 use Rattle.nd_lifetime.proofs.Finding.{without_absent}
 use Rattle.nd_lifetime.proofs.Order.{distinct_of}
 use Rattle.nd_routers.specs.History.{RouterRow, LeftList, failure_of}
+use Rattle.nd_routers.specs.declared.preferred.Preferred.{Preferred}
+use Rattle.nd_routers.specs.Preferences.{without_preference}
 use Rattle.nd_routers.specs.DefaultRouterSelection.{has_failed, others}
 use Rattle.nd_routers.specs.Routers.{Table, same, Stands, then_left, keys}
 use Rattle.nd_routers.proofs.Failing.{head_has}
@@ -17,14 +19,16 @@ no_failures : (ks : List ℕ) → ((k : ℕ) → has_failed k ks ≡ false) → 
 no_failures [] h = refl
 no_failures (k ∷ ks) h = absurd (true≢false (sym (head_has k ks) ∙ h k))
 
-abbrev pub tabled : ℕ → List (Lasting ℕ) → List ℕ → Table
-tabled limit es ks = record { limit = limit; entries = es; failed = ks }
+abbrev pub tabled : ℕ → List (Lasting ℕ) → List Preferred → List ℕ → Table
+tabled limit es ps ks = record { limit = limit; entries = es; preferences = ps; failed = ks }
 
-pub all_leave : (limit at : ℕ) (es : List (Lasting ℕ)) (ks : List ℕ) (history : List RouterRow) → Stands (tabled limit es ks) history → Stands (tabled limit [] []) (then_left at (keys es) history)
-all_leave limit at [] ks history s =
+pub all_leave : (limit at : ℕ) (es : List (Lasting ℕ)) (ps : List Preferred) (ks : List ℕ) (history : List RouterRow) → Stands (tabled limit es ps ks) history → Stands (tabled limit [] [] []) (then_left at (keys es) history)
+all_leave limit at [] ps ks history s =
     let none = no_failures ks (λ k. s.failures.each k ∙ ap (λ o. is_some o && is_some (failure_of k history)) (sym (s.routers.ends k))) in
-    subst (λ (l : List ℕ). Stands (tabled limit [] l) history) none s
-all_leave limit at (e ∷ es) ks history s =
+    subst (λ (l : List ℕ). Stands (tabled limit [] [] l) history) none (subst (λ (l : List Preferred). Stands (tabled limit [] l ks) history) s.preferred s)
+all_leave limit at (e ∷ es) ps ks history s =
     let distinct = distinct_of same eqb_tells _ (e ∷ es) s.routers.order in
     let left : without same e.key (e ∷ es) ≡ es = grind (arith, nat_tests, without_absent same eqb_tells e.key es distinct.0) in
-    all_leave limit at es (others e.key ks) (LeftList at e.key ∷ history) ((gains_left (tabled limit (e ∷ es) ks) (tabled limit es (others e.key ks)) at e.key (sym left) refl).stands history s)
+    let rest = without_preference e.key ps in
+    all_leave limit at es rest (others e.key ks) (LeftList at e.key ∷ history)
+    ((gains_left (tabled limit (e ∷ es) ps ks) (tabled limit es rest (others e.key ks)) at e.key (sym left) refl refl).stands history s)

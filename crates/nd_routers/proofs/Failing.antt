@@ -3,6 +3,7 @@ use Rattle.std.proofs.Common.{◌≡◌, ℕ, ◌<◌, ◌≤◌, Bool, true, fa
 use Rattle.std.specs.Prelude.{not, is_some, ◌&&◌, ◌||◌}
 use Rattle.std.proofs.lemmas.Bool.Decides.{nat_tests, eqb_tells}
 use Rattle.std.proofs.lemmas.Bool.{cond_both, true≢false}
+use Rattle.nd_addr.specs.declared.preference.Preference.{Preference}
 use Rattle.nd_lifetime.specs.History.{end_of, stands}
 use Rattle.nd_lifetime.specs.declared.lasting.Lasting.{Lasting}
 use Rattle.nd_lifetime.specs.Listing.{end_in, without, StandsUntilTold}
@@ -59,7 +60,7 @@ InOrder-push f key (k ∷ ks) h l = (AllLater-push f (f k) key ks h.0 (l k (head
 -- a failure is among the history
 failure_below : (key : ℕ) (history : List RouterRow) → is_some (failure_of key history) ≡ true → number_in (failure_of key history) < length history
 failure_below key [] h = absurd (true≢false (sym h))
-failure_below key (Heard at k w ∷ history) h = grind (arith, nat_tests, h, failure_below key history)
+failure_below key (Heard at k w p ∷ history) h = grind (arith, nat_tests, h, failure_below key history)
 failure_below key (LeftList at k ∷ history) h = grind (arith, nat_tests, h, failure_below key history)
 failure_below key (Failed at k ∷ history) h = grind (arith, nat_tests, h, failure_below key history)
 
@@ -95,15 +96,15 @@ module _ (history : List RouterRow) (ks : List ℕ) (f : Failures history ks) wh
   }
 
   -- a router that announces that it is none
-  pub is_removed : (at key : ℕ) → Failures (Heard at key 0 ∷ history) (others key ks)
-  is_removed at key = record {
+  pub is_removed : (at key : ℕ) (preference : Preference) → Failures (Heard at key 0 preference ∷ history) (others key ks)
+  is_removed at key preference = record {
     each = λ k. has_failed-others k key ks ∙ grind (arith, nat_tests, f.each k);
     order = InOrder-agree (λ k. number_in (failure_of k history)) _ (others key ks) (λ k h. grind (arith, nat_tests, h, has_failed-others k key ks)) (InOrder-others _ key ks f.order);
   }
 
   -- a router that announces itself, where it stands if it is listed
-  pub is_heard : (at key w : ℕ) → eqb w 0 ≡ false → stands same key (announcements history) at ≡ is_some (end_of same key (announcements history)) → Failures (Heard at key w ∷ history) ks
-  is_heard at key w n settled = record {
+  pub is_heard : (at key w : ℕ) (preference : Preference) → eqb w 0 ≡ false → stands same key (announcements history) at ≡ is_some (end_of same key (announcements history)) → Failures (Heard at key w preference ∷ history) ks
+  is_heard at key w preference n settled = record {
     each = λ k. grind (arith, nat_tests, f.each k, n, settled);
     order = InOrder-agree (λ k. number_in (failure_of k history)) _ ks (λ k h. grind (arith, nat_tests, h, n, settled, some_of k)) f.order;
   }

@@ -3,6 +3,7 @@ pub mod Dues
 pub mod Failing
 pub mod Refreshing
 pub mod Settled
+pub mod Preferring
 pub mod Steps
 pub mod Told
 pub mod Unique

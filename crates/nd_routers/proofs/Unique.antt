@@ -4,7 +4,9 @@ use Rattle.std.specs.Prelude.{◌||◌}
 use Rattle.std.proofs.lemmas.Bool.Decides.{nat_tests, eqb_tells}
 use Rattle.std.proofs.lemmas.Bool.{true≢false}
 use Rattle.nd_lifetime.proofs.Unique.{one_list}
+use Rattle.nd_lifetime.specs.declared.lasting.Lasting.{Lasting}
 use Rattle.nd_routers.specs.History.{RouterRow}
+use Rattle.nd_routers.specs.Preferences.{preferences_of}
 use Rattle.nd_routers.specs.DefaultRouterSelection.{has_failed, AllLater, InOrder, Failures}
 use Rattle.nd_routers.specs.Routers.{Table, same, Stands}
 use Rattle.nd_routers.proofs.Failing.{head_has, not_first}
@@ -47,8 +49,12 @@ one_order f (j ∷ js) (k ∷ ks) o p all = ⊎_elim
 pub one_failures : (history : List RouterRow) (a b : List ℕ) → Failures history a → Failures history b → a ≡ b
 one_failures history a b s t = one_order _ a b s.order t.order (λ key. s.each key ∙ sym (t.each key))
 
-pub one_table : (history : List RouterRow) (a b : Table) → Stands a history → Stands b history → (a.entries ≡ b.entries) × (a.failed ≡ b.failed)
+pub one_table : (history : List RouterRow) (a b : Table) → Stands a history → Stands b history → (a.entries ≡ b.entries) × (a.preferences ≡ b.preferences) × (a.failed ≡ b.failed)
 one_table history a b s t = (
-  one_list same eqb_tells _ a.entries b.entries s.routers.order t.routers.order (λ key. s.routers.ends key ∙ sym (t.routers.ends key)),
+  entries,
+  s.preferred ∙ (ap (λ (es : List (Lasting ℕ)). preferences_of history es) entries ∙ sym t.preferred),
   one_failures history a.failed b.failed s.failures t.failures,
 )
+  where
+    entries : a.entries ≡ b.entries
+    entries = one_list same eqb_tells _ a.entries b.entries s.routers.order t.routers.order (λ key. s.routers.ends key ∙ sym (t.routers.ends key))

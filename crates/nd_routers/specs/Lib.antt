@@ -1,6 +1,7 @@
 pub mod DefaultRouterSelection
 pub mod Due
 pub mod History
+pub mod Preferences
 pub mod OnLink
 pub mod PrefixOptions
 pub mod Refreshing

@@ -1,22 +1,25 @@
 -- What a table of routers is to the history that it stands for.
-use Rattle.std.specs.Prelude.{ℕ, Bool, ◌==◌, if◌then◌else◌, IsTrue, List, [], ◌∷◌, Option, Some, None, map}
+use Rattle.std.specs.Prelude.{◌≡◌, ℕ, Bool, ◌==◌, if◌then◌else◌, IsTrue, List, [], ◌∷◌, Option, Some, None, map}
 use Rattle.nd_table.specs.History as growing
 use Rattle.nd_table.specs.Due.{is_at, least_date, NotBefore}
 use Rattle.nd_lifetime.specs.declared.lasting.Lasting.{Lasting}
 use Rattle.nd_table.specs.Ends.{is_before}
 use Rattle.nd_lifetime.specs.Listing.{StandsUntilTold}
+use Rattle.nd_routers.specs.declared.preferred.Preferred.{Preferred}
 use Rattle.nd_routers.specs.History.{RouterRow, LeftList, announcements}
+use Rattle.nd_routers.specs.Preferences.{preferences_of}
 use Rattle.nd_routers.specs.DefaultRouterSelection.{Failures}
 
 -- the most that a table of routers may have room for (our choice)
 abbrev pub max_routers : ℕ
 max_routers = 16
 
--- How many routers the table has room for; the routers with their ends, in the order in which they came; and those of them that failed,
--- in the order of their last failures.
+-- How many routers the table has room for; the routers with their ends, in the order in which they came, and with their preferences, in the
+-- same order; and those of them that failed, in the order of their last failures.
 pub record Table : Type 0 where
   pub limit : ℕ
   pub entries : List (Lasting ℕ)
+  pub preferences : List Preferred
   pub failed : List ℕ
 
 -- two keys are the same
@@ -26,6 +29,7 @@ same a b = a == b
 -- the table is that of the history
 pub record Stands (table : Table) (history : List RouterRow) : Type 0 where
   pub routers : StandsUntilTold same table.entries (announcements history)
+  pub preferred : table.preferences ≡ preferences_of history table.entries
   pub failures : Failures history table.failed
 
 -- the table gains a row

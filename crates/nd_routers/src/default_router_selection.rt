@@ -1,12 +1,14 @@
 ghost use Rattle.std.specs.Prelude.{◌≡◌, ◌≤◌, ◌<◌, vec_len, vec_capacity, ℕ, List, IfSome, Some, slice_get};
 ghost use Rattle.nd_addr.specs.Number.{number_of};
 ghost use Rattle.nd_routers.specs.DefaultRouterSelection.{others, place_among};
+ghost use Rattle.nd_routers.specs.Preferences.{preference_among};
 ghost use Rattle.std.specs.Option.{option_map};
 ghost use Rattle.nd_lifetime.specs.History.{stands};
 
+use crate::preferred::preference_among;
 use crate::router::Router;
 use crate::routers::Routers;
-use nd_addr::Addr;
+use nd_addr::{Addr, Preference};
 use nd_lifetime::{has, stands};
 use nd_table::compare;
 use std::alloc::Allocator;
@@ -15,6 +17,8 @@ use std::alloc::Allocator;
 #[derive(Clone, Copy, Debug, PartialEq, Eq)]
 pub struct Listed {
     pub addr: Addr,
+    /// How it is preferred (RFC 4191, section 2.2).
+    pub preference: Preference,
     /// If it failed since it came, its place among those that did, by their last failures, the oldest first.
     pub failed: Option<u64>,
 }
@@ -29,6 +33,7 @@ impl<A: Allocator> Routers<A> {
     pub fn failed(&mut self, source: Addr)
         ensures stands { (at : ℕ) → GainsRow self.old self.new (Failed at (number_of source.0)) }
         ensures entries { self.new.entries ≡ self.old.entries }
+        ensures preferences { self.new.preferences ≡ self.old.preferences }
         ensures limit { self.new.limit ≡ self.old.limit }
     {
         if !has(&self.entries, &source) {
@@ -44,6 +49,7 @@ impl<A: Allocator> Routers<A> {
     /// A router by its number in the list, from 0 on. It takes no memory.
     pub fn at(&self, i: usize) -> Option<Listed>
         ensures value { option_map (λ l. number_of l.addr.0) result ≡ slice_get (keys self.now.entries) i }
+        ensures preference { IfSome result (λ l. l.preference ≡ preference_among (number_of l.addr.0) self.now.preferences) }
         ensures failed { IfSome result (λ l. l.failed ≡ place_among (number_of l.addr.0) self.now.failed) }
         ensures by_history { IfSome result (λ l. (history : List RouterRow) → Stands self.now history → FailsAt history (number_of l.addr.0) l.failed) }
     {
@@ -51,6 +57,7 @@ impl<A: Allocator> Routers<A> {
         let addr = entry.key.addr();
         Some(Listed {
             addr,
+            preference: preference_among(&self.preferences, addr),
             failed: place(&self.failed, addr),
         })
     }

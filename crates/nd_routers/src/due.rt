@@ -7,6 +7,7 @@ ghost use Rattle.nd_lifetime.specs.History.{end_of};
 ghost use Rattle.nd_lifetime.specs.Listing.{end_in};
 
 use crate::default_router_selection::forget;
+use crate::preferred::forget_preference;
 use crate::router::Router;
 use crate::routers::Routers;
 use nd_addr::Addr;
@@ -45,6 +46,7 @@ impl<A: Allocator> Routers<A> {
         let source = self.dates.first_due(now)?;
         self.dates.take_date(end_of(&self.entries, source), source);
         remove(&mut self.entries, &source);
+        forget_preference(&mut self.preferences, source);
         forget(&mut self.failed, source);
         Some(source)
     }
@@ -61,6 +63,7 @@ impl<A: Allocator> Routers<A> {
         let listed = has(&self.entries, &source);
         self.dates.take_date(end_of(&self.entries, source), source);
         remove(&mut self.entries, &source);
+        forget_preference(&mut self.preferences, source);
         forget(&mut self.failed, source);
         listed
     }

@@ -16,7 +16,7 @@ ghost use Rattle.nd_routers.specs.Due.{FirstDue};
 pub fn one_answer()
     ensures list { (history : List (Row ℕ)) (moment : ℕ) (a b : List (Lasting ℕ)) → Lists same history moment a → Lists same history moment b → a ≡ b }
     ensures prefixes { (history : List (Row PrefixValue)) (moment : ℕ) (a b : List (Lasting PrefixValue)) → Lists same_prefix history moment a → Lists same_prefix history moment b → a ≡ b }
-    ensures table { (history : List RouterRow) (a b : Table) → Stands a history → Stands b history → (a.entries ≡ b.entries) × (a.failed ≡ b.failed) }
+    ensures table { (history : List RouterRow) (a b : Table) → Stands a history → Stands b history → (a.entries ≡ b.entries) × (a.preferences ≡ b.preferences) × (a.failed ≡ b.failed) }
     ensures failures { (history : List RouterRow) (a b : List ℕ) → Failures history a → Failures history b → a ≡ b }
     ensures due { (history : List RouterRow) (moment : ℕ) (a b : Option ℕ) → FirstDue history moment a → FirstDue history moment b → a ≡ b }
 {}

@@ -6,6 +6,7 @@ mod default_router_selection;
 mod due;
 pub mod laws;
 mod on_link;
+mod preferred;
 mod prefix_options;
 mod prefixes;
 mod router;

@@ -1,16 +1,18 @@
-ghost use Rattle.std.specs.Prelude.{◌≡◌, ◌≤◌, ◌<◌, ◌^◌, ◌↔◌, ◌∷◌, ℕ, length, List, [], IfOk, IfErr, OnOk, OnErr, IsErr, Some, false, true, not, ◌==◌};
+ghost use Rattle.std.specs.Prelude.{◌≡◌, ◌≤◌, ◌<◌, ◌^◌, ◌↔◌, ◌∷◌, ℕ, length, List, [], IfOk, IfErr, OnOk, OnErr, IsErr, Some, false, true, not, is_some, ◌==◌};
 ghost use Rattle.nd_routers.specs.RouterAdvertisement.{change_of};
 ghost use Rattle.nd_addr.specs.Number.{number_of};
 ghost use Rattle.nd_lifetime.specs.History.{stands};
-ghost use Rattle.nd_lifetime.specs.Listing.{announced, fits, Lists};
+ghost use Rattle.nd_lifetime.specs.Listing.{announced, end_in, fits, Lists};
 ghost use Rattle.nd_lifetime.specs.declared.lasting.Lasting.{Lasting};
+ghost use Rattle.nd_routers.specs.Preferences.{with_preference};
 ghost use Rattle.nd_routers.specs.Routers.{same};
 
 use crate::default_router_selection::forget;
 use crate::due::end_of;
+use crate::preferred::{forget_preference, prefer};
 use crate::router::Router;
 use crate::routers::Routers;
-use nd_addr::Addr;
+use nd_addr::{Addr, Preference};
 use nd_lifetime::{Lasting, Limit, TableRefusal, announce, count, has, stands};
 use std::alloc::Allocator;
 
@@ -42,8 +44,9 @@ impl<A: Allocator> Routers<A> {
         fits_one(&self.entries, self.limit, now, source, lifetime)
     }
 
-    /// A router is heard that announces itself, at a moment in milliseconds, for a lifetime in seconds (RFC 4861, section 6.3.4): it
-    /// enters the list or is refreshed, and a lifetime of 0 removes it. `Full` comes where it is one too many. It takes no memory.
+    /// A router is heard that announces itself, at a moment in milliseconds, for a lifetime in seconds, with its preference (RFC 4861, section
+    /// 6.3.4; RFC 4191, section 2.2): it enters the list or is refreshed, and a lifetime of 0 removes it, whatever its preference. `Full` comes
+    /// where it is one too many. It takes no memory.
     ///
     /// It asks that no router's end has come that is still to be told, which `next_due` tells.
     pub fn heard_ra(
@@ -51,17 +54,19 @@ impl<A: Allocator> Routers<A> {
         now: u64,
         source: Addr,
         lifetime: u16,
+        preference: Preference,
     ) -> Result<Change, TableRefusal>
         requires moment { now < 2 ^ 62 }
         requires settled { IsSettled self.old.entries now }
 
-        ensures stands { OnOk result (GainsRow self.old self.new (Heard now (number_of source.0) lifetime)) }
+        ensures stands { OnOk result (GainsRow self.old self.new (Heard now (number_of source.0) lifetime preference)) }
         ensures entries { OnOk result (self.new.entries ≡ announced same now (number_of source.0) lifetime self.old.entries) }
+        ensures preferences { OnOk result (not (lifetime == 0) ≡ true → self.new.preferences ≡ with_preference (is_some (end_in same (number_of source.0) self.old.entries)) (number_of source.0) preference self.old.preferences) }
         ensures failed { OnOk result (not (lifetime == 0) ≡ true → self.new.failed ≡ self.old.failed) }
         ensures settled { IsSettled self.new.entries now }
         ensures limit { self.new.limit ≡ self.old.limit }
         ensures change { IfOk result (λ change. (history : List RouterRow) → Stands self.old history
-            → change ≡ change_of (stands same (number_of source.0) (announcements history) now) (stands same (number_of source.0) (announcements (Heard now (number_of source.0) lifetime ∷ history)) now)) }
+            → change ≡ change_of (stands same (number_of source.0) (announcements history) now) (stands same (number_of source.0) (announcements (Heard now (number_of source.0) lifetime preference ∷ history)) now)) }
 
         // It is refused exactly where the router is one too many.
         ensures full { IsErr result ↔ (fits same self.old.limit now ((number_of source.0, lifetime) ∷ []) self.old.entries ≡ false) }
@@ -82,9 +87,11 @@ impl<A: Allocator> Routers<A> {
         );
         self.dates.put_date(end_of(&self.entries, source), source);
         if lifetime == 0 {
+            forget_preference(&mut self.preferences, source);
             forget(&mut self.failed, source);
             return Ok(change_by(before, false));
         }
+        prefer(&mut self.preferences, before, source, preference);
         Ok(change_by(before, true))
     }
 }

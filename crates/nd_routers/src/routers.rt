@@ -4,6 +4,7 @@ ghost use Rattle.nd_lifetime.specs.History.{stands};
 ghost use Rattle.nd_lifetime.specs.Listing.{end_in, open_at, Lists};
 ghost use Rattle.nd_lifetime.specs.Left.{standing_left};
 
+use crate::preferred::Preferred;
 use crate::router::Router;
 use nd_addr::Addr;
 use nd_lifetime::{Lasting, Standing, stands};
@@ -18,6 +19,8 @@ pub const MAX_ROUTERS: usize = 16;
 #[derive(Drop)]
 pub struct Routers<A: Allocator> {
     pub(crate) entries: Vec<Lasting<Router>, A>,
+    /// How they are preferred, in the same order.
+    pub(crate) preferences: Vec<Preferred, A>,
     /// The dates at which their lifetimes end.
     pub(crate) dates: Schedule<A>,
     /// Those that failed, by their last failures, the oldest first.
@@ -26,16 +29,16 @@ pub struct Routers<A: Allocator> {
 }
 
 impl<A: Allocator> Model for Routers<A> {
-    ghost use Rattle.std.specs.Prelude.{◌≤◌};
+    ghost use Rattle.std.specs.Prelude.{◌≤◌, ◌≡◌, map};
     ghost use Rattle.std.specs.Vec.{vec_len, vec_capacity};
-    ghost use Rattle.nd_routers.specs.Routers.{Table, max_routers};
+    ghost use Rattle.nd_routers.specs.Routers.{Table, keys, max_routers};
     ghost use Rattle.nd_routers.specs.Planned.{IsPlanned};
 
     ghost Value = { Table };
 
-    ghost view = { λ r. record { limit = r.limit; entries = r.entries.items; failed = r.failed.items } };
+    ghost view = { λ r. record { limit = r.limit; entries = r.entries.items; preferences = r.preferences.items; failed = r.failed.items } };
 
-    ghost invariant = { λ r. (r.limit ≤ max_routers) × (vec_len r.entries ≤ r.limit) × (r.limit ≤ vec_capacity r.entries) × (vec_len r.failed ≤ r.limit) × (r.limit ≤ vec_capacity r.failed) × (r.limit ≤ r.dates.room) × IsPlanned r.entries.items r.dates };
+    ghost invariant = { λ r. (r.limit ≤ max_routers) × (vec_len r.entries ≤ r.limit) × (r.limit ≤ vec_capacity r.entries) × (vec_len r.failed ≤ r.limit) × (r.limit ≤ vec_capacity r.failed) × (r.limit ≤ r.dates.room) × IsPlanned r.entries.items r.dates × (map (λ p. p.router) r.preferences.items ≡ keys r.entries.items) × (r.limit ≤ vec_capacity r.preferences) };
 }
 
 impl<A: Allocator + Clone> Routers<A> {
@@ -45,14 +48,16 @@ impl<A: Allocator + Clone> Routers<A> {
     /// No routers, with room for so many, at most 16. All of it is reserved here; the error is want of memory.
     pub fn new(alloc: A, limit: usize) -> Result<Self, AllocError>
         requires { limit ≤ max_routers }
-        ensures empty { IfOk result (λ routers. routers ≡ record { limit = limit; entries = []; failed = [] }) }
+        ensures empty { IfOk result (λ routers. routers ≡ record { limit = limit; entries = []; preferences = []; failed = [] }) }
         ensures stands { IfOk result (λ routers. Stands routers []) }
     {
         let entries = Vec::with_capacity(alloc.clone()?, limit)?;
+        let preferences = Vec::with_capacity(alloc.clone()?, limit)?;
         let dates = Schedule::new(alloc.clone()?, limit)?;
         let failed = Vec::with_capacity(alloc, limit)?;
         Ok(Routers {
             entries,
+            preferences,
             dates,
             failed,
             limit,
@@ -64,11 +69,12 @@ impl<A: Allocator + Clone> Routers<A> {
     pub fn clear(&mut self) -> Result<Vec<Addr, A>, AllocError>
         ensures routers { IfOk result (λ routers. map (λ a. number_of a.0) routers.items ≡ keys self.old.entries) }
         ensures stands { OnOk result ((at : ℕ) (history : List RouterRow) → Stands self.old history → Stands self.new (then_left at (keys self.old.entries) history)) }
-        ensures none { OnOk result (self.new ≡ record { limit = self.old.limit; entries = []; failed = [] }) }
+        ensures none { OnOk result (self.new ≡ record { limit = self.old.limit; entries = []; preferences = []; failed = [] }) }
         ensures same { OnErr result (self.new ≡ self.old) }
     {
         let routers = addresses(&self.entries)?;
         self.entries.clear();
+        self.preferences.clear();
         self.dates.clear();
         self.failed.clear();
         Ok(routers)

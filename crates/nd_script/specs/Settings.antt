@@ -1,7 +1,7 @@
--- The words that stand for what a router is to advertise of itself and of its link (RFC 4861, section 6.2.1; the texts are this project's
--- own).
-use Rattle.std.specs.Prelude.{◌≡◌, ℕ, ◌*◌, ◌^◌, List, [], ◌∷◌, None, codes}
-use Rattle.nd_text.specs.Flags.{flags_text}
+-- The words that stand for what a router is to advertise of itself and of its link (RFC 4861, section 6.2.1; RFC 4191, section 2.2; the texts
+-- are this project's own).
+use Rattle.std.specs.Prelude.{◌≡◌, ℕ, ◌*◌, ◌^◌, List, [], ◌∷◌, None}
+use Rattle.nd_decode.specs.RouterFlags.{router_flags_text}
 use Rattle.nd_advertiser.specs.Config.{Settings, config_fault}
 use Rattle.nd_script.specs.Number.{IsNumberWord, IsNumberOr}
 use Rattle.nd_script.specs.Words.{words_of}
@@ -19,7 +19,7 @@ abbrev pub SpellSettings : List (List ℕ) → Settings → Type 0
 SpellSettings (min ∷ max ∷ lifetime ∷ hop_limit ∷ flags ∷ reachable ∷ retrans ∷ mtu ∷ []) s =
     IsNumberWord (2 ^ 16) min s.min_interval × IsNumberOr default_max_interval (2 ^ 16) max s.max_interval
     × IsNumberOr (default_lifetime s.max_interval) (2 ^ 16) lifetime s.fields.router_lifetime × IsNumberWord (2 ^ 8) hop_limit s.fields.hop_limit
-    × (flags ≡ flags_text s.fields.managed s.fields.other (codes "m") (codes "o"))
+    × (flags ≡ router_flags_text s.fields.managed s.fields.other s.fields.preference)
     × IsNumberWord (2 ^ 32) reachable s.fields.reachable_time × IsNumberWord (2 ^ 32) retrans s.fields.retrans_timer × IsNumberWord (2 ^ 32) mtu s.mtu
 SpellSettings _ s = ⊥
 

@@ -64,7 +64,7 @@ fn read_lifetime(word: &[u8], max_interval: u16) -> Option<u16>
 }
 
 /// The settings that the words of a text spell: MinRtrAdvInterval, MaxRtrAdvInterval and AdvDefaultLifetime in seconds, AdvCurHopLimit, the
-/// flags, AdvReachableTime and AdvRetransTimer in milliseconds, and AdvLinkMTU in bytes, 0 standing for none (RFC 4861, section 6.2.1).
+/// flags with the preference, AdvReachableTime and AdvRetransTimer in milliseconds, and AdvLinkMTU in bytes, 0 standing for none (RFC 4861, section 6.2.1).
 pub(crate) fn read_settings(text: &[u8]) -> Option<Config>
     ensures found { IfSome result (λ settings. AreSettings text.now settings) }
     ensures only { (settings : Settings) → AreSettings text.now settings → result ≡ Some settings }
@@ -74,7 +74,7 @@ pub(crate) fn read_settings(text: &[u8]) -> Option<Config>
     let max_interval = read_u16_or(words.max, DEFAULT_MAX_INTERVAL)?;
     let lifetime = read_lifetime(words.lifetime, max_interval)?;
     let hop_limit = read_byte(words.hop_limit)?;
-    let (managed, other) = read_router_flags(words.flags)?;
+    let (managed, other, preference) = read_router_flags(words.flags)?;
     let reachable_time = read_u32(words.reachable)?;
     let retrans_timer = read_u32(words.retrans)?;
     let mtu = read_u32(words.mtu)?;
@@ -83,7 +83,11 @@ pub(crate) fn read_settings(text: &[u8]) -> Option<Config>
         max_interval,
         lifetime,
         hop_limit,
-        ConfigFlags { managed, other },
+        ConfigFlags {
+            managed,
+            other,
+            preference,
+        },
         reachable_time,
         retrans_timer,
         mtu,

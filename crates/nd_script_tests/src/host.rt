@@ -197,7 +197,28 @@ fn nothing_is_sent_once_the_prefix_ended(rt: HostRuntime) {
     );
 }
 
-/// A router whose link-layer address is known comes before one that has none (RFC 4861, section 6.3.6).
+/// A router with a higher preference is used, and no more once it says a lower one (RFC 4191, section 3.2).
+#[test]
+fn a_preferred_router_is_used(rt: HostRuntime) {
+    told(
+        &rt,
+        rt.alloc(),
+        &[
+            "1200 rx ",
+            ADVERTISED,
+            "\n2200 at\n2300 rx 33330000000102000000000286dd6000000000183afffe800000000000000000000000000002ff020000000000000000000000000001860032134008070800000000000000000101020000000002\n2300 show routers\n2400 send 2001:db8::3656:78ff:fe9a:bcde 2001:db8:1::5 17 -\n2500 rx 33330000000102000000000286dd6000000000183afffe800000000000000000000000000002ff020000000000000000000000000001860032034018070800000000000000000101020000000002\n2500 send 2001:db8::3656:78ff:fe9a:bcde 2001:db8:1::5 17 -\n",
+        ],
+        Ok(()),
+        &[
+            STARTED,
+            FORMED,
+            "2300 heard ra\n2300 router fe80::ff:fe00:1 1798900 medium\n2300 router fe80::2 1800000 high\n2300 end 2\n2400 tx 0200000000023456789abcde86dd600000000000114020010db800000000365678fffe9abcde20010db8000100000000000000000005\n2500 heard ra\n2500 tx 0200000000013456789abcde86dd600000000000114020010db800000000365678fffe9abcde20010db8000100000000000000000005\n",
+        ],
+    );
+}
+
+/// A router whose link-layer address is known comes before one that has none, although that one is preferred (RFC 4861, section 6.3.6; RFC
+/// 4191, section 3.2).
 #[test]
 fn a_known_router_is_used(rt: HostRuntime) {
     told(

@@ -36,6 +36,18 @@ fn a_router_advertises_answers_and_ceases(rt: HostRuntime) {
     );
 }
 
+/// A preference is advertised, but not by the last advertisement (RFC 4191, section 2.2).
+#[test]
+fn a_preference_is_advertised(rt: HostRuntime) {
+    told_by_router(
+        &rt,
+        rt.alloc(),
+        0,
+        b"2000 advertise 200 600 1800 64 mh 0 0 0\n2500 at\n6000 stop\n",
+        "0 tx 3333ff00000102000000000186dd6000000000183aff00000000000000000000000000000000ff0200000000000000000001ff00000187007d2500000000fe80000000000000000000fffe000001\n1000 assigned fe80::ff:fe00:1\n2000 tx 33330000000102000000000186dd6000000000183afffe80000000000000000000fffe000001ff020000000000000000000000000001860032954088070800000000000000000101020000000001\n6000 tx 33330000000102000000000186dd6000000000183afffe80000000000000000000fffe000001ff020000000000000000000000000001860039a54080000000000000000000000101020000000001\n",
+    );
+}
+
 /// The least interval, and a solicitation that is answered by the advertisement that comes first: a worked row.
 #[test]
 fn a_solicitation_is_answered_by_the_next_advertisement(rt: HostRuntime) {

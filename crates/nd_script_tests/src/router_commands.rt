@@ -1,6 +1,7 @@
 //! A router's commands in scripts: what their words say, and what a host answers.
 
 use crate::lines::{STARTED, told};
+use nd_addr::Preference;
 use nd_io::tool_fault::ToolFault;
 use nd_node::Event;
 use nd_script::read_line;
@@ -33,13 +34,18 @@ fn a_host_refuses_a_routers_commands(rt: HostRuntime) {
 }
 
 /// No defaults elsewhere, no leading zeros, one space between two words, flags in their order, values that their types hold, and the rules
-/// of what a router may advertise (RFC 4861, section 6.2.1).
+/// of what a router may advertise (RFC 4861, section 6.2.1; RFC 4191, section 2.2).
 #[test]
 fn other_words_are_malformed(rt: HostRuntime) -> Result<(), Fail> {
     for line in [
         "0 advertise - 600 1800 64 - 0 0 0",
         "0 advertise 0200 600 1800 64 - 0 0 0",
         "0 advertise 200 600 1800 64 om 0 0 0",
+        "0 advertise 200 600 1800 64 hm 0 0 0",
+        "0 advertise 200 600 1800 64 hl 0 0 0",
+        "0 advertise 200 600 1800 64 molh 0 0 0",
+        "0 advertise 200 600 0 64 h 0 0 0",
+        "0 advertise 200 600 0 64 mol 0 0 0",
         "0 advertise 200 600 1800 64  0 0 0",
         "0 advertise 200  600 1800 64 - 0 0 0",
         "0 advertise 200 600 1800 64 - 0 0",
@@ -62,6 +68,35 @@ fn other_words_are_malformed(rt: HostRuntime) -> Result<(), Fail> {
         "0 route 2001:db8::/64 fe80::2/64",
     ] {
         assert!(rt; said(rt.alloc(), line)?.is_none());
+    }
+    Ok(())
+}
+
+/// The letters of the flags, and behind them that of the preference.
+#[test]
+fn flags_and_preferences_are_read(rt: HostRuntime) -> Result<(), Fail> {
+    let (high, medium, low) = (Preference::High, Preference::Medium, Preference::Low);
+    for (line, managed, other, preference) in [
+        ("0 advertise 200 600 1800 64 - 0 0 0", false, false, medium),
+        ("0 advertise 200 600 1800 64 m 0 0 0", true, false, medium),
+        ("0 advertise 200 600 1800 64 o 0 0 0", false, true, medium),
+        ("0 advertise 200 600 1800 64 mo 0 0 0", true, true, medium),
+        ("0 advertise 200 600 1800 64 h 0 0 0", false, false, high),
+        ("0 advertise 200 600 1800 64 mh 0 0 0", true, false, high),
+        ("0 advertise 200 600 1800 64 oh 0 0 0", false, true, high),
+        ("0 advertise 200 600 1800 64 moh 0 0 0", true, true, high),
+        ("0 advertise 200 600 1800 64 l 0 0 0", false, false, low),
+        ("0 advertise 200 600 1800 64 ml 0 0 0", true, false, low),
+        ("0 advertise 200 600 1800 64 ol 0 0 0", false, true, low),
+        ("0 advertise 200 600 1800 64 mol 0 0 0", true, true, low),
+        ("0 advertise 200 600 0 64 mo 0 0 0", true, true, medium),
+    ] {
+        let Some(Event::Advertises(config)) = said(rt.alloc(), line)? else {
+            return Err(Fail::new("another event"));
+        };
+        let fields = config.fields();
+        assert!(rt; fields.managed == managed && fields.other == other);
+        assert!(rt; fields.preference == preference);
     }
     Ok(())
 }

@@ -1,7 +1,7 @@
 ghost use Rattle.std.specs.Prelude.{◌<◌, ◌^◌};
 
 use crate::messages::advertisement;
-use nd_addr::{Addr, Prefix};
+use nd_addr::{Addr, Preference, Prefix};
 use nd_decode::Body;
 use nd_routers::*;
 use std::alloc::Global;
@@ -19,16 +19,17 @@ fn hear(
     now: u64,
     source: Addr,
     lifetime: u16,
+    preference: Preference,
 ) -> Option<Result<Change, TableRefusal>>
     requires { now < 2 ^ 62 }
 {
     match routers.next_due() {
         Some(next) if next <= now => None,
-        _ => Some(routers.heard_ra(now, source, lifetime)),
+        _ => Some(routers.heard_ra(now, source, lifetime, preference)),
     }
 }
 
-/// A router is heard, with this change.
+/// A router is heard that says no preference, with this change.
 fn hears(
     rt: &impl Abort,
     routers: &mut Routers<Global>,
@@ -39,7 +40,10 @@ fn hears(
 )
     requires { now < 2 ^ 62 }
 {
-    assert_eq!(rt; hear(routers, now, source, lifetime), Some(Ok(wanted)));
+    assert_eq!(rt;
+        hear(routers, now, source, lifetime, Preference::Medium),
+        Some(Ok(wanted))
+    );
 }
 
 /// Turns at the moment that is next.
@@ -117,7 +121,8 @@ fn has_room_for_sixteen(rt: HostRuntime) {
     assert!(rt; routers.fits(1_000, addr(16), 0));
     assert!(rt; routers.fits(1_000, addr(3), 9_000));
     assert!(rt;
-        hear(&mut routers, 1_000, addr(16), 1_800) == Some(Err(TableRefusal::Full(Limit::Routers)))
+        hear(&mut routers, 1_000, addr(16), 1_800, Preference::High)
+            == Some(Err(TableRefusal::Full(Limit::Routers)))
     );
     assert!(rt; routers.len() == 16);
     hears(&rt, &mut routers, 1_000, addr(16), 0, Change::Nothing);
@@ -137,7 +142,8 @@ fn has_room_for_as_many_as_it_was_made_for(rt: HostRuntime) {
     }
     assert!(rt; !routers.fits(1_000, addr(2), 1_800));
     assert!(rt;
-        hear(&mut routers, 1_000, addr(2), 1_800) == Some(Err(TableRefusal::Full(Limit::Routers)))
+        hear(&mut routers, 1_000, addr(2), 1_800, Preference::High)
+            == Some(Err(TableRefusal::Full(Limit::Routers)))
     );
     assert!(rt; failed_at(&routers, 1) == Some(1));
     assert!(rt; routers.ended(addr(0)));
@@ -146,7 +152,8 @@ fn has_room_for_as_many_as_it_was_made_for(rt: HostRuntime) {
     // One with room for none takes none.
     let mut none = Routers::new(rt.alloc(), 0).expect(&rt, "memory");
     assert!(rt;
-        hear(&mut none, 1_000, addr(1), 1_800) == Some(Err(TableRefusal::Full(Limit::Routers)))
+        hear(&mut none, 1_000, addr(1), 1_800, Preference::High)
+            == Some(Err(TableRefusal::Full(Limit::Routers)))
     );
 }
 
@@ -168,6 +175,7 @@ fn orders_failures_by_the_last_one(rt: HostRuntime) {
         routers.at(2)
             == Some(Listed {
                 addr: addr(2),
+                preference: Preference::Medium,
                 failed: None
             })
     );
@@ -189,6 +197,7 @@ fn orders_failures_by_the_last_one(rt: HostRuntime) {
         routers.at(2)
             == Some(Listed {
                 addr: addr(0),
+                preference: Preference::Medium,
                 failed: None
             })
     );
@@ -199,9 +208,49 @@ fn orders_failures_by_the_last_one(rt: HostRuntime) {
         routers.at(2)
             == Some(Listed {
                 addr: addr(1),
+                preference: Preference::Medium,
                 failed: None
             })
     );
+}
+
+/// The preferences of the routers of the list, in its order.
+fn preferences(rt: &impl Abort, routers: &Routers<Global>, wanted: &[(Addr, Preference)]) {
+    for i in 0..wanted.len() {
+        match (routers.at(i), wanted.get(i)) {
+            (Some(listed), Some(&(addr, preference))) => {
+                assert!(rt; listed.addr == addr && listed.preference == preference);
+                assert!(rt; routers.preference(addr) == preference);
+            }
+            _ => panic!(rt; "no such router"),
+        }
+    }
+    assert!(rt; routers.at(wanted.len()).is_none());
+}
+
+/// A router is preferred as its last advertisement says that has a lifetime (RFC 4191, section 2.2).
+#[test]
+fn the_last_preference_holds(rt: HostRuntime) {
+    let (high, medium, low) = (Preference::High, Preference::Medium, Preference::Low);
+    let mut routers = Routers::new(rt.alloc(), 16).expect(&rt, "memory");
+    assert!(rt; hear(&mut routers, 1_000, addr(2), 1_800, high) == Some(Ok(Change::Entered)));
+    assert!(rt; hear(&mut routers, 1_000, addr(1), 1_800, low) == Some(Ok(Change::Entered)));
+    preferences(&rt, &routers, &[(addr(2), high), (addr(1), low)]);
+    assert!(rt; routers.preference(addr(7)) == medium);
+    assert!(rt; hear(&mut routers, 1_500, addr(1), 1_800, medium) == Some(Ok(Change::Refreshed)));
+    preferences(&rt, &routers, &[(addr(2), high), (addr(1), medium)]);
+    routers.failed(addr(2));
+    preferences(&rt, &routers, &[(addr(2), high), (addr(1), medium)]);
+    // One without a lifetime says nothing, and the router leaves.
+    assert!(rt; hear(&mut routers, 1_500, addr(2), 0, low) == Some(Ok(Change::Removed)));
+    assert!(rt; hear(&mut routers, 1_500, addr(3), 0, low) == Some(Ok(Change::Nothing)));
+    preferences(&rt, &routers, &[(addr(1), medium)]);
+    assert!(rt; hear(&mut routers, 1_500, addr(2), 1_800, low) == Some(Ok(Change::Entered)));
+    preferences(&rt, &routers, &[(addr(1), medium), (addr(2), low)]);
+    assert!(rt; routers.ended(addr(1)));
+    preferences(&rt, &routers, &[(addr(2), low)]);
+    assert!(rt; turn_next(&mut routers) == Some((1_801_500, addr(2))));
+    preferences(&rt, &routers, &[]);
 }
 
 #[test]
@@ -219,6 +268,7 @@ fn clears_in_the_order_of_the_list(rt: HostRuntime) {
         routers.at(0)
             == Some(Listed {
                 addr: addr(1),
+                preference: Preference::Medium,
                 failed: None
             })
     );
@@ -486,7 +536,13 @@ fn takes_every_kind_of_option(rt: HostRuntime) {
                 params.heard_ra(1_200, &ra, message.options, Some(16_023));
             }
             assert!(rt;
-                hear(&mut routers, 1_200, addr(1), ra.router_lifetime) == Some(Ok(Change::Entered))
+                hear(
+                    &mut routers,
+                    1_200,
+                    addr(1),
+                    ra.router_lifetime,
+                    ra.preference
+                ) == Some(Ok(Change::Entered))
             );
         }
         _ => assert!(rt; false),

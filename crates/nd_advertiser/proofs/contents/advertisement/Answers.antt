@@ -9,7 +9,7 @@ use Rattle.nd_advertiser.proofs.contents.advertisement.Goals as goal
 
 pub returns-clause-formed : goal.returns-clause-formed
 returns-clause-formed g c =
-    formed (whole_of (Ra c.args.fields) c.args.options.items) (record { hop_limit = omega arith; lifetime = omega arith; reachable = omega arith; retrans = omega arith })
+    formed (whole_of (Ra c.args.fields) c.args.options.items) (record { hop_limit = omega arith; lifetime = omega arith; reachable = omega arith; retrans = omega arith; medium = c.requires.medium })
     (record { each = c.requires.fits; most = omega (arith, c.requires.short) })
 
 pub returns-clause-short : goal.returns-clause-short

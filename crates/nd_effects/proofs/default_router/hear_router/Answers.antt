@@ -12,7 +12,7 @@ returns-clause-redirects g c = λ history s.
 
 pub returns-then-not-times_out-clause-recollects : goal.returns-then-not-times_out-clause-recollects
 returns-then-not-times_out-clause-recollects g c =
-    listed c.only_refreshes-refreshes.result c.args.now (number_of c.args.source.0) c.args.lifetime c.args.choice.now c.keep_if.new.choice c.args.routers.now c.heard_ra.new.self c.only_refreshes-refreshes.ensures c.keep_if.ensures c.requires.settled c.in-Ok.ensures.entries c.in-Ok.ensures.failed
+    listed c.only_refreshes-refreshes.result c.args.now (number_of c.args.source.0) c.args.lifetime c.args.preference c.args.choice.now c.keep_if.new.choice c.args.routers.now c.heard_ra.new.self c.only_refreshes-refreshes.ensures.0 c.keep_if.ensures c.requires.settled c.in-Ok.ensures.entries c.in-Ok.ensures.preferences c.in-Ok.ensures.failed
 
 pub returns-clause-recollects : goal.returns-clause-recollects
 returns-clause-recollects g c =

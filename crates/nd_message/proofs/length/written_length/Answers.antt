@@ -23,8 +23,11 @@ loop-option-preserved g c =
       next_left len more _ items at c.option-item.result c.loop-option-test.true c.option-item.is c.in_ok-more.ensures.1 c.loop-option.invariant.3,
     )
 
+pub returns-in_err-length-clause-len : goal.returns-in_err-length-clause-len
+returns-in_err-length-clause-len g c = rw c.from_residual.ensures (λ w. c.in_err-length.ensures (fits_of (whole_of c.args.body.now c.args.options.now) w).body)
+
 pub returns-in_err-more-clause-len : goal.returns-in_err-more-clause-len
-returns-in_err-more-clause-len g c = rw c.from_residual.ensures (
+returns-in_err-more-clause-len g c = rw c.from_residual-in_err-more.ensures (
     λ w.
     let behind = c.loop-option.invariant.1.1 (fits_of (whole_of c.args.body.now c.args.options.now) w).behind in
     let at = next_fits c.loop-option.length c.args.options.now c.loop-option.option-index c.option-item.result c.loop-option-test.true c.option-item.is behind in

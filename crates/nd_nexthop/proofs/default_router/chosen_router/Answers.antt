@@ -1,13 +1,9 @@
 use Rattle.std.proofs.Common.{◌∙◌, ap, Some}
 use Rattle.std.specs.Prelude.{option_map}
 use Rattle.nd_nexthop.specs.DefaultRouter.{router_of}
-use Rattle.nd_nexthop.proofs.Routers.{usable_at, next_at}
+use Rattle.nd_nexthop.proofs.Routers.{next_at}
 use Rattle.nd_nexthop.proofs.default_router.chosen_router.Goals as goal
-
-pub returns-then-router : goal.returns-then-router
-returns-then-router g c =
-    usable_at (option_map router_of c.loop-i.chosen) (router_of c.router_at-router.result) (g.V.View.candidates c.args.view.now) c.loop-i.i c.router_at-router.ensures c.if-router.true ∙ c.loop-i.invariant
 
 pub loop-i-preserved : goal.loop-i-preserved
 loop-i-preserved g c =
-    next_at (option_map router_of c.loop-i.chosen) _ (router_of c.router_at-router.result) (g.V.View.candidates c.args.view.now) c.loop-i.i c.router_at-router.ensures c.if-router.false (ap Some c.earlier.ensures) ∙ c.loop-i.invariant
+    next_at (option_map router_of c.loop-i.chosen) _ (router_of c.router_at.result) (g.V.View.candidates c.args.view.now) c.loop-i.i c.router_at.ensures (ap Some c.better.ensures) ∙ c.loop-i.invariant

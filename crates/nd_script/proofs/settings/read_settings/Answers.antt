@@ -33,6 +33,7 @@ read c = record {
     hop_limit = c.in_ok-hop_limit.hop_limit;
     managed = c.in_ok-managed.managed;
     other = c.in_ok-managed.other;
+    preference = c.in_ok-managed.preference;
     router_lifetime = c.in_ok-lifetime.lifetime;
     reachable_time = c.in_ok-reachable_time.reachable_time;
     retrans_timer = c.in_ok-retrans_timer.retrans_timer;

@@ -1,11 +1,13 @@
-use Rattle.std.proofs.Common.{arith, ◌∙◌, ap}
+use Rattle.std.proofs.Common.{arith, ◌∙◌, ap, sym}
 use Rattle.std.specs.Prelude.{is_some}
 use Rattle.nd_addr.specs.Number.{number_of}
 use Rattle.nd_table.specs.Dates.{without_any, date_at}
 use Rattle.nd_routers.specs.Planned.{key_of, date_of}
 use Rattle.nd_lifetime.specs.Listing.{end_in, without}
+use Rattle.nd_routers.specs.Preferences.{without_preference}
 use Rattle.nd_routers.specs.DefaultRouterSelection.{others}
-use Rattle.nd_routers.specs.Routers.{same}
+use Rattle.nd_routers.specs.Routers.{keys, same}
+use Rattle.nd_routers.proofs.Preferring.{aligned_without, routers_of}
 use Rattle.nd_routers.proofs.Planning.{without_planned}
 use Rattle.nd_routers.proofs.Steps.{gains_left, settled_without}
 use Rattle.nd_routers.proofs.routers.Routers.ended.Goals as goal
@@ -15,6 +17,7 @@ returns-clause-stands g c = λ at.
     let key = number_of c.args.source.0 in
     gains_left c.args.self.now _ at key
     (c.remove.ensures.items ∙ ap (λ t. without same key t.entries) c.self.view_is)
+    (c.forget_preference.ensures.items ∙ ap (λ t. without_preference key t.preferences) c.self.view_is)
     (c.forget.ensures.items ∙ ap (λ t. others key t.failed) c.self.view_is)
 
 pub returns-clause-settled : goal.returns-clause-settled
@@ -40,4 +43,7 @@ invariant_of-self g c =
       omega (arith, was.5, c.take_date.ensures.room),
       without_planned key c.self.inside.entries.items c.remove.new.entries.items c.self.inside.dates c.take_date.new.self was.6 c.take_date.ensures.was c.remove.ensures.items
           (c.take_date.ensures.dates ∙ ap (λ o. without_any o key c.self.inside.dates.dates) (c.end_of.ensures ∙ ap (date_at key_of date_of key) c.deref-2.ensures.value)),
+      ap (λ ps. routers_of ps) c.forget_preference.ensures.items
+          ∙ (aligned_without key c.self.inside.preferences.items c.self.inside.entries.items was.7 ∙ ap (λ l. keys l) (sym c.remove.ensures.items)),
+      omega (arith, was.8, c.forget_preference.ensures.capacity),
     )

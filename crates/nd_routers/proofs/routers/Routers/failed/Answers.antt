@@ -22,6 +22,7 @@ returns-then-len-self-clause-stands g c = λ at. record {
       let listed : c.has.result ≡ is_some (end_in same key c.args.self.now.entries) = c.has.ensures ∙ (ap (λ es. is_some (end_in same key es)) c.deref.ensures.value ∙ ap (λ t. is_some (end_in same key t.entries)) c.self.view_is) in
       gains_failure c.args.self.now _ at key history s (sym listed ∙ grind (arith, c.if-not-has.false, c.if-not-has.ensures))
       (ap (λ t. t.entries) c.self.view_is)
+      (ap (λ t. t.preferences) c.self.view_is)
       (c.push_reserved.ensures.items ∙ (ap (λ k. c.forget.new.failed.items ++ k ∷ []) c.of.ensures ∙ (ap (λ ks. ks ++ key ∷ []) c.forget.ensures.items ∙ ap (λ t. others key t.failed ++ key ∷ []) c.self.view_is)));
 }
 

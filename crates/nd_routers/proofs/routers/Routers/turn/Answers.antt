@@ -4,10 +4,12 @@ use Rattle.nd_addr.specs.Number.{number_of}
 use Rattle.nd_table.specs.Dates.{without_any, date_at}
 use Rattle.nd_routers.specs.Planned.{key_of, date_of}
 use Rattle.nd_lifetime.specs.Listing.{without}
+use Rattle.nd_routers.specs.Preferences.{without_preference}
 use Rattle.nd_routers.specs.DefaultRouterSelection.{others}
-use Rattle.nd_routers.specs.Routers.{same, first_due}
+use Rattle.nd_routers.specs.Routers.{keys, same, first_due}
 use Rattle.nd_routers.proofs.Dues.{first_is_due, first_has, first_at_next, NoneBefore-without, length-without}
 use Rattle.nd_routers.proofs.Steps.{gains_left}
+use Rattle.nd_routers.proofs.Preferring.{aligned_without, routers_of}
 use Rattle.nd_routers.proofs.Planning.{first_planned, without_planned}
 use Rattle.nd_routers.proofs.routers.Routers.turn.Goals as goal
 
@@ -34,6 +36,7 @@ returns-clause-gains g c =
     let key = number_of c.in_ok-source.source.0 in
     gains_left c.args.self.now _ c.args.now key
     (c.remove.ensures.items ∙ ap (λ t. without same key t.entries) c.self.view_is)
+    (c.forget_preference.ensures.items ∙ ap (λ t. without_preference key t.preferences) c.self.view_is)
     (c.forget.ensures.items ∙ ap (λ t. others key t.failed) c.self.view_is)
 
 pub returns-clause-fewer : goal.returns-clause-fewer
@@ -61,4 +64,7 @@ invariant_of-self g c =
       omega (arith, was.5, c.take_date.ensures.room),
       without_planned key c.self.inside.entries.items c.remove.new.entries.items c.self.inside.dates c.take_date.new.self was.6 c.take_date.ensures.was c.remove.ensures.items
           (c.take_date.ensures.dates ∙ ap (λ o. without_any o key c.self.inside.dates.dates) (c.end_of.ensures ∙ ap (date_at key_of date_of key) c.deref.ensures.value)),
+      ap (λ ps. routers_of ps) c.forget_preference.ensures.items
+          ∙ (aligned_without key c.self.inside.preferences.items c.self.inside.entries.items was.7 ∙ ap (λ l. keys l) (sym c.remove.ensures.items)),
+      omega (arith, was.8, c.forget_preference.ensures.capacity),
     )

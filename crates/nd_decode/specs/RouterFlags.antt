@@ -1,0 +1,19 @@
+-- The letters of the flags of a Router Advertisement (the texts are this project's own): of M and O, and then of the preference where it is not
+-- Medium, or `-` where there are none.
+use Rattle.std.specs.Prelude.{ℕ, Bool, true, false, List, codes}
+use Rattle.nd_addr.specs.declared.preference.Preference.{Preference}
+use Rattle.nd_addr.specs.declared.preference.Preference.TheVariants.{High, Medium, Low}
+
+abbrev pub router_flags_text : Bool → Bool → Preference → List ℕ
+router_flags_text false false Medium = codes "-"
+router_flags_text true false Medium = codes "m"
+router_flags_text false true Medium = codes "o"
+router_flags_text true true Medium = codes "mo"
+router_flags_text false false High = codes "h"
+router_flags_text true false High = codes "mh"
+router_flags_text false true High = codes "oh"
+router_flags_text true true High = codes "moh"
+router_flags_text false false Low = codes "l"
+router_flags_text true false Low = codes "ml"
+router_flags_text false true Low = codes "ol"
+router_flags_text true true Low = codes "mol"
