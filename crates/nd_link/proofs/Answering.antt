@@ -12,7 +12,8 @@ use Rattle.nd_chronicle.specs.History.{beginning}
 use Rattle.nd_chronicle.specs.Event as nodes
 use Rattle.nd_node.specs.declared.node.Node.{Node}
 use Rattle.nd_node.specs.Node as node
-use Rattle.nd_node.specs.Node.{starting, usual_limits}
+use Rattle.nd_node.specs.Limits.{usual_limits}
+use Rattle.nd_node.specs.Node.{starting}
 use Rattle.nd_link_log.specs.Log.{Log, Carries, Refuses, TooLate, NoNode, NoFrame, Own, last_moment, nodes, sent}
 use Rattle.nd_link_log.specs.Event as links
 use Rattle.nd_link_log.specs.Event.{AddsRows, Event, max_nodes}
@@ -67,13 +68,13 @@ module _ {W R A : Type 0} (stream : R → Stream) where
   count_reached link now log s = nodes_reached now log ∙ sym s.nodes.count
 
   pub start_leads : (old mid new : Link W R A) (x : List (Told A)) (n : Node R A) (now : ℕ) (role : Role) (mac : Mac) (transmits : ℕ) (words : Stream) → length old.nodes.items < max_nodes
-      → ((log : Log) → Stands stream old log → Stands stream mid (reached now log)) → node.Stands stream (starting now role mac transmits words) n (beginning (starting now role mac transmits words))
+      → ((log : Log) → Stands stream old log → Stands stream mid (reached now log)) → node.Stands stream (starting now role mac transmits usual_limits words) n (beginning (starting now role mac transmits usual_limits words))
       → new.nodes.items ≡ mid.nodes.items ++ n ∷ [] → new.frames ≡ mid.frames → new.last ≡ mid.last → Leads stream old new x x (Happens now (links.Starts role mac transmits words))
   start_leads old mid new x n now role mac transmits words few reaches stands nodes_are frames_are last_are = record {
     each = λ log s.
         let base = reached now log in
         let m = reaches log s in
-        let start = starting now role mac transmits words in
+        let start = starting now role mac transmits usual_limits words in
         let at = moment_reached now log in
         let d : Log = started (nodes base) start base in (
           d,

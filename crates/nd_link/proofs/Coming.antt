@@ -4,7 +4,7 @@ use Rattle.std.specs.Prelude.{Result, Ok, Err, IsErrAnd, IsErrOf}
 use Rattle.std.proofs.lemmas.List.{map-append}
 use Rattle.std.proofs.lemmas.List.Elements.{All-nil, All-push}
 use Rattle.rand_core.specs.Stream.{Stream}
-use Rattle.nd_node.specs.Node.{usual_limits}
+use Rattle.nd_node.specs.Limits.{usual_limits}
 use Rattle.nd_link_log.specs.Log.{Log}
 use Rattle.nd_link_log.specs.Bytes.{AreOfBytes, IsOfBytes}
 use Rattle.nd_link_log.specs.Event.{Event}

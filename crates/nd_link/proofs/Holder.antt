@@ -6,7 +6,7 @@ use Rattle.rand_core.specs.Stream.{Stream}
 use Rattle.nd_addr.specs.Bytes.{IsBytes}
 use Rattle.nd_effects.specs.Told.{frame_sent}
 use Rattle.nd_chronicle.specs.Happening.{Sent}
-use Rattle.nd_node.specs.Node.{usual_limits}
+use Rattle.nd_node.specs.Limits.{usual_limits}
 use Rattle.nd_link_log.specs.Log.{Log, Begins, Adds, Carries, Reaches, Refuses}
 use Rattle.nd_link_log.specs.Event.{Event}
 use Rattle.nd_link_log.specs.Bytes.{AreOfBytes, IsOfBytes, SendsBytes}

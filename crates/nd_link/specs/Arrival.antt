@@ -1,7 +1,7 @@
 -- An event comes to a link at a moment up to which its nodes have done what was due.
 use Rattle.std.specs.Prelude.{◌≡◌, ℕ, ◌∷◌, Option, Some, None}
 use Rattle.nd_chronicle.specs.Event as nodes
-use Rattle.nd_node.specs.Node.{usual_limits}
+use Rattle.nd_node.specs.Limits.{usual_limits}
 use Rattle.nd_link_log.specs.Log.{Log, Refusal, Carries, Reaches, Refuses, nodes}
 use Rattle.nd_link_log.specs.Event.{AddsRows, Event, EventHappens, passing}
 

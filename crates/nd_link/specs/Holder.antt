@@ -1,7 +1,7 @@
 -- Who holds an address on a link (RFC 4862, section 5.4).
 use Rattle.std.specs.Prelude.{ℕ, List, ◌++◌}
 use Rattle.rand_core.specs.Stream.{Stream}
-use Rattle.nd_node.specs.Node.{usual_limits}
+use Rattle.nd_node.specs.Limits.{usual_limits}
 use Rattle.nd_link_log.specs.Log.{Log}
 use Rattle.nd_link_log.specs.Bytes.{AreOfBytes}
 use Rattle.nd_link_log.specs.Event.{Event}

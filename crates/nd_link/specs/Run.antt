@@ -1,6 +1,6 @@
 -- Events that come to a link, one after the other.
 use Rattle.std.specs.Prelude.{ℕ, List, take}
-use Rattle.nd_node.specs.Node.{usual_limits}
+use Rattle.nd_node.specs.Limits.{usual_limits}
 use Rattle.nd_link_log.specs.Log.{Log}
 use Rattle.nd_link_log.specs.Event.{Event}
 use Rattle.nd_link_log.specs.History.{Follows, Runs}

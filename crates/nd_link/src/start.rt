@@ -8,7 +8,7 @@ use crate::link::{Link, MAX_NODES};
 use crate::refusal::Refusal;
 use crate::told::Told;
 use nd_addr::{Mac, Role};
-use nd_node::Node;
+use nd_node::{Limits, Node};
 use nd_slaac::Transmits;
 use rand_core::Rng;
 use std::alloc::{AllocError, Allocator};
@@ -35,7 +35,7 @@ impl<W, R: Rng + Drop, A: Allocator + Copy> Link<W, R, A> {
         if self.nodes.len() == MAX_NODES {
             return self.refuse(now, Refusal::Full, told);
         }
-        let Ok(node) = Node::new(self.alloc, role, mac, now, transmits, generator) else {
+        let Ok(node) = Node::new(self.alloc, role, mac, now, transmits, Limits::usual(), generator) else {
             return Err(AllocError);
         };
         self.reach(now)?;

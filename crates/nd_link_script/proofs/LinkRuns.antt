@@ -10,7 +10,7 @@ use Rattle.nd_io.specs.Answers.{ComesFirst}
 use Rattle.nd_io.specs.ToldLaws.{Allows, GoesOn}
 use Rattle.nd_io.specs.declared.tool_fault.ToolFault.{ToolFault}
 use Rattle.nd_io.specs.declared.tool_fault.ToolFault.TheVariants as faults
-use Rattle.nd_node.specs.Node.{usual_limits}
+use Rattle.nd_node.specs.Limits.{usual_limits}
 use Rattle.nd_script.specs.Said.{Says, says}
 use Rattle.nd_script.proofs.Said.{say_begins}
 use Rattle.nd_wire.specs.Wire.{IsFaithful}

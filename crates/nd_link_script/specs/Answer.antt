@@ -1,7 +1,7 @@
 -- What the answer of a link to one event is.
 use Rattle.std.specs.Prelude.{◌≡◌, ℕ, List, ◌++◌}
 use Rattle.rand_core.specs.Stream.{Stream}
-use Rattle.nd_node.specs.Node.{usual_limits}
+use Rattle.nd_node.specs.Limits.{usual_limits}
 use Rattle.nd_wire.specs.Wire.{IsFaithful}
 use Rattle.nd_link_log.specs.Log.{Log}
 use Rattle.nd_link_log.specs.Event.{Event}

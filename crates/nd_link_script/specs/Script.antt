@@ -1,7 +1,7 @@
 -- What the lines of a link lead it to.
 use Rattle.std.specs.Prelude.{◌≡◌, ℕ, List, [], ◌++◌, Option}
 use Rattle.rand_core.specs.Stream.{Stream}
-use Rattle.nd_node.specs.Node.{usual_limits}
+use Rattle.nd_node.specs.Limits.{usual_limits}
 use Rattle.nd_script.specs.Said.{Say}
 use Rattle.nd_wire.specs.Wire.{IsFaithful}
 use Rattle.nd_link_log.specs.Log.{Log}

@@ -3,7 +3,7 @@ ghost use Rattle.std.specs.Prelude.{◌<◌, ◌^◌};
 use linked_list_allocator::LocalHeap;
 use nd_addr::{Addr, Mac, Preference, Prefix, Role};
 use nd_advertiser::{Config, ConfigFlags};
-use nd_node::{Clearable, Event, Node, OutgoingPacket, Table};
+use nd_node::{Clearable, Event, Limits, Node, OutgoingPacket, Table};
 use nd_out::{Out, write_outs};
 use nd_routes::{KeptRoute, Route};
 use nd_slaac::Transmits;
@@ -83,7 +83,7 @@ fn come<'h>(
 /// A host, at 3 s, up to which all that is due is done.
 fn host<'h>(rt: &impl Abort, heap: &'h LocalHeap) -> Node<Pcg32, &'h LocalHeap> {
     let generator = Pcg32::seed_from_u64(0);
-    let mut node = Node::new(heap, Role::Host, MAC, 0, Transmits::ONE, generator).expect(
+    let mut node = Node::new(heap, Role::Host, MAC, 0, Transmits::ONE, Limits::usual(), generator).expect(
         rt, "memory",
     );
     let mut outs = Vec::new(heap);
@@ -292,7 +292,7 @@ fn routes() -> Option<[KeptRoute; 2]> {
 /// A router that advertises, at 3 s, up to which all that is due is done: its first advertisement was sent.
 fn router<'h>(rt: &impl Abort, heap: &'h LocalHeap) -> Node<Pcg32, &'h LocalHeap> {
     let generator = Pcg32::seed_from_u64(0);
-    let mut node = Node::new(heap, Role::Router, MAC, 0, Transmits::ONE, generator).expect(
+    let mut node = Node::new(heap, Role::Router, MAC, 0, Transmits::ONE, Limits::usual(), generator).expect(
         rt, "memory",
     );
     let flags = ConfigFlags {

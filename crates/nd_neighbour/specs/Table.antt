@@ -12,6 +12,10 @@ use Rattle.nd_neighbour.specs.Story.{node_of}
 abbrev pub max_rings : ℕ
 max_rings = 2
 
+-- the most neighbours that a cache may have room for (our choice)
+abbrev pub max_neighbours : ℕ
+max_neighbours = 2048
+
 -- a cache: how many neighbours it has room for, those that it has, and how many rings are in hand for new ones
 pub record Table : Type 0 where
   pub limit : ℕ

@@ -9,6 +9,9 @@ use nd_waiting::Ring;
 use std::alloc::{AllocError, Allocator};
 use std::marker::Model;
 
+/// The most neighbours that a cache may have room for (our choice).
+pub const MAX_NEIGHBOURS: usize = 2048;
+
 /// How many rings may be in hand (our choice): one packet may need one for its neighbour and, as `room` asks, one for a
 /// second neighbour.
 const MAX_RINGS: usize = 2;
@@ -38,10 +41,12 @@ impl<A: Allocator> Model for Cache<A> {
 }
 
 impl<A: Allocator + Clone> Cache<A> {
-    ghost use Rattle.nd_neighbour.specs.Table.{Stands};
+    ghost use Rattle.nd_neighbour.specs.Table.{Stands, max_neighbours};
 
-    /// A cache with room for so many neighbours. All of it is reserved here; an error comes where memory is refused.
+    /// A cache with room for so many neighbours, 1 to 2048. All of it is reserved here; an error comes where memory is refused.
     pub fn new(alloc: A, limit: usize) -> Result<Self, AllocError>
+        requires least { 1 ≤ limit }
+        requires most { limit ≤ max_neighbours }
         ensures empty { IfOk result (λ cache. cache ≡ record { limit = limit; nodes = []; rings = 0 }) }
         ensures stands { IfOk result (λ cache. Stands cache.nodes []) }
     {

@@ -25,7 +25,7 @@ mod sending;
 mod shown;
 mod unreachability_detection;
 
-pub use cache::Cache;
+pub use cache::{Cache, MAX_NEIGHBOURS};
 pub use due::Due;
 pub use nd_table::Probes;
 pub use nd_waiting::{Packet, Packets};

@@ -1,4 +1,5 @@
 pub mod Moments
+pub mod Limits
 pub mod Node
 pub mod Counts
 pub mod Time

@@ -29,12 +29,8 @@ use Rattle.nd_effects.specs.Remembered.{Remembers}
 use Rattle.nd_node.specs.Moments.{earlier}
 use Rattle.nd_node.specs.declared.node.Node.{Node}
 
--- how many neighbours and default routers a node knows at most (our choice)
-abbrev pub usual_limits : Limits
-usual_limits = record { neighbours = 512; routers = 16 }
-
-abbrev pub starting : ℕ → Role → Mac → ℕ → Stream → Start
-starting at role mac transmits stream = record { at = at; role = role; mac = mac; transmits = transmits; stream = stream; limits = usual_limits }
+abbrev pub starting : ℕ → Role → Mac → ℕ → Limits → Stream → Start
+starting at role mac transmits limits stream = record { at = at; role = role; mac = mac; transmits = transmits; stream = stream; limits = limits }
 
 -- the earliest of the routers', the addresses', the neighbours', the Router Solicitations', the Router Advertisements' and the redraw's
 abbrev pub earliest : Option ℕ → Option ℕ → Option ℕ → Option ℕ → Option ℕ → ℕ → ℕ

@@ -1,5 +1,6 @@
 ghost use Rattle.std.specs.Prelude.{◌≡◌, ◌^◌, ◌<◌, IfOk, IfErr};
 
+use crate::limits::Limits;
 use crate::room::Room;
 use nd_addr::{Mac, Role};
 use nd_dns::Dns;
@@ -41,21 +42,22 @@ impl<R: Rng + Drop, A: Allocator + Copy> Node<R, A> {
     ghost use Rattle.nd_node.specs.Node.{Stands, starting};
 
     /// A node that starts: it draws its ReachableTime, and then the delay of the first solicitation for its link-local address, which it
-    /// forms (RFC 4861, section 6.3.2; RFC 4862, sections 5.3 and 5.4.2). For each address that it forms it sends so many solicitations. The error is
-    /// want of memory: it hands the generator back, of which no word was taken.
+    /// forms (RFC 4861, section 6.3.2; RFC 4862, sections 5.3 and 5.4.2). For each address that it forms it sends so many solicitations, and it
+    /// knows at most so many neighbours and default routers. The error is want of memory: it hands the generator back, of which no word was taken.
     pub fn new(
         alloc: A,
         role: Role,
         mac: Mac,
         start: u64,
         transmits: Transmits,
+        limits: Limits,
         mut generator: R,
     ) -> Result<Self, R>
         requires { start < 2 ^ 62 }
-        ensures stands { IfOk result (λ node. let first = starting start role mac transmits (R.stream generator) in Stands R.stream first node (beginning first)) }
+        ensures stands { IfOk result (λ node. let first = starting start role mac transmits limits (R.stream generator) in Stands R.stream first node (beginning first)) }
         ensures kept { IfErr result (λ rest. R.stream rest ≡ R.stream generator) }
     {
-        let Ok(room) = Room::new(alloc) else {
+        let Ok(room) = Room::new(alloc, limits) else {
             return Err(generator);
         };
         let reachable = reachable_drawn(&mut generator, REACHABLE_TIME);

@@ -5,8 +5,8 @@ ghost use Rattle.nd_neighbour.specs.Table as neighbours;
 ghost use Rattle.nd_routers.specs.Routers as routers;
 ghost use Rattle.nd_dns.specs.Dns as dns;
 ghost use Rattle.nd_nexthop.specs.Choice as choice;
-ghost use Rattle.nd_node.specs.Node.{usual_limits};
 
+use crate::limits::Limits;
 use nd_dns::Dns;
 use nd_effects::RouterTables;
 use nd_neighbour::Cache;
@@ -14,12 +14,6 @@ use nd_nexthop::Choice;
 use nd_routers::{Prefixes, Routers};
 use nd_slaac::AddressRoom;
 use std::alloc::{AllocError, Allocator};
-
-/// How many neighbours a node knows at most: our choice (RFC 4861, section 5.3, leaves it open).
-const MAX_NEIGHBOURS: usize = 512;
-
-/// How many default routers a node knows at most: our choice (RFC 4861, section 6.3.4, asks for two at least).
-const MAX_ROUTERS: usize = 16;
 
 /// Room for the tables of a node, taken before it starts.
 #[derive(Drop)]
@@ -34,13 +28,13 @@ pub(crate) struct Room<A: Allocator> {
 }
 
 impl<A: Allocator + Copy> Room<A> {
-    /// Takes the room. The error is want of memory.
-    pub(crate) fn new(alloc: A) -> Result<Self, AllocError>
-        ensures routers { IfOk result (λ room. room.routers ≡ record { limit = usual_limits.routers; entries = []; preferences = []; failed = [] }) }
+    /// Takes the room, for so many neighbours and default routers. The error is want of memory.
+    pub(crate) fn new(alloc: A, limits: Limits) -> Result<Self, AllocError>
+        ensures routers { IfOk result (λ room. room.routers ≡ record { limit = limits.routers; entries = []; preferences = []; failed = [] }) }
         ensures router_history { IfOk result (λ room. routers.Stands room.routers []) }
         ensures no_prefixes { IfOk result (λ room. room.prefixes ≡ []) }
         ensures prefixes { IfOk result (λ room. lists.Stands same_prefix room.prefixes []) }
-        ensures neighbours { IfOk result (λ room. room.neighbours ≡ record { limit = usual_limits.neighbours; nodes = []; rings = 0 }) }
+        ensures neighbours { IfOk result (λ room. room.neighbours ≡ record { limit = limits.neighbours; nodes = []; rings = 0 }) }
         ensures neighbour_history { IfOk result (λ room. neighbours.Stands room.neighbours.nodes []) }
         ensures dns { IfOk result (λ room. dns.Stands room.dns [] []) }
         ensures choice { IfOk result (λ room. room.choice ≡ record { redirects = []; memory = record { hops = []; until = None } }) }
@@ -49,10 +43,10 @@ impl<A: Allocator + Copy> Room<A> {
         ensures routes { IfOk result (λ room. room.router.routes ≡ record { entries = []; redirected = None }) }
     {
         Ok(Room {
-            routers: Routers::new(alloc, MAX_ROUTERS)?,
+            routers: Routers::new(alloc, limits.routers())?,
             prefixes: Prefixes::new(alloc)?,
             addresses: AddressRoom::new(alloc)?,
-            neighbours: Cache::new(alloc, MAX_NEIGHBOURS)?,
+            neighbours: Cache::new(alloc, limits.neighbours())?,
             dns: Dns::new(alloc)?,
             choice: Choice::new(alloc)?,
             router: RouterTables::new(alloc)?,

@@ -31,7 +31,16 @@ const ROUTER: Addr = Addr([0xfe, 0x80, 0, 0, 0, 0, 0, 0, 0, 0, 0, 0xff, 0xfe, 0,
 /// A host that starts at 0.
 fn host(rt: &(impl Abort + AllocGlobal)) -> Node<Pcg32, Global> {
     let generator = Pcg32::seed_from_u64(0);
-    Node::new(rt.alloc(), Role::Host, MAC, 0, Transmits::ONE, generator).expect(rt, "memory")
+    Node::new(
+        rt.alloc(),
+        Role::Host,
+        MAC,
+        0,
+        Transmits::ONE,
+        Limits::usual(),
+        generator,
+    )
+    .expect(rt, "memory")
 }
 
 /// Of events at a host that starts at 0 it tells this, behind what it tells of its start.
@@ -243,4 +252,19 @@ fn prefixes_and_servers_are_cleared(rt: HostRuntime) {
         &events,
         "3000 heard ra\n3000 prefix 2001:db8::/64 2592000000\n3000 end 1\n3000 server 2001:db8::53 1800000\n3000 end 1\n3000 end 0\n3000 end 0\n",
     );
+}
+
+#[test]
+fn limits_have_ranges(rt: HostRuntime) {
+    for (neighbours, routers, fits) in [
+        (0, 16, false),
+        (512, 0, false),
+        (1, 1, true),
+        (2048, 64, true),
+        (2049, 64, false),
+        (2048, 65, false),
+    ] {
+        assert_eq!(rt; Limits::new(neighbours, routers).is_some(), fits);
+    }
+    assert!(rt; Limits::new(512, 16) == Some(Limits::usual()));
 }

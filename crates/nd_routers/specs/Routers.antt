@@ -12,7 +12,7 @@ use Rattle.nd_routers.specs.DefaultRouterSelection.{Failures}
 
 -- the most that a table of routers may have room for (our choice)
 abbrev pub max_routers : ℕ
-max_routers = 16
+max_routers = 64
 
 -- How many routers the table has room for; the routers with their ends, in the order in which they came, and with their preferences, in the
 -- same order; and those of them that failed, in the order of their last failures.

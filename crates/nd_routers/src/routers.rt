@@ -13,7 +13,7 @@ use std::alloc::{AllocError, Allocator};
 use std::marker::Model;
 
 /// The most default routers that a list may have room for (our choice).
-pub const MAX_ROUTERS: usize = 16;
+pub const MAX_ROUTERS: usize = 64;
 
 /// The default routers, in the order in which they came (RFC 4861, section 5.1).
 #[derive(Drop)]
@@ -45,9 +45,10 @@ impl<A: Allocator + Clone> Routers<A> {
     ghost use Rattle.nd_routers.specs.History.{RouterRow};
     ghost use Rattle.nd_routers.specs.Routers.{max_routers, Stands, then_left, keys};
 
-    /// No routers, with room for so many, at most 16. All of it is reserved here; the error is want of memory.
+    /// No routers, with room for so many, 1 to 64. All of it is reserved here; the error is want of memory.
     pub fn new(alloc: A, limit: usize) -> Result<Self, AllocError>
-        requires { limit ≤ max_routers }
+        requires least { 1 ≤ limit }
+        requires most { limit ≤ max_routers }
         ensures empty { IfOk result (λ routers. routers ≡ record { limit = limit; entries = []; preferences = []; failed = [] }) }
         ensures stands { IfOk result (λ routers. Stands routers []) }
     {

@@ -15,7 +15,7 @@ use nd_io::input::Input;
 use nd_io::output::Output;
 use nd_io::run::run_lines;
 use nd_io::tool_fault::ToolFault;
-use nd_node::Node;
+use nd_node::{Limits, Node};
 use nd_slaac::Transmits;
 use rand_core::Rng;
 use std::alloc::{AllocError, Allocator};
@@ -31,22 +31,23 @@ pub fn run_script<I: Input, O: Output, R: Rng + Drop, A: Allocator + Copy>(
     role: Role,
     mac: Mac,
     transmits: Transmits,
+    limits: Limits,
     generator: R,
 ) -> Result<(), ToolFault>
-    ensures ok { OnOk result (TellsAll (IsText (starting 0 role mac transmits (R.stream generator))) (I.remaining reader.old) (O.contents writer.old) (O.contents writer.new) None) }
-    ensures line { (n : ℕ) → IsErrOf result (ToolFault.Line n) → TellsAll (IsText (starting 0 role mac transmits (R.stream generator))) (I.remaining reader.old) (O.contents writer.old) (O.contents writer.new) (Some n) }
-    ensures front { OnErr result (TellsFront (IsText (starting 0 role mac transmits (R.stream generator))) (I.remaining reader.old) (O.contents writer.old) (O.contents writer.new)) }
-    ensures beginning { OnErr result (TellsBeginning (IsText (starting 0 role mac transmits (R.stream generator))) (I.remaining reader.old) (O.contents writer.old) (O.contents writer.new)) }
+    ensures ok { OnOk result (TellsAll (IsText (starting 0 role mac transmits limits (R.stream generator))) (I.remaining reader.old) (O.contents writer.old) (O.contents writer.new) None) }
+    ensures line { (n : ℕ) → IsErrOf result (ToolFault.Line n) → TellsAll (IsText (starting 0 role mac transmits limits (R.stream generator))) (I.remaining reader.old) (O.contents writer.old) (O.contents writer.new) (Some n) }
+    ensures front { OnErr result (TellsFront (IsText (starting 0 role mac transmits limits (R.stream generator))) (I.remaining reader.old) (O.contents writer.old) (O.contents writer.new)) }
+    ensures beginning { OnErr result (TellsBeginning (IsText (starting 0 role mac transmits limits (R.stream generator))) (I.remaining reader.old) (O.contents writer.old) (O.contents writer.new)) }
     ensures read_failed { IsErrOf result ToolFault.Read → HasRisen (I.failed reader.old) (I.failed reader.new) ⊎ HasGrownBy most_reads (I.given reader.old) (I.given reader.new) }
     // Where a read fails, the answers to all lines that were read before it are written.
-    ensures answered { IsErrOf result ToolFault.Read → TellsAsRead (IsText (starting 0 role mac transmits (R.stream generator))) (I.remaining reader.old) (I.remaining reader.new) (O.contents writer.old) (O.contents writer.new) }
+    ensures answered { IsErrOf result ToolFault.Read → TellsAsRead (IsText (starting 0 role mac transmits limits (R.stream generator))) (I.remaining reader.old) (I.remaining reader.new) (O.contents writer.old) (O.contents writer.new) }
     ensures write_failed { IsErrOf result ToolFault.Write → HasRisen (O.failed writer.old) (O.failed writer.new) }
     ensures never_wire { result ≢ Err ToolFault.Wire }
 {
     one_reading();
     one_chronicle();
     only_grows();
-    match start(alloc, role, mac, transmits, generator) {
+    match start(alloc, role, mac, transmits, limits, generator) {
         Ok(script) => {
             let mut script = script;
             run_lines(alloc, reader, writer, &mut script)
@@ -61,11 +62,12 @@ fn start<R: Rng + Drop, A: Allocator + Copy>(
     role: Role,
     mac: Mac,
     transmits: Transmits,
+    limits: Limits,
     generator: R,
 ) -> Result<Script<R, A>, AllocError>
-    ensures { IfOk result (λ script. let first = starting 0 role mac transmits (R.stream generator) in Stands R.stream first script.node (beginning first)) }
+    ensures { IfOk result (λ script. let first = starting 0 role mac transmits limits (R.stream generator) in Stands R.stream first script.node (beginning first)) }
 {
-    match Node::new(alloc, role, mac, 0, transmits, generator) {
+    match Node::new(alloc, role, mac, 0, transmits, limits, generator) {
         Ok(node) => Ok(Script::new(alloc, node)),
         Err(_) => Err(AllocError),
     }

@@ -4,6 +4,7 @@ use crate::lines::{told, told_by};
 use nd_addr::{Mac, Role};
 use nd_io::input::Pieces;
 use nd_io::output::Writing;
+use nd_node::Limits;
 use nd_script::{Source, run_script};
 use nd_slaac::Transmits;
 use std::alloc::Global;
@@ -323,6 +324,7 @@ fn a_513th_neighbour_has_no_place(rt: HostRuntime) -> Result<(), Fail> {
         Role::Host,
         mac,
         Transmits::ONE,
+        Limits::usual(),
         zeros,
     );
     assert!(rt; done == Ok(()));

@@ -2,7 +2,7 @@ use nd_addr::{Addr, Mac, Role};
 use nd_io::input::Pieces;
 use nd_io::output::Writing;
 use nd_io::tool_fault::ToolFault;
-use nd_node::{Clearable, Event, Table};
+use nd_node::{Clearable, Event, Limits, Table};
 use nd_script::*;
 use nd_slaac::Transmits;
 use nd_text::write_hex;
@@ -420,7 +420,7 @@ pub(crate) fn told_by(
         let mut reader = Pieces::new(script, piece);
         let mut writer = Writing::new(Vec::new(alloc));
         let words = Source::Constant(word);
-        let done = run_script(alloc, &mut reader, &mut writer, role, mac, transmits, words);
+        let done = run_script(alloc, &mut reader, &mut writer, role, mac, transmits, Limits::usual(), words);
         assert_eq!(rt; done, ended);
         assert_eq!(rt; writer.into_inner().as_slice(), wanted.as_bytes());
     }

@@ -149,12 +149,15 @@ fn has_room_for_as_many_as_it_was_made_for(rt: HostRuntime) {
     assert!(rt; routers.ended(addr(0)));
     hears(&rt, &mut routers, 1_000, addr(2), 1_800, Change::Entered);
     assert!(rt; routers.len() == 2);
-    // One with room for none takes none.
-    let mut none = Routers::new(rt.alloc(), 0).expect(&rt, "memory");
-    assert!(rt;
-        hear(&mut none, 1_000, addr(1), 1_800, Preference::High)
-            == Some(Err(TableRefusal::Full(Limit::Routers)))
-    );
+    // As few as one, and as many as 64.
+    let mut one = Routers::new(rt.alloc(), 1).expect(&rt, "memory");
+    hears(&rt, &mut one, 1_000, addr(1), 1_800, Change::Entered);
+    assert!(rt; !one.fits(1_000, addr(2), 1_800));
+    let mut most = Routers::new(rt.alloc(), 64).expect(&rt, "memory");
+    for n in 0..64u8 {
+        hears(&rt, &mut most, 1_000, addr(n), 1_800, Change::Entered);
+    }
+    assert!(rt; !most.fits(1_000, addr(64), 1_800));
 }
 
 /// The place of the i-th router among those that failed.

@@ -11,6 +11,7 @@ use nd_command_line::{Asked, Carrier};
 use nd_io::input::Input;
 use nd_io::output::Output;
 use nd_io::tool_fault::ToolFault;
+use nd_node::Limits;
 use nd_script::run_script;
 use std::alloc::Allocator;
 use std::net::Net;
@@ -41,6 +42,7 @@ pub fn run<N: Net, R: Input, W: Output, A: Allocator + Copy>(
             node.role,
             node.mac,
             node.transmits,
+            Limits::usual(),
             node.source,
         ),
         Asked::Link(Carrier::Memory) => link_over_memory(alloc, reader, writer),

@@ -1,4 +1,8 @@
-use Rattle.std.proofs.Common.{◌<◌, length, refl, arith}
+use Rattle.std.proofs.Common.{◌<◌, length, refl, subst, arith}
+use Rattle.nd_chronicle.specs.Start.{Limits}
+use Rattle.nd_chronicle.specs.History.{beginning}
+use Rattle.nd_node.specs.Node as node
+use Rattle.nd_node.specs.Node.{starting}
 use Rattle.nd_link_log.specs.Event.{max_nodes}
 use Rattle.nd_link.proofs.Answering.{start_leads}
 use Rattle.nd_link.proofs.link.Link.start.Goals as goal
@@ -10,4 +14,6 @@ returns-clause-leads g c =
     let e = c.len.ensures in
     let ne = c.if-len-eq-MAX_NODES.false in
     let less : length c.args.self.now.nodes.items < max_nodes = omega (arith, ok, few, e, ne) in
-    start_leads g.R.Rng.stream c.args.self.now c.reach.new.self _ c.args.told.now.items c.in-Ok.node c.args.now c.args.role c.args.mac c.args.transmits (g.R.Rng.stream c.args.generator) less c.in_ok-reach.ensures.reaches c.in-Ok.ensures.stands c.in_ok-push.ensures.items refl refl
+    let words = g.R.Rng.stream c.args.generator in
+    let stands = subst (λ (limits : Limits). node.Stands g.R.Rng.stream (starting c.args.now c.args.role c.args.mac c.args.transmits limits words) c.in-Ok.node (beginning (starting c.args.now c.args.role c.args.mac c.args.transmits limits words))) c.usual.ensures c.in-Ok.ensures.stands in
+    start_leads g.R.Rng.stream c.args.self.now c.reach.new.self _ c.args.told.now.items c.in-Ok.node c.args.now c.args.role c.args.mac c.args.transmits (g.R.Rng.stream c.args.generator) less c.in_ok-reach.ensures.reaches stands c.in_ok-push.ensures.items refl refl

@@ -15,7 +15,7 @@ pub returns-clause-stands : goal.returns-clause-stands
 returns-clause-stands g c =
     let stream = g.R.Rng.stream in
     let at = c.args.start in
-    let first = starting at c.args.role c.args.mac c.args.transmits (stream c.args.generator) in
+    let first = starting at c.args.role c.args.mac c.args.transmits c.args.limits (stream c.args.generator) in
     let delay_is : c.drawn_from-delay.result ≡ drawn_from 0 1000 (next_u32 (stream c.args.generator)).1 =
     c.drawn_from-delay.ensures.value ∙ ap (λ (s : Stream). drawn_from 0 1000 s) c.reachable_drawn-reachable.ensures.left in
     let retrans_is : c.retrans_timer-retrans.result ≡ 1000 = c.retrans_timer-retrans.ensures.value ∙ ap (λ (v : parameters.Values). v.retrans_timer) c.new-params.ensures.value in
