@@ -1,7 +1,7 @@
 -- Bytes as numbers: masked bytes, equal bytes, the order of bytes.
-use Rattle.std.proofs.Common.{◌≡◌, ℕ, suc, ◌+◌, ◌*◌, ◌-◌, ◌/◌, ◌^◌, ◌<◌, ◌≤◌, ◌↔◌, List, [], ◌∷◌, length, slice_index, eqb, ltb, true, false, min, refl, sym, ap, subst, ◌∙◌, arith, inl, inr}
+use Rattle.std.proofs.Common.{◌≡◌, ℕ, suc, ◌+◌, ◌*◌, ◌-◌, ◌/◌, ◌%◌, ◌^◌, ◌<◌, ◌≤◌, ◌↔◌, List, [], ◌∷◌, length, slice_index, eqb, ltb, true, false, min, refl, sym, ap, subst, ◌∙◌, arith, inl, inr}
 use Rattle.std.proofs.lemmas.Bool.{cases_lt, eqb-true, eq-eqb, ne_eqb, lt-ltb, le-ltb, false≢true}
-use Rattle.std.proofs.lemmas.Nat.{shl-shr, shr-shr, pow-add, pow_pos, div-mul-add, mul-add-lt, same_from_place}
+use Rattle.std.proofs.lemmas.Nat.{shl-shr, shr-shr, pow-add, pow_pos, shr_split, div-mul-add, mul-add-lt, same_from_place}
 use Rattle.std.proofs.Math.Nat.{mul_assoc, mul_comm, add-mul, mul-add-div_right, mul-le-mul_right}
 use Rattle.std.specs.Prelude.{IsTrue, Bool}
 use Rattle.std.specs.Ordering.{nat_cmp, ordering_then}
@@ -212,3 +212,16 @@ ordered (x ∷ xs) (y ∷ ys) l small_a small_b =
     let ih = ordered xs ys (sym len) (λ i. small_a (suc i)) (λ i. small_b (suc i)) in
     ordered_behind (length xs) x y xs ys refl len (λ i. small_a (suc i)) (λ i. small_b (suc i)) ih
     ∙ ap (λ (n : ℕ). nat_cmp (x * 2 ^ (8 * length xs) + number_of xs) (y * 2 ^ (8 * n) + number_of ys)) (sym len)
+
+-- the first bits of a number, shifted there and back
+pub kept_number : (n k : ℕ) → n < 2 ^ 128 → n / 2 ^ k * 2 ^ k % 2 ^ 128 ≡ n / 2 ^ k * 2 ^ k
+kept_number n k small = omega (arith, shr_split n k)
+
+-- bytes whose number is that of the first bits
+pub masked_by_number : (bits : ℕ) (bytes kept : List ℕ) → bits ≤ 128 → length bytes ≡ 16 → IsBytes bytes → length kept ≡ 16 → IsBytes kept
+    → number_of kept ≡ number_of bytes / 2 ^ (128 - bits) * 2 ^ (128 - bits) → kept ≡ masked bits bytes
+masked_by_number bits bytes kept short len small kept_len kept_small e =
+    let places : 8 * length bytes - bits ≡ 128 - bits = omega (arith, len) in
+    let m : number_of (masked bits bytes) ≡ number_of bytes / 2 ^ (128 - bits) * 2 ^ (128 - bits) =
+    number_of-masked bits bytes small (omega (arith, len, short)) ∙ ap (λ (n : ℕ). number_of bytes / 2 ^ n * 2 ^ n) places in
+    number_injective kept (masked bits bytes) (omega (arith, kept_len, len, length-masked bits bytes)) kept_small (IsBytes-masked bits bytes small) (e ∙ sym m)

@@ -1,8 +1,8 @@
-ghost use Rattle.std.specs.Prelude.{◌≡◌, ◌↔◌, ◌≤◌, IsTrue};
+ghost use Rattle.std.specs.Prelude.{◌≡◌, ◌↔◌, ◌≤◌, ◌-◌, ◌*◌, ◌/◌, ◌^◌, IsTrue};
 ghost use Rattle.std.specs.Option.{SomeIff};
 ghost use Rattle.nd_addr.specs.Bytes.{IsBytes};
 ghost use Rattle.nd_addr.specs.Number.{Holds};
-ghost use Rattle.nd_addr.specs.Prefix.{PrefixValue, IsPrefix, kept_bits, masked, prefix_at};
+ghost use Rattle.nd_addr.specs.Prefix.{PrefixValue, IsPrefix, masked, prefix_at};
 
 use crate::addr::Addr;
 use std::marker::Model;
@@ -64,15 +64,6 @@ impl Prefix {
     }
 }
 
-/// The first bits of a byte, with zeros in place of the others.
-fn first_bits_of_byte(byte: u8, bits: usize) -> u8
-    requires { bits ≤ 8 }
-    ensures { result ≡ kept_bits bits byte }
-{
-    let unit = 1u16 << (8 - bits);
-    (byte as u16 / unit * unit) as u8
-}
-
 /// Whether two addresses have the same bytes.
 fn is_same(a: [u8; 16], b: [u8; 16]) -> bool
     ensures { IsTrue result ↔ (a ≡ b) }
@@ -80,15 +71,25 @@ fn is_same(a: [u8; 16], b: [u8; 16]) -> bool
     a == b
 }
 
+/// The first bits of a number of 128, with zeros in place of the others.
+#[tactic(auto, using(crate::proofs::Numbers::kept_number))]
+fn first_bits_of_number(number: u128, length: u8) -> u128
+    requires { length ≤ 128 }
+    ensures { result ≡ number / 2 ^ (128 - length) * 2 ^ (128 - length) }
+{
+    if length == 0 {
+        return 0;
+    }
+    let behind = 128 - length;
+    number >> behind << behind
+}
+
 /// The first bits of an address, with zeros in place of the others.
 fn first_bits(bytes: &[u8; 16], length: u8) -> [u8; 16]
+    requires { length ≤ 128 }
     ensures masked { result ≡ masked length bytes.now }
     ensures bytes { IsBytes result }
 {
-    let mut kept = *bytes;
-    for (i, byte) in kept.iter_mut().enumerate() {
-        let bits = (length as usize).saturating_sub(8 * i).min(8);
-        *byte = first_bits_of_byte(*byte, bits);
-    }
-    kept
+    let address = Addr(*bytes);
+    Addr::from_bits(first_bits_of_number(address.to_bits(), length)).0
 }

@@ -2,5 +2,6 @@ pub mod Types
 pub mod Walk
 pub mod Addresses
 pub mod Says
+pub mod OfType
 pub mod Spelling
 pub mod Deciding

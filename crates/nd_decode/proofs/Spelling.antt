@@ -9,7 +9,7 @@ use Rattle.nd_decode.proofs.Walk.{IsFront, front_is, begins, options_in_step, op
 use Rattle.nd_decode.proofs.Says.{option_says, says_one}
 
 -- the first piece is one
-front_piece : (bytes : List ℕ) → IsFront bytes → IsPiece (take (piece_length bytes) bytes)
+pub front_piece : (bytes : List ℕ) → IsFront bytes → IsPiece (take (piece_length bytes) bytes)
 front_piece bytes h =
     let second : slice_index (take (piece_length bytes) bytes) 1 ≡ slice_index bytes 1 = get_or-take (piece_length bytes) bytes 1 0 (omega (arith, h.some)) in
     let len : length (take (piece_length bytes) bytes) ≡ piece_length bytes = length-take-le (piece_length bytes) bytes h.fits in

@@ -1,6 +1,7 @@
 pub mod Servers
 pub mod Option
 pub mod Pieces
+pub mod OfType
 pub mod Options
 pub mod MessageType
 pub mod Message

@@ -1,4 +1,4 @@
-ghost use Rattle.std.specs.Prelude.{◌≡◌, MatchOption, take, drop, true, false};
+ghost use Rattle.std.specs.Prelude.{◌≡◌, MatchOption, take, drop, true, false, [], ◌∷◌, ◌<◌, length, IfSome};
 ghost use Rattle.nd_decode.specs.Option.{view};
 ghost use Rattle.nd_decode.specs.Pieces.{begins_whole, piece_length, options_in, rest_in, fault_of};
 
@@ -13,12 +13,28 @@ pub struct Options<'a> {
 
 impl<'a> Options<'a> {
     ghost use Rattle.nd_decode.specs.Pieces.{options_left};
+    ghost use Rattle.nd_decode.specs.OfType.{from_kind};
 
     /// The options in these bytes.
     pub(crate) fn new(bytes: &'a [u8]) -> Self
         ensures { options_left result ≡ options_in bytes.entry.now }
     {
         Options { rest: bytes }
+    }
+
+    /// The next option of a type. Those of other types are passed over: of them only type and length are looked at.
+    #[tactic(auto, using(crate::proofs::OfType::from_kind_none))]
+    pub fn next_of_type(&mut self, kind: u8) -> Option<OptionRef<'a>>
+        ensures value { MatchOption result (from_kind kind (options_left self.old) ≡ []) (λ o. from_kind kind (options_left self.old) ≡ view o ∷ options_left self.new) }
+        ensures fewer { IfSome result (λ _. length (options_left self.new) < length (options_left self.old)) }
+    {
+        while let Some((piece, rest)) = split_piece(self.rest) {
+            self.rest = rest;
+            if piece[0] == kind {
+                return Some(OptionRef::read(piece));
+            }
+        }
+        None
     }
 }
 

@@ -3,7 +3,7 @@ ghost use Rattle.nd_search_list.specs.NameRef.{name_of};
 ghost use Rattle.nd_dns.specs.Names.{at_hand};
 
 use crate::search_name::SearchName;
-use nd_decode::{NameRef, Names, OptionRef, Options};
+use nd_decode::{NameRef, Names, OPTION_DNS_SEARCH_LIST, OptionRef, Options};
 use nd_lifetime::Announces;
 use std::alloc::Allocator;
 
@@ -34,13 +34,14 @@ impl<'a> AnnouncedNames<'a> {
     }
 
     /// The next one.
+    #[tactic(auto, using(crate::proofs::OfType::names_from))]
     pub(crate) fn next_name(&mut self) -> Option<(NameRef<'a>, u32)>
         ensures { MatchOption result (names_to_come self.old ≡ []) (λ p. names_to_come self.old ≡ (name_of p.0, p.1) ∷ names_to_come self.new) }
     {
         if let Some(name) = next_of(&mut self.names) {
             return Some((name, self.lifetime));
         }
-        while let Some(option) = self.options.next() {
+        while let Some(option) = self.options.next_of_type(OPTION_DNS_SEARCH_LIST) {
             if let OptionRef::Dnssl(lifetime, names) = option {
                 self.lifetime = lifetime;
                 self.names = Some(names);

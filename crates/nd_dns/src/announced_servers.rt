@@ -1,5 +1,5 @@
 use nd_addr::Addr;
-use nd_decode::{OptionRef, Options, Servers};
+use nd_decode::{OPTION_RECURSIVE_DNS_SERVER, OptionRef, Options, Servers};
 use nd_lifetime::Announces;
 
 /// The DNS servers that the options of a Router Advertisement tell, with the lifetimes of their options (RFC 8106, section 5.1).
@@ -35,11 +35,12 @@ impl Announces<Addr, Addr> for AnnouncedServers<'_> {
 
     ghost told = { servers_to_come };
 
+    #[tactic(auto, using(crate::proofs::OfType::servers_from))]
     fn next_told(&mut self) -> Option<(Addr, u32)> {
         if let Some(server) = next_of(&mut self.servers) {
             return Some((server, self.lifetime));
         }
-        while let Some(option) = self.options.next() {
+        while let Some(option) = self.options.next_of_type(OPTION_RECURSIVE_DNS_SERVER) {
             if let OptionRef::Rdnss(lifetime, servers) = option {
                 self.lifetime = lifetime;
                 self.servers = Some(servers);

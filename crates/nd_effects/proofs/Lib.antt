@@ -13,3 +13,4 @@ pub mod Measuring
 pub mod Advertisements
 pub mod RouterSide
 pub mod Transit
+pub mod OfType

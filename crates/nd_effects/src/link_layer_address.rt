@@ -20,7 +20,10 @@ ghost use Rattle.nd_effects.specs.Told.{at_moment, happenings};
 
 use nd_addr::laws::addresses_are_told_by_numbers;
 use nd_addr::{Addr, Mac};
-use nd_decode::{Body, NeighborAdvertisement, OptionRef, Options, Redirect};
+use nd_decode::{
+    Body, NeighborAdvertisement, OPTION_SOURCE_LINK_LAYER_ADDRESS,
+    OPTION_TARGET_LINK_LAYER_ADDRESS, OptionRef, Options, Redirect,
+};
 use nd_neighbour::laws::released_to_the_given_address;
 use nd_neighbour::{Cache, Flags, News, Times};
 use nd_nexthop::Choice;
@@ -29,10 +32,12 @@ use nd_waiting::Packets;
 use std::alloc::Allocator;
 
 /// The first Source Link-Layer Address (RFC 4861, section 4.6.1).
+#[tactic(auto, using(crate::proofs::OfType::first_slla_from))]
 fn first_slla(options: Options<'_>) -> Option<Mac>
     ensures { result ≡ first_slla (options_left options.entry) }
 {
-    for option in options {
+    let mut rest = options;
+    while let Some(option) = rest.next_of_type(OPTION_SOURCE_LINK_LAYER_ADDRESS) {
         if let OptionRef::Slla(mac) = option {
             return Some(mac);
         }
@@ -41,10 +46,12 @@ fn first_slla(options: Options<'_>) -> Option<Mac>
 }
 
 /// The first Target Link-Layer Address (RFC 4861, section 4.6.1).
+#[tactic(auto, using(crate::proofs::OfType::first_tlla_from))]
 fn first_tlla(options: Options<'_>) -> Option<Mac>
     ensures { result ≡ first_tlla (options_left options.entry) }
 {
-    for option in options {
+    let mut rest = options;
+    while let Some(option) = rest.next_of_type(OPTION_TARGET_LINK_LAYER_ADDRESS) {
         if let OptionRef::Tlla(mac) = option {
             return Some(mac);
         }

@@ -11,7 +11,7 @@ ghost use Rattle.nd_effects.specs.Remembered.{forms_none};
 ghost use Rattle.nd_effects.specs.PrefixOptions.{delay_from, Forms};
 
 use crate::draw::{MAX_RTR_SOLICITATION_DELAY, drawn_from};
-use nd_decode::{OptionRef, Options, PrefixInfo};
+use nd_decode::{OPTION_PREFIX_INFORMATION, OptionRef, Options, PrefixInfo};
 use nd_slaac::Addresses;
 use rand_core::Rng;
 use std::alloc::Allocator;
@@ -51,10 +51,12 @@ fn hear_prefix_option<R: Rng, A: Allocator>(
 }
 
 /// Whether none of the prefix options of a Router Advertisement would form an address.
+#[tactic(auto, using(nd_slaac::proofs::OfType::prefixes_from))]
 pub fn none_forms<A: Allocator>(addresses: &Addresses<A>, options: Options<'_>) -> bool
     ensures { result ≡ forms_none addresses.now.mac (keys_in addresses.now.addresses) (prefixes_in (options_left options.entry)) }
 {
-    for option in options {
+    let mut rest = options;
+    while let Some(option) = rest.next_of_type(OPTION_PREFIX_INFORMATION) {
         if let OptionRef::Prefix(info) = option {
             if addresses.would_form(&info) {
                 return false;
@@ -66,6 +68,7 @@ pub fn none_forms<A: Allocator>(addresses: &Addresses<A>, options: Options<'_>) 
 
 /// The prefix options of a Router Advertisement may form addresses, in their order, for which there is room (RFC 4862, section 5.5.3).
 /// Moment and RetransTimer, which is the one in force, are in milliseconds.
+#[tactic(auto, using(nd_slaac::proofs::OfType::prefixes_from))]
 pub fn hear_prefix_options<R: Rng, A: Allocator>(
     addresses: &mut Addresses<A>,
     generator: &mut R,
@@ -78,7 +81,8 @@ pub fn hear_prefix_options<R: Rng, A: Allocator>(
     requires fits { fits_in addresses.old.mac (keys_in addresses.old.addresses) (prefixes_in (options_left options)) ≡ true }
     ensures forms { (start : Start) (c : Chronicle) → Forms start addresses.old (R.stream generator.old) retrans c → Forms start addresses.new (R.stream generator.new) retrans (then_options start now to_all (prefixes_in (options_left options.entry)) c) }
 {
-    for option in options {
+    let mut rest = options;
+    while let Some(option) = rest.next_of_type(OPTION_PREFIX_INFORMATION) {
         if let OptionRef::Prefix(info) = option {
             hear_prefix_option(addresses, generator, now, &info, to_all, retrans);
         }

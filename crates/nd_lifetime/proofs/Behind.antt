@@ -1,7 +1,7 @@
 -- What the announcements of a message do to a list, one behind the other.
-use Rattle.std.proofs.Common.{◌≡◌, ℕ, zero, suc, ◌+◌, ◌≤◌, Bool, true, false, cond, eqb, List, [], ◌∷◌, ◌++◌, length, take, drop, Option, None, refl, sym, ◌∙◌, ap, arith, ⊎_elim}
+use Rattle.std.proofs.Common.{◌≡◌, ℕ, zero, suc, ◌+◌, ◌≤◌, Bool, true, false, cond, eqb, List, [], ◌∷◌, ◌++◌, length, take, drop, Option, None, refl, sym, ◌∙◌, ap, arith, inl, inr, ⊎_elim}
 use Rattle.std.specs.Prelude.{map, filter, not, is_some, ◌&&◌, nat_le}
-use Rattle.std.proofs.lemmas.Bool.{cond_both, cond-true, true≢false}
+use Rattle.std.proofs.lemmas.Bool.{cond_both, cond-true, true≢false, cases_Bool, le-leb}
 use Rattle.nd_lifetime.specs.declared.lasting.Lasting.{Lasting}
 use Rattle.nd_table.specs.Ends.{end_time, is_before}
 use Rattle.nd_lifetime.specs.Listing.{open_at, end_in, renewed, without, told, announced, announced_all, entered, fits, behind, Distinct, count_after}
@@ -171,3 +171,32 @@ module _ {K : Type 0} where
   next_is i key w all rest at =
       let one : i + 1 ≡ suc i = omega arith in
       sym (ap tail_of at) ∙ (tail_is i all ∙ ap (λ k. drop k all) (sym one))
+
+-- a message that announces no more keys than there is room for fits
+module _ {K : Type 0} (same : K → K → Bool) (tells : Tells same) where
+  fewer_open : (p : Lasting K → Bool) (es : List (Lasting K)) → length (filter p es) ≤ length es
+  fewer_open p [] = omega arith
+  fewer_open p (e ∷ es) =
+      elim (cases_Bool (p e)) [
+        | inl t ↦ let ih = fewer_open p es in rw t (omega (arith, ih))
+        | inr f ↦ let ih = fewer_open p es in rw f (omega (arith, ih))
+      ]
+
+  one_more : (now : ℕ) (key : K) (w : ℕ) (es : List (Lasting K)) → length (told same now key w es) ≤ length es + 1
+  one_more now key w es =
+      elim (cases_Bool (eqb w 0)) [
+        | inl z ↦ let le = fewer_open (λ e. not (same e.key key)) es in rw z (omega (arith, le))
+        | inr n ↦ elim (cases_Bool (is_some (end_in same key es))) [
+          | inl t ↦ let l = as_long same tells key (end_time now w) es in rw (n, t) (omega (arith, l))
+          | inr f ↦ let l = one_longer es (record { key = key; end = end_time now w }) in rw (n, f) (omega (arith, l))
+        ]
+      ]
+
+  pub fits_few : (limit now : ℕ) (more : List (K × ℕ)) (es : List (Lasting K)) → length (open_at now es) + length more ≤ limit → fits same limit now more es ≡ true
+  fits_few limit now [] es le = refl
+  fits_few limit now ((key, w) ∷ more) es le =
+      let longer : length (announced same now key w es) ≤ length (open_at now es) + 1 = one_more now key w (open_at now es) in
+      let opened : length (open_at now (announced same now key w es)) ≤ length (announced same now key w es) = fewer_open (λ e. is_before now e.end) (announced same now key w es) in
+      let first : nat_le (length (announced same now key w es)) limit ≡ true = le-leb _ _ (omega (arith, le, longer)) in
+      let rest : fits same limit now more (announced same now key w es) ≡ true = fits_few limit now more (announced same now key w es) (omega (arith, le, longer, opened)) in
+      rw (first, rest) refl

@@ -54,6 +54,21 @@ pub fn enters_behind<K, Q: NamesKey<K> + Drop, I: Announces<K, Q> + Copy>(
     lifetime != 0 && !stands_behind(entries, now, announced, taken, name)
 }
 
+/// Whether there is room for so many keys beside those that stand, were each announcement to enter one.
+fn are_few<K, Q: NamesKey<K> + Drop, I: Announces<K, Q> + Copy>(room: usize, announced: I) -> bool
+    ensures { result ≡ true → length (I.told announced) ≤ room }
+{
+    let mut left = room;
+    let mut rest = announced;
+    while let Some(_) = rest.next_told() {
+        if left == 0 {
+            return false;
+        }
+        left -= 1;
+    }
+    true
+}
+
 /// Whether the announcements of a message, taken in order, never lead to more entries than a limit. It takes no memory.
 pub fn fits_all<K, Q: NamesKey<K> + Drop, I: Announces<K, Q> + Copy>(
     entries: &[Lasting<K>],
@@ -68,6 +83,9 @@ pub fn fits_all<K, Q: NamesKey<K> + Drop, I: Announces<K, Q> + Copy>(
     ensures { result ≡ fits Q.same limit now (I.told announced) entries.now }
 {
     let mut standing = count(entries, now);
+    if are_few(limit - standing, announced) {
+        return true;
+    }
     let mut rest = announced;
     let mut taken = 0;
     while let Some((name, lifetime)) = rest.next_told() {

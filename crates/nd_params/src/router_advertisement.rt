@@ -7,7 +7,7 @@ ghost use Rattle.nd_params.specs.Params.{Stands, GainsRows, redraws};
 
 use crate::params::Params;
 use nd_addr::{ETHERNET_MTU, LEAST_MTU};
-use nd_decode::{OptionRef, Options, RouterAdvertisement};
+use nd_decode::{OPTION_MTU, OptionRef, Options, RouterAdvertisement};
 
 impl Params {
     /// Whether a Router Advertisement changes the base, so that ReachableTime has to be drawn (RFC 4861, section 6.3.4).
@@ -51,10 +51,12 @@ impl Params {
 }
 
 /// The first MTU option.
+#[tactic(auto, using(crate::proofs::OfType::first_mtu_from))]
 fn first_mtu(options: Options<'_>) -> Option<u32>
     ensures { result ≡ first_mtu (options_left options.entry) }
 {
-    for option in options {
+    let mut rest = options;
+    while let Some(option) = rest.next_of_type(OPTION_MTU) {
         if let OptionRef::Mtu(mtu) = option {
             return Some(mtu);
         }

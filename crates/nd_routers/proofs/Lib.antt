@@ -8,3 +8,4 @@ pub mod Steps
 pub mod Told
 pub mod Unique
 pub mod Planning
+pub mod OfType

@@ -11,7 +11,7 @@ ghost use Rattle.nd_routers.specs.Refreshing.{only_refreshes};
 
 use crate::prefixes::{MAX_PREFIXES, Prefixes};
 use nd_addr::Prefix;
-use nd_decode::{OptionRef, Options, PrefixInfo};
+use nd_decode::{OPTION_PREFIX_INFORMATION, OptionRef, Options, PrefixInfo};
 use nd_lifetime::{Announces, Lasting, Limit, TableRefusal, announce_all, fits_all, stands};
 use std::alloc::Allocator;
 
@@ -84,8 +84,9 @@ impl Announces<Prefix, Prefix> for OnLink<'_> {
 
     ghost told = { prefixes_left };
 
+    #[tactic(auto, using(crate::proofs::OfType::prefixes_from))]
     fn next_told(&mut self) -> Option<(Prefix, u32)> {
-        while let Some(option) = self.options.next() {
+        while let Some(option) = self.options.next_of_type(OPTION_PREFIX_INFORMATION) {
             if let OptionRef::Prefix(info) = option {
                 if is_on_link(&info) {
                     return Some((info.prefix, info.valid_lifetime));

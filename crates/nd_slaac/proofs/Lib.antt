@@ -15,3 +15,4 @@ pub mod Planning
 pub mod Overdue
 pub mod Unique
 pub mod Destinations
+pub mod OfType

@@ -12,7 +12,7 @@ use crate::addresses::{Addresses, MAX_ADDRESSES};
 use crate::entry::Entry;
 use crate::prefix_option::{is_taken, named_by};
 use nd_addr::{Addr, Mac};
-use nd_decode::{OptionRef, Options, PrefixInfo};
+use nd_decode::{OPTION_PREFIX_INFORMATION, OptionRef, Options, PrefixInfo};
 use nd_table::{compare, find};
 use std::alloc::Allocator;
 
@@ -74,10 +74,12 @@ fn forms(info: &PrefixInfo, mac: Mac, addr: Addr) -> bool
 }
 
 /// Whether some option forms this address where that isn't known.
+#[tactic(auto, using(crate::proofs::OfType::prefixes_from))]
 fn is_formed_by(options: Options<'_>, mac: Mac, addr: Addr) -> bool
     ensures { result ≡ is_formed_by mac (number_of addr.0) (prefixes_in (options_left options.entry)) }
 {
-    for option in options {
+    let mut rest = options;
+    while let Some(option) = rest.next_of_type(OPTION_PREFIX_INFORMATION) {
         if let OptionRef::Prefix(info) = option
             && forms(&info, mac, addr)
         {
@@ -88,6 +90,7 @@ fn is_formed_by(options: Options<'_>, mac: Mac, addr: Addr) -> bool
 }
 
 /// Whether there is room for each address that the options would form.
+#[tactic(auto, using(crate::proofs::OfType::prefixes_from))]
 pub(crate) fn fits(entries: &[Entry], mac: Mac, options: Options<'_>) -> bool
     requires few { length entries.now ≤ max_addresses }
     requires order { Rises key_of entries.now }
@@ -95,7 +98,7 @@ pub(crate) fn fits(entries: &[Entry], mac: Mac, options: Options<'_>) -> bool
 {
     let mut count = entries.len();
     let mut rest = options;
-    while let Some(option) = rest.next() {
+    while let Some(option) = rest.next_of_type(OPTION_PREFIX_INFORMATION) {
         let OptionRef::Prefix(info) = option else {
             continue;
         };

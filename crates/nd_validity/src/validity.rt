@@ -8,7 +8,7 @@ ghost use Rattle.nd_validity.specs.Validity.{is_of_routers, has_bad_source, has_
 
 use crate::hearing::Heard;
 use nd_addr::{Addr, Role, Why};
-use nd_decode::{Body, MessageRef, OptionRef, Options};
+use nd_decode::{Body, MessageRef, OPTION_SOURCE_LINK_LAYER_ADDRESS, OptionRef, Options};
 
 /// The first fault of a message that is well spelled.
 pub(crate) fn fault(heard: &Heard<'_>) -> Option<Why>
@@ -72,10 +72,12 @@ fn has_unspecified_slla(source: &Addr, message: &MessageRef<'_>) -> bool
 }
 
 /// Whether some option is a Source Link-Layer Address.
+#[tactic(auto, using(crate::proofs::OfType::any_slla_from))]
 fn has_slla(options: Options<'_>) -> bool
     ensures { result ≡ list_any is_slla (options_left options.entry) }
 {
-    for option in options {
+    let mut rest = options;
+    while let Some(option) = rest.next_of_type(OPTION_SOURCE_LINK_LAYER_ADDRESS) {
         if let OptionRef::Slla(_) = option {
             return true;
         }

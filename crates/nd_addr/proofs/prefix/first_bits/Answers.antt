@@ -1,6 +1,9 @@
-use Rattle.std.proofs.Common.{arith}
-use Rattle.nd_addr.proofs.Masking.{masked_each}
+use Rattle.std.proofs.Common.{rules, ◌≡◌, ◌*◌, ◌-◌, ◌/◌, ◌^◌, ℕ, ◌∙◌, ap, arith}
+use Rattle.nd_addr.proofs.Numbers.{masked_by_number}
+use Rattle.nd_addr.proofs.Numbered.{sixteen}
 use Rattle.nd_addr.proofs.prefix.first_bits.Goals as goal
 
 pub returns-clause-masked : goal.returns-clause-masked
-returns-clause-masked c = masked_each c.args.length c.args.bytes.now _ (omega arith) (λ k lt. c.loop-i.invariant.done k (omega arith))
+returns-clause-masked c =
+    masked_by_number c.args.length c.args.bytes.now c.from_bits.result.0 c.requires (search rules) (search rules) (search rules) (rw c.from_bits.ensures.value (sixteen c.first_bits_of_number.result).each)
+    (c.from_bits.ensures.number ∙ c.first_bits_of_number.ensures ∙ ap (λ (n : ℕ). n / 2 ^ (128 - c.args.length) * 2 ^ (128 - c.args.length)) c.to_bits.ensures)

@@ -1,4 +1,4 @@
-use Rattle.std.proofs.Common.{◌≡◌, true}
+use Rattle.std.proofs.Common.{◌≡◌, true, length}
 use Rattle.nd_decode.specs.Pieces.{options_left}
 use Rattle.nd_slaac.specs.PrefixOption.{prefixes_in}
 use Rattle.nd_slaac.specs.Room.{fits_in}
@@ -12,8 +12,9 @@ use Rattle.nd_effects.proofs.prefix_options.hear_prefix_options.Given as goal
 -- there is room for the options that are left, and what they add where the code is, all of them add from the start
 abbrev pub invariant-loop-option : goal.invariant-loop-option
 invariant-loop-option g l =
-    (goal.iterator-loop-option g).can_next l.option-iterator ×
-    (goal.iterator-loop-option g).is_finite l.option-iterator ×
-    (fits_in l.addresses.mac (keys_in l.addresses.addresses) (prefixes_in (options_left l.option-iterator)) ≡ true) ×
+    (fits_in l.addresses.mac (keys_in l.addresses.addresses) (prefixes_in (options_left l.rest)) ≡ true) ×
     ((start : Start) (c : Chronicle) → Forms start l.fn.addresses (g.R.Rng.stream l.fn.generator) l.retrans c → (mid : Chronicle) × Forms start l.addresses (g.R.Rng.stream l.generator) l.retrans mid
-    × (then_options start l.now l.to_all (prefixes_in (options_left l.options)) c ≡ then_options start l.now l.to_all (prefixes_in (options_left l.option-iterator)) mid))
+    × (then_options start l.now l.to_all (prefixes_in (options_left l.options)) c ≡ then_options start l.now l.to_all (prefixes_in (options_left l.rest)) mid))
+
+abbrev pub decreases-loop-option : goal.decreases-loop-option
+decreases-loop-option g l = length (options_left l.rest)

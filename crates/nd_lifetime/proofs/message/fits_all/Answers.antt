@@ -1,8 +1,8 @@
-use Rattle.std.proofs.Common.{◌≡◌, ◌∙◌, sym, ap, refl, arith, eqb, List, ℕ, length, take, true, false, ◌+◌}
+use Rattle.std.proofs.Common.{rules, ◌≡◌, ◌∙◌, sym, ap, refl, arith, eqb, List, ℕ, length, take, true, false, ◌+◌}
 use Rattle.std.specs.Prelude.{not, nat_le, ◌&&◌}
 use Rattle.std.proofs.lemmas.Bool.Decides.{nat_tests}
 use Rattle.nd_lifetime.specs.Listing.{behind, fits, count_after}
-use Rattle.nd_lifetime.proofs.Behind.{fits_open, counted, fits_more, next_is}
+use Rattle.nd_lifetime.proofs.Behind.{fits_open, counted, fits_more, fits_few, next_is}
 use Rattle.nd_lifetime.proofs.message.fits_all.Goals as goal
 
 pub loop-name-init : goal.loop-name-init
@@ -58,3 +58,7 @@ loop-name-preserved g c =
           ∙ (sym (fits_more same tells now (g.Q.NamesKey.named c.in-Some.name) c.in-Some.lifetime i all (g.I.Announces.told c.next_told.new.self) es c.requires.distinct at c.args.limit)
           ∙ (ap (λ (l : List (g.row.K.Denot × ℕ)). fits same c.args.limit now l cur) (sym c.in-Some.ensures) ∙ c.loop-name.invariant.3)),
     )
+
+pub returns-then-are_few : goal.returns-then-are_few
+returns-then-are_few g c =
+    sym (fits_few g.Q.NamesKey.same g.met.Q.NamesKey.tells c.args.limit c.args.now (g.I.Announces.told c.args.announced) c.args.entries.now (search rules))

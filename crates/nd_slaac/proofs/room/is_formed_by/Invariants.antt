@@ -1,4 +1,4 @@
-use Rattle.std.proofs.Common.{◌≡◌}
+use Rattle.std.proofs.Common.{◌≡◌, length}
 use Rattle.nd_addr.specs.Number.{number_of}
 use Rattle.nd_decode.specs.Pieces.{options_left}
 use Rattle.nd_slaac.specs.PrefixOption.{prefixes_in}
@@ -8,4 +8,7 @@ use Rattle.nd_slaac.proofs.room.is_formed_by.Given as goal
 -- the address is formed by the rest where it is by any
 abbrev pub invariant-loop-option : goal.invariant-loop-option
 invariant-loop-option l =
-    is_formed_by l.mac (number_of l.addr.0) (prefixes_in (options_left l.option-iterator)) ≡ is_formed_by l.mac (number_of l.addr.0) (prefixes_in (options_left l.initial.option-iterator))
+    is_formed_by l.mac (number_of l.addr.0) (prefixes_in (options_left l.rest)) ≡ is_formed_by l.mac (number_of l.addr.0) (prefixes_in (options_left l.initial.rest))
+
+abbrev pub decreases-loop-option : goal.decreases-loop-option
+decreases-loop-option l = length (options_left l.rest)

@@ -1,0 +1,59 @@
+-- Going over the options of one type.
+use Rattle.std.proofs.Common.{◌≡◌, ℕ, suc, ◌<◌, ◌≤◌, true, false, eqb, List, [], ◌∷◌, length, take, drop, slice_index, refl, sym, ap, ◌∙◌, arith, inl, inr, eq-eqb, ne_eqb}
+use Rattle.std.proofs.lemmas.Bool.{cases_Bool}
+use Rattle.nd_decode.specs.Option.{Said, slla, tlla, prefix, redirected, mtu, rdnss, dnssl, other, IsPiece, Says, option_of}
+use Rattle.nd_decode.specs.Pieces.{piece_length, begins_whole, options_in}
+use Rattle.nd_decode.specs.OfType.{kind_of, from_kind}
+use Rattle.nd_decode.proofs.Walk.{front_is, options_in_step, options_in_stop}
+use Rattle.nd_decode.proofs.Says.{option_says}
+use Rattle.nd_decode.proofs.Spelling.{front_piece}
+
+kind_said : (piece : List ℕ) (option : Said) → Says piece option → kind_of option ≡ slice_index piece 0
+kind_said piece (slla mac) s = sym s.0.kind_is
+kind_said piece (tlla mac) s = sym s.0.kind_is
+kind_said piece (prefix p) s = sym s.0.kind_is
+kind_said piece (redirected packet) s = sym s.0
+kind_said piece (mtu n) s = sym s.0.kind_is
+kind_said piece (rdnss lifetime servers) s = sym s.0.kind_is
+kind_said piece (dnssl lifetime names) s = sym s.0.kind_is
+kind_said piece (other kind rest) s = s.1
+
+-- a piece in front, and what is behind it
+abbrev pub IsSplit : List ℕ → List ℕ → List ℕ → Type 0
+IsSplit bytes piece rest = (begins_whole bytes ≡ true) × (piece ≡ take (piece_length bytes) bytes) × (rest ≡ drop (piece_length bytes) bytes)
+
+split_kind : (bytes piece rest : List ℕ) → IsSplit bytes piece rest → kind_of (option_of piece) ≡ slice_index piece 0
+split_kind bytes piece rest s = let p : IsPiece piece = rw (s.1) (front_piece bytes (front_is bytes s.0)) in kind_said piece (option_of piece) (option_says piece p)
+
+split_step : (bytes piece rest : List ℕ) → IsSplit bytes piece rest → options_in bytes ≡ option_of piece ∷ options_in rest
+split_step bytes piece rest s = rw (s.1, s.2) (options_in_step bytes s.0)
+
+-- the first piece is of the type: the options from there on
+pub from_kind_here : (kind : ℕ) (bytes piece rest : List ℕ) → IsSplit bytes piece rest → slice_index piece 0 ≡ kind → from_kind kind (options_in bytes) ≡ option_of piece ∷ options_in rest
+from_kind_here kind bytes piece rest s e =
+    let t : eqb (kind_of (option_of piece)) kind ≡ true = eq-eqb _ _ (split_kind bytes piece rest s ∙ e) in
+    rw (split_step bytes piece rest s, t) refl
+
+-- it is of another: those behind it
+pub from_kind_behind : (kind : ℕ) (bytes piece rest : List ℕ) → IsSplit bytes piece rest → (slice_index piece 0 ≡ kind → ⊥) → from_kind kind (options_in bytes) ≡ from_kind kind (options_in rest)
+from_kind_behind kind bytes piece rest s n =
+    let t : eqb (kind_of (option_of piece)) kind ≡ false = ne_eqb _ _ (λ e. n (sym (split_kind bytes piece rest s) ∙ e)) in
+    rw (split_step bytes piece rest s, t) refl
+
+pub from_kind_none : (kind : ℕ) (bytes : List ℕ) → begins_whole bytes ≡ false → from_kind kind (options_in bytes) ≡ []
+from_kind_none kind bytes over = rw (options_in_stop bytes over) refl
+
+-- no more than there were
+from_kind_few : (kind : ℕ) (options : List Said) → length (from_kind kind options) ≤ length options
+from_kind_few kind [] = omega arith
+from_kind_few kind (option ∷ options) =
+    elim (cases_Bool (eqb (kind_of option) kind)) [
+      | inl e ↦ rw e (omega arith)
+      | inr e ↦ let ih = from_kind_few kind options in rw e (omega (arith, ih))
+    ]
+
+pub fewer_left : (kind : ℕ) (before after : List Said) (option : Said) → from_kind kind before ≡ option ∷ after → length after < length before
+fewer_left kind before after option e =
+    let few : length (from_kind kind before) ≤ length before = from_kind_few kind before in
+    let len : length (from_kind kind before) ≡ suc (length after) = ap length e in
+    omega (arith, few, len)
