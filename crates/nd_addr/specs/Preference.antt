@@ -1,9 +1,9 @@
--- How routers are preferred to one another (RFC 4191, section 2.1), and the names by which it is told.
+-- The order of router preferences (RFC 4191, section 2.1), and the names that are printed.
 use Rattle.std.specs.Prelude.{ℕ, Bool, nat_lt, List, codes}
 use Rattle.nd_addr.specs.declared.preference.Preference.{Preference}
 use Rattle.nd_addr.specs.declared.preference.Preference.TheVariants.{High, Medium, Low}
 
--- the place of a preference, from the highest on
+-- the rank of a preference, 0 being the highest
 abbrev pub place_of : Preference → ℕ
 place_of High = 0
 place_of Medium = 1

@@ -1,18 +1,17 @@
 ghost use Rattle.std.specs.Prelude.{◌≡◌};
 ghost use Rattle.nd_addr.specs.Preference.{is_preferred, name_of, place_of};
 
-/// How a default router is preferred to others, as it says of itself (RFC 4191, section 2.1). The names by which it is told are our
-/// choice.
+/// The preference of a default router over other default routers (RFC 4191, section 2.1).
 #[derive(Clone, Copy, Debug, PartialEq, Eq)]
 pub enum Preference {
     High,
-    /// What a router has that says nothing.
+    /// The default: also that of a router that announces none.
     Medium,
     Low,
 }
 
 impl Preference {
-    /// Its place, from the highest on.
+    /// Returns its rank: 0 is the highest.
     fn place(self) -> u8
         ensures { result ≡ place_of self }
     {
@@ -23,14 +22,14 @@ impl Preference {
         }
     }
 
-    /// Whether it is higher than another one.
+    /// Returns true if this preference is higher than `other`.
     pub fn is_above(self, other: Preference) -> bool
         ensures { result ≡ is_preferred self other }
     {
         self.place() < other.place()
     }
 
-    /// The name by which it is told.
+    /// Returns the name that is printed (our choice).
     pub fn name(self) -> &'static str
         ensures { result.now ≡ name_of self }
     {

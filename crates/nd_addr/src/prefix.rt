@@ -71,7 +71,7 @@ fn is_same(a: [u8; 16], b: [u8; 16]) -> bool
     a == b
 }
 
-/// The first bits of a number of 128, with zeros in place of the others.
+/// Returns a number of 128 bits with all but its first `length` bits cleared.
 #[tactic(auto, using(crate::proofs::Numbers::kept_number))]
 fn first_bits_of_number(number: u128, length: u8) -> u128
     requires { length ≤ 128 }
@@ -84,7 +84,7 @@ fn first_bits_of_number(number: u128, length: u8) -> u128
     number >> behind << behind
 }
 
-/// The first bits of an address, with zeros in place of the others.
+/// Returns an address with all but its first `length` bits cleared.
 fn first_bits(bytes: &[u8; 16], length: u8) -> [u8; 16]
     requires { length ≤ 128 }
     ensures masked { result ≡ masked length bytes.now }

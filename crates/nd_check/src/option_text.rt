@@ -7,8 +7,8 @@ ghost use Rattle.nd_decode.specs.Pieces.{options_left};
 ghost use Rattle.nd_decode.specs.Servers.{servers_left};
 ghost use Rattle.nd_check.specs.OptionText.{lifetimes_text, behind_prefix_text, server_text, search_text, option_text};
 
-use crate::words::{write_count, write_flags, write_number};
-use nd_decode::{Names, OptionRef, Options, PrefixInfo, Servers};
+use crate::words::{write_count, write_number};
+use nd_decode::{Names, OptionRef, Options, PrefixInfo, Servers, prefix_flags_text};
 use nd_text::write_hex;
 use std::alloc::{AllocError, Allocator};
 
@@ -28,7 +28,7 @@ fn write_behind_prefix<A: Allocator>(
     ensures { OnOk result (string_bytes text.new ≡ string_bytes text.old ++ behind_prefix_text info.now) }
 {
     text.push_str(" ")?;
-    write_flags(text, (info.on_link, info.autonomous), ("l", "a"))?;
+    text.push_str(prefix_flags_text(info.on_link, info.autonomous))?;
     write_lifetimes(text, info)
 }
 

@@ -1,5 +1,4 @@
 ghost use Rattle.std.specs.Prelude.{◌≡◌, ◌++◌, OnOk, string_bytes, decimal};
-ghost use Rattle.nd_text.specs.Flags.{flags_text};
 ghost use Rattle.nd_check.specs.Words.{letter_text, three_flags_text};
 
 use itoa::Buffer;
@@ -27,25 +26,6 @@ pub(crate) fn write_count<A: Allocator>(
 {
     text.push_str(word)?;
     text.push_str(Buffer::new().format(count))
-}
-
-/// Writes the letters of two flags, or `-` for none.
-pub(crate) fn write_flags<A: Allocator>(
-    text: &mut String<A>,
-    flags: (bool, bool),
-    letters: (&str, &str),
-) -> Result<(), AllocError>
-    ensures { OnOk result (string_bytes text.new ≡ string_bytes text.old ++ flags_text flags.0 flags.1 letters.entry.0.now letters.entry.1.now) }
-{
-    match flags {
-        (true, true) => {
-            text.push_str(letters.0)?;
-            text.push_str(letters.1)
-        }
-        (true, false) => text.push_str(letters.0),
-        (false, true) => text.push_str(letters.1),
-        (false, false) => text.push_str("-"),
-    }
 }
 
 /// Writes the letter of a flag, or nothing.

@@ -1,4 +1,4 @@
--- The options of one type, those of other types being passed over.
+-- The options of one type; those of other types are skipped.
 use Rattle.std.specs.Prelude.{ℕ, nat_eq, List, [], ◌∷◌, if◌then◌else◌}
 use Rattle.nd_decode.specs.Option.{Said, slla, tlla, prefix, redirected, mtu, rdnss, dnssl, other}
 

@@ -1,5 +1,5 @@
--- The letters of the flags of a Router Advertisement (the texts are this project's own): of M and O, and then of the preference where it is not
--- Medium, or `-` where there are none.
+-- The letters of the flags of a Router Advertisement (our choice): those of M and O, then that of a preference other than Medium; `-` where
+-- there are none.
 use Rattle.std.specs.Prelude.{ℕ, Bool, true, false, List, codes}
 use Rattle.nd_addr.specs.declared.preference.Preference.{Preference}
 use Rattle.nd_addr.specs.declared.preference.Preference.TheVariants.{High, Medium, Low}

@@ -4,6 +4,7 @@
 
 mod body;
 mod decoding;
+mod flag_letters;
 mod message_ref;
 mod message_type;
 mod neighbor_advertisement;
@@ -13,11 +14,11 @@ mod options;
 mod prefix_info;
 mod redirect;
 mod router_advertisement;
-mod router_flags;
 mod servers;
 
 pub use body::Body;
 pub use decoding::{decode, decode_as};
+pub use flag_letters::{prefix_flags_text, router_flags_text};
 pub use message_ref::MessageRef;
 pub use message_type::{
     HOP_LIMIT, ICMPV6_NEIGHBOR_ADVERTISEMENT, ICMPV6_NEIGHBOR_SOLICITATION, ICMPV6_REDIRECT,
@@ -37,5 +38,4 @@ pub use options::Options;
 pub use prefix_info::PrefixInfo;
 pub use redirect::Redirect;
 pub use router_advertisement::RouterAdvertisement;
-pub use router_flags::router_flags_text;
 pub use servers::{Servers, is_server};

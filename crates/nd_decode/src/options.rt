@@ -22,7 +22,7 @@ impl<'a> Options<'a> {
         Options { rest: bytes }
     }
 
-    /// The next option of a type. Those of other types are passed over: of them only type and length are looked at.
+    /// Returns the next option of type `kind`. Options of other types are skipped; only their type and length are read.
     #[tactic(auto, using(crate::proofs::OfType::from_kind_none))]
     pub fn next_of_type(&mut self, kind: u8) -> Option<OptionRef<'a>>
         ensures value { MatchOption result (from_kind kind (options_left self.old) ≡ []) (λ o. from_kind kind (options_left self.old) ≡ view o ∷ options_left self.new) }

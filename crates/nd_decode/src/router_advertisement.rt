@@ -13,7 +13,7 @@ pub struct RouterAdvertisement {
     pub managed: bool,
     /// Whether other configuration is to be had by DHCPv6.
     pub other: bool,
-    /// How it is preferred to other default routers. Where it is none, this says nothing.
+    /// Its preference over other default routers. It has no meaning where the router lifetime is 0.
     pub preference: Preference,
     /// For how many seconds it is a default router; 0 where it is none.
     pub router_lifetime: u16,
@@ -39,10 +39,10 @@ impl RouterAdvertisement {
     /// The flag O, Other configuration.
     pub const FLAG_OTHER: u8 = 0x40;
 
-    /// The lower one of the two bits of the preference, which High and Low have.
+    /// The lower bit of the preference: set in High and Low.
     pub const FLAG_NOT_MEDIUM: u8 = 0x08;
 
-    /// The higher one, which Low has.
+    /// The higher bit of the preference: set in Low.
     pub const FLAG_LOW: u8 = 0x10;
 
     /// Where Router Lifetime stands, in 2 bytes.
@@ -71,7 +71,7 @@ impl RouterAdvertisement {
     }
 }
 
-/// The preference in a byte of flags (RFC 4191, section 2.1).
+/// Returns the preference in a byte of flags (RFC 4191, section 2.1).
 fn preference_of(flags: u8) -> Preference
     ensures { result ≡ preference_of flags }
 {

@@ -43,7 +43,7 @@ FitsOption (rdnss lifetime servers) = FitsRdnss lifetime servers
 FitsOption (dnssl lifetime names) = FitsDnssl lifetime names
 FitsOption (other kind rest) = (kind < 256) × IsBytes rest × IsOther kind rest
 
--- numbers of one, two and four bytes, and no preference where it is no default router
+-- numbers of one, two and four bytes, and Medium where the router lifetime is 0
 pub record FitsRouterAdvertisement (r : RouterAdvertisement) : Type 0 where
   pub hop_limit : r.hop_limit < 256
   pub lifetime : r.router_lifetime < 2 ^ 16
@@ -51,7 +51,7 @@ pub record FitsRouterAdvertisement (r : RouterAdvertisement) : Type 0 where
   pub retrans : r.retrans_timer < 2 ^ 32
   pub medium : IsMediumAtZero r
 
--- some fields hold the body, which may be sent
+-- the fields can hold the body, and it may be sent
 abbrev pub FitsBody : Body → Type 0
 FitsBody bodies.Rs = Unit {0}
 FitsBody (bodies.Ra r) = FitsRouterAdvertisement r

@@ -16,8 +16,8 @@ abbrev pub MayBeSent : Body → Type 0
 MayBeSent (bodies.Ra r) = IsMediumAtZero r
 MayBeSent _ = Unit {0}
 
--- Some list of at most 65535 bytes spells it: so much a payload length can say (RFC 8200, section 3). And a router that is no default router
--- says no preference; bytes that say one may be read all the same.
+-- Some list of at most 65535 bytes spells it, as much as a payload length can say (RFC 8200, section 3), and its sender may send it. Bytes
+-- that no sender may send are still read as they are spelled.
 pub record IsWellFormed (message : Parts) : Type 0 where
   pub bytes : List ℕ
   pub are_bytes : IsBytes bytes

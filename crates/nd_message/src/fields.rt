@@ -14,8 +14,7 @@ use nd_decode::{
 };
 use std::alloc::Allocator;
 
-/// How many bytes the fields of a body have. They hold each value that it can have, and there are none where it is a Router Advertisement
-/// that is not to be sent.
+/// Returns the number of bytes of a body's fields, or None for a Router Advertisement that must not be sent.
 pub(crate) fn fields_length(body: &Body) -> Option<usize>
     ensures { SomeIff result (FitsBody body.now) (length (fields_of 0 body.now)) }
 {

@@ -11,7 +11,7 @@ pub(crate) fn flag(is_set: bool, mask: u8) -> u8
     if is_set { mask } else { 0 }
 }
 
-/// The bits of a preference in the byte of flags of a Router Advertisement (RFC 4191, section 2.1).
+/// Returns the two bits of a preference in the byte of flags of a Router Advertisement (RFC 4191, section 2.1).
 pub(crate) fn preference_bits(preference: Preference) -> u8
     ensures { result ≡ preference_bits preference }
 {

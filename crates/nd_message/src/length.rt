@@ -13,8 +13,8 @@ use std::alloc::Allocator;
 const LONGEST_PAYLOAD: usize = 65535;
 
 /// How many bytes are written of a message of these fields and options, which is the room that `put_message` needs. There are
-/// none where it is not well formed: where the options are too long, where an `Other` reads as one of the known options, where its piece
-/// would be no multiple of 8 bytes, and where a Router Advertisement has a preference and no router lifetime.
+/// none if it is not well formed: the options are too long, an `Other` reads as one of the known options or its piece is no multiple of
+/// 8 bytes, or a Router Advertisement has router lifetime 0 and a preference other than Medium.
 pub fn written_length<A: Allocator>(body: &Body, options: &[Opt<A>]) -> Option<usize>
     ensures len { SomeIff result (IsWellFormed (whole_of body.now options.now)) (written_length (whole_of body.now options.now)) }
     ensures short { IfSome result (λ len. len ≤ 65535) }

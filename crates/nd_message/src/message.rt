@@ -17,9 +17,9 @@ pub struct Message<A: Allocator> {
 }
 
 impl<A: Allocator> Message<A> {
-    /// Whether some list of at most 65535 bytes spells the message, and it may be sent. No list does where the options are too long, where
-    /// an `Other` reads as one of the known options, and where its piece would be no multiple of 8 bytes. A Router Advertisement that has a
-    /// preference and no router lifetime may not be sent (RFC 4191, section 2.2).
+    /// Returns true if some list of at most 65535 bytes spells the message and the message may be sent. No list spells it if the options are
+    /// too long, if an `Other` reads as one of the known options, or if its piece is no multiple of 8 bytes. A Router Advertisement with
+    /// router lifetime 0 may be sent only with preference Medium (RFC 4191, section 2.2).
     pub fn is_well_formed(&self) -> bool
         ensures { IsTrue result ↔ IsWellFormed (whole self.now) }
     {

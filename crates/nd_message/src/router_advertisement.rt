@@ -10,8 +10,8 @@ use nd_addr::{Preference, put_bytes};
 use nd_decode::{ICMPV6_ROUTER_ADVERTISEMENT, RouterAdvertisement};
 use std::alloc::Allocator;
 
-/// How many bytes the fields of a Router Advertisement have. They hold each value that it can have, and there are none where it is not to be
-/// sent: where it has a preference and no router lifetime (RFC 4191, section 2.2).
+/// Returns the number of bytes of the fields of a Router Advertisement, or None if it must not be sent: its router lifetime is 0 and its
+/// preference isn't Medium (RFC 4191, section 2.2).
 pub(crate) fn router_advertisement_length(ra: &RouterAdvertisement) -> Option<usize>
     ensures { SomeIff result (FitsRouterAdvertisement ra.now) (length (fields_of 0 (bodies.Ra ra.now))) }
 {

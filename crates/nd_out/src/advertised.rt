@@ -1,7 +1,6 @@
 //! What a router advertises, as it is shown.
 
 ghost use Rattle.std.specs.Prelude.{◌≡◌, ◌++◌, ℕ, IfOk, OnOk, codes, is_some, map, string_bytes};
-ghost use Rattle.nd_text.specs.Flags.{flags_text};
 ghost use Rattle.nd_advertiser.specs.Table.{Stands};
 ghost use Rattle.nd_chronicle.specs.Start.{Start};
 ghost use Rattle.nd_chronicle.specs.Happening.{Chronicle};
@@ -12,20 +11,8 @@ ghost use Rattle.nd_out.specs.Advertised.{advertise_rows_of};
 use crate::row::{Row, row_text, write_labelled, write_word};
 use nd_addr::Role;
 use nd_advertiser::{Advertiser, Offer};
-use nd_decode::PrefixInfo;
+use nd_decode::{PrefixInfo, prefix_flags_text};
 use std::alloc::{AllocError, Allocator};
-
-/// The letters of an advertised prefix, or `-` where it has no flag.
-fn flag_letters(on_link: bool, autonomous: bool) -> &'static str
-    ensures { result.now ≡ flags_text on_link autonomous (codes "l") (codes "a") }
-{
-    match (on_link, autonomous) {
-        (true, true) => "la",
-        (true, false) => "l",
-        (false, true) => "a",
-        (false, false) => "-",
-    }
-}
 
 /// Writes the lifetimes of an advertised prefix, in seconds, each behind a space.
 fn write_lifetimes<A: Allocator>(text: &mut String<A>, info: PrefixInfo) -> Result<(), AllocError>
@@ -39,7 +26,7 @@ fn write_lifetimes<A: Allocator>(text: &mut String<A>, info: PrefixInfo) -> Resu
 fn write_flags<A: Allocator>(text: &mut String<A>, info: PrefixInfo) -> Result<(), AllocError>
     ensures { OnOk result (string_bytes text.new ≡ string_bytes text.old ++ offer_flags_text info) }
 {
-    write_word(text, flag_letters(info.on_link, info.autonomous))
+    write_word(text, prefix_flags_text(info.on_link, info.autonomous))
 }
 
 impl Row for Offer {

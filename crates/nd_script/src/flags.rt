@@ -6,7 +6,7 @@ ghost use Rattle.nd_decode.specs.RouterFlags.{router_flags_text};
 ghost use Rattle.nd_text.specs.Flags.{flags_text};
 
 use nd_addr::Preference;
-use nd_decode::router_flags_text;
+use nd_decode::{prefix_flags_text, router_flags_text};
 
 /// The flags M and O of a Router Advertisement and its preference, which a word spells (RFC 4861, section 4.2; RFC 4191, section 2.2).
 pub(crate) fn read_router_flags(word: &[u8]) -> Option<(bool, bool, Preference)>
@@ -48,16 +48,16 @@ pub(crate) fn read_prefix_flags(word: &[u8]) -> Option<(bool, bool)>
     ensures found { IfSome result (λ set. word.now ≡ flags_text set.0 set.1 (codes "l") (codes "a")) }
     ensures only { (on_link autonomous : Bool) → word.now ≡ flags_text on_link autonomous (codes "l") (codes "a") → result ≡ Some (on_link, autonomous) }
 {
-    if word == b"-".as_slice() {
+    if word == prefix_flags_text(false, false).as_bytes() {
         return Some((false, false));
     }
-    if word == b"l".as_slice() {
+    if word == prefix_flags_text(true, false).as_bytes() {
         return Some((true, false));
     }
-    if word == b"a".as_slice() {
+    if word == prefix_flags_text(false, true).as_bytes() {
         return Some((false, true));
     }
-    if word == b"la".as_slice() {
+    if word == prefix_flags_text(true, true).as_bytes() {
         return Some((true, true));
     }
     None
