@@ -14,15 +14,15 @@ use crate::new_names::{NewNames, announce_names, copies};
 use nd_addr::Addr;
 use nd_decode::Options;
 use nd_lifetime::{Lasting, Limit, TableRefusal, announce_all, fits_all};
-use std::alloc::Allocator;
+use std::alloc::{AllocError, Allocator};
 
 impl<A: Allocator> Dns<A> {
     ghost use Rattle.nd_dns.specs.Dns.{max_servers, max_names, Stands, after, new_names};
     ghost use Rattle.nd_dns.specs.Servers.{servers_told};
     ghost use Rattle.nd_dns.specs.Names.{same_name, names_told};
 
-    /// Whether there is room for the servers that the options of a Router Advertisement tell at a moment in milliseconds, taken in order.
-    /// It takes no memory.
+    /// Returns true if there is room for the servers that the options of a Router Advertisement announce at a moment in milliseconds, taken
+    /// in order. It takes no memory.
     pub fn fits_servers(&self, now: u64, options: Options<'_>) -> bool
         ensures value { result ≡ fits same_addr max_servers now (servers_told (options_left options.entry)) self.now.servers }
         ensures by_history { (history : List (Row Addr)) (names : List (Row (List ℕ))) (es : List (Lasting Addr)) → Stands self.now history names → last_moment history ≤ now → Lists same_addr history now es
@@ -32,7 +32,7 @@ impl<A: Allocator> Dns<A> {
         fits_all(&self.servers, MAX_SERVERS, now, told)
     }
 
-    /// The same for the search names that they tell.
+    /// Returns true if there is room for the search names that they announce, taken in order. It takes no memory.
     pub fn fits_names(&self, now: u64, options: Options<'_>) -> bool
         ensures value { result ≡ fits same_name max_names now (names_told (options_left options.entry)) self.now.names }
         ensures by_history { (servers : List (Row Addr)) (history : List (Row (List ℕ))) (es : List (Lasting (List ℕ))) → Stands self.now servers history → last_moment history ≤ now → Lists same_name history now es
@@ -43,9 +43,9 @@ impl<A: Allocator> Dns<A> {
         fits_all(&self.names, MAX_NAMES, now, told)
     }
 
-    /// The options of a Router Advertisement are heard at a moment in milliseconds, in order, with the names that they add (RFC 8106,
-    /// section 6.1): a server or a name enters or is refreshed, and a lifetime of 0 removes it. `Full` comes where the servers or the
-    /// names are too many at some point, and names the servers first. It takes no memory.
+    /// Takes the servers and search names of a Router Advertisement at a moment in milliseconds, in order, with copies of the names that it
+    /// adds (RFC 8106, section 6.1): each enters or is refreshed, and a lifetime of 0 removes it. Returns `Full` if the servers or the names
+    /// are too many at some point, and names the servers first; the table is unchanged. It takes no memory.
     pub fn heard_ra(
         &mut self,
         now: u64,
@@ -70,11 +70,25 @@ impl<A: Allocator> Dns<A> {
         if !self.fits_names(now, options) {
             return Err(TableRefusal::Full(Limit::Names));
         }
+        self.take_ra(now, options, names);
+        Ok(())
+    }
+
+    /// Does what `heard_ra` does, for servers and names that fit. It takes no memory.
+    pub fn take_ra(&mut self, now: u64, options: Options<'_>, names: NewNames<A>)
+        requires moment { now < 2 ^ 62 }
+        requires fits_servers { fits same_addr max_servers now (servers_told (options_left options)) self.old.servers ≡ true }
+        requires fits_names { fits same_name max_names now (names_told (options_left options)) self.old.names ≡ true }
+        requires names { names ≡ new_names now (options_left options) self.old }
+
+        ensures stands { (servers : List (Row Addr)) (names : List (Row (List ℕ))) → last_moment servers ≤ now → last_moment names ≤ now → Stands self.old servers names
+            → Stands self.new (then_announced now (servers_told (options_left options.entry)) servers) (then_announced now (names_told (options_left options.entry)) names) }
+        ensures value { self.new ≡ after now (options_left options.entry) self.old }
+    {
         let told_servers = AnnouncedServers::new(options);
         announce_all(&mut self.servers, MAX_SERVERS, now, told_servers);
         let told_names = AnnouncedNames::new(options);
         announce_names(&mut self.names, MAX_NAMES, now, told_names, names);
-        Ok(())
     }
 }
 
@@ -82,8 +96,8 @@ impl<A: Allocator + Clone> Dns<A> {
     ghost use Rattle.nd_dns.specs.Dns.{max_names, new_names};
     ghost use Rattle.nd_dns.specs.Names.{same_name, names_told};
 
-    /// Copies the search names that they add, each as often as it enters: the one thing for which hearing them takes memory. The errors
-    /// are that there is no room for the names that they tell, before anything is copied, and want of memory. Where they add none it
+    /// Copies the search names that they add, each as often as it enters: the only part of hearing them that takes memory. Returns `Full` if
+    /// there is no room for the names that they announce, before anything is copied, and `Memory` when out of memory. Where they add none it
     /// takes no memory.
     pub fn names(&self, now: u64, options: Options<'_>) -> Result<NewNames<A>, TableRefusal>
         ensures value { IfOk result (λ names. names ≡ new_names now (options_left options.entry) self.now) }
@@ -98,9 +112,19 @@ impl<A: Allocator + Clone> Dns<A> {
         if !self.fits_names(now, options) {
             return Err(TableRefusal::Full(Limit::Names));
         }
-        match copies(&self.alloc, &self.names, now, AnnouncedNames::new(options)) {
+        match self.new_names(now, options) {
             Ok(names) => Ok(names),
             Err(_) => Err(TableRefusal::Memory),
         }
+    }
+
+    /// Copies the search names that they add, without asking for room. The error is out of memory. Where they add none it takes no memory.
+    pub fn new_names(&self, now: u64, options: Options<'_>) -> Result<NewNames<A>, AllocError>
+        ensures value { IfOk result (λ names. names ≡ new_names now (options_left options.entry) self.now) }
+
+        // Where no name is added nothing refuses, whatever memory there is.
+        ensures quiet { new_names now (options_left options.entry) self.now ≡ [] → IsOk result }
+    {
+        copies(&self.alloc, &self.names, now, AnnouncedNames::new(options))
     }
 }

@@ -4,8 +4,8 @@ use Rattle.nd_addr.specs.declared.preference.Preference.{Preference}
 use Rattle.nd_addr.specs.declared.preference.Preference.TheVariants.{Medium}
 use Rattle.nd_lifetime.specs.History.{Row, Announced, Ended, stands}
 
--- A router announces itself for a lifetime in seconds and says how it is preferred, or leaves the list, or can't be reached (RFC 4861, section
--- 6.3.6). Routers are told by the numbers that their addresses are.
+-- A router announces itself for a lifetime in seconds with a preference, or leaves the list, or can't be reached (RFC 4861, section 6.3.6).
+-- Routers are named by the numbers that their addresses are.
 pub data RouterRow : Type 0 where
   Heard : (at source lifetime : ℕ) (preference : Preference) → RouterRow
   LeftList : (at source : ℕ) → RouterRow
@@ -26,8 +26,8 @@ failure_of key (Heard at source lifetime preference ∷ history) =
 failure_of key (LeftList at source ∷ history) = if source == key then None else failure_of key history
 failure_of key (Failed at source ∷ history) = if source == key then Some (length history) else failure_of key history
 
--- How the router is preferred, as its last advertisement says: "If the Router Lifetime is zero, the preference value .. MUST be ignored by the
--- receiver" (RFC 4191, section 2.2), so it is the last one with another lifetime. A router that sent none is Medium.
+-- The router's preference: that of its last advertisement whose lifetime isn't 0, since "If the Router Lifetime is zero, the preference value
+-- .. MUST be ignored by the receiver" (RFC 4191, section 2.2). Medium if it sent none.
 abbrev pub preference_of : ℕ → List RouterRow → Preference
 preference_of key [] = Medium
 preference_of key (Heard at source lifetime preference ∷ history) =

@@ -9,7 +9,7 @@ use nd_addr::{Addr, Preference};
 use nd_table::compare;
 use std::alloc::Allocator;
 
-/// How a router of the list is preferred (RFC 4191, section 2.2).
+/// A router of the list and its preference (RFC 4191, section 2.2).
 #[derive(Debug, Drop)]
 pub struct Preferred {
     router: Router,
@@ -20,7 +20,7 @@ impl<A: Allocator> Routers<A> {
     ghost use Rattle.nd_routers.specs.History.{RouterRow, announcements, preference_of};
     ghost use Rattle.nd_routers.specs.Routers.{same, Stands};
 
-    /// How a router of the list is preferred; Medium where it is not in it. It takes no memory.
+    /// Returns the preference of a router of the list, or Medium if it isn't in the list. It takes no memory.
     pub fn preference(&self, source: Addr) -> Preference
         ensures value { result ≡ preference_among (number_of source.0) self.now.preferences }
         ensures by_history { (history : List RouterRow) → Stands self.now history → is_some (end_of same (number_of source.0) (announcements history)) ≡ true
@@ -30,7 +30,7 @@ impl<A: Allocator> Routers<A> {
     }
 }
 
-/// How a router among these is preferred, or Medium.
+/// Returns the preference of a router among these, or Medium.
 pub(crate) fn preference_among(preferences: &[Preferred], addr: Addr) -> Preference
     ensures { result ≡ preference_among (number_of addr.0) preferences.now }
 {
@@ -42,7 +42,7 @@ pub(crate) fn preference_among(preferences: &[Preferred], addr: Addr) -> Prefere
     Preference::Medium
 }
 
-/// The router is in the list no more.
+/// Removes a router that leaves the list.
 pub(crate) fn forget_preference<A: Allocator>(preferences: &mut Vec<Preferred, A>, addr: Addr)
     ensures items { preferences.new.items ≡ without_preference (number_of addr.0) preferences.old.items }
     ensures shorter { vec_len preferences.new ≤ vec_len preferences.old }
@@ -67,7 +67,7 @@ fn prefer_each(preferences: &mut [Preferred], addr: Addr, preference: Preference
     }
 }
 
-/// The router, which was in the list or was not, is preferred so from now on. Where it was not, there is room for it.
+/// Sets the preference of a router. `listed`: the router was in the list; if it wasn't, there is room for it.
 pub(crate) fn prefer<A: Allocator>(
     preferences: &mut Vec<Preferred, A>,
     listed: bool,

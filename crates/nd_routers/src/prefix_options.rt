@@ -1,4 +1,4 @@
-ghost use Rattle.std.specs.Prelude.{◌≡◌, ◌≤◌, ◌<◌, ◌^◌, ◌↔◌, List, IfErr, OnOk, OnErr, IsErr, false};
+ghost use Rattle.std.specs.Prelude.{◌≡◌, ◌≤◌, ◌<◌, ◌^◌, ◌↔◌, List, IfErr, OnOk, OnErr, IsErr, true, false};
 ghost use Rattle.nd_routers.specs.PrefixOptions.{is_on_link, max_prefixes};
 ghost use Rattle.nd_addr.specs.Prefix.{PrefixValue};
 ghost use Rattle.nd_addr.specs.Same.{same_prefix};
@@ -18,8 +18,8 @@ use std::alloc::Allocator;
 impl<A: Allocator> Prefixes<A> {
     ghost use Rattle.nd_routers.specs.PrefixOptions.{prefixes_in};
 
-    /// Whether there is room for what the options of a Router Advertisement announce at a moment in milliseconds, taken in order: where it
-    /// is so, `heard_ra` isn't refused. It takes no memory.
+    /// Returns true if there is room for the prefixes that the options of a Router Advertisement announce at a moment in milliseconds, taken
+    /// in order: then `heard_ra` isn't refused. It takes no memory.
     pub fn fits(&self, now: u64, options: Options<'_>) -> bool
         ensures value { result ≡ fits same_prefix max_prefixes now (prefixes_in (options_left options.entry)) self.now }
         ensures by_history { (history : List (Row PrefixValue)) (es : List (Entry PrefixValue)) → Stands same_prefix self.now history → last_moment history ≤ now → Lists same_prefix history now es
@@ -28,8 +28,8 @@ impl<A: Allocator> Prefixes<A> {
         fits_all(&self.entries, MAX_PREFIXES, now, OnLink { options })
     }
 
-    /// Whether the options of a Router Advertisement only refresh prefixes that are on the link at a moment, in milliseconds: none comes
-    /// or goes with them. It takes no memory.
+    /// Returns true if the options of a Router Advertisement only refresh prefixes that are on the link at a moment, in milliseconds: they
+    /// enter none and remove none. It takes no memory.
     pub fn only_refreshes(&self, now: u64, options: Options<'_>) -> bool
         ensures { result ≡ only_refreshes same_prefix now (prefixes_in (options_left options.entry)) self.now }
     {
@@ -54,12 +54,24 @@ impl<A: Allocator> Prefixes<A> {
         if !self.fits(now, options) {
             return Err(TableRefusal::Full(Limit::Prefixes));
         }
-        announce_all(&mut self.entries, MAX_PREFIXES, now, OnLink { options });
+        self.take_ra(now, options);
         Ok(())
+    }
+
+    /// Does what `heard_ra` does, for options that fit. It takes no memory.
+    pub fn take_ra(&mut self, now: u64, options: Options<'_>)
+        requires moment { now < 2 ^ 62 }
+        requires fits { fits same_prefix max_prefixes now (prefixes_in (options_left options)) self.old ≡ true }
+
+        ensures stands { (history : List (Row PrefixValue)) → last_moment history ≤ now → Stands same_prefix self.old history
+            → Stands same_prefix self.new (then_announced now (prefixes_in (options_left options.entry)) history) }
+        ensures value { self.new ≡ announced_all same_prefix now (prefixes_in (options_left options.entry)) self.old }
+    {
+        announce_all(&mut self.entries, MAX_PREFIXES, now, OnLink { options });
     }
 }
 
-/// Whether each prefix that is announced stands, and goes on.
+/// Returns true if each announced prefix is on the link and its lifetime isn't 0.
 fn only_refreshes(entries: &[Lasting<Prefix>], now: u64, announced: OnLink<'_>) -> bool
     ensures { result ≡ only_refreshes same_prefix now (prefixes_left announced.entry) entries.now }
 {

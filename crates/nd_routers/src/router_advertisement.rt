@@ -34,7 +34,7 @@ impl<A: Allocator> Routers<A> {
     ghost use Rattle.nd_routers.specs.Routers.{same, Stands, GainsRow, IsSettled};
     ghost use Rattle.nd_routers.specs.RouterAdvertisement.{change_of};
 
-    /// Whether there is room for a router that announces itself at a moment in milliseconds, for a lifetime in seconds: where it is so,
+    /// Returns true if there is room for a router that announces itself at a moment in milliseconds, for a lifetime in seconds: then
     /// `heard_ra` isn't refused. It takes no memory.
     pub fn fits(&self, now: u64, source: Addr, lifetime: u16) -> bool
         ensures value { result ≡ fits same self.now.limit now ((number_of source.0, lifetime) ∷ []) self.now.entries }
@@ -44,11 +44,11 @@ impl<A: Allocator> Routers<A> {
         fits_one(&self.entries, self.limit, now, source, lifetime)
     }
 
-    /// A router is heard that announces itself, at a moment in milliseconds, for a lifetime in seconds, with its preference (RFC 4861, section
-    /// 6.3.4; RFC 4191, section 2.2): it enters the list or is refreshed, and a lifetime of 0 removes it, whatever its preference. `Full` comes
-    /// where it is one too many. It takes no memory.
+    /// Takes a router that announces itself at a moment in milliseconds, for a lifetime in seconds, with its preference (RFC 4861, section
+    /// 6.3.4; RFC 4191, section 2.2): it enters the list or is refreshed, and a lifetime of 0 removes it, whatever its preference. Returns
+    /// `Full` if it is one too many; the list is unchanged. It takes no memory.
     ///
-    /// It asks that no router's end has come that is still to be told, which `next_due` tells.
+    /// The end of no router may be overdue: the caller asks `next_due`, and calls `turn` first.
     pub fn heard_ra(
         &mut self,
         now: u64,
@@ -76,6 +76,30 @@ impl<A: Allocator> Routers<A> {
         if !self.fits(now, source, lifetime) {
             return Err(TableRefusal::Full(Limit::Routers));
         }
+        Ok(self.take_ra(now, source, lifetime, preference))
+    }
+
+    /// Does what `heard_ra` does, for a router that fits. It takes no memory.
+    pub fn take_ra(
+        &mut self,
+        now: u64,
+        source: Addr,
+        lifetime: u16,
+        preference: Preference,
+    ) -> Change
+        requires moment { now < 2 ^ 62 }
+        requires settled { IsSettled self.old.entries now }
+        requires fits { fits same self.old.limit now ((number_of source.0, lifetime) ∷ []) self.old.entries ≡ true }
+
+        ensures stands { GainsRow self.old self.new (Heard now (number_of source.0) lifetime preference) }
+        ensures entries { self.new.entries ≡ announced same now (number_of source.0) lifetime self.old.entries }
+        ensures preferences { not (lifetime == 0) ≡ true → self.new.preferences ≡ with_preference (is_some (end_in same (number_of source.0) self.old.entries)) (number_of source.0) preference self.old.preferences }
+        ensures failed { not (lifetime == 0) ≡ true → self.new.failed ≡ self.old.failed }
+        ensures settled { IsSettled self.new.entries now }
+        ensures limit { self.new.limit ≡ self.old.limit }
+        ensures change { (history : List RouterRow) → Stands self.old history
+            → result ≡ change_of (stands same (number_of source.0) (announcements history) now) (stands same (number_of source.0) (announcements (Heard now (number_of source.0) lifetime preference ∷ history)) now) }
+    {
         let before = has(&self.entries, &source);
         self.dates.take_date(end_of(&self.entries, source), source);
         announce(
@@ -89,10 +113,10 @@ impl<A: Allocator> Routers<A> {
         if lifetime == 0 {
             forget_preference(&mut self.preferences, source);
             forget(&mut self.failed, source);
-            return Ok(change_by(before, false));
+            return change_by(before, false);
         }
         prefer(&mut self.preferences, before, source, preference);
-        Ok(change_by(before, true))
+        change_by(before, true)
     }
 }
 

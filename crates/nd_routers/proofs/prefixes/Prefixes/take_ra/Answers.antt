@@ -7,7 +7,7 @@ use Rattle.nd_lifetime.specs.Listing.{Distinct, Stands, announced_all, then_anno
 use Rattle.nd_lifetime.proofs.Behind.{Distinct-all}
 use Rattle.nd_lifetime.proofs.Steps.{gains_all}
 use Rattle.nd_routers.specs.PrefixOptions.{prefixes_in}
-use Rattle.nd_routers.proofs.prefixes.Prefixes.heard_ra.Goals as goal
+use Rattle.nd_routers.proofs.prefixes.Prefixes.take_ra.Goals as goal
 
 pub invariant_of-self : goal.invariant_of-self
 invariant_of-self g c = (

@@ -9,7 +9,7 @@ use Rattle.nd_lifetime.proofs.Steps.{gains_all}
 use Rattle.nd_dns.specs.Dns.{Table}
 use Rattle.nd_dns.specs.Servers.{servers_told, servers_to_come}
 use Rattle.nd_dns.specs.Names.{same_name, names_told, names_to_come}
-use Rattle.nd_dns.proofs.dns.Dns.heard_ra.Goals as goal
+use Rattle.nd_dns.proofs.dns.Dns.take_ra.Goals as goal
 
 pub invariant_of-self : goal.invariant_of-self
 invariant_of-self g c = (

@@ -14,7 +14,7 @@ use Rattle.nd_routers.specs.DefaultRouterSelection.{others}
 use Rattle.nd_routers.specs.Routers.{Table, keys, same, IsSettled, GainsRow}
 use Rattle.nd_routers.proofs.Preferring.{aligned_announced, aligned_removed, preference_room, routers_of}
 use Rattle.nd_routers.proofs.Steps.{gains_removed, gains_heard, settled_announced, changes}
-use Rattle.nd_routers.proofs.routers.Routers.heard_ra.Goals as goal
+use Rattle.nd_routers.proofs.routers.Routers.take_ra.Goals as goal
 
 pub returns-then-lifetime-eq0-clause-settled : goal.returns-then-lifetime-eq0-clause-settled
 returns-then-lifetime-eq0-clause-settled g c =
@@ -85,7 +85,7 @@ put_date-requires-clause-room g c =
     let settled : IsSettled es c.args.now = subst (λ (t : Table). IsSettled t.entries c.args.now) (sym c.self.view_is) c.requires.settled in
     let ds = c.take_date.new.self.dates in
     let taken : ds ≡ without_any (date_at key_of date_of key es) key c.self.inside.dates.dates = c.take_date.ensures.dates ∙ ap (λ o. without_any o key c.self.inside.dates.dates) (c.end_of.ensures ∙ ap (date_at key_of date_of key) c.deref-2.ensures.value) in
-    let fit : fits same c.self.inside.limit c.args.now ((key, c.args.lifetime) ∷ []) es ≡ true = ap (λ (t : Table). fits same t.limit c.args.now ((key, c.args.lifetime) ∷ []) t.entries) c.self.view_is ∙ (sym c.fits.ensures.value ∙ c.if-not-fits.false) in
+    let fit : fits same c.self.inside.limit c.args.now ((key, c.args.lifetime) ∷ []) es ≡ true = ap (λ (t : Table). fits same t.limit c.args.now ((key, c.args.lifetime) ∷ []) t.entries) c.self.view_is ∙ c.requires.fits in
     let few : length new ≤ c.self.inside.limit = subst (λ n. n ≤ c.self.inside.limit) (sym (ap length c.announce.ensures.items ∙ ap (λ x. length (announced same c.args.now key x es)) c.from.ensures)) (fits_length c.self.inside.limit c.args.now key c.args.lifetime es fit) in
     announced_room key c.args.now w es new c.self.inside.dates was.6 c.take_date.ensures.was settled c.announce.ensures.items ds c.take_date.new.self.room c.end_of-2.result taken c.take_date.ensures.order
     (c.end_of-2.ensures ∙ ap (date_at key_of date_of key) c.deref-3.ensures.value) (omega (arith, few, was.5, c.take_date.ensures.room))
@@ -100,7 +100,7 @@ invariant_of-self g c =
     let settled : IsSettled es c.args.now = subst (λ (t : Table). IsSettled t.entries c.args.now) (sym c.self.view_is) c.requires.settled in
     let ds = c.take_date.new.self.dates in
     let taken : ds ≡ without_any (date_at key_of date_of key es) key c.self.inside.dates.dates = c.take_date.ensures.dates ∙ ap (λ o. without_any o key c.self.inside.dates.dates) (c.end_of.ensures ∙ ap (date_at key_of date_of key) c.deref-2.ensures.value) in
-    let fit : fits same c.self.inside.limit c.args.now ((key, c.args.lifetime) ∷ []) es ≡ true = ap (λ (t : Table). fits same t.limit c.args.now ((key, c.args.lifetime) ∷ []) t.entries) c.self.view_is ∙ (sym c.fits.ensures.value ∙ c.if-not-fits.false) in
+    let fit : fits same c.self.inside.limit c.args.now ((key, c.args.lifetime) ∷ []) es ≡ true = ap (λ (t : Table). fits same t.limit c.args.now ((key, c.args.lifetime) ∷ []) t.entries) c.self.view_is ∙ c.requires.fits in
     let few : length new ≤ c.self.inside.limit = subst (λ n. n ≤ c.self.inside.limit) (sym (ap length c.announce.ensures.items ∙ ap (λ x. length (announced same c.args.now key x es)) c.from.ensures)) (fits_length c.self.inside.limit c.args.now key c.args.lifetime es fit) in (
       was.0,
       omega (arith, few, c.announce.new.entries.ok.0),
@@ -126,7 +126,7 @@ invariant_of-self-2 g c =
     let settled : IsSettled es c.args.now = subst (λ (t : Table). IsSettled t.entries c.args.now) (sym c.self.view_is) c.requires.settled in
     let ds = c.take_date.new.self.dates in
     let taken : ds ≡ without_any (date_at key_of date_of key es) key c.self.inside.dates.dates = c.take_date.ensures.dates ∙ ap (λ o. without_any o key c.self.inside.dates.dates) (c.end_of.ensures ∙ ap (date_at key_of date_of key) c.deref-2.ensures.value) in
-    let fit : fits same c.self.inside.limit c.args.now ((key, c.args.lifetime) ∷ []) es ≡ true = ap (λ (t : Table). fits same t.limit c.args.now ((key, c.args.lifetime) ∷ []) t.entries) c.self.view_is ∙ (sym c.fits.ensures.value ∙ c.if-not-fits.false) in
+    let fit : fits same c.self.inside.limit c.args.now ((key, c.args.lifetime) ∷ []) es ≡ true = ap (λ (t : Table). fits same t.limit c.args.now ((key, c.args.lifetime) ∷ []) t.entries) c.self.view_is ∙ c.requires.fits in
     let few : length new ≤ c.self.inside.limit = subst (λ n. n ≤ c.self.inside.limit) (sym (ap length c.announce.ensures.items ∙ ap (λ x. length (announced same c.args.now key x es)) c.from.ensures)) (fits_length c.self.inside.limit c.args.now key c.args.lifetime es fit) in (
       was.0,
       omega (arith, few, c.announce.new.entries.ok.0),
@@ -151,7 +151,7 @@ prefer-requires g c = λ absent.
     let key = number_of c.args.source.0 in
     let es = c.self.inside.entries.items in
     let settled : IsSettled es c.args.now = subst (λ (t : Table). IsSettled t.entries c.args.now) (sym c.self.view_is) c.requires.settled in
-    let fit : fits same c.self.inside.limit c.args.now ((key, c.args.lifetime) ∷ []) es ≡ true = ap (λ (t : Table). fits same t.limit c.args.now ((key, c.args.lifetime) ∷ []) t.entries) c.self.view_is ∙ (sym c.fits.ensures.value ∙ c.if-not-fits.false) in
+    let fit : fits same c.self.inside.limit c.args.now ((key, c.args.lifetime) ∷ []) es ≡ true = ap (λ (t : Table). fits same t.limit c.args.now ((key, c.args.lifetime) ∷ []) t.entries) c.self.view_is ∙ c.requires.fits in
     let unlisted : is_some (end_in same key es) ≡ false = sym (c.has-before.ensures ∙ ap (λ l. is_some (end_in same key l)) c.deref.ensures.value) ∙ absent in
     let room = preference_room c.self.inside.limit key c.args.now c.args.lifetime c.self.inside.preferences.items es settled (ne_eqb c.args.lifetime 0 c.if-lifetime-eq0.false) was.7 unlisted (fits_length c.self.inside.limit c.args.now key c.args.lifetime es fit) in
     omega (arith, room, was.8, c.self.inside.preferences.ok.0)

@@ -1,6 +1,6 @@
 use Rattle.std.proofs.Common.{ap, arith, length}
 use Rattle.nd_dns.proofs.Few.{few_names}
-use Rattle.nd_dns.proofs.dns.Dns.names.Goals as goal
+use Rattle.nd_dns.proofs.dns.Dns.new_names.Goals as goal
 
 pub copies-requires : goal.copies-requires
 copies-requires g c =
