@@ -10,22 +10,22 @@ ghost use Rattle.nd_nexthop.specs.Choice as redirects;
 ghost use Rattle.nd_effects.specs.Remembered.{AsListed, Recollects, Refreshes};
 ghost use Rattle.nd_effects.specs.DefaultRouter.{with_left, with_gone};
 
-use crate::link_layer_address::keep_if;
+use crate::destination_cache::keep_if;
 use nd_addr::{Addr, Preference};
 use nd_nexthop::Choice;
 use nd_routers::Routers;
 use std::alloc::Allocator;
 
-/// Whether a Router Advertisement with this lifetime, in seconds, times a router out that is in the list at the moment, in milliseconds
-/// (RFC 4861, section 6.3.4).
+/// Returns true if a Router Advertisement with this lifetime, in seconds, times out a router that is in the list at the moment, in
+/// milliseconds (RFC 4861, section 6.3.4).
 fn times_out<A: Allocator>(routers: &Routers<A>, now: u64, source: Addr, lifetime: u16) -> bool
     ensures { (history : List RouterRow) → list.Stands routers.now history → result ≡ ((lifetime == 0) && stands same (number_of source.0) (announcements history) now) }
 {
     lifetime == 0 && routers.holds(now, source)
 }
 
-/// Whether a Router Advertisement with this lifetime, in seconds, and this preference only refreshes a router of the list at a moment, in
-/// milliseconds.
+/// Returns true if a Router Advertisement with this lifetime, in seconds, and this preference only refreshes a router that is in the list at
+/// the moment, in milliseconds: no next hop changes.
 fn only_refreshes<A: Allocator>(
     routers: &Routers<A>,
     now: u64,
@@ -38,9 +38,9 @@ fn only_refreshes<A: Allocator>(
     lifetime != 0 && routers.holds(now, source) && routers.preference(source) == preference
 }
 
-/// What a Router Advertisement says of its sender as a default router, for a lifetime in seconds, with its preference, at a moment in
-/// milliseconds. There is room for it (RFC 4861, section 6.3.4; RFC 4191, section 2.2). It answers whether a router of the list was timed out,
-/// with which the redirects to it end (section 6.3.5). No next hop is remembered but where it only is refreshed, with the same preference.
+/// Takes a Router Advertisement's sender as a default router, for a lifetime in seconds, with its preference, at a moment in milliseconds.
+/// There is room for it (RFC 4861, section 6.3.4; RFC 4191, section 2.2). Returns true if it timed out a router of the list; the redirects to
+/// that router end (section 6.3.5). Remembered next hops are forgotten, except where the router is only refreshed with the same preference.
 pub fn hear_router<A: Allocator>(
     routers: &mut Routers<A>,
     choice: &mut Choice<A>,
@@ -61,10 +61,7 @@ pub fn hear_router<A: Allocator>(
 {
     let times_out = times_out(routers, now, source, lifetime);
     let refreshes = only_refreshes(routers, now, source, lifetime, preference);
-    match routers.heard_ra(now, source, lifetime, preference) {
-        Ok(_) => {}
-        Err(_) => unreachable!(),
-    }
+    let _ = routers.take_ra(now, source, lifetime, preference);
     keep_if(choice, refreshes);
     if !times_out {
         return false;

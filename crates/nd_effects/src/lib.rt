@@ -7,6 +7,7 @@
 
 mod clearing;
 mod default_router;
+mod destination_cache;
 mod draw;
 mod first_hop;
 mod for_us;
@@ -29,6 +30,7 @@ mod turned;
 
 pub use clearing::{tell_packets, tell_routers};
 pub use default_router::hear_router;
+pub use destination_cache::keep_until_a_prefix_ends;
 pub use draw::{
     MAX_RTR_SOLICITATION_DELAY, answer_delay_drawn, drawn_from, interval_drawn, reachable_drawn,
 };
@@ -36,7 +38,7 @@ pub use first_hop::Tables;
 pub use for_us::{is_awake, is_to_nodes, is_to_routers, takes_target};
 pub use forwarding::{better_hop_frame, frame_as_it_came, frame_sent_on, ready_for_two};
 pub use frame::packet_in;
-pub use link_layer_address::{hear_of_neighbour, keep_if, news_of, waiting_for};
+pub use link_layer_address::{hear_of_neighbour, news_of, waiting_for};
 pub use link_parameters::hear_parameters;
 pub use lost_hop::note;
 pub use message::is_via;

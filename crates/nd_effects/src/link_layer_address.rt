@@ -12,12 +12,12 @@ ghost use Rattle.nd_chronicle.specs.Happening.{Sent};
 ghost use Rattle.nd_chronicle.specs.Histories.{given_or_marked, mark_of_target, said_of_neighbour, said_of_source};
 ghost use Rattle.nd_chronicle.specs.LinkLayerAddress.{first_slla, first_tlla};
 ghost use Rattle.nd_waiting.specs.Waiting.{max_waiting};
-ghost use Rattle.nd_nexthop.specs.Memo.{forgotten};
 ghost use Rattle.nd_effects.specs.FirstHop.{is_resolved};
 ghost use Rattle.nd_effects.specs.Remembered.{MayRemember};
 ghost use Rattle.nd_effects.specs.LinkLayerAddress.{said_by, HasPlace, waiting_for, HearsOf};
 ghost use Rattle.nd_effects.specs.Told.{at_moment, happenings};
 
+use crate::destination_cache::keep_if;
 use nd_addr::laws::addresses_are_told_by_numbers;
 use nd_addr::{Addr, Mac};
 use nd_decode::{
@@ -146,7 +146,7 @@ fn send_each<A: Allocator>(outs: &mut Vec<(u64, Out<A>), A>, at: u64, mac: Mac, 
     }
 }
 
-/// Whether the link-layer address of the neighbour that news are of is known.
+/// Returns true if the link-layer address of the neighbour that the news are of is known.
 fn is_known<A: Allocator>(neighbours: &Cache<A>, now: u64, news: &News) -> bool
     ensures { result ≡ is_resolved (node_in (news_key news.now) neighbours.now.nodes) }
 {
@@ -156,17 +156,8 @@ fn is_known<A: Allocator>(neighbours: &Cache<A>, now: u64, news: &News) -> bool
     }
 }
 
-/// What is remembered of next hops is kept, or nothing is remembered any more.
-pub fn keep_if<A: Allocator>(choice: &mut Choice<A>, keep: bool)
-    ensures { choice.new ≡ (if keep then choice.old else record choice.old { memory = forgotten choice.old.memory }) }
-{
-    if !keep {
-        choice.changed();
-    }
-}
-
-/// What a message says of a neighbour is taken, and what waited for the address that it gives is sent. Whether it says that a router is
-/// none any more.
+/// Takes what a message says of a neighbour, and sends the packets that waited for the address that it gives. Returns true if it says that a
+/// router is no longer one.
 fn hear_news<A: Allocator>(
     neighbours: &mut Cache<A>,
     choice: &mut Choice<A>,
@@ -205,10 +196,10 @@ fn hear_news<A: Allocator>(
     }
 }
 
-/// What a message may say of a neighbour at a moment is taken, with the times in force, and what waited for the address that it gives is
-/// sent; moment and times are in milliseconds (RFC 4861, sections 6.2.6, 6.3.4, 7.2.3, 7.2.5 and 8.3). Whether it says that a router is
-/// none any more. No next hop is remembered where the neighbour's link-layer address wasn't known. It takes no memory: the room for it was
-/// taken before.
+/// Takes what a message says of a neighbour at a moment, if it says anything, with the times in force, and sends the packets that waited for
+/// the address that it gives; moment and times are in milliseconds (RFC 4861, sections 6.2.6, 6.3.4, 7.2.3, 7.2.5 and 8.3). Returns true if it
+/// says that a router is no longer one. Remembered next hops are forgotten where the neighbour's link-layer address wasn't known. It takes no
+/// memory: room was made before.
 pub fn hear_of_neighbour<A: Allocator>(
     neighbours: &mut Cache<A>,
     choice: &mut Choice<A>,

@@ -17,7 +17,7 @@ ghost use Rattle.nd_effects.specs.Remembered.{AsStanding, Recollects};
 ghost use Rattle.nd_effects.specs.Told.{at_moment, happenings};
 ghost use Rattle.nd_effects.specs.RouterAdvertisement.{left_told};
 
-use crate::link_layer_address::keep_if;
+use crate::destination_cache::keep_if;
 use nd_addr::Addr;
 use nd_decode::{Body, Options, RouterAdvertisement};
 use nd_dns::{Dns, NewNames};
@@ -26,8 +26,8 @@ use nd_out::Out;
 use nd_routers::Prefixes;
 use std::alloc::Allocator;
 
-/// The prefixes that a Router Advertisement says are on the link, at a moment in milliseconds, for which there is room (RFC 4861, section
-/// 6.3.4). No next hop is remembered but where prefixes only are refreshed.
+/// Takes the prefixes that a Router Advertisement says are on the link, at a moment in milliseconds. There is room for them (RFC 4861, section
+/// 6.3.4). Remembered next hops are forgotten, except where prefixes are only refreshed.
 pub fn hear_prefixes<A: Allocator>(
     prefixes: &mut Prefixes<A>,
     choice: &mut Choice<A>,
@@ -41,15 +41,12 @@ pub fn hear_prefixes<A: Allocator>(
     ensures redirects { choice.new.redirects ≡ choice.old.redirects }
 {
     let refreshes = prefixes.only_refreshes(now, options);
-    match prefixes.heard_ra(now, options) {
-        Ok(()) => {}
-        Err(_) => unreachable!(),
-    }
+    prefixes.take_ra(now, options);
     keep_if(choice, refreshes);
 }
 
-/// The DNS servers and search names that a Router Advertisement tells, at a moment in milliseconds, for which there is room, with copies
-/// of the names that it adds (RFC 8106, section 6.1).
+/// Takes the DNS servers and search names of a Router Advertisement, at a moment in milliseconds, with copies of the names that it adds. There
+/// is room for them (RFC 8106, section 6.1).
 pub fn hear_dns<A: Allocator>(dns: &mut Dns<A>, now: u64, options: Options<'_>, names: NewNames<A>)
     requires moment { now < 2 ^ 62 }
     requires names { names ≡ new_names now (options_left options) dns.old }
@@ -58,14 +55,11 @@ pub fn hear_dns<A: Allocator>(dns: &mut Dns<A>, now: u64, options: Options<'_>, 
     ensures { (servers : List (Row Addr)) (names : List (Row (List ℕ))) → last_moment servers ≤ now → last_moment names ≤ now → known.Stands dns.old servers names
         → known.Stands dns.new (then_announced now (servers_told (options_left options.entry)) servers) (then_announced now (names_told (options_left options.entry)) names) }
 {
-    match dns.heard_ra(now, options, names) {
-        Ok(()) => {}
-        Err(_) => unreachable!(),
-    }
+    dns.take_ra(now, options, names);
 }
 
-/// A router that was timed out at a moment, in milliseconds, is told, if it was (RFC 4861, section 6.3.4). It takes no memory: the room for
-/// it was taken before.
+/// Reports a router that was timed out at a moment, in milliseconds, if it was (RFC 4861, section 6.3.4). It takes no memory: room was made
+/// before.
 pub fn tell_left<A: Allocator>(
     outs: &mut Vec<(u64, Out<A>), A>,
     now: u64,

@@ -1,12 +1,12 @@
 -- Which table of a node is full first, by the chronicle.
-use Rattle.std.proofs.Common.{◌≡◌, ℕ, ◌≤◌, Bool, true, false, List, [], ◌∷◌, Option, None, subst, ap, refl, ◌∙◌, arith}
+use Rattle.std.proofs.Common.{◌≡◌, ℕ, ◌≤◌, Bool, true, false, List, [], ◌∷◌, Option, Some, None, ap, refl, sym, ◌∙◌, arith}
 use Rattle.std.proofs.lemmas.Bool.Decides.{eqb_tells}
 use Rattle.rand_core.specs.Stream.{Stream}
 use Rattle.nd_addr.specs.declared.addr.Addr.{Addr}
 use Rattle.nd_addr.specs.declared.mac.Mac.{Mac}
 use Rattle.nd_addr.specs.Number.{number_of}
 use Rattle.nd_addr.specs.Prefix.{PrefixValue}
-use Rattle.nd_addr.specs.Same.{same_addr, same_prefix}
+use Rattle.nd_addr.specs.Same.{same_addr, same_prefix, addrs_tell, prefixes_tell, bytes_tell}
 use Rattle.nd_decode.specs.Option.{Said}
 use Rattle.nd_decode.specs.Message.{Parts}
 use Rattle.nd_decode.specs.declared.router_advertisement.RouterAdvertisement.{RouterAdvertisement}
@@ -14,6 +14,7 @@ use Rattle.nd_lifetime.specs.declared.lasting.Lasting.{Lasting}
 use Rattle.nd_lifetime.specs.History as lifetimes
 use Rattle.nd_lifetime.specs.Listing.{Lists, open_at, fits}
 use Rattle.nd_lifetime.specs.Listing as lists
+use Rattle.nd_lifetime.proofs.Behind.{fits_open}
 use Rattle.nd_lifetime.proofs.Steps.{lists_at}
 use Rattle.nd_routers.specs.History.{RouterRow, announcements}
 use Rattle.nd_routers.specs.Routers as routers
@@ -22,7 +23,8 @@ use Rattle.nd_routers.specs.PrefixOptions as on_link
 use Rattle.nd_slaac.specs.History.{Row}
 use Rattle.nd_slaac.specs.Table as addresses
 use Rattle.nd_slaac.specs.PrefixOption.{prefixes_in}
-use Rattle.nd_slaac.specs.Room.{FitsBy}
+use Rattle.nd_slaac.specs.Calls.{keys_in}
+use Rattle.nd_slaac.specs.Room.{fits_in}
 use Rattle.nd_dns.specs.Dns as dns
 use Rattle.nd_dns.specs.Dns.{max_servers, max_names}
 use Rattle.nd_dns.specs.Names.{same_name, names_told}
@@ -40,13 +42,16 @@ module _ {R A : Type 0} (stream : R → Stream) (node : Node R A) (now : ℕ) (s
   abbrev message : Parts
   message = advertised ra options
 
-  module _ (place router prefix address server name : Bool) (limit : Option happenings.Limit)
-      (by_router : (history : List RouterRow) (es : List (Lasting ℕ)) → routers.Stands node.routers history → Lists same (announcements history) now es → router ≡ fits same node.routers.limit now ((number_of source.0, ra.router_lifetime) ∷ []) es)
-      (by_prefix : (history : List (lifetimes.Row PrefixValue)) (es : List (Lasting PrefixValue)) → lists.Stands same_prefix node.prefixes history → lifetimes.last_moment history ≤ now → Lists same_prefix history now es → prefix ≡ fits same_prefix on_link.max_prefixes now (on_link.prefixes_in options) es)
-      (by_address : (history : List Row) → addresses.Stands node.addresses.addresses history → FitsBy node.addresses.mac history (prefixes_in options) address)
-      (by_server : (history : List (lifetimes.Row Addr)) (names : List (lifetimes.Row (List ℕ))) (es : List (Lasting Addr)) → dns.Stands node.dns history names → lifetimes.last_moment history ≤ now → Lists same_addr history now es → server ≡ fits same_addr max_servers now (servers_told options) es)
-      (by_name : (servers : List (lifetimes.Row Addr)) (history : List (lifetimes.Row (List ℕ))) (es : List (Lasting (List ℕ))) → dns.Stands node.dns servers history → lifetimes.last_moment history ≤ now → Lists same_name history now es → name ≡ fits same_name max_names now (names_told options) es)
-      (first : limit ≡ first_full place router prefix address server name)
+  -- the first table without room, by what is kept
+  abbrev pub first_kept : Bool → Option happenings.Limit
+  first_kept place = first_full place
+      (fits same node.routers.limit now ((number_of source.0, ra.router_lifetime) ∷ []) node.routers.entries)
+      (fits same_prefix on_link.max_prefixes now (on_link.prefixes_in options) node.prefixes)
+      (fits_in node.addresses.mac (keys_in node.addresses.addresses) (prefixes_in options))
+      (fits same_addr max_servers now (servers_told options) node.dns.servers)
+      (fits same_name max_names now (names_told options) node.dns.names)
+
+  module _ (place : Bool) (limit : Option happenings.Limit) (first : limit ≡ first_kept place)
       (start : Start) (c : Chronicle) (s : Stands stream start node c) (le : last_moment start.at c ≤ now) where
     listed : Lists same (announcements (router_history c)) now (open_at now node.routers.entries)
     listed = lists_at same eqb_tells node.routers.entries (announcements (router_history c)) now s.routers.routers
@@ -60,21 +65,22 @@ module _ {R A : Type 0} (stream : R → Stream) (node : Node R A) (now : ℕ) (s
     listed_names : Lists same_name (name_history c) now (open_at now node.dns.names)
     listed_names = s.dns.names_stand.lists now (omega (arith, s.names_by_then, le))
 
-    router_is : router ≡ fits same start.limits.routers now ((number_of source.0, ra.router_lifetime) ∷ []) (open_at now node.routers.entries)
-    router_is = by_router (router_history c) (open_at now node.routers.entries) s.routers listed
+    router_is : fits same node.routers.limit now ((number_of source.0, ra.router_lifetime) ∷ []) node.routers.entries
+        ≡ fits same start.limits.routers now ((number_of source.0, ra.router_lifetime) ∷ []) (open_at now node.routers.entries)
+    router_is = sym (fits_open same eqb_tells node.routers.limit now ((number_of source.0, ra.router_lifetime) ∷ []) node.routers.entries)
         ∙ ap (λ (n : ℕ). fits same n now ((number_of source.0, ra.router_lifetime) ∷ []) (open_at now node.routers.entries)) s.router_limit
 
-    prefix_is : prefix ≡ fits same_prefix on_link.max_prefixes now (on_link.prefixes_in options) (open_at now node.prefixes)
-    prefix_is = by_prefix (prefix_history c) (open_at now node.prefixes) s.prefixes (omega (arith, s.prefixes_by_then, le)) listed_prefixes
+    prefix_is : fits same_prefix on_link.max_prefixes now (on_link.prefixes_in options) node.prefixes ≡ fits same_prefix on_link.max_prefixes now (on_link.prefixes_in options) (open_at now node.prefixes)
+    prefix_is = sym (fits_open same_prefix prefixes_tell on_link.max_prefixes now (on_link.prefixes_in options) node.prefixes)
 
-    server_is : server ≡ fits same_addr max_servers now (servers_told options) (open_at now node.dns.servers)
-    server_is = by_server (server_history c) (name_history c) (open_at now node.dns.servers) s.dns (omega (arith, s.servers_by_then, le)) listed_servers
+    server_is : fits same_addr max_servers now (servers_told options) node.dns.servers ≡ fits same_addr max_servers now (servers_told options) (open_at now node.dns.servers)
+    server_is = sym (fits_open same_addr addrs_tell max_servers now (servers_told options) node.dns.servers)
 
-    name_is : name ≡ fits same_name max_names now (names_told options) (open_at now node.dns.names)
-    name_is = by_name (server_history c) (name_history c) (open_at now node.dns.names) s.dns (omega (arith, s.names_by_then, le)) listed_names
+    name_is : fits same_name max_names now (names_told options) node.dns.names ≡ fits same_name max_names now (names_told options) (open_at now node.dns.names)
+    name_is = sym (fits_open same_name bytes_tell max_names now (names_told options) node.dns.names)
 
-    first_by : (r r' p p' v v' n n' : Bool) → r ≡ r' → p ≡ p' → v ≡ v' → n ≡ n' → first_full place r p address v n ≡ first_full place r' p' address v' n'
-    first_by r r' p p' v v' n n' er ep ev en = rw (er, ep, ev, en) refl
+    first_by : (r r' p p' a v v' n n' : Bool) → r ≡ r' → p ≡ p' → v ≡ v' → n ≡ n' → first_full place r p a v n ≡ first_full place r' p' a v' n'
+    first_by r r' p p' a v v' n n' er ep ev en = rw (er, ep, ev, en) refl
 
     pub advertisement_fills : Placed start c now (needs c source message message.body) place → AdvertisementFills start c now source ra message limit
     advertisement_fills placed = record {
@@ -84,22 +90,37 @@ module _ {R A : Type 0} (stream : R → Stream) (node : Node R A) (now : ℕ) (s
       those_routers = listed;
       prefixes = open_at now node.prefixes;
       those_prefixes = listed_prefixes;
-      forms = address;
-      those_addresses = subst (λ (m : Mac). FitsBy m (address_history c) (prefixes_in options) address) s.address_mac (by_address (address_history c) s.addresses);
+      forms = fits_in node.addresses.mac (keys_in node.addresses.addresses) (prefixes_in options);
+      those_addresses = record {
+        known = node.addresses.addresses;
+        those = s.addresses;
+        fit_is = ap (λ (m : Mac). fits_in m (keys_in node.addresses.addresses) (prefixes_in options)) s.address_mac;
+      };
       servers = open_at now node.dns.servers;
       those_servers = listed_servers;
       names = open_at now node.dns.names;
       those_names = listed_names;
-      first = first ∙ first_by router _ prefix _ server _ name _ router_is prefix_is server_is name_is;
+      first = first ∙ first_by _ _ _ _ _ _ _ _ _ router_is prefix_is server_is name_is;
     }
 
--- where none is full, each has room
-pub none_full : (neighbours routers prefixes addresses servers names : Bool) → first_full neighbours routers prefixes addresses servers names ≡ None
-    → (neighbours ≡ true) × (routers ≡ true) × (prefixes ≡ true) × (addresses ≡ true) × (servers ≡ true) × (names ≡ true)
-none_full false r p a s n e = let no : ⊥ = cc in absurd no
-none_full true false p a s n e = let no : ⊥ = cc in absurd no
-none_full true true false a s n e = let no : ⊥ = cc in absurd no
-none_full true true true false s n e = let no : ⊥ = cc in absurd no
-none_full true true true true false n e = let no : ⊥ = cc in absurd no
-none_full true true true true true false e = let no : ⊥ = cc in absurd no
-none_full true true true true true true e = (refl, refl, refl, refl, refl, refl)
+-- the first table without room, those before it having room
+pub at_neighbours : (n r p a v m : Bool) → n ≡ false → Some happenings.Neighbours ≡ first_full n r p a v m
+at_neighbours n r p a v m e = rw e refl
+
+pub at_routers : (n r p a v m : Bool) → n ≡ true → r ≡ false → Some happenings.Routers ≡ first_full n r p a v m
+at_routers n r p a v m e f = rw (e, f) refl
+
+pub at_prefixes : (n r p a v m : Bool) → n ≡ true → r ≡ true → p ≡ false → Some happenings.Prefixes ≡ first_full n r p a v m
+at_prefixes n r p a v m e f g = rw (e, f, g) refl
+
+pub at_addresses : (n r p a v m : Bool) → n ≡ true → r ≡ true → p ≡ true → a ≡ false → Some happenings.Addresses ≡ first_full n r p a v m
+at_addresses n r p a v m e f g h = rw (e, f, g, h) refl
+
+pub at_servers : (n r p a v m : Bool) → n ≡ true → r ≡ true → p ≡ true → a ≡ true → v ≡ false → Some happenings.Servers ≡ first_full n r p a v m
+at_servers n r p a v m e f g h i = rw (e, f, g, h, i) refl
+
+pub at_names : (n r p a v m : Bool) → n ≡ true → r ≡ true → p ≡ true → a ≡ true → v ≡ true → m ≡ false → Some happenings.Names ≡ first_full n r p a v m
+at_names n r p a v m e f g h i j = rw (e, f, g, h, i, j) refl
+
+pub at_none : (n r p a v m : Bool) → n ≡ true → r ≡ true → p ≡ true → a ≡ true → v ≡ true → m ≡ true → None ≡ first_full n r p a v m
+at_none n r p a v m e f g h i j = rw (e, f, g, h, i, j) refl

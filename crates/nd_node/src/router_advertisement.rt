@@ -6,8 +6,6 @@ ghost use Rattle.nd_dns.specs.Dns.{new_names};
 ghost use Rattle.nd_neighbour.specs.declared.news.Times.{Times};
 ghost use Rattle.nd_chronicle.specs.Histories.{said_of_neighbour};
 ghost use Rattle.nd_effects.specs.LinkLayerAddress.{said_by, HasPlace, waiting_for};
-ghost use Rattle.nd_nexthop.specs.Memo.{is_asked};
-ghost use Rattle.nd_effects.specs.Remembered.{last_before_end};
 ghost use Rattle.nd_node.specs.RouterAdvertisement.{TakesAdvertisement};
 ghost use Rattle.nd_node.specs.Hearing.{AddsMessage};
 ghost use Rattle.nd_node.specs.Memory.{AddsNoName};
@@ -19,33 +17,16 @@ use nd_decode::{Body, Options, RouterAdvertisement};
 use nd_dns::NewNames;
 use nd_effects::{
     Advertisement, has_place, hear_dns, hear_of_neighbour, hear_parameters, hear_prefix_options,
-    hear_prefixes, hear_router, keep_if, news_of, none_forms, tell_left, waiting_for,
+    hear_prefixes, hear_router, keep_until_a_prefix_ends, news_of, none_forms, tell_left, waiting_for,
 };
 use nd_neighbour::laws::one_is_pushed_out;
 use nd_neighbour::{News, Times};
-use nd_nexthop::Choice;
 use nd_out::{Out, Refusal};
-use nd_routers::Prefixes;
 use rand_core::Rng;
 use std::alloc::{AllocError, Allocator};
 
 /// How much a Router Advertisement tells at most beside the frames that are sent: itself, and a router that is timed out.
 const BESIDE_FRAMES: usize = 2;
-
-/// What is remembered of next hops is asked for until a prefix ends. Nothing is remembered where an address was formed, or where it wasn't
-/// asked for any more.
-fn ask_on<A: Allocator>(choice: &mut Choice<A>, prefixes: &Prefixes<A>, now: u64, own: bool)
-    ensures redirects { choice.new.redirects ≡ choice.old.redirects }
-    ensures hops { choice.new.memory.hops ≡ (if own && is_asked now choice.old.memory.until then choice.old.memory.hops else []) }
-    ensures until { choice.new.memory.until ≡ last_before_end now prefixes.now }
-{
-    let asked = choice.is_asked(now);
-    keep_if(choice, own && asked);
-    match prefixes.least_end(now) {
-        Some(end) => choice.until(Some(end.saturating_sub(1))),
-        None => choice.until(None),
-    }
-}
 
 impl<R: Rng + Drop, A: Allocator + Clone> Node<R, A> {
     ghost use Rattle.nd_node.specs.Node.{next_of};
@@ -114,7 +95,7 @@ impl<R: Rng + Drop, A: Allocator + Clone> Node<R, A> {
             retrans,
         );
         hear_dns(&mut self.dns, now, heard.options, names);
-        ask_on(&mut self.choice, &self.prefixes, now, own);
+        keep_until_a_prefix_ends(&mut self.choice, &self.prefixes, now, own);
     }
 
     /// A Router Advertisement is heard at a moment, in milliseconds (RFC 4861, section 6.3.4; RFC 4862, section 5.5.3; RFC 8106, section
@@ -148,9 +129,7 @@ impl<R: Rng + Drop, A: Allocator + Clone> Node<R, A> {
             }
             None => {}
         }
-        let Ok(names) = self.dns.names(now, options) else {
-            return Err(AllocError);
-        };
+        let names = self.dns.new_names(now, options)?;
         let waiting = waiting_for(&self.neighbours, news);
         outs.reserve(waiting + BESIDE_FRAMES)?;
         let heard = Advertisement {

@@ -4,7 +4,7 @@ use crate::lines::told;
 use std::test::*;
 
 /// What a host tells up to its first Router Solicitation.
-const STARTED: &str =
+pub(crate) const STARTED: &str =
     "0 tx 3333ff9abcde3456789abcde86dd6000000000183aff00000000000000000000000000000000ff0200000000000000000001ff9abcde870053df00000000fe80000000000000365678fffe9abcde\n1000 assigned fe80::3656:78ff:fe9a:bcde\n1000 tx 3333000000023456789abcde86dd6000000000103afffe80000000000000365678fffe9abcdeff0200000000000000000000000000028500a78f0000000001013456789abcde\n";
 
 /// A Router Advertisement forms an address, which is tried and assigned (RFC 4862, section 5.5.3).

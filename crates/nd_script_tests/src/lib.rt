@@ -11,6 +11,8 @@ mod host;
 #[cfg(test)]
 mod lines;
 #[cfg(test)]
+mod next_hops;
+#[cfg(test)]
 mod router;
 #[cfg(test)]
 mod router_commands;

@@ -4,7 +4,7 @@ use Rattle.nd_effects.proofs.Refreshed.{kept_redirects, kept_until, listed, noth
 use Rattle.nd_effects.proofs.default_router.hear_router.Goals as goal
 
 pub returns-clause-routers : goal.returns-clause-routers
-returns-clause-routers g c = λ history s. (c.ended.ensures.stands c.args.now).stands _ (c.in-Ok.ensures.stands.stands history s)
+returns-clause-routers g c = λ history s. (c.ended.ensures.stands c.args.now).stands _ (c.take_ra.ensures.stands.stands history s)
 
 pub returns-clause-redirects : goal.returns-clause-redirects
 returns-clause-redirects g c = λ history s.
@@ -12,7 +12,7 @@ returns-clause-redirects g c = λ history s.
 
 pub returns-then-not-times_out-clause-recollects : goal.returns-then-not-times_out-clause-recollects
 returns-then-not-times_out-clause-recollects g c =
-    listed c.only_refreshes-refreshes.result c.args.now (number_of c.args.source.0) c.args.lifetime c.args.preference c.args.choice.now c.keep_if.new.choice c.args.routers.now c.heard_ra.new.self c.only_refreshes-refreshes.ensures.0 c.keep_if.ensures c.requires.settled c.in-Ok.ensures.entries c.in-Ok.ensures.preferences c.in-Ok.ensures.failed
+    listed c.only_refreshes-refreshes.result c.args.now (number_of c.args.source.0) c.args.lifetime c.args.preference c.args.choice.now c.keep_if.new.choice c.args.routers.now c.take_ra.new.self c.only_refreshes-refreshes.ensures.0 c.keep_if.ensures c.requires.settled c.take_ra.ensures.entries c.take_ra.ensures.preferences c.take_ra.ensures.failed
 
 pub returns-clause-recollects : goal.returns-clause-recollects
 returns-clause-recollects g c =

@@ -5,7 +5,7 @@ use Rattle.nd_effects.proofs.router_advertisement.hear_prefixes.Goals as goal
 
 pub returns-clause-recollects : goal.returns-clause-recollects
 returns-clause-recollects g c =
-    linked c.only_refreshes-refreshes.result c.args.now (prefixes_in (options_left c.args.options)) c.args.choice.now c.keep_if.new.choice c.args.prefixes.now c.heard_ra.new.self c.only_refreshes-refreshes.ensures c.keep_if.ensures c.in-Ok.ensures.value
+    linked c.only_refreshes-refreshes.result c.args.now (prefixes_in (options_left c.args.options)) c.args.choice.now c.keep_if.new.choice c.args.prefixes.now c.take_ra.new.self c.only_refreshes-refreshes.ensures c.keep_if.ensures c.take_ra.ensures.value
 
 pub returns-clause-redirects : goal.returns-clause-redirects
 returns-clause-redirects g c = kept_redirects c.only_refreshes-refreshes.result c.args.choice.now c.keep_if.new.choice c.keep_if.ensures

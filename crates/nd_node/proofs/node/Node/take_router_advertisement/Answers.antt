@@ -34,7 +34,7 @@ returns g c =
       times_out = c.hear_router-times_out.ensures.times_out;
       routers = c.hear_router-times_out.ensures.routers;
       redirects = λ history s.
-          redirects_stand c.hear_router-times_out.new.choice c.ask_on.new.choice _ (c.ask_on.ensures.redirects ∙ c.hear_prefixes.ensures.redirects) (c.hear_router-times_out.ensures.redirects history
+          redirects_stand c.hear_router-times_out.new.choice c.keep_until_a_prefix_ends.new.choice _ (c.keep_until_a_prefix_ends.ensures.redirects ∙ c.hear_prefixes.ensures.redirects) (c.hear_router-times_out.ensures.redirects history
           (redirects_stand c.args.self.now.choice c.hear_of_neighbour.new.choice history (may_redirects c.args.self.now.choice c.hear_of_neighbour.new.choice c.args.self.now.neighbours.nodes c.hear_of_neighbour.new.neighbours.nodes c.hear_of_neighbour.ensures.remembers) s));
       first = c.hear_of_neighbour.new.choice;
       second = c.hear_router-times_out.new.choice;
@@ -43,11 +43,11 @@ returns g c =
       listed = c.hear_router-times_out.ensures.recollects;
       linked = c.hear_prefixes.ensures.recollects;
       redirects_third = c.hear_prefixes.ensures.redirects;
-      redirects_then = c.ask_on.ensures.redirects;
+      redirects_then = c.keep_until_a_prefix_ends.ensures.redirects;
       own = c.none_forms-own.result;
       own_is = c.none_forms-own.ensures;
-      hops = c.ask_on.ensures.hops;
-      until = c.ask_on.ensures.until;
+      hops = c.keep_until_a_prefix_ends.ensures.hops;
+      until = c.keep_until_a_prefix_ends.ensures.until;
       routers_settled = c.hear_router-times_out.ensures.settled;
       router_limit = c.hear_router-times_out.ensures.limit;
       left_is_told = c.tell_left.ensures;
