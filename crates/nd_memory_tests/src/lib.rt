@@ -10,6 +10,8 @@ mod dns;
 #[cfg(test)]
 mod neighbours;
 #[cfg(test)]
+mod next_hops;
+#[cfg(test)]
 mod node;
 #[cfg(test)]
 mod redirects;

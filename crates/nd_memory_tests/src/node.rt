@@ -14,7 +14,7 @@ use std::process::Abort;
 use std::test::*;
 
 /// More than a node and all that comes here take.
-const AMPLE: usize = 1 << 22;
+pub(crate) const AMPLE: usize = 1 << 22;
 
 /// The blocks that take what is left of a heap, in bytes.
 const LARGE: usize = 8192;
@@ -83,9 +83,16 @@ fn come<'h>(
 /// A host, at 3 s, up to which all that is due is done.
 fn host<'h>(rt: &impl Abort, heap: &'h LocalHeap) -> Node<Pcg32, &'h LocalHeap> {
     let generator = Pcg32::seed_from_u64(0);
-    let mut node = Node::new(heap, Role::Host, MAC, 0, Transmits::ONE, Limits::usual(), generator).expect(
-        rt, "memory",
-    );
+    let mut node = Node::new(
+        heap,
+        Role::Host,
+        MAC,
+        0,
+        Transmits::ONE,
+        Limits::usual(),
+        generator,
+    )
+    .expect(rt, "memory");
     let mut outs = Vec::new(heap);
     come(&mut node, 3000, &Event::Passes, &mut outs).expect(rt, "memory");
     node
@@ -109,7 +116,9 @@ fn sends(heap: &LocalHeap, destination: Addr) -> Event<&LocalHeap> {
 }
 
 /// Takes all that is left of a heap, but for the last of it in blocks of 16 bytes.
-fn exhaust(heap: &LocalHeap) -> Result<Vec<Vec<u8, &LocalHeap>, &LocalHeap>, AllocError> {
+pub(crate) fn exhaust(
+    heap: &LocalHeap,
+) -> Result<Vec<Vec<u8, &LocalHeap>, &LocalHeap>, AllocError> {
     let mut blocks = Vec::with_capacity(heap, 2 * MOST_BLOCKS)?;
     fill(heap, LARGE, &mut blocks)?;
     for _ in 0..LAST {
@@ -292,9 +301,16 @@ fn routes() -> Option<[KeptRoute; 2]> {
 /// A router that advertises, at 3 s, up to which all that is due is done: its first advertisement was sent.
 fn router<'h>(rt: &impl Abort, heap: &'h LocalHeap) -> Node<Pcg32, &'h LocalHeap> {
     let generator = Pcg32::seed_from_u64(0);
-    let mut node = Node::new(heap, Role::Router, MAC, 0, Transmits::ONE, Limits::usual(), generator).expect(
-        rt, "memory",
-    );
+    let mut node = Node::new(
+        heap,
+        Role::Router,
+        MAC,
+        0,
+        Transmits::ONE,
+        Limits::usual(),
+        generator,
+    )
+    .expect(rt, "memory");
     let flags = ConfigFlags {
         managed: false,
         other: false,

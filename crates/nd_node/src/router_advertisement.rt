@@ -17,7 +17,8 @@ use nd_decode::{Body, Options, RouterAdvertisement};
 use nd_dns::NewNames;
 use nd_effects::{
     Advertisement, has_place, hear_dns, hear_of_neighbour, hear_parameters, hear_prefix_options,
-    hear_prefixes, hear_router, keep_until_a_prefix_ends, news_of, none_forms, tell_left, waiting_for,
+    hear_prefixes, hear_router, keep_until_a_prefix_ends, news_of, none_forms, tell_left,
+    waiting_for,
 };
 use nd_neighbour::laws::one_is_pushed_out;
 use nd_neighbour::{News, Times};
