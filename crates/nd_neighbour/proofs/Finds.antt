@@ -1,5 +1,5 @@
 -- What a look-up has found.
-use Rattle.std.proofs.Common.{◌≡◌, ℕ, ◌<◌, Bool, true, false, cond, List, [], refl, length, get_or, set, Option, Some, None, sym, ◌∙◌, ap, subst, arith, suc, zero}
+use Rattle.std.proofs.Common.{◌≡◌, ℕ, ◌<◌, Bool, true, false, cond, List, [], ◌∷◌, refl, length, get_or, set, Option, Some, None, sym, ◌∙◌, ap, subst, arith, suc, zero}
 use Rattle.std.specs.Prelude.{slice_get, is_some, ◌&&◌, not}
 use Rattle.std.proofs.lemmas.Option.{slice_get-get_or}
 use Rattle.nd_neighbour.specs.Entry.{Node, Stage, Resolving, Known, released, known_mac, waiting_in}
@@ -39,25 +39,35 @@ pub some_is : (o : Option Node) → is_some o ≡ true → (n : Node) × (o ≡ 
 some_is None h = absurd (true≢false (sym h))
 some_is (Some n) h = (n, refl)
 
--- the answers where the neighbour is there
-module _ (limit now key : ℕ) (old seen : List Node) (held : Bool) (same : seen ≡ old) (held_is : held ≡ is_some (node_in key seen)) (there' : held ≡ true) where
-  holding : is_some (node_in key old) ≡ true
-  holding = sym (ap (λ (l : List Node). is_some (node_in key l)) same) ∙ (sym held_is ∙ there')
-
-  pub was_there : (change : Node → Node) (m : Node) (new : List Node) → Alters key change old new → Gives limit now key change m old new
-  was_there change m new a = let n = some_is (node_in key old) holding in Was n.0 n.1 a
-
-  pub not_full : {X : Type 0} → (false ≡ true → X) × (NoPlace limit now key old → false ≡ true)
-  not_full = ((λ e. absurd (true≢false (sym e))), λ np. absurd (true≢false (sym holding ∙ ap is_some np.0)))
-
 pub none_is : (o : Option Node) → is_some o ≡ false → o ≡ None
 none_is None h = refl
 none_is (Some n) h = absurd (true≢false h)
 
+some_at : (ns : List Node) (i : ℕ) → i < length ns → (n : Node) × (slice_get ns i ≡ Some n)
+some_at [] i lt = absurd (omega arith)
+some_at (n ∷ ns) i lt = (get_or (n ∷ ns) i n, slice_get-get_or (n ∷ ns) i n lt)
+
+-- the answers where the neighbour is found at a place
+module _ (limit now key : ℕ) (old seen : List Node) (i : ℕ) (same : seen ≡ old) (lt : i < length seen) (found : node_in key seen ≡ slice_get seen i) where
+  the_node : (n : Node) × (node_in key old ≡ Some n)
+  the_node = let n = some_at seen i lt in (n.0, sym (ap (node_in key) same) ∙ (found ∙ n.1))
+
+  pub holding : is_some (node_in key old) ≡ true
+  holding = ap is_some the_node.1
+
+  pub was_there : (change : Node → Node) (m : Node) (new : List Node) → Alters key change old new → Gives limit now key change m old new
+  was_there change m new a = Was the_node.0 the_node.1 a
+
+  pub has_place_there : NoPlace limit now key old → ⊥
+  has_place_there np = true≢false (sym holding ∙ ap is_some np.0)
+
+  pub not_full : {X : Type 0} → (false ≡ true → X) × (NoPlace limit now key old → false ≡ true)
+  not_full = ((λ e. absurd (true≢false (sym e))), λ np. absurd (has_place_there np))
+
 -- and where it isn't
-module _ (limit now key : ℕ) (old seen : List Node) (held : Bool) (same : seen ≡ old) (held_is : held ≡ is_some (node_in key seen)) (gone : held ≡ false) where
+module _ (limit now key : ℕ) (old seen : List Node) (same : seen ≡ old) (absent : node_in key seen ≡ None) where
   pub not_there : node_in key old ≡ None
-  not_there = none_is (node_in key old) (sym (ap (λ (l : List Node). is_some (node_in key l)) same) ∙ (sym held_is ∙ gone))
+  not_there = sym (ap (node_in key) same) ∙ absent
 
   pub came_in : (change : Node → Node) (m e : Node) (mid new : List Node) → e ≡ m → Places limit now old mid → new ≡ insert mid (place_in e.key mid) e → Gives limit now key change m old new
   came_in change m e mid new e_is places is = Came mid not_there places (is ∙ ap (λ (x : Node). insert mid (place_in x.key mid) x) e_is)

@@ -1,18 +1,20 @@
 -- The dates that are kept beside the neighbours, where one of these changes, comes or goes.
-use Rattle.std.proofs.Common.{◌≡◌, ℕ, ◌<◌, ◌≤◌, Bool, true, false, cond, eqb, List, length, get_or, set, Some, None, refl, sym, ◌∙◌, ap, subst, arith}
-use Rattle.std.specs.Prelude.{slice_get}
+use Rattle.std.proofs.Common.{◌≡◌, ℕ, ◌<◌, ◌≤◌, Bool, true, false, cond, eqb, List, length, get_or, set, Option, Some, None, refl, sym, ◌∙◌, ap, subst, arith, ◌-◌, suc, inl, inr}
+use Rattle.std.specs.Prelude.{slice_get, IfSome, IfNone}
 use Rattle.std.specs.List.{remove}
 use Rattle.std.proofs.Math.ListN.{length-set}
 use Rattle.std.proofs.lemmas.List.Edits.{length-remove}
-use Rattle.std.proofs.lemmas.List.{set-get_or, get_or_default}
-use Rattle.std.proofs.lemmas.Bool.{cond-false}
+use Rattle.std.proofs.lemmas.List.{set-get_or}
+use Rattle.std.proofs.lemmas.Bool.{cond-false, cases_lt}
 use Rattle.nd_table.specs.Keyed as keyed
-use Rattle.nd_table.specs.Dates.{Planned, rank, AllAddresses, first_moment, AreDatesBut}
-use Rattle.nd_table.proofs.Keyed.{key_is, put_in, at_key-remove, Rises-put}
-use Rattle.nd_table.proofs.Dates.{least_is}
-use Rattle.nd_table.proofs.Stays.{OthersStay, set_others, set_rises, remove_rises, gone_dates, kept_dates, came_dates}
+use Rattle.nd_table.specs.Due.{is_at}
+use Rattle.nd_table.specs.Dates.{Planned, rank, AllAddresses, has, first_moment, Redated}
+use Rattle.nd_table.proofs.Searching.{place_above, place_below}
+use Rattle.nd_table.proofs.Keyed.{key_is, at_place, Rises-unique, put_in, at_key-remove, Rises-put, place_of-remove_low, place_of-remove_high}
+use Rattle.nd_table.proofs.Dates.{least_is, no_more}
+use Rattle.nd_table.proofs.Stays.{set_rises, set_dates, own_date, remove_rises, gone_dates, kept_dates, came_dates}
 use Rattle.nd_neighbour.specs.Entry.{Node, Stage, Resolving, Known, with_mark}
-use Rattle.nd_neighbour.specs.Table.{address, Rises, node_in, Alters, NotThere, There}
+use Rattle.nd_neighbour.specs.Table.{address, Rises, node_in, place_in, Alters, NotThere, There}
 use Rattle.nd_neighbour.specs.Due.{date_of, next_in, falls, stays, solicited, solicited_to}
 use Rattle.nd_neighbour.specs.Place.{Places, Enough, Went}
 use Rattle.nd_neighbour.specs.Planned.{IsPlanned}
@@ -34,23 +36,35 @@ module _ (key : ℕ) (change : Node → Node) (keeps : (n : Node) → (change n)
   pub changed_rises : Rises old → Rises (set old i m)
   changed_rises r = set_rises address key old (set old i m) i n r (within key change old seen i n m same lt found is new_is) is n_key m m_key refl
 
-  pub changed_others : Rises old → OthersStay address key old (set old i m)
-  changed_others r = set_others address key old (set old i m) i n r (within key change old seen i n m same lt found is new_is) is n_key m m_key refl
+  -- its date is among the dates, and the new one is in its place then
+  pub had_date : (planned : Planned) (was : Option ℕ) → IsPlanned old planned → was ≡ date_of n → (moment : ℕ) → has moment key planned.dates ≡ is_at moment was
+  had_date planned was p was_is moment =
+      own_date address key old old i n p.order (within key change old seen i n m same lt found is new_is) is n_key date_of planned.dates planned.dates p.dates moment ∙ sym (ap (is_at moment) was_is)
 
--- the entry of an address, seen twice, goes
-module _ (key i : ℕ) (ns : List Node) (n seen : Node) (lt : i < length ns) (is : n ≡ get_or ns i n) (seen_is : seen ≡ get_or ns i seen) (key_is' : key ≡ seen.key) where
-  pub seen_key : n.key ≡ key
-  seen_key = ap address (is ∙ (get_or_default ns i n seen lt ∙ sym seen_is)) ∙ sym key_is'
+  pub changed_planned : (planned planned' : Planned) (date : Option ℕ) → IsPlanned old planned → date ≡ date_of m → Redated key date planned.dates planned'.dates → planned'.room ≡ planned.room → IsPlanned (set old i m) planned'
+  changed_planned planned planned' date p date_is redated room_is =
+      let room : length old ≤ planned.room = p.room in
+      record {
+        order = changed_rises p.order;
+        dates = set_dates address key old (set old i m) i n p.order (within key change old seen i n m same lt found is new_is) is n_key date_of planned.dates planned'.dates p.dates m m_key refl
+            (subst (λ (o : Option ℕ). Redated key o planned.dates planned'.dates) date_is redated);
+        room = omega (arith, room, room_is, length-set {A = Node});
+      }
 
-pub removed_planned : (key i : ℕ) (ns new : List Node) (n : Node) (planned planned' : Planned) → IsPlanned ns planned → i < length ns → n ≡ get_or ns i n → n.key ≡ key → new ≡ remove ns i → AreDatesBut address date_of key planned'.dates ns → planned'.room ≡ planned.room → IsPlanned new planned'
-removed_planned key i ns new n planned planned' p lt is n_key new_is but same =
-    let room : length ns ≤ planned.room = p.room in
-    let shorter : length (remove ns i) ≤ length ns = omega (arith, length-remove ns i lt) in
-    record {
-      order = remove_rises address key ns new i n p.order lt is n_key new_is;
-      dates = gone_dates address key ns new i n p.order lt is n_key date_of planned'.dates new_is but;
-      room = omega (arith, room, shorter, ap length new_is, same);
-    }
+-- the entry at a place goes, and its date with it
+module _ (key i : ℕ) (ns new : List Node) (n : Node) (planned planned' : Planned) (p : IsPlanned ns planned) (lt : i < length ns) (is : n ≡ get_or ns i n) (n_key : n.key ≡ key) where
+  pub goes_date : (was : Option ℕ) → was ≡ date_of n → (moment : ℕ) → has moment key planned.dates ≡ is_at moment was
+  goes_date was was_is moment = own_date address key ns ns i n p.order lt is n_key date_of planned.dates planned.dates p.dates moment ∙ sym (ap (is_at moment) was_is)
+
+  pub removed_planned : new ≡ remove ns i → Redated key None planned.dates planned'.dates → planned'.room ≡ planned.room → IsPlanned new planned'
+  removed_planned new_is redated same =
+      let room : length ns ≤ planned.room = p.room in
+      let shorter : length (remove ns i) ≤ length ns = omega (arith, length-remove ns i lt) in
+      record {
+        order = remove_rises address key ns new i n p.order lt is n_key new_is;
+        dates = gone_dates address key ns new i n p.order lt is n_key date_of planned.dates planned'.dates p.dates new_is redated;
+        room = omega (arith, room, shorter, ap length new_is, same);
+      }
 
 -- the neighbour that makes place isn't the one that comes
 pub absent_then : (limit now key : ℕ) (old mid : List Node) → Rises old → node_in key old ≡ None → Places limit now old mid → node_in key mid ≡ None
@@ -62,13 +76,43 @@ absent_then limit now key old mid r absent (Went i n many lt at_i stalest is) =
     both true = refl
     both false = absent
 
--- a neighbour comes in
-module _ (key : ℕ) (mid new : List Node) (m : Node) (planned : Planned) (p : IsPlanned mid planned) (absent : node_in key mid ≡ None) (m_key : m.key ≡ key) (new_is : new ≡ put_in address m mid) where
-  pub came_rises : Rises new
-  came_rises = subst Rises (sym new_is) (Rises-put address m mid p.order (ap (λ k. node_in k mid) m_key ∙ absent))
+-- where a new neighbour belongs once one that made place has gone
+module _ (key i : ℕ) (old new : List Node) (n : Node) (r : Rises old) (lt : i < length old) (is : n ≡ get_or old i n) (absent : node_in key old ≡ None) (new_is : new ≡ remove old i) (at : ℕ) (at_is : at ≡ place_in key old) where
+  other : n.key ≡ key → ⊥
+  other same = let e : Some n ≡ None = sym (at_place address old i n r lt is) ∙ (ap (λ k. node_in k old) same ∙ absent) in absurd (cc)
 
-  pub came_but : AreDatesBut address date_of key planned.dates new
-  came_but = came_dates address key mid new m date_of planned.dates absent m_key new_is p.dates
+  above : key ≤ n.key → key < n.key
+  above le = elim (cases_lt key n.key) [
+    | inl high ↦ high
+    | inr low ↦ absurd (other (omega (arith, le, low)))
+  ]
+
+  pub place_before : i < at → at - 1 ≡ place_in key new
+  place_before before = elim (cases_lt n.key key) [
+    | inl low ↦
+        let e : place_in key old ≡ suc (place_in key (remove old i)) = place_of-remove_low address key old i n r lt (subst (λ (m : Node). m.key < key) is low) in
+        omega (arith, e, at_is, ap (place_in key) new_is)
+    | inr high ↦
+        let le : place_in key old ≤ i = place_below address key old i n lt (subst (λ (m : Node). key < m.key) is (above high)) in
+        absurd (omega (arith, le, at_is, before))
+  ]
+
+  pub place_behind : at ≤ i → at ≡ place_in key new
+  place_behind behind = elim (cases_lt n.key key) [
+    | inl low ↦
+        let le : suc i ≤ place_in key old = place_above address key old i n r lt (subst (λ (m : Node). m.key < key) is low) in
+        absurd (omega (arith, le, at_is, behind))
+    | inr high ↦ at_is ∙ (sym (place_of-remove_high address key old i n r lt (subst (λ (m : Node). key < m.key) is (above high))) ∙ ap (place_in key) (sym new_is))
+  ]
+
+-- a neighbour comes in, and its date with it
+module _ (mid new : List Node) (m : Node) (planned planned' : Planned) (p : IsPlanned mid planned) (absent : node_in m.key mid ≡ None) (new_is : new ≡ put_in address m mid) where
+  pub came_planned : (key : ℕ) (date : Option ℕ) → m.key ≡ key → date ≡ date_of m → Redated key date planned.dates planned'.dates → planned'.room ≡ planned.room → length new ≤ planned.room → IsPlanned new planned'
+  came_planned key date m_key date_is redated same room = record {
+    order = subst Rises (sym new_is) (Rises-put address m mid p.order absent);
+    dates = came_dates address key mid new m date_of planned.dates planned'.dates m_key new_is p.dates (subst (λ (o : Option ℕ). Redated key o planned.dates planned'.dates) date_is redated);
+    room = omega (arith, room, same);
+  }
 
 solicited_key : (now : ℕ) (n : Node) (k : Stage) → (solicited_to k now n).key ≡ n.key
 solicited_key now n (Resolving retrans sent waiting) = refl
@@ -80,11 +124,15 @@ turned_key : (now : ℕ) (n m : Node) → m ≡ cond (stays (falls n)) (solicite
 turned_key now n m changed = ap address changed ∙ keys_of (stays (falls n)) (solicited now n) n n (solicited_key now n n.stage) refl
 
 module _ (now key i : ℕ) (ns : List Node) (n m : Node) (p : Rises ns) (lt : i < length ns) (is : n ≡ get_or ns i n) (n_key : n.key ≡ key) (changed : m ≡ cond (stays (falls n)) (solicited now n) n) where
-  pub turned_rises : Rises (set ns i m)
-  turned_rises = set_rises address key ns (set ns i m) i n p lt is n_key m (turned_key now n m changed ∙ n_key) refl
-
-  pub turned_others : OthersStay address key ns (set ns i m)
-  turned_others = set_others address key ns (set ns i m) i n p lt is n_key m (turned_key now n m changed ∙ n_key) refl
+  pub turned_planned : (planned planned' : Planned) (date : Option ℕ) → IsPlanned ns planned → date ≡ date_of m → Redated key date planned.dates planned'.dates → planned'.room ≡ planned.room → IsPlanned (set ns i m) planned'
+  turned_planned planned planned' date q date_is redated room_is =
+      let room : length ns ≤ planned.room = q.room in
+      record {
+        order = set_rises address key ns (set ns i m) i n p lt is n_key m (turned_key now n m changed ∙ n_key) refl;
+        dates = set_dates address key ns (set ns i m) i n p lt is n_key date_of planned.dates planned'.dates q.dates m (turned_key now n m changed ∙ n_key) refl
+            (subst (λ (o : Option ℕ). Redated key o planned.dates planned'.dates) date_is redated);
+        room = omega (arith, room, room_is, length-set {A = Node});
+      }
 
   -- where none is left nothing changes before it goes
   pub unturned : stays (falls n) ≡ false → set ns i m ≡ ns
@@ -101,3 +149,14 @@ marked_planned key router old new planned (There i n lt at_i found is) p =
       dates = kept_dates address key old new i n (with_mark router n) date_of planned.dates p.order lt at_i n_key n_key refl is p.dates;
       room = omega (arith, room, ap length is, length-set {A = Node});
     }
+
+-- there is room for the date of one that comes
+pub came_room : (mid : List Node) (planned : Planned) (date : Option ℕ) → IsPlanned mid planned → length mid < planned.room → IfSome date (λ _. keyed.Rises rank planned.dates → length planned.dates < planned.room)
+came_room mid planned None p lt = tt
+came_room mid planned (Some t) p lt = λ r.
+    let le : length planned.dates ≤ length mid = no_more address date_of mid planned.dates r (Rises-unique address mid p.order) p.dates in
+    omega arith
+
+-- and none is needed where one is there already
+pub no_room : (P : Type 0) (was : Option ℕ) (t : ℕ) → was ≡ Some t → IfNone was P
+no_room P was t is = subst (λ (o : Option ℕ). IfNone o P) (sym is) tt

@@ -1,7 +1,7 @@
 ghost use Rattle.std.specs.Prelude.{None, true, vec_capacity, vec_len, ◌<◌, ◌^◌, ◌≡◌, ◌≤◌};
 ghost use Rattle.nd_addr.specs.Number.{number_of};
 ghost use Rattle.nd_neighbour.specs.AddressResolution.{asked_node};
-ghost use Rattle.nd_neighbour.specs.Table.{node_in};
+ghost use Rattle.nd_neighbour.specs.Table.{node_in, place_in};
 ghost use Rattle.nd_neighbour.specs.Planned.{IsPlanned};
 ghost use Rattle.nd_neighbour.specs.Place.{Gives, has_place};
 ghost use Rattle.nd_neighbour.specs.Sending.{used};
@@ -16,19 +16,21 @@ use std::alloc::Allocator;
 /// How many multicast solicitations a resolution sends, the first included (RFC 4861, section 10).
 pub(crate) const MAX_MULTICAST_SOLICIT: u8 = 3;
 
-/// A resolution begins with a first packet, for an address that has no entry (RFC 4861, section 7.2.2).
+/// Begins a resolution with a first packet, for an address that has no entry; its entry belongs at place `at` (RFC 4861, section 7.2.2).
 pub(crate) fn begin<A: Allocator>(
     entries: &mut Vec<Entry<A>, A>,
     dates: &mut Schedule<A>,
     limit: usize,
     now: u64,
     addr: Addr,
+    at: usize,
     retrans: u32,
     packet: Packet<A>,
     ring: Ring<A>,
 )
     requires moment { now < 2 ^ 62 }
     requires absent { node_in (number_of addr.0) entries.old.items ≡ None }
+    requires at { at ≡ place_in (number_of addr.0) entries.old.items }
     requires place { has_place limit now entries.old.items ≡ true }
     requires few { vec_len entries.old ≤ limit }
     requires capacity { limit ≤ vec_capacity entries.old }
@@ -41,7 +43,7 @@ pub(crate) fn begin<A: Allocator>(
     ensures capacity { vec_capacity entries.new ≡ vec_capacity entries.old }
 {
     let entry = Entry::asked(addr, now, retrans, packet, ring);
-    enter(entries, dates, limit, now, entry);
+    enter(entries, dates, limit, now, at, entry);
 }
 
 impl<A: Allocator> Entry<A> {

@@ -75,7 +75,8 @@ impl<A: Allocator> Cache<A> {
         ensures looks { probes.new.looks ≤ probes.old.looks + binary_digits (length self.now.nodes) }
         ensures counts { probes.old.looks ≤ probes.new.looks }
     {
-        search(&self.entries, &addr, probes).is_ok()
+        let number = addr.to_bits();
+        search(&self.entries, &number, probes).is_ok()
     }
 
     /// How many neighbours there are, at most as many as the cache has room for.

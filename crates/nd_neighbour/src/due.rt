@@ -8,7 +8,7 @@ use crate::address_resolution::MAX_MULTICAST_SOLICIT;
 use crate::cache::Cache;
 use crate::entry::{Entry, Stage};
 use nd_addr::{Addr, Mac};
-use nd_table::{Addressed, Schedule};
+use nd_table::{Addressed, Dated, Schedule};
 use nd_waiting::Packets;
 use std::alloc::Allocator;
 
@@ -82,14 +82,15 @@ pub(crate) fn turn_first<A: Allocator>(
     ensures capacity { vec_capacity entries.new ≡ vec_capacity entries.old }
 {
     let i = dates.first_at(entries, now)?;
-    let addr = entries[i].addr();
-    dates.take_out(entries, addr);
     let entry = &mut entries[i];
+    let addr = entry.addr();
+    let was = entry.date();
     if let Some(due) = entry.solicit(now) {
-        dates.put_in(entries, addr);
+        dates.change(was, entry.date(), addr);
         return Some(due);
     }
     let entry = entries.remove(i);
+    dates.change(was, None, addr);
     Some(entry.end())
 }
 

@@ -1,4 +1,4 @@
-ghost use Rattle.std.specs.Prelude.{IfErr, IfOk, IsErr, OnErr, OnOk, false, vec_capacity, vec_len, ◌<◌, ◌^◌, ◌↔◌, ◌≡◌, ◌≤◌};
+ghost use Rattle.std.specs.Prelude.{IfErr, IfOk, IsErr, OnErr, OnOk, false, length, slice_get, vec_capacity, vec_len, ◌<◌, ◌^◌, ◌↔◌, ◌≡◌, ◌≤◌};
 ghost use Rattle.nd_addr.specs.Number.{number_of};
 ghost use Rattle.nd_neighbour.specs.Entry.{stale_node};
 ghost use Rattle.nd_neighbour.specs.LinkLayerAddress.{given, mark_or};
@@ -12,7 +12,7 @@ use crate::news::Touched;
 use crate::place::{enter, has_place};
 use crate::refusal::CacheRefusal;
 use nd_addr::{Addr, Mac};
-use nd_table::{Schedule, find, holds};
+use nd_table::{Addressed, Dated, Schedule, locate};
 use nd_waiting::Packets;
 use std::alloc::Allocator;
 
@@ -43,27 +43,31 @@ pub(crate) fn give_or_enter<A: Allocator>(
     ensures few { vec_len entries.new ≤ limit }
     ensures capacity { vec_capacity entries.new ≡ vec_capacity entries.old }
 {
-    if holds(entries, addr) {
-        return Ok(give(entries, dates, now, addr, mac, mark));
-    }
+    let at = match locate(entries, addr) {
+        Ok(i) => return Ok(give(entries, dates, now, addr, i, mac, mark)),
+        Err(at) => at,
+    };
     if !has_place(entries, limit, now) {
         return Err(CacheRefusal::Full);
     }
     let entry = Entry::stale(addr, mark.unwrap_or(false), now, mac);
-    enter(entries, dates, limit, now, entry);
+    enter(entries, dates, limit, now, at, entry);
     Ok(Touched::nothing())
 }
 
-/// The same for an entry that may be there.
+/// Gives the entry at place `i`, which is that of `addr`, a link-layer address.
 pub(crate) fn give<A: Allocator>(
     entries: &mut Vec<Entry<A>, A>,
     dates: &mut Schedule<A>,
     now: u64,
     addr: Addr,
+    i: usize,
     mac: Mac,
     mark: Option<bool>,
 ) -> Touched<A>
     requires moment { now < 2 ^ 62 }
+    requires within { i < length entries.old.items }
+    requires found { node_in (number_of addr.0) entries.old.items ≡ slice_get entries.old.items i }
     requires planned { IsPlanned entries.old.items dates.old }
     ensures alters { Alters (number_of addr.0) (λ n. given now (number_of mac.0) mark n) entries.old.items entries.new.items }
     ensures released { result.released ≡ told_released (λ n. given now (number_of mac.0) mark n) (node_in (number_of addr.0) entries.old.items) }
@@ -73,16 +77,12 @@ pub(crate) fn give<A: Allocator>(
     ensures len { vec_len entries.new ≡ vec_len entries.old }
     ensures capacity { vec_capacity entries.new ≡ vec_capacity entries.old }
 {
-    let Some(i) = find(entries, addr) else {
-        return Touched::nothing();
-    };
-    dates.take_out(entries, addr);
     let entry = &mut entries[i];
+    let was = entry.date();
     let was_router = entry.router();
     let released = entry.given(now, mac, mark);
-    let touched = Touched::new(released, was_router, entry.router());
-    dates.put_in(entries, addr);
-    touched
+    dates.change(was, entry.date(), addr);
+    Touched::new(released, was_router, entry.router())
 }
 
 impl<A: Allocator> Entry<A> {

@@ -9,7 +9,7 @@ ghost use Rattle.nd_neighbour.specs.News.{told_released, told_turned};
 use crate::entry::{Entry, is_same_mac};
 use crate::news::{Flags, Touched};
 use nd_addr::{Addr, Mac};
-use nd_table::{Schedule, find};
+use nd_table::{Dated, Schedule, find};
 use nd_waiting::Packets;
 use std::alloc::Allocator;
 
@@ -37,13 +37,12 @@ pub(crate) fn advertise<A: Allocator>(
     let Some(i) = find(entries, addr) else {
         return Touched::nothing();
     };
-    dates.take_out(entries, addr);
     let entry = &mut entries[i];
+    let was = entry.date();
     let was_router = entry.router();
     let released = entry.advertised(now, flags, mac, reachable);
-    let touched = Touched::new(released, was_router, entry.router());
-    dates.put_in(entries, addr);
-    touched
+    dates.change(was, entry.date(), addr);
+    Touched::new(released, was_router, entry.router())
 }
 
 impl<A: Allocator> Entry<A> {

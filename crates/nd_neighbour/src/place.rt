@@ -1,10 +1,12 @@
 ghost use Rattle.std.specs.Prelude.{IfSome, None, length, slice_get, true, vec_capacity, vec_len, ◌<◌, ◌≡◌, ◌≤◌};
 ghost use Rattle.nd_neighbour.specs.Planned.{IsPlanned};
-ghost use Rattle.nd_neighbour.specs.Table.{node_in};
+ghost use Rattle.nd_addr.specs.Number.{number_of};
+ghost use Rattle.nd_neighbour.specs.Table.{node_in, place_in};
 ghost use Rattle.nd_neighbour.specs.Place.{Enters, Places, has_place, longer, picked, picked_stale, stalest};
 
 use crate::entry::{Entry, Stage};
-use nd_table::{Addressed, Schedule, put};
+use nd_addr::Addr;
+use nd_table::{Addressed, Dated, Schedule, put};
 use std::alloc::Allocator;
 
 /// The place of the one of two entries that is stale for longer, at a tie of the first.
@@ -48,42 +50,51 @@ pub(crate) fn has_place<A: Allocator>(entries: &[Entry<A>], limit: usize, now: u
     entries.len() < limit || stalest(entries, now).is_some()
 }
 
-/// Makes place for one more entry: where all places are taken, the entry that is stale for longest goes. Our choice: RFC
-/// 4861, section 5.3, leaves it open.
+/// Makes room for an entry of `addr`, which belongs at place `at`, and returns the place where it belongs then. If the table is full,
+/// the entry that has been STALE for longest is evicted. Our choice: RFC 4861, section 5.3, leaves it open.
 pub(crate) fn make_place<A: Allocator>(
     entries: &mut Vec<Entry<A>, A>,
     dates: &mut Schedule<A>,
     limit: usize,
     now: u64,
-)
+    addr: Addr,
+    at: usize,
+) -> usize
+    requires absent { node_in (number_of addr.0) entries.old.items ≡ None }
+    requires at { at ≡ place_in (number_of addr.0) entries.old.items }
     requires planned { IsPlanned entries.old.items dates.old }
     requires few { vec_len entries.old ≤ limit }
     requires place { has_place limit now entries.old.items ≡ true }
     ensures places { Places limit now entries.old.items entries.new.items }
     ensures left { vec_len entries.new < limit }
+    ensures at { result ≡ place_in (number_of addr.0) entries.new.items }
     ensures planned { IsPlanned entries.new.items dates.new }
     ensures room { dates.new.room ≡ dates.old.room }
     ensures capacity { vec_capacity entries.new ≡ vec_capacity entries.old }
 {
     if entries.len() < limit {
-        return;
+        return at;
     }
-    if let Some(i) = stalest(entries, now) {
-        let addr = entries[i].addr();
-        dates.take_out(entries, addr);
-        let _ = entries.remove(i);
-    }
+    let Some(i) = stalest(entries, now) else {
+        unreachable!()
+    };
+    let place = if i < at { at - 1 } else { at };
+    let gone = entries.remove(i);
+    dates.change(gone.date(), None, gone.addr());
+    place
 }
 
-/// Lets an entry in for which there is place, and which isn't there.
+/// Adds an entry whose address has none, and which belongs at place `at`. There is room for it, or an entry that can be evicted.
 pub(crate) fn enter<A: Allocator>(
     entries: &mut Vec<Entry<A>, A>,
     dates: &mut Schedule<A>,
     limit: usize,
     now: u64,
+    at: usize,
     entry: Entry<A>,
 )
     requires absent { node_in entry.key entries.old.items ≡ None }
+    requires at { at ≡ place_in entry.key entries.old.items }
     requires place { has_place limit now entries.old.items ≡ true }
     requires few { vec_len entries.old ≤ limit }
     requires capacity { limit ≤ vec_capacity entries.old }
@@ -96,9 +107,10 @@ pub(crate) fn enter<A: Allocator>(
     ensures capacity { vec_capacity entries.new ≡ vec_capacity entries.old }
 {
     let addr = entry.addr();
-    make_place(entries, dates, limit, now);
-    put(entries, entry);
-    dates.put_in(entries, addr);
+    let date = entry.date();
+    let at = make_place(entries, dates, limit, now, addr, at);
+    put(entries, at, entry);
+    dates.change(None, date, addr);
 }
 
 impl<A: Allocator> Entry<A> {

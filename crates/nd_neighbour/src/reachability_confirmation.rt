@@ -7,7 +7,7 @@ ghost use Rattle.nd_neighbour.specs.Table.{Alters};
 use crate::cache::Cache;
 use crate::entry::Entry;
 use nd_addr::Addr;
-use nd_table::{Schedule, find};
+use nd_table::{Dated, Schedule, find};
 use std::alloc::Allocator;
 
 impl<A: Allocator> Cache<A> {
@@ -45,10 +45,10 @@ pub(crate) fn confirm<A: Allocator>(
     ensures capacity { vec_capacity entries.new ≡ vec_capacity entries.old }
 {
     if let Some(i) = find(entries, addr) {
-        dates.take_out(entries, addr);
         let entry = &mut entries[i];
+        let was = entry.date();
         entry.confirm(now, reachable);
-        dates.put_in(entries, addr);
+        dates.change(was, entry.date(), addr);
     }
 }
 

@@ -8,7 +8,7 @@ ghost use Rattle.nd_neighbour.specs.Removal.{Removes, all_waiting, waiting_at};
 use crate::cache::Cache;
 use crate::entry::{Entry, Stage};
 use nd_addr::Addr;
-use nd_table::{Schedule, find};
+use nd_table::{Dated, Schedule, find};
 use nd_waiting::{Packet, Packets};
 use std::alloc::{AllocError, Allocator};
 
@@ -85,8 +85,8 @@ pub(crate) fn remove<A: Allocator>(
     let Some(i) = find(entries, addr) else {
         return Packets::none();
     };
-    dates.take_out(entries, addr);
     let entry = entries.remove(i);
+    dates.change(entry.date(), None, addr);
     entry.packets()
 }
 

@@ -1,4 +1,4 @@
-ghost use Rattle.std.specs.Prelude.{IfErr, IfOk, List, None, OnErr, OnOk, Some, if◌then◌else◌, is_some, true, vec_capacity, vec_len, ◌-◌, ◌<◌, ◌^◌, ◌↔◌, ◌≡◌};
+ghost use Rattle.std.specs.Prelude.{IfErr, IfOk, List, None, OnErr, OnOk, Some, if◌then◌else◌, is_some, length, slice_get, vec_capacity, vec_len, ◌-◌, ◌<◌, ◌^◌, ◌↔◌, ◌≡◌};
 ghost use Rattle.nd_addr.specs.Number.{number_of};
 ghost use Rattle.nd_neighbour.specs.Table.{node_in, Alters};
 ghost use Rattle.nd_neighbour.specs.Planned.{IsPlanned};
@@ -14,7 +14,7 @@ use crate::refusal::CacheRefusal;
 use crate::rings::take_ring;
 use crate::unreachability_detection::Probing;
 use nd_addr::{Addr, Mac};
-use nd_table::{Schedule, find, holds};
+use nd_table::{Dated, Schedule, locate};
 use nd_waiting::Packet;
 use std::alloc::Allocator;
 
@@ -74,16 +74,20 @@ impl<A: Allocator + Clone> Cache<A> {
         // Only a new neighbour takes a ring, one of those in hand where there is one.
         ensures rings { OnOk result (self.new.rings ≡ (if is_some (node_in (number_of addr.0) self.old.nodes) then self.old.rings else self.old.rings - 1)) }
     {
-        if holds(&self.entries, addr) {
-            return Ok(pass(
-                &mut self.entries,
-                &mut self.dates,
-                now,
-                addr,
-                times.retrans,
-                packet,
-            ));
-        }
+        let at = match locate(&self.entries, addr) {
+            Ok(i) => {
+                return Ok(pass(
+                    &mut self.entries,
+                    &mut self.dates,
+                    now,
+                    addr,
+                    i,
+                    times.retrans,
+                    packet,
+                ));
+            }
+            Err(at) => at,
+        };
         if !has_place(&self.entries, self.limit, now) {
             return Err((CacheRefusal::Full, packet));
         }
@@ -97,6 +101,7 @@ impl<A: Allocator + Clone> Cache<A> {
             self.limit,
             now,
             addr,
+            at,
             times.retrans,
             packet,
             ring,
@@ -108,18 +113,20 @@ impl<A: Allocator + Clone> Cache<A> {
     }
 }
 
-/// A packet is to be sent to a neighbour whose entry is there.
+/// Sends a packet to the neighbour whose entry is at place `i`, or lets it wait there.
 pub(crate) fn pass<A: Allocator>(
     entries: &mut Vec<Entry<A>, A>,
     dates: &mut Schedule<A>,
     now: u64,
     addr: Addr,
+    i: usize,
     retrans: u32,
     packet: Packet<A>,
 ) -> Use<A>
     requires moment { now < 2 ^ 62 }
     requires planned { IsPlanned entries.old.items dates.old }
-    requires there { is_some (node_in (number_of addr.0) entries.old.items) ≡ true }
+    requires within { i < length entries.old.items }
+    requires found { node_in (number_of addr.0) entries.old.items ≡ slice_get entries.old.items i }
     ensures alters { Alters (number_of addr.0) (λ n. used now retrans packet n) entries.old.items entries.new.items }
     ensures sending { sending_of result ≡ sending_in (node_in (number_of addr.0) entries.old.items) packet }
     ensures planned { IsPlanned entries.new.items dates.new }
@@ -127,13 +134,10 @@ pub(crate) fn pass<A: Allocator>(
     ensures len { vec_len entries.new ≡ vec_len entries.old }
     ensures capacity { vec_capacity entries.new ≡ vec_capacity entries.old }
 {
-    let Some(i) = find(entries, addr) else {
-        unreachable!();
-    };
-    dates.take_out(entries, addr);
     let entry = &mut entries[i];
+    let was = entry.date();
     let sent = entry.send(now, retrans, packet);
-    dates.put_in(entries, addr);
+    dates.change(was, entry.date(), addr);
     sent
 }
 

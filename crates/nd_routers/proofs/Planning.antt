@@ -6,16 +6,16 @@ use Rattle.std.specs.Option.{option_map}
 use Rattle.nd_addr.specs.declared.addr.Addr.{Addr}
 use Rattle.nd_addr.specs.Number.{number_of}
 use Rattle.std.proofs.lemmas.Bool.Decides.{eqb_tells, nat_tests}
-use Rattle.std.proofs.lemmas.Bool.{and_parts, cond_both, cond-true, cond-false, cases_Bool, ne_eqb, eq-eqb}
+use Rattle.std.proofs.lemmas.Bool.{and_parts, cond_both, cond-true, cond-false, cases_Bool, ne_eqb, eq-eqb, eqb-true, true≢false}
 use Rattle.nd_table.specs.Keyed as keyed
 use Rattle.nd_table.specs.Keyed.{at_key, Unique}
 use Rattle.nd_table.specs.declared.date.Date.{Date}
-use Rattle.nd_table.specs.Due.{NotBefore}
-use Rattle.nd_table.specs.Dates.{Planned, rank, AllAddresses, without_any, with_any, first_moment, date_at, AreDates, AreDatesBut}
+use Rattle.nd_table.specs.Due.{NotBefore, is_at}
+use Rattle.nd_table.specs.Dates.{Planned, rank, AllAddresses, has, first_moment, date_at, AreDates, Redated}
 use Rattle.nd_table.specs.Ends.{end_time}
 use Rattle.nd_table.proofs.Keyed.{key_is}
 use Rattle.nd_table.proofs.Due.{AtMost, AtMost-same, AtMost-some, AtMost-none, least_at_most, least_unique}
-use Rattle.nd_table.proofs.Dates.{least_unique_is, entry_of, kept, first_before, first_is_there, taken_any, put_any, none_put, changed_dates, place_left}
+use Rattle.nd_table.proofs.Dates.{least_unique_is, entry_of, kept, first_before, first_is_there, fewer, redated}
 use Rattle.nd_lifetime.specs.declared.lasting.Lasting.{Lasting}
 use Rattle.nd_lifetime.specs.Listing.{end_in, Distinct, renewed, without, told, announced, open_at, fits}
 use Rattle.nd_lifetime.proofs.Finding.{end_in-renewed, end_in-without, end_in-push, absent_of}
@@ -105,16 +105,12 @@ first_planned now inside es planned (Some addr) e p r a h here some none =
     sym (ap (first_due now) e) ∙ first_now now (number_of addr.0) inside planned.dates (unique_of inside p.distinct) p.dates r a here some
 
 -- a router goes
-pub without_planned : (key : ℕ) (es new : List (Lasting ℕ)) (planned planned' : Planned) → IsPlanned es planned → keyed.Rises rank planned.dates → new ≡ without same key es → planned'.dates ≡ without_any (date_at key_of date_of key es) key planned.dates → IsPlanned new planned'
-without_planned key es new planned planned' p r new_is dates_is = record {
+pub without_planned : (key : ℕ) (es new : List (Lasting ℕ)) (planned planned' : Planned) → IsPlanned es planned → new ≡ without same key es → Redated key None planned.dates planned'.dates → IsPlanned new planned'
+without_planned key es new planned planned' p new_is change = record {
   distinct = subst (Distinct same) (sym new_is) (Distinct-filter same eqb_tells _ es p.distinct);
-  dates = subst (λ (ds : List Date). AreDates key_of date_of ds new) (sym dates_is)
-      (none_put key_of date_of key ds new (changed_dates key_of date_of key ds es new others (taken_any key_of date_of key planned.dates es (date_at key_of date_of key es) r p.dates refl)) gone);
+  dates = redated key_of date_of key None planned.dates planned'.dates es new p.dates change others gone;
 }
   where
-    ds : List Date
-    ds = without_any (date_at key_of date_of key es) key planned.dates
-
     look : (j : ℕ) → date_at key_of date_of j new ≡ join (cond (eqb key j) None (end_in same j es))
     look j = ap (date_at key_of date_of j) new_is ∙ (date_in j (without same key es) ∙ ap join (end_in-without same eqb_tells j key es))
 
@@ -134,7 +130,25 @@ told_other j key now w es differ =
     (λ _. end_in-renewed same eqb_tells j key (end_time now w) es ∙ cond-false (eqb key j) _ (end_in same j es) other)
     (λ h. end_in-push same eqb_tells j es e (absent_of (end_in same key es) h) ∙ cond-false (eqb key j) (Some e.end) (end_in same j es) other))
 
-module _ (key now w : ℕ) (es new : List (Lasting ℕ)) (planned : Planned) (p : IsPlanned es planned) (r : keyed.Rises rank planned.dates) (settled : IsSettled es now) (new_is : new ≡ announced same now key w es) where
+-- the date that a router has is among the dates
+pub had_date : (key : ℕ) (es : List (Lasting ℕ)) (planned : Planned) (was : Option ℕ) → IsPlanned es planned → was ≡ date_at key_of date_of key es → (moment : ℕ) → has moment key planned.dates ≡ is_at moment was
+had_date key es planned was p was_is moment = p.dates.each moment key ∙ sym (ap (is_at moment) was_is)
+
+-- and that of the router that is due now is this moment
+is_now : (now : ℕ) (o : Option ℕ) → is_at now o ≡ true → Some now ≡ o
+is_now now None h = absurd (true≢false (sym h))
+is_now now (Some t) h = ap Some (sym (eqb-true t now h))
+
+pub due_date : (now number : ℕ) (es : List (Lasting ℕ)) (planned : Planned) → IsPlanned es planned → IfSome (slice_get planned.dates 0) (λ d. (d.moment ≡ now) × (d.number ≡ number)) → first_moment planned.dates ≡ Some now → Some now ≡ date_at key_of date_of number es
+due_date now number es planned p here first = by_first planned.dates p.dates here first
+  where
+    by_first : (ds : List Date) → AreDates key_of date_of ds es → IfSome (slice_get ds 0) (λ d. (d.moment ≡ now) × (d.number ≡ number)) → first_moment ds ≡ Some now → Some now ≡ date_at key_of date_of number es
+    by_first [] are at is = absurd (cc)
+    by_first (d ∷ ds) are at is =
+        is_now now (date_at key_of date_of number es) (sym (are.each now number)
+        ∙ (ap (λ m. has m number (d ∷ ds)) (sym at.0) ∙ (ap (λ k. has d.moment k (d ∷ ds)) (sym at.1) ∙ first_is_there d ds)))
+
+module _ (key now w : ℕ) (es new : List (Lasting ℕ)) (planned : Planned) (p : IsPlanned es planned) (settled : IsSettled es now) (new_is : new ≡ announced same now key w es) where
   announced_others : (j : ℕ) → (key ≡ j → ⊥) → date_at key_of date_of j new ≡ date_at key_of date_of j es
   announced_others j differ =
       ap (date_at key_of date_of j) new_is ∙ (date_in j (announced same now key w es) ∙ (ap join (told_other j key now w (open_at now es) differ
@@ -143,21 +157,23 @@ module _ (key now w : ℕ) (es new : List (Lasting ℕ)) (planned : Planned) (p 
   announced_distinct : Distinct same new
   announced_distinct = subst (Distinct same) (sym new_is) (Distinct-announced same eqb_tells now key w es p.distinct)
 
-  -- the dates without that of the router that announces itself
-  pub announced_but : (ds : List Date) → ds ≡ without_any (date_at key_of date_of key es) key planned.dates → AreDatesBut key_of date_of key ds new
-  announced_but ds is =
-      subst (λ (l : List Date). AreDatesBut key_of date_of key l new) (sym is)
-      (changed_dates key_of date_of key (without_any (date_at key_of date_of key es) key planned.dates) es new announced_others (taken_any key_of date_of key planned.dates es (date_at key_of date_of key es) r p.dates refl))
+  -- there is room for its date where it had none
+  pub announced_room : (room : ℕ) (was o : Option ℕ) → was ≡ date_at key_of date_of key es → o ≡ date_at key_of date_of key new → length new ≤ room → IfNone was (IfSome o (λ _. keyed.Rises rank planned.dates → length planned.dates < room))
+  announced_room room (Some x) o was_is o_is le = tt
+  announced_room room None None was_is o_is le = tt
+  announced_room room None (Some t) was_is o_is le = λ r. by_entry (at_key key_of key new) refl (sym o_is) r
+    where
+      by_entry : (n : Option (Lasting ℕ)) → at_key key_of key new ≡ n → option_and_then date_of n ≡ Some t → keyed.Rises rank planned.dates → length planned.dates < room
+      by_entry None there e r = absurd (cc)
+      by_entry (Some n) there e r =
+          let less : suc (length planned.dates) ≤ length new = fewer key_of date_of key n new planned.dates r (unique_of new announced_distinct) (had_date key es planned None p was_is)
+          (λ m k differ. p.dates.each m k ∙ sym (ap (is_at m) (announced_others k differ))) there in
+          omega arith
 
-  -- there is room for its new one
-  pub announced_room : (ds : List Date) (room : ℕ) (o : Option ℕ) → ds ≡ without_any (date_at key_of date_of key es) key planned.dates → keyed.Rises rank ds → o ≡ date_at key_of date_of key new → length new ≤ room → IfSome o (λ _. length ds < room)
-  announced_room ds room None is rises o_is le = tt
-  announced_room ds room (Some t) is rises o_is le = place_left key_of date_of key new ds t room rises (unique_of new announced_distinct) (announced_but ds is) (sym o_is) le
-
-  pub announced_planned : (ds : List Date) (planned' : Planned) (o : Option ℕ) → ds ≡ without_any (date_at key_of date_of key es) key planned.dates → o ≡ date_at key_of date_of key new → planned'.dates ≡ with_any o key ds → IsPlanned new planned'
-  announced_planned ds planned' o is o_is dates_is = record {
+  pub announced_planned : (planned' : Planned) (o : Option ℕ) → o ≡ date_at key_of date_of key new → Redated key o planned.dates planned'.dates → IsPlanned new planned'
+  announced_planned planned' o o_is change = record {
     distinct = announced_distinct;
-    dates = subst (λ (l : List Date). AreDates key_of date_of l new) (sym dates_is) (put_any key_of date_of key ds new o (announced_but ds is) (sym o_is));
+    dates = redated key_of date_of key o planned.dates planned'.dates es new p.dates change announced_others (sym o_is);
   }
 
 -- where a router fits there are no more than the limit behind its announcement

@@ -20,7 +20,7 @@ impl<A: Allocator> Routers<A> {
     ghost use Rattle.nd_routers.specs.Routers.{same, Stands, GainsRow, next_end, IsSettled, NoneBefore};
     ghost use Rattle.nd_routers.specs.Due.{FirstDue, NextDue};
 
-    /// The earliest end, in milliseconds, or `None` where no router's lifetime ends.
+    /// Returns the earliest end of a router's lifetime, in milliseconds, or `None` if no lifetime ends.
     pub fn next_due(&self) -> Option<u64>
         ensures value { result ≡ next_end self.now.entries }
         ensures due { (history : List RouterRow) → Stands self.now history → NextDue history result }
@@ -28,11 +28,10 @@ impl<A: Allocator> Routers<A> {
         self.dates.next()
     }
 
-    /// The least address of the routers whose lifetime ends at this moment, in milliseconds, which leaves the list (RFC 4861, section
-    /// 6.3.5). `None` where none ends at it; nothing changes then.
+    /// Removes the router of the lowest address whose lifetime ends at `now`, in milliseconds, and returns its address (RFC 4861, section
+    /// 6.3.5). Returns `None` if no lifetime ends then; the list is unchanged.
     ///
-    /// It asks that no end is left that came earlier. So a caller who comes late doesn't ask with the moment that it is, but with the
-    /// one that `next_due` tells, until that lies ahead.
+    /// No lifetime may have ended before `now`. A late caller passes what `next_due` returns, until that is in the future.
     pub fn turn(&mut self, now: u64) -> Option<Addr>
         requires { NoneBefore self.old.entries now }
         ensures due { (history : List RouterRow) → Stands self.old history → FirstDue history now (option_map (λ a. number_of a.0) result) }
@@ -44,15 +43,14 @@ impl<A: Allocator> Routers<A> {
         ensures later { NoneBefore self.new.entries now }
     {
         let source = self.dates.first_due(now)?;
-        self.dates.take_date(end_of(&self.entries, source), source);
+        self.dates.change(Some(now), None, source);
         remove(&mut self.entries, &source);
         forget_preference(&mut self.preferences, source);
         forget(&mut self.failed, source);
         Some(source)
     }
 
-    /// A router leaves the list, if it is in it, as one that is no router any more does (RFC 4861, section 7.2.5). It answers whether it
-    /// was in it. It takes no memory.
+    /// Removes a router that is no longer one (RFC 4861, section 7.2.5). Returns true if it was in the list. Takes no memory.
     pub fn ended(&mut self, source: Addr) -> bool
         ensures stands { (at : ℕ) → GainsRow self.old self.new (LeftList at (number_of source.0)) }
         ensures by_history { (history : List RouterRow) → Stands self.old history → result ≡ is_some (end_of same (number_of source.0) (announcements history)) }
@@ -61,7 +59,8 @@ impl<A: Allocator> Routers<A> {
         ensures limit { self.new.limit ≡ self.old.limit }
     {
         let listed = has(&self.entries, &source);
-        self.dates.take_date(end_of(&self.entries, source), source);
+        let was = end_of(&self.entries, source);
+        self.dates.change(was, None, source);
         remove(&mut self.entries, &source);
         forget_preference(&mut self.preferences, source);
         forget(&mut self.failed, source);
@@ -69,7 +68,7 @@ impl<A: Allocator> Routers<A> {
     }
 }
 
-/// The end of a router's lifetime, if it is in the list and has one.
+/// Returns the end of a router's lifetime, if it is in the list and has one.
 pub(crate) fn end_of(entries: &[Lasting<Router>], source: Addr) -> Option<u64>
     ensures { result ≡ date_at key_of date_of (number_of source.0) entries.now }
 {

@@ -101,7 +101,7 @@ impl<A: Allocator> Routers<A> {
             → result ≡ change_of (stands same (number_of source.0) (announcements history) now) (stands same (number_of source.0) (announcements (Heard now (number_of source.0) lifetime preference ∷ history)) now) }
     {
         let before = has(&self.entries, &source);
-        self.dates.take_date(end_of(&self.entries, source), source);
+        let was = end_of(&self.entries, source);
         announce(
             &mut self.entries,
             now,
@@ -109,7 +109,8 @@ impl<A: Allocator> Routers<A> {
             Some(Router::of(source)),
             u32::from(lifetime),
         );
-        self.dates.put_date(end_of(&self.entries, source), source);
+        self.dates
+            .change(was, end_of(&self.entries, source), source);
         if lifetime == 0 {
             forget_preference(&mut self.preferences, source);
             forget(&mut self.failed, source);

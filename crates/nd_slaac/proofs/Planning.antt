@@ -1,21 +1,20 @@
 -- The dates that are kept beside the addresses, where one of these changes.
-use Rattle.std.proofs.Common.{◌≡◌, ℕ, ◌<◌, Bool, true, false, List, length, get_or, set, Option, Some, Result, Ok, Err, refl, sym, ◌∙◌, ap, subst}
-use Rattle.nd_table.specs.Keyed.{Rises}
+use Rattle.std.proofs.Common.{◌≡◌, ℕ, ◌<◌, ◌≤◌, Bool, true, false, List, length, get_or, set, Option, Some, None, refl, sym, ◌∙◌, ap, subst, arith, suc}
+use Rattle.std.specs.Prelude.{IfSome, IfNone}
+use Rattle.std.specs.List.{remove}
+use Rattle.nd_table.specs.Keyed.{Rises, at_key}
 use Rattle.nd_table.specs.declared.date.Date.{Date}
-use Rattle.nd_table.specs.Due.{lesser, least_date, NotBefore}
-use Rattle.nd_table.specs.Dates.{Planned, rank, AllAddresses, first_moment, AreDates}
-use Rattle.nd_table.proofs.Keyed.{key_is, Rises-put}
+use Rattle.nd_table.specs.Due.{lesser, least_date, is_at, NotBefore}
+use Rattle.nd_table.specs.Dates.{Planned, rank, AllAddresses, has, first_moment, AreDates, Redated}
+use Rattle.nd_table.proofs.Keyed.{key_is, at_place, put_in, Rises-put, Rises-unique}
 use Rattle.nd_table.proofs.Due.{least_both, NotBefore-left, NotBefore-right}
-use Rattle.nd_table.proofs.Dates.{least_is}
-use Rattle.nd_table.proofs.Stays.{OthersStay, same_others, set_others, set_rises, put_others, kept_dates}
-use Rattle.nd_slaac.specs.declared.prefix_option.Taken.{Taken}
-use Rattle.nd_slaac.specs.declared.prefix_option.Taken.TheVariants.{Formed, Renewed, Ignored}
-use Rattle.nd_slaac.specs.declared.prefix_option.Full.{Full}
-use Rattle.nd_slaac.specs.History.{Lifetimes}
+use Rattle.nd_table.proofs.Dates.{least_is, no_more, fewer}
+use Rattle.nd_table.proofs.Stays.{set_rises, set_dates, own_date, remove_rises, gone_dates, kept_dates, came_dates}
 use Rattle.nd_slaac.specs.Address.{Address}
-use Rattle.nd_slaac.specs.Table.{key_of}
-use Rattle.nd_slaac.specs.Dates.{end_date, next_step, next_in, NoneBefore, stepped}
-use Rattle.nd_slaac.specs.Calls.{formed, announced, failed, Alters, Changes}
+use Rattle.nd_slaac.specs.Table.{key_of, address_in}
+use Rattle.nd_slaac.specs.Dates.{end_date, next_step, next_in, NoneBefore}
+use Rattle.nd_slaac.specs.Room.{max_addresses}
+use Rattle.nd_slaac.specs.Calls.{failed, Alters}
 use Rattle.nd_slaac.specs.Planned.{IsPlanned}
 
 -- the first of the dates of either kind is the next
@@ -30,30 +29,11 @@ module _ (key : ℕ) (old new : List Address) (r : Rises key_of old) where
     altered_key : alters.address.key ≡ key
     altered_key = key_is key_of key old alters.address alters.found
 
-    pub altered_others : OthersStay key_of key old new
-    altered_others = set_others key_of key old new alters.at alters.address r alters.within alters.is altered_key (change alters.address) (keeps alters.address ∙ altered_key) alters.new_is
-
-    pub altered_rises : Rises key_of new
+    altered_rises : Rises key_of new
     altered_rises = set_rises key_of key old new alters.at alters.address r alters.within alters.is altered_key (change alters.address) (keeps alters.address ∙ altered_key) alters.new_is
 
     altered_dates : (date : Address → Option ℕ) (ds : List Date) → ((a : Address) → date (change a) ≡ date a) → AreDates key_of date ds old → AreDates key_of date ds new
     altered_dates date ds same are = kept_dates key_of key old new alters.at alters.address (change alters.address) date ds r alters.within alters.is altered_key (keeps alters.address ∙ altered_key) (same alters.address) alters.new_is are
-
-  pub taken_others : (now : ℕ) (lifetimes : Lifetimes) (delay retrans : ℕ) (result : Result Taken Full) → Changes now key lifetimes delay retrans result old new → OthersStay key_of key old new
-  taken_others now lifetimes delay retrans (Ok Formed) c = put_others key_of key old new (formed key now delay retrans (Some lifetimes)) refl c.1
-  taken_others now lifetimes delay retrans (Ok Renewed) c = altered_others (announced now lifetimes) (λ a. refl) c
-  taken_others now lifetimes delay retrans (Ok Ignored) c = same_others key_of key old new c
-  taken_others now lifetimes delay retrans (Err full) c = same_others key_of key old new c
-
-  pub taken_rises : (now : ℕ) (lifetimes : Lifetimes) (delay retrans : ℕ) (result : Result Taken Full) → Changes now key lifetimes delay retrans result old new → Rises key_of new
-  taken_rises now lifetimes delay retrans (Ok Formed) c = subst (Rises key_of) (sym c.1) (Rises-put key_of (formed key now delay retrans (Some lifetimes)) old r c.0)
-  taken_rises now lifetimes delay retrans (Ok Renewed) c = altered_rises (announced now lifetimes) (λ a. refl) c
-  taken_rises now lifetimes delay retrans (Ok Ignored) c = subst (Rises key_of) (sym c) r
-  taken_rises now lifetimes delay retrans (Err full) c = subst (Rises key_of) (sym c) r
-
-  pub failed_others : (b : Bool) → (b ≡ true → Alters key failed old new) → (b ≡ false → new ≡ old) → OthersStay key_of key old new
-  failed_others true alters same = altered_others failed (λ a. refl) (alters refl)
-  failed_others false alters same = same_others key_of key old new (same refl)
 
   pub failed_rises : (b : Bool) → (b ≡ true → Alters key failed old new) → (b ≡ false → new ≡ old) → Rises key_of new
   failed_rises true alters same = altered_rises failed (λ a. refl) (alters refl)
@@ -71,13 +51,78 @@ none_of_ends now xs h = NotBefore-left now (least_date end_date xs) (least_date 
 pub none_of_steps : (now : ℕ) (xs : List Address) → NoneBefore xs now → NotBefore now (least_date next_step xs)
 none_of_steps now xs h = NotBefore-right now (least_date end_date xs) (least_date next_step xs) (subst (NotBefore now) (least_both end_date next_step xs) h)
 
--- an address takes a step, and keeps its end
-module _ (transmits now key i : ℕ) (a m : Address) (old new : List Address) (r : Rises key_of old) (lt : i < length old) (is : a ≡ get_or old i a) (a_key : a.key ≡ key) (m_is : m ≡ stepped transmits now a) (new_is : new ≡ set old i m) where
-  pub stepped_others : OthersStay key_of key old new
-  stepped_others = set_others key_of key old new i a r lt is a_key m (ap key_of m_is ∙ a_key) new_is
+-- the address at a place changes or goes, and its dates with it
+module _ (key i : ℕ) (old new : List Address) (a : Address) (ends steps : Planned) (p : IsPlanned old ends steps) (lt : i < length old) (is : a ≡ get_or old i a) (a_key : a.key ≡ key) where
+  pub had_end : (was : Option ℕ) → was ≡ end_date a → (moment : ℕ) → has moment key ends.dates ≡ is_at moment was
+  had_end was was_is moment = own_date key_of key old old i a p.order lt is a_key end_date ends.dates ends.dates p.end_dates moment ∙ sym (ap (is_at moment) was_is)
 
-  pub stepped_rises : Rises key_of new
-  stepped_rises = set_rises key_of key old new i a r lt is a_key m (ap key_of m_is ∙ a_key) new_is
+  pub had_step : (was : Option ℕ) → was ≡ next_step a → (moment : ℕ) → has moment key steps.dates ≡ is_at moment was
+  had_step was was_is moment = own_date key_of key old old i a p.order lt is a_key next_step steps.dates steps.dates p.step_dates moment ∙ sym (ap (is_at moment) was_is)
 
-  pub stepped_ends : (ds : List Date) → AreDates key_of end_date ds old → AreDates key_of end_date ds new
-  stepped_ends ds are = kept_dates key_of key old new i a m end_date ds r lt is a_key (ap key_of m_is ∙ a_key) (ap end_date m_is) new_is are
+  pub gone_planned : (ends' steps' : Planned) → new ≡ remove old i → Redated key None ends.dates ends'.dates → Redated key None steps.dates steps'.dates → ends'.room ≡ ends.room → steps'.room ≡ steps.room → IsPlanned new ends' steps'
+  gone_planned ends' steps' new_is ended stepped' end_room step_room = record {
+    order = remove_rises key_of key old new i a p.order lt is a_key new_is;
+    end_dates = gone_dates key_of key old new i a p.order lt is a_key end_date ends.dates ends'.dates p.end_dates new_is ended;
+    step_dates = gone_dates key_of key old new i a p.order lt is a_key next_step steps.dates steps'.dates p.step_dates new_is stepped';
+    room_for_ends = subst (λ (n : ℕ). max_addresses ≤ n) (sym end_room) p.room_for_ends;
+    room_for_steps = subst (λ (n : ℕ). max_addresses ≤ n) (sym step_room) p.room_for_steps;
+  }
+
+  module _ (m : Address) (m_key : m.key ≡ a.key) (new_is : new ≡ set old i m) where
+    -- its step changes, and its end stays
+    pub stepped_planned : (steps' : Planned) (date : Option ℕ) → end_date m ≡ end_date a → date ≡ next_step m → Redated key date steps.dates steps'.dates → steps'.room ≡ steps.room → IsPlanned new ends steps'
+    stepped_planned steps' date stays date_is redated step_room = record {
+      order = set_rises key_of key old new i a p.order lt is a_key m (m_key ∙ a_key) new_is;
+      end_dates = kept_dates key_of key old new i a m end_date ends.dates p.order lt is a_key (m_key ∙ a_key) stays new_is p.end_dates;
+      step_dates = set_dates key_of key old new i a p.order lt is a_key next_step steps.dates steps'.dates p.step_dates m (m_key ∙ a_key) new_is
+          (subst (λ (o : Option ℕ). Redated key o steps.dates steps'.dates) date_is redated);
+      room_for_ends = p.room_for_ends;
+      room_for_steps = subst (λ (n : ℕ). max_addresses ≤ n) (sym step_room) p.room_for_steps;
+    }
+
+    -- its end changes, and its step stays
+    pub ended_planned : (ends' : Planned) (date : Option ℕ) → next_step m ≡ next_step a → date ≡ end_date m → Redated key date ends.dates ends'.dates → ends'.room ≡ ends.room → IsPlanned new ends' steps
+    ended_planned ends' date stays date_is redated end_room = record {
+      order = set_rises key_of key old new i a p.order lt is a_key m (m_key ∙ a_key) new_is;
+      end_dates = set_dates key_of key old new i a p.order lt is a_key end_date ends.dates ends'.dates p.end_dates m (m_key ∙ a_key) new_is
+          (subst (λ (o : Option ℕ). Redated key o ends.dates ends'.dates) date_is redated);
+      step_dates = kept_dates key_of key old new i a m next_step steps.dates p.order lt is a_key (m_key ∙ a_key) stays new_is p.step_dates;
+      room_for_ends = subst (λ (n : ℕ). max_addresses ≤ n) (sym end_room) p.room_for_ends;
+      room_for_steps = p.room_for_steps;
+    }
+
+  -- there is room for an end where it had none
+  pub room_for_end : (was date : Option ℕ) → was ≡ end_date a → length old ≤ max_addresses → IfNone was (IfSome date (λ _. Rises rank ends.dates → length ends.dates < ends.room))
+  room_for_end (Some t) date was_is few = tt
+  room_for_end None None was_is few = tt
+  room_for_end None (Some t) was_is few = λ r.
+      let there : at_key key_of key old ≡ Some a = ap (λ k. at_key key_of k old) (sym a_key) ∙ at_place key_of old i a p.order lt is in
+      let less : suc (length ends.dates) ≤ length old = fewer key_of end_date key a old ends.dates r (Rises-unique key_of old p.order) (had_end None was_is) (λ m k differ. p.end_dates.each m k) there in
+      let room : max_addresses ≤ ends.room = p.room_for_ends in
+      omega arith
+
+-- an address comes in, and its dates with it
+module _ (old new : List Address) (a : Address) (ends steps : Planned) (p : IsPlanned old ends steps) where
+  pub room_for_new_end : (date : Option ℕ) → length old < max_addresses → IfSome date (λ _. Rises rank ends.dates → length ends.dates < ends.room)
+  room_for_new_end None few = tt
+  room_for_new_end (Some t) few = λ r.
+      let less : length ends.dates ≤ length old = no_more key_of end_date old ends.dates r (Rises-unique key_of old p.order) p.end_dates in
+      let room : max_addresses ≤ ends.room = p.room_for_ends in
+      omega arith
+
+  pub room_for_new_step : (date : Option ℕ) → length old < max_addresses → IfSome date (λ _. Rises rank steps.dates → length steps.dates < steps.room)
+  room_for_new_step None few = tt
+  room_for_new_step (Some t) few = λ r.
+      let less : length steps.dates ≤ length old = no_more key_of next_step old steps.dates r (Rises-unique key_of old p.order) p.step_dates in
+      let room : max_addresses ≤ steps.room = p.room_for_steps in
+      omega arith
+
+  pub came_planned : (key : ℕ) (ends' steps' : Planned) (end step : Option ℕ) → address_in a.key old ≡ None → a.key ≡ key → new ≡ put_in key_of a old → end ≡ end_date a → step ≡ next_step a
+      → Redated key end ends.dates ends'.dates → Redated key step steps.dates steps'.dates → ends'.room ≡ ends.room → steps'.room ≡ steps.room → IsPlanned new ends' steps'
+  came_planned key ends' steps' end step absent a_key new_is end_is step_is ended stepped' end_room step_room = record {
+    order = subst (Rises key_of) (sym new_is) (Rises-put key_of a old p.order absent);
+    end_dates = came_dates key_of key old new a end_date ends.dates ends'.dates a_key new_is p.end_dates (subst (λ (o : Option ℕ). Redated key o ends.dates ends'.dates) end_is ended);
+    step_dates = came_dates key_of key old new a next_step steps.dates steps'.dates a_key new_is p.step_dates (subst (λ (o : Option ℕ). Redated key o steps.dates steps'.dates) step_is stepped');
+    room_for_ends = subst (λ (n : ℕ). max_addresses ≤ n) (sym end_room) p.room_for_ends;
+    room_for_steps = subst (λ (n : ℕ). max_addresses ≤ n) (sym step_room) p.room_for_steps;
+  }

@@ -6,7 +6,7 @@ use crate::entry::Entry;
 use crate::link_local::link_local;
 use crate::transmits::Transmits;
 use nd_addr::Mac;
-use nd_table::Schedule;
+use nd_table::{Dated, Schedule};
 use std::alloc::{AllocError, Allocator};
 use std::marker::Model;
 
@@ -94,8 +94,10 @@ impl<A: Allocator> Addresses<A> {
         let mut ends = room.ends;
         let mut steps = room.steps;
         let addr = link_local(mac);
-        entries.push_reserved(Entry::link_local(addr, now, delay, retrans));
-        steps.put_in::<NextStep, _>(&entries, addr);
+        let entry = Entry::link_local(addr, now, delay, retrans);
+        let step = Dated::<NextStep>::date(&entry);
+        entries.push_reserved(entry);
+        steps.change(None, step, addr);
         Addresses {
             mac,
             transmits,

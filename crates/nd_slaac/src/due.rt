@@ -101,8 +101,7 @@ impl Dated<NextStep> for Entry {
     }
 }
 
-/// The first entry whose valid lifetime ends now goes; where there is none, the first whose detection has a step now
-/// takes it.
+/// Removes the first entry whose valid lifetime ends now. If there is none, the first whose detection has a step now takes it.
 pub(crate) fn turn_first<A: Allocator>(
     entries: &mut Vec<Entry, A>,
     ends: &mut Schedule<A>,
@@ -122,17 +121,17 @@ pub(crate) fn turn_first<A: Allocator>(
     ensures capacity { vec_capacity entries.new ≡ vec_capacity entries.old }
 {
     if let Some(i) = ends.first_at::<ValidEnd, _>(entries, now) {
-        let addr = entries[i].addr();
-        ends.take_out::<ValidEnd, _>(entries, addr);
-        steps.take_out::<NextStep, _>(entries, addr);
         let entry = entries.remove(i);
-        return Some(Due::End(entry.addr()));
+        let addr = entry.addr();
+        ends.change(Dated::<ValidEnd>::date(&entry), None, addr);
+        steps.change(Dated::<NextStep>::date(&entry), None, addr);
+        return Some(Due::End(addr));
     }
     let i = steps.first_at::<NextStep, _>(entries, now)?;
-    let addr = entries[i].addr();
-    steps.take_out::<NextStep, _>(entries, addr);
     let entry = &mut entries[i];
+    let addr = entry.addr();
+    let was = Dated::<NextStep>::date(entry);
     let due = entry.step(transmits, now);
-    steps.put_in::<NextStep, _>(entries, addr);
+    steps.change(was, Dated::<NextStep>::date(entry), addr);
     Some(due)
 }

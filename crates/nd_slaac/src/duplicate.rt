@@ -1,6 +1,8 @@
 ghost use Rattle.std.specs.Prelude.{◌≡◌, ℕ, List, Some, true, false, vec_len, vec_capacity};
 ghost use Rattle.nd_addr.specs.Number.{number_of};
 ghost use Rattle.nd_table.specs.Keyed.{Rises};
+ghost use Rattle.nd_table.specs.Dates.{AreDates};
+ghost use Rattle.nd_slaac.specs.Dates.{next_step};
 ghost use Rattle.nd_slaac.specs.Table.{address_in, key_of};
 ghost use Rattle.nd_slaac.specs.Calls.{Alters, failed, detects_in};
 
@@ -8,7 +10,7 @@ use crate::addresses::Addresses;
 use crate::due::NextStep;
 use crate::entry::Entry;
 use nd_addr::Addr;
-use nd_table::find;
+use nd_table::{Dated, Schedule, find};
 use std::alloc::Allocator;
 
 impl<A: Allocator> Addresses<A> {
@@ -18,8 +20,8 @@ impl<A: Allocator> Addresses<A> {
     ghost use Rattle.nd_slaac.specs.Calls.{detects_in};
     ghost use Rattle.nd_slaac.specs.MayCome.{MayCome};
 
-    /// Another node has an address, or tries for it. It answers whether the address was tentative, and is a duplicate
-    /// now; one that is assigned isn't touched (RFC 4862, sections 5.4.3 and 5.4.4).
+    /// Returns true if the address was tentative; it is now a duplicate, since another node has it or tries for it. An assigned address is
+    /// not changed (RFC 4862, sections 5.4.3 and 5.4.4).
     pub fn conflict(&mut self, addr: Addr) -> bool
         ensures value { result ≡ detects_in (address_in (number_of addr.0) self.old.addresses) }
         ensures tentative { (history : List Row) → Stands self.old.addresses history → result ≡ is_tentative (story (number_of addr.0) history) }
@@ -29,19 +31,23 @@ impl<A: Allocator> Addresses<A> {
         ensures mac { self.new.mac ≡ self.old.mac }
         ensures transmits { self.new.transmits ≡ self.old.transmits }
     {
-        self.steps.take_out::<NextStep, _>(&self.entries, addr);
-        let failed = fail(&mut self.entries, addr);
-        self.steps.put_in::<NextStep, _>(&self.entries, addr);
-        failed
+        fail(&mut self.entries, &mut self.steps, addr)
     }
 }
 
-/// Another node has an address, or tries for it: where its detection goes on, it fails.
-pub(crate) fn fail<A: Allocator>(entries: &mut Vec<Entry, A>, addr: Addr) -> bool
-    requires { Rises key_of entries.old.items }
+/// Another node has an address, or tries for it: its detection fails, if it has not ended.
+pub(crate) fn fail<A: Allocator>(
+    entries: &mut Vec<Entry, A>,
+    steps: &mut Schedule<A>,
+    addr: Addr,
+) -> bool
+    requires order { Rises key_of entries.old.items }
+    requires dates { AreDates key_of next_step steps.old.dates entries.old.items }
     ensures value { result ≡ detects_in (address_in (number_of addr.0) entries.old.items) }
     ensures alters { result ≡ true → Alters (number_of addr.0) failed entries.old.items entries.new.items }
     ensures same { result ≡ false → entries.new.items ≡ entries.old.items }
+    ensures dates { AreDates key_of next_step steps.new.dates entries.new.items }
+    ensures room { steps.new.room ≡ steps.old.room }
     ensures len { vec_len entries.new ≡ vec_len entries.old }
     ensures capacity { vec_capacity entries.new ≡ vec_capacity entries.old }
 {
@@ -52,6 +58,8 @@ pub(crate) fn fail<A: Allocator>(entries: &mut Vec<Entry, A>, addr: Addr) -> boo
     if !entry.is_detecting() {
         return false;
     }
+    let was = Dated::<NextStep>::date(entry);
     entry.fail();
+    steps.change(was, None, addr);
     true
 }

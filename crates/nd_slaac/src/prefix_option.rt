@@ -1,10 +1,12 @@
-ghost use Rattle.std.specs.Prelude.{◌≡◌, true, ◌<◌, ◌^◌, ◌∷◌, List, IsOk, IfSome, is_some, length, ◌≤◌, vec_len, vec_capacity, Ok};
+ghost use Rattle.std.specs.Prelude.{◌≡◌, true, ◌+◌, ◌<◌, ◌^◌, ◌∷◌, List, IsOk, IfSome, None, is_some, length, ◌≤◌, vec_len, vec_capacity, Ok};
 ghost use Rattle.nd_addr.specs.Number.{number_of};
 ghost use Rattle.nd_slaac.specs.PrefixOption.{is_taken, named_by, lifetimes_of};
 ghost use Rattle.nd_decode.specs.declared.prefix_info.PrefixInfo.{PrefixInfo};
 ghost use Rattle.nd_slaac.specs.Room.{max_addresses};
-ghost use Rattle.nd_table.specs.Keyed.{Rises};
+ghost use Rattle.std.specs.List.{insert};
+ghost use Rattle.nd_table.specs.Keyed.{place_of};
 ghost use Rattle.nd_slaac.specs.Table.{address_in, key_of};
+ghost use Rattle.nd_slaac.specs.Planned.{IsPlanned};
 ghost use Rattle.nd_slaac.specs.Calls.{taken_by, Changes};
 
 use crate::addresses::{Addresses, MAX_ADDRESSES};
@@ -12,7 +14,7 @@ use crate::due::{NextStep, ValidEnd};
 use crate::entry::Entry;
 use nd_addr::{Addr, Mac};
 use nd_decode::PrefixInfo;
-use nd_table::{find, put};
+use nd_table::{Addressed, Dated, Schedule, locate, put};
 use std::alloc::Allocator;
 
 /// What becomes of a prefix option (RFC 4862, section 5.5.3).
@@ -67,12 +69,16 @@ impl<A: Allocator> Addresses<A> {
             return Ok(Taken::Ignored);
         }
         let addr = named_by(info, self.mac);
-        self.ends.take_out::<ValidEnd, _>(&self.entries, addr);
-        self.steps.take_out::<NextStep, _>(&self.entries, addr);
-        let taken = take(&mut self.entries, now, addr, info, delay, retrans);
-        self.ends.put_in::<ValidEnd, _>(&self.entries, addr);
-        self.steps.put_in::<NextStep, _>(&self.entries, addr);
-        taken
+        take(
+            &mut self.entries,
+            &mut self.ends,
+            &mut self.steps,
+            now,
+            addr,
+            info,
+            delay,
+            retrans,
+        )
     }
 }
 
@@ -101,9 +107,11 @@ pub(crate) fn named_by(info: &PrefixInfo, mac: Mac) -> Addr
     Addr::from_mac(&info.prefix, mac)
 }
 
-/// An option that is taken, for the address that it names (RFC 4862, section 5.5.3 d and e).
+/// Renews or forms the address that an option names (RFC 4862, section 5.5.3 d and e).
 pub(crate) fn take<A: Allocator>(
     entries: &mut Vec<Entry, A>,
+    ends: &mut Schedule<A>,
+    steps: &mut Schedule<A>,
     now: u64,
     addr: Addr,
     info: &PrefixInfo,
@@ -111,25 +119,58 @@ pub(crate) fn take<A: Allocator>(
     retrans: u32,
 ) -> Result<Taken, Full>
     requires moment { now < 2 ^ 62 }
-    requires order { Rises key_of entries.old.items }
+    requires planned { IsPlanned entries.old.items ends.old steps.old }
     requires few { vec_len entries.old ≤ max_addresses }
     requires capacity { max_addresses ≤ vec_capacity entries.old }
     ensures value { result ≡ taken_by (is_some (address_in (number_of addr.0) entries.old.items)) info.now.valid_lifetime (length entries.old.items) }
     ensures changes { Changes now (number_of addr.0) (lifetimes_of info.now) delay retrans result entries.old.items entries.new.items }
+    ensures planned { IsPlanned entries.new.items ends.new steps.new }
     ensures few { vec_len entries.new ≤ max_addresses }
     ensures capacity { vec_capacity entries.new ≡ vec_capacity entries.old }
 {
-    if let Some(i) = find(entries, addr) {
-        let entry = &mut entries[i];
-        entry.announce(now, info);
-        return Ok(Taken::Renewed);
-    }
+    let at = match locate(entries, addr) {
+        Ok(i) => {
+            let entry = &mut entries[i];
+            let was = Dated::<ValidEnd>::date(entry);
+            entry.announce(now, info);
+            ends.change(was, Dated::<ValidEnd>::date(entry), addr);
+            return Ok(Taken::Renewed);
+        }
+        Err(at) => at,
+    };
     if info.valid_lifetime == 0 {
         return Ok(Taken::Ignored);
     }
     if entries.len() >= MAX_ADDRESSES {
         return Err(Full);
     }
-    put(entries, Entry::formed(addr, now, info, delay, retrans));
+    let entry = Entry::formed(addr, now, info, delay, retrans);
+    enter(entries, ends, steps, at, entry);
     Ok(Taken::Formed)
+}
+
+/// Adds an address, which belongs at place `at`, with its dates. There is room for it.
+pub(crate) fn enter<A: Allocator>(
+    entries: &mut Vec<Entry, A>,
+    ends: &mut Schedule<A>,
+    steps: &mut Schedule<A>,
+    at: usize,
+    entry: Entry,
+)
+    requires absent { address_in entry.key entries.old.items ≡ None }
+    requires at { at ≡ place_of key_of entry.key entries.old.items }
+    requires planned { IsPlanned entries.old.items ends.old steps.old }
+    requires few { vec_len entries.old < max_addresses }
+    requires capacity { max_addresses ≤ vec_capacity entries.old }
+    ensures items { entries.new.items ≡ insert entries.old.items (place_of key_of entry.key entries.old.items) entry }
+    ensures planned { IsPlanned entries.new.items ends.new steps.new }
+    ensures len { vec_len entries.new ≡ vec_len entries.old + 1 }
+    ensures capacity { vec_capacity entries.new ≡ vec_capacity entries.old }
+{
+    let addr = entry.addr();
+    let end = Dated::<ValidEnd>::date(&entry);
+    let step = Dated::<NextStep>::date(&entry);
+    put(entries, at, entry);
+    ends.change(None, end, addr);
+    steps.change(None, step, addr);
 }

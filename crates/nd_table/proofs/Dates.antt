@@ -1,5 +1,5 @@
 -- Dates that are kept in their order beside the entries that they are of.
-use Rattle.std.proofs.Common.{◌≡◌, ℕ, ◌+◌, ◌*◌, ◌^◌, ◌<◌, ◌≤◌, Bool, true, false, eqb, ltb, ◌&&◌, ◌||◌, List, [], ◌∷◌, length, get_or, Option, Some, None, refl, sym, ◌∙◌, ap, subst, arith, suc, zero, ◌⊎◌, inl, inr}
+use Rattle.std.proofs.Common.{◌≡◌, ℕ, ◌+◌, ◌*◌, ◌^◌, ◌<◌, ◌≤◌, Bool, true, false, eqb, ltb, ◌||◌, List, [], ◌∷◌, length, get_or, Option, Some, None, refl, sym, ◌∙◌, ap, subst, arith, suc, zero, ◌⊎◌, inl, inr}
 use Rattle.std.specs.Prelude.{slice_get, option_and_then, IfSome}
 use Rattle.std.specs.List.{insert, remove}
 use Rattle.std.proofs.lemmas.Bool.Decides.{nat_tests}
@@ -8,11 +8,11 @@ use Rattle.std.proofs.lemmas.Option.{slice_get-get_or}
 use Rattle.nd_table.specs.declared.date.Date.{Date}
 use Rattle.nd_table.specs.Keyed.{at_key, AllAbove, Rises, Unique}
 use Rattle.nd_table.specs.Due.{is_at, least_date, first_at, NotBefore}
-use Rattle.nd_table.specs.Dates.{rank, AllAddresses, is_date, has, without, without_any, with_any, first_moment, date_at, AreDates, AreDatesBut}
+use Rattle.nd_table.specs.Dates.{rank, AllAddresses, is_date, has, without, first_moment, date_at, AreDates, Redated}
 use Rattle.nd_table.proofs.Keyed.{key_is, above_at, Rises-unique, others, at_key-others, Unique-others, length-others, put_in, put_low, put_high}
 use Rattle.nd_table.proofs.Due.{AtMost, AtMost-some, AtMost-none, AtMost-same, due_now, due_has, due_least, none_due, least_at_most, least_unique}
 
-is_parts : (m k : ℕ) (d : Date) → is_date m k d ≡ true → (d.moment ≡ m) × (d.number ≡ k)
+pub is_parts : (m k : ℕ) (d : Date) → is_date m k d ≡ true → (d.moment ≡ m) × (d.number ≡ k)
 is_parts m k d h = (grind (arith, nat_tests, h), grind (arith, nat_tests, h))
 
 by_parts : (m k : ℕ) (d : Date) → d.moment ≡ m → d.number ≡ k → is_date m k d ≡ true
@@ -90,6 +90,13 @@ AllAddresses-remove [] zero h = tt
 AllAddresses-remove [] (suc i) h = tt
 AllAddresses-remove (d ∷ ds) zero h = h.1
 AllAddresses-remove (d ∷ ds) (suc i) h = (h.0, AllAddresses-remove ds i h.1)
+
+pub AllAddresses-without : (m k : ℕ) (ds : List Date) → AllAddresses ds → AllAddresses (without m k ds)
+AllAddresses-without m k [] h = tt
+AllAddresses-without m k (d ∷ ds) h = elim (cases_Bool (is_date m k d)) [
+  | inl here ↦ rw here h.1
+  | inr differ ↦ rw differ (h.0, AllAddresses-without m k ds h.1)
+]
 
 pub AllAddresses-insert : (ds : List Date) (i : ℕ) (d : Date) → AllAddresses ds → d.number < 2 ^ 128 → AllAddresses (insert ds i d)
 AllAddresses-insert [] zero d h fit = (fit, tt)
@@ -290,100 +297,29 @@ module _ {N : Type 0} (key : N → ℕ) (date : N → Option ℕ) where
           omega arith
 
   -- and fewer where the date of one isn't among them
-  pub fewer : (number : ℕ) (n : N) (ns : List N) (ds : List Date) → Rises rank ds → Unique key ns → AreDatesBut key date number ds ns → at_key key number ns ≡ Some n → suc (length ds) ≤ length ns
-  fewer number n ns ds r s but there =
+  pub fewer : (number : ℕ) (n : N) (ns : List N) (ds : List Date) → Rises rank ds → Unique key ns → ((moment : ℕ) → has moment number ds ≡ false)
+      → ((moment k : ℕ) → (number ≡ k → ⊥) → has moment k ds ≡ is_at moment (date_at key date k ns)) → at_key key number ns ≡ Some n → suc (length ds) ≤ length ns
+  fewer number n ns ds r s none stay there =
       let le : length ds ≤ length (others key number ns) = no_more (others key number ns) ds r (Unique-others key number ns s) (record { each = λ m k. goes m k }) in
       omega (arith, length-others key number n ns there)
     where
       goes : (m k : ℕ) → has m k ds ≡ is_at m (date_at key date k (others key number ns))
       goes m k = elim (cases_eq number k) [
         | inl same ↦ subst (λ (j : ℕ). has m j ds ≡ is_at m (date_at key date j (others key number ns))) same
-            (but.none m ∙ sym (ap (λ o. is_at m (option_and_then date o)) (at_key-others key number number ns
+            (none m ∙ sym (ap (λ o. is_at m (option_and_then date o)) (at_key-others key number number ns
             ∙ cond-true (eqb number number) None (at_key key number ns) (eq-eqb number number refl))))
-        | inr differ ↦ but.others m k differ ∙ sym (ap (λ o. is_at m (option_and_then date o)) (at_key-others key k number ns
+        | inr differ ↦ stay m k differ ∙ sym (ap (λ o. is_at m (option_and_then date o)) (at_key-others key k number ns
             ∙ cond-false (eqb number k) None (at_key key k ns) (ne_eqb number k differ)))
       ]
 
-  -- the same, of a place for one more
-  pub place_left : (number : ℕ) (ns : List N) (ds : List Date) (t room : ℕ) → Rises rank ds → Unique key ns → AreDatesBut key date number ds ns → date_at key date number ns ≡ Some t → length ns ≤ room → length ds < room
-  place_left number ns ds t room r s but is le = by_entry_there (at_key key number ns) refl is
-    where
-      by_entry_there : (o : Option N) → at_key key number ns ≡ o → option_and_then date o ≡ Some t → length ds < room
-      by_entry_there None there e = absurd (cc)
-      by_entry_there (Some n) there e = omega (arith, fewer number n ns ds r s but there, le)
-
-  -- the date of an entry is taken out
-  pub taken : (number : ℕ) (ds : List Date) (ns : List N) (t : ℕ) → Rises rank ds → AreDates key date ds ns → date_at key date number ns ≡ Some t → AreDatesBut key date number (without t number ds) ns
-  taken number ds ns t r are is = record {
-    none = λ m. elim (cases_eq t m) [
-      | inl now ↦ subst (λ (x : ℕ). has x number (without t number ds) ≡ false) now (has-without t number ds r)
-      | inr other ↦ has-without_other t number m number ds (λ x _. other x) ∙ (are.each m number ∙ (ap (is_at m) is ∙ ne_eqb t m other))
-    ];
-    others = λ m k differ. has-without_other t number m k ds (λ _ x. differ x) ∙ are.each m k;
-  }
-
-  pub none_taken : (number : ℕ) (ds : List Date) (ns : List N) → AreDates key date ds ns → date_at key date number ns ≡ None → AreDatesBut key date number ds ns
-  none_taken number ds ns are is = record {
-    none = λ m. are.each m number ∙ ap (is_at m) is;
-    others = λ m k differ. are.each m k;
-  }
-
-  -- and put in
-  pub put_back : (d : Date) (ds : List Date) (ns : List N) → AreDatesBut key date d.number ds ns → date_at key date d.number ns ≡ Some d.moment → AreDates key date (put_in rank d ds) ns
-  put_back d ds ns but is = record {
-    each = λ m k. has-put m k d ds ∙ elim (cases_eq d.number k) [
-      | inl same ↦ subst (λ (j : ℕ). (is_date m j d || has m j ds) ≡ is_at m (date_at key date j ns)) same (here m)
-      | inr differ ↦ ap (λ b. b || has m k ds) (no_part m k differ) ∙ but.others m k differ
-    ];
-  }
-    where
-      no_part : (m k : ℕ) → (d.number ≡ k → ⊥) → is_date m k d ≡ false
-      no_part m k differ = elim (cases_Bool (is_date m k d)) [
-        | inl here ↦ absurd (differ (is_parts m k d here).1)
-        | inr other ↦ other
-      ]
-
-      both : (b : Bool) → ((b && true) || false) ≡ b
-      both true = refl
-      both false = refl
-
-      alike : (m : ℕ) → eqb d.number d.number ≡ true → (is_date m d.number d || false) ≡ eqb d.moment m
-      alike m e = rw e (both (eqb d.moment m))
-
-      here : (m : ℕ) → (is_date m d.number d || has m d.number ds) ≡ is_at m (date_at key date d.number ns)
-      here m = rw (but.none m, is) (alike m (eq-eqb d.number d.number refl))
-
-  pub none_put : (number : ℕ) (ds : List Date) (ns : List N) → AreDatesBut key date number ds ns → date_at key date number ns ≡ None → AreDates key date ds ns
-  none_put number ds ns but is = record {
+  -- the dates are those of the entries still where no other entry's date has changed, and that of one number is the one that its entry has now
+  pub redated : (number : ℕ) (is : Option ℕ) (ds ds' : List Date) (old new : List N) → AreDates key date ds old → Redated number is ds ds' → ((k : ℕ) → (number ≡ k → ⊥) → date_at key date k new ≡ date_at key date k old) → date_at key date number new ≡ is → AreDates key date ds' new
+  redated number is ds ds' old new are change same now = record {
     each = λ m k. elim (cases_eq number k) [
-      | inl same ↦ subst (λ (j : ℕ). has m j ds ≡ is_at m (date_at key date j ns)) same (but.none m ∙ sym (ap (is_at m) is))
-      | inr differ ↦ but.others m k differ
+      | inl here ↦ subst (λ (j : ℕ). has m j ds' ≡ is_at m (date_at key date j new)) here (change.own m ∙ sym (ap (is_at m) now))
+      | inr differ ↦ change.others m k differ ∙ (are.each m k ∙ sym (ap (is_at m) (same k differ)))
     ];
   }
-
-  -- the same where a date may be missing
-  pub taken_any : (number : ℕ) (ds : List Date) (ns : List N) (o : Option ℕ) → Rises rank ds → AreDates key date ds ns → date_at key date number ns ≡ o → AreDatesBut key date number (without_any o number ds) ns
-  taken_any number ds ns None r are is = none_taken number ds ns are is
-  taken_any number ds ns (Some t) r are is = taken number ds ns t r are is
-
-  pub put_any : (number : ℕ) (ds : List Date) (ns : List N) (o : Option ℕ) → AreDatesBut key date number ds ns → date_at key date number ns ≡ o → AreDates key date (with_any o number ds) ns
-  put_any number ds ns None but is = none_put number ds ns but is
-  put_any number ds ns (Some t) but is = put_back (record { moment = t; number = number }) ds ns but is
-
-  -- entries of which no other date differs
-  pub changed_dates : (number : ℕ) (ds : List Date) (old new : List N) → ((k : ℕ) → (number ≡ k → ⊥) → date_at key date k new ≡ date_at key date k old) → AreDatesBut key date number ds old → AreDatesBut key date number ds new
-  changed_dates number ds old new same but = record { none = but.none; others = λ m k differ. but.others m k differ ∙ sym (ap (is_at m) (same k differ)) }
-
-  -- entries that differ from others by that of one number alone have the other dates of those
-  pub changed_but : (number : ℕ) (ds : List Date) (old new : List N) → ((k : ℕ) → (number ≡ k → ⊥) → at_key key k new ≡ at_key key k old) → AreDatesBut key date number ds old → AreDatesBut key date number ds new
-  changed_but number ds old new same but = record {
-    none = but.none;
-    others = λ m k differ. but.others m k differ ∙ sym (ap (λ o. is_at m (option_and_then date o)) (same k differ));
-  }
-
-  -- what a schedule says, seen by its fields, of the date of a number
-  pub but_inside : (inside ds : List Date) (ns : List N) (number k : ℕ) → inside ≡ ds → k ≡ number → AreDatesBut key date number ds ns → AreDatesBut key date k inside ns
-  but_inside inside ds ns number k e f but = subst (λ (j : ℕ). AreDatesBut key date j inside ns) (sym f) (subst (λ (l : List Date). AreDatesBut key date number l ns) (sym e) but)
 
   -- the first entry of this moment is that of the first date, if it is of this moment
   pub first_found : (now : ℕ) (ds : List Date) (ns : List N) (number : ℕ) → Rises rank ds → AllAddresses ds → Rises key ns → AreDates key date ds ns → IfSome (slice_get ds 0) (λ d. (d.moment ≡ now) × (d.number ≡ number)) → first_moment ds ≡ Some now → first_at date now ns ≡ at_key key number ns

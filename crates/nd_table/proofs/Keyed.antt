@@ -160,6 +160,12 @@ module _ {N : Type 0} (key : N → ℕ) where
       let at : eqb (key (get_or ns i n)) k ≡ true = ap (λ (m : N). eqb (key m) k) (sym is) ∙ here in
       sym rest ∙ (ap (at_key key k) (drop-cons ns i n lt) ∙ (cond-true (eqb (key (get_or ns i n)) k) (Some (get_or ns i n)) (at_key key k (drop (suc i) ns)) at ∙ sym (slice_get-get_or ns i n lt)))
 
+  -- the entry at the place that a search has found, in a list that is seen through a slice
+  pub found_is : (k : ℕ) (ns seen : List N) (i : ℕ) (n : N) → seen ≡ ns → i < length seen → at_key key k seen ≡ slice_get seen i → n ≡ get_or ns i n → at_key key k ns ≡ Some n
+  found_is k ns seen i n same lt found is =
+      let within : i < length ns = subst (λ (l : List N). i < length l) same lt in
+      subst (λ (l : List N). at_key key k l ≡ slice_get l i) same found ∙ (slice_get-get_or ns i n within ∙ ap Some (sym is))
+
   -- what a look-up finds stands at a place
   pub place_found : (k : ℕ) (ns : List N) (n : N) → at_key key k ns ≡ Some n → (i : ℕ) × (i < length ns) × (n ≡ get_or ns i n)
   place_found k [] n is = absurd (cc)
@@ -174,3 +180,27 @@ module _ {N : Type 0} (key : N → ℕ) where
   pub place_of-le : (k : ℕ) (ns : List N) → place_of key k ns ≤ length ns
   place_of-le k [] = omega arith
   place_of-le k (n ∷ ns) = let rest : place_of key k ns ≤ length ns = place_of-le k ns in grind (arith, nat_tests, rest)
+
+  none_lower : (k low : ℕ) (ns : List N) → k ≤ low → AllAbove key low ns → place_of key k ns ≡ 0
+  none_lower k low [] le h = refl
+  none_lower k low (n ∷ ns) le h = let above = h.0 in grind (arith, nat_tests, above, le)
+
+  -- where a number belongs once an entry before its place has gone, and one from there on
+  pub place_of-remove_low : (k : ℕ) (ns : List N) (i : ℕ) (d : N) → Rises key ns → i < length ns → key (get_or ns i d) < k → place_of key k ns ≡ suc (place_of key k (remove ns i))
+  place_of-remove_low k [] i d r lt low = absurd (omega arith)
+  place_of-remove_low k (n ∷ ns) zero d r lt low = grind (arith, nat_tests, low)
+  place_of-remove_low k (n ∷ ns) (suc i) d r lt low =
+      let above : key n < key (get_or ns i d) = above_at (key n) ns i d r.0 (omega arith) in
+      grind (arith, nat_tests, above, low, place_of-remove_low k ns i d r.1 (omega arith) low)
+
+  pub place_of-remove_high : (k : ℕ) (ns : List N) (i : ℕ) (d : N) → Rises key ns → i < length ns → k < key (get_or ns i d) → place_of key k (remove ns i) ≡ place_of key k ns
+  place_of-remove_high k [] i d r lt high = absurd (omega arith)
+  place_of-remove_high k (n ∷ ns) zero d r lt high =
+      let none : place_of key k ns ≡ 0 = none_lower k (key n) ns (omega arith) r.0 in
+      grind (arith, nat_tests, high, none)
+  place_of-remove_high k (n ∷ ns) (suc i) d r lt high = grind (arith, nat_tests, place_of-remove_high k ns i d r.1 (omega arith) high)
+
+  -- what is at a place isn't absent
+  pub found_absent : (k : ℕ) (ns : List N) (i : ℕ) → i < length ns → at_key key k ns ≡ slice_get ns i → at_key key k ns ≡ None → ⊥
+  found_absent k [] i lt found none = omega arith
+  found_absent k (n ∷ ns) i lt found none = let e : Some (get_or (n ∷ ns) i n) ≡ None = sym (slice_get-get_or (n ∷ ns) i n lt) ∙ (sym found ∙ none) in absurd (cc)

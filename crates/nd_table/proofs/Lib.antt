@@ -1,6 +1,9 @@
 pub mod Keyed
 pub mod Dates
 pub mod Searching
+pub mod Moving
+pub mod Replacing
+pub mod Redating
 pub mod Stays
 pub mod Unique
 pub mod Due

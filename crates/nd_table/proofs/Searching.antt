@@ -46,6 +46,15 @@ module _ {N : Type 0} (key : N → ℕ) (k : ℕ) where
     | inr high ↦ rw high at h
   ]
 
+  -- the same of the entry at a place, as a look at it gives it
+  pub seen_low : (ns : List N) (i : ℕ) (n : N) → n ≡ get_or ns i n → i < length ns → Rises key ns → key n < k → suc i ≤ place_of key k ns
+  seen_low ns i n is lt r low = place_above ns i n r lt (subst (λ (m : N). key m < k) is low)
+
+  pub seen_high : (ns : List N) (i : ℕ) (n : N) → n ≡ get_or ns i n → i < length ns → Rises key ns → k < key n → (place_of key k ns ≤ i) × (at_key key k (drop i ns) ≡ None)
+  seen_high ns i n is lt r high =
+      let above : k < key (get_or ns i n) = subst (λ (m : N). k < key m) is high in
+      (place_below ns i n lt above, none_from ns i n r lt above)
+
   -- the entry that was looked at is found
   pub found_at : (ns : List N) (i : ℕ) (n : N) → Rises key ns → i < length ns → n ≡ get_or ns i n → key n ≡ k → at_key key k ns ≡ slice_get ns i
   found_at ns i n r lt is same =

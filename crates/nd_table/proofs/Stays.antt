@@ -5,9 +5,10 @@ use Rattle.std.specs.List.{remove}
 use Rattle.std.proofs.lemmas.Bool.{cond-true, cond-false, ne_eqb, eq-eqb, cases_eq}
 use Rattle.nd_table.specs.declared.date.Date.{Date}
 use Rattle.nd_table.specs.Keyed.{at_key, Rises}
-use Rattle.nd_table.specs.Dates.{date_at, AreDates, AreDatesBut}
+use Rattle.nd_table.specs.Due.{is_at}
+use Rattle.nd_table.specs.Dates.{has, date_at, AreDates, Redated}
 use Rattle.nd_table.proofs.Keyed.{at_place, put_in, at_key-set, Rises-set, at_key-put, at_key-remove, Rises-remove}
-use Rattle.nd_table.proofs.Dates.{changed_but, none_put, none_taken, same_dates}
+use Rattle.nd_table.proofs.Dates.{redated, same_dates}
 
 module _ {N : Type 0} (key : N → ℕ) where
   abbrev pub OthersStay : ℕ → List N → List N → Type 0
@@ -40,23 +41,38 @@ module _ {N : Type 0} (key : N → ℕ) where
     pub removed : new ≡ remove old i → at_key key k new ≡ None
     removed new_is = look k new_is ∙ cond-true (eqb (key (get_or old i n)) k) None (at_key key k old) (eq-eqb (key (get_or old i n)) k here)
 
-    -- the dates without that of an entry that goes are those of the others
-    pub gone_dates : (date : N → Option ℕ) (ds : List Date) → new ≡ remove old i → AreDatesBut key date k ds old → AreDates key date ds new
-    gone_dates date ds new_is but = none_put key date k ds new (changed_but key date k ds old new (remove_others new_is) but) (ap (option_and_then date) (removed new_is))
+    there : at_key key k old ≡ Some n
+    there = ap (λ j. at_key key j old) (sym n_key) ∙ at_place key old i n r lt is
+
+    module _ (date : N → Option ℕ) (ds ds' : List Date) (are : AreDates key date ds old) where
+      -- the dates have that of the entry at the place
+      pub own_date : (moment : ℕ) → has moment k ds ≡ is_at moment (date n)
+      own_date moment = are.each moment k ∙ ap (λ (o : Option N). is_at moment (option_and_then date o)) there
+
+      -- the dates are those of the entries after the entry has changed, and its date with it
+      pub set_dates : (m : N) → key m ≡ k → new ≡ set old i m → Redated k (date m) ds ds' → AreDates key date ds' new
+      set_dates m m_key new_is change = redated key date k (date m) ds ds' old new are change
+          (λ j differ. ap (option_and_then date) (set_others m m_key new_is j differ))
+          (ap (option_and_then date) (ap (at_key key k) new_is ∙ (at_key-set key k old i m n r lt (here ∙ sym m_key) ∙ cond-true (eqb (key m) k) (Some m) (at_key key k old) (eq-eqb (key m) k m_key))))
+
+      -- and after it has gone
+      pub gone_dates : new ≡ remove old i → Redated k None ds ds' → AreDates key date ds' new
+      gone_dates new_is change = redated key date k None ds ds' old new are change
+          (λ j differ. ap (option_and_then date) (remove_others new_is j differ)) (ap (option_and_then date) (removed new_is))
 
   pub put_others : (k : ℕ) (old new : List N) (m : N) → key m ≡ k → new ≡ put_in key m old → OthersStay k old new
   put_others k old new m m_key new_is j differ =
       ap (at_key key j) new_is ∙ (at_key-put key j m old ∙ cond-false (eqb (key m) j) (Some m) (at_key key j old) (ne_eqb (key m) j (λ e. differ (sym m_key ∙ e))))
 
-  -- the dates are those of the others where an entry has come
-  pub came_dates : (k : ℕ) (old new : List N) (m : N) (date : N → Option ℕ) (ds : List Date) → at_key key k old ≡ None → key m ≡ k → new ≡ put_in key m old → AreDates key date ds old → AreDatesBut key date k ds new
-  came_dates k old new m date ds absent m_key new_is are =
-      changed_but key date k ds old new (put_others k old new m m_key new_is) (none_taken key date k ds old are (ap (option_and_then date) absent))
+  -- no date is there of an entry that isn't
+  pub no_date : (k : ℕ) (old : List N) (date : N → Option ℕ) (ds : List Date) → at_key key k old ≡ None → AreDates key date ds old → (moment : ℕ) → has moment k ds ≡ is_at moment None
+  no_date k old date ds absent are moment = are.each moment k ∙ ap (λ (o : Option N). is_at moment (option_and_then date o)) absent
 
-  -- the same, seen through slices
-  pub but_after : (date : N → Option ℕ) (k : ℕ) (ds : List Date) (seen old seen_then new : List N) → seen ≡ old → seen_then ≡ new → OthersStay k old new → AreDatesBut key date k ds seen → AreDatesBut key date k ds seen_then
-  but_after date k ds seen old seen_then new e f stay but =
-      subst (AreDatesBut key date k ds) (sym f) (changed_but key date k ds old new stay (subst (AreDatesBut key date k ds) e but))
+  -- the dates are those of the entries after one has come, and its date with it
+  pub came_dates : (k : ℕ) (old new : List N) (m : N) (date : N → Option ℕ) (ds ds' : List Date) → key m ≡ k → new ≡ put_in key m old → AreDates key date ds old → Redated k (date m) ds ds' → AreDates key date ds' new
+  came_dates k old new m date ds ds' m_key new_is are change = redated key date k (date m) ds ds' old new are change
+      (λ j differ. ap (option_and_then date) (put_others k old new m m_key new_is j differ))
+      (ap (option_and_then date) (ap (at_key key k) new_is ∙ (at_key-put key k m old ∙ cond-true (eqb (key m) k) (Some m) (at_key key k old) (eq-eqb (key m) k m_key))))
 
   -- where an entry that changes keeps its date, the dates stay
   pub kept_dates : (k : ℕ) (old new : List N) (i : ℕ) (n m : N) (date : N → Option ℕ) (ds : List Date) → Rises key old → i < length old → n ≡ get_or old i n → key n ≡ k → key m ≡ k → date m ≡ date n → new ≡ set old i m → AreDates key date ds old → AreDates key date ds new

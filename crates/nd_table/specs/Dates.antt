@@ -1,5 +1,5 @@
 -- The dates of entries, kept in their order beside them.
-use Rattle.std.specs.Prelude.{◌≡◌, ℕ, ◌+◌, ◌*◌, ◌^◌, ◌<◌, Bool, false, ◌&&◌, ◌==◌, if◌then◌else◌, List, [], ◌∷◌, Option, Some, None, option_and_then}
+use Rattle.std.specs.Prelude.{◌≡◌, ℕ, ◌+◌, ◌*◌, ◌^◌, ◌<◌, Bool, ◌&&◌, ◌==◌, if◌then◌else◌, List, [], ◌∷◌, Option, Some, None, option_and_then}
 use Rattle.std.specs.List.{list_any, insert}
 use Rattle.nd_table.specs.declared.date.Date.{Date}
 use Rattle.nd_table.specs.Keyed.{at_key, place_of}
@@ -27,14 +27,14 @@ abbrev pub without : ℕ → ℕ → List Date → List Date
 without moment number [] = []
 without moment number (d ∷ ds) = if is_date moment number d then ds else d ∷ without moment number ds
 
--- the dates without that of a number, and with it, if there is one
-abbrev pub without_any : Option ℕ → ℕ → List Date → List Date
-without_any None number ds = ds
-without_any (Some moment) number ds = without moment number ds
+-- the dates with one more in its place
+abbrev pub put_date : Date → List Date → List Date
+put_date d ds = insert ds (place_of rank (rank d) ds) d
 
-abbrev pub with_any : Option ℕ → ℕ → List Date → List Date
-with_any None number ds = ds
-with_any (Some moment) number ds = insert ds (place_of rank (rank (record { moment = moment; number = number })) ds) (record { moment = moment; number = number })
+-- the date of one number is this one now, if there is one, and all others are as they were
+pub record Redated (number : ℕ) (date : Option ℕ) (old new : List Date) : Type 0 where
+  pub own : (moment : ℕ) → has moment number new ≡ is_at moment date
+  pub others : (moment k : ℕ) → (number ≡ k → ⊥) → has moment k new ≡ has moment k old
 
 -- the moment of the first
 abbrev pub first_moment : List Date → Option ℕ
@@ -54,8 +54,3 @@ module _ {N : Type 0} (key : N → ℕ) (date : N → Option ℕ) where
   -- the dates are those of the entries
   pub record AreDates (ds : List Date) (ns : List N) : Type 0 where
     pub each : (moment k : ℕ) → has moment k ds ≡ is_at moment (date_at k ns)
-
-  -- the same, but for the entry of one number, whose date isn't among them
-  pub record AreDatesBut (number : ℕ) (ds : List Date) (ns : List N) : Type 0 where
-    pub none : (moment : ℕ) → has moment number ds ≡ false
-    pub others : (moment k : ℕ) → (number ≡ k → ⊥) → has moment k ds ≡ is_at moment (date_at k ns)

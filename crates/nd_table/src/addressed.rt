@@ -1,27 +1,28 @@
 ghost use Rattle.std.specs.Prelude.{◌≡◌, ℕ};
 ghost use Rattle.nd_addr.specs.Number.{number_of};
 
-use crate::order::compare;
 use crate::ranked::Ranked;
 use nd_addr::Addr;
 use std::cmp::Ordering;
 
 /// An entry of a table, which is found by its address.
 pub trait Addressed {
-    /// The number that its address is.
+    /// Its address as a number.
     ghost key: { Self → ℕ };
 
-    /// Its address.
+    /// Returns its address.
     fn addr(&self) -> Addr
         ensures { number_of result.0 ≡ key self.now };
 }
 
-impl<E: Addressed> Ranked<Addr> for E {
+/// Entries are searched for by the number of an address, which the caller makes once.
+impl<E: Addressed> Ranked<u128> for E {
     ghost key = { E.key };
 
-    ghost number = { λ a. number_of a.0 };
+    ghost number = { λ n. n };
 
-    fn compare(&self, sought: &Addr) -> Ordering {
-        compare(self.addr(), *sought)
+    fn compare(&self, sought: &u128) -> Ordering {
+        let sought = *sought;
+        self.addr().to_bits().cmp(&sought)
     }
 }

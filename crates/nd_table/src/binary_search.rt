@@ -1,16 +1,16 @@
 ghost use Rattle.std.specs.Prelude.{◌≡◌, ◌<◌, ◌≤◌, ◌+◌, length, slice_get, IfOk, IfErr, None};
 ghost use Rattle.nd_table.specs.Keyed.{at_key, Rises, place_of, binary_digits};
 
-use crate::probes::Probes;
+use crate::probes::Counter;
 use crate::ranked::Ranked;
 use std::cmp::Ordering;
 
-/// The place of a key in a list in the order of keys, or the place where it belongs. It looks at no more entries than their number has
-/// binary digits.
-pub fn search<K, E: Ranked<K>>(
+/// Returns the place of a key in a list in the order of keys, or the place where it belongs. It looks at no more entries than their
+/// number has binary digits, and counts each in `probes`.
+pub fn search<K, E: Ranked<K>, C: Counter>(
     entries: &[E],
     sought: &K,
-    probes: &mut Probes,
+    probes: &mut C,
 ) -> Result<usize, usize>
     requires { Rises E.key entries.now }
     ensures within { IfOk result (λ i. i < length entries.now) }
@@ -18,8 +18,8 @@ pub fn search<K, E: Ranked<K>>(
     ensures absent { IfErr result (λ _. at_key E.key (E.number sought.now) entries.now ≡ None) }
     ensures place { IfErr result (λ i. i ≡ place_of E.key (E.number sought.now) entries.now) }
     ensures fits { IfErr result (λ i. i ≤ length entries.now) }
-    ensures looks { probes.new.looks ≤ probes.old.looks + binary_digits (length entries.now) }
-    ensures counts { probes.old.looks ≤ probes.new.looks }
+    ensures looks { C.count probes.new ≤ C.count probes.old + binary_digits (length entries.now) }
+    ensures counts { C.count probes.old ≤ C.count probes.new }
 {
     let mut low = 0;
     let mut high = entries.len();

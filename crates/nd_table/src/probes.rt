@@ -1,4 +1,15 @@
-ghost use Rattle.std.specs.Prelude.{◌≡◌, ◌≤◌, ◌+◌};
+ghost use Rattle.std.specs.Prelude.{◌≡◌, ℕ, ◌≤◌, ◌+◌};
+
+/// What counts the entries that a search looks at.
+pub trait Counter {
+    /// How many it has counted.
+    ghost count: { Self → ℕ };
+
+    /// Counts one more entry.
+    fn look(&mut self)
+        ensures more { count self.new ≤ count self.old + 1 }
+        ensures kept { count self.old ≤ count self.new };
+}
 
 /// How many entries a search has looked at. The count stops at the greatest number.
 #[derive(Clone, Copy, Debug, PartialEq, Eq)]
@@ -7,20 +18,30 @@ pub struct Probes {
 }
 
 impl Probes {
-    /// None yet.
+    /// Returns a count of none.
     pub fn new() -> Self
         ensures { result.looks ≡ 0 }
     {
         Probes { looks: 0 }
     }
+}
 
-    /// One more entry is looked at.
-    pub(crate) fn look(&mut self)
-        ensures more { self.new.looks ≤ self.old.looks + 1 }
-        ensures kept { self.old.looks ≤ self.new.looks }
-    {
+impl Counter for Probes {
+    ghost count = { λ p. p.looks };
+
+    fn look(&mut self) {
         if self.looks < u64::MAX {
             self.looks += 1;
         }
     }
+}
+
+/// For a search whose looks nobody asks for.
+#[derive(Clone, Copy)]
+pub(crate) struct Uncounted;
+
+impl Counter for Uncounted {
+    ghost count = { λ _. 0 };
+
+    fn look(&mut self) {}
 }

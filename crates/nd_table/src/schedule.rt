@@ -1,22 +1,22 @@
-ghost use Rattle.std.specs.Prelude.{◌≡◌, ◌≢◌, ℕ, false, ◌<◌, ◌≤◌, ◌+◌, ◌^◌, [], length, slice_get, IfOk, IfSome, IfNone, Some, None, vec_len, vec_capacity};
+ghost use Rattle.std.specs.Prelude.{◌≡◌, ◌≢◌, ℕ, true, ◌<◌, ◌≤◌, ◌+◌, ◌^◌, [], length, slice_get, IfOk, IfSome, IfNone, Some, None, vec_len, vec_capacity};
 ghost use Rattle.std.specs.List.{insert};
 ghost use Rattle.nd_addr.specs.Number.{number_of};
 ghost use Rattle.nd_table.specs.Keyed.{at_key, Rises, place_of};
-ghost use Rattle.nd_table.specs.Due.{first_at, least_date, NotBefore};
-ghost use Rattle.nd_table.specs.Dates.{rank, AllAddresses, has, without, without_any, with_any, first_moment, date_at, AreDates, AreDatesBut};
+ghost use Rattle.nd_table.specs.Due.{first_at, is_at, least_date, NotBefore};
+ghost use Rattle.nd_table.specs.Dates.{rank, AllAddresses, has, without, put_date, first_moment, AreDates, Redated};
 
 use crate::addressed::Addressed;
 use crate::binary_search::search;
 use crate::date::Date;
 use crate::dated::Dated;
-use crate::probes::Probes;
+use crate::probes::Uncounted;
 use crate::table::find;
 use nd_addr::Addr;
 use std::alloc::{AllocError, Allocator};
 use std::marker::Model;
 
-/// The dates of the entries of a table, in their order, so that none has to be searched for what falls due. A table keeps it beside its
-/// entries: before one of them changes its date is taken out, and afterwards the new one is put in.
+/// The dates of the entries of a table, in their order, so that what falls due next is the first of them. A table keeps it beside its
+/// entries, and reports each date of an entry that comes, changes or goes.
 #[derive(Drop)]
 pub struct Schedule<A: Allocator> {
     dates: Vec<Date, A>,
@@ -35,7 +35,7 @@ impl<A: Allocator> Model for Schedule<A> {
 }
 
 impl<A: Allocator> Schedule<A> {
-    /// No dates, with room for so many. All of it is reserved here; the error is want of memory.
+    /// Returns an empty schedule with room for `room` dates, all of it reserved here. The error is out of memory.
     pub fn new(alloc: A, room: usize) -> Result<Self, AllocError>
         ensures none { IfOk result (λ schedule. schedule.dates ≡ []) }
         ensures room { IfOk result (λ schedule. room ≤ schedule.room) }
@@ -45,7 +45,7 @@ impl<A: Allocator> Schedule<A> {
         })
     }
 
-    /// The moment of the first date, in milliseconds.
+    /// Returns the moment of the first date, in milliseconds.
     pub fn next(&self) -> Option<u64>
         ensures moment { result ≡ first_moment self.now.dates }
         ensures order { Rises rank self.now.dates }
@@ -57,7 +57,7 @@ impl<A: Allocator> Schedule<A> {
         }
     }
 
-    /// The place of the first entry for which something falls due at the moment, in milliseconds. Nothing fell due before it.
+    /// Returns the place of the first entry that is due at `now`, in milliseconds. No entry was due before it.
     pub fn first_at<K, E: Addressed + Dated<K>>(&self, entries: &[E], now: u64) -> Option<usize>
         requires order { Rises E.key entries.now }
         requires dates { AreDates E.key E.date self.now.dates entries.now }
@@ -72,32 +72,7 @@ impl<A: Allocator> Schedule<A> {
         find(entries, addr)
     }
 
-    /// Takes out the date of an entry, if it is there and has one.
-    pub fn take_out<K, E: Addressed + Dated<K>>(&mut self, entries: &[E], addr: Addr)
-        requires order { Rises E.key entries.now }
-        requires dates { AreDates E.key E.date self.old.dates entries.now }
-        ensures dates { AreDatesBut E.key E.date (number_of addr.0) self.new.dates entries.now }
-        ensures room { self.new.room ≡ self.old.room }
-    {
-        if let Some(moment) = date_of::<K, E>(entries, addr) {
-            take(&mut self.dates, Date::new(moment, addr));
-        }
-    }
-
-    /// Puts in the date of an entry, if it is there and has one.
-    pub fn put_in<K, E: Addressed + Dated<K>>(&mut self, entries: &[E], addr: Addr)
-        requires order { Rises E.key entries.now }
-        requires dates { AreDatesBut E.key E.date (number_of addr.0) self.old.dates entries.now }
-        requires room { length entries.now ≤ self.old.room }
-        ensures dates { AreDates E.key E.date self.new.dates entries.now }
-        ensures room { self.new.room ≡ self.old.room }
-    {
-        if let Some(moment) = date_of::<K, E>(entries, addr) {
-            put(&mut self.dates, Date::new(moment, addr));
-        }
-    }
-
-    /// The address of the first date, if that is of this moment, in milliseconds.
+    /// Returns the address of the first date, if that is at `now`, in milliseconds.
     pub fn first_due(&self, now: u64) -> Option<Addr>
         ensures here { IfSome result (λ addr. IfSome (slice_get self.now.dates 0) (λ d. (d.moment ≡ now) × (d.number ≡ number_of addr.0))) }
         ensures some { IfSome result (λ _. first_moment self.now.dates ≡ Some now) }
@@ -108,27 +83,25 @@ impl<A: Allocator> Schedule<A> {
         first_due(&self.dates, now)
     }
 
-    /// Takes out a date of an address, if there is one.
-    pub fn take_date(&mut self, date: Option<u64>, addr: Addr)
-        ensures dates { self.new.dates ≡ without_any date (number_of addr.0) self.old.dates }
-        ensures room { self.new.room ≡ self.old.room }
-        ensures order { Rises rank self.new.dates }
-        ensures was { Rises rank self.old.dates }
-    {
-        if let Some(moment) = date {
-            take(&mut self.dates, Date::new(moment, addr));
-        }
-    }
-
-    /// Puts in a date of an address that has none, if there is one. There is room for it.
-    pub fn put_date(&mut self, date: Option<u64>, addr: Addr)
-        requires none { (moment : ℕ) → has moment (number_of addr.0) self.old.dates ≡ false }
-        requires room { IfSome date (λ _. length self.old.dates < self.old.room) }
-        ensures dates { self.new.dates ≡ with_any date (number_of addr.0) self.old.dates }
+    /// Changes the date of an address from `was` to `date`, in milliseconds, either of which may be missing. A date that stays is not
+    /// touched, and one that changes moves only the dates between its old place and its new one. There is room for one that comes.
+    pub fn change(&mut self, was: Option<u64>, date: Option<u64>, addr: Addr)
+        requires was { (moment : ℕ) → has moment (number_of addr.0) self.old.dates ≡ is_at moment was }
+        requires room { IfNone was (IfSome date (λ _. Rises rank self.old.dates → length self.old.dates < self.old.room)) }
+        ensures dates { Redated (number_of addr.0) date self.old.dates self.new.dates }
         ensures room { self.new.room ≡ self.old.room }
     {
-        if let Some(moment) = date {
-            put(&mut self.dates, Date::new(moment, addr));
+        match (was, date) {
+            (None, None) => {}
+            (None, Some(moment)) => put(&mut self.dates, Date::new(moment, addr)),
+            (Some(moment), None) => take(&mut self.dates, Date::new(moment, addr)),
+            (Some(before), Some(moment)) => {
+                if before != moment {
+                    let old = Date::new(before, addr);
+                    let new = Date::new(moment, addr);
+                    replace(&mut self.dates, old, new);
+                }
+            }
         }
     }
 
@@ -141,7 +114,7 @@ impl<A: Allocator> Schedule<A> {
     }
 }
 
-/// The address of the first date, if that is of this moment.
+/// Returns the address of the first date, if that is at `now`.
 fn first_due(dates: &[Date], now: u64) -> Option<Addr>
     ensures here { IfSome result (λ addr. IfSome (slice_get dates.now 0) (λ d. (d.moment ≡ now) × (d.number ≡ number_of addr.0))) }
     ensures some { IfSome result (λ _. first_moment dates.now ≡ Some now) }
@@ -153,16 +126,7 @@ fn first_due(dates: &[Date], now: u64) -> Option<Addr>
     }
 }
 
-/// The date of an entry that may be there.
-fn date_of<K, E: Addressed + Dated<K>>(entries: &[E], addr: Addr) -> Option<u64>
-    requires { Rises E.key entries.now }
-    ensures { result ≡ date_at E.key E.date (number_of addr.0) entries.now }
-{
-    let i = find(entries, addr)?;
-    entries[i].date()
-}
-
-/// Takes out a date, if it is there.
+/// Takes out a date that is there.
 fn take<A: Allocator>(dates: &mut Vec<Date, A>, date: Date)
     requires order { Rises rank dates.old.items }
     requires addresses { AllAddresses dates.old.items }
@@ -171,7 +135,7 @@ fn take<A: Allocator>(dates: &mut Vec<Date, A>, date: Date)
     ensures addresses { AllAddresses dates.new.items }
     ensures capacity { vec_capacity dates.new ≡ vec_capacity dates.old }
 {
-    if let Ok(at) = search(dates, &date, &mut Probes::new()) {
+    if let Ok(at) = search(dates, &date, &mut Uncounted) {
         let _ = dates.remove(at);
     }
 }
@@ -183,15 +147,42 @@ fn put<A: Allocator>(dates: &mut Vec<Date, A>, date: Date)
     requires address { date.number < 2 ^ 128 }
     requires absent { at_key rank (rank date) dates.old.items ≡ None }
     requires room { vec_len dates.old < vec_capacity dates.old }
-    ensures items { dates.new.items ≡ insert dates.old.items (place_of rank (rank date) dates.old.items) date }
+    ensures items { dates.new.items ≡ put_date date dates.old.items }
     ensures addresses { AllAddresses dates.new.items }
     ensures capacity { vec_capacity dates.new ≡ vec_capacity dates.old }
 {
-    let Err(at) = search(dates, &date, &mut Probes::new()) else {
+    let Err(at) = search(dates, &date, &mut Uncounted) else {
         unreachable!()
     };
     match dates.insert(at, date) {
         Ok(()) => {}
         Err(_) => unreachable!(),
+    }
+}
+
+/// Puts a date that isn't there in place of one that is, and moves the dates between their places.
+fn replace<A: Allocator>(dates: &mut Vec<Date, A>, old: Date, new: Date)
+    requires order { Rises rank dates.old.items }
+    requires addresses { AllAddresses dates.old.items }
+    requires old_address { old.number < 2 ^ 128 }
+    requires new_address { new.number < 2 ^ 128 }
+    requires there { has old.moment old.number dates.old.items ≡ true }
+    requires absent { at_key rank (rank new) dates.old.items ≡ None }
+    ensures items { dates.new.items ≡ put_date new (without old.moment old.number dates.old.items) }
+    ensures addresses { AllAddresses dates.new.items }
+    ensures capacity { vec_capacity dates.new ≡ vec_capacity dates.old }
+{
+    let Ok(from) = search(dates, &old, &mut Uncounted) else {
+        unreachable!()
+    };
+    let Err(to) = search(dates, &new, &mut Uncounted) else {
+        unreachable!()
+    };
+    if from < to {
+        dates.copy_within(from + 1..to, from);
+        dates[to - 1] = new;
+    } else {
+        dates.copy_within(to..from, to + 1);
+        dates[to] = new;
     }
 }

@@ -1,15 +1,11 @@
-use Rattle.std.proofs.Common.{◌≡◌, ◌<◌, ◌≤◌, ◌∙◌, List, length, ap, subst, sym, arith}
+use Rattle.std.proofs.Common.{◌≡◌, ◌<◌, ◌∙◌, List, length, ap, subst, sym}
 use Rattle.std.specs.Prelude.{slice_get}
 use Rattle.std.specs.List.{remove}
-use Rattle.std.proofs.Math.ListN.{length-set}
 use Rattle.nd_addr.specs.Number.{number_of}
-use Rattle.nd_table.specs.Dates.{AreDates, AreDatesBut}
-use Rattle.nd_table.proofs.Stays.{but_after}
 use Rattle.nd_neighbour.specs.Entry.{Node}
-use Rattle.nd_neighbour.specs.Table.{address, Rises}
-use Rattle.nd_neighbour.specs.Due.{due_in, date_of}
+use Rattle.nd_neighbour.specs.Due.{due_in}
 use Rattle.nd_neighbour.proofs.Turns.{went, stayed}
-use Rattle.nd_neighbour.proofs.Planning.{seen_key, removed_planned, turned_rises, turned_others, unturned}
+use Rattle.nd_neighbour.proofs.Planning.{goes_date, removed_planned, turned_planned, unturned, no_room}
 use Rattle.nd_neighbour.proofs.due.turn_first.Goals as goal
 
 pub returns-in-Some-clause-turns : goal.returns-in-Some-clause-turns
@@ -29,50 +25,40 @@ returns-clause-turns g c =
     went c.args.now old i c.index_mut-entry.result.now c.solicit.new.self c.remove-entry.result _ _ within first
     c.index_mut-entry.ensures.value c.solicit.ensures.entry c.in_default.ensures.none c.remove-entry.ensures.value c.end.ensures c.remove-entry.ensures.items
 
-pub put_in-requires-clause-order : goal.put_in-requires-clause-order
-put_in-requires-clause-order g c =
+pub change-requires-clause-was : goal.change-requires-clause-was
+change-requires-clause-was g c =
     let i = c.in_ok-i.i in
     let old = c.args.entries.now.items in
     let n = c.index_mut-entry.result.now in
-    let key = number_of c.addr-addr.result.0 in
     let within : i < length old = subst (λ (l : List Node). i < length l) c.deref.ensures.value c.in_ok-i.ensures.within in
-    subst Rises (sym c.deref-in-Some.ensures.value)
-    (turned_rises c.args.now key i old n c.solicit.new.self c.requires.planned.order within c.index_mut-entry.ensures.value (seen_key key i old n c.index.result.now within c.index_mut-entry.ensures.value c.index.ensures c.addr-addr.ensures) c.solicit.ensures.entry)
+    goes_date (number_of c.addr-addr.result.0) i old old n c.args.dates.now c.args.dates.now c.requires.planned within c.index_mut-entry.ensures.value (sym c.addr-addr.ensures) c.date-was.result c.date-was.ensures
 
-pub put_in-requires-clause-dates : goal.put_in-requires-clause-dates
-put_in-requires-clause-dates g c =
-    let i = c.in_ok-i.i in
-    let old = c.args.entries.now.items in
-    let n = c.index_mut-entry.result.now in
-    let key = number_of c.addr-addr.result.0 in
-    let within : i < length old = subst (λ (l : List Node). i < length l) c.deref.ensures.value c.in_ok-i.ensures.within in
-    but_after address date_of key c.take_out.new.self.dates _ old _ _ c.deref-2.ensures.value c.deref-in-Some.ensures.value
-    (turned_others c.args.now key i old n c.solicit.new.self c.requires.planned.order within c.index_mut-entry.ensures.value (seen_key key i old n c.index.result.now within c.index_mut-entry.ensures.value c.index.ensures c.addr-addr.ensures) c.solicit.ensures.entry)
-    c.take_out.ensures.dates
+pub change-requires-clause-room : goal.change-requires-clause-room
+change-requires-clause-room g c = no_room _ c.date-was.result _ c.date-was.ensures
 
 pub returns-in-Some-clause-planned : goal.returns-in-Some-clause-planned
 returns-in-Some-clause-planned g c =
     let i = c.in_ok-i.i in
     let old = c.args.entries.now.items in
     let n = c.index_mut-entry.result.now in
-    let key = number_of c.addr-addr.result.0 in
     let within : i < length old = subst (λ (l : List Node). i < length l) c.deref.ensures.value c.in_ok-i.ensures.within in
-    let room : length old ≤ c.args.dates.now.room = c.requires.planned.room in
-    record {
-      order = turned_rises c.args.now key i old n c.solicit.new.self c.requires.planned.order within c.index_mut-entry.ensures.value (seen_key key i old n c.index.result.now within c.index_mut-entry.ensures.value c.index.ensures c.addr-addr.ensures) c.solicit.ensures.entry;
-      dates = subst (AreDates address date_of c.put_in.new.self.dates) c.deref-in-Some.ensures.value c.put_in.ensures.dates;
-      room = omega (arith, room, c.put_in.ensures.room, c.take_out.ensures.room, length-set {A = Node});
-    }
+    turned_planned c.args.now (number_of c.addr-addr.result.0) i old n c.solicit.new.self c.requires.planned.order within c.index_mut-entry.ensures.value (sym c.addr-addr.ensures) c.solicit.ensures.entry
+    c.args.dates.now c.change.new.self c.date.result c.requires.planned c.date.ensures c.change.ensures.dates c.change.ensures.room
+
+pub change-requires-2-clause-was : goal.change-requires-2-clause-was
+change-requires-2-clause-was g c =
+    let i = c.in_ok-i.i in
+    let old = c.args.entries.now.items in
+    let n = c.index_mut-entry.result.now in
+    let within : i < length old = subst (λ (l : List Node). i < length l) c.deref.ensures.value c.in_ok-i.ensures.within in
+    goes_date (number_of c.addr-addr.result.0) i old old n c.args.dates.now c.args.dates.now c.requires.planned within c.index_mut-entry.ensures.value (sym c.addr-addr.ensures) c.date-was.result c.date-was.ensures
 
 pub returns-clause-planned : goal.returns-clause-planned
 returns-clause-planned g c =
     let i = c.in_ok-i.i in
     let old = c.args.entries.now.items in
     let n = c.index_mut-entry.result.now in
-    let key = number_of c.addr-addr.result.0 in
     let within : i < length old = subst (λ (l : List Node). i < length l) c.deref.ensures.value c.in_ok-i.ensures.within in
-    let n_key = seen_key key i old n c.index.result.now within c.index_mut-entry.ensures.value c.index.ensures c.addr-addr.ensures in
-    let same = unturned c.args.now key i old n c.solicit.new.self c.requires.planned.order within c.index_mut-entry.ensures.value n_key c.solicit.ensures.entry c.in_default.ensures.none in
-    removed_planned key i old c.remove-entry.new.self.items n c.args.dates.now c.take_out.new.self c.requires.planned within c.index_mut-entry.ensures.value n_key
-    (c.remove-entry.ensures.items ∙ ap (λ (l : List Node). remove l i) same)
-    (subst (AreDatesBut address date_of key c.take_out.new.self.dates) c.deref-2.ensures.value c.take_out.ensures.dates) c.take_out.ensures.room
+    let same = unturned c.args.now (number_of c.addr-addr.result.0) i old n c.solicit.new.self c.requires.planned.order within c.index_mut-entry.ensures.value (sym c.addr-addr.ensures) c.solicit.ensures.entry c.in_default.ensures.none in
+    removed_planned (number_of c.addr-addr.result.0) i old c.remove-entry.new.self.items n c.args.dates.now c.change-2.new.self c.requires.planned within c.index_mut-entry.ensures.value (sym c.addr-addr.ensures)
+    (c.remove-entry.ensures.items ∙ ap (λ (l : List Node). remove l i) same) c.change-2.ensures.dates c.change-2.ensures.room

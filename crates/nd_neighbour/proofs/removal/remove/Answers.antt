@@ -1,12 +1,10 @@
 use Rattle.std.proofs.Common.{◌<◌, ◌≡◌, List, length, subst}
 use Rattle.std.specs.Prelude.{slice_get}
 use Rattle.nd_addr.specs.Number.{number_of}
-use Rattle.nd_table.specs.Dates.{AreDatesBut}
 use Rattle.nd_table.proofs.Keyed.{key_is}
 use Rattle.nd_neighbour.specs.Entry.{Node}
 use Rattle.nd_neighbour.specs.Table.{address, node_in}
-use Rattle.nd_neighbour.specs.Due.{date_of}
-use Rattle.nd_neighbour.proofs.Planning.{removed_planned}
+use Rattle.nd_neighbour.proofs.Planning.{goes_date, removed_planned, no_room}
 use Rattle.nd_neighbour.proofs.Finds.{taken_out, taken_waits, found_is}
 use Rattle.nd_neighbour.proofs.removal.remove.Goals as goal
 
@@ -18,6 +16,20 @@ pub returns-clause-packets : goal.returns-clause-packets
 returns-clause-packets g c =
     taken_waits (number_of c.args.addr.0) c.args.entries.now.items c.deref.result.now c.in-Some.i c.remove-entry.result c.packets.result c.deref.ensures.value c.in-Some.ensures.within c.in-Some.ensures.found c.remove-entry.ensures.value c.packets.ensures
 
+pub change-requires-clause-was : goal.change-requires-clause-was
+change-requires-clause-was g c =
+    let key = number_of c.args.addr.0 in
+    let old = c.args.entries.now.items in
+    let i = c.in-Some.i in
+    let n = c.remove-entry.result in
+    let within : i < length old = subst (λ (l : List Node). i < length l) c.deref.ensures.value c.in-Some.ensures.within in
+    let found : node_in key old ≡ slice_get old i = subst (λ (l : List Node). node_in key l ≡ slice_get l i) c.deref.ensures.value c.in-Some.ensures.found in
+    goes_date key i old old n c.args.dates.now c.args.dates.now c.requires.planned within c.remove-entry.ensures.value
+    (key_is address key old n (found_is key old i n within c.remove-entry.ensures.value found)) c.date.result c.date.ensures
+
+pub change-requires-clause-room : goal.change-requires-clause-room
+change-requires-clause-room g c = no_room _ c.date.result _ c.date.ensures
+
 pub returns-clause-planned : goal.returns-clause-planned
 returns-clause-planned g c =
     let key = number_of c.args.addr.0 in
@@ -26,6 +38,5 @@ returns-clause-planned g c =
     let n = c.remove-entry.result in
     let within : i < length old = subst (λ (l : List Node). i < length l) c.deref.ensures.value c.in-Some.ensures.within in
     let found : node_in key old ≡ slice_get old i = subst (λ (l : List Node). node_in key l ≡ slice_get l i) c.deref.ensures.value c.in-Some.ensures.found in
-    removed_planned key i old c.remove-entry.new.self.items n c.args.dates.now c.take_out.new.self c.requires.planned within c.remove-entry.ensures.value
-    (key_is address key old n (found_is key old i n within c.remove-entry.ensures.value found)) c.remove-entry.ensures.items
-    (subst (AreDatesBut address date_of key c.take_out.new.self.dates) c.deref-2.ensures.value c.take_out.ensures.dates) c.take_out.ensures.room
+    removed_planned key i old c.remove-entry.new.self.items n c.args.dates.now c.change.new.self c.requires.planned within c.remove-entry.ensures.value
+    (key_is address key old n (found_is key old i n within c.remove-entry.ensures.value found)) c.remove-entry.ensures.items c.change.ensures.dates c.change.ensures.room

@@ -1,40 +1,30 @@
-use Rattle.std.proofs.Common.{◌∙◌, sym, ap, Option, ◌≤◌, length, subst, arith}
+use Rattle.std.proofs.Common.{◌∙◌, sym, ap, refl, Option}
 use Rattle.nd_addr.specs.Number.{number_of}
 use Rattle.nd_neighbour.specs.Entry.{Node}
 use Rattle.nd_neighbour.specs.Sending.{used, sending_in}
-use Rattle.nd_neighbour.specs.Table.{address, Rises}
-use Rattle.std.proofs.Math.ListN.{length-set}
-use Rattle.nd_table.specs.Dates.{AreDates}
-use Rattle.nd_table.proofs.Stays.{but_after}
-use Rattle.nd_neighbour.specs.Due.{date_of}
-use Rattle.nd_neighbour.proofs.Planning.{changed_rises, changed_others}
 use Rattle.nd_neighbour.proofs.PacketCalls.{used_key}
 use Rattle.nd_neighbour.proofs.Finds.{alters, there}
+use Rattle.nd_neighbour.proofs.Planning.{had_date, changed_planned, no_room}
 use Rattle.nd_neighbour.proofs.sending.pass.Goals as goal
 
 pub returns-clause-alters : goal.returns-clause-alters
 returns-clause-alters g c =
-    alters (number_of c.args.addr.0) (λ n. used c.args.now c.args.retrans c.args.packet n) c.args.entries.now.items c.deref.result.now c.in-Some.i c.index_mut-entry.result.now c.send-sent.new.self c.deref.ensures.value c.in-Some.ensures.within c.in-Some.ensures.found c.index_mut-entry.ensures.value c.send-sent.ensures.entry
+    alters (number_of c.args.addr.0) (λ n. used c.args.now c.args.retrans c.args.packet n) c.args.entries.now.items c.args.entries.now.items c.args.i c.index_mut-entry.result.now c.send-sent.new.self refl c.requires.within c.requires.found c.index_mut-entry.ensures.value c.send-sent.ensures.entry
 
 pub returns-clause-sending : goal.returns-clause-sending
 returns-clause-sending g c =
     c.send-sent.ensures.sending ∙ sym (ap (λ (o : Option Node). sending_in o c.args.packet)
-    (there (number_of c.args.addr.0) (λ n. used c.args.now c.args.retrans c.args.packet n) c.args.entries.now.items c.deref.result.now c.in-Some.i c.index_mut-entry.result.now c.send-sent.new.self c.deref.ensures.value c.in-Some.ensures.within c.in-Some.ensures.found c.index_mut-entry.ensures.value c.send-sent.ensures.entry))
+    (there (number_of c.args.addr.0) (λ n. used c.args.now c.args.retrans c.args.packet n) c.args.entries.now.items c.args.entries.now.items c.args.i c.index_mut-entry.result.now c.send-sent.new.self refl c.requires.within c.requires.found c.index_mut-entry.ensures.value c.send-sent.ensures.entry))
 
-pub put_in-requires-clause-order : goal.put_in-requires-clause-order
-put_in-requires-clause-order g c =
-    subst Rises (sym c.deref-3.ensures.value) (changed_rises (number_of c.args.addr.0) (λ n. used c.args.now c.args.retrans c.args.packet n) (λ n. used_key c.args.now c.args.retrans c.args.packet n n.stage) c.args.entries.now.items c.deref.result.now c.in-Some.i c.index_mut-entry.result.now c.send-sent.new.self c.deref.ensures.value c.in-Some.ensures.within c.in-Some.ensures.found c.index_mut-entry.ensures.value c.send-sent.ensures.entry c.requires.planned.order)
+pub change-requires-clause-was : goal.change-requires-clause-was
+change-requires-clause-was g c =
+    had_date (number_of c.args.addr.0) (λ n. used c.args.now c.args.retrans c.args.packet n) (λ n. used_key c.args.now c.args.retrans c.args.packet n n.stage) c.args.entries.now.items c.args.entries.now.items c.args.i c.index_mut-entry.result.now c.send-sent.new.self refl c.requires.within c.requires.found c.index_mut-entry.ensures.value c.send-sent.ensures.entry
+    c.args.dates.now c.date-was.result c.requires.planned c.date-was.ensures
 
-pub put_in-requires-clause-dates : goal.put_in-requires-clause-dates
-put_in-requires-clause-dates g c =
-    but_after address date_of (number_of c.args.addr.0) c.take_out.new.self.dates _ c.args.entries.now.items _ _ c.deref-2.ensures.value c.deref-3.ensures.value
-    (changed_others (number_of c.args.addr.0) (λ n. used c.args.now c.args.retrans c.args.packet n) (λ n. used_key c.args.now c.args.retrans c.args.packet n n.stage) c.args.entries.now.items c.deref.result.now c.in-Some.i c.index_mut-entry.result.now c.send-sent.new.self c.deref.ensures.value c.in-Some.ensures.within c.in-Some.ensures.found c.index_mut-entry.ensures.value c.send-sent.ensures.entry c.requires.planned.order) c.take_out.ensures.dates
+pub change-requires-clause-room : goal.change-requires-clause-room
+change-requires-clause-room g c = no_room _ c.date-was.result _ c.date-was.ensures
 
 pub returns-clause-planned : goal.returns-clause-planned
 returns-clause-planned g c =
-    let room : length c.args.entries.now.items ≤ c.args.dates.now.room = c.requires.planned.room in
-    record {
-      order = changed_rises (number_of c.args.addr.0) (λ n. used c.args.now c.args.retrans c.args.packet n) (λ n. used_key c.args.now c.args.retrans c.args.packet n n.stage) c.args.entries.now.items c.deref.result.now c.in-Some.i c.index_mut-entry.result.now c.send-sent.new.self c.deref.ensures.value c.in-Some.ensures.within c.in-Some.ensures.found c.index_mut-entry.ensures.value c.send-sent.ensures.entry c.requires.planned.order;
-      dates = subst (AreDates address date_of c.put_in.new.self.dates) c.deref-3.ensures.value c.put_in.ensures.dates;
-      room = omega (arith, room, c.put_in.ensures.room, c.take_out.ensures.room, length-set {A = Node});
-    }
+    changed_planned (number_of c.args.addr.0) (λ n. used c.args.now c.args.retrans c.args.packet n) (λ n. used_key c.args.now c.args.retrans c.args.packet n n.stage) c.args.entries.now.items c.args.entries.now.items c.args.i c.index_mut-entry.result.now c.send-sent.new.self refl c.requires.within c.requires.found c.index_mut-entry.ensures.value c.send-sent.ensures.entry
+    c.args.dates.now c.change.new.self c.date.result c.requires.planned c.date.ensures c.change.ensures.dates c.change.ensures.room

@@ -1,14 +1,8 @@
-use Rattle.std.proofs.Common.{◌≡◌, ◌<◌, ◌≤◌, ◌∙◌, ℕ, ap, sym, subst, refl, length, List, None}
-use Rattle.std.proofs.lemmas.List.{get_or_default}
+use Rattle.std.proofs.Common.{◌≡◌, ◌<◌, ap, sym, subst, refl, length, List, None}
 use Rattle.nd_addr.specs.Number.{number_of}
-use Rattle.nd_table.specs.Keyed.{Rises}
 use Rattle.nd_table.specs.Due.{NotBefore, least_date}
-use Rattle.nd_table.specs.Dates.{AreDates, AreDatesBut}
-use Rattle.nd_table.proofs.Keyed.{Rises-remove}
 use Rattle.nd_slaac.specs.Table.{key_of}
-use Rattle.nd_slaac.specs.Room.{max_addresses}
-use Rattle.nd_slaac.proofs.Planning.{none_of_ends, none_of_steps, stepped_others, stepped_rises, stepped_ends}
-use Rattle.nd_table.proofs.Stays.{but_after, gone_dates}
+use Rattle.nd_slaac.proofs.Planning.{none_of_ends, none_of_steps, had_end, had_step, gone_planned, stepped_planned}
 use Rattle.std.specs.Prelude.{slice_get}
 use Rattle.nd_slaac.specs.Address.{Address}
 use Rattle.nd_slaac.specs.Due.{Ends}
@@ -22,7 +16,7 @@ returns-in-Some-clause-turns g c =
     let i = c.in-Some.i in
     let within : i < length xs = subst (λ (l : List Address). i < length l) c.deref.ensures.value c.in-Some.ensures.within in
     let first : first_at end_date c.args.now xs ≡ slice_get xs i = subst (λ (l : List Address). first_at end_date c.args.now l ≡ slice_get l i) c.deref.ensures.value c.in-Some.ensures.found in
-    went c.args.transmits c.args.now xs _ i c.remove-entry.result _ within first c.remove-entry.ensures.value (ap Ends c.addr.ensures) c.remove-entry.ensures.items
+    went c.args.transmits c.args.now xs _ i c.remove-entry.result _ within first c.remove-entry.ensures.value (ap Ends c.addr-addr.ensures) c.remove-entry.ensures.items
 
 pub step-due-requires-clause-detecting : goal.step-due-requires-clause-detecting
 step-due-requires-clause-detecting g c =
@@ -49,56 +43,39 @@ pub first_at-requires-2-clause-none_before : goal.first_at-requires-2-clause-non
 first_at-requires-2-clause-none_before g c =
     subst (λ (l : List Address). NotBefore c.args.now (least_date next_step l)) (sym c.deref-2.ensures.value) (none_of_steps c.args.now c.args.entries.now.items c.requires.none_before)
 
+pub change-requires-clause-was : goal.change-requires-clause-was
+change-requires-clause-was g c =
+    let xs = c.args.entries.now.items in
+    let i = c.in-Some.i in
+    let within : i < length xs = subst (λ (l : List Address). i < length l) c.deref.ensures.value c.in-Some.ensures.within in
+    had_end (number_of c.addr-addr.result.0) i xs xs c.remove-entry.result c.args.ends.now c.args.steps.now c.requires.planned within c.remove-entry.ensures.value (sym c.addr-addr.ensures) c.date.result c.date.ensures
+
+pub change-requires-in-Some-clause-was : goal.change-requires-in-Some-clause-was
+change-requires-in-Some-clause-was g c =
+    let xs = c.args.entries.now.items in
+    let i = c.in-Some.i in
+    let within : i < length xs = subst (λ (l : List Address). i < length l) c.deref.ensures.value c.in-Some.ensures.within in
+    had_step (number_of c.addr-addr.result.0) i xs xs c.remove-entry.result c.args.ends.now c.args.steps.now c.requires.planned within c.remove-entry.ensures.value (sym c.addr-addr.ensures) c.date-in-Some.result c.date-in-Some.ensures
+
 pub returns-in-Some-clause-planned : goal.returns-in-Some-clause-planned
 returns-in-Some-clause-planned g c =
     let xs = c.args.entries.now.items in
-    let new = c.remove-entry.new.self.items in
     let i = c.in-Some.i in
-    let a = c.remove-entry.result in
-    let key = number_of c.addr-addr.result.0 in
     let within : i < length xs = subst (λ (l : List Address). i < length l) c.deref.ensures.value c.in-Some.ensures.within in
-    let a_key : a.key ≡ key = ap key_of (c.remove-entry.ensures.value ∙ (get_or_default xs i a c.index.result.now within ∙ sym c.index.ensures)) ∙ sym c.addr-addr.ensures in
-    let planned = c.requires.planned in
-    record {
-      order = subst (Rises key_of) (sym c.remove-entry.ensures.items) (Rises-remove key_of xs i planned.order);
-      end_dates = gone_dates key_of key xs new i a planned.order within c.remove-entry.ensures.value a_key end_date c.take_out.new.self.dates c.remove-entry.ensures.items
-          (subst (AreDatesBut key_of end_date key c.take_out.new.self.dates) c.deref-in-Some.ensures.value c.take_out.ensures.dates);
-      step_dates = gone_dates key_of key xs new i a planned.order within c.remove-entry.ensures.value a_key next_step c.take_out-in-Some.new.self.dates c.remove-entry.ensures.items
-          (subst (AreDatesBut key_of next_step key c.take_out-in-Some.new.self.dates) c.deref-in-Some-2.ensures.value c.take_out-in-Some.ensures.dates);
-      room_for_ends = subst (λ (n : ℕ). max_addresses ≤ n) (sym c.take_out.ensures.room) planned.room_for_ends;
-      room_for_steps = subst (λ (n : ℕ). max_addresses ≤ n) (sym c.take_out-in-Some.ensures.room) planned.room_for_steps;
-    }
+    gone_planned (number_of c.addr-addr.result.0) i xs _ c.remove-entry.result c.args.ends.now c.args.steps.now c.requires.planned within c.remove-entry.ensures.value (sym c.addr-addr.ensures)
+    c.change.new.self c.change-in-Some.new.self c.remove-entry.ensures.items c.change.ensures.dates c.change-in-Some.ensures.dates c.change.ensures.room c.change-in-Some.ensures.room
 
-pub put_in-requires-clause-order : goal.put_in-requires-clause-order
-put_in-requires-clause-order g c =
+pub change-requires-2-clause-was : goal.change-requires-2-clause-was
+change-requires-2-clause-was g c =
     let xs = c.args.entries.now.items in
     let i = c.in_ok-i.i in
     let within : i < length xs = subst (λ (l : List Address). i < length l) c.deref-2.ensures.value c.in_ok-i.ensures.within in
-    subst (Rises key_of) (sym c.deref-4.ensures.value)
-    (stepped_rises c.args.transmits c.args.now c.index_mut-entry.result.now.key c.in_ok-i.i c.index_mut-entry.result.now c.step-due.new.self xs _ c.requires.planned.order within c.index_mut-entry.ensures.value refl c.step-due.ensures.entry refl)
-
-pub put_in-requires-clause-dates : goal.put_in-requires-clause-dates
-put_in-requires-clause-dates g c =
-    let xs = c.args.entries.now.items in
-    let i = c.in_ok-i.i in
-    let a = c.index_mut-entry.result.now in
-    let key = number_of c.addr-addr-2.result.0 in
-    let within : i < length xs = subst (λ (l : List Address). i < length l) c.deref-2.ensures.value c.in_ok-i.ensures.within in
-    let a_key : a.key ≡ key = ap key_of (c.index_mut-entry.ensures.value ∙ (get_or_default xs i a c.index-2.result.now within ∙ sym c.index-2.ensures)) ∙ sym c.addr-addr-2.ensures in
-    but_after key_of next_step key c.take_out-2.new.self.dates _ xs _ _ c.deref-3.ensures.value c.deref-4.ensures.value
-    (stepped_others c.args.transmits c.args.now key i a c.step-due.new.self xs _ c.requires.planned.order within c.index_mut-entry.ensures.value a_key c.step-due.ensures.entry refl) c.take_out-2.ensures.dates
+    had_step (number_of c.addr-addr-2.result.0) i xs xs c.index_mut-entry.result.now c.args.ends.now c.args.steps.now c.requires.planned within c.index_mut-entry.ensures.value (sym c.addr-addr-2.ensures) c.date-was.result c.date-was.ensures
 
 pub returns-clause-planned : goal.returns-clause-planned
 returns-clause-planned g c =
     let xs = c.args.entries.now.items in
     let i = c.in_ok-i.i in
-    let a = c.index_mut-entry.result.now in
-    let planned = c.requires.planned in
     let within : i < length xs = subst (λ (l : List Address). i < length l) c.deref-2.ensures.value c.in_ok-i.ensures.within in
-    record {
-      order = stepped_rises c.args.transmits c.args.now a.key i a c.step-due.new.self xs _ planned.order within c.index_mut-entry.ensures.value refl c.step-due.ensures.entry refl;
-      end_dates = stepped_ends c.args.transmits c.args.now a.key i a c.step-due.new.self xs _ planned.order within c.index_mut-entry.ensures.value refl c.step-due.ensures.entry refl c.args.ends.now.dates planned.end_dates;
-      step_dates = subst (AreDates key_of next_step c.put_in.new.self.dates) c.deref-4.ensures.value c.put_in.ensures.dates;
-      room_for_ends = planned.room_for_ends;
-      room_for_steps = subst (λ (n : ℕ). max_addresses ≤ n) (sym (c.put_in.ensures.room ∙ c.take_out-2.ensures.room)) planned.room_for_steps;
-    }
+    stepped_planned (number_of c.addr-addr-2.result.0) i xs _ c.index_mut-entry.result.now c.args.ends.now c.args.steps.now c.requires.planned within c.index_mut-entry.ensures.value (sym c.addr-addr-2.ensures)
+    c.step-due.new.self (ap key_of c.step-due.ensures.entry) refl c.change-2.new.self c.date-2.result (ap end_date c.step-due.ensures.entry) c.date-2.ensures c.change-2.ensures.dates c.change-2.ensures.room

@@ -10,8 +10,8 @@ invariant-loop-low g l = record {
   high : place_of g.E.Ranked.key (g.E.Ranked.number l.sought) l.entries ≤ l.high;
   within : l.high ≤ length l.entries;
   none : at_key g.E.Ranked.key (g.E.Ranked.number l.sought) (drop l.high l.entries) ≡ None;
-  counts : l.fn.probes.looks ≤ l.probes.looks;
-  looks : Enough l.fn.probes.looks (length l.entries) l.probes.looks (l.high - l.low);
+  counts : g.C.Counter.count l.fn.probes ≤ g.C.Counter.count l.probes;
+  looks : Enough (g.C.Counter.count l.fn.probes) (length l.entries) (g.C.Counter.count l.probes) (l.high - l.low);
 }
 
 abbrev pub decreases-loop-low : goal.decreases-loop-low

@@ -1,4 +1,6 @@
-use Rattle.std.proofs.Common.{◌≡◌, ◌∙◌, sym, ap, subst, Option, None}
+use Rattle.std.specs.Prelude.{is_some}
+use Rattle.std.proofs.lemmas.Bool.{cond-true}
+use Rattle.std.proofs.Common.{◌≡◌, ◌-◌, ◌∙◌, sym, ap, subst, Option, None}
 use Rattle.nd_addr.specs.Number.{number_of}
 use Rattle.nd_neighbour.specs.Entry.{Node}
 use Rattle.nd_neighbour.specs.AddressResolution.{asked_node}
@@ -6,37 +8,37 @@ use Rattle.nd_neighbour.specs.Table.{Table, node_in, Alters}
 use Rattle.nd_neighbour.specs.Place.{Gives}
 use Rattle.nd_neighbour.specs.Sending.{used, sending_in}
 use Rattle.nd_neighbour.specs.View.{sending_of}
-use Rattle.nd_neighbour.proofs.Finds.{was_there, not_there, no_rings}
+use Rattle.nd_neighbour.proofs.Finds.{was_there, not_there, no_rings, holding, has_place_there}
 use Rattle.nd_neighbour.proofs.PacketCalls.{takes_packet, sending_by_history}
 use Rattle.nd_neighbour.proofs.Second.{leaves_room}
 use Rattle.nd_neighbour.proofs.cache.Cache.used.Goals as goal
 
-pub returns-then-holds-clause-stands : goal.returns-then-holds-clause-stands
-returns-then-holds-clause-stands g c =
+pub returns-in-Ok-clause-stands : goal.returns-in-Ok-clause-stands
+returns-in-Ok-clause-stands g c =
     let key = number_of c.args.addr.0 in
     let old = c.args.self.now.nodes in
     let new = c.pass.new.entries.items in
     let change : Node → Node = λ n. used c.args.now c.args.times.retrans c.args.packet n in
     takes_packet key c.args.now c.args.times.retrans c.args.packet c.args.self.now.limit old new
-    (was_there c.args.self.now.limit c.args.now key old c.deref.result.now c.holds.result (c.deref.ensures.value ∙ ap (λ (t : Table). t.nodes) c.self.view_is) c.holds.ensures c.if-holds.true
+    (was_there c.args.self.now.limit c.args.now key old c.deref.result.now c.in-Ok.i (c.deref.ensures.value ∙ ap (λ (t : Table). t.nodes) c.self.view_is) c.in-Ok.ensures.within c.in-Ok.ensures.found
     change (asked_node key c.args.now c.args.times.retrans c.args.packet) new (subst (λ (t : Table). Alters key change t.nodes new) c.self.view_is c.pass.ensures.alters))
 
-pub returns-then-holds-clause-value : goal.returns-then-holds-clause-value
-returns-then-holds-clause-value g c =
+pub returns-in-Ok-clause-value : goal.returns-in-Ok-clause-value
+returns-in-Ok-clause-value g c =
     subst (λ (t : Table). sending_of c.pass.result ≡ sending_in (node_in (number_of c.args.addr.0) t.nodes) c.args.packet) c.self.view_is c.pass.ensures.sending
 
-pub returns-then-holds-clause-sending : goal.returns-then-holds-clause-sending
-returns-then-holds-clause-sending g c = λ history s.
+pub returns-in-Ok-clause-sending : goal.returns-in-Ok-clause-sending
+returns-in-Ok-clause-sending g c = λ history s.
     let key = number_of c.args.addr.0 in
     subst (λ (t : Table). sending_of c.pass.result ≡ sending_in (node_in key t.nodes) c.args.packet) c.self.view_is c.pass.ensures.sending
     ∙ sending_by_history key c.args.packet c.args.self.now.nodes history s
 
-pub returns-in-Err-clause-memory : goal.returns-in-Err-clause-memory
-returns-in-Err-clause-memory g c = λ _.
+pub returns-in-Err-take_ring-clause-memory : goal.returns-in-Err-take_ring-clause-memory
+returns-in-Err-take_ring-clause-memory g c = λ _.
     let key = number_of c.args.addr.0 in
     let old = c.args.self.now.nodes in (
-      sym (ap (λ (t : Table). t.rings) c.self.view_is) ∙ no_rings _ c.in-Err.ensures.in_hand,
-      not_there c.args.self.now.limit c.args.now key old c.deref.result.now c.holds.result (c.deref.ensures.value ∙ ap (λ (t : Table). t.nodes) c.self.view_is) c.holds.ensures c.if-holds.false,
+      sym (ap (λ (t : Table). t.rings) c.self.view_is) ∙ no_rings _ c.in-Err-take_ring.ensures.in_hand,
+      not_there c.args.self.now.limit c.args.now key old c.deref.result.now (c.deref.ensures.value ∙ ap (λ (t : Table). t.nodes) c.self.view_is) c.in-Err.ensures.absent,
     )
 
 pub returns-clause-stands : goal.returns-clause-stands
@@ -50,24 +52,24 @@ pub returns-clause-value : goal.returns-clause-value
 returns-clause-value g c =
     let key = number_of c.args.addr.0 in
     let old = c.args.self.now.nodes in
-    let none : node_in key old ≡ None = not_there c.args.self.now.limit c.args.now key old c.deref.result.now c.holds.result (c.deref.ensures.value ∙ ap (λ (t : Table). t.nodes) c.self.view_is) c.holds.ensures c.if-holds.false in
+    let none : node_in key old ≡ None = not_there c.args.self.now.limit c.args.now key old c.deref.result.now (c.deref.ensures.value ∙ ap (λ (t : Table). t.nodes) c.self.view_is) c.in-Err.ensures.absent in
     sym (ap (λ (o : Option Node). sending_in o c.args.packet) none)
 
 pub returns-clause-sending : goal.returns-clause-sending
 returns-clause-sending g c = λ history s.
     let key = number_of c.args.addr.0 in
     let old = c.args.self.now.nodes in
-    let none : node_in key old ≡ None = not_there c.args.self.now.limit c.args.now key old c.deref.result.now c.holds.result (c.deref.ensures.value ∙ ap (λ (t : Table). t.nodes) c.self.view_is) c.holds.ensures c.if-holds.false in
+    let none : node_in key old ≡ None = not_there c.args.self.now.limit c.args.now key old c.deref.result.now (c.deref.ensures.value ∙ ap (λ (t : Table). t.nodes) c.self.view_is) c.in-Err.ensures.absent in
     sym (ap (λ (o : Option Node). sending_in o c.args.packet) none) ∙ sending_by_history key c.args.packet old history s
 
-pub returns-then-holds-clause-leaves : goal.returns-then-holds-clause-leaves
-returns-then-holds-clause-leaves g c =
+pub returns-in-Ok-clause-leaves : goal.returns-in-Ok-clause-leaves
+returns-in-Ok-clause-leaves g c =
     let key = number_of c.args.addr.0 in
     let old = c.args.self.now.nodes in
     let new = c.pass.new.entries.items in
     let change : Node → Node = λ n. used c.args.now c.args.times.retrans c.args.packet n in
     leaves_room c.args.self.now.limit c.args.now key c.args.times.retrans c.args.packet old new
-    (was_there c.args.self.now.limit c.args.now key old c.deref.result.now c.holds.result (c.deref.ensures.value ∙ ap (λ (t : Table). t.nodes) c.self.view_is) c.holds.ensures c.if-holds.true
+    (was_there c.args.self.now.limit c.args.now key old c.deref.result.now c.in-Ok.i (c.deref.ensures.value ∙ ap (λ (t : Table). t.nodes) c.self.view_is) c.in-Ok.ensures.within c.in-Ok.ensures.found
     change (asked_node key c.args.now c.args.times.retrans c.args.packet) new (subst (λ (t : Table). Alters key change t.nodes new) c.self.view_is c.pass.ensures.alters))
 
 pub returns-clause-leaves : goal.returns-clause-leaves
@@ -76,3 +78,14 @@ returns-clause-leaves g c =
     let new = c.begin.new.entries.items in
     leaves_room c.args.self.now.limit c.args.now key c.args.times.retrans c.args.packet c.args.self.now.nodes new
     (subst (λ (t : Table). Gives t.limit c.args.now key (λ n. used c.args.now c.args.times.retrans c.args.packet n) (asked_node key c.args.now c.args.times.retrans c.args.packet) t.nodes new) c.self.view_is c.begin.ensures.gives)
+
+pub returns-in-Ok-clause-full : goal.returns-in-Ok-clause-full
+returns-in-Ok-clause-full g c = (
+  (λ e. absurd (cc)),
+  λ np. absurd (has_place_there c.args.self.now.limit c.args.now (number_of c.args.addr.0) c.args.self.now.nodes c.deref.result.now c.in-Ok.i (c.deref.ensures.value ∙ ap (λ (t : Table). t.nodes) c.self.view_is) c.in-Ok.ensures.within c.in-Ok.ensures.found np),
+)
+
+pub returns-in-Ok-clause-rings : goal.returns-in-Ok-clause-rings
+returns-in-Ok-clause-rings g c =
+    let held = holding c.args.self.now.limit c.args.now (number_of c.args.addr.0) c.args.self.now.nodes c.deref.result.now c.in-Ok.i (c.deref.ensures.value ∙ ap (λ (t : Table). t.nodes) c.self.view_is) c.in-Ok.ensures.within c.in-Ok.ensures.found in
+    ap (λ (t : Table). t.rings) c.self.view_is ∙ sym (cond-true (is_some (node_in (number_of c.args.addr.0) c.args.self.now.nodes)) c.args.self.now.rings (c.args.self.now.rings - 1) held)

@@ -1,14 +1,14 @@
 use Rattle.std.proofs.Common.{arith, ◌∙◌, ap, sym}
 use Rattle.std.specs.Prelude.{is_some}
 use Rattle.nd_addr.specs.Number.{number_of}
-use Rattle.nd_table.specs.Dates.{without_any, date_at}
+use Rattle.nd_table.specs.Dates.{date_at}
 use Rattle.nd_routers.specs.Planned.{key_of, date_of}
 use Rattle.nd_lifetime.specs.Listing.{end_in, without}
 use Rattle.nd_routers.specs.Preferences.{without_preference}
 use Rattle.nd_routers.specs.DefaultRouterSelection.{others}
 use Rattle.nd_routers.specs.Routers.{keys, same}
 use Rattle.nd_routers.proofs.Preferring.{aligned_without, routers_of}
-use Rattle.nd_routers.proofs.Planning.{without_planned}
+use Rattle.nd_routers.proofs.Planning.{had_date, without_planned}
 use Rattle.nd_routers.proofs.Steps.{gains_left, settled_without}
 use Rattle.nd_routers.proofs.routers.Routers.ended.Goals as goal
 
@@ -40,10 +40,14 @@ invariant_of-self g c =
       omega (arith, was.2, c.remove.ensures.capacity),
       omega (arith, was.3, c.forget.ensures.shorter),
       omega (arith, was.4, c.forget.ensures.capacity),
-      omega (arith, was.5, c.take_date.ensures.room),
-      without_planned key c.self.inside.entries.items c.remove.new.entries.items c.self.inside.dates c.take_date.new.self was.6 c.take_date.ensures.was c.remove.ensures.items
-          (c.take_date.ensures.dates ∙ ap (λ o. without_any o key c.self.inside.dates.dates) (c.end_of.ensures ∙ ap (date_at key_of date_of key) c.deref-2.ensures.value)),
+      omega (arith, was.5, c.change.ensures.room),
+      without_planned key c.self.inside.entries.items c.remove.new.entries.items c.self.inside.dates c.change.new.self was.6 c.remove.ensures.items c.change.ensures.dates,
       ap (λ ps. routers_of ps) c.forget_preference.ensures.items
           ∙ (aligned_without key c.self.inside.preferences.items c.self.inside.entries.items was.7 ∙ ap (λ l. keys l) (sym c.remove.ensures.items)),
       omega (arith, was.8, c.forget_preference.ensures.capacity),
     )
+
+pub change-requires-clause-was : goal.change-requires-clause-was
+change-requires-clause-was g c =
+    let key = number_of c.args.source.0 in
+    had_date key c.self.inside.entries.items c.self.inside.dates c.end_of-was.result c.self.invariant.6 (c.end_of-was.ensures ∙ ap (date_at key_of date_of key) c.deref-2.ensures.value)

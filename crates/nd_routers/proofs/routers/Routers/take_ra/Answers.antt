@@ -3,9 +3,9 @@ use Rattle.std.specs.Prelude.{is_some}
 use Rattle.std.proofs.lemmas.Bool.{ne_eqb}
 use Rattle.std.proofs.lemmas.Bool.Decides.{nat_tests}
 use Rattle.nd_addr.specs.Number.{number_of}
-use Rattle.nd_table.specs.Dates.{without_any, date_at}
+use Rattle.nd_table.specs.Dates.{date_at}
 use Rattle.nd_routers.specs.Planned.{key_of, date_of}
-use Rattle.nd_routers.proofs.Planning.{announced_but, announced_room, announced_planned, fits_length}
+use Rattle.nd_routers.proofs.Planning.{had_date, announced_room, announced_planned, fits_length}
 use Rattle.nd_lifetime.specs.declared.lasting.Lasting.{Lasting}
 use Rattle.nd_lifetime.specs.Listing.{end_in, announced, fits}
 use Rattle.nd_routers.specs.History.{Heard}
@@ -63,32 +63,23 @@ returns-clause-change g c = λ history s.
     let listed : c.has-before.result ≡ is_some (end_in same key c.args.self.now.entries) = c.has-before.ensures ∙ (ap (λ es. is_some (end_in same key es)) c.deref.ensures.value ∙ ap (λ t. is_some (end_in same key t.entries)) c.self.view_is) in
     c.change_by-2.ensures ∙ changes c.args.self.now history c.args.now key c.args.lifetime c.args.preference c.has-before.result true s c.requires.settled listed (grind (arith, nat_tests, c.if-lifetime-eq0.false))
 
-pub put_date-requires-clause-none : goal.put_date-requires-clause-none
-put_date-requires-clause-none g c =
-    let was = c.self.invariant in
+pub change-requires-clause-was : goal.change-requires-clause-was
+change-requires-clause-was g c =
     let key = number_of c.args.source.0 in
-    let w = c.from.result in
-    let es = c.self.inside.entries.items in
-    let new = c.announce.new.entries.items in
-    let settled : IsSettled es c.args.now = subst (λ (t : Table). IsSettled t.entries c.args.now) (sym c.self.view_is) c.requires.settled in
-    let ds = c.take_date.new.self.dates in
-    let taken : ds ≡ without_any (date_at key_of date_of key es) key c.self.inside.dates.dates = c.take_date.ensures.dates ∙ ap (λ o. without_any o key c.self.inside.dates.dates) (c.end_of.ensures ∙ ap (date_at key_of date_of key) c.deref-2.ensures.value) in
-    (announced_but key c.args.now w es new c.self.inside.dates was.6 c.take_date.ensures.was settled c.announce.ensures.items ds taken).none
+    had_date key c.self.inside.entries.items c.self.inside.dates c.end_of-was.result c.self.invariant.6 (c.end_of-was.ensures ∙ ap (date_at key_of date_of key) c.deref-2.ensures.value)
 
-pub put_date-requires-clause-room : goal.put_date-requires-clause-room
-put_date-requires-clause-room g c =
+pub change-requires-clause-room : goal.change-requires-clause-room
+change-requires-clause-room g c =
     let was = c.self.invariant in
     let key = number_of c.args.source.0 in
     let w = c.from.result in
     let es = c.self.inside.entries.items in
     let new = c.announce.new.entries.items in
     let settled : IsSettled es c.args.now = subst (λ (t : Table). IsSettled t.entries c.args.now) (sym c.self.view_is) c.requires.settled in
-    let ds = c.take_date.new.self.dates in
-    let taken : ds ≡ without_any (date_at key_of date_of key es) key c.self.inside.dates.dates = c.take_date.ensures.dates ∙ ap (λ o. without_any o key c.self.inside.dates.dates) (c.end_of.ensures ∙ ap (date_at key_of date_of key) c.deref-2.ensures.value) in
     let fit : fits same c.self.inside.limit c.args.now ((key, c.args.lifetime) ∷ []) es ≡ true = ap (λ (t : Table). fits same t.limit c.args.now ((key, c.args.lifetime) ∷ []) t.entries) c.self.view_is ∙ c.requires.fits in
     let few : length new ≤ c.self.inside.limit = subst (λ n. n ≤ c.self.inside.limit) (sym (ap length c.announce.ensures.items ∙ ap (λ x. length (announced same c.args.now key x es)) c.from.ensures)) (fits_length c.self.inside.limit c.args.now key c.args.lifetime es fit) in
-    announced_room key c.args.now w es new c.self.inside.dates was.6 c.take_date.ensures.was settled c.announce.ensures.items ds c.take_date.new.self.room c.end_of-2.result taken c.take_date.ensures.order
-    (c.end_of-2.ensures ∙ ap (date_at key_of date_of key) c.deref-3.ensures.value) (omega (arith, few, was.5, c.take_date.ensures.room))
+    announced_room key c.args.now w es new c.self.inside.dates was.6 settled c.announce.ensures.items c.self.inside.dates.room c.end_of-was.result c.end_of.result
+    (c.end_of-was.ensures ∙ ap (date_at key_of date_of key) c.deref-2.ensures.value) (c.end_of.ensures ∙ ap (date_at key_of date_of key) c.deref-3.ensures.value) (omega (arith, few, was.5))
 
 pub invariant_of-self : goal.invariant_of-self
 invariant_of-self g c =
@@ -98,8 +89,6 @@ invariant_of-self g c =
     let es = c.self.inside.entries.items in
     let new = c.announce.new.entries.items in
     let settled : IsSettled es c.args.now = subst (λ (t : Table). IsSettled t.entries c.args.now) (sym c.self.view_is) c.requires.settled in
-    let ds = c.take_date.new.self.dates in
-    let taken : ds ≡ without_any (date_at key_of date_of key es) key c.self.inside.dates.dates = c.take_date.ensures.dates ∙ ap (λ o. without_any o key c.self.inside.dates.dates) (c.end_of.ensures ∙ ap (date_at key_of date_of key) c.deref-2.ensures.value) in
     let fit : fits same c.self.inside.limit c.args.now ((key, c.args.lifetime) ∷ []) es ≡ true = ap (λ (t : Table). fits same t.limit c.args.now ((key, c.args.lifetime) ∷ []) t.entries) c.self.view_is ∙ c.requires.fits in
     let few : length new ≤ c.self.inside.limit = subst (λ n. n ≤ c.self.inside.limit) (sym (ap length c.announce.ensures.items ∙ ap (λ x. length (announced same c.args.now key x es)) c.from.ensures)) (fits_length c.self.inside.limit c.args.now key c.args.lifetime es fit) in (
       was.0,
@@ -107,9 +96,9 @@ invariant_of-self g c =
       omega (arith, was.2, c.announce.ensures.capacity),
       omega (arith, was.3, c.forget.ensures.shorter),
       omega (arith, was.4, c.forget.ensures.capacity),
-      omega (arith, was.5, c.take_date.ensures.room, c.put_date.ensures.room),
-      announced_planned key c.args.now w es new c.self.inside.dates was.6 c.take_date.ensures.was settled c.announce.ensures.items ds c.put_date.new.self c.end_of-2.result taken
-          (c.end_of-2.ensures ∙ ap (date_at key_of date_of key) c.deref-3.ensures.value) c.put_date.ensures.dates,
+      omega (arith, was.5, c.change.ensures.room),
+      announced_planned key c.args.now w es new c.self.inside.dates was.6 settled c.announce.ensures.items c.change.new.self c.end_of.result
+          (c.end_of.ensures ∙ ap (date_at key_of date_of key) c.deref-3.ensures.value) c.change.ensures.dates,
       ap (λ ps. routers_of ps) c.forget_preference.ensures.items
           ∙ (aligned_removed key c.args.now c.self.inside.preferences.items es settled was.7
           ∙ ap (λ l. keys l) (sym (c.announce.ensures.items ∙ ap (λ n. announced same c.args.now key n es) (c.from.ensures ∙ c.if-lifetime-eq0.true)))),
@@ -124,8 +113,6 @@ invariant_of-self-2 g c =
     let es = c.self.inside.entries.items in
     let new = c.announce.new.entries.items in
     let settled : IsSettled es c.args.now = subst (λ (t : Table). IsSettled t.entries c.args.now) (sym c.self.view_is) c.requires.settled in
-    let ds = c.take_date.new.self.dates in
-    let taken : ds ≡ without_any (date_at key_of date_of key es) key c.self.inside.dates.dates = c.take_date.ensures.dates ∙ ap (λ o. without_any o key c.self.inside.dates.dates) (c.end_of.ensures ∙ ap (date_at key_of date_of key) c.deref-2.ensures.value) in
     let fit : fits same c.self.inside.limit c.args.now ((key, c.args.lifetime) ∷ []) es ≡ true = ap (λ (t : Table). fits same t.limit c.args.now ((key, c.args.lifetime) ∷ []) t.entries) c.self.view_is ∙ c.requires.fits in
     let few : length new ≤ c.self.inside.limit = subst (λ n. n ≤ c.self.inside.limit) (sym (ap length c.announce.ensures.items ∙ ap (λ x. length (announced same c.args.now key x es)) c.from.ensures)) (fits_length c.self.inside.limit c.args.now key c.args.lifetime es fit) in (
       was.0,
@@ -133,9 +120,9 @@ invariant_of-self-2 g c =
       omega (arith, was.2, c.announce.ensures.capacity),
       was.3,
       was.4,
-      omega (arith, was.5, c.take_date.ensures.room, c.put_date.ensures.room),
-      announced_planned key c.args.now w es new c.self.inside.dates was.6 c.take_date.ensures.was settled c.announce.ensures.items ds c.put_date.new.self c.end_of-2.result taken
-          (c.end_of-2.ensures ∙ ap (date_at key_of date_of key) c.deref-3.ensures.value) c.put_date.ensures.dates,
+      omega (arith, was.5, c.change.ensures.room),
+      announced_planned key c.args.now w es new c.self.inside.dates was.6 settled c.announce.ensures.items c.change.new.self c.end_of.result
+          (c.end_of.ensures ∙ ap (date_at key_of date_of key) c.deref-3.ensures.value) c.change.ensures.dates,
       ap (λ ps. routers_of ps) (c.prefer.ensures.items ∙ ap (λ b. with_preference b key c.args.preference c.self.inside.preferences.items) (c.has-before.ensures ∙ ap (λ l. is_some (end_in same key l)) c.deref.ensures.value))
           ∙ (aligned_announced key c.args.now c.args.lifetime c.args.preference c.self.inside.preferences.items es settled (ne_eqb c.args.lifetime 0 c.if-lifetime-eq0.false) was.7
           ∙ ap (λ l. keys l) (sym (c.announce.ensures.items ∙ ap (λ n. announced same c.args.now key n es) c.from.ensures))),

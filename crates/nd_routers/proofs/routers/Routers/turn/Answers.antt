@@ -1,8 +1,6 @@
 use Rattle.std.proofs.Common.{arith, ◌≡◌, ◌∙◌, sym, ap, Some, None}
 use Rattle.std.specs.Option.{option_map}
 use Rattle.nd_addr.specs.Number.{number_of}
-use Rattle.nd_table.specs.Dates.{without_any, date_at}
-use Rattle.nd_routers.specs.Planned.{key_of, date_of}
 use Rattle.nd_lifetime.specs.Listing.{without}
 use Rattle.nd_routers.specs.Preferences.{without_preference}
 use Rattle.nd_routers.specs.DefaultRouterSelection.{others}
@@ -10,7 +8,7 @@ use Rattle.nd_routers.specs.Routers.{keys, same, first_due}
 use Rattle.nd_routers.proofs.Dues.{first_is_due, first_has, first_at_next, NoneBefore-without, length-without}
 use Rattle.nd_routers.proofs.Steps.{gains_left}
 use Rattle.nd_routers.proofs.Preferring.{aligned_without, routers_of}
-use Rattle.nd_routers.proofs.Planning.{first_planned, without_planned}
+use Rattle.nd_routers.proofs.Planning.{first_planned, due_date, had_date, without_planned}
 use Rattle.nd_routers.proofs.routers.Routers.turn.Goals as goal
 
 pub returns-in_err-source-clause-due : goal.returns-in_err-source-clause-due
@@ -61,10 +59,15 @@ invariant_of-self g c =
       omega (arith, was.2, c.remove.ensures.capacity),
       omega (arith, was.3, c.forget.ensures.shorter),
       omega (arith, was.4, c.forget.ensures.capacity),
-      omega (arith, was.5, c.take_date.ensures.room),
-      without_planned key c.self.inside.entries.items c.remove.new.entries.items c.self.inside.dates c.take_date.new.self was.6 c.take_date.ensures.was c.remove.ensures.items
-          (c.take_date.ensures.dates ∙ ap (λ o. without_any o key c.self.inside.dates.dates) (c.end_of.ensures ∙ ap (date_at key_of date_of key) c.deref.ensures.value)),
+      omega (arith, was.5, c.change.ensures.room),
+      without_planned key c.self.inside.entries.items c.remove.new.entries.items c.self.inside.dates c.change.new.self was.6 c.remove.ensures.items c.change.ensures.dates,
       ap (λ ps. routers_of ps) c.forget_preference.ensures.items
           ∙ (aligned_without key c.self.inside.preferences.items c.self.inside.entries.items was.7 ∙ ap (λ l. keys l) (sym c.remove.ensures.items)),
       omega (arith, was.8, c.forget_preference.ensures.capacity),
     )
+
+pub change-requires-clause-was : goal.change-requires-clause-was
+change-requires-clause-was g c =
+    let key = number_of c.in_ok-source.source.0 in
+    had_date key c.self.inside.entries.items c.self.inside.dates (Some c.args.now) c.self.invariant.6
+    (due_date c.args.now key c.self.inside.entries.items c.self.inside.dates c.self.invariant.6 c.in_ok-source.ensures.here c.in_ok-source.ensures.some)
