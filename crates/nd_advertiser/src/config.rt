@@ -23,19 +23,19 @@ const GREATEST_LIFETIME: u16 = 9000;
 /// AdvReachableTime at most, in milliseconds: an hour (RFC 4861, section 6.2.1).
 const GREATEST_REACHABLE_TIME: u32 = 3_600_000;
 
-/// What a Router Advertisement says in its byte of flags (RFC 4861, section 4.2; RFC 4191, section 2.2).
+/// The flags of a Router Advertisement, and its preference (RFC 4861, section 4.2; RFC 4191, section 2.2).
 #[derive(Clone, Copy, Debug, PartialEq, Eq)]
 pub struct ConfigFlags {
     /// AdvManagedFlag: addresses are to be had by DHCPv6.
     pub managed: bool,
     /// AdvOtherConfigFlag: other configuration is to be had by DHCPv6.
     pub other: bool,
-    /// How the router is to be preferred to other default routers.
+    /// The preference of the router over other default routers.
     pub preference: Preference,
 }
 
 /// What a router is configured to advertise of itself and of its link (RFC 4861, section 6.2.1). It breaks none of that section's rules, and
-/// has no preference where it is no default router (RFC 4191, section 2.2).
+/// its preference is Medium if its lifetime as a default router is 0 (RFC 4191, section 2.2).
 #[derive(Clone, Copy, Debug, PartialEq, Eq)]
 pub struct Config {
     min_interval: u16,

@@ -1,5 +1,5 @@
-/// Why a configuration or an offer isn't taken: the rule of RFC 4861, section 6.2.1, that it breaks, or that of RFC 4191. The numbers are
-/// our choice, and the order in which they are looked at.
+/// Why a configuration or an offer is refused: the rule of RFC 4861, section 6.2.1, that it breaks, or that of RFC 4191. The numbers and the
+/// order in which the rules are checked are our choice.
 #[derive(Clone, Copy, Debug, PartialEq, Eq)]
 pub enum ConfigFault {
     /// MaxRtrAdvInterval is below 4 or above 1800 seconds.

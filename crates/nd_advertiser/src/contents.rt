@@ -48,7 +48,7 @@ impl<A: Allocator> Advertiser<A> {
     }
 
     /// What the last advertisement says, which is sent when it ceases to advertise: the same, with a router lifetime of 0 (RFC 4861,
-    /// section 6.2.5) and no preference (RFC 4191, section 2.2).
+    /// section 6.2.5) and the preference Medium (RFC 4191, section 2.2).
     pub fn last_contents<B: Allocator>(
         &self,
         alloc: B,

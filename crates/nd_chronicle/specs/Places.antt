@@ -37,10 +37,10 @@ pub record HeldInRows (start : Start) (key : ℕ) (c : Chronicle) : Type 0 where
   pub over : Chronicle
   pub formed_at : Past (formed_with formed key delay retrans lifetimes below) over
   pub assigned_at : Past ((assigned, Address key Assigned) ∷ over) c
-  -- counted back from the assignment
+  -- the solicitations, counted back from the assignment
   pub solicited : (back : ℕ) → 0 < back → back ≤ start.transmits → (sent : ℕ) × (earlier : Chronicle) × (assigned ≡ sent + back * retrans)
       × Past (solicited_with start sent key earlier) over × Past (formed_with formed key delay retrans lifetimes below) earlier
-  -- and there are no others: any that stands since it was formed was sent so early
+  -- each solicitation since it was formed was sent RetransTimer or more before the assignment
   pub each : (sent : ℕ) (earlier : Chronicle) → Past ((sent, Address key Solicited) ∷ earlier) over → Past (formed_with formed key delay retrans lifetimes below) earlier
       → sent + retrans ≤ assigned
   pub trying : (d : Chronicle) → Past d over → Past (formed_with formed key delay retrans lifetimes below) d → is_tentative (story_of d key) ≡ true

@@ -12,8 +12,8 @@ pub record Limits : Type 0 where
   pub neighbours : ℕ
   pub routers : ℕ
 
--- when it starts, in milliseconds, as a host or as a router, with which link-layer address, how many solicitations each of its detections sends
--- (RFC 4862, section 5.1, DupAddrDetectTransmits), what its generator will answer, and its limits
+-- when it starts, in milliseconds, as a host or as a router, its link-layer address, how many solicitations it sends for each address (RFC
+-- 4862, section 5.1, DupAddrDetectTransmits), the words of its generator, and its limits
 pub record Start : Type 0 where
   pub at : ℕ
   pub role : Role

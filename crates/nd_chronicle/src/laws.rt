@@ -36,9 +36,9 @@ pub fn only_grows()
     ensures told { (newer c : Chronicle) → text (newer ++ c) ≡ text c ++ text newer }
 {}
 
-/// No address is assigned untried (RFC 4862, section 5.4): whatever events come, an address that is assigned was formed, was tentative at each
-/// place up to its assignment, and was assigned a RetransTimer after the last solicitation for it, each of which but the first came a RetransTimer
-/// after the one before; RetransTimer is that in force when it was formed, and there were as many of them as the node is to send.
+/// No address is assigned untried (RFC 4862, section 5.4): in all cases an assigned address was formed, was tentative at each place up to its
+/// assignment, and was solicited for as often as the node is configured to. The solicitations are a RetransTimer apart, and the assignment is a
+/// RetransTimer after the last one; RetransTimer is the one in force when the address was formed.
 pub fn none_untried()
     ensures { (start : Start) (events : List (ℕ × Event)) (c : Chronicle) (key : ℕ) → IsChronicle start events c → is_assigned (story_of c key) ≡ true → Held start.transmits key (address_history c) }
 {}

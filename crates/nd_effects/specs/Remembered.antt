@@ -1,4 +1,4 @@
--- The next hops that a choice remembers, and the tables that it was asked with (RFC 4861, section 5.1, the Destination Cache).
+-- The next hops that a node remembers, and the tables that decided them (RFC 4861, section 5.1, the Destination Cache).
 use Rattle.std.specs.Prelude.{◌≡◌, ◌≤◌, ◌-◌, ◌⊎◌, ◌&&◌, ◌==◌, not, is_some, ℕ, Bool, true, false, List, [], ◌∷◌, Option}
 use Rattle.std.specs.Option.{option_map}
 use Rattle.nd_addr.specs.Number.{number_of}
@@ -34,27 +34,25 @@ own_in addresses address = counted_in Own (address_in (number_of address) addres
 abbrev pub linked_by : List (Lasting PrefixValue) → List ℕ → Bool
 linked_by standing address = is_held address standing
 
--- What a choice remembers at a moment, and as long as it may be asked for, is what these tables say: no prefix that stands at the moment
--- ends before.
+-- What a choice remembers is what these tables say, at this moment and as long as it may be used: no prefix that stands now ends before.
 pub record Remembers (at : ℕ) (choice : Table) (addresses : List Address) (prefixes : List (Lasting PrefixValue)) (nodes : List Node) (table : routers.Table) : Type 0 where
   pub until : (moment : ℕ) → at ≤ moment → is_asked moment choice.memory.until ≡ true → open_at moment prefixes ≡ open_at at prefixes
   pub agrees : Agrees at (own_in addresses) (linked_by (open_at at prefixes)) (candidates_in nodes table) choice
 
--- the last moment at which no prefix has ended that stands at this one
+-- the last moment before a prefix that stands now ends
 abbrev pub last_before_end : ℕ → List (Lasting PrefixValue) → Option ℕ
 last_before_end now prefixes = option_map (λ end. end - 1) (least_end (open_at now prefixes))
 
--- the same neighbours are resolved, whatever history they stood for
+-- the same neighbours are resolved, for each history that the entries represent
 abbrev pub AsResolved : List Node → List Node → Type 0
 AsResolved old new = (history : List Row) → neighbours.Stands old history → (key : ℕ) → is_resolved (node_in key new) ≡ is_resolved (node_in key old)
 
--- Nothing is remembered any more, or the same, where the same neighbours are resolved.
+-- The remembered next hops are forgotten; or they are kept, and the same neighbours are resolved.
 pub data MayRemember (old_choice new_choice : Table) (old new : List Node) : Type 0 where
   Forgets : new_choice ≡ record old_choice { memory = forgotten old_choice.memory } → MayRemember old_choice new_choice old new
   Keeps : new_choice ≡ old_choice → AsResolved old new → MayRemember old_choice new_choice old new
 
--- nothing is remembered where a neighbour failed or aged, and else the same; where it only is asked once more nothing changes for the routers
--- either
+-- they are forgotten where a neighbour failed or aged, and else kept; a further solicitation doesn't change the routers either
 abbrev pub Remembering : neighbours_due.Falls → Table → Table → routers.Table → routers.Table → Type 0
 Remembering (neighbours_due.Fails key packets) old new old_routers new_routers = new.memory ≡ forgotten old.memory
 Remembering (neighbours_due.Ages key) old new old_routers new_routers = new.memory ≡ forgotten old.memory
@@ -65,18 +63,18 @@ abbrev pub begins : Sending → Bool
 begins (Sends mac packet) = false
 begins (Queues solicit replaced) = solicit
 
--- What is remembered behind a change: nothing, or what was, where the change is none to the next hops.
+-- What is remembered after a change: nothing, or the same where the change leaves all next hops.
 pub record Recollects (old new : Table) (Same : Type 0) : Type 0 where
   pub hops : (new.memory.hops ≡ []) ⊎ ((new.memory.hops ≡ old.memory.hops) × Same)
   pub until : new.memory.until ≡ old.memory.until
 
--- an advertisement only refreshes a router that is listed at the moment, which says the same preference as before
+-- an advertisement only refreshes a router that is listed at the moment, with the same preference as before
 pub record Refreshes (now key lifetime : ℕ) (preference : Preference) (table : routers.Table) : Type 0 where
   pub goes_on : not (lifetime == 0) ≡ true
   pub listed : is_some (end_in routers.same key (open_at now table.entries)) ≡ true
   pub preferred : preference_among key table.preferences ≡ preference
 
--- the list of routers is the same to the next hops: a router was only refreshed
+-- the list of routers is the same as far as next hops depend on it: a router was only refreshed
 pub record AsListed (old_choice new_choice : Table) (old new : routers.Table) : Type 0 where
   pub redirects : new_choice.redirects ≡ old_choice.redirects
   pub keys : routers.keys new.entries ≡ routers.keys old.entries

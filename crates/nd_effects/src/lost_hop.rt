@@ -8,8 +8,8 @@ use nd_nexthop::Choice;
 use nd_routers::Routers;
 use std::alloc::Allocator;
 
-/// What falls due for a neighbour is noted: where it failed, the router that it may be failed too, and the redirects to it end (RFC 4861,
-/// sections 6.3.6 and 7.3.3). Where it is gone no next hop is remembered.
+/// Notes what is due for a neighbour. If the neighbour failed, the router that it may be failed too, and the redirects to it end (RFC 4861,
+/// sections 6.3.6 and 7.3.3). If its entry is gone, remembered next hops are forgotten.
 pub fn note<A: Allocator + Clone>(routers: &mut Routers<A>, choice: &mut Choice<A>, due: &Due<A>)
     ensures notes { (at : ℕ) → Notes at (falls_of due.now) routers.old routers.new choice.old choice.new }
     ensures remembers { Remembering (falls_of due.now) choice.old choice.new routers.old routers.new }

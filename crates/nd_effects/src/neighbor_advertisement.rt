@@ -4,6 +4,7 @@ ghost use Rattle.nd_routers.specs.Routers.{IsSettled};
 ghost use Rattle.nd_nexthop.specs.Memo.{forgotten};
 ghost use Rattle.nd_effects.specs.NeighborAdvertisement.{Conflicts, Leaves};
 
+use crate::own_addresses::hear_conflict;
 use nd_addr::Addr;
 use nd_nexthop::Choice;
 use nd_out::Out;
@@ -11,9 +12,9 @@ use nd_routers::Routers;
 use nd_slaac::Addresses;
 use std::alloc::Allocator;
 
-/// Another node has an address, as is heard at a moment, in milliseconds: it is a duplicate from now on where it is tentative, and that is
-/// told (RFC 4862, section 5.4.4). No next hop is remembered then. It answers whether it was tentative, and takes no memory: the room for it
-/// was taken before.
+/// Takes that another node has an address, at a moment in milliseconds: a tentative address is a duplicate from now on, and that is reported
+/// (RFC 4862, section 5.4.4). Remembered next hops are forgotten then. Returns true if the address was tentative. It takes no memory: room was
+/// made before.
 pub fn hear_holder<A: Allocator>(
     addresses: &mut Addresses<A>,
     choice: &mut Choice<A>,
@@ -29,17 +30,16 @@ pub fn hear_holder<A: Allocator>(
     ensures len { vec_len outs.new ≤ vec_len outs.old + 1 }
     ensures capacity { vec_capacity outs.new ≡ vec_capacity outs.old }
 {
-    if addresses.conflict(target) {
-        choice.changed();
+    if hear_conflict(addresses, choice, target) {
         outs.push_reserved((now, Out::Duplicate(target)));
         return true;
     }
     false
 }
 
-/// A neighbour that is no router any more, if that is said at a moment, in milliseconds, leaves the list where it stands there, the
-/// redirects to it end, and that is told (RFC 4861, section 7.2.5). It answers whether it left, and takes no memory: the room for it was
-/// taken before.
+/// Removes a neighbour that is no longer a router from the list of default routers, if that is said at a moment, in milliseconds, and the
+/// neighbour is in the list. The redirects to it end, and that is reported (RFC 4861, section 7.2.5). Returns true if it left the list. It
+/// takes no memory: room was made before.
 pub fn end_router<A: Allocator>(
     routers: &mut Routers<A>,
     choice: &mut Choice<A>,

@@ -27,7 +27,7 @@ pub fn times_in_force(params: &Params) -> Times
     }
 }
 
-/// No next hop is remembered where a packet begins the resolution of a neighbour, which is new then, and may have pushed out another one.
+/// Forgets remembered next hops if a packet began the resolution of a neighbour: that neighbour is new, and may have evicted another one.
 pub fn note_use<A: Allocator>(choice: &mut Choice<A>, used: &Use<A>)
     ensures { choice.new ≡ (if begins (sending_of used.now) then record choice.old { memory = forgotten choice.old.memory } else choice.old) }
 {

@@ -50,7 +50,7 @@ fn hear_prefix_option<R: Rng, A: Allocator>(
     }
 }
 
-/// Whether none of the prefix options of a Router Advertisement would form an address.
+/// Returns true if none of the prefix options of a Router Advertisement would form an address.
 #[tactic(auto, using(nd_slaac::proofs::OfType::prefixes_from))]
 pub fn none_forms<A: Allocator>(addresses: &Addresses<A>, options: Options<'_>) -> bool
     ensures { result ≡ forms_none addresses.now.mac (keys_in addresses.now.addresses) (prefixes_in (options_left options.entry)) }

@@ -9,7 +9,7 @@ use Rattle.nd_chronicle.specs.Happening.{Address, Chronicle, Sent}
 use Rattle.nd_link_log.specs.Log.{Entry, Log, Adds, chronicle_of}
 use Rattle.nd_link_log.specs.Holding.{IsTrying}
 
--- the frame tries the address of this number, or tells all nodes that it is held (RFC 4862, section 5.4.2; RFC 4861, section 7.2.4)
+-- the frame solicits for the address of this number, or advertises it to all nodes (RFC 4862, section 5.4.2; RFC 4861, section 7.2.4)
 abbrev pub Tries : ℕ → List ℕ → Type 0
 Tries key frame = (address : Addr) × (number_of address.0 ≡ key) × IsDetection frame address
 
@@ -31,14 +31,14 @@ pub record Attempt (node key : ℕ) : Type 0 where
   pub formed_at : Past (formed_entry node key formed delay retrans lifetimes ∷ below) over
   pub trying : (d : Log) → Past d over → Past (formed_entry node key formed delay retrans lifetimes ∷ below) d → IsTrying node key d
 
--- what the log was when the address was formed, and when it was assigned
+-- the log when the address was formed, and when it was assigned
 abbrev pub beginning_of : {node key : ℕ} → Attempt node key → Log
 beginning_of {node} {key} a = formed_entry node key a.formed a.delay a.retrans a.lifetimes ∷ a.below
 
 abbrev pub ending_of : {node key : ℕ} → Attempt node key → Log
 ending_of {node} {key} a = Adds node a.assigned (Address key Assigned) ∷ a.over
 
--- a solicitation of the attempt: the frame that the node sent, between these, right after the row that says so
+-- a solicitation of the attempt: the frame that the node sent between the two, right after the row that says so
 pub record Solicitation {node key : ℕ} (attempt : Attempt node key) (at : ℕ) (frame : List ℕ) (earlier : Log) : Type 0 where
   pub rest : Chronicle
   pub row : chronicle_of node earlier ≡ (at, Address key Solicited) ∷ rest

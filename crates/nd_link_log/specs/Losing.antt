@@ -1,4 +1,4 @@
--- A link that loses frames, and yet brings each attempt for an address to each other node (RFC 4862, section 5.4).
+-- A link that may lose frames, but not all solicitations of an attempt for an address (RFC 4862, section 5.4).
 use Rattle.std.specs.Prelude.{◌≡◌, ◌≢◌, ℕ, ◌*◌, ◌<◌, true, is_some, List, ◌∷◌, Option}
 use Rattle.nd_table.specs.History.{Past}
 use Rattle.nd_slaac.specs.History.{Formed, Lifetimes}
@@ -7,11 +7,11 @@ use Rattle.nd_link_log.specs.Log.{Log, Adds, Carries, adding, sent, start_of}
 use Rattle.nd_link_log.specs.Holding.{Arrives}
 use Rattle.nd_link_log.specs.Attempt.{Attempt, Claims, Solicitation, ending_of}
 
--- what the log was when a node answered a frame that was carried to it: rows of that event came before
+-- the log when a node answers a frame that is carried to it, behind the rows of that event that come before
 abbrev pub answering : ℕ → ℕ → ℕ → Chronicle → Log → Log
 answering node at number rows before = adding node rows (Carries node at number ∷ before)
 
--- a solicitation of the attempt arrives in time at another node, and each answer to that one arrives in time at the node that asks
+-- a solicitation of the attempt reaches another node in time, and each answer to that delivery reaches the node that asks in time
 pub record Reaches (log : Log) (within : ℕ) {node key : ℕ} (attempt : Attempt node key) (other : ℕ) : Type 0 where
   pub at : ℕ
   pub frame : List ℕ

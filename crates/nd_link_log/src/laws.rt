@@ -57,9 +57,9 @@ pub fn one_holder()
         → IsTimely within log → HasOneHolder log }
 {}
 
-/// The same on a link that loses frames, where of each attempt for an address one solicitation arrives in time at each other node that was there when
-/// the address was formed, and each answer to that one arrives in time at the node that asks, whatever else is lost. A timely link is one that loses
-/// nothing in time.
+/// On a link that loses frames no address is preferred or deprecated at two nodes either (RFC 4862, section 5.4), if of each attempt for an
+/// address at least one solicitation reaches each other node that was on the link when the address was formed, and each answer to that delivery
+/// reaches the node that asks, both in time. Anything else may be lost. A timely link is a case of it.
 pub fn one_holder_where_frames_are_lost()
     ensures where_sound { (log : Log) (within : ℕ) → IsSound log → LosesLittle within log → HasOneHolder log }
     ensures on_links { (limits : Limits) (events : List (ℕ × Event)) (log : Log) (within : ℕ) → AreOfBytes events → SendsBytes log → IsLog limits events log
@@ -79,16 +79,16 @@ pub fn bound_is_sharp()
         → (log : Log) × (key : ℕ) × IsSound log × AllArrive 2 log × AllWait (2 * 2) log × Holds 0 key log × Holds 1 key log }
 {}
 
-/// A link may lose frames and still lose little: on a log of two nodes that is sound, of three solicitations the second alone is carried, and the
-/// address is held.
+/// The premises can be met where frames are lost: on a sound log of two nodes only the second of three solicitations is carried, and the address
+/// is held.
 pub fn losses_are_borne()
     ensures { (start : Start) → start.at ≡ 0 → AreBytes 6 start.mac.0
         → (log : Log) × (key : ℕ) × (nodes log ≡ 2) × (sent log ≡ 3) × IsSound log × LosesLittle 1 log
         × ((node at number : ℕ) (before : Log) → Past (Carries node at number ∷ before) log → number ≡ 1) × Arrives log 1 1 4 1 × Holds 0 key log }
 {}
 
-/// Some solicitation has to arrive: on a sound log where RetransTimer is more than twice the time in which the frame of the first node arrives, and
-/// of the three frames of the second node, its solicitations, none does, both hold an address.
+/// The premise is needed: on a sound log where RetransTimer is more than twice the time in which the first node's frame arrives, and all three
+/// solicitations of the second node are lost, both hold an address.
 pub fn some_solicitation_has_to_arrive()
     ensures { (start : Start) → start.at ≡ 0 → AreBytes 6 start.mac.0
         → (log : Log) × (key : ℕ) × (nodes log ≡ 2) × (sent log ≡ 4) × IsSound log × AllWait 3 log

@@ -11,14 +11,14 @@ use std::alloc::{AllocError, Allocator};
 use std::marker::Model;
 use std::num::NonZeroUsize;
 
-/// How many destinations have their redirects kept (our choice).
+/// The number of destinations whose redirects are kept (our choice).
 const MAX_REDIRECTS: usize = 64;
 
-/// The choice of next hops, with the redirects that it keeps for it, and the next hops that it remembers: the Destination Cache of RFC
-/// 4861, section 5.1. What is remembered never changes an answer.
+/// Chooses next hops, with the redirects that it keeps and the next hops that it remembers: the Destination Cache of RFC 4861, section 5.1.
+/// A remembered next hop is always the one that would be chosen anew.
 #[derive(Drop)]
 pub struct Choice<A: Allocator> {
-    /// The destinations that were redirected last, by their numbers. Those whose redirects ended keep their places.
+    /// The destinations that were redirected most recently, by number. Those whose redirects ended keep their places.
     pub(crate) redirects: LruCache<u128, Target, DefaultHasher, A>,
     pub(crate) memo: Memo<A>,
 }
@@ -38,7 +38,7 @@ impl<A: Allocator> Model for Choice<A> {
 impl<A: Allocator + Clone> Choice<A> {
     ghost use Rattle.nd_nexthop.specs.Choice.{Stands};
 
-    /// No redirects, with room for those of 64 destinations, and no next hop is remembered. The error is want of memory.
+    /// Returns a choice without redirects, with room for those of 64 destinations, that remembers no next hop. The error is out of memory.
     pub fn new(alloc: A) -> Result<Self, AllocError>
         ensures empty { IfOk result (λ choice. choice ≡ record { redirects = []; memory = record { hops = []; until = None } }) }
         ensures stands { IfOk result (λ choice. Stands choice []) }
@@ -54,7 +54,7 @@ impl<A: Allocator + Clone> Choice<A> {
 impl<A: Allocator> Choice<A> {
     ghost use Rattle.nd_nexthop.specs.Choice.{Stands};
 
-    /// The kept redirects, the newest first.
+    /// Returns the kept redirects, the newest first.
     pub fn rows(&self) -> KeptRedirects<'_>
         ensures value { redirects_left result ≡ those_left self.now.redirects }
         ensures by_history { (history : List RedirectRow) → Stands self.now history → redirects_left result ≡ redirects history }
@@ -62,7 +62,7 @@ impl<A: Allocator> Choice<A> {
         KeptRedirects::new(self.redirects.iter())
     }
 
-    /// How many destinations have their next hops remembered, at most 256.
+    /// Returns the number of destinations whose next hops are remembered, at most 256.
     pub fn remembered(&self) -> usize
         ensures value { result ≡ length self.now.memory.hops }
         ensures few { result ≤ max_remembered }
@@ -70,22 +70,22 @@ impl<A: Allocator> Choice<A> {
         self.memo.len()
     }
 
-    /// Whether a remembered next hop is the answer at a moment, in milliseconds.
+    /// Returns true if remembered next hops may be used at a moment, in milliseconds.
     pub fn is_asked(&self, now: u64) -> bool
         ensures { result ≡ is_asked now self.now.memory.until }
     {
         self.memo.is_asked(now)
     }
 
-    /// What the choice is made of has changed: no next hop is remembered. It takes no memory.
+    /// Forgets all remembered next hops: something that decides next hops has changed. It takes no memory.
     pub fn changed(&mut self)
         ensures { self.new ≡ record self.old { memory = forgotten self.old.memory } }
     {
         self.memo.forget();
     }
 
-    /// The last moment at which a remembered next hop is the answer, in milliseconds, if there is one: the prefixes on the link end
-    /// silently. It takes no memory.
+    /// Sets the last moment at which remembered next hops may be used, in milliseconds, or that there is none. The caller needs it because
+    /// prefixes on the link end without an event. It takes no memory.
     pub fn until(&mut self, until: Option<u64>)
         ensures { self.new ≡ record self.old { memory = record self.old.memory { until = until } } }
     {

@@ -5,22 +5,22 @@ ghost use Rattle.nd_nexthop.specs.DefaultRouter.{router_of, failed_before, bette
 use crate::view::View;
 use nd_addr::{Addr, Preference};
 
-/// What the choice asks of a default router.
+/// A default router as the choice sees it.
 #[derive(Clone, Copy, Debug, PartialEq, Eq)]
 pub struct Candidate {
     pub addr: Addr,
     /// Whether it is reachable or probably reachable: it is in the neighbour cache, in another state than INCOMPLETE (RFC 4861, section
     /// 6.3.6).
     pub usable: bool,
-    /// How it is preferred, as its last advertisement says (RFC 4191, section 2.2).
+    /// Its preference, from its last advertisement (RFC 4191, section 2.2).
     pub preference: Preference,
     /// If it failed since it came into the list, its place among those that did, by their last failures, the oldest first.
     pub failed: Option<u64>,
 }
 
-/// The default router that packets take (RFC 4861, section 6.3.6; RFC 4191, section 3.2): of those that are usable the one with the highest
-/// preference; where none is, the one that failed least recently, those first that never failed, and of these the one with the highest
-/// preference. Of several the first of the list.
+/// Returns the default router that packets take (RFC 4861, section 6.3.6; RFC 4191, section 3.2): of the usable ones the one with the highest
+/// preference; where none is usable, the one that failed least recently, those first that never failed, and among equals the one with the
+/// highest preference. The first of the list wins a tie.
 pub(crate) fn chosen_router<V: View>(view: &V) -> Option<Addr>
     ensures { option_map (λ a. number_of a.0) result ≡ chosen_router (V.candidates view.now) }
 {
@@ -45,7 +45,7 @@ fn router_at<V: View>(view: &V, i: usize) -> Candidate
     }
 }
 
-/// Of two routers the one that comes before the other, the first one where neither does.
+/// Returns the router that comes before the other one, and the first where neither does.
 fn better(first: Option<Candidate>, second: Candidate) -> Candidate
     ensures { router_of result ≡ better_of (option_map router_of first) (router_of second) }
 {
@@ -55,7 +55,7 @@ fn better(first: Option<Candidate>, second: Candidate) -> Candidate
     }
 }
 
-/// Whether a router comes before another one: a usable one before one that isn't, and of two usable ones the preferred one.
+/// Returns true if `a` comes before `b`: a usable router before one that isn't, and of two usable ones the preferred one.
 fn comes_before(a: Candidate, b: Candidate) -> bool
     ensures { result ≡ comes_before (router_of a) (router_of b) }
 {
@@ -67,7 +67,7 @@ fn comes_before(a: Candidate, b: Candidate) -> bool
     }
 }
 
-/// Whether a router failed less recently than another one, or neither failed and it is preferred.
+/// Returns true if `a` failed less recently than `b`, or neither ever failed and `a` is preferred.
 fn is_less_recent(a: Candidate, b: Candidate) -> bool
     ensures { result ≡ is_less_recent (router_of a) (router_of b) }
 {
@@ -80,7 +80,7 @@ fn is_less_recent(a: Candidate, b: Candidate) -> bool
     a.preference.is_above(b.preference)
 }
 
-/// Whether a failure was before another one, by their places. A router that never failed stands before all that did.
+/// Returns true if the failure in place `a` was before that in place `b`. A router that never failed comes before all that did.
 fn failed_before(a: Option<u64>, b: Option<u64>) -> bool
     ensures { result ≡ failed_before a b }
 {

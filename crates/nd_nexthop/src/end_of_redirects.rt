@@ -14,8 +14,8 @@ impl<A: Allocator> Choice<A> {
     ghost use Rattle.nd_nexthop.specs.History.{TargetGone, Cleared};
     ghost use Rattle.nd_nexthop.specs.Choice.{GainsRow};
 
-    /// The redirects to an address end, since it can't be reached (RFC 4861, section 7.3.3) or is no router any more (section 6.3.5).
-    /// No next hop is remembered. It takes no memory.
+    /// Ends the redirects to an address that can't be reached (RFC 4861, section 7.3.3) or is no longer a router (section 6.3.5), and forgets
+    /// all remembered next hops. It takes no memory.
     pub fn target_gone(&mut self, target: Addr)
         ensures stands { (at : ℕ) → GainsRow self.old self.new (TargetGone at (number_of target.0)) }
         ensures memory { self.new.memory ≡ forgotten self.old.memory }
@@ -24,7 +24,7 @@ impl<A: Allocator> Choice<A> {
         self.memo.forget();
     }
 
-    /// All redirects end. No next hop is remembered. It takes no memory.
+    /// Ends all redirects, and forgets all remembered next hops. It takes no memory.
     pub fn clear(&mut self)
         ensures stands { (at : ℕ) → GainsRow self.old self.new (Cleared at) }
         ensures memory { self.new.memory ≡ forgotten self.old.memory }

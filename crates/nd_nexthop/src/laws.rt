@@ -15,9 +15,9 @@ pub fn one_answer()
     ensures few { (history : List RedirectRow) → length (redirects history) ≤ max_redirects }
 {}
 
-/// The default router that is chosen is of those that are usable the one with the highest preference; where none is, the one that failed least
-/// recently, and of those that never failed the one with the highest preference (RFC 4861, section 6.3.6; RFC 4191, section 3.2). Of several it is
-/// the first of the list.
+/// The chosen default router is, of the usable ones, the one with the highest preference; where none is usable, the one that failed least
+/// recently, and of those that never failed the one with the highest preference (RFC 4861, section 6.3.6; RFC 4191, section 3.2). The first of
+/// the list wins a tie.
 pub fn one_router()
     ensures usable { (before behind : List DefaultRouter) (r : DefaultRouter) → r.usable ≡ true → AllLessPreferred r before → NonePreferred r behind → chosen_router (before ++ r ∷ behind) ≡ Some r.key }
     ensures least_recent { (before behind : List DefaultRouter) (r : DefaultRouter) → r.usable ≡ false → NoneUsable before → NoneUsable behind → AllLater r before → NoneBefore r behind → chosen_router (before ++ r ∷ behind) ≡ Some r.key }

@@ -1,4 +1,5 @@
-//! Next-hop determination of a host (RFC 4861, sections 5.2 and 6.3.6), and the redirects that it keeps for it (section 8.3).
+//! Next-hop determination of a host (RFC 4861, sections 5.2 and 6.3.6), the redirects that it keeps (section 8.3), and the next hops that it
+//! remembers (section 5.1, the Destination Cache).
 #![tactic(auto)]
 
 mod choice;

@@ -10,15 +10,15 @@ use std::alloc::{AllocError, Allocator};
 use std::marker::Model;
 use std::num::NonZeroUsize;
 
-/// How many destinations have their next hops remembered (our choice).
+/// The number of destinations whose next hops are remembered (our choice).
 const MAX_REMEMBERED: usize = 256;
 
-/// The next hops of the destinations that were asked for last.
+/// The next hops of the destinations that were asked for most recently.
 #[derive(Drop)]
 pub(crate) struct Memo<A: Allocator> {
-    /// The destinations by their numbers.
+    /// The next hops, by the numbers of the destinations.
     hops: LruCache<u128, Hop, DefaultHasher, A>,
-    /// The last moment at which they are asked for, in milliseconds, if there is one.
+    /// The last moment at which they may be used, in milliseconds, if there is one.
     until: Option<u64>,
 }
 
@@ -34,7 +34,7 @@ impl<A: Allocator> Model for Memo<A> {
 }
 
 impl<A: Allocator + Clone> Memo<A> {
-    /// Nothing is remembered. The error is want of memory.
+    /// Returns an empty memo. The error is out of memory.
     pub(crate) fn new(alloc: A) -> Result<Self, AllocError>
         ensures { IfOk result (λ memo. memo ≡ record { hops = []; until = None }) }
     {
@@ -45,8 +45,8 @@ impl<A: Allocator + Clone> Memo<A> {
         })
     }
 
-    /// The next hop that a destination has at a moment, in milliseconds, is remembered, if it may be asked for then, and unless memory is
-    /// wanted for it.
+    /// Remembers the next hop of a destination at a moment, in milliseconds, if it may be used then. When out of memory it remembers nothing
+    /// more.
     pub(crate) fn remember(&mut self, now: u64, destination: Addr, hop: Hop)
         ensures hops { (e : ℕ × Answer) → Contains self.new.hops e → Contains self.old.hops e ⊎ ((is_asked now self.old.until ≡ true) × (e ≡ (number_of destination.0, hop))) }
         ensures until { self.new.until ≡ self.old.until }
@@ -58,8 +58,8 @@ impl<A: Allocator + Clone> Memo<A> {
 }
 
 impl<A: Allocator> Memo<A> {
-    /// The next hop that is remembered of a destination, if it may be asked for at a moment, in milliseconds. The destination becomes the one
-    /// that was asked for last.
+    /// Returns the remembered next hop of a destination, if it may be used at a moment, in milliseconds. The destination becomes the most
+    /// recent one.
     pub(crate) fn recall(&mut self, now: u64, destination: Addr) -> Option<Hop>
         ensures asked { IsSome result → is_asked now self.old.until ≡ true }
         ensures found { IfSome result (λ hop. Contains self.old.hops (number_of destination.0, hop)) }
@@ -72,7 +72,7 @@ impl<A: Allocator> Memo<A> {
         self.hops.get(&destination.to_bits()).copied()
     }
 
-    /// Whether what is remembered is asked for at a moment, in milliseconds.
+    /// Returns true if what is remembered may be used at a moment, in milliseconds.
     pub(crate) fn is_asked(&self, now: u64) -> bool
         ensures { result ≡ is_asked now self.now.until }
     {
@@ -82,7 +82,7 @@ impl<A: Allocator> Memo<A> {
         }
     }
 
-    /// How many destinations are remembered.
+    /// Returns the number of destinations that are remembered.
     pub(crate) fn len(&self) -> usize
         ensures value { result ≡ length self.now.hops }
         ensures few { result ≤ max_remembered }
@@ -90,14 +90,14 @@ impl<A: Allocator> Memo<A> {
         self.hops.len()
     }
 
-    /// Nothing is remembered any more.
+    /// Forgets everything.
     pub(crate) fn forget(&mut self)
         ensures { self.new ≡ forgotten self.old }
     {
         self.hops.clear();
     }
 
-    /// What is remembered is asked for up to a moment, in milliseconds, or at each.
+    /// Sets the last moment at which what is remembered may be used, in milliseconds, or that there is none.
     pub(crate) fn until(&mut self, until: Option<u64>)
         ensures { self.new ≡ record self.old { until = until } }
     {

@@ -28,8 +28,8 @@ impl<A: Allocator + Clone> Choice<A> {
     ghost use Rattle.nd_nexthop.specs.Memo.{is_asked};
     ghost use Rattle.nd_nexthop.specs.Choice.{Agrees, Stands, target_in};
 
-    /// The next hop of a packet at a moment, in milliseconds (RFC 4861, section 5.2), where what is remembered agrees with the view. It
-    /// remembers this answer, if it can: want of memory changes nothing else.
+    /// Returns the next hop of a packet at a moment, in milliseconds (RFC 4861, section 5.2), if what is remembered agrees with the view. It
+    /// remembers the next hop; when out of memory it does not, and nothing else differs.
     pub fn next_hop<V: View>(&mut self, now: u64, destination: Addr, view: &V) -> Hop
         ensures value { Agrees now (V.own view.now) (V.linked view.now) (V.candidates view.now) self.old
             → hop_of result ≡ hop (V.own view.now) (V.linked view.now) (V.candidates view.now) (target_in (number_of destination.0) self.old.redirects) destination.0 }

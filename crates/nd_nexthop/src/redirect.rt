@@ -12,9 +12,8 @@ impl<A: Allocator + Clone> Choice<A> {
     ghost use Rattle.nd_nexthop.specs.History.{Redirected};
     ghost use Rattle.nd_nexthop.specs.Choice.{GainsRow};
 
-    /// A Redirect tells the better first hop of a destination, its target (RFC 4861, section 8.3). Where 64 other destinations were
-    /// redirected since the last one of a destination, that one is forgotten. No next hop is remembered. The error is want of memory, and
-    /// then nothing has changed.
+    /// Takes a Redirect: `target` is the better first hop of a destination (RFC 4861, section 8.3). Only the redirects of the 64 destinations
+    /// redirected most recently are kept. Remembered next hops are forgotten. Out of memory: nothing has changed.
     pub fn redirected(&mut self, destination: Addr, target: Addr) -> Result<(), AllocError>
         ensures stands { OnOk result ((at : ℕ) → GainsRow self.old self.new (Redirected at (number_of destination.0) (number_of target.0))) }
         ensures memory { OnOk result (self.new.memory ≡ forgotten self.old.memory) }

@@ -18,8 +18,8 @@ impl<R: Rng + Drop, A: Allocator + Clone> Node<R, A> {
     ghost use Rattle.nd_chronicle.specs.NextHop.{IsHopOf, IsNextHop};
     ghost use Rattle.nd_node.specs.Node.{Stands, next_of};
 
-    /// The next hop that a host would choose for a packet to a destination at a moment, in milliseconds, up to which nothing is due (RFC 4861,
-    /// section 5.2). It takes no memory.
+    /// Returns the next hop that a host chooses for a packet to a destination at a moment, in milliseconds, up to which nothing is due (RFC
+    /// 4861, section 5.2). It may take memory to remember the next hop, and does without if there is none.
     pub(crate) fn next_hop(&mut self, now: u64, destination: Addr) -> Hop
         requires settled { now < next_of self.old }
         ensures next { (start : Start) (c : Chronicle) → Stands R.stream start self.old c → last_moment start.at c ≤ now → IsNextHop c now destination (hop_of result) }
