@@ -54,7 +54,7 @@ pub fn enters_behind<K, Q: NamesKey<K> + Drop, I: Announces<K, Q> + Copy>(
     lifetime != 0 && !stands_behind(entries, now, announced, taken, name)
 }
 
-/// Whether there is room for so many keys beside those that stand, were each announcement to enter one.
+/// Returns true if there is room for all announced keys besides those that stand, even if each announcement adds one.
 fn are_few<K, Q: NamesKey<K> + Drop, I: Announces<K, Q> + Copy>(room: usize, announced: I) -> bool
     ensures { result ≡ true → length (I.told announced) ≤ room }
 {

@@ -16,8 +16,8 @@ pub const MAX_NEIGHBOURS: usize = 2048;
 /// second neighbour.
 const MAX_RINGS: usize = 2;
 
-/// The neighbours of a node on its link (RFC 4861, section 5.1). Each moment that a call takes or answers is in
-/// milliseconds, from a beginning that is the caller's.
+/// The neighbours of a node on its link (RFC 4861, section 5.1). Each moment that a call takes or returns is in
+/// milliseconds, from a beginning that the caller chooses.
 #[derive(Drop)]
 pub struct Cache<A: Allocator> {
     pub(crate) entries: Vec<Entry<A>, A>,
@@ -43,7 +43,7 @@ impl<A: Allocator> Model for Cache<A> {
 impl<A: Allocator + Clone> Cache<A> {
     ghost use Rattle.nd_neighbour.specs.Table.{Stands, max_neighbours};
 
-    /// A cache with room for so many neighbours, 1 to 2048. All of it is reserved here; an error comes where memory is refused.
+    /// Returns an empty cache with room for `limit` neighbours, 1 to 2048, all of it reserved here. The error is out of memory.
     pub fn new(alloc: A, limit: usize) -> Result<Self, AllocError>
         requires least { 1 ≤ limit }
         requires most { limit ≤ max_neighbours }
@@ -67,8 +67,8 @@ impl<A: Allocator> Cache<A> {
     ghost use Rattle.nd_neighbour.specs.Story.{is_present};
     ghost use Rattle.nd_neighbour.specs.Table.{Stands, node_in};
 
-    /// Whether a neighbour is present, with the entries counted that are looked at for it: at most as many as the number of neighbours
-    /// has binary digits.
+    /// Returns true if a neighbour is present. `probes` counts the entries that the search looks at: at most as many as the number of
+    /// neighbours has binary digits.
     pub fn find(&self, addr: Addr, probes: &mut Probes) -> bool
         ensures value { result ≡ is_some (node_in (number_of addr.0) self.now.nodes) }
         ensures present { (history : List Row) → Stands self.now.nodes history → result ≡ is_present (story (number_of addr.0) history) }
@@ -79,7 +79,7 @@ impl<A: Allocator> Cache<A> {
         search(&self.entries, &number, probes).is_ok()
     }
 
-    /// How many neighbours there are, at most as many as the cache has room for.
+    /// Returns the number of neighbours, at most as many as the cache has room for.
     pub fn len(&self) -> usize
         ensures value { result ≡ length self.now.nodes }
         ensures few { result ≤ self.now.limit }

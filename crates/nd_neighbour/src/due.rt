@@ -32,7 +32,7 @@ impl<A: Allocator> Cache<A> {
     ghost use Rattle.nd_neighbour.specs.Due.{FirstDue, NextDue, NoneBefore, due_row, next_in, turns_left};
     ghost use Rattle.nd_neighbour.specs.View.{falls_of};
 
-    /// The earliest moment at which something falls due, in milliseconds, if there is one. It may have passed.
+    /// Returns the earliest moment at which something is due, in milliseconds, if there is one. It may have passed.
     pub fn next_due(&self) -> Option<u64>
         ensures value { result ≡ next_in self.now.nodes }
         ensures due { (history : List Row) → Stands self.now.nodes history → NextDue history result }
@@ -40,11 +40,11 @@ impl<A: Allocator> Cache<A> {
         self.dates.next()
     }
 
-    /// What falls due at this moment, for the least address for which something does (RFC 4861, sections 7.2.2 and
-    /// 7.3.3). None where nothing falls due at it; nothing changes then.
+    /// Returns what is due at `now`, for the lowest address for which something is (RFC 4861, sections 7.2.2 and
+    /// 7.3.3). Returns `None` if nothing is due; the cache is unchanged.
     ///
-    /// It asks that nothing is left that fell due earlier. So a caller who comes late doesn't ask with the moment that
-    /// it is, but with the one that `next_due` tells, until that lies ahead.
+    /// Nothing may have been due before `now`. A late caller passes what `next_due` returns, until that is in the
+    /// future.
     pub fn turn(&mut self, now: u64) -> Option<Due<A>>
         requires moment { now < 2 ^ 62 }
         requires none_before { NoneBefore self.old.nodes now }
@@ -64,7 +64,7 @@ impl<A: Allocator> Cache<A> {
     }
 }
 
-/// What falls due now for the first entry for which something does: a solicitation, or its end.
+/// Returns what is due now for the first entry for which something is: a solicitation, or its end.
 pub(crate) fn turn_first<A: Allocator>(
     entries: &mut Vec<Entry<A>, A>,
     dates: &mut Schedule<A>,
@@ -98,7 +98,7 @@ impl<A: Allocator> Entry<A> {
     ghost use Rattle.nd_neighbour.specs.Due.{falls, solicited, stays};
     ghost use Rattle.nd_neighbour.specs.View.{falls_of};
 
-    /// A solicitation that is due is sent, if one is left.
+    /// Takes the next step of its solicitations and returns it, if one is left.
     pub(crate) fn solicit(&mut self, now: u64) -> Option<Due<A>>
         requires { now < 2 ^ 62 }
         ensures entry { self.new ≡ (if stays (falls self.old) then solicited now self.old else self.old) }
@@ -127,7 +127,7 @@ impl<A: Allocator> Entry<A> {
         }
     }
 
-    /// The end of an entry for which no solicitation is left.
+    /// Returns the end of an entry for which no solicitation is left.
     pub(crate) fn end(self) -> Due<A>
         requires { stays (falls self) ≡ false }
         ensures { falls_of result ≡ falls self }

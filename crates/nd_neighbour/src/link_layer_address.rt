@@ -16,8 +16,8 @@ use nd_table::{Addressed, Dated, Schedule, locate};
 use nd_waiting::Packets;
 use std::alloc::Allocator;
 
-/// A message gives a link-layer address (RFC 4861, sections 6.2.6, 6.3.4, 7.2.3 and 8.3): it changes the entry that is
-/// there, or makes one that is STALE, where there is place. Else it answers Full.
+/// Records the link-layer address that a message gives (RFC 4861, sections 6.2.6, 6.3.4, 7.2.3 and 8.3): changes the
+/// entry that is there, or adds one that is STALE. Returns `Full` if there is no room for it; the table is unchanged.
 pub(crate) fn give_or_enter<A: Allocator>(
     entries: &mut Vec<Entry<A>, A>,
     dates: &mut Schedule<A>,
@@ -55,7 +55,7 @@ pub(crate) fn give_or_enter<A: Allocator>(
     Ok(Touched::nothing())
 }
 
-/// Gives the entry at place `i`, which is that of `addr`, a link-layer address.
+/// Records the link-layer address that a message gives for `addr`, whose entry is at place `i`.
 pub(crate) fn give<A: Allocator>(
     entries: &mut Vec<Entry<A>, A>,
     dates: &mut Schedule<A>,

@@ -13,7 +13,7 @@ use nd_table::{Dated, Schedule, find};
 use nd_waiting::Packets;
 use std::alloc::Allocator;
 
-/// A Neighbor Advertisement comes (RFC 4861, section 7.2.5). Where there is no entry it is discarded, and makes none.
+/// Takes a received Neighbor Advertisement (RFC 4861, section 7.2.5). If there is no entry it is discarded, and adds none.
 pub(crate) fn advertise<A: Allocator>(
     entries: &mut Vec<Entry<A>, A>,
     dates: &mut Schedule<A>,

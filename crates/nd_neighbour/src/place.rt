@@ -9,7 +9,7 @@ use nd_addr::Addr;
 use nd_table::{Addressed, Dated, Schedule, put};
 use std::alloc::Allocator;
 
-/// The place of the one of two entries that is stale for longer, at a tie of the first.
+/// Returns the place of the one of two entries that has been stale for longer, at a tie that of the first.
 fn pick<A: Allocator>(
     entries: &[Entry<A>],
     best: Option<usize>,
@@ -31,7 +31,7 @@ fn pick<A: Allocator>(
     }
 }
 
-/// The place of the entry that is stale for longest, of those the one of the least address.
+/// Returns the place of the entry that has been stale for longest, at a tie that of the lowest address.
 pub(crate) fn stalest<A: Allocator>(entries: &[Entry<A>], now: u64) -> Option<usize>
     ensures within { IfSome result (λ i. i < length entries.now) }
     ensures stalest { picked entries.now result ≡ stalest now entries.now }
@@ -43,7 +43,7 @@ pub(crate) fn stalest<A: Allocator>(entries: &[Entry<A>], now: u64) -> Option<us
     best
 }
 
-/// Whether there is place for one more entry, or an entry that makes place.
+/// Returns true if there is room for one more entry, or an entry that can be evicted.
 pub(crate) fn has_place<A: Allocator>(entries: &[Entry<A>], limit: usize, now: u64) -> bool
     ensures { result ≡ has_place limit now entries.now }
 {
@@ -116,7 +116,7 @@ pub(crate) fn enter<A: Allocator>(
 impl<A: Allocator> Entry<A> {
     ghost use Rattle.nd_neighbour.specs.Place.{is_stale, since_of};
 
-    /// Whether it is stale at a moment (STALE).
+    /// Returns true if it is stale at `now` (STALE).
     pub(crate) fn is_stale(&self, now: u64) -> bool
         ensures { result ≡ is_stale self.now.stage now }
     {
@@ -133,7 +133,7 @@ impl<A: Allocator> Entry<A> {
         }
     }
 
-    /// Since when it isn't known to be reachable.
+    /// Returns the moment since which it isn't known to be reachable.
     pub(crate) fn since(&self) -> u64
         ensures { result ≡ since_of self.now.stage }
     {

@@ -14,8 +14,8 @@ impl<A: Allocator> Cache<A> {
     ghost use Rattle.nd_neighbour.specs.History.{Confirmed};
     ghost use Rattle.nd_neighbour.specs.Table.{GainsRow};
 
-    /// An upper layer confirms that a neighbour is reached (RFC 4861, section 7.3.1). It is REACHABLE for `reachable`
-    /// milliseconds from `now` on. Where there is no entry, or no link-layer address in it, nothing changes.
+    /// Takes an upper layer's confirmation that a neighbour is reached (RFC 4861, section 7.3.1). It is REACHABLE for
+    /// `reachable` milliseconds from `now` on. If it has no entry, or no link-layer address in it, nothing changes.
     pub fn confirmed(&mut self, now: u64, addr: Addr, reachable: u64)
         requires moment { now < 2 ^ 62 }
         requires span { reachable < 2 ^ 62 }
@@ -27,7 +27,7 @@ impl<A: Allocator> Cache<A> {
     }
 }
 
-/// An upper layer confirms that an entry that may be there is reached (RFC 4861, section 7.3.1).
+/// Takes an upper layer's confirmation for an entry that may be there (RFC 4861, section 7.3.1).
 pub(crate) fn confirm<A: Allocator>(
     entries: &mut Vec<Entry<A>, A>,
     dates: &mut Schedule<A>,

@@ -18,7 +18,7 @@ impl<A: Allocator> Cache<A> {
     ghost use Rattle.nd_neighbour.specs.Table.{GainsRow, Stands, node_in};
     ghost use Rattle.nd_neighbour.specs.Removal.{all_waiting, waiting_at};
 
-    /// A neighbour is forgotten, if it is there. What waited for it is handed out.
+    /// Removes a neighbour, if it is there, and returns the packets that waited for it.
     pub fn forget(&mut self, addr: Addr) -> Packets<A>
         ensures stands { (at : ℕ) → GainsRow self.old.nodes self.new.nodes (at, number_of addr.0, Forgot Removed) }
         ensures value { result ≡ waiting_at (node_in (number_of addr.0) self.old.nodes) }
@@ -29,8 +29,7 @@ impl<A: Allocator> Cache<A> {
         remove(&mut self.entries, &mut self.dates, addr)
     }
 
-    /// How many packets wait for a neighbour, at most three: so many places a caller needs for what `heard`, `turn` or `forget` hands
-    /// out of it.
+    /// Returns the number of packets that wait for a neighbour, at most three: `heard`, `turn` and `forget` return no more of its packets.
     pub fn waiting_at(&self, addr: Addr) -> usize
         ensures value { result ≡ length (waiting_at (node_in (number_of addr.0) self.now.nodes)) }
         ensures by_history { (history : List Row) → Stands self.now.nodes history → result ≡ length (waits_of (story (number_of addr.0) history)) }
@@ -39,7 +38,7 @@ impl<A: Allocator> Cache<A> {
         count_at(&self.entries, addr)
     }
 
-    /// How many packets wait.
+    /// Returns the number of packets that wait.
     pub fn waiting(&self) -> usize
         ensures { result ≡ length (all_waiting self.now.nodes) }
     {
@@ -52,8 +51,8 @@ impl<A: Allocator + Clone> Cache<A> {
     ghost use Rattle.nd_neighbour.specs.Table.{Stands};
     ghost use Rattle.nd_neighbour.specs.Removal.{all_waiting, cleared};
 
-    /// All neighbours are forgotten. What waited is handed out, in the order of the addresses, the oldest first. Where
-    /// memory for the list of packets is refused, none is forgotten.
+    /// Removes all neighbours and returns the packets that waited, in the order of the addresses, the oldest first. Out of
+    /// memory: nothing has changed.
     pub fn clear(&mut self) -> Result<Vec<Packet<A>, A>, AllocError>
         ensures stands { OnOk result ((at : ℕ) (history : List Row) → Stands self.old.nodes history → Stands self.new.nodes (cleared at self.old.nodes history)) }
         ensures none { OnOk result (self.new.nodes ≡ []) }
@@ -68,7 +67,7 @@ impl<A: Allocator + Clone> Cache<A> {
     }
 }
 
-/// Takes an entry out, if it is there.
+/// Removes an entry, if it is there, and returns the packets that waited at it.
 pub(crate) fn remove<A: Allocator>(
     entries: &mut Vec<Entry<A>, A>,
     dates: &mut Schedule<A>,

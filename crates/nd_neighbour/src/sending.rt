@@ -40,13 +40,13 @@ impl<A: Allocator + Clone> Cache<A> {
     ghost use Rattle.nd_neighbour.specs.Room.{LeavesRoom};
     ghost use Rattle.nd_neighbour.specs.View.{sending_of};
 
-    /// A packet is to be sent to a neighbour (RFC 4861, sections 7.2.2 and 7.3.3): it can be, or it waits until the
-    /// link-layer address is known, and the first one that waits begins a resolution. Of `times` only RetransTimer
-    /// counts, and only where a resolution or probing begins.
+    /// Returns what becomes of a packet for a neighbour (RFC 4861, sections 7.2.2 and 7.3.3): it can be sent, or it waits
+    /// until the link-layer address is known, and the first one that waits begins a resolution. Of `times` only
+    /// RetransTimer counts, and only if a resolution or probing begins.
     ///
-    /// `Full` comes where the neighbour is new, all places are taken and no neighbour is STALE; `Memory` where it is
-    /// new, none of the rings that `ready` makes is in hand, and the allocator refuses one. The packet comes back, and
-    /// nothing has changed.
+    /// Returns `Full` if the neighbour is new, the table is full and no neighbour is STALE, and `Memory` if it is new, no
+    /// ring that `ready` makes is in reserve, and the allocator refuses one. The packet is returned, and nothing has
+    /// changed.
     pub fn used(
         &mut self,
         now: u64,
@@ -113,7 +113,7 @@ impl<A: Allocator + Clone> Cache<A> {
     }
 }
 
-/// Sends a packet to the neighbour whose entry is at place `i`, or lets it wait there.
+/// Returns what becomes of a packet for the neighbour whose entry is at place `i`: it can be sent, or waits there.
 pub(crate) fn pass<A: Allocator>(
     entries: &mut Vec<Entry<A>, A>,
     dates: &mut Schedule<A>,

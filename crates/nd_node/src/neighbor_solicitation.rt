@@ -12,7 +12,7 @@ ghost use Rattle.nd_node.specs.Hearing.{AddsMessage, Keeps};
 use crate::node::Node;
 use nd_addr::{Addr, Role};
 use nd_decode::{Body, NeighborSolicitation, Options};
-use nd_effects::{hear_of_neighbour, news_of, times_in_force, waiting_for};
+use nd_effects::{hear_conflict, hear_of_neighbour, news_of, times_in_force, waiting_for};
 use nd_frames::FrameRoom;
 use nd_neighbour::{Cache, News};
 use nd_out::{Limit, Out, Refusal};
@@ -89,8 +89,7 @@ impl<R: Rng + Drop, A: Allocator + Clone> Node<R, A> {
                 body,
             },
         ));
-        if self.addresses.conflict(ns.target) {
-            self.choice.changed();
+        if hear_conflict(&mut self.addresses, &mut self.choice, ns.target) {
             outs.push_reserved((now, Out::Duplicate(ns.target)));
             return Ok(());
         }

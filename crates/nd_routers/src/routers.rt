@@ -15,7 +15,7 @@ use std::marker::Model;
 /// The most default routers that a list may have room for (our choice).
 pub const MAX_ROUTERS: usize = 64;
 
-/// The default routers, in the order in which they came (RFC 4861, section 5.1).
+/// The default routers, in the order in which they arrived (RFC 4861, section 5.1).
 #[derive(Drop)]
 pub struct Routers<A: Allocator> {
     pub(crate) entries: Vec<Lasting<Router>, A>,
@@ -45,7 +45,7 @@ impl<A: Allocator + Clone> Routers<A> {
     ghost use Rattle.nd_routers.specs.History.{RouterRow};
     ghost use Rattle.nd_routers.specs.Routers.{max_routers, Stands, then_left, keys};
 
-    /// No routers, with room for so many, 1 to 64. All of it is reserved here; the error is want of memory.
+    /// Returns an empty list with room for `limit` routers, 1 to 64, all of it reserved here. The error is out of memory.
     pub fn new(alloc: A, limit: usize) -> Result<Self, AllocError>
         requires least { 1 ≤ limit }
         requires most { limit ≤ max_routers }
@@ -65,8 +65,7 @@ impl<A: Allocator + Clone> Routers<A> {
         })
     }
 
-    /// All routers leave the list. They are handed out in the order in which they came. The error is want of memory, and then none has
-    /// left.
+    /// Removes all routers and returns their addresses, in the order in which they arrived. Out of memory: nothing has changed.
     pub fn clear(&mut self) -> Result<Vec<Addr, A>, AllocError>
         ensures routers { IfOk result (λ routers. map (λ a. number_of a.0) routers.items ≡ keys self.old.entries) }
         ensures stands { OnOk result ((at : ℕ) (history : List RouterRow) → Stands self.old history → Stands self.new (then_left at (keys self.old.entries) history)) }
@@ -86,7 +85,7 @@ impl<A: Allocator> Routers<A> {
     ghost use Rattle.nd_routers.specs.History.{RouterRow, announcements};
     ghost use Rattle.nd_routers.specs.Routers.{max_routers, same, Stands};
 
-    /// Whether a router is in the list at a moment, in milliseconds.
+    /// Returns true if a router is in the list at `now`, in milliseconds.
     pub fn holds(&self, now: u64, source: Addr) -> bool
         ensures value { result ≡ is_some (end_in same (number_of source.0) (open_at now self.now.entries)) }
         ensures stands { (history : List RouterRow) → Stands self.now history → result ≡ stands same (number_of source.0) (announcements history) now }
@@ -94,7 +93,7 @@ impl<A: Allocator> Routers<A> {
         stands(&self.entries, now, &source)
     }
 
-    /// The routers in the list at a moment, with their ends, both in milliseconds, in the order in which they came.
+    /// Returns the routers in the list at `now`, with their ends, both in milliseconds, in the order in which they arrived.
     pub fn rows(&self, now: u64) -> Standing<'_, Router>
         ensures value { standing_left result ≡ open_at now self.now.entries }
         ensures lists { (history : List RouterRow) → Stands self.now history → Lists same (announcements history) now (standing_left result) }
@@ -102,7 +101,7 @@ impl<A: Allocator> Routers<A> {
         Standing::new(&self.entries, now)
     }
 
-    /// How many routers there are whose end hasn't been told.
+    /// Returns the number of routers whose end `turn` has not reported.
     pub fn len(&self) -> usize
         ensures value { result ≡ length self.now.entries }
         ensures few { result ≤ self.now.limit }
@@ -112,7 +111,7 @@ impl<A: Allocator> Routers<A> {
     }
 }
 
-/// The addresses of the routers.
+/// Returns the addresses of the routers.
 fn addresses<A: Allocator + Clone>(
     entries: &Vec<Lasting<Router>, A>,
 ) -> Result<Vec<Addr, A>, AllocError>

@@ -1,11 +1,11 @@
 -- To which own addresses a packet goes.
 use Rattle.std.proofs.Common.{◌≡◌, ◌<◌, ℕ, Bool, true, false, cond, List, [], ◌∷◌, Option, Some, None, inl, inr, refl, sym, ◌∙◌, ap, subst, arith}
-use Rattle.std.specs.Prelude.{◌⊎◌, ◌&&◌, ◌||◌, ◌==◌, not, is_some, bytes_eq}
+use Rattle.std.specs.Prelude.{◌⊎◌, ◌&&◌, ◌||◌, ◌==◌, not, is_some, bytes_eq, slice_index}
 use Rattle.std.specs.List.{list_any}
 use Rattle.std.specs.Cmp.Lexicographic.{bytes_decides}
-use Rattle.std.proofs.lemmas.Bool.{and_parts, and_from, eqb-true, eq-eqb, or_left, or_right, or_cases}
+use Rattle.std.proofs.lemmas.Bool.{and_parts, and_from, eqb-true, eq-eqb, or_left, or_right, or_cases, true≢false}
 use Rattle.nd_table.specs.Keyed.{at_key, Rises}
-use Rattle.nd_table.proofs.Keyed.{above_in}
+use Rattle.nd_table.proofs.Keyed.{above_in, key_is}
 use Rattle.nd_addr.specs.declared.addr.Addr.{Addr}
 use Rattle.nd_addr.specs.Bytes.{AreBytes}
 use Rattle.nd_addr.specs.Kind.{solicited_node_of}
@@ -17,7 +17,7 @@ use Rattle.nd_slaac.specs.State.{Forming, forming_of, has_conflict, was_assigned
 use Rattle.nd_slaac.specs.Ends.{preferred_end, valid_end}
 use Rattle.nd_slaac.specs.Address.{Address, address_by, stage_by}
 use Rattle.nd_slaac.specs.Table.{key_of, address_in, Stands}
-use Rattle.nd_slaac.specs.Destination.{counts, counts_in, counted_in, is_meant, is_to, IsTo}
+use Rattle.nd_slaac.specs.Destination.{counts, counts_in, counted_in, is_meant, is_asked, end_alike, is_to, IsTo}
 
 -- ---- one of the entries
 
@@ -115,15 +115,128 @@ is_meant_by : (destination address : Addr) → (destination.0 ≡ address.0) ⊎
 is_meant_by destination address (inl e) = or_left (bytes_eq destination.0 address.0) (bytes_eq destination.0 (solicited_node_of address.0)) ((bytes_decides destination.0 address.0).1 e)
 is_meant_by destination address (inr e) = or_right (bytes_eq destination.0 address.0) (bytes_eq destination.0 (solicited_node_of address.0)) ((bytes_decides destination.0 (solicited_node_of address.0)).1 e)
 
+-- ---- a solicited-node address
+
+module _ (d : List ℕ) where
+  -- the solicited-node address of one is that of each other that ends alike
+  asked_alike : (x : List ℕ) → d ≡ solicited_node_of d → bytes_eq d (solicited_node_of x) ≡ end_alike x d
+  asked_alike x own = by (bytes_eq d (solicited_node_of x)) refl
+    where
+      alike : d ≡ solicited_node_of x → end_alike x d ≡ true
+      alike e =
+          and_from (slice_index x 13 == slice_index d 13) (slice_index x 14 == slice_index d 14 && slice_index x 15 == slice_index d 15) (eq-eqb (slice_index x 13) (slice_index d 13) (sym (ap (λ (l : List ℕ). slice_index l 13) e)))
+          (and_from (slice_index x 14 == slice_index d 14) (slice_index x 15 == slice_index d 15) (eq-eqb (slice_index x 14) (slice_index d 14) (sym (ap (λ (l : List ℕ). slice_index l 14) e)))
+          (eq-eqb (slice_index x 15) (slice_index d 15) (sym (ap (λ (l : List ℕ). slice_index l 15) e))))
+
+      same : end_alike x d ≡ true → d ≡ solicited_node_of x
+      same h =
+          let p = and_parts (slice_index x 13 == slice_index d 13) (slice_index x 14 == slice_index d 14 && slice_index x 15 == slice_index d 15) h in
+          let q = and_parts (slice_index x 14 == slice_index d 14) (slice_index x 15 == slice_index d 15) p.1 in
+          own ∙ three (slice_index d 13) (slice_index d 14) (slice_index d 15) (slice_index x 13) (slice_index x 14) (slice_index x 15)
+          (sym (eqb-true (slice_index x 13) (slice_index d 13) p.0)) (sym (eqb-true (slice_index x 14) (slice_index d 14) q.0)) (sym (eqb-true (slice_index x 15) (slice_index d 15) q.1))
+        where
+          three : (a b c a' b' c' : ℕ) → a ≡ a' → b ≡ b' → c ≡ c'
+              → 0xff ∷ 2 ∷ 0 ∷ 0 ∷ 0 ∷ 0 ∷ 0 ∷ 0 ∷ 0 ∷ 0 ∷ 0 ∷ 1 ∷ 0xff ∷ a ∷ b ∷ c ∷ [] ≡ 0xff ∷ 2 ∷ 0 ∷ 0 ∷ 0 ∷ 0 ∷ 0 ∷ 0 ∷ 0 ∷ 0 ∷ 0 ∷ 1 ∷ 0xff ∷ a' ∷ b' ∷ c' ∷ []
+          three a b c a' b' c' e f g = cc
+
+      by : (b : Bool) → bytes_eq d (solicited_node_of x) ≡ b → b ≡ end_alike x d
+      by true e = sym (alike ((bytes_decides d (solicited_node_of x)).0 e))
+      by false e = other (end_alike x d) refl
+        where
+          other : (b : Bool) → end_alike x d ≡ b → false ≡ end_alike x d
+          other false h = sym h
+          other true h = let no : false ≡ true = sym e ∙ (bytes_decides d (solicited_node_of x)).1 (same h) in no ∙ sym h
+
+  -- and another address is the solicited-node address of none
+  asked_none : (x : List ℕ) → (d ≡ solicited_node_of d → ⊥) → bytes_eq d (solicited_node_of x) ≡ false
+  asked_none x differ = by (bytes_eq d (solicited_node_of x)) refl
+    where
+      by : (b : Bool) → bytes_eq d (solicited_node_of x) ≡ b → bytes_eq d (solicited_node_of x) ≡ false
+      by false e = e
+      by true e = let same : d ≡ solicited_node_of x = (bytes_decides d (solicited_node_of x)).0 e in absurd (differ (same ∙ sym (ap solicited_node_of same)))
+
 -- the same of what is kept of an address
-pub is_to_by : (counted : Counted) (destination address : Addr) (a : Address) (result : Bool) → addr_at (number_of address.0) ≡ address → number_of address.0 ≡ a.key → counts_in counted a.stage ≡ true
-    → result ≡ is_meant destination address → result ≡ is_to counted destination a
-is_to_by counted destination address a result told key counted' is =
+pub is_asked_by : (counted : Counted) (destination address : Addr) (a : Address) (result : Bool) → addr_at (number_of address.0) ≡ address → number_of address.0 ≡ a.key → counts_in counted a.stage ≡ true
+    → destination.0 ≡ solicited_node_of destination.0 → result ≡ end_alike address.0 destination.0 → result ≡ is_asked counted destination a
+is_asked_by counted destination address a result told key counted' own is =
     let same : addr_at a.key ≡ address = ap addr_at (sym key) ∙ told in
     let number : number_of (addr_at a.key).0 ≡ a.key = ap (λ (x : Addr). number_of x.0) same ∙ key in
-    is ∙ sym (ap (λ b. b && (number_of (addr_at a.key).0 == a.key && is_meant destination (addr_at a.key))) counted'
-    ∙ (ap (λ b. b && is_meant destination (addr_at a.key)) (eq-eqb (number_of (addr_at a.key).0) a.key number)
-    ∙ ap (λ (x : Addr). is_meant destination x) same))
+    is ∙ (sym (asked_alike destination.0 address.0 own)
+    ∙ sym (ap (λ b. b && (number_of (addr_at a.key).0 == a.key && bytes_eq destination.0 (solicited_node_of (addr_at a.key).0))) counted'
+    ∙ (ap (λ b. b && bytes_eq destination.0 (solicited_node_of (addr_at a.key).0)) (eq-eqb (number_of (addr_at a.key).0) a.key number)
+    ∙ ap (λ (x : Addr). bytes_eq destination.0 (solicited_node_of x.0)) same)))
+
+-- where a destination is no solicited-node address, none has it as its own
+pub none_asked : (counted : Counted) (destination : Addr) (addresses : List Address) → (destination.0 ≡ solicited_node_of destination.0 → ⊥) → list_any (is_asked counted destination) addresses ≡ false
+none_asked counted destination [] differ = refl
+none_asked counted destination (a ∷ addresses) differ =
+    ap (λ b. (counts_in counted a.stage && (number_of (addr_at a.key).0 == a.key && b)) || list_any (is_asked counted destination) addresses) (asked_none destination.0 (addr_at a.key).0 differ)
+    ∙ (nothing (counts_in counted a.stage) (number_of (addr_at a.key).0 == a.key) (list_any (is_asked counted destination) addresses) ∙ none_asked counted destination addresses differ)
+  where
+    nothing : (a b c : Bool) → ((a && (b && false)) || c) ≡ c
+    nothing true true c = refl
+    nothing true false c = refl
+    nothing false b c = refl
+
+-- a destination means the address that it is, or those that have it as their solicited-node address
+pub is_to_either : (counted : Counted) (destination : Addr) (addresses : List Address) → Rises key_of addresses → addr_at (number_of destination.0) ≡ destination
+    → list_any (is_to counted destination) addresses ≡ (counted_in counted (address_in (number_of destination.0) addresses) || list_any (is_asked counted destination) addresses)
+is_to_either counted destination addresses rises told = by (list_any (is_to counted destination) addresses) refl
+  where
+    it : (o : Option Address) → address_in (number_of destination.0) addresses ≡ o → counted_in counted o ≡ true → list_any (is_to counted destination) addresses ≡ true
+    it None e h = let no : false ≡ true = h in absurd (true≢false (sym no))
+    it (Some n) e h =
+        let n_key : n.key ≡ number_of destination.0 = key_is key_of (number_of destination.0) addresses n e in
+        let same : addr_at n.key ≡ destination = ap addr_at n_key ∙ told in
+        let number : number_of (addr_at n.key).0 ≡ n.key = ap (λ (x : Addr). number_of x.0) same ∙ sym n_key in
+        found_any key_of (is_to counted destination) (number_of destination.0) addresses n e
+        (and_from (counts_in counted n.stage) (number_of (addr_at n.key).0 == n.key && is_meant destination (addr_at n.key)) h
+        (and_from (number_of (addr_at n.key).0 == n.key) (is_meant destination (addr_at n.key)) (eq-eqb (number_of (addr_at n.key).0) n.key number)
+        (is_meant_by destination (addr_at n.key) (inl (sym (ap (λ (x : Addr). x.0) same))))))
+
+    its : list_any (is_asked counted destination) addresses ≡ true → list_any (is_to counted destination) addresses ≡ true
+    its h =
+        let f = any_found key_of (is_asked counted destination) addresses rises h in
+        let n = f.0 in
+        let p = and_parts (counts_in counted n.stage) (number_of (addr_at n.key).0 == n.key && bytes_eq destination.0 (solicited_node_of (addr_at n.key).0)) f.2 in
+        let q = and_parts (number_of (addr_at n.key).0 == n.key) (bytes_eq destination.0 (solicited_node_of (addr_at n.key).0)) p.1 in
+        found_any key_of (is_to counted destination) n.key addresses n f.1
+        (and_from (counts_in counted n.stage) (number_of (addr_at n.key).0 == n.key && is_meant destination (addr_at n.key)) p.0
+        (and_from (number_of (addr_at n.key).0 == n.key) (is_meant destination (addr_at n.key)) q.0
+        (or_right (bytes_eq destination.0 (addr_at n.key).0) (bytes_eq destination.0 (solicited_node_of (addr_at n.key).0)) q.1)))
+
+    either : list_any (is_to counted destination) addresses ≡ true → (counted_in counted (address_in (number_of destination.0) addresses) || list_any (is_asked counted destination) addresses) ≡ true
+    either h =
+        let f = any_found key_of (is_to counted destination) addresses rises h in
+        let n = f.0 in
+        let p = and_parts (counts_in counted n.stage) (number_of (addr_at n.key).0 == n.key && is_meant destination (addr_at n.key)) f.2 in
+        let q = and_parts (number_of (addr_at n.key).0 == n.key) (is_meant destination (addr_at n.key)) p.1 in
+        elim (or_cases (bytes_eq destination.0 (addr_at n.key).0) (bytes_eq destination.0 (solicited_node_of (addr_at n.key).0)) q.1) [
+          | inl same ↦
+              let e : number_of destination.0 ≡ n.key = ap number_of ((bytes_decides destination.0 (addr_at n.key).0).0 same) ∙ eqb-true (number_of (addr_at n.key).0) n.key q.0 in
+              or_left (counted_in counted (address_in (number_of destination.0) addresses)) (list_any (is_asked counted destination) addresses)
+              (ap (λ (o : Option Address). counted_in counted o) (ap (λ j. address_in j addresses) e ∙ f.1) ∙ p.0)
+          | inr asks ↦
+              or_right (counted_in counted (address_in (number_of destination.0) addresses)) (list_any (is_asked counted destination) addresses)
+              (found_any key_of (is_asked counted destination) n.key addresses n f.1
+              (and_from (counts_in counted n.stage) (number_of (addr_at n.key).0 == n.key && bytes_eq destination.0 (solicited_node_of (addr_at n.key).0)) p.0
+              (and_from (number_of (addr_at n.key).0 == n.key) (bytes_eq destination.0 (solicited_node_of (addr_at n.key).0)) q.0 asks)))
+        ]
+
+    by : (b : Bool) → list_any (is_to counted destination) addresses ≡ b → b ≡ (counted_in counted (address_in (number_of destination.0) addresses) || list_any (is_asked counted destination) addresses)
+    by true e = sym (either e)
+    by false e = none (counted_in counted (address_in (number_of destination.0) addresses) || list_any (is_asked counted destination) addresses) refl
+      where
+        none : (b : Bool) → (counted_in counted (address_in (number_of destination.0) addresses) || list_any (is_asked counted destination) addresses) ≡ b
+            → false ≡ (counted_in counted (address_in (number_of destination.0) addresses) || list_any (is_asked counted destination) addresses)
+        none false h = sym h
+        none true h =
+            let yes' : list_any (is_to counted destination) addresses ≡ true =
+            elim (or_cases (counted_in counted (address_in (number_of destination.0) addresses)) (list_any (is_asked counted destination) addresses) h) [
+              | inl one ↦ it (address_in (number_of destination.0) addresses) refl one
+              | inr asks ↦ its asks
+            ] in
+            absurd (true≢false (sym yes' ∙ e))
 
 module _ (counted : Counted) (destination : Addr) (addresses : List Address) (history : List Row) (s : Stands addresses history)
     (told : (address : Addr) → AreBytes 16 address.0 → addr_at (number_of address.0) ≡ address) (bytes : (number : ℕ) → AreBytes 16 (addr_at number).0) where

@@ -1,5 +1,5 @@
 -- Whether a packet goes to an own address, or to the solicited-node address of one (RFC 4291, section 2.8).
-use Rattle.std.specs.Prelude.{◌≡◌, ◌⊎◌, Bool, true, false, ◌&&◌, ◌||◌, ◌==◌, bytes_eq, List, Option, Some, None}
+use Rattle.std.specs.Prelude.{◌≡◌, ◌⊎◌, ℕ, Bool, true, false, ◌&&◌, ◌||◌, ◌==◌, bytes_eq, slice_index, List, Option, Some, None}
 use Rattle.nd_addr.specs.declared.addr.Addr.{Addr}
 use Rattle.nd_addr.specs.Bytes.{AreBytes}
 use Rattle.nd_addr.specs.Kind.{solicited_node_of}
@@ -40,6 +40,14 @@ counted_in counted (Some a) = counts_in counted a.stage
 -- the destination is the address, or its solicited-node address
 abbrev pub is_meant : Addr → Addr → Bool
 is_meant destination address = bytes_eq destination.0 address.0 || bytes_eq destination.0 (solicited_node_of address.0)
+
+-- the destination is the solicited-node address of one that counts
+abbrev pub is_asked : Counted → Addr → Address → Bool
+is_asked counted destination a = counts_in counted a.stage && (number_of (addr_at a.key).0 == a.key && bytes_eq destination.0 (solicited_node_of (addr_at a.key).0))
+
+-- two addresses have the same last three bytes
+abbrev pub end_alike : List ℕ → List ℕ → Bool
+end_alike a b = slice_index a 13 == slice_index b 13 && (slice_index a 14 == slice_index b 14 && slice_index a 15 == slice_index b 15)
 
 -- what is kept is the number of an address
 abbrev pub is_to : Counted → Addr → Address → Bool

@@ -28,7 +28,7 @@ pub struct AddressRoom<A: Allocator> {
 }
 
 impl<A: Allocator + Clone> AddressRoom<A> {
-    /// Room for 64 addresses and their dates, which is all that an interface ever takes. The error is want of memory.
+    /// Reserves room for 64 addresses and their dates, all that an interface ever takes. The error is out of memory.
     pub fn new(alloc: A) -> Result<Self, AllocError> {
         let entries = Vec::with_capacity(alloc.clone()?, MAX_ADDRESSES)?;
         let ends = Schedule::new(alloc.clone()?, MAX_ADDRESSES)?;
@@ -75,9 +75,9 @@ impl<A: Allocator> Addresses<A> {
     ghost use Rattle.nd_slaac.specs.PrefixOption.{link_local_of};
     ghost use Rattle.nd_slaac.specs.Calls.{formed};
 
-    /// The addresses of an interface that starts: its link-local address, whose first solicitation waits for a delay
-    /// (RFC 4862, sections 5.3 and 5.4.2). Moment, delay and RetransTimer are in milliseconds, and each detection sends so many
-    /// solicitations. The room was taken before, so this takes no memory, and a delay that was drawn for it is never lost.
+    /// Returns the addresses of an interface that starts: its link-local address, whose first solicitation waits for `delay`
+    /// (RFC 4862, sections 5.3 and 5.4.2). Moment, delay and RetransTimer are in milliseconds. Each detection sends `transmits`
+    /// solicitations. Takes no memory, since `room` was reserved before: a drawn delay is never lost.
     pub fn start(
         room: AddressRoom<A>,
         now: u64,
@@ -107,7 +107,7 @@ impl<A: Allocator> Addresses<A> {
         }
     }
 
-    /// How many addresses there are, the link-local one among them, at most 64.
+    /// Returns the number of addresses, the link-local one among them, at most 64.
     pub fn len(&self) -> usize
         ensures value { result ≡ length self.now.addresses }
         ensures few { result ≤ max_addresses }

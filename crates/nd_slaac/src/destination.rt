@@ -1,9 +1,10 @@
 ghost use Rattle.std.specs.Prelude.{◌≡◌, ◌↔◌, List, true};
 ghost use Rattle.std.specs.List.{list_any};
+ghost use Rattle.nd_addr.specs.Kind.{solicited_node_of};
 ghost use Rattle.nd_addr.specs.Number.{number_of};
 ghost use Rattle.nd_table.specs.Keyed.{Rises};
 ghost use Rattle.nd_slaac.specs.Table.{address_in, key_of};
-ghost use Rattle.nd_slaac.specs.Destination.{counted_in, is_meant, is_to};
+ghost use Rattle.nd_slaac.specs.Destination.{counted_in, end_alike, is_asked, is_to};
 
 use crate::addresses::Addresses;
 use crate::entry::Entry;
@@ -13,7 +14,7 @@ use nd_addr::laws::addresses_are_told_by_numbers;
 use nd_table::find;
 use std::alloc::Allocator;
 
-/// Which own addresses count for a packet that comes.
+/// Which of the node's own addresses count for a received packet.
 #[derive(Clone, Copy, Debug, PartialEq, Eq)]
 pub enum Counted {
     /// The tentative and the assigned ones.
@@ -27,7 +28,7 @@ impl<A: Allocator> Addresses<A> {
     ghost use Rattle.nd_slaac.specs.Table.{Stands, address_in};
     ghost use Rattle.nd_slaac.specs.Destination.{counts, counted_in, IsTo};
 
-    /// Whether an address is an own one that counts.
+    /// Returns true if an address is one of the node's own and counts.
     pub fn counts(&self, counted: Counted, addr: Addr) -> bool
         ensures value { result ≡ counted_in counted (address_in (number_of addr.0) self.now.addresses) }
         ensures by_history { (history : List Row) → Stands self.now.addresses history → result ≡ counts counted (story (number_of addr.0) history) }
@@ -35,7 +36,8 @@ impl<A: Allocator> Addresses<A> {
         entry_counts(&self.entries, counted, addr)
     }
 
-    /// Whether a destination is an own address that counts, or the solicited-node address of one (RFC 4291, section 2.8).
+    /// Returns true if a destination is one of the node's own addresses that counts, or the solicited-node address of one (RFC 4291, section
+    /// 2.8).
     pub fn is_to(&self, counted: Counted, destination: Addr) -> bool
         ensures { (history : List Row) → Stands self.now.addresses history → result ≡ true ↔ IsTo counted history destination }
     {
@@ -44,7 +46,7 @@ impl<A: Allocator> Addresses<A> {
     }
 }
 
-/// Whether the entry of an address is there and counts.
+/// Returns true if the entry of an address is there and counts.
 fn entry_counts(entries: &[Entry], counted: Counted, addr: Addr) -> bool
     requires { Rises key_of entries.now }
     ensures { result ≡ counted_in counted (address_in (number_of addr.0) entries.now) }
@@ -55,29 +57,47 @@ fn entry_counts(entries: &[Entry], counted: Counted, addr: Addr) -> bool
     }
 }
 
-/// Whether one of the entries counts and is meant by a destination.
+/// Returns true if an entry counts and is meant by the destination: it is the destination, or has it as its solicited-node address. Only a
+/// destination in ff02::1:ff00:0/104 is compared with all entries.
 fn any_is_to(entries: &[Entry], counted: Counted, destination: Addr) -> bool
+    requires { Rises key_of entries.now }
     ensures { result ≡ list_any (is_to counted destination) entries.now }
 {
+    addresses_are_told_by_numbers();
+    let _bytes = destination.as_bytes();
+    if entry_counts(entries, counted, destination) {
+        return true;
+    }
+    if destination == destination.solicited_node() {
+        return any_is_asked(entries, counted, destination);
+    }
+    false
+}
+
+/// Returns true if an entry counts and has the destination, a solicited-node address, as its own.
+fn any_is_asked(entries: &[Entry], counted: Counted, destination: Addr) -> bool
+    requires { destination.0 ≡ solicited_node_of destination.0 }
+    ensures { result ≡ list_any (is_asked counted destination) entries.now }
+{
     for entry in entries {
-        if entry.is_to(counted, destination) {
+        if entry.is_asked(counted, destination) {
             return true;
         }
     }
     false
 }
 
-/// Whether a destination is an address, or its solicited-node address.
-fn is_meant(address: Addr, destination: Addr) -> bool
-    ensures { result ≡ is_meant destination address }
+/// Returns true if two addresses have the same last three bytes.
+fn end_alike(a: Addr, b: Addr) -> bool
+    ensures { result ≡ end_alike a.0 b.0 }
 {
-    destination == address || destination == address.solicited_node()
+    a.0[13] == b.0[13] && a.0[14] == b.0[14] && a.0[15] == b.0[15]
 }
 
 impl Entry {
-    ghost use Rattle.nd_slaac.specs.Destination.{counts_in, is_to};
+    ghost use Rattle.nd_slaac.specs.Destination.{counts_in, is_asked};
 
-    /// Whether it counts: a duplicate never does.
+    /// Returns true if it counts: a duplicate never does.
     fn counts(&self, counted: Counted) -> bool
         ensures { result ≡ counts_in counted self.now.stage }
     {
@@ -88,12 +108,13 @@ impl Entry {
         }
     }
 
-    /// Whether it counts and a destination means it.
-    fn is_to(&self, counted: Counted, destination: Addr) -> bool
-        ensures { result ≡ is_to counted destination self.now }
+    /// Returns true if it counts and has the destination, a solicited-node address, as its own.
+    fn is_asked(&self, counted: Counted, destination: Addr) -> bool
+        requires { destination.0 ≡ solicited_node_of destination.0 }
+        ensures { result ≡ is_asked counted destination self.now }
     {
         addresses_are_told_by_numbers();
         let _bytes = self.addr.as_bytes();
-        self.counts(counted) && is_meant(self.addr, destination)
+        self.counts(counted) && end_alike(self.addr, destination)
     }
 }

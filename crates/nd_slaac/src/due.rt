@@ -32,7 +32,7 @@ impl<A: Allocator> Addresses<A> {
     ghost use Rattle.nd_slaac.specs.MayCome.{MayCome};
     ghost use Rattle.nd_slaac.specs.View.{falls_of};
 
-    /// The earliest moment at which something falls due, in milliseconds; `None` where nothing does.
+    /// Returns the earliest moment at which something is due, in milliseconds, or `None`.
     pub fn next_due(&self) -> Option<u64>
         ensures value { result ≡ next_in self.now.addresses }
         ensures due { (history : List Row) → Stands self.now.addresses history → NextDue self.now.transmits history result }
@@ -40,12 +40,11 @@ impl<A: Allocator> Addresses<A> {
         lesser(self.ends.next(), self.steps.next())
     }
 
-    /// What falls due at this moment, in milliseconds: the end of the least address whose valid lifetime ends, and where there is none,
-    /// the step of the least address whose detection has one (RFC 4862, sections 5.4.2 and 5.5.4). `None` where nothing falls due at
-    /// it; nothing changes then.
+    /// Returns what is due at `now`, in milliseconds: the end of the lowest address whose valid lifetime ends then, or if there is none,
+    /// the step of the lowest address whose detection has one (RFC 4862, sections 5.4.2 and 5.5.4). Returns `None` if nothing is due;
+    /// the addresses are unchanged.
     ///
-    /// It asks that nothing is left that fell due earlier. So a caller who comes late doesn't ask with the moment that it is, but with
-    /// the one that `next_due` tells, until that lies ahead.
+    /// Nothing may have been due before `now`. A late caller passes what `next_due` returns, until that is in the future.
     pub fn turn(&mut self, now: u64) -> Option<Due>
         requires moment { now < 2 ^ 62 }
         requires none_before { NoneBefore self.old.addresses now }

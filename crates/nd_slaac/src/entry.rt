@@ -134,7 +134,7 @@ impl Entry {
         self.stage = Stage::Failed;
     }
 
-    /// The next step of its detection, which sends so many solicitations: a further one, or the assignment.
+    /// Takes the next step of its detection and returns it: a further solicitation, up to `transmits` of them, or the assignment.
     pub(crate) fn step(&mut self, transmits: Transmits, now: u64) -> Due
         requires moment { now < 2 ^ 62 }
         requires detecting { is_detecting self.old.stage ≡ true }

@@ -29,11 +29,10 @@ pub fn none_overdue()
     ensures table { (transmits : ℕ) (addresses : List Address) (history : List Row) (now : ℕ) → Stands addresses history → NoneBefore addresses now ↔ NoneOverdue transmits history now }
 {}
 
-/// No address is assigned untried (RFC 4862, section 5.4): in every history an address that is assigned was formed with
-/// a RetransTimer above 0, was tentative at each place up to its assignment, before which each of its solicitations stands, the last one a
-/// RetransTimer before and each other one a RetransTimer before the next; its valid lifetime hadn't ended then, and it has been assigned at each
-/// place since. And where
-/// nothing is due any more up to a moment, the valid lifetime of no address that is known has ended by then.
+/// No address is assigned untried (RFC 4862, section 5.4). In every history, an assigned address was formed with a RetransTimer above 0 and was
+/// tentative up to its assignment. All its solicitations stand before that: the last one a RetransTimer before the assignment, each other one a
+/// RetransTimer before the next. Its valid lifetime had not ended then, and it has been assigned ever since. Besides, if nothing is due up to a
+/// moment, the valid lifetime of no known address has ended by then.
 pub fn none_untried()
     ensures held { (transmits : ℕ) (history : List Row) (key : ℕ) → IsHistory transmits history → is_assigned (story key history) ≡ true → Held transmits key history }
     ensures valid { (transmits : ℕ) (history : List Row) (now : ℕ) → ((moment : ℕ) (falls : Falls) → IsDue transmits history moment falls → now < moment) → (key : ℕ) → is_known (story key history) ≡ true → is_before now (valid_end (story key history)) ≡ true }

@@ -41,10 +41,10 @@ impl<A: Allocator> Addresses<A> {
     ghost use Rattle.nd_slaac.specs.Calls.{keys_in, taken_of, row_taken, GainsRowIfAny, TakenBy};
     ghost use Rattle.nd_slaac.specs.MayCome.{MayCome};
 
-    /// A prefix option of a Router Advertisement is heard (RFC 4862, section 5.5.3): it forms an address, whose first solicitation
-    /// waits for the delay, renews the lifetimes of one that is known, or says nothing. Moment, delay and RetransTimer are in
-    /// milliseconds; the latter two count where an address is formed. `Full` comes where that would be one address too many. It takes
-    /// no memory.
+    /// Takes a prefix option of a Router Advertisement (RFC 4862, section 5.5.3): forms an address, whose first solicitation waits for
+    /// `delay`, renews the lifetimes of a known one, or does nothing. Moment, delay and RetransTimer are in milliseconds; the latter
+    /// two count only if an address is formed. Returns `Full` if that would be one address too many; nothing has changed. Takes no
+    /// memory.
     pub fn heard_prefix(
         &mut self,
         now: u64,

@@ -4,11 +4,11 @@ ghost use Rattle.nd_slaac.specs.Transmits.{IsTransmits, max_transmits};
 
 use std::marker::Model;
 
-/// How many solicitations a duplicate address detection may send at most (our choice).
+/// The most solicitations that a duplicate address detection may send (our choice).
 const MAX_TRANSMITS: u8 = 8;
 
-/// How many solicitations each duplicate address detection of an interface sends, 1 to 8 (RFC 4862, section 5.1, DupAddrDetectTransmits). None
-/// at all, which would be no detection, isn't to be had.
+/// How many solicitations each duplicate address detection of an interface sends, 1 to 8 (RFC 4862, section 5.1, DupAddrDetectTransmits). 0,
+/// which would be no detection, is not offered.
 #[derive(Clone, Copy, Debug, PartialEq, Eq)]
 pub struct Transmits {
     number: u8,
@@ -28,10 +28,10 @@ impl Model for Transmits {
 }
 
 impl Transmits {
-    /// What RFC 4862 has where nothing else is asked for: one.
+    /// The default of RFC 4862: one.
     pub const ONE: Transmits = Transmits { number: 1 };
 
-    /// So many, where that is 1 to 8.
+    /// Returns `number` solicitations, or `None` if that is not 1 to 8.
     pub fn new(number: u8) -> Option<Transmits>
         ensures { SomeIff result (IsTransmits number) number }
     {
@@ -41,7 +41,7 @@ impl Transmits {
         Some(Transmits { number })
     }
 
-    /// How many they are.
+    /// Returns their number.
     pub fn number(self) -> u8
         ensures value { result ≡ self }
         ensures range { IsTransmits self }

@@ -1,3 +1,5 @@
+//! Entries that are found by their addresses.
+
 ghost use Rattle.std.specs.Prelude.{◌≡◌, ℕ};
 ghost use Rattle.nd_addr.specs.Number.{number_of};
 

@@ -1,3 +1,5 @@
+//! Binary search in a list in the order of its keys, with counted looks. `Rises`, `at_key` and `place_of` are in `specs/Keyed.antt`.
+
 ghost use Rattle.std.specs.Prelude.{◌≡◌, ◌<◌, ◌≤◌, ◌+◌, length, slice_get, IfOk, IfErr, None};
 ghost use Rattle.nd_table.specs.Keyed.{at_key, Rises, place_of, binary_digits};
 

@@ -1,3 +1,5 @@
+//! A moment of an entry, and the order of such dates. The order is `rank` of `specs/Dates.antt`.
+
 ghost use Rattle.std.specs.Prelude.{◌≡◌, ◌<◌, ◌^◌};
 ghost use Rattle.nd_addr.specs.Number.{number_of};
 
@@ -5,8 +7,8 @@ use crate::ranked::Ranked;
 use nd_addr::Addr;
 use std::cmp::Ordering;
 
-/// A date of an entry: the moment at which something falls due, in milliseconds, and the number of its address. Dates are in the order of
-/// their moments, and those of one moment in that of the addresses.
+/// A date of an entry: the moment at which something is due for it, in milliseconds, and its address as a number. Dates are ordered by
+/// moment, and dates at one moment by address.
 #[derive(Clone, Copy, Debug, PartialEq, Eq)]
 pub struct Date {
     pub moment: u64,
@@ -14,7 +16,7 @@ pub struct Date {
 }
 
 impl Date {
-    /// The date of an address.
+    /// Returns the date of an address.
     pub(crate) fn new(moment: u64, addr: Addr) -> Self
         ensures moment { result.moment ≡ moment }
         ensures number { result.number ≡ number_of addr.0 }
@@ -26,7 +28,7 @@ impl Date {
         }
     }
 
-    /// The address.
+    /// Returns the address.
     pub fn addr(&self) -> Addr
         ensures { number_of result.0 ≡ self.now.number }
     {

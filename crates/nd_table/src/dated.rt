@@ -1,11 +1,13 @@
+//! Entries that have a date.
+
 ghost use Rattle.std.specs.Prelude.{◌≡◌, ℕ, Option};
 
-/// An entry of a table for which something falls due. One that has several dates has one for each kind `K`.
+/// An entry of a table for which something is due at a moment. An entry with several dates has one for each kind `K`.
 pub trait Dated<K> {
-    /// The moment at which it does, if there is one.
+    /// The moment, if there is one.
     ghost date: { Self → Option ℕ };
 
-    /// The same, in milliseconds.
+    /// Returns the moment, in milliseconds.
     fn date(&self) -> Option<u64>
         ensures { result ≡ date self.now };
 }

@@ -1,10 +1,13 @@
+//! The ends of lifetimes. The definitions are in `specs/Ends.antt`.
+
 ghost use Rattle.std.specs.Prelude.{◌≡◌, ◌<◌, ◌^◌};
 ghost use Rattle.nd_table.specs.Ends.{end_time, is_before};
 
 /// A lifetime without an end, in seconds (RFC 4861, section 4.6.2).
 const INFINITY: u32 = 0xffff_ffff;
 
-/// The end of a lifetime in seconds that begins now, both moments being in milliseconds. All ones have no end (RFC 4861, section 4.6.2).
+/// Returns the end of a lifetime in seconds that begins at `now`; moments are in milliseconds. A lifetime of all ones has no end (RFC 4861,
+/// section 4.6.2).
 pub fn end_time(now: u64, lifetime: u32) -> Option<u64>
     requires { now < 2 ^ 62 }
     ensures { result ≡ end_time now lifetime }
@@ -16,7 +19,7 @@ pub fn end_time(now: u64, lifetime: u32) -> Option<u64>
     }
 }
 
-/// Whether a moment is before an end, if there is one, both in milliseconds.
+/// Returns true if `now` is before an end, or there is none. Both are in milliseconds.
 pub fn is_before(now: u64, end: Option<u64>) -> bool
     ensures { result ≡ is_before now end }
 {

@@ -1,6 +1,6 @@
 #![tactic(auto)]
-//! What tables share that keep entries by their addresses: the order of addresses, moments at which something falls due, the ends of
-//! lifetimes, and what is true of a list that is kept in that order.
+//! What the tables of addresses share: search by address, the dates at which something is due, and the ends of lifetimes. Each table keeps
+//! its entries in the order of their addresses, or in the order in which they arrived.
 
 mod addressed;
 mod binary_search;

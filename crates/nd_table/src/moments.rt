@@ -1,7 +1,9 @@
+//! Moments that may be missing. The definitions are in `specs/Due.antt`.
+
 ghost use Rattle.std.specs.Prelude.{◌≡◌};
 ghost use Rattle.nd_table.specs.Due.{lesser, is_at};
 
-/// The lesser of two moments in milliseconds that may be missing.
+/// Returns the lesser of two moments in milliseconds, either of which may be missing.
 pub fn lesser(a: Option<u64>, b: Option<u64>) -> Option<u64>
     ensures { result ≡ lesser a b }
 {
@@ -11,7 +13,7 @@ pub fn lesser(a: Option<u64>, b: Option<u64>) -> Option<u64>
     }
 }
 
-/// Whether a date, if there is one, is this moment, both in milliseconds.
+/// Returns true if there is a date and it is `now`, both in milliseconds.
 pub fn is_at(now: u64, date: Option<u64>) -> bool
     ensures { result ≡ is_at now date }
 {

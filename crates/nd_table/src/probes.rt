@@ -1,3 +1,5 @@
+//! How many entries a search looks at.
+
 ghost use Rattle.std.specs.Prelude.{◌≡◌, ℕ, ◌≤◌, ◌+◌};
 
 /// What counts the entries that a search looks at.

@@ -1,3 +1,5 @@
+//! The dates of a table, in their order: what falls due next is looked up and not searched for. The definitions are in `specs/Dates.antt`.
+
 ghost use Rattle.std.specs.Prelude.{◌≡◌, ◌≢◌, ℕ, true, ◌<◌, ◌≤◌, ◌+◌, ◌^◌, [], length, slice_get, IfOk, IfSome, IfNone, Some, None, vec_len, vec_capacity};
 ghost use Rattle.std.specs.List.{insert};
 ghost use Rattle.nd_addr.specs.Number.{number_of};

@@ -1,3 +1,5 @@
+//! Look-ups in a table that is in the order of its addresses. The definitions are in `specs/Keyed.antt`.
+
 ghost use Rattle.std.specs.Prelude.{◌≡◌, ◌<◌, ◌≤◌, ◌+◌, length, slice_get, IfOk, IfErr, IfSome, IfNone, None, is_some, vec_len, vec_capacity};
 ghost use Rattle.std.specs.List.{insert};
 ghost use Rattle.nd_addr.specs.Number.{number_of};

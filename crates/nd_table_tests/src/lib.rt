@@ -16,3 +16,5 @@ mod neighbours;
 mod params;
 #[cfg(test)]
 mod routers;
+#[cfg(test)]
+mod schedules;

@@ -40,5 +40,5 @@ returns-in_err-reserve-clause-quiet g c = λ adds.
     let waits = waits_for_sender (record { retrans = 0; reachable = 0 }) (number_of c.args.source.0) (first_slla options) c.news_of-news.result c.args.self.now.neighbours.nodes (c.news_of-news.ensures (record { retrans = 0; reachable = 0 })) in
     absurd (omega (arith, adds.told, waits, c.waiting_for-waiting.ensures.value, c.in_err-reserve.ensures.full))
 
-pub returns-in_default-clause-quiet : goal.returns-in_default-clause-quiet
-returns-in_default-clause-quiet g c = λ adds. c.in_default.ensures.quiet adds.names
+pub returns-in_err-names-clause-quiet : goal.returns-in_err-names-clause-quiet
+returns-in_err-names-clause-quiet g c = λ adds. c.in_err-names.ensures.quiet adds.names
