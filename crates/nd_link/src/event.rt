@@ -28,8 +28,8 @@ use std::alloc::Allocator;
 pub enum LinkEvent<R, A: Allocator> {
     /// Time passes.
     Passes,
-    /// Another node starts, with its role, its link-layer address, how many solicitations it sends for each address, and the generator of its random
-    /// words, which it keeps.
+    /// Another node starts, with the usual limits: its role, its link-layer address, the number of solicitations that it sends for each of its
+    /// addresses, and the generator of its random words.
     Starts(Role, Mac, Transmits, R),
     /// An event comes to a node, by its number.
     Comes(u64, Event<A>),
@@ -37,7 +37,8 @@ pub enum LinkEvent<R, A: Allocator> {
     Delivers(u64, u64),
 }
 
-/// What the types of an event's parts say, that they are of bytes, and that a node solicits once or more often, is handed on as a clause.
+/// Gives as a clause what the types of an event's parts say: addresses and frames are of bytes, and a node sends at least one solicitation for
+/// an address.
 fn known<R: Rng + Drop, A: Allocator>(event: &LinkEvent<R, A>)
     ensures { IsOfBytes (link_event R.stream event.now) }
 {
@@ -91,13 +92,13 @@ impl<W: Wire, R: Rng + Drop, A: Allocator + Copy> Link<W, R, A> {
         answer
     }
 
-    /// Events come, one after the other, each at its moment, in milliseconds. A fault ends them: then some have come, the first ones, and of what
-    /// is due up to the next one a part may have come too; all that is told. Where memory is refused the link is spent. Where its wire fails, all that
-    /// was due up to that event has come, and the link is in use as before.
+    /// Runs events one after the other, each at its moment, in milliseconds, and reports what happens. It stops at the first fault: the events
+    /// before it have run, and possibly part of what is due before the next one, and all of that is reported. Out of memory: the link is closed. If
+    /// the wire fails, all that was due up to that event is done, and the link stays in use.
     ///
-    /// Where no fault came since the link was made and its log is timely, no address is preferred or deprecated at two nodes, at no moment up to
-    /// the last one (RFC 4862, section 5.4). So it is too where frames are lost, but of each attempt for an address one solicitation arrives in time at
-    /// each other node, and the answers to that one come back in time.
+    /// If there was no fault since the link was made, and its log is timely, no address is preferred or deprecated at two nodes at any moment up
+    /// to the last one (RFC 4862, section 5.4). The same holds where frames are lost if, in each attempt for an address, one solicitation arrives in
+    /// time at each other node, and the answers to that solicitation arrive in time.
     pub fn run(
         &mut self,
         events: Vec<(u64, LinkEvent<R, A>), A>,

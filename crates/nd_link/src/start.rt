@@ -1,3 +1,5 @@
+//! The start of a node on a link.
+
 ghost use Rattle.std.specs.Prelude.{◌≡◌, ◌^◌, ◌<◌, ◌≤◌, OnErr, OnOk};
 ghost use Rattle.nd_link_log.specs.Event.{Starts};
 ghost use Rattle.nd_link.specs.Arrival.{Happens};
@@ -14,7 +16,7 @@ use rand_core::Rng;
 use std::alloc::{AllocError, Allocator};
 
 impl<W, R: Rng + Drop, A: Allocator + Copy> Link<W, R, A> {
-    /// Another node starts, if there may be one more. The error is want of memory, and then nothing is told.
+    /// Starts another node, with the usual limits. Refuses it if the link has `MAX_NODES` nodes. Out of memory: nothing is reported.
     pub(crate) fn start(
         &mut self,
         now: u64,
@@ -35,7 +37,15 @@ impl<W, R: Rng + Drop, A: Allocator + Copy> Link<W, R, A> {
         if self.nodes.len() == MAX_NODES {
             return self.refuse(now, Refusal::Full, told);
         }
-        let Ok(node) = Node::new(self.alloc, role, mac, now, transmits, Limits::usual(), generator) else {
+        let Ok(node) = Node::new(
+            self.alloc,
+            role,
+            mac,
+            now,
+            transmits,
+            Limits::usual(),
+            generator,
+        ) else {
             return Err(AllocError);
         };
         self.reach(now)?;

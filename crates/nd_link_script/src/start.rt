@@ -1,4 +1,4 @@
-//! The words of a script by which a node starts.
+//! The words of a `node` line, which starts a node.
 
 ghost use Rattle.std.specs.Prelude.{◌≡◌, List, ℕ, Some, IfSome};
 ghost use Rattle.std.specs.Option.{IsSomeAnd};
@@ -11,18 +11,18 @@ use nd_addr::{Mac, Role};
 use nd_script::{Source, read_transmits, split_word, two_words};
 use nd_slaac::Transmits;
 
-/// How a node starts.
+/// The node that a `node` line starts. It has the usual limits.
 #[derive(Drop)]
 pub(crate) struct NodeStart {
     pub(crate) role: Role,
     pub(crate) mac: Mac,
-    /// How many solicitations it sends for an address.
+    /// The number of solicitations that the node sends for each of its addresses.
     pub(crate) transmits: Transmits,
-    /// Where its random words come from.
+    /// The source of the node's random words.
     pub(crate) source: Source,
 }
 
-/// The Ethernet address that a word spells.
+/// Returns the Ethernet address that a word spells.
 fn read_mac(word: &[u8]) -> Option<Mac>
     ensures found { IfSome result (λ mac. SpellsMac word.now mac.0) }
     ensures only { (mac : Mac) → SpellsMac word.now mac.0 → result ≡ Some mac }
@@ -33,7 +33,7 @@ fn read_mac(word: &[u8]) -> Option<Mac>
     }
 }
 
-/// The Ethernet address that the first word of a text spells, and what follows its space.
+/// Returns the Ethernet address that the first word of a text spells, and what follows its space.
 fn split_mac(text: &[u8]) -> Option<(Mac, &[u8])>
     ensures found { IfSome result (λ parts. Parts text.now (λ word. SpellsMac word parts.0.0) (λ rest. rest ≡ parts.1.now)) }
     ensures only { (mac : Mac) (rest : List ℕ) → Parts text.now (λ word. SpellsMac word mac.0) (λ r. r ≡ rest)
@@ -44,7 +44,8 @@ fn split_mac(text: &[u8]) -> Option<(Mac, &[u8])>
     Some((mac, rest))
 }
 
-/// How many solicitations the last words say, one where they don't, and the source of random words that they name.
+/// Returns what the last words of the line say: a source of random words and, after it, the number of solicitations, which is one if it is
+/// left out.
 fn read_end(text: &[u8]) -> Option<(Transmits, Source)>
     ensures found { IfSome result (λ end. SpellEnd (words_of text.now) end.0 end.1) }
     ensures only { (transmits : ℕ) (source : Source) → SpellEnd (words_of text.now) transmits source → IsSomeAnd result (λ end. (end.0 ≡ transmits) × (end.1 ≡ source)) }
@@ -63,8 +64,7 @@ fn read_end(text: &[u8]) -> Option<(Transmits, Source)>
     }
 }
 
-/// The node that some words start: its role, its Ethernet address, how many solicitations it sends for an address, and the source of its random
-/// words.
+/// Returns the node that the words of the line start.
 pub(crate) fn read_start(words: &[u8]) -> Option<NodeStart>
     ensures found { IfSome result (λ start. IsStart words.now start.role start.mac start.transmits start.source) }
     ensures only { (role : Role) (mac : Mac) (transmits : ℕ) (source : Source) → IsStart words.now role mac transmits source

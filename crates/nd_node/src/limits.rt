@@ -1,3 +1,5 @@
+//! The limits on the neighbours and default routers of a node, chosen when the node is made. Their definition is in `specs/Limits.antt`.
+
 ghost use Rattle.std.specs.Prelude.{◌≡◌, ◌≤◌};
 ghost use Rattle.std.specs.Option.{SomeIff};
 ghost use Rattle.nd_neighbour.specs.Table.{max_neighbours};
@@ -8,8 +10,14 @@ use nd_neighbour::MAX_NEIGHBOURS;
 use nd_routers::MAX_ROUTERS;
 use std::marker::Model;
 
-/// How many neighbours, 1 to 2048, and how many default routers, 1 to 64, a node may know (RFC 4861, sections 5.3 and 6.3.4, leave it open;
-/// the numbers are our choice).
+/// The usual limit on neighbours (our choice).
+const USUAL_NEIGHBOURS: u16 = 512;
+
+/// The usual limit on default routers (our choice).
+const USUAL_ROUTERS: u8 = 16;
+
+/// The most neighbours, 1 to 2048, and the most default routers, 1 to 64, that a node keeps. RFC 4861, sections 5.3 and 6.3.4, sets no limit;
+/// the ranges are our choice.
 #[derive(Clone, Copy, Debug, PartialEq, Eq)]
 pub struct Limits {
     neighbours: u16,
@@ -30,12 +38,14 @@ impl Model for Limits {
 }
 
 impl Limits {
-    /// Such limits, where they are in these ranges.
+    /// Returns these limits, or `None` if one of them is outside its range.
     pub fn new(neighbours: u16, routers: u8) -> Option<Limits>
         ensures { SomeIff result (AreLimits neighbours routers) (record { neighbours = neighbours; routers = routers }) }
     {
-        let most = usize::from(neighbours) <= MAX_NEIGHBOURS && usize::from(routers) <= MAX_ROUTERS;
-        if neighbours < 1 || routers < 1 || !most {
+        if neighbours < 1 || usize::from(neighbours) > MAX_NEIGHBOURS {
+            return None;
+        }
+        if routers < 1 || usize::from(routers) > MAX_ROUTERS {
             return None;
         }
         Some(Limits {
@@ -44,17 +54,17 @@ impl Limits {
         })
     }
 
-    /// 512 neighbours and 16 routers, where nothing else is asked for.
+    /// Returns 512 neighbours and 16 routers: the limits of each node on a link, and of any other node by default.
     pub fn usual() -> Limits
         ensures { result ≡ usual_limits }
     {
         Limits {
-            neighbours: 512,
-            routers: 16,
+            neighbours: USUAL_NEIGHBOURS,
+            routers: USUAL_ROUTERS,
         }
     }
 
-    /// How many neighbours.
+    /// Returns the limit on neighbours.
     pub(crate) fn neighbours(self) -> usize
         ensures value { result ≡ self.neighbours }
         ensures least { 1 ≤ result }
@@ -63,7 +73,7 @@ impl Limits {
         usize::from(self.neighbours)
     }
 
-    /// How many default routers.
+    /// Returns the limit on default routers.
     pub(crate) fn routers(self) -> usize
         ensures value { result ≡ self.routers }
         ensures least { 1 ≤ result }

@@ -41,9 +41,10 @@ impl<R: Rng + Drop, A: Allocator + Copy> Node<R, A> {
     ghost use Rattle.nd_chronicle.specs.History.{beginning};
     ghost use Rattle.nd_node.specs.Node.{Stands, starting};
 
-    /// A node that starts: it draws its ReachableTime, and then the delay of the first solicitation for its link-local address, which it
-    /// forms (RFC 4861, section 6.3.2; RFC 4862, sections 5.3 and 5.4.2). For each address that it forms it sends so many solicitations, and it
-    /// knows at most so many neighbours and default routers. The error is want of memory: it hands the generator back, of which no word was taken.
+    /// Starts a node at `start`, in milliseconds. It draws its ReachableTime, then the delay of the first solicitation for its link-local
+    /// address, and forms that address (RFC 4861, section 6.3.2; RFC 4862, sections 5.3 and 5.4.2). `transmits` is the number of solicitations
+    /// that it sends for each address, and `limits` are the most neighbours and default routers that it keeps. Out of memory: the generator
+    /// comes back, and no word of it was taken.
     pub fn new(
         alloc: A,
         role: Role,

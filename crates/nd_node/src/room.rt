@@ -1,3 +1,5 @@
+//! The memory of a node's tables, reserved to their limits before the node starts.
+
 ghost use Rattle.std.specs.Prelude.{◌≡◌, [], None, IfOk};
 ghost use Rattle.nd_addr.specs.Same.{same_prefix};
 ghost use Rattle.nd_lifetime.specs.Listing as lists;
@@ -15,7 +17,7 @@ use nd_routers::{Prefixes, Routers};
 use nd_slaac::AddressRoom;
 use std::alloc::{AllocError, Allocator};
 
-/// Room for the tables of a node, taken before it starts.
+/// The empty tables of a node, reserved before it starts.
 #[derive(Drop)]
 pub(crate) struct Room<A: Allocator> {
     pub(crate) routers: Routers<A>,
@@ -28,7 +30,7 @@ pub(crate) struct Room<A: Allocator> {
 }
 
 impl<A: Allocator + Copy> Room<A> {
-    /// Takes the room, for so many neighbours and default routers. The error is want of memory.
+    /// Reserves each table to its limit; `limits` has those on neighbours and default routers. The error means out of memory.
     pub(crate) fn new(alloc: A, limits: Limits) -> Result<Self, AllocError>
         ensures routers { IfOk result (λ room. room.routers ≡ record { limit = limits.routers; entries = []; preferences = []; failed = [] }) }
         ensures router_history { IfOk result (λ room. routers.Stands room.routers []) }
