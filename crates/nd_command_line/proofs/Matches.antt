@@ -5,7 +5,7 @@ use Rattle.clap.specs.Simple.{App, HasMatchesOf, app_of, subcommand_of, subcomma
 use Rattle.clap.specs.Walk.{Row}
 use Rattle.clap.specs.declared.builder.command.Command.{Command}
 use Rattle.clap.specs.declared.parser.matches.ArgMatches.{ArgMatches}
-use Rattle.nd_command_line.specs.CommandLine.{Names, the_command, faults_of, named_in, given_in, GivesAsked, GivesRun, RefusesGiven, MacIsBad, DrawsAreBad, TransmitsAreBad, Asks, Refuses}
+use Rattle.nd_command_line.specs.CommandLine.{Names, the_command, faults_of, named_in, given_in, GivesAsked, GivesRun, RefusesGiven, MacIsBad, DrawsAreBad, TransmitsAreBad, NeighboursAreBad, RoutersAreBad, Asks, Refuses}
 use Rattle.nd_command_line.specs.declared.asked.Asked.{Asked}
 use Rattle.nd_command_line.specs.declared.asked.Asked.TheVariants as asked
 use Rattle.nd_command_line.specs.declared.asked.Refused.{Refused}
@@ -27,10 +27,10 @@ module _ (names : Names) (words : List (List ℕ)) (rows : List Row) (faultless 
     (given : rows ≡ given_in names words) where
   pub asks : (what : Asked) → GivesAsked rows what → Asks words what
   asks asked.Check h = absurd h
-  asks (asked.Run node) h = record {
+  asks (asked.Run options) h = record {
     names = names;
     faultless = faultless;
-    asked = (named, subst (λ g. GivesRun g node.role node.mac node.transmits node.source) given h);
+    asked = (named, subst (λ g. GivesRun g options) given h);
   }
   asks (asked.Link carrier) h = absurd h
 
@@ -39,4 +39,6 @@ module _ (names : Names) (words : List (List ℕ)) (rows : List Row) (faultless 
   refuses refused.Mac h = (names, record { faultless = faultless; named = named; bad = subst MacIsBad given h })
   refuses refused.Draws h = (names, record { faultless = faultless; named = named; bad = subst DrawsAreBad given h })
   refuses refused.Transmits h = (names, record { faultless = faultless; named = named; bad = subst TransmitsAreBad given h })
+  refuses refused.Neighbours h = (names, record { faultless = faultless; named = named; bad = subst NeighboursAreBad given h })
+  refuses refused.Routers h = (names, record { faultless = faultless; named = named; bad = subst RoutersAreBad given h })
   refuses refused.Memory h = absurd h

@@ -1,6 +1,7 @@
 -- What the getters of `clap` read of the options of a subcommand.
 use Rattle.std.proofs.Common.{◌≡◌, ◌∙◌, Bool, List, [], codes, refl, sym, ap, subst, option_map, Option, Some, None, IsSomeAnd}
-use Rattle.std.specs.Option.{option_map_or}
+use Rattle.std.specs.Option.{IfNone, IfSome, option_map_or}
+use Rattle.std.proofs.lemmas.Option.{IfSome_then, none-some}
 use Rattle.nd_addr.specs.declared.role.Role.{Role}
 use Rattle.nd_addr.specs.declared.role.Role.TheVariants.{Host, Router}
 use Rattle.nd_command_line.specs.CommandLine.{carrier_named, role_named}
@@ -25,6 +26,20 @@ other_given f id text P e not h = not (subst (λ o. IsSomeAnd o P) (sym (e ∙ f
 
 pub is_given : (f : Found) (id text : Text) (P : Text → Type 0) → Some text ≡ first_value f id → P text → IsSomeAnd (first_of id (rows_of f)) P
 is_given f id text P e h = subst (λ o. IsSomeAnd o P) (e ∙ first_value-rows f id) h
+
+-- where nothing is read of a value that isn't there
+pub if_none : {X P : Type 0} (o : Option X) → P → IfNone o P
+if_none None h = h
+if_none (Some x) h = tt
+
+-- what is read of an option's value, where each thing that the value stands for is read, and no other
+module _ {X : Type 0} (f : Found) (id text : Text) (Is : Text → X → Type 0) (given : Some text ≡ first_value f id) where
+  pub read_given : (o : Option X) → IfSome o (Is text) → IfSome o (λ x. IsSomeAnd (first_of id (rows_of f)) (λ t. Is t x))
+  read_given o found = IfSome_then o found (λ x. is_given f id text (λ t. Is t x) given)
+
+  pub none_read : (o : Option X) → ((x : X) → Is text x → o ≡ Some x) → IfNone o ((x : X) → IsSomeAnd (first_of id (rows_of f)) (λ t. Is t x) → ⊥)
+  none_read None only = λ x. other_given f id text (λ t. Is t x) given (λ is. none-some x (only x is))
+  none_read (Some read) only = tt
 
 -- the role, by the value of its option
 

@@ -12,8 +12,12 @@ use Rattle.nd_addr.specs.Spelling.{SpellsMac}
 use Rattle.nd_addr.specs.declared.mac.Mac.{Mac}
 use Rattle.nd_addr.specs.declared.role.Role.{Role}
 use Rattle.nd_addr.specs.declared.role.Role.TheVariants.{Host, Router}
+use Rattle.nd_neighbour.specs.Table.{max_neighbours}
+use Rattle.nd_routers.specs.Routers.{max_routers}
+use Rattle.nd_script.specs.Number.{IsCountWord}
 use Rattle.nd_script.specs.Source.{IsSource}
 use Rattle.nd_script.specs.Transmits.{IsTransmitsWord}
+use Rattle.nd_script.specs.declared.options.RunOptions.{RunOptions}
 use Rattle.nd_script.specs.declared.source.Source.{Source}
 use Rattle.nd_command_line.specs.declared.asked.Asked.{Asked}
 use Rattle.nd_command_line.specs.declared.asked.Asked.TheVariants as asked
@@ -32,19 +36,31 @@ role_option roles = record (new_rule (codes "role")) { long = Some (codes "role"
 abbrev pub mac_option : Rule
 mac_option = record (new_rule (codes "mac")) { long = Some (codes "mac"); required = true }
 
+-- an option with this name, whose value is the default where the words don't give one
+abbrev pub option_with_default : List ℕ → List ℕ → Rule
+option_with_default name default = record (new_rule name) { long = Some name; defaults = default ∷ [] }
+
 abbrev pub draws_option : Rule
-draws_option = record (new_rule (codes "draws")) { long = Some (codes "draws"); defaults = codes "seed:0" ∷ [] }
+draws_option = option_with_default (codes "draws") (codes "seed:0")
 
 abbrev pub transmits_option : Rule
-transmits_option = record (new_rule (codes "transmits")) { long = Some (codes "transmits"); defaults = codes "1" ∷ [] }
+transmits_option = option_with_default (codes "transmits") (codes "1")
 
--- `run` takes `--role`, one of these names, and `--mac`, both of which have to be there, and `--draws` and `--transmits`, which are `seed:0` and `1`
--- where they are not
+abbrev pub neighbours_option : Rule
+neighbours_option = option_with_default (codes "neighbours") (codes "512")
+
+abbrev pub routers_option : Rule
+routers_option = option_with_default (codes "routers") (codes "16")
+
+-- `run` takes `--role`, one of these names, and `--mac`, both of which are required, and `--draws`, `--transmits`, `--neighbours` and `--routers`, which
+-- have defaults
 abbrev pub the_run : NameList → App
-the_run roles = with_rule (with_rule (with_rule (with_rule (new_app (codes "run")) (role_option roles)) mac_option) draws_option) transmits_option
+the_run roles =
+    let required = with_rule (with_rule (new_app (codes "run")) (role_option roles)) mac_option in
+    with_rule (with_rule (with_rule (with_rule required draws_option) transmits_option) neighbours_option) routers_option
 
 abbrev pub wire_option : NameList → Rule
-wire_option wires = record (new_rule (codes "wire")) { long = Some (codes "wire"); defaults = codes "memory" ∷ []; parser = Some (parsers.Names wires) }
+wire_option wires = record (option_with_default (codes "wire") (codes "memory")) { parser = Some (parsers.Names wires) }
 
 -- `link` takes `--wire`, one of these names, which is `memory` where it is not there
 abbrev pub the_link : NameList → App
@@ -97,12 +113,25 @@ GivesDraws given source = IsSomeAnd (first_of (codes "draws") given) (λ text. I
 abbrev pub GivesTransmits : List Row → ℕ → Type 0
 GivesTransmits given transmits = IsSomeAnd (first_of (codes "transmits") given) (λ text. IsTransmitsWord text transmits)
 
+-- the value of this option is the number, which is 1 to `most`
+abbrev pub GivesCount : List ℕ → ℕ → List Row → ℕ → Type 0
+GivesCount name most given number = IsSomeAnd (first_of name given) (λ text. IsCountWord most text number)
+
+-- the value of `--neighbours` is the number, and that of `--routers`
+abbrev pub GivesNeighbours : List Row → ℕ → Type 0
+GivesNeighbours = GivesCount (codes "neighbours") max_neighbours
+
+abbrev pub GivesRouters : List Row → ℕ → Type 0
+GivesRouters = GivesCount (codes "routers") max_routers
+
 -- what the values of the options of `run` ask for
-pub record GivesRun (given : List Row) (role : Role) (mac : Mac) (transmits : ℕ) (source : Source) : Type 0 where
-  pub role_is : role ≡ role_named (first_of (codes "role") given)
-  pub mac_is : GivesMac given mac.0
-  pub source_is : GivesDraws given source
-  pub transmits_is : GivesTransmits given transmits
+pub record GivesRun (given : List Row) (options : RunOptions Source) : Type 0 where
+  pub role_is : options.role ≡ role_named (first_of (codes "role") given)
+  pub mac_is : GivesMac given options.mac.0
+  pub source_is : GivesDraws given options.generator
+  pub transmits_is : GivesTransmits given options.transmits
+  pub neighbours_is : GivesNeighbours given options.limits.neighbours
+  pub routers_is : GivesRouters given options.limits.routers
 
 -- no address is spelled
 abbrev pub MacIsBad : List Row → Type 0
@@ -122,23 +151,46 @@ pub record TransmitsAreBad (given : List Row) : Type 0 where
   pub source_is : GivesDraws given source
   pub none : (transmits : ℕ) → GivesTransmits given transmits → ⊥
 
+-- the values before `--neighbours` are good, and its own is no number in its range
+pub record NeighboursAreBad (given : List Row) : Type 0 where
+  pub mac : Mac
+  pub mac_is : GivesMac given mac.0
+  pub source : Source
+  pub source_is : GivesDraws given source
+  pub transmits : ℕ
+  pub transmits_is : GivesTransmits given transmits
+  pub none : (neighbours : ℕ) → GivesNeighbours given neighbours → ⊥
+
+-- the values before `--routers` are good, and its own is no number in its range
+pub record RoutersAreBad (given : List Row) : Type 0 where
+  pub mac : Mac
+  pub mac_is : GivesMac given mac.0
+  pub source : Source
+  pub source_is : GivesDraws given source
+  pub transmits : ℕ
+  pub transmits_is : GivesTransmits given transmits
+  pub neighbours : ℕ
+  pub neighbours_is : GivesNeighbours given neighbours
+  pub none : (routers : ℕ) → GivesRouters given routers → ⊥
+
 -- what `read_run` makes of the values of the options of `run`
 abbrev pub GivesAsked : List Row → Asked → Type 0
 GivesAsked given asked.Check = ⊥
-GivesAsked given (asked.Run node) = GivesRun given node.role node.mac node.transmits node.source
+GivesAsked given (asked.Run options) = GivesRun given options
 GivesAsked given (asked.Link carrier) = ⊥
 
 abbrev pub RefusesGiven : List Row → Refused → Type 0
 RefusesGiven given refused.Mac = MacIsBad given
 RefusesGiven given refused.Draws = DrawsAreBad given
 RefusesGiven given refused.Transmits = TransmitsAreBad given
+RefusesGiven given refused.Neighbours = NeighboursAreBad given
+RefusesGiven given refused.Routers = RoutersAreBad given
 RefusesGiven given _ = ⊥
 
 -- right words ask for this
 abbrev pub AsksFor : Names → List (List ℕ) → Asked → Type 0
 AsksFor names words asked.Check = (named_in names words ≢ Some (codes "run")) × (named_in names words ≢ Some (codes "link"))
-AsksFor names words (asked.Run node) =
-    (named_in names words ≡ Some (codes "run")) × GivesRun (given_in names words) node.role node.mac node.transmits node.source
+AsksFor names words (asked.Run options) = (named_in names words ≡ Some (codes "run")) × GivesRun (given_in names words) options
 AsksFor names words (asked.Link carrier) =
     (named_in names words ≡ Some (codes "link")) × (carrier ≡ carrier_named (first_of (codes "wire") (given_in names words)))
 
@@ -163,4 +215,6 @@ Refuses words (refused.Told error) = (names : Names) × IsFault names words (kin
 Refuses words refused.Mac = (names : Names) × IsBadRun names words MacIsBad
 Refuses words refused.Draws = (names : Names) × IsBadRun names words DrawsAreBad
 Refuses words refused.Transmits = (names : Names) × IsBadRun names words TransmitsAreBad
+Refuses words refused.Neighbours = (names : Names) × IsBadRun names words NeighboursAreBad
+Refuses words refused.Routers = (names : Names) × IsBadRun names words RoutersAreBad
 Refuses words refused.Memory = Unit {0}

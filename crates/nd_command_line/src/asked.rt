@@ -1,9 +1,7 @@
-//! What the words of the command line ask for, or why nothing is done.
+//! What the words of the command line ask for, or why they are refused.
 
 use clap::Error;
-use nd_addr::{Mac, Role};
-use nd_script::Source;
-use nd_slaac::Transmits;
+use nd_script::{RunOptions, Source};
 
 /// What carries the frames of a link.
 #[derive(Clone, Copy, Debug, PartialEq, Eq)]
@@ -14,40 +12,32 @@ pub enum Carrier {
     Udp,
 }
 
-/// The node that the words ask for.
-#[derive(Drop)]
-pub struct AskedNode {
-    pub role: Role,
-    /// Its Ethernet address.
-    pub mac: Mac,
-    /// How many solicitations it sends for an address.
-    pub transmits: Transmits,
-    /// Where its random words come from.
-    pub source: Source,
-}
-
 /// What the words ask for.
 #[derive(Drop)]
 pub enum Asked {
-    /// To tell what the frames on standard input are.
+    /// Read the frames on standard input, and write for each the message it holds or the reason it is dropped.
     Check,
-    /// To be this node, on the lines of standard input.
-    Run(AskedNode),
-    /// To be a link, whose frames are carried so, on the lines of standard input.
+    /// Run this node on the lines of standard input.
+    Run(RunOptions<Source>),
+    /// Run a link with this carrier on the lines of standard input.
     Link(Carrier),
 }
 
-/// Why nothing is done.
+/// Why the words are refused.
 #[derive(Drop)]
 pub enum Refused {
-    /// The words are wrong, or ask for help: the text to print and the status come with it.
+    /// `clap` finds a fault in the words, or they ask for help. The error has the text to print and the status.
     Told(Error),
-    /// The words are right but for the value of `--mac`, which is no Ethernet address.
+    /// The value of `--mac` is no Ethernet address.
     Mac,
-    /// The words are right but for the value of `--draws`, which names no source.
+    /// The value of `--draws` names no source.
     Draws,
-    /// The words are right but for the value of `--transmits`, which is no number from 1 to 8.
+    /// The value of `--transmits` is no number from 1 to 8.
     Transmits,
-    /// Memory was refused.
+    /// The value of `--neighbours` is no number from 1 to 2048.
+    Neighbours,
+    /// The value of `--routers` is no number from 1 to 64.
+    Routers,
+    /// Out of memory.
     Memory,
 }

@@ -1,35 +1,52 @@
 //! The command with its subcommands and their options, as `clap` reads them.
 
 ghost use Rattle.std.specs.Prelude.{◌≡◌, false, IfOk};
-ghost use Rattle.clap.specs.Words.{app_of};
+ghost use Rattle.clap.specs.Words.{app_of, rule_of};
 ghost use Rattle.clap.specs.declared.builder.command.Command.TheViews.{out-Command};
-ghost use Rattle.nd_command_line.specs.CommandLine.{the_command, the_link, the_run};
+ghost use Rattle.nd_command_line.specs.CommandLine.{option_with_default, the_command, the_link, the_run};
 
 use clap::{Arg, Command};
 use std::alloc::{AllocError, Global};
 
-/// The roles that a node may have.
+/// The values of `--role`.
 pub(crate) static ROLES: [&str; 2] = ["host", ROUTER];
 
-/// The name of a router's role.
+/// The value of `--role` for a router.
 pub(crate) const ROUTER: &str = "router";
 
-/// The wires that a link may have.
+/// The values of `--wire`.
 pub(crate) static WIRES: [&str; 2] = ["memory", UDP];
 
-/// The name of the wire over sockets of this machine.
+/// The value of `--wire` for datagrams between sockets of this machine.
 pub(crate) const UDP: &str = "udp";
 
-/// The wire where none is named.
+/// The default of `--wire`.
 const DEFAULT_WIRE: &str = "memory";
 
-/// The source of random words where none is named.
+/// The default of `--draws`.
 const DEFAULT_DRAWS: &str = "seed:0";
 
-/// How many solicitations a detection sends where no number is given.
+/// The default of `--transmits`.
 const DEFAULT_TRANSMITS: &str = "1";
 
-/// The subcommand `run` with its options, where a node has one of these roles.
+/// The default of `--neighbours`, as in `Limits::usual`.
+const DEFAULT_NEIGHBOURS: &str = "512";
+
+/// The default of `--routers`, as in `Limits::usual`.
+const DEFAULT_ROUTERS: &str = "16";
+
+/// Returns the option `--name`, whose value is `default` where the words don't give one. `help` is its text in the help.
+fn defaulted<'a>(alloc: Global, name: &'a str, default: &'a str, help: &'a str) -> Arg<'a>
+    ensures rule { rule_of result ≡ option_with_default name.entry.now default.entry.now }
+    ensures local { result.global ≡ false }
+{
+    Arg::new(alloc, name)
+        .long(name)
+        .default_value(default)
+        .help(help)
+}
+
+/// Returns the subcommand `run` with its options. `roles` are the values of `--role`.
 fn run_command<'a>(alloc: Global, roles: &'a [&'a str]) -> Result<Command<'a>, AllocError>
     ensures shape { IfOk result (λ command. app_of command ≡ the_run roles.entry) }
     ensures local { IfOk result (λ command. (out-Command command).has_globals ≡ false) }
@@ -43,38 +60,54 @@ fn run_command<'a>(alloc: Global, roles: &'a [&'a str]) -> Result<Command<'a>, A
         .long("mac")
         .required(true)
         .help("Its Ethernet address, as 02:00:00:00:00:01");
-    let draws = Arg::new(alloc, "draws")
-        .long("draws")
-        .default_value(DEFAULT_DRAWS)
-        .help("Where its random words come from: seed:<number> or word:<number>");
-    let transmits = Arg::new(alloc, "transmits")
-        .long("transmits")
-        .default_value(DEFAULT_TRANSMITS)
-        .help("How many solicitations it sends for an address, 1 to 8");
+    let draws = defaulted(
+        alloc,
+        "draws",
+        DEFAULT_DRAWS,
+        "Where its random words come from: seed:<number> or word:<number>",
+    );
+    let transmits = defaulted(
+        alloc,
+        "transmits",
+        DEFAULT_TRANSMITS,
+        "How many solicitations it sends for an address, 1 to 8",
+    );
+    let neighbours = defaulted(
+        alloc,
+        "neighbours",
+        DEFAULT_NEIGHBOURS,
+        "How many neighbours it keeps at most, 1 to 2048",
+    );
+    let routers = defaulted(
+        alloc,
+        "routers",
+        DEFAULT_ROUTERS,
+        "How many default routers it keeps at most, 1 to 64",
+    );
     Command::new(alloc, "run")
         .about("Answers each line, an event at a moment, with what a node does")
         .arg(role)?
         .arg(mac)?
         .arg(draws)?
-        .arg(transmits)
+        .arg(transmits)?
+        .arg(neighbours)?
+        .arg(routers)
 }
 
-/// The subcommand `link` with its option, where a link has one of these wires.
+/// Returns the subcommand `link` with its option. `wires` are the values of `--wire`.
 fn link_command<'a>(alloc: Global, wires: &'a [&'a str]) -> Result<Command<'a>, AllocError>
     ensures shape { IfOk result (λ command. app_of command ≡ the_link wires.entry) }
     ensures local { IfOk result (λ command. (out-Command command).has_globals ≡ false) }
 {
-    let wire = Arg::new(alloc, "wire")
-        .long("wire")
-        .default_value(DEFAULT_WIRE)
-        .value_parser(wires)
-        .help("What carries its frames");
+    let wire = defaulted(alloc, "wire", DEFAULT_WIRE, "What carries its frames").value_parser(
+        wires,
+    );
     Command::new(alloc, "link")
         .about("Answers each line, an event at a moment, with what the nodes of a link do")
         .arg(wire)
 }
 
-/// The command with its subcommands, where a node has one of these roles, and a link one of these wires.
+/// Returns the command `ndpctl` with its subcommands. `roles` are the values of `--role`, `wires` those of `--wire`.
 pub(crate) fn command<'a>(
     alloc: Global,
     roles: &'a [&'a str],

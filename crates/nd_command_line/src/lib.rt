@@ -3,7 +3,8 @@
 
 mod asked;
 mod command;
+mod options;
 mod words;
 
-pub use asked::{Asked, AskedNode, Carrier, Refused};
+pub use asked::{Asked, Carrier, Refused};
 pub use words::read_words;

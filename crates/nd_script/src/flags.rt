@@ -8,7 +8,7 @@ ghost use Rattle.nd_text.specs.Flags.{flags_text};
 use nd_addr::Preference;
 use nd_decode::{prefix_flags_text, router_flags_text};
 
-/// The flags M and O of a Router Advertisement and its preference, which a word spells (RFC 4861, section 4.2; RFC 4191, section 2.2).
+/// Returns the flags M and O of a Router Advertisement, and its preference, that a word spells (RFC 4861, section 4.2; RFC 4191, section 2.2).
 pub(crate) fn read_router_flags(word: &[u8]) -> Option<(bool, bool, Preference)>
     ensures found { IfSome result (λ set. word.now ≡ router_flags_text set.0 set.1 set.2) }
     ensures only { (managed other : Bool) (preference : Preference) → word.now ≡ router_flags_text managed other preference → result ≡ Some (managed, other, preference) }
@@ -23,7 +23,7 @@ pub(crate) fn read_router_flags(word: &[u8]) -> Option<(bool, bool, Preference)>
     Some((managed, other, Preference::Low))
 }
 
-/// The flags M and O that a word spells which tells this preference too.
+/// Returns the flags M and O that a word spells if its preference is `preference`.
 fn read_preferred(word: &[u8], preference: Preference) -> Option<(bool, bool)>
     ensures found { IfSome result (λ set. word.now ≡ router_flags_text set.0 set.1 preference) }
     ensures only { (managed other : Bool) → word.now ≡ router_flags_text managed other preference → result ≡ Some (managed, other) }
@@ -43,7 +43,7 @@ fn read_preferred(word: &[u8], preference: Preference) -> Option<(bool, bool)>
     None
 }
 
-/// The flags L and A of a prefix that a word spells (RFC 4861, section 4.6.2).
+/// Returns the flags L and A of a prefix that a word spells (RFC 4861, section 4.6.2).
 pub(crate) fn read_prefix_flags(word: &[u8]) -> Option<(bool, bool)>
     ensures found { IfSome result (λ set. word.now ≡ flags_text set.0 set.1 (codes "l") (codes "a")) }
     ensures only { (on_link autonomous : Bool) → word.now ≡ flags_text on_link autonomous (codes "l") (codes "a") → result ≡ Some (on_link, autonomous) }

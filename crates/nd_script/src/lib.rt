@@ -9,6 +9,7 @@ pub mod laws;
 mod line;
 mod number;
 mod offer;
+mod options;
 mod packet;
 mod prefix;
 mod route;
@@ -22,7 +23,8 @@ mod words;
 
 pub use command::{Command, read_command};
 pub use line::{Line, read_line, split_moment};
-pub use number::{read_number, split_number};
+pub use number::{read_count, read_number, split_number};
+pub use options::RunOptions;
 pub use run::run_script;
 pub use source::Source;
 pub use transmits::read_transmits;

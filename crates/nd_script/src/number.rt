@@ -2,7 +2,7 @@
 
 ghost use Rattle.std.specs.Prelude.{◌≡◌, ◌↔◌, ◌<◌, ◌^◌, ◌++◌, List, ℕ, IsTrue, Some, IfSome, decimal};
 ghost use Rattle.std.specs.Option.{IsSomeAnd};
-ghost use Rattle.nd_script.specs.Number.{IsNumberOr, IsNumberWord};
+ghost use Rattle.nd_script.specs.Number.{IsCountWord, IsNumberOr, IsNumberWord};
 ghost use Rattle.nd_script.specs.Words.{Parts};
 
 use crate::words::split_word;
@@ -35,6 +35,18 @@ pub fn read_number(text: &[u8]) -> Option<u64>
 {
     let number = number_in(text)?;
     is_decimal(text, number).then_some(number)
+}
+
+/// Returns the number from 1 to `most` that a word spells in decimal digits, with no sign and no leading zero.
+pub fn read_count(word: &[u8], most: u64) -> Option<u64>
+    ensures found { IfSome result (λ n. IsCountWord most word.now n) }
+    ensures only { (n : ℕ) → IsCountWord most word.now n → result ≡ Some n }
+{
+    let number = read_number(word)?;
+    if number < 1 || number > most {
+        return None;
+    }
+    Some(number)
 }
 
 /// The number below 2^64 that the first word of a text spells, and what follows its space.

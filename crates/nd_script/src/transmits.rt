@@ -1,4 +1,4 @@
-//! The word that says how many solicitations a duplicate address detection sends.
+//! The word for the number of solicitations of a duplicate address detection (DupAddrDetectTransmits).
 
 ghost use Rattle.std.specs.Prelude.{◌≡◌, ℕ, Some, IfSome};
 ghost use Rattle.nd_script.specs.Transmits.{IsTransmitsWord};
@@ -6,7 +6,7 @@ ghost use Rattle.nd_script.specs.Transmits.{IsTransmitsWord};
 use crate::number::read_number;
 use nd_slaac::Transmits;
 
-/// How many solicitations a word says: 1 to 8, in decimal digits with no sign and no leading zero.
+/// Returns the number of solicitations that a word spells: 1 to 8, in decimal digits with no sign and no leading zero.
 pub fn read_transmits(word: &[u8]) -> Option<Transmits>
     ensures found { IfSome result (λ transmits. IsTransmitsWord word.now transmits) }
     ensures only { (transmits : ℕ) → IsTransmitsWord word.now transmits → result ≡ Some transmits }

@@ -1,11 +1,7 @@
 //! Packets of the upper layer and commands in scripts: worked rows of lines and texts.
 
-use crate::lines::{told, told_by};
-use nd_addr::{Mac, Role};
-use nd_io::input::Pieces;
-use nd_io::output::Writing;
+use crate::tested::{Tested, host, told, told_by, told_by_parts};
 use nd_node::Limits;
-use nd_script::{Source, run_script};
 use nd_slaac::Transmits;
 use std::alloc::Global;
 use std::process::Abort;
@@ -99,21 +95,13 @@ fn a_duplicate_sends_nothing(rt: HostRuntime) {
     );
 }
 
-/// A node that is to send three solicitations for each of its addresses.
+/// Runs a host that sends three solicitations for each of its addresses.
 fn tried_three_times(rt: &impl Abort, alloc: Global, script: &str, wanted: &str) {
-    let mac = Mac([0x34, 0x56, 0x78, 0x9a, 0xbc, 0xde]);
-    let three = Transmits::new(3).expect(rt, "three");
-    told_by(
-        rt,
-        alloc,
-        Role::Host,
-        mac,
-        three,
-        0,
-        script.as_bytes(),
-        Ok(()),
-        wanted,
-    );
+    let node = Tested {
+        transmits: Transmits::new(3).expect(rt, "three"),
+        ..host()
+    };
+    told_by(rt, alloc, &node, script.as_bytes(), Ok(()), wanted);
 }
 
 /// Three solicitations go out, RetransTimer apart, before an address is assigned (RFC 4862, section 5.4.2).
@@ -303,34 +291,27 @@ fn a_packet_longer_than_the_mtu_is_refused(rt: HostRuntime) -> Result<(), Fail> 
     Ok(())
 }
 
-/// Each of 512 neighbours that are solicited keeps its place, and another one has none (RFC 4861, section 7.2.2; the limit is our choice).
+/// A host that keeps one neighbour: a packet evicts the router, which is STALE, and the next one finds no room (RFC 4861, section 5.3).
 #[test]
-fn a_513th_neighbour_has_no_place(rt: HostRuntime) -> Result<(), Fail> {
-    let mut script = String::new(rt.alloc());
-    for n in 1..514u64 {
-        script.push_str(&format!(in rt.alloc();
-            "3000 send fe80::3656:78ff:fe9a:bcde fe80::1:{} 17 -\n",
-            n
-        )?)?;
-    }
-    let mac = Mac([0x34, 0x56, 0x78, 0x9a, 0xbc, 0xde]);
-    let mut reader = Pieces::new(script.as_bytes(), 4096);
-    let mut writer = Writing::new(Vec::new(rt.alloc()));
-    let zeros = Source::Constant(0);
-    let done = run_script(
+fn one_neighbour_is_kept(rt: HostRuntime) {
+    let node = Tested {
+        limits: Limits::new(1, 16).expect(&rt, "one"),
+        ..host()
+    };
+    told_by_parts(
+        &rt,
         rt.alloc(),
-        &mut reader,
-        &mut writer,
-        Role::Host,
-        mac,
-        Transmits::ONE,
-        Limits::usual(),
-        zeros,
+        &node,
+        &[
+            "1200 rx ",
+            ADVERTISED,
+            "\n2200 at\n3000 send 2001:db8::3656:78ff:fe9a:bcde 2001:db8::1 17 -\n3000 send fe80::3656:78ff:fe9a:bcde fe80::ff:fe00:1 17 -\n3000 show neighbours\n6000 at\n",
+        ],
+        Ok(()),
+        &[
+            STARTED,
+            FORMED,
+            "3000 tx 3333ff0000013456789abcde86dd6000000000203afffe80000000000000365678fffe9abcdeff0200000000000000000001ff000001870078c40000000020010db800000000000000000000000101013456789abcde\n3000 refused full neighbours\n3000 neighbour 2001:db8::1 - incomplete host\n3000 end 1\n4000 tx 3333ff0000013456789abcde86dd6000000000203afffe80000000000000365678fffe9abcdeff0200000000000000000001ff000001870078c40000000020010db800000000000000000000000101013456789abcde\n5000 tx 3333ff0000013456789abcde86dd6000000000203afffe80000000000000365678fffe9abcdeff0200000000000000000001ff000001870078c40000000020010db800000000000000000000000101013456789abcde\n6000 failed 2001:db8::1\n6000 lost unreachable 2001:db8::3656:78ff:fe9a:bcde 2001:db8::1\n",
+        ],
     );
-    assert!(rt; done == Ok(()));
-    let text = writer.into_inner();
-    let refused = b"3000 refused full neighbours\n".as_slice();
-    assert!(rt; text.ends_with(refused));
-    assert!(rt; !text[..text.len() - refused.len()].ends_with(refused));
-    Ok(())
 }

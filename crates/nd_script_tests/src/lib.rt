@@ -5,6 +5,8 @@
 #[cfg(test)]
 mod check;
 #[cfg(test)]
+mod floods;
+#[cfg(test)]
 mod frames;
 #[cfg(test)]
 mod host;
@@ -16,3 +18,5 @@ mod next_hops;
 mod router;
 #[cfg(test)]
 mod router_commands;
+#[cfg(test)]
+mod tested;

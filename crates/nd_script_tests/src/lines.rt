@@ -1,10 +1,8 @@
-use nd_addr::{Addr, Mac, Role};
-use nd_io::input::Pieces;
-use nd_io::output::Writing;
+use crate::tested::told;
+use nd_addr::Addr;
 use nd_io::tool_fault::ToolFault;
-use nd_node::{Clearable, Event, Limits, Table};
+use nd_node::{Clearable, Event, Table};
 use nd_script::*;
-use nd_slaac::Transmits;
 use nd_text::write_hex;
 use rand_core::Rng;
 use std::alloc::{AllocError, Global};
@@ -402,61 +400,6 @@ fn other_texts_name_no_source(rt: HostRuntime) {
     ] {
         assert_eq!(rt; words(text.as_bytes()), None);
     }
-}
-
-/// What a node tells whose generator answers one word, where its script is read in pieces of one byte, and in long ones.
-pub(crate) fn told_by(
-    rt: &impl Abort,
-    alloc: Global,
-    role: Role,
-    mac: Mac,
-    transmits: Transmits,
-    word: u32,
-    script: &[u8],
-    ended: Result<(), ToolFault>,
-    wanted: &str,
-) {
-    for piece in [1, 4096] {
-        let mut reader = Pieces::new(script, piece);
-        let mut writer = Writing::new(Vec::new(alloc));
-        let words = Source::Constant(word);
-        let done = run_script(alloc, &mut reader, &mut writer, role, mac, transmits, Limits::usual(), words);
-        assert_eq!(rt; done, ended);
-        assert_eq!(rt; writer.into_inner().as_slice(), wanted.as_bytes());
-    }
-}
-
-/// These parts, one behind the other.
-fn joined(rt: &impl Abort, alloc: Global, parts: &[&str]) -> String {
-    let mut text = String::new(alloc);
-    for part in parts {
-        text.push_str(part).expect(rt, "memory");
-    }
-    text
-}
-
-/// What a host of 34:56:78:9a:bc:de tells whose generator answers 0 to each word: the script and the text by their parts.
-pub(crate) fn told(
-    rt: &impl Abort,
-    alloc: Global,
-    script: &[&str],
-    ended: Result<(), ToolFault>,
-    wanted: &[&str],
-) {
-    let mac = Mac([0x34, 0x56, 0x78, 0x9a, 0xbc, 0xde]);
-    let script = joined(rt, alloc, script);
-    let wanted = joined(rt, alloc, wanted);
-    told_by(
-        rt,
-        alloc,
-        Role::Host,
-        mac,
-        Transmits::ONE,
-        0,
-        script.as_bytes(),
-        ended,
-        &wanted,
-    );
 }
 
 /// The solicitation that tries the link-local address, and a Router Solicitation, each with its moment.

@@ -1,26 +1,13 @@
 //! A router in scripts: worked rows, and what it advertises and sends on.
 
-use crate::lines::told_by;
-use nd_addr::{Mac, Role};
-use nd_slaac::Transmits;
+use crate::tested::{router, told_by};
 use std::alloc::Global;
 use std::process::Abort;
 use std::test::*;
 
-/// What a router of 02:00:00:00:00:01 tells whose generator answers one word.
+/// Runs a router of 02:00:00:00:00:01 whose generator repeats `word`.
 fn told_by_router(rt: &impl Abort, alloc: Global, word: u32, script: &[u8], wanted: &str) {
-    let mac = Mac([2, 0, 0, 0, 0, 1]);
-    told_by(
-        rt,
-        alloc,
-        Role::Router,
-        mac,
-        Transmits::ONE,
-        word,
-        script,
-        Ok(()),
-        wanted,
-    );
+    told_by(rt, alloc, &router(word), script, Ok(()), wanted);
 }
 
 /// An advertisement, its answer at the earliest 3 s after the last one, and a last one (RFC 4861, sections 6.2.4 to

@@ -1,6 +1,7 @@
 //! A router's commands in scripts: what their words say, and what a host answers.
 
-use crate::lines::{STARTED, told};
+use crate::lines::STARTED;
+use crate::tested::told;
 use nd_addr::Preference;
 use nd_io::tool_fault::ToolFault;
 use nd_node::Event;

@@ -1,6 +1,9 @@
+//! The words of the command line.
+
 use nd_addr::{Mac, Role};
-use nd_command_line::{Asked, AskedNode, Carrier, Refused, read_words};
-use nd_script::Source;
+use nd_command_line::{Asked, Carrier, Refused, read_words};
+use nd_node::Limits;
+use nd_script::{RunOptions, Source};
 use nd_slaac::Transmits;
 use std::process::Abort;
 use std::test::*;
@@ -37,6 +40,14 @@ fn check_is_read(rt: HostRuntime) {
     is_told(&rt, &["check", "more"], 2);
 }
 
+/// The options of `run` that the words ask for.
+fn options(rt: &(impl Abort + AllocGlobal), words: &[&str]) -> RunOptions<Source> {
+    match read(rt, words) {
+        Ok(Asked::Run(options)) => options,
+        _ => panic!(rt; "no run"),
+    }
+}
+
 #[test]
 fn run_is_read(rt: HostRuntime) {
     let words = [
@@ -47,24 +58,28 @@ fn run_is_read(rt: HostRuntime) {
         "34:56:78:9a:bc:de",
         "--draws",
         "word:7",
+        "--transmits",
+        "3",
+        "--neighbours",
+        "600",
+        "--routers",
+        "20",
     ];
-    match read(&rt, &words) {
-        Ok(Asked::Run(node)) => {
-            assert!(rt; node.role == Role::Host);
-            assert!(rt; node.mac == Mac([0x34, 0x56, 0x78, 0x9a, 0xbc, 0xde]));
-            assert!(rt; matches!(node.source, Source::Constant(7)));
-        }
-        _ => panic!(rt; "no host"),
-    }
+    let read = options(&rt, &words);
+    assert!(rt; read.role == Role::Host);
+    assert!(rt; read.mac == Mac([0x34, 0x56, 0x78, 0x9a, 0xbc, 0xde]));
+    assert!(rt; matches!(read.generator, Source::Constant(7)));
+    assert!(rt; read.transmits.number() == 3);
+    assert!(rt; Some(read.limits) == Limits::new(600, 20));
 }
 
 #[test]
-fn a_router_runs(rt: HostRuntime) {
-    let words = ["run", "--role=router", "--mac=02:00:00:00:00:01"];
-    match read(&rt, &words) {
-        Ok(Asked::Run(node)) => assert!(rt; node.role == Role::Router),
-        _ => panic!(rt; "no router"),
-    }
+fn options_have_defaults(rt: HostRuntime) {
+    let read = options(&rt, &["run", "--mac=02:00:00:00:00:01", "--role=router"]);
+    assert!(rt; read.role == Role::Router);
+    assert!(rt; matches!(read.generator, Source::Seeded(_)));
+    assert!(rt; read.transmits == Transmits::ONE);
+    assert!(rt; read.limits == Limits::usual());
 }
 
 #[test]
@@ -76,70 +91,108 @@ fn link_is_read(rt: HostRuntime) {
     is_told(&rt, &["link", "--role", "host"], 2);
 }
 
-#[test]
-fn draws_have_a_default(rt: HostRuntime) {
-    let asked = read(&rt, &["run", "--mac=02:00:00:00:00:01", "--role=host"]);
-    assert!(rt;
-        matches!(
-            asked,
-            Ok(Asked::Run(AskedNode {
-                source: Source::Seeded(_),
-                ..
-            }))
-        )
-    );
+/// Which value is refused.
+fn refused(rt: &(impl Abort + AllocGlobal), words: &[&str]) -> &'static str {
+    match read(rt, words) {
+        Ok(_) => "none",
+        Err(Refused::Told(_)) => "clap",
+        Err(Refused::Mac) => "mac",
+        Err(Refused::Draws) => "draws",
+        Err(Refused::Transmits) => "transmits",
+        Err(Refused::Neighbours) => "neighbours",
+        Err(Refused::Routers) => "routers",
+        Err(Refused::Memory) => "memory",
+    }
 }
 
+/// The first bad value is refused, in the order of the options, whatever the order of the words.
 #[test]
-fn the_mac_is_judged_before_the_draws(rt: HostRuntime) {
-    let bad_mac = ["run", "--role", "host", "--mac", "02:00"];
-    assert!(rt; matches!(read(&rt, &bad_mac), Err(Refused::Mac)));
-    let bad_draws = [
-        "run",
-        "--role",
-        "host",
-        "--mac",
-        "02:00:00:00:00:01",
-        "--draws",
-        "seed:01",
-    ];
-    assert!(rt; matches!(read(&rt, &bad_draws), Err(Refused::Draws)));
-    let both_bad = [
-        "run", "--role", "host", "--draws", "seed:01", "--mac", "02:00",
-    ];
-    assert!(rt; matches!(read(&rt, &both_bad), Err(Refused::Mac)));
+fn values_are_judged_in_their_order(rt: HostRuntime) {
+    for (mac, draws, transmits, neighbours, routers, wanted) in [
+        ("02:00", "seed:01", "0", "0", "0", "mac"),
+        ("02:00:00:00:00:01", "seed:01", "0", "0", "0", "draws"),
+        ("02:00:00:00:00:01", "seed:1", "0", "0", "0", "transmits"),
+        ("02:00:00:00:00:01", "seed:1", "8", "0", "0", "neighbours"),
+        ("02:00:00:00:00:01", "seed:1", "8", "2048", "0", "routers"),
+        ("02:00:00:00:00:01", "seed:1", "8", "2048", "64", "none"),
+        ("02:00", "seed:1", "8", "2048", "64", "mac"),
+        ("02:00:00:00:00:01", "seed:01", "8", "2048", "64", "draws"),
+    ] {
+        let words = [
+            "run",
+            "--routers",
+            routers,
+            "--neighbours",
+            neighbours,
+            "--transmits",
+            transmits,
+            "--draws",
+            draws,
+            "--mac",
+            mac,
+            "--role",
+            "host",
+        ];
+        assert_eq!(rt; refused(&rt, &words), wanted);
+    }
 }
 
-/// The words of a run that is to send so many solicitations for each of its addresses.
-fn tried<'a>(transmits: &'a str) -> [&'a str; 7] {
+/// The words of a run with one option more.
+fn run_with<'a>(option: &'a str, value: &'a str) -> [&'a str; 7] {
     [
         "run",
         "--role",
         "host",
         "--mac",
         "02:00:00:00:00:01",
-        "--transmits",
-        transmits,
+        option,
+        value,
     ]
 }
 
+/// Each number is read up to the ends of its range.
 #[test]
-fn solicitations_are_counted(rt: HostRuntime) {
-    match read(&rt, &["run", "--role=host", "--mac=02:00:00:00:00:01"]) {
-        Ok(Asked::Run(node)) => assert!(rt; node.transmits == Transmits::ONE),
-        _ => panic!(rt; "no host"),
+fn numbers_have_ranges(rt: HostRuntime) {
+    for (option, value, transmits, neighbours, routers) in [
+        ("--transmits", "1", 1, 512, 16),
+        ("--transmits", "8", 8, 512, 16),
+        ("--neighbours", "1", 1, 1, 16),
+        ("--neighbours", "2048", 1, 2048, 16),
+        ("--routers", "1", 1, 512, 1),
+        ("--routers", "64", 1, 512, 64),
+    ] {
+        let read = options(&rt, &run_with(option, value));
+        assert!(rt; read.transmits.number() == transmits);
+        assert!(rt; Some(read.limits) == Limits::new(neighbours, routers));
     }
-    for (word, number) in [("1", 1), ("3", 3), ("8", 8)] {
-        match read(&rt, &tried(word)) {
-            Ok(Asked::Run(node)) => assert!(rt; node.transmits.number() == number),
-            _ => panic!(rt; "no host"),
+}
+
+/// Numbers outside their range, and words that are no numbers: a sign, a leading zero, a space, and numbers that end in one of the range as a
+/// byte, as two bytes or as eight.
+#[test]
+fn other_words_are_no_numbers(rt: HostRuntime) {
+    for (option, greater, wanted) in [
+        ("--transmits", "9", "transmits"),
+        ("--neighbours", "2049", "neighbours"),
+        ("--routers", "65", "routers"),
+    ] {
+        assert_eq!(rt; refused(&rt, &run_with(option, greater)), wanted);
+        for value in [
+            "",
+            "0",
+            "03",
+            "+1",
+            "1 ",
+            "one",
+            "-",
+            "65537",
+            "18446744073709551617",
+        ] {
+            assert_eq!(rt; refused(&rt, &run_with(option, value)), wanted);
         }
+        // `clap` takes `-1` for an option.
+        assert_eq!(rt; refused(&rt, &run_with(option, "-1")), "clap");
     }
-    for word in ["", "0", "9", "10", "03", "+1", "1 ", "one", "256", "257"] {
-        assert!(rt; matches!(read(&rt, &tried(word)), Err(Refused::Transmits)));
-    }
-    // A sign stands before an option.
-    is_told(&rt, &tried("-1"), 2);
 }
 
 #[test]

@@ -11,7 +11,7 @@ use Rattle.nd_io.specs.ToolFault.{status_of}
 use Rattle.nd_io.specs.declared.tool_fault.ToolFault.{ToolFault}
 use Rattle.nd_io.specs.declared.tool_fault.ToolFault.TheVariants as faults
 use Rattle.nd_command_line.specs.declared.asked.Refused.{Refused}
-use Rattle.nd_command_line.specs.declared.asked.Refused.TheVariants.{Told, Mac, Draws, Transmits, Memory}
+use Rattle.nd_command_line.specs.declared.asked.Refused.TheVariants.{Told, Mac, Draws, Transmits, Neighbours, Routers, Memory}
 
 -- 0 where it was done
 abbrev pub status_of_done : {D : Type 0} → Result D ToolFault → ℕ
@@ -30,6 +30,8 @@ status_of_refused (Told error) = status_of_words (kind_of error)
 status_of_refused Mac = 2
 status_of_refused Draws = 2
 status_of_refused Transmits = 2
+status_of_refused Neighbours = 2
+status_of_refused Routers = 2
 status_of_refused Memory = status_of faults.Memory
 
 -- 2 where a word is no UTF-8

@@ -2,7 +2,6 @@
 use Rattle.nd_io.specs.Answers.{Texts, Only}
 use Rattle.nd_io.specs.Each.{text_of_each, malformed_of_each}
 use Rattle.nd_check.specs.Check.{answer_to}
-use Rattle.nd_node.specs.Limits.{usual_limits}
 use Rattle.nd_node.specs.Node.{starting}
 use Rattle.nd_script.specs.Script.{IsText}
 use Rattle.nd_script.specs.Source.{stream_of_source}
@@ -15,7 +14,8 @@ use Rattle.nd_link_script.specs.Script.{IsLinkText}
 -- the role; of `link`, that of the log of what they say.
 abbrev pub texts_asked : Asked → Texts
 texts_asked Check = Only (text_of_each answer_to) (malformed_of_each answer_to)
-texts_asked (Run node) = IsText (starting 0 node.role node.mac node.transmits usual_limits (stream_of_source node.source))
+texts_asked (Run options) =
+    IsText (starting 0 options.role options.mac options.transmits options.limits (stream_of_source options.generator))
 texts_asked (Link carrier) = IsLinkText
 
 -- the text is claimed: that of a link over datagrams isn't

@@ -1,4 +1,4 @@
-//! How the program ends: its status, and a text on standard error where it doesn't do what it was asked.
+//! How the program ends: its exit status, and the text on standard error if it fails.
 
 ghost use Rattle.std.specs.Prelude.{◌≡◌};
 ghost use Rattle.std.specs.Process.{exit_status};
@@ -14,7 +14,7 @@ use std::process::ExitCode;
 /// The status of a bad command line.
 const BAD_COMMAND_LINE: u8 = 2;
 
-/// The status of what was asked: 0 where it was done, else that of its fault, which is told.
+/// Returns 0 if what was asked is done. Otherwise prints the fault, and returns its status.
 pub fn end(rt: &HostRuntime, done: Result<(), ToolFault>) -> ExitCode
     ensures { exit_status result ≡ status_of_done done }
 {
@@ -24,7 +24,7 @@ pub fn end(rt: &HostRuntime, done: Result<(), ToolFault>) -> ExitCode
     }
 }
 
-/// Tells a fault, and answers its status.
+/// Prints a fault, and returns its status.
 pub fn fail(rt: &HostRuntime, fault: ToolFault) -> ExitCode
     ensures { exit_status result ≡ status_of fault }
 {
@@ -32,8 +32,7 @@ pub fn fail(rt: &HostRuntime, fault: ToolFault) -> ExitCode
     ExitCode::from(fault.status())
 }
 
-/// Tells why the words of the command line are refused, and answers the status: 0 where they ask for a help, whose text goes
-/// to standard output.
+/// Prints why the words of the command line are refused, and returns the status: 0 if they ask for help, whose text goes to standard output.
 pub fn fail_on_refused(rt: &HostRuntime, refused: Refused) -> ExitCode
     ensures { exit_status result ≡ status_of_refused refused }
 {
@@ -48,11 +47,13 @@ pub fn fail_on_refused(rt: &HostRuntime, refused: Refused) -> ExitCode
         Refused::Mac => fail_on_value(rt, "bad mac"),
         Refused::Draws => fail_on_value(rt, "bad draws"),
         Refused::Transmits => fail_on_value(rt, "bad transmits"),
+        Refused::Neighbours => fail_on_value(rt, "bad neighbours"),
+        Refused::Routers => fail_on_value(rt, "bad routers"),
         Refused::Memory => fail(rt, ToolFault::Memory),
     }
 }
 
-/// Tells which value of the command line is bad, and answers its status, 2.
+/// Prints which value of the command line is bad, and returns its status, 2.
 fn fail_on_value(rt: &HostRuntime, complaint: &str) -> ExitCode
     ensures { exit_status result ≡ 2 }
 {
@@ -60,7 +61,7 @@ fn fail_on_value(rt: &HostRuntime, complaint: &str) -> ExitCode
     ExitCode::from(BAD_COMMAND_LINE)
 }
 
-/// Tells that the words of the command line can't be read, and answers the status: 2, or that of want of memory.
+/// Prints that the words of the command line can't be read, and returns the status: 2, or 3 if it is out of memory.
 pub fn fail_on_unread(rt: &HostRuntime, error: &io::Error) -> ExitCode
     ensures { exit_status result ≡ status_of_unread error.now }
 {

@@ -1,4 +1,4 @@
-//! Doing what is asked.
+//! What the words ask for, done over a reader and a writer.
 
 ghost use Rattle.std.specs.Prelude.{◌≢◌, ◌⊎◌, ℕ, OnOk, OnErr, IsErrOf, Some, None, Err};
 ghost use Rattle.nd_io.specs.Counts.{HasRisen, HasGrownBy, most_reads};
@@ -11,12 +11,12 @@ use nd_command_line::{Asked, Carrier};
 use nd_io::input::Input;
 use nd_io::output::Output;
 use nd_io::tool_fault::ToolFault;
-use nd_node::Limits;
 use nd_script::run_script;
 use std::alloc::Allocator;
 use std::net::Net;
 
-/// Does what is asked, over a reader and a writer. Of a link whose frames are datagrams the bytes aren't claimed, and so neither is its text.
+/// Does what is asked, over `reader` and `writer`. No clause says what a link over datagrams writes, since none says which bytes a socket
+/// receives.
 pub fn run<N: Net, R: Input, W: Output, A: Allocator + Copy>(
     net: &N,
     alloc: A,
@@ -35,16 +35,7 @@ pub fn run<N: Net, R: Input, W: Output, A: Allocator + Copy>(
 {
     match asked {
         Asked::Check => run_check(alloc, reader, writer),
-        Asked::Run(node) => run_script(
-            alloc,
-            reader,
-            writer,
-            node.role,
-            node.mac,
-            node.transmits,
-            Limits::usual(),
-            node.source,
-        ),
+        Asked::Run(options) => run_script(alloc, reader, writer, options),
         Asked::Link(Carrier::Memory) => link_over_memory(alloc, reader, writer),
         Asked::Link(Carrier::Udp) => link_over_datagrams(net, alloc, reader, writer),
     }

@@ -9,37 +9,37 @@ use Rattle.nd_script.proofs.run.run_script.Goals as goal
 
 pub returns-in-Ok-clause-ok : goal.returns-in-Ok-clause-ok
 returns-in-Ok-clause-ok g c =
-    let first = starting 0 c.args.role c.args.mac c.args.transmits c.args.limits (g.R.Rng.stream c.args.generator) in
+    let first = starting 0 c.args.options.role c.args.options.mac c.args.options.transmits c.args.options.limits (g.R.Rng.stream c.args.options.generator) in
     on_ok_weaker c.run_lines.result (tells_all_by _ _ (from_start g.R.Rng.stream first c.in-Ok.script.node c.in-Ok.ensures) _ _ _ None) c.run_lines.ensures.ok
 
 pub returns-in-Ok-clause-line : goal.returns-in-Ok-clause-line
 returns-in-Ok-clause-line g c = λ n is.
-    let first = starting 0 c.args.role c.args.mac c.args.transmits c.args.limits (g.R.Rng.stream c.args.generator) in
+    let first = starting 0 c.args.options.role c.args.options.mac c.args.options.transmits c.args.options.limits (g.R.Rng.stream c.args.options.generator) in
     tells_all_by _ _ (from_start g.R.Rng.stream first c.in-Ok.script.node c.in-Ok.ensures) _ _ _ (Some n) (c.run_lines.ensures.line n is)
 
 pub returns-in-Ok-clause-front : goal.returns-in-Ok-clause-front
 returns-in-Ok-clause-front g c =
-    let first = starting 0 c.args.role c.args.mac c.args.transmits c.args.limits (g.R.Rng.stream c.args.generator) in
+    let first = starting 0 c.args.options.role c.args.options.mac c.args.options.transmits c.args.options.limits (g.R.Rng.stream c.args.options.generator) in
     on_err_weaker c.run_lines.result (tells_front_by _ _ (from_start g.R.Rng.stream first c.in-Ok.script.node c.in-Ok.ensures) _ _ _) c.run_lines.ensures.front
 
 pub returns-in-Ok-clause-beginning : goal.returns-in-Ok-clause-beginning
 returns-in-Ok-clause-beginning g c =
-    let first = starting 0 c.args.role c.args.mac c.args.transmits c.args.limits (g.R.Rng.stream c.args.generator) in
+    let first = starting 0 c.args.options.role c.args.options.mac c.args.options.transmits c.args.options.limits (g.R.Rng.stream c.args.options.generator) in
     let goes_on = start_goes_on (record { one_reading = c.one_reading.ensures; one_chronicle = c.one_chronicle.ensures; rows = c.only_grows.ensures.rows; told = c.only_grows.ensures.told }) first in
     on_err_weaker c.run_lines.result (λ front. tells_beginning (IsText first) goes_on _ _ _ (tells_front_by _ _ (from_start g.R.Rng.stream first c.in-Ok.script.node c.in-Ok.ensures) _ _ _ front)) c.run_lines.ensures.front
 
 pub returns-in-Ok-clause-answered : goal.returns-in-Ok-clause-answered
 returns-in-Ok-clause-answered g c = λ is.
-    let first = starting 0 c.args.role c.args.mac c.args.transmits c.args.limits (g.R.Rng.stream c.args.generator) in
+    let first = starting 0 c.args.options.role c.args.options.mac c.args.options.transmits c.args.options.limits (g.R.Rng.stream c.args.options.generator) in
     tells_as_read_by _ _ (from_start g.R.Rng.stream first c.in-Ok.script.node c.in-Ok.ensures) _ _ _ _ (c.run_lines.ensures.answered is)
 
 pub returns-in-Err-clause-front : goal.returns-in-Err-clause-front
 returns-in-Err-clause-front g c =
-    let first = starting 0 c.args.role c.args.mac c.args.transmits c.args.limits (g.R.Rng.stream c.args.generator) in
+    let first = starting 0 c.args.options.role c.args.options.mac c.args.options.transmits c.args.options.limits (g.R.Rng.stream c.args.options.generator) in
     TellsFront-nothing (IsText first) _ _ (no_text first)
 
 pub returns-in-Err-clause-beginning : goal.returns-in-Err-clause-beginning
 returns-in-Err-clause-beginning g c =
-    let first = starting 0 c.args.role c.args.mac c.args.transmits c.args.limits (g.R.Rng.stream c.args.generator) in
+    let first = starting 0 c.args.options.role c.args.options.mac c.args.options.transmits c.args.options.limits (g.R.Rng.stream c.args.options.generator) in
     let goes_on = start_goes_on (record { one_reading = c.one_reading.ensures; one_chronicle = c.one_chronicle.ensures; rows = c.only_grows.ensures.rows; told = c.only_grows.ensures.told }) first in
     tells_beginning (IsText first) goes_on _ _ _ (TellsFront-nothing (IsText first) _ _ (no_text first))

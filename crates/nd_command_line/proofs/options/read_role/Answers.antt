@@ -1,7 +1,7 @@
 use Rattle.std.proofs.Common.{sym, ◌∙◌, ap}
 use Rattle.clap.specs.Words.{found_of}
 use Rattle.nd_command_line.proofs.Values.{host_unnamed, named_role, role_by}
-use Rattle.nd_command_line.proofs.words.read_role.Goals as goal
+use Rattle.nd_command_line.proofs.options.read_role.Goals as goal
 
 pub returns-in_default : goal.returns-in_default
 returns-in_default c = host_unnamed (found_of c.args.given.now) c.in_default.ensures

@@ -1,7 +1,7 @@
 use Rattle.std.proofs.Common.{sym, ◌∙◌, ap}
 use Rattle.clap.specs.Words.{found_of}
 use Rattle.nd_command_line.proofs.Values.{carrier_by, memory_unnamed, named_carrier}
-use Rattle.nd_command_line.proofs.words.read_wire.Goals as goal
+use Rattle.nd_command_line.proofs.options.read_wire.Goals as goal
 
 pub returns-in_default : goal.returns-in_default
 returns-in_default c = memory_unnamed (found_of c.args.given.now) c.in_default.ensures

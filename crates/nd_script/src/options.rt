@@ -1,0 +1,19 @@
+//! The options of `ndpctl run`.
+
+use nd_addr::{Mac, Role};
+use nd_node::Limits;
+use nd_slaac::Transmits;
+
+/// The node that answers the lines of a script.
+#[derive(Drop)]
+pub struct RunOptions<R> {
+    pub role: Role,
+    /// The node's Ethernet address.
+    pub mac: Mac,
+    /// The number of solicitations that the node sends for each of its addresses.
+    pub transmits: Transmits,
+    /// The limits on the node's neighbours and default routers.
+    pub limits: Limits,
+    /// The generator of the node's random words.
+    pub generator: R,
+}
