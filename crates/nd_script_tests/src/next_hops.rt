@@ -2,8 +2,9 @@
 //! were written apart from this program, by the layouts and rules of the RFCs.
 
 use crate::frames::STARTED;
-use crate::lines::told;
+use crate::tested::{Tested, host, told, told_by_parts};
 use nd_addr::Addr;
+use nd_node::Limits;
 use nd_text::write_hex;
 use std::alloc::Global;
 use std::process::Abort;
@@ -104,6 +105,23 @@ fn each_change_of_a_next_hop_is_seen(rt: HostRuntime) {
     for (lines, wanted) in &CHANGES {
         told(&rt, rt.alloc(), &[lines], Ok(()), &[STARTED, wanted]);
     }
+}
+
+/// The packets of a host that keeps two neighbours, its two routers. The first router is used, and confirmed; a third neighbour evicts it when it
+/// has been STALE for longest.
+const EVICTED: (&str, &str) = (
+    "1200 rx 33330000000102000000000186dd6000000000183afffe80000000000000000000fffe000001ff0200000000000000000000000000018600331d4000070800000000000000000101020000000001\n1300 rx 33330000000102000000000286dd6000000000183afffe800000000000000000000000000002ff0200000000000000000000000000018600321b4000070800000000000000000101020000000002\n1400 send fe80::3656:78ff:fe9a:bcde 2001:db8:1::5 17 -\n1500 confirm fe80::ff:fe00:1\n16600 send fe80::3656:78ff:fe9a:bcde fe80::2 17 -\n16700 send fe80::3656:78ff:fe9a:bcde fe80::7 17 -\n16800 send fe80::3656:78ff:fe9a:bcde 2001:db8:1::5 17 -\n",
+    "1200 heard ra\n1300 heard ra\n1400 tx 0200000000013456789abcde86dd6000000000001140fe80000000000000365678fffe9abcde20010db8000100000000000000000005\n16600 tx 0200000000023456789abcde86dd6000000000001140fe80000000000000365678fffe9abcdefe800000000000000000000000000002\n16700 tx 3333ff0000073456789abcde86dd6000000000203afffe80000000000000365678fffe9abcdeff0200000000000000000001ff0000078700a7f000000000fe80000000000000000000000000000701013456789abcde\n16800 tx 0200000000023456789abcde86dd6000000000001140fe80000000000000365678fffe9abcde20010db8000100000000000000000005\n",
+);
+
+#[test]
+fn a_neighbour_is_evicted(rt: HostRuntime) {
+    let host = Tested {
+        limits: Limits::new(2, 16).expect(&rt, "limits"),
+        ..host()
+    };
+    let (lines, wanted) = EVICTED;
+    told_by_parts(&rt, rt.alloc(), &host, &[lines], Ok(()), &[STARTED, wanted]);
 }
 
 /// A Router Advertisement of fe80::ff:fe00:1 without a prefix.
