@@ -1,5 +1,6 @@
 //! Packets of the upper layer and commands in scripts: worked rows of lines and texts.
 
+use crate::frames::STARTED;
 use crate::tested::{Tested, host, told, told_by, told_by_parts};
 use nd_node::Limits;
 use nd_slaac::Transmits;
@@ -10,10 +11,6 @@ use std::test::*;
 /// A Router Advertisement of fe80::ff:fe00:1 with a prefix that is on the link and forms addresses.
 const ADVERTISED: &str =
     "33330000000102000000000186dd6000000000383afffe80000000000000000000fffe000001ff0200000000000000000000000000018600f9ce4000070800000000000000000101020000000001030440c000278d0000093a800000000020010db8000000000000000000000000";
-
-/// What a host tells up to its first Router Solicitation.
-const STARTED: &str =
-    "0 tx 3333ff9abcde3456789abcde86dd6000000000183aff00000000000000000000000000000000ff0200000000000000000001ff9abcde870053df00000000fe80000000000000365678fffe9abcde\n1000 assigned fe80::3656:78ff:fe9a:bcde\n1000 tx 3333000000023456789abcde86dd6000000000103afffe80000000000000365678fffe9abcdeff0200000000000000000000000000028500a78f0000000001013456789abcde\n";
 
 /// What it tells of the advertisement, and of the address that it forms.
 const FORMED: &str =
