@@ -38,18 +38,72 @@ use Rattle.nd_node.specs.declared.node.Node.{Node}
 use Rattle.nd_node.specs.Node.{Stands}
 use Rattle.nd_node.specs.RouterAdvertisement.{advertised}
 
+-- the first table without room, those before it having room
+first_neighbours : (n r p a v m : Bool) → n ≡ false → Some happenings.Neighbours ≡ first_full n r p a v m
+first_neighbours n r p a v m e = rw e refl
+
+first_routers : (n r p a v m : Bool) → n ≡ true → r ≡ false → Some happenings.Routers ≡ first_full n r p a v m
+first_routers n r p a v m e f = rw (e, f) refl
+
+first_prefixes : (n r p a v m : Bool) → n ≡ true → r ≡ true → p ≡ false → Some happenings.Prefixes ≡ first_full n r p a v m
+first_prefixes n r p a v m e f g = rw (e, f, g) refl
+
+first_addresses : (n r p a v m : Bool) → n ≡ true → r ≡ true → p ≡ true → a ≡ false → Some happenings.Addresses ≡ first_full n r p a v m
+first_addresses n r p a v m e f g h = rw (e, f, g, h) refl
+
+first_servers : (n r p a v m : Bool) → n ≡ true → r ≡ true → p ≡ true → a ≡ true → v ≡ false → Some happenings.Servers ≡ first_full n r p a v m
+first_servers n r p a v m e f g h i = rw (e, f, g, h, i) refl
+
+first_names : (n r p a v m : Bool) → n ≡ true → r ≡ true → p ≡ true → a ≡ true → v ≡ true → m ≡ false → Some happenings.Names ≡ first_full n r p a v m
+first_names n r p a v m e f g h i j = rw (e, f, g, h, i, j) refl
+
+first_none : (n r p a v m : Bool) → n ≡ true → r ≡ true → p ≡ true → a ≡ true → v ≡ true → m ≡ true → None ≡ first_full n r p a v m
+first_none n r p a v m e f g h i j = rw (e, f, g, h, i, j) refl
+
 module _ {R A : Type 0} (stream : R → Stream) (node : Node R A) (now : ℕ) (source : Addr) (ra : RouterAdvertisement) (options : List Said) where
   abbrev message : Parts
   message = advertised ra options
 
-  -- the first table without room, by what is kept
+  -- whether each table has room, by what is kept
+  abbrev router_fits : Bool
+  router_fits = fits same node.routers.limit now ((number_of source.0, ra.router_lifetime) ∷ []) node.routers.entries
+
+  abbrev prefix_fits : Bool
+  prefix_fits = fits same_prefix on_link.max_prefixes now (on_link.prefixes_in options) node.prefixes
+
+  abbrev address_fits : Bool
+  address_fits = fits_in node.addresses.mac (keys_in node.addresses.addresses) (prefixes_in options)
+
+  abbrev server_fits : Bool
+  server_fits = fits same_addr max_servers now (servers_told options) node.dns.servers
+
+  abbrev name_fits : Bool
+  name_fits = fits same_name max_names now (names_told options) node.dns.names
+
+  -- the first table without room
   abbrev pub first_kept : Bool → Option happenings.Limit
-  first_kept place = first_full place
-      (fits same node.routers.limit now ((number_of source.0, ra.router_lifetime) ∷ []) node.routers.entries)
-      (fits same_prefix on_link.max_prefixes now (on_link.prefixes_in options) node.prefixes)
-      (fits_in node.addresses.mac (keys_in node.addresses.addresses) (prefixes_in options))
-      (fits same_addr max_servers now (servers_told options) node.dns.servers)
-      (fits same_name max_names now (names_told options) node.dns.names)
+  first_kept place = first_full place router_fits prefix_fits address_fits server_fits name_fits
+
+  pub at_neighbours : (place : Bool) → place ≡ false → Some happenings.Neighbours ≡ first_kept place
+  at_neighbours place e = first_neighbours place router_fits prefix_fits address_fits server_fits name_fits e
+
+  pub at_routers : (place : Bool) → place ≡ true → router_fits ≡ false → Some happenings.Routers ≡ first_kept place
+  at_routers place e f = first_routers place router_fits prefix_fits address_fits server_fits name_fits e f
+
+  pub at_prefixes : (place : Bool) → place ≡ true → router_fits ≡ true → prefix_fits ≡ false → Some happenings.Prefixes ≡ first_kept place
+  at_prefixes place e f h = first_prefixes place router_fits prefix_fits address_fits server_fits name_fits e f h
+
+  pub at_addresses : (place : Bool) → place ≡ true → router_fits ≡ true → prefix_fits ≡ true → address_fits ≡ false → Some happenings.Addresses ≡ first_kept place
+  at_addresses place e f h i = first_addresses place router_fits prefix_fits address_fits server_fits name_fits e f h i
+
+  pub at_servers : (place : Bool) → place ≡ true → router_fits ≡ true → prefix_fits ≡ true → address_fits ≡ true → server_fits ≡ false → Some happenings.Servers ≡ first_kept place
+  at_servers place e f h i j = first_servers place router_fits prefix_fits address_fits server_fits name_fits e f h i j
+
+  pub at_names : (place : Bool) → place ≡ true → router_fits ≡ true → prefix_fits ≡ true → address_fits ≡ true → server_fits ≡ true → name_fits ≡ false → Some happenings.Names ≡ first_kept place
+  at_names place e f h i j k = first_names place router_fits prefix_fits address_fits server_fits name_fits e f h i j k
+
+  pub at_none : (place : Bool) → place ≡ true → router_fits ≡ true → prefix_fits ≡ true → address_fits ≡ true → server_fits ≡ true → name_fits ≡ true → None ≡ first_kept place
+  at_none place e f h i j k = first_none place router_fits prefix_fits address_fits server_fits name_fits e f h i j k
 
   module _ (place : Bool) (limit : Option happenings.Limit) (first : limit ≡ first_kept place)
       (start : Start) (c : Chronicle) (s : Stands stream start node c) (le : last_moment start.at c ≤ now) where
@@ -102,25 +156,3 @@ module _ {R A : Type 0} (stream : R → Stream) (node : Node R A) (now : ℕ) (s
       those_names = listed_names;
       first = first ∙ first_by _ _ _ _ _ _ _ _ _ router_is prefix_is server_is name_is;
     }
-
--- the first table without room, those before it having room
-pub at_neighbours : (n r p a v m : Bool) → n ≡ false → Some happenings.Neighbours ≡ first_full n r p a v m
-at_neighbours n r p a v m e = rw e refl
-
-pub at_routers : (n r p a v m : Bool) → n ≡ true → r ≡ false → Some happenings.Routers ≡ first_full n r p a v m
-at_routers n r p a v m e f = rw (e, f) refl
-
-pub at_prefixes : (n r p a v m : Bool) → n ≡ true → r ≡ true → p ≡ false → Some happenings.Prefixes ≡ first_full n r p a v m
-at_prefixes n r p a v m e f g = rw (e, f, g) refl
-
-pub at_addresses : (n r p a v m : Bool) → n ≡ true → r ≡ true → p ≡ true → a ≡ false → Some happenings.Addresses ≡ first_full n r p a v m
-at_addresses n r p a v m e f g h = rw (e, f, g, h) refl
-
-pub at_servers : (n r p a v m : Bool) → n ≡ true → r ≡ true → p ≡ true → a ≡ true → v ≡ false → Some happenings.Servers ≡ first_full n r p a v m
-at_servers n r p a v m e f g h i = rw (e, f, g, h, i) refl
-
-pub at_names : (n r p a v m : Bool) → n ≡ true → r ≡ true → p ≡ true → a ≡ true → v ≡ true → m ≡ false → Some happenings.Names ≡ first_full n r p a v m
-at_names n r p a v m e f g h i j = rw (e, f, g, h, i, j) refl
-
-pub at_none : (n r p a v m : Bool) → n ≡ true → r ≡ true → p ≡ true → a ≡ true → v ≡ true → m ≡ true → None ≡ first_full n r p a v m
-at_none n r p a v m e f g h i j = rw (e, f, g, h, i, j) refl

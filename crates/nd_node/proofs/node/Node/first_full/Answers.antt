@@ -6,37 +6,37 @@ use Rattle.nd_node.proofs.node.Node.first_full.Goals as goal
 pub returns-then-not-place-clause-fills : goal.returns-then-not-place-clause-fills
 returns-then-not-place-clause-fills g c = λ start c' s le.
     advertisement_fills g.R.Rng.stream c.args.self.now c.args.now c.args.source c.args.ra.now (options_left c.args.options) c.args.place _
-    (at_neighbours _ _ _ _ _ _ c.if-not-place.true) start c' s le
+    (at_neighbours g.R.Rng.stream c.args.self.now c.args.now c.args.source c.args.ra.now (options_left c.args.options) c.args.place c.if-not-place.true) start c' s le
 
 pub returns-then-not-fits-clause-fills : goal.returns-then-not-fits-clause-fills
 returns-then-not-fits-clause-fills g c = λ start c' s le.
     advertisement_fills g.R.Rng.stream c.args.self.now c.args.now c.args.source c.args.ra.now (options_left c.args.options) c.args.place _
-    (at_routers _ _ _ _ _ _ c.if-not-place.false (sym c.fits.ensures.value ∙ c.if-not-fits.true)) start c' s le
+    (at_routers g.R.Rng.stream c.args.self.now c.args.now c.args.source c.args.ra.now (options_left c.args.options) c.args.place c.if-not-place.false (sym c.fits.ensures.value ∙ c.if-not-fits.true)) start c' s le
 
 pub returns-then-not-fits-2-clause-fills : goal.returns-then-not-fits-2-clause-fills
 returns-then-not-fits-2-clause-fills g c = λ start c' s le.
     advertisement_fills g.R.Rng.stream c.args.self.now c.args.now c.args.source c.args.ra.now (options_left c.args.options) c.args.place _
-    (at_prefixes _ _ _ _ _ _ c.if-not-place.false (sym c.fits.ensures.value ∙ c.if-not-fits.false) (sym c.fits-2.ensures.value ∙ c.if-not-fits-2.true)) start c' s le
+    (at_prefixes g.R.Rng.stream c.args.self.now c.args.now c.args.source c.args.ra.now (options_left c.args.options) c.args.place c.if-not-place.false (sym c.fits.ensures.value ∙ c.if-not-fits.false) (sym c.fits-2.ensures.value ∙ c.if-not-fits-2.true)) start c' s le
 
 pub returns-then-not-fits-3-clause-fills : goal.returns-then-not-fits-3-clause-fills
 returns-then-not-fits-3-clause-fills g c = λ start c' s le.
     advertisement_fills g.R.Rng.stream c.args.self.now c.args.now c.args.source c.args.ra.now (options_left c.args.options) c.args.place _
-    (at_addresses _ _ _ _ _ _ c.if-not-place.false (sym c.fits.ensures.value ∙ c.if-not-fits.false) (sym c.fits-2.ensures.value ∙ c.if-not-fits-2.false) (sym c.fits-3.ensures.value ∙ c.if-not-fits-3.true)) start c' s le
+    (at_addresses g.R.Rng.stream c.args.self.now c.args.now c.args.source c.args.ra.now (options_left c.args.options) c.args.place c.if-not-place.false (sym c.fits.ensures.value ∙ c.if-not-fits.false) (sym c.fits-2.ensures.value ∙ c.if-not-fits-2.false) (sym c.fits-3.ensures.value ∙ c.if-not-fits-3.true)) start c' s le
 
 pub returns-then-not-fits_servers-clause-fills : goal.returns-then-not-fits_servers-clause-fills
 returns-then-not-fits_servers-clause-fills g c = λ start c' s le.
     advertisement_fills g.R.Rng.stream c.args.self.now c.args.now c.args.source c.args.ra.now (options_left c.args.options) c.args.place _
-    (at_servers _ _ _ _ _ _ c.if-not-place.false (sym c.fits.ensures.value ∙ c.if-not-fits.false) (sym c.fits-2.ensures.value ∙ c.if-not-fits-2.false) (sym c.fits-3.ensures.value ∙ c.if-not-fits-3.false)
+    (at_servers g.R.Rng.stream c.args.self.now c.args.now c.args.source c.args.ra.now (options_left c.args.options) c.args.place c.if-not-place.false (sym c.fits.ensures.value ∙ c.if-not-fits.false) (sym c.fits-2.ensures.value ∙ c.if-not-fits-2.false) (sym c.fits-3.ensures.value ∙ c.if-not-fits-3.false)
     (sym c.fits_servers.ensures.value ∙ c.if-not-fits_servers.true)) start c' s le
 
 pub returns-then-not-fits_names-clause-fills : goal.returns-then-not-fits_names-clause-fills
 returns-then-not-fits_names-clause-fills g c = λ start c' s le.
     advertisement_fills g.R.Rng.stream c.args.self.now c.args.now c.args.source c.args.ra.now (options_left c.args.options) c.args.place _
-    (at_names _ _ _ _ _ _ c.if-not-place.false (sym c.fits.ensures.value ∙ c.if-not-fits.false) (sym c.fits-2.ensures.value ∙ c.if-not-fits-2.false) (sym c.fits-3.ensures.value ∙ c.if-not-fits-3.false)
+    (at_names g.R.Rng.stream c.args.self.now c.args.now c.args.source c.args.ra.now (options_left c.args.options) c.args.place c.if-not-place.false (sym c.fits.ensures.value ∙ c.if-not-fits.false) (sym c.fits-2.ensures.value ∙ c.if-not-fits-2.false) (sym c.fits-3.ensures.value ∙ c.if-not-fits-3.false)
     (sym c.fits_servers.ensures.value ∙ c.if-not-fits_servers.false) (sym c.fits_names.ensures.value ∙ c.if-not-fits_names.true)) start c' s le
 
 pub returns-clause-fills : goal.returns-clause-fills
 returns-clause-fills g c = λ start c' s le.
     advertisement_fills g.R.Rng.stream c.args.self.now c.args.now c.args.source c.args.ra.now (options_left c.args.options) c.args.place _
-    (at_none _ _ _ _ _ _ c.if-not-place.false (sym c.fits.ensures.value ∙ c.if-not-fits.false) (sym c.fits-2.ensures.value ∙ c.if-not-fits-2.false) (sym c.fits-3.ensures.value ∙ c.if-not-fits-3.false)
+    (at_none g.R.Rng.stream c.args.self.now c.args.now c.args.source c.args.ra.now (options_left c.args.options) c.args.place c.if-not-place.false (sym c.fits.ensures.value ∙ c.if-not-fits.false) (sym c.fits-2.ensures.value ∙ c.if-not-fits-2.false) (sym c.fits-3.ensures.value ∙ c.if-not-fits-3.false)
     (sym c.fits_servers.ensures.value ∙ c.if-not-fits_servers.false) (sym c.fits_names.ensures.value ∙ c.if-not-fits_names.false)) start c' s le

@@ -1,4 +1,4 @@
-use Rattle.std.proofs.Common.{refl, ap}
+use Rattle.std.proofs.Common.{refl, ap, ◌∙◌}
 use Rattle.nd_chronicle.specs.Happening.{Sent}
 use Rattle.nd_node.proofs.Detections.{defends, duplicates}
 use Rattle.nd_node.proofs.node.Node.hear_detection.Goals as goal
@@ -16,5 +16,6 @@ returns-clause-adds g c = λ options.
     defends g.R.Rng.stream c.args.self.now _ c.args.outs.now.items _ _ c.push_reserved-2.new.self.items c.args.now c.args.source c.args.destination c.args.ns.now options
     c.requires.unspecified c.requires.settled _ _ refl c.in_ok-reserve.ensures.items c.push_reserved.ensures.items c.push_reserved-2.ensures.items
     c.is_router-router.result c.is_router-router.ensures (ap Sent c.defence-defence.ensures)
-    (ap (λ a. record c.args.self.now { last = c.args.now; addresses = a }) (c.if-hear_conflict.ensures.same refl))
+    (ap (λ a. record c.args.self.now { last = c.args.now; addresses = a; choice = c.hear_conflict.new.choice }) (c.if-hear_conflict.ensures.same refl)
+    ∙ ap (λ t. record c.args.self.now { last = c.args.now; choice = t }) c.if-hear_conflict.ensures.remembers)
     c.if-hear_conflict.ensures.tentative

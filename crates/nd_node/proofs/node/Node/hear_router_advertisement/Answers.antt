@@ -41,4 +41,4 @@ returns-in_err-reserve-clause-quiet g c = λ adds.
     absurd (omega (arith, adds.told, waits, c.waiting_for-waiting.ensures.value, c.in_err-reserve.ensures.full))
 
 pub returns-in_err-names-clause-quiet : goal.returns-in_err-names-clause-quiet
-returns-in_err-names-clause-quiet g c = λ adds. c.in_err-names.ensures.quiet adds.names
+returns-in_err-names-clause-quiet g c = λ adds. let refused = c.in_err-names.ensures.quiet adds.names in let no : ⊥ = cc in absurd no
