@@ -42,7 +42,7 @@ impl View for OneRouter {
 }
 
 /// How many destinations there are: one more than are remembered.
-const DESTINATIONS: u128 = 257;
+const DESTINATIONS: u16 = 257;
 
 /// Where no pair can be remembered for lack of memory, each destination has its next hop all the same.
 #[test]
@@ -61,7 +61,9 @@ fn next_hops_are_found_without_memory(rt: HostRuntime) {
     let blocks = exhaust(&heap).expect(&rt, "memory");
     for _ in 0..2 {
         for number in 0..DESTINATIONS {
-            let destination = Addr::from_bits(0x2001_0db8_0001_0000_0000_0000_0000_0000 | number);
+            let destination = Addr::from_bits(
+                0x2001_0db8_0001_0000_0000_0000_0000_0000 | u128::from(number),
+            );
             assert!(rt; choice.next_hop(0, destination, &view) == Hop::Via(router));
         }
     }

@@ -133,7 +133,7 @@ const TO_ROUTER: &str =
     "1300 tx 0200000000013456789abcde86dd6000000000001140fe80000000000000365678fffe9abcde";
 
 /// How many destinations there are: one more than are remembered.
-const DESTINATIONS: u128 = 257;
+const DESTINATIONS: u16 = 257;
 
 /// A packet to an address off the link, and the frame that it becomes.
 fn push_packet(rt: &impl Abort, number: u128, lines: &mut String, wanted: &mut String) {
@@ -155,7 +155,7 @@ fn more_destinations_than_are_remembered_go_the_same_way(rt: HostRuntime) {
     let mut wanted = String::new(rt.alloc());
     for _ in 0..2 {
         for number in 0..DESTINATIONS {
-            push_packet(&rt, number, &mut lines, &mut wanted);
+            push_packet(&rt, u128::from(number), &mut lines, &mut wanted);
         }
     }
     told(
