@@ -1,11 +1,47 @@
 -- What a search by halves keeps in a list in the order of its numbers.
-use Rattle.std.proofs.Common.{pow-suc, ◌≡◌, ℕ, ◌+◌, ◌*◌, ◌^◌, ◌/◌, ◌-◌, ◌<◌, ◌≤◌, cond, eqb, ltb, List, [], ◌∷◌, length, get_or, drop, Some, None, refl, sym, ◌∙◌, ap, subst, arith, suc, zero, add-one, inl, inr}
+use Rattle.std.proofs.Common.{Ordering, Less, Equal, Greater, Bool, true, false, pow-suc, ◌≡◌, ℕ, ◌+◌, ◌*◌, ◌^◌, ◌/◌, ◌-◌, ◌<◌, ◌≤◌, cond, eqb, ltb, List, [], ◌∷◌, length, get_or, drop, Some, None, refl, sym, ◌∙◌, ap, subst, arith, suc, zero, add-one, inl, inr}
+use Rattle.std.specs.Ordering.{is_eq, is_lt, MatchOrdering, nat_cmp}
 use Rattle.std.specs.Prelude.{slice_get}
+use Rattle.std.proofs.lemmas.Cmp.{ranked}
 use Rattle.std.proofs.lemmas.Option.{slice_get-get_or}
 use Rattle.std.proofs.lemmas.Bool.Decides.{nat_tests}
 use Rattle.std.proofs.lemmas.Bool.{cases_Bool, eqb-true, eq-eqb, true≢false}
 use Rattle.nd_table.specs.Keyed.{at_key, AllAbove, Rises, place_of, binary_digits}
 use Rattle.nd_table.proofs.Keyed.{above_at, none_above, at_place}
+
+-- what an order of two numbers says of them
+module _ (a b : ℕ) where
+  pub lower : (o : Ordering) (is : Bool) → o ≡ nat_cmp a b → is ≡ is_lt o → is ≡ true → a < b
+  lower o is e t h = by o (ranked a b o e) (sym t ∙ h)
+    where
+      by : (o : Ordering) → MatchOrdering o (a < b) (a ≡ b) (b < a) → is_lt o ≡ true → a < b
+      by Less m y = m
+      by Equal m y = absurd (true≢false (sym y))
+      by Greater m y = absurd (true≢false (sym y))
+
+  pub not_lower : (o : Ordering) (is : Bool) → o ≡ nat_cmp a b → is ≡ is_lt o → is ≡ false → b ≤ a
+  not_lower o is e t h = by o (ranked a b o e) (sym t ∙ h)
+    where
+      by : (o : Ordering) → MatchOrdering o (a < b) (a ≡ b) (b < a) → is_lt o ≡ false → b ≤ a
+      by Less m n = absurd (true≢false n)
+      by Equal m n = omega (arith, m)
+      by Greater m n = omega (arith, m)
+
+  pub same : (o : Ordering) (is : Bool) → o ≡ nat_cmp a b → is ≡ is_eq o → is ≡ true → a ≡ b
+  same o is e t h = by o (ranked a b o e) (sym t ∙ h)
+    where
+      by : (o : Ordering) → MatchOrdering o (a < b) (a ≡ b) (b < a) → is_eq o ≡ true → a ≡ b
+      by Less m y = absurd (true≢false (sym y))
+      by Equal m y = m
+      by Greater m y = absurd (true≢false (sym y))
+
+  pub other : (o : Ordering) (is : Bool) → o ≡ nat_cmp a b → is ≡ is_eq o → is ≡ false → (a ≡ b) → ⊥
+  other o is e t h = by o (ranked a b o e) (sym t ∙ h)
+    where
+      by : (o : Ordering) → MatchOrdering o (a < b) (a ≡ b) (b < a) → is_eq o ≡ false → (a ≡ b) → ⊥
+      by Less m n at = absurd (omega (arith, m, at))
+      by Equal m n at = absurd (true≢false n)
+      by Greater m n at = absurd (omega (arith, m, at))
 
 module _ {N : Type 0} (key : N → ℕ) (k : ℕ) where
   -- all up to a lower one are lower
@@ -17,13 +53,16 @@ module _ {N : Type 0} (key : N → ℕ) (k : ℕ) where
       let rest : suc i ≤ place_of key k ns = place_above ns i d r.1 (omega arith) low in
       grind (arith, nat_tests, first, rest)
 
-  -- a higher one isn't among those that are lower
-  pub place_below : (ns : List N) (i : ℕ) (d : N) → i < length ns → k < key (get_or ns i d) → place_of key k ns ≤ i
-  place_below [] i d lt high = absurd (omega arith)
-  place_below (n ∷ ns) zero d lt high = grind (arith, nat_tests, high)
-  place_below (n ∷ ns) (suc i) d lt high =
-      let rest : place_of key k ns ≤ i = place_below ns i d (omega arith) high in
+  -- one that isn't lower isn't among those that are
+  place_until : (ns : List N) (i : ℕ) (d : N) → i < length ns → k ≤ key (get_or ns i d) → place_of key k ns ≤ i
+  place_until [] i d lt high = absurd (omega arith)
+  place_until (n ∷ ns) zero d lt high = grind (arith, nat_tests, high)
+  place_until (n ∷ ns) (suc i) d lt high =
+      let rest : place_of key k ns ≤ i = place_until ns i d (omega arith) high in
       grind (arith, nat_tests, rest)
+
+  pub place_below : (ns : List N) (i : ℕ) (d : N) → i < length ns → k < key (get_or ns i d) → place_of key k ns ≤ i
+  place_below ns i d lt high = place_until ns i d lt (omega (arith, high))
 
   AllAbove-lower : (low : ℕ) (ns : List N) → k < low → AllAbove key low ns → AllAbove key k ns
   AllAbove-lower low [] lt h = tt
@@ -50,10 +89,19 @@ module _ {N : Type 0} (key : N → ℕ) (k : ℕ) where
   pub seen_low : (ns : List N) (i : ℕ) (n : N) → n ≡ get_or ns i n → i < length ns → Rises key ns → key n < k → suc i ≤ place_of key k ns
   seen_low ns i n is lt r low = place_above ns i n r lt (subst (λ (m : N). key m < k) is low)
 
-  pub seen_high : (ns : List N) (i : ℕ) (n : N) → n ≡ get_or ns i n → i < length ns → Rises key ns → k < key n → (place_of key k ns ≤ i) × (at_key key k (drop i ns) ≡ None)
-  seen_high ns i n is lt r high =
-      let above : k < key (get_or ns i n) = subst (λ (m : N). k < key m) is high in
-      (place_below ns i n lt above, none_from ns i n r lt above)
+  pub seen_high : (ns : List N) (i : ℕ) (n : N) → n ≡ get_or ns i n → i < length ns → k ≤ key n → place_of key k ns ≤ i
+  seen_high ns i n is lt high = place_until ns i n lt (subst (λ (m : N). k ≤ key m) is high)
+
+  -- the entry at its place has another number
+  pub seen_other : (ns : List N) (i : ℕ) (n : N) → n ≡ get_or ns i n → i < length ns → Rises key ns → i ≡ place_of key k ns → ((key n ≡ k) → ⊥) → at_key key k ns ≡ None
+  seen_other ns i n is lt r at other = elim (cases_Bool (ltb (key n) k)) [
+    | inl low ↦
+        let before : suc i ≤ place_of key k ns = seen_low ns i n is lt r (grind (arith, nat_tests, low)) in
+        absurd (omega (arith, at, before))
+    | inr high ↦
+        let above : k < key n = grind (arith, nat_tests, high, other) in
+        none_at_place ns (subst (λ (j : ℕ). at_key key k (drop j ns) ≡ None) at (none_from ns i n r lt (subst (λ (m : N). k < key m) is above)))
+  ]
 
   -- the entry that was looked at is found
   pub found_at : (ns : List N) (i : ℕ) (n : N) → Rises key ns → i < length ns → n ≡ get_or ns i n → key n ≡ k → at_key key k ns ≡ slice_get ns i
@@ -98,6 +146,3 @@ module _ (before all : ℕ) where
 
   pub enough_none : (now size : ℕ) → Enough before all now size → now ≤ before + binary_digits all
   enough_none now size enough = let was = enough (binary_digits all) (digits_bound all) in let le : now + was.0 ≤ before + binary_digits all = was.1.1 in omega arith
-
-  pub enough_last : (now size now' : ℕ) → Enough before all now size → 0 < size → now' ≤ now + 1 → now' ≤ before + binary_digits all
-  enough_last now size now' enough some more = enough_none now' 0 (enough_half now size now' 0 enough some more (omega arith))
