@@ -90,6 +90,11 @@ fn first_bits(bytes: &[u8; 16], length: u8) -> [u8; 16]
     ensures masked { result ≡ masked length bytes.now }
     ensures bytes { IsBytes result }
 {
-    let address = Addr(*bytes);
-    Addr::from_bits(first_bits_of_number(address.to_bits(), length)).0
+    let number = Addr(*bytes).to_bits();
+    let first = first_bits_of_number(number, length);
+    // Mostly the other bits are clear already.
+    if first == number {
+        return *bytes;
+    }
+    Addr::from_bits(first).0
 }
