@@ -22,14 +22,23 @@ impl<'a> AnnouncedNames<'a> {
     ghost use Rattle.nd_decode.specs.Pieces.{options_left};
     ghost use Rattle.nd_dns.specs.Names.{names_told, names_to_come};
 
-    /// Those of these options.
+    /// Those of these options. The first option is read here, so that a walk that is begun again doesn't read it again.
+    #[tactic(auto, using(crate::proofs::OfType::names_from))]
     pub(crate) fn new(options: Options<'a>) -> Self
         ensures { names_to_come result ≡ names_told (options_left options.entry) }
     {
-        AnnouncedNames {
-            names: None,
-            lifetime: 0,
-            options,
+        let mut rest = options;
+        match rest.next_of_type(OPTION_DNS_SEARCH_LIST) {
+            Some(OptionRef::Dnssl(lifetime, names)) => AnnouncedNames {
+                names: Some(names),
+                lifetime,
+                options: rest,
+            },
+            _ => AnnouncedNames {
+                names: None,
+                lifetime: 0,
+                options,
+            },
         }
     }
 

@@ -14,6 +14,10 @@ const LONGEST_NAME: usize = 254;
 fn is_sign(byte: u8) -> bool
     ensures { result ≡ is_sign byte }
 {
+    // Most bytes of names are small letters.
+    if byte.is_ascii_lowercase() {
+        return true;
+    }
     byte.is_ascii_alphanumeric() || byte == b'-' || byte == b'_'
 }
 
