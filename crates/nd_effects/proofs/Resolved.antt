@@ -10,7 +10,7 @@ use Rattle.nd_neighbour.specs.Entry.{Node, Stage, Known, Resolving}
 use Rattle.nd_neighbour.specs.History as rows
 use Rattle.nd_neighbour.specs.History.{is_end, story}
 use Rattle.nd_neighbour.specs.NeighborAdvertisement.{taken}
-use Rattle.nd_neighbour.specs.News.{GainsNews, lets_enter, news_key, news_row}
+use Rattle.nd_neighbour.specs.News.{GainsNews, lets_enter, news_key, news_row, was_known}
 use Rattle.nd_neighbour.specs.Sending.{GainsPacket, Sending, sending_in, sending_to, then_packet}
 use Rattle.nd_neighbour.specs.Story.{is_present, mac_of, node_of}
 use Rattle.nd_neighbour.specs.Table as neighbours
@@ -19,6 +19,11 @@ use Rattle.nd_nexthop.specs.Choice.{Table}
 use Rattle.nd_nexthop.specs.Memo.{forgotten}
 use Rattle.nd_effects.specs.FirstHop.{is_resolved}
 use Rattle.nd_effects.specs.Remembered.{AsResolved, MayRemember, Forgets, Keeps, begins}
+
+-- a neighbour whose link-layer address was known was resolved
+pub was_resolved : (found : Option Node) → was_known found ≡ is_resolved found
+was_resolved None = refl
+was_resolved (Some n) = refl
 
 -- ---- by what happened
 

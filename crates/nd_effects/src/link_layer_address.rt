@@ -12,7 +12,6 @@ ghost use Rattle.nd_chronicle.specs.Happening.{Sent};
 ghost use Rattle.nd_chronicle.specs.Histories.{given_or_marked, mark_of_target, said_of_neighbour, said_of_source};
 ghost use Rattle.nd_chronicle.specs.LinkLayerAddress.{first_slla, first_tlla};
 ghost use Rattle.nd_waiting.specs.Waiting.{max_waiting};
-ghost use Rattle.nd_effects.specs.FirstHop.{is_resolved};
 ghost use Rattle.nd_effects.specs.Remembered.{MayRemember};
 ghost use Rattle.nd_effects.specs.LinkLayerAddress.{said_by, HasPlace, waiting_for, HearsOf};
 ghost use Rattle.nd_effects.specs.Told.{at_moment, happenings};
@@ -146,16 +145,6 @@ fn send_each<A: Allocator>(outs: &mut Vec<(u64, Out<A>), A>, at: u64, mac: Mac, 
     }
 }
 
-/// Returns true if the link-layer address of the neighbour that the news are of is known.
-fn is_known<A: Allocator>(neighbours: &Cache<A>, now: u64, news: &News) -> bool
-    ensures { result ≡ is_resolved (node_in (news_key news.now) neighbours.now.nodes) }
-{
-    match neighbours.entry(now, neighbour_in(news)) {
-        Some(neighbour) => neighbour.mac.is_some(),
-        None => false,
-    }
-}
-
 /// Takes what a message says of a neighbour, and sends the packets that waited for the address that it gives. Returns true if it says that a
 /// router is no longer one.
 fn hear_news<A: Allocator>(
@@ -181,10 +170,9 @@ fn hear_news<A: Allocator>(
     addresses_are_told_by_numbers();
     released_to_the_given_address();
     let mac = news.mac();
-    let known = is_known(neighbours, now, &news);
-    keep_if(choice, known);
     match neighbours.heard(now, news, times) {
         Ok(touched) => {
+            keep_if(choice, touched.was_known);
             let ends_router = touched.ends_router;
             match mac {
                 Some(mac) => send_each(outs, now, mac, touched.released),

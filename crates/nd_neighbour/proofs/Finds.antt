@@ -5,7 +5,7 @@ use Rattle.std.proofs.lemmas.Option.{slice_get-get_or}
 use Rattle.nd_neighbour.specs.Entry.{Node, Stage, Resolving, Known, released, known_mac, waiting_in}
 use Rattle.nd_neighbour.specs.Table.{node_in, place_in, Alters, There}
 use Rattle.nd_neighbour.specs.Place.{Gives, Was, Came, NoPlace, Places}
-use Rattle.nd_neighbour.specs.News.{told_released, told_turned}
+use Rattle.nd_neighbour.specs.News.{told_released, told_turned, was_known}
 use Rattle.nd_neighbour.specs.Removal.{Removes, Gone, waiting_at}
 use Rattle.std.specs.List.{insert, remove}
 use Rattle.std.proofs.lemmas.Bool.{true≢false}
@@ -26,6 +26,9 @@ module _ (key : ℕ) (change : Node → Node) (old seen : List Node) (i : ℕ) (
 
   pub releases : (packets : List (List ℕ)) → packets ≡ released n m → packets ≡ told_released change (node_in key old)
   releases packets e = e ∙ (ap (released n) new_is ∙ sym (ap (told_released change) there))
+
+  pub knew : (known : Bool) → known ≡ is_some (known_mac n.stage) → known ≡ was_known (node_in key old)
+  knew known e = e ∙ sym (ap was_known there)
 
   pub turns : (turned : Bool) → turned ≡ (n.router && not m.router) → turned ≡ told_turned change (node_in key old)
   turns turned e = e ∙ (ap (λ (x : Node). n.router && not x.router) new_is ∙ sym (ap (told_turned change) there))

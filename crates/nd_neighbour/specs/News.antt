@@ -8,7 +8,7 @@ use Rattle.nd_neighbour.specs.declared.news.News.{News}
 use Rattle.nd_neighbour.specs.declared.news.News.TheVariants as news
 use Rattle.nd_neighbour.specs.declared.news.Times.{Times}
 use Rattle.nd_neighbour.specs.History.{RowKind, Given, Advertised, Marked, Story, Row, story}
-use Rattle.nd_neighbour.specs.Entry.{Node, released}
+use Rattle.nd_neighbour.specs.Entry.{Node, known_mac, released}
 use Rattle.nd_neighbour.specs.Story.{mac_of, waits_of, is_router}
 use Rattle.nd_neighbour.specs.Table.{Stands}
 use Rattle.nd_neighbour.specs.Place.{Prepares}
@@ -59,6 +59,11 @@ pub record Tells (now key : ℕ) (kind : RowKind) (old : List Node) (packets : L
 abbrev pub told_released : (Node → Node) → Option Node → List (List ℕ)
 told_released change None = []
 told_released change (Some n) = released n (change n)
+
+-- whether the link-layer address was known before
+abbrev pub was_known : Option Node → Bool
+was_known None = false
+was_known (Some n) = is_some (known_mac n.stage)
 
 -- and whether they take the mark of a router away
 abbrev pub told_turned : (Node → Node) → Option Node → Bool

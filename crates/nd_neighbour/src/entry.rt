@@ -1,4 +1,4 @@
-ghost use Rattle.std.specs.Prelude.{◌+◌, ◌<◌, ◌==◌, ◌^◌, ◌≡◌};
+ghost use Rattle.std.specs.Prelude.{is_some, ◌+◌, ◌<◌, ◌==◌, ◌^◌, ◌≡◌};
 ghost use Rattle.std.specs.Option.{option_map};
 ghost use Rattle.nd_addr.specs.Number.{number_of};
 
@@ -87,6 +87,16 @@ impl<A: Allocator> Entry<A> {
         match &self.stage {
             Stage::Resolving { .. } => None,
             Stage::Known { mac, .. } => Some(*mac),
+        }
+    }
+
+    /// Whether the link-layer address is known.
+    pub(crate) fn is_known(&self) -> bool
+        ensures { result ≡ is_some (known_mac self.now.stage) }
+    {
+        match &self.stage {
+            Stage::Resolving { .. } => false,
+            Stage::Known { .. } => true,
         }
     }
 

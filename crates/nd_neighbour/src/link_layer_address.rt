@@ -5,7 +5,7 @@ ghost use Rattle.nd_neighbour.specs.LinkLayerAddress.{given, mark_or};
 ghost use Rattle.nd_neighbour.specs.Table.{node_in, Alters};
 ghost use Rattle.nd_neighbour.specs.Planned.{IsPlanned};
 ghost use Rattle.nd_neighbour.specs.Place.{Gives, NoPlace};
-ghost use Rattle.nd_neighbour.specs.News.{told_released, told_turned};
+ghost use Rattle.nd_neighbour.specs.News.{told_released, told_turned, was_known};
 
 use crate::entry::{Entry, STALE_LIFETIME, Stage, is_same_mac};
 use crate::news::Touched;
@@ -34,6 +34,7 @@ pub(crate) fn give_or_enter<A: Allocator>(
     requires roomy { limit ≤ dates.old.room }
     ensures gives { OnOk result (Gives limit now (number_of addr.0) (λ n. given now (number_of mac.0) mark n) (stale_node (number_of addr.0) (mark_or mark false) now (number_of mac.0)) entries.old.items entries.new.items) }
     ensures released { IfOk result (λ touched. touched.released ≡ told_released (λ n. given now (number_of mac.0) mark n) (node_in (number_of addr.0) entries.old.items)) }
+    ensures was_known { IfOk result (λ touched. touched.was_known ≡ was_known (node_in (number_of addr.0) entries.old.items)) }
     ensures ends_router { IfOk result (λ touched. touched.ends_router ≡ told_turned (λ n. given now (number_of mac.0) mark n) (node_in (number_of addr.0) entries.old.items)) }
     ensures full { IsErr result ↔ NoPlace limit now (number_of addr.0) entries.old.items }
     ensures err { IfErr result (λ refusal. refusal ≡ CacheRefusal.Full) }
@@ -71,6 +72,7 @@ pub(crate) fn give<A: Allocator>(
     requires planned { IsPlanned entries.old.items dates.old }
     ensures alters { Alters (number_of addr.0) (λ n. given now (number_of mac.0) mark n) entries.old.items entries.new.items }
     ensures released { result.released ≡ told_released (λ n. given now (number_of mac.0) mark n) (node_in (number_of addr.0) entries.old.items) }
+    ensures was_known { result.was_known ≡ was_known (node_in (number_of addr.0) entries.old.items) }
     ensures ends_router { result.ends_router ≡ told_turned (λ n. given now (number_of mac.0) mark n) (node_in (number_of addr.0) entries.old.items) }
     ensures planned { IsPlanned entries.new.items dates.new }
     ensures room { dates.new.room ≡ dates.old.room }
@@ -79,10 +81,11 @@ pub(crate) fn give<A: Allocator>(
 {
     let entry = &mut entries[i];
     let was = entry.date();
+    let was_known = entry.is_known();
     let was_router = entry.router();
     let released = entry.given(now, mac, mark);
     dates.change(was, entry.date(), addr);
-    Touched::new(released, was_router, entry.router())
+    Touched::new(released, was_known, was_router, entry.router())
 }
 
 impl<A: Allocator> Entry<A> {

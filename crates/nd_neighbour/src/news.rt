@@ -3,7 +3,7 @@ ghost use Rattle.nd_addr.specs.Bytes.{AreBytes};
 ghost use Rattle.nd_addr.specs.Number.{number_of};
 ghost use Rattle.nd_neighbour.specs.Entry.{with_mark};
 ghost use Rattle.nd_neighbour.specs.Table.{node_in, Alters, Rises};
-ghost use Rattle.nd_neighbour.specs.News.{told_released, told_turned};
+ghost use Rattle.nd_neighbour.specs.News.{told_released, told_turned, was_known};
 
 use crate::cache::Cache;
 use crate::entry::Entry;
@@ -83,27 +83,38 @@ pub struct Times {
 pub struct Touched<A: Allocator> {
     /// The packets that waited for its link-layer address and can be sent now.
     pub released: Packets<A>,
+    /// Its link-layer address was known before.
+    pub was_known: bool,
     /// It was a router, and is none any more: it has to leave the list of default routers (RFC 4861, section 7.2.5).
     pub ends_router: bool,
 }
 
 impl<A: Allocator> Touched<A> {
-    pub(crate) fn new(released: Packets<A>, was_router: bool, is_router: bool) -> Self
+    pub(crate) fn new(
+        released: Packets<A>,
+        was_known: bool,
+        was_router: bool,
+        is_router: bool,
+    ) -> Self
         ensures released { result.released ≡ released }
+        ensures was_known { result.was_known ≡ was_known }
         ensures ends_router { result.ends_router ≡ (was_router && not is_router) }
     {
         Touched {
             released,
+            was_known,
             ends_router: was_router && !is_router,
         }
     }
 
     pub(crate) fn nothing() -> Self
         ensures released { result.released ≡ [] }
+        ensures was_known { result.was_known ≡ false }
         ensures ends_router { result.ends_router ≡ false }
     {
         Touched {
             released: Packets::none(),
+            was_known: false,
             ends_router: false,
         }
     }
@@ -113,7 +124,7 @@ impl<A: Allocator> Cache<A> {
     ghost use Rattle.nd_neighbour.specs.Removal.{waiting_at};
     ghost use Rattle.nd_neighbour.specs.Table.{node_in};
     ghost use Rattle.nd_neighbour.specs.Place.{NoPlace};
-    ghost use Rattle.nd_neighbour.specs.News.{GainsNews, Tells, lets_enter, news_key, news_row};
+    ghost use Rattle.nd_neighbour.specs.News.{GainsNews, Tells, lets_enter, news_key, news_row, was_known};
 
     /// A message says something of a neighbour (RFC 4861, sections 6.2.6, 6.3.4, 7.2.3, 7.2.5 and 8.3). Only an address
     /// that is given makes an entry; the other news of a neighbour that isn't there change nothing. Of `times` only
@@ -127,6 +138,8 @@ impl<A: Allocator> Cache<A> {
 
         ensures stands { OnOk result (GainsNews self.old.limit now news times self.old.nodes self.new.nodes) }
         ensures told { IfOk result (λ touched. Tells now (news_key news) (news_row news times) self.old.nodes touched.released touched.ends_router) }
+
+        ensures was_known { IfOk result (λ touched. touched.was_known ≡ was_known (node_in (news_key news) self.old.nodes)) }
 
         // No more packets are released than waited for that neighbour.
         ensures few { IfOk result (λ touched. length touched.released ≤ length (waiting_at (node_in (news_key news) self.old.nodes))) }
@@ -180,6 +193,7 @@ pub(crate) fn mark<A: Allocator>(
     requires { Rises entries.old.items }
     ensures alters { Alters (number_of addr.0) (λ n. with_mark router n) entries.old.items entries.new.items }
     ensures released { result.released ≡ told_released (λ n. with_mark router n) (node_in (number_of addr.0) entries.old.items) }
+    ensures was_known { result.was_known ≡ was_known (node_in (number_of addr.0) entries.old.items) }
     ensures ends_router { result.ends_router ≡ told_turned (λ n. with_mark router n) (node_in (number_of addr.0) entries.old.items) }
     ensures len { vec_len entries.new ≡ vec_len entries.old }
     ensures capacity { vec_capacity entries.new ≡ vec_capacity entries.old }
@@ -188,9 +202,10 @@ pub(crate) fn mark<A: Allocator>(
         return Touched::nothing();
     };
     let entry = &mut entries[i];
+    let was_known = entry.is_known();
     let was_router = entry.router();
     entry.mark(router);
-    Touched::new(Packets::none(), was_router, entry.router())
+    Touched::new(Packets::none(), was_known, was_router, entry.router())
 }
 
 impl<A: Allocator> Entry<A> {

@@ -1,6 +1,8 @@
 use Rattle.std.proofs.Common.{refl, sym, ◌∙◌}
+use Rattle.nd_neighbour.specs.News.{news_key}
+use Rattle.nd_neighbour.specs.Table.{node_in}
 use Rattle.nd_effects.proofs.Released.{hears_given, hears_none}
-use Rattle.nd_effects.proofs.Resolved.{news_may_remember}
+use Rattle.nd_effects.proofs.Resolved.{news_may_remember, was_resolved}
 use Rattle.nd_effects.proofs.link_layer_address.hear_news.Goals as goal
 
 pub returns-in-Some-clause-hears : goal.returns-in-Some-clause-hears
@@ -17,8 +19,8 @@ returns-in-None-clause-hears g c =
 
 pub returns-in-Some-clause-remembers : goal.returns-in-Some-clause-remembers
 returns-in-Some-clause-remembers g c =
-    news_may_remember c.is_known-known.result c.args.choice.now c.keep_if.new.choice c.args.neighbours.now.limit c.args.now c.args.news c.args.times c.args.neighbours.now.nodes c.heard.new.self.nodes c.is_known-known.ensures c.keep_if.ensures c.in-Ok.ensures.stands
+    news_may_remember c.in-Ok.touched.was_known c.args.choice.now c.keep_if.new.choice c.args.neighbours.now.limit c.args.now c.args.news c.args.times c.args.neighbours.now.nodes c.heard.new.self.nodes (c.in-Ok.ensures.was_known ∙ was_resolved (node_in (news_key c.args.news) c.args.neighbours.now.nodes)) c.keep_if.ensures c.in-Ok.ensures.stands
 
 pub returns-in-None-clause-remembers : goal.returns-in-None-clause-remembers
 returns-in-None-clause-remembers g c =
-    news_may_remember c.is_known-known.result c.args.choice.now c.keep_if.new.choice c.args.neighbours.now.limit c.args.now c.args.news c.args.times c.args.neighbours.now.nodes c.heard.new.self.nodes c.is_known-known.ensures c.keep_if.ensures c.in-Ok.ensures.stands
+    news_may_remember c.in-Ok.touched.was_known c.args.choice.now c.keep_if.new.choice c.args.neighbours.now.limit c.args.now c.args.news c.args.times c.args.neighbours.now.nodes c.heard.new.self.nodes (c.in-Ok.ensures.was_known ∙ was_resolved (node_in (news_key c.args.news) c.args.neighbours.now.nodes)) c.keep_if.ensures c.in-Ok.ensures.stands

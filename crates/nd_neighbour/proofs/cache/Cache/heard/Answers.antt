@@ -8,7 +8,7 @@ use Rattle.nd_neighbour.specs.LinkLayerAddress.{given, mark_or}
 use Rattle.nd_neighbour.specs.NeighborAdvertisement.{advertised}
 use Rattle.nd_neighbour.specs.Table.{Table, node_in, Alters}
 use Rattle.nd_neighbour.specs.Place.{Gives}
-use Rattle.nd_neighbour.specs.News.{told_released, told_turned}
+use Rattle.nd_neighbour.specs.News.{told_released, told_turned, was_known}
 use Rattle.nd_neighbour.proofs.Results.{if_ok_both}
 use Rattle.nd_neighbour.proofs.NewsCalls.{given_key, given_hears, advertised_gains, marked_gains, given_tells, advertised_tells, marked_tells, few_released}
 use Rattle.nd_neighbour.proofs.Second.{gives_there}
@@ -106,3 +106,15 @@ invariant_of-self-in-Marked g c =
       was.4,
       marked_planned (number_of c.in-Marked.addr.0) c.in-Marked.router c.self.inside.entries.items c.mark.new.entries.items c.self.inside.dates c.mark.ensures.alters was.5,
     )
+
+pub returns-in-Given-clause-was_known : goal.returns-in-Given-clause-was_known
+returns-in-Given-clause-was_known g c =
+    rw c.in-Given.is (subst (λ (t : Table). IfOk c.give_or_enter.result (λ touched. touched.was_known ≡ was_known (node_in (number_of c.in-Given.addr.0) t.nodes))) c.self.view_is c.give_or_enter.ensures.was_known)
+
+pub returns-in-Advert-clause-was_known : goal.returns-in-Advert-clause-was_known
+returns-in-Advert-clause-was_known g c =
+    rw c.in-Advert.is (subst (λ (t : Table). c.advertise.result.was_known ≡ was_known (node_in (number_of c.in-Advert.addr.0) t.nodes)) c.self.view_is c.advertise.ensures.was_known)
+
+pub returns-in-Marked-clause-was_known : goal.returns-in-Marked-clause-was_known
+returns-in-Marked-clause-was_known g c =
+    rw c.in-Marked.is (subst (λ (t : Table). c.mark.result.was_known ≡ was_known (node_in (number_of c.in-Marked.addr.0) t.nodes)) c.self.view_is c.mark.ensures.was_known)
