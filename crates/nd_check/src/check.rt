@@ -1,7 +1,9 @@
-ghost use Rattle.std.specs.Prelude.{◌≢◌, ◌⊎◌, ℕ, OnOk, OnErr, IsErrOf, Some, None, Err};
+ghost use Rattle.std.specs.Prelude.{◌≡◌, ◌≢◌, ◌⊎◌, ℕ, OnOk, OnErr, IsErrOf, Some, None, Err};
+ghost use Rattle.nd_io.specs.Answers.{Only};
 ghost use Rattle.nd_io.specs.Counts.{HasRisen, HasGrownBy, most_reads};
 ghost use Rattle.nd_io.specs.Run.{Wrote, WroteFront, Answered};
 ghost use Rattle.nd_io.specs.Each.{text_of_each, malformed_of_each};
+ghost use Rattle.nd_io.specs.Told.{TellsToMemory};
 ghost use Rattle.nd_check.specs.Check.{answer_to};
 
 use crate::telling::tell_line;
@@ -46,8 +48,9 @@ impl AnsweringEach for Check {
 /// is what the frame is, or the first reason to drop it.
 ///
 /// The error is `Line(n)` for the first malformed line, counted from 1, which is too long or no even
-/// number of hexadecimal digits; all lines before it were answered. Else it is want of memory, or a
-/// fault of the reader or the writer, and a beginning of the text was written.
+/// number of hexadecimal digits; all lines before it were answered. Otherwise it is out of memory, and all
+/// lines before the one at which it ran out were answered, or a fault of the reader or the writer, and a
+/// beginning of the text was written.
 pub fn run_check<R: Input, W: Output, A: Allocator + Clone>(
     alloc: A,
     reader: &mut R,
@@ -60,6 +63,8 @@ pub fn run_check<R: Input, W: Output, A: Allocator + Clone>(
     // Where a read fails, the answers to all lines that were read before it are written.
     ensures answered { IsErrOf result ToolFault.Read → Answered (text_of_each answer_to) (malformed_of_each answer_to) (R.remaining reader.old) (R.remaining reader.new) (W.contents writer.old) (W.contents writer.new) }
     ensures write_failed { IsErrOf result ToolFault.Write → HasRisen (W.failed writer.old) (W.failed writer.new) }
+    // Out of memory: the answers to all lines before the one at which it ran out are written, whole. That line is not malformed.
+    ensures memory { IsErrOf result ToolFault.Memory → TellsToMemory (Only (text_of_each answer_to) (malformed_of_each answer_to)) (λ line. answer_to line ≡ None) (R.remaining reader.old) (R.remaining reader.new) (W.contents writer.old) (W.contents writer.new) }
     ensures never_wire { result ≢ Err ToolFault.Wire }
 {
     let frame = [0; LONGEST_FRAME];

@@ -1,11 +1,13 @@
 -- Laws of what a run has told, for a caller above: by one relation between lines and texts and by another, and where the beginning of a text is
 -- one of each.
-use Rattle.std.specs.Prelude.{◌≡◌, ℕ, List, ◌++◌, Option, Some, None, refl}
-use Rattle.std.proofs.Common.{ap, sym, subst, ◌∙◌, append_assoc}
-use Rattle.nd_io.specs.Answers.{Texts, TextFor, MalformedFrom, Only}
+use Rattle.std.specs.Prelude.{◌≡◌, ◌⊎◌, ℕ, List, ◌++◌, Option, Some, None, refl, ⊤}
+use Rattle.std.proofs.Common.{ap, sym, subst, ◌∙◌, append_assoc, inl, inr}
+use Rattle.nd_io.specs.Answers.{Texts, TextsTo, TextFor, MalformedFrom, Only}
 use Rattle.nd_io.specs.Lines.{lines_of}
 use Rattle.nd_io.specs.Run.{WroteFront}
-use Rattle.nd_io.specs.Told.{TellsLines, TellsAll, TellsFront, TellsBeginning, TellsAsRead}
+use Rattle.nd_io.specs.Told.{TellsLines, TellsAll, TellsFront, TellsBeginning, TellsAsRead, TellsUntil, TellsToMemory, IsUntouched}
+use Rattle.nd_io.specs.Stop.{StopsAt}
+use Rattle.nd_io.specs.declared.answering.Unanswered.{Unanswered}
 use Rattle.nd_io.specs.Written.{AppendsFront}
 
 -- what the one allows, the other does
@@ -33,6 +35,29 @@ tells_as_read_by one other allows None rest old new read = tt
 tells_as_read_by one other allows (Some input) None old new read = absurd read
 tells_as_read_by one other allows (Some input) (Some rest) old new read =
     record { lines = read.lines; beginning = read.beginning; input_is = read.input_is; lines_are = read.lines_are; beginning_is = read.beginning_is; told = tells_lines_by one other allows 1 read.lines old new None read.told }
+
+-- the same of what was written before the line at which a run stopped
+pub tells_until_by : {T U : Type 0} (one : TextsTo T) (other : TextsTo U) (OneStops : T → List ℕ → Type 0) (OtherStops : U → List ℕ → Type 0) (end_of : T → U) → ((end : T) → Allows (one end) (other (end_of end)))
+    → ((end : T) (line : List ℕ) → OneStops end line → OtherStops (end_of end) line) → (input old new : Option (List ℕ)) → TellsUntil one OneStops input old new → TellsUntil other OtherStops input old new
+tells_until_by one other OneStops OtherStops end_of allows stops None old new until = tt
+tells_until_by one other OneStops OtherStops end_of allows stops (Some input) old new until = record {
+  first = until.first;
+  line = until.line;
+  later = until.later;
+  lines_are = until.lines_are;
+  end = end_of until.end;
+  text = until.text;
+  is_theirs = allows until.end 1 until.first until.text None until.is_theirs;
+  written = until.written;
+  stops = stops until.end until.line until.stops;
+}
+
+-- the same where memory was refused, at whatever state of what answers lines
+pub tells_to_memory : {T : Type 0} (one : TextsTo T) (other : Texts) (fails : T → List ℕ → T → Unanswered → Type 0) (IsMalformedLine : List ℕ → Type 0) (after : T) (why : Unanswered) → ((end : T) → Allows (one end) other) → (input rest old new : Option (List ℕ))
+    → IsUntouched input rest old new ⊎ TellsUntil one (StopsAt fails IsMalformedLine after why) input old new → TellsToMemory other IsMalformedLine input rest old new
+tells_to_memory one other fails IsMalformedLine after why allows input rest old new (inl untouched) = inl untouched
+tells_to_memory one other fails IsMalformedLine after why allows input rest old new (inr until) =
+    inr (tells_until_by {U = ⊤} one (λ _. other) (StopsAt fails IsMalformedLine after why) (λ _ line. IsMalformedLine line → ⊥) (λ _. tt) allows (λ end line stopped. stopped.well_formed) input old new until)
 
 -- a text of the first few lines, none of which is malformed, begins each text of them all
 abbrev pub GoesOn : Texts → Type 0

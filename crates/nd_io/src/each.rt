@@ -1,12 +1,13 @@
 //! Answers that depend on one line alone.
 
 ghost use Rattle.nd_io.specs.Lines.{longest_line};
-ghost use Rattle.std.specs.Prelude.{◌≡◌, ◌≢◌, ◌≤◌, ◌++◌, ◌⊎◌, ℕ, List, Option, None, Some, Err, length, string_bytes, OnOk, OnErr, IsErrOf, IsSomeAnd, refl};
+ghost use Rattle.std.specs.Prelude.{◌≡◌, ◌≢◌, ◌≤◌, ◌++◌, ◌⊎◌, ℕ, List, Option, None, Some, Err, length, string_bytes, OnOk, OnErr, IsErrOf, IsSomeAnd, refl, ⊤};
 ghost use Rattle.nd_io.specs.Answers.{Only};
 ghost use Rattle.nd_io.specs.Counts.{HasRisen, HasGrownBy, most_reads};
 ghost use Rattle.nd_io.specs.Each.{text_of_each, malformed_of_each};
 ghost use Rattle.nd_io.specs.EachLaws.{each_too_long};
 ghost use Rattle.nd_io.specs.Run.{Wrote, WroteFront, Answered};
+ghost use Rattle.nd_io.specs.Told.{TellsToMemory};
 
 use crate::answering::{Answering, Unanswered};
 use crate::input::Input;
@@ -31,7 +32,9 @@ pub trait AnsweringEach {
         ensures malformed { IsErrOf result Unanswered.Malformed → answer_to line.now ≡ None }
         // A malformed line is told, whatever memory there is.
         ensures none { answer_to line.now ≡ None → IsErrOf result Unanswered.Malformed }
-        ensures text_kept { IsErrOf result Unanswered.Malformed → string_bytes text.new ≡ string_bytes text.old };
+        ensures text_kept { IsErrOf result Unanswered.Malformed → string_bytes text.new ≡ string_bytes text.old }
+        // It has no wire.
+        ensures never_wire { result ≢ Err Unanswered.Wire };
 }
 
 /// Answers all lines, each by itself. A line that is too long is malformed.
@@ -50,7 +53,13 @@ impl<T: AnsweringEach> Each<T> {
 }
 
 impl<T: AnsweringEach> Answering for Each<T> {
-    ghost texts = { λ _. Only (text_of_each T.answer_to) (malformed_of_each T.answer_to) };
+    ghost texts = { λ _ _. Only (text_of_each T.answer_to) (malformed_of_each T.answer_to) };
+
+    ghost is_malformed = { λ line. T.answer_to line ≡ None };
+
+    ghost fails = { λ _ _ _ _. ⊤ };
+
+    ghost failed = { λ _. 0 };
 
     ghost no_lines = { λ _ _. (refl, refl) };
 
@@ -79,6 +88,8 @@ pub fn run_each<R: Input, W: Output, T: AnsweringEach + Drop, A: Allocator + Clo
     // Where a read fails, the answers to all lines that were read before it are written.
     ensures answered { IsErrOf result ToolFault.Read → Answered (text_of_each T.answer_to) (malformed_of_each T.answer_to) (R.remaining reader.old) (R.remaining reader.new) (W.contents writer.old) (W.contents writer.new) }
     ensures write_failed { IsErrOf result ToolFault.Write → HasRisen (W.failed writer.old) (W.failed writer.new) }
+    // Out of memory: the answers to all lines before the one at which it ran out are written, whole. That line is not malformed.
+    ensures memory { IsErrOf result ToolFault.Memory → TellsToMemory (Only (text_of_each T.answer_to) (malformed_of_each T.answer_to)) (λ line. T.answer_to line ≡ None) (R.remaining reader.old) (R.remaining reader.new) (W.contents writer.old) (W.contents writer.new) }
     ensures never_wire { result ≢ Err ToolFault.Wire }
 {
     let mut each = Each::new(answering);

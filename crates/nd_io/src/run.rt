@@ -1,12 +1,14 @@
 //! The run over all lines of an input.
 
 ghost use Rattle.std.specs.Prelude.{◌≡◌, ◌≢◌, ◌≤◌, ◌<◌, ◌∷◌, ◌⊎◌, ℕ, [], None, Some, Err, length, string_bytes, OnOk, OnErr, IsErrOf};
-ghost use Rattle.nd_io.specs.Counts.{HasRisen, HasGrownBy, most_reads};
+ghost use Rattle.nd_io.specs.Answers.{ToAny};
+ghost use Rattle.nd_io.specs.Counts.{HasRisen, HasGrownBy, most_reads, one_more};
 ghost use Rattle.nd_io.specs.Lines.{lines_of, longest_line};
-ghost use Rattle.nd_io.specs.Told.{TellsLines, TellsFirst, TellsAll, TellsFront, TellsAsRead};
+ghost use Rattle.nd_io.specs.Stop.{StopsAt};
+ghost use Rattle.nd_io.specs.Told.{TellsLines, TellsFirst, TellsAll, TellsFront, TellsAsRead, TellsBefore, TellsUntil, IsUntouched};
 
 use crate::ahead::{Ahead, FirstLine};
-use crate::answering::Answering;
+use crate::answering::{Answering, Unanswered};
 use crate::input::Input;
 use crate::output::Output;
 use crate::tool_fault::ToolFault;
@@ -24,12 +26,15 @@ fn answer_last<L: Answering, W: Output, A: Allocator>(
     requires short { length line.now ≤ longest_line }
     requires last { 0 < length line.now → lines_of line.now ≡ line.now ∷ [] }
     requires empty { string_bytes unwritten.old.text ≡ [] }
-    ensures ok { OnOk result (TellsLines (L.texts answering.old) number (lines_of line.now) (W.contents writer.old) (W.contents writer.new) None) }
-    ensures line { (n : ℕ) → IsErrOf result (ToolFault.Line n) → TellsLines (L.texts answering.old) number (lines_of line.now) (W.contents writer.old) (W.contents writer.new) (Some n) }
-    ensures front { OnErr result (TellsFirst (L.texts answering.old) number (lines_of line.now) [] (W.contents writer.old) (W.contents writer.new)) }
+    ensures ok { OnOk result (TellsLines (L.texts answering.old answering.new) number (lines_of line.now) (W.contents writer.old) (W.contents writer.new) None) }
+    ensures line { (n : ℕ) → IsErrOf result (ToolFault.Line n) → TellsLines (L.texts answering.old answering.new) number (lines_of line.now) (W.contents writer.old) (W.contents writer.new) (Some n) }
+    ensures front { OnErr result (TellsFirst (ToAny (L.texts answering.old)) number (lines_of line.now) [] (W.contents writer.old) (W.contents writer.new)) }
+    ensures memory { IsErrOf result ToolFault.Memory → TellsBefore (L.texts answering.old) (StopsAt L.fails L.is_malformed answering.new Unanswered.Memory) number (lines_of line.now) (W.contents writer.old) (W.contents writer.new) }
+    ensures wire { IsErrOf result ToolFault.Wire → TellsBefore (L.texts answering.old) (StopsAt L.fails L.is_malformed answering.new Unanswered.Wire) number (lines_of line.now) (W.contents writer.old) (W.contents writer.new) }
     ensures write_failed { IsErrOf result ToolFault.Write → HasRisen (W.failed writer.old) (W.failed writer.new) }
+    ensures wire_failed { IsErrOf result ToolFault.Wire → L.failed answering.new ≡ one_more (L.failed answering.old) }
+    ensures wire_carried { result ≢ Err ToolFault.Wire → result ≢ Err ToolFault.Write → L.failed answering.new ≡ L.failed answering.old }
     ensures never_read { result ≢ Err ToolFault.Read }
-    ensures never_wire { result ≢ Err ToolFault.Wire }
 {
     if line.is_empty() {
         return Ok(());
@@ -47,17 +52,23 @@ pub fn run_lines<R: Input, W: Output, L: Answering, A: Allocator + Clone>(
     writer: &mut W,
     answering: &mut L,
 ) -> Result<(), ToolFault>
-    ensures ok { OnOk result (TellsAll (L.texts answering.old) (R.remaining reader.old) (W.contents writer.old) (W.contents writer.new) None) }
-    ensures line { (n : ℕ) → IsErrOf result (ToolFault.Line n) → TellsAll (L.texts answering.old) (R.remaining reader.old) (W.contents writer.old) (W.contents writer.new) (Some n) }
-    ensures front { OnErr result (TellsFront (L.texts answering.old) (R.remaining reader.old) (W.contents writer.old) (W.contents writer.new)) }
+    ensures ok { OnOk result (TellsAll (L.texts answering.old answering.new) (R.remaining reader.old) (W.contents writer.old) (W.contents writer.new) None) }
+    ensures line { (n : ℕ) → IsErrOf result (ToolFault.Line n) → TellsAll (L.texts answering.old answering.new) (R.remaining reader.old) (W.contents writer.old) (W.contents writer.new) (Some n) }
+    ensures front { OnErr result (TellsFront (ToAny (L.texts answering.old)) (R.remaining reader.old) (W.contents writer.old) (W.contents writer.new)) }
     ensures read_failed { IsErrOf result ToolFault.Read → HasRisen (R.failed reader.old) (R.failed reader.new) ⊎ HasGrownBy most_reads (R.given reader.old) (R.given reader.new) }
     // Where a read fails, the answers to all lines that were read before it are written.
-    ensures answered { IsErrOf result ToolFault.Read → TellsAsRead (L.texts answering.old) (R.remaining reader.old) (R.remaining reader.new) (W.contents writer.old) (W.contents writer.new) }
+    ensures answered { IsErrOf result ToolFault.Read → TellsAsRead (L.texts answering.old answering.new) (R.remaining reader.old) (R.remaining reader.new) (W.contents writer.old) (W.contents writer.new) }
+    // Out of memory: the answers to all lines before the one at which it ran out are written, whole. That line is not malformed.
+    ensures memory { IsErrOf result ToolFault.Memory → IsUntouched (R.remaining reader.old) (R.remaining reader.new) (W.contents writer.old) (W.contents writer.new) ⊎ TellsUntil (L.texts answering.old) (StopsAt L.fails L.is_malformed answering.new Unanswered.Memory) (R.remaining reader.old) (W.contents writer.old) (W.contents writer.new) }
+    // The same where the answerer's wire fails.
+    ensures wire { IsErrOf result ToolFault.Wire → TellsUntil (L.texts answering.old) (StopsAt L.fails L.is_malformed answering.new Unanswered.Wire) (R.remaining reader.old) (W.contents writer.old) (W.contents writer.new) }
+    // A write may also fail while these answers are written: `Write` is reported then.
     ensures write_failed { IsErrOf result ToolFault.Write → HasRisen (W.failed writer.old) (W.failed writer.new) }
-    ensures never_wire { result ≢ Err ToolFault.Wire }
+    ensures wire_failed { IsErrOf result ToolFault.Wire → L.failed answering.new ≡ one_more (L.failed answering.old) }
+    ensures wire_carried { result ≢ Err ToolFault.Wire → result ≢ Err ToolFault.Write → L.failed answering.new ≡ L.failed answering.old }
 {
     let mut ahead = Ahead::new(alloc.clone()?)?;
-    let mut unwritten = Unwritten::new(alloc);
+    let mut unwritten = Unwritten::new(alloc.clone()?, alloc);
     let mut number: u64 = 1;
     loop {
         match ahead.first_line() {

@@ -1,4 +1,4 @@
-use Rattle.std.proofs.Common.{◌≤◌, ◌+◌, ◌-◌, ◌*◌, ◌^◌, string_bytes}
+use Rattle.std.proofs.Common.{◌≡◌, ◌≤◌, ◌+◌, ◌-◌, ◌*◌, ◌^◌, string_bytes}
 use Rattle.nd_io.specs.Ahead.{in_hand, left}
 use Rattle.nd_io.specs.Counts.{HasGrownBy}
 use Rattle.nd_io.proofs.RunLemmas.{Along}
@@ -11,6 +11,7 @@ invariant-loop-count g l =
       few : l.number + left l.ahead.reads l.ahead.start l.ahead.end ≤ 2 ^ 40 * 65537 + 1;
       given : HasGrownBy (2 ^ 40 - l.ahead.reads) (g.R.Input.given l.fn.reader) (g.R.Input.given l.reader);
       reads_failed : g.R.Input.failed l.fn.reader ≤ g.R.Input.failed l.reader;
+      wire : g.L.Answering.failed l.answering ≡ g.L.Answering.failed l.fn.answering;
       writes_failed : g.W.Output.failed l.fn.writer ≤ g.W.Output.failed l.writer;
     }
 
