@@ -80,6 +80,14 @@ impl<A: Allocator> Advertiser<A> {
         self.offers.rows()
     }
 
+    /// Returns how many prefixes are offered, at most 16.
+    pub fn offers_len(&self) -> usize
+        ensures value { result ≡ length self.now.offers }
+        ensures few { result ≤ max_offers }
+    {
+        self.offers.len()
+    }
+
     /// It is to advertise with this configuration (RFC 4861, section 6.2.2). Where it does already, only what it advertises changes, and
     /// the range of what is drawn from now on.
     pub fn begin(&mut self, now: u64, config: Config)

@@ -81,4 +81,12 @@ impl<A: Allocator> Offers<A> {
     {
         OfferRows::new(self.entries.values())
     }
+
+    /// Returns how many prefixes are offered, at most 16.
+    pub(crate) fn len(&self) -> usize
+        ensures value { result ≡ length self.now }
+        ensures few { result ≤ max_offers }
+    {
+        self.entries.len()
+    }
 }

@@ -1,5 +1,5 @@
 ghost use Rattle.std.specs.Prelude.{◌≡◌, ◌≤◌, ℕ, List, Option, [], None, IfOk, length};
-ghost use Rattle.nd_nexthop.specs.History.{RedirectRow, those_left, redirects};
+ghost use Rattle.nd_nexthop.specs.History.{RedirectRow, max_redirects, those_left, redirects};
 ghost use Rattle.nd_nexthop.specs.Left.{redirects_left};
 ghost use Rattle.nd_nexthop.specs.Memo.{forgotten, is_asked, max_remembered};
 
@@ -60,6 +60,15 @@ impl<A: Allocator> Choice<A> {
         ensures by_history { (history : List RedirectRow) → Stands self.now history → redirects_left result ≡ redirects history }
     {
         KeptRedirects::new(self.redirects.iter())
+    }
+
+    /// Returns the number of destinations that have a place among the kept redirects, at most 64. A destination whose redirect ended keeps its
+    /// place until another one needs it.
+    pub fn redirects_len(&self) -> usize
+        ensures value { result ≡ length self.now.redirects }
+        ensures few { result ≤ max_redirects }
+    {
+        self.redirects.len()
     }
 
     /// Returns the number of destinations whose next hops are remembered, at most 256.

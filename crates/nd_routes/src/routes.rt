@@ -60,6 +60,14 @@ impl<A: Allocator + Copy> Routes<A> {
 }
 
 impl<A: Allocator> Routes<A> {
+    /// Returns how many routes there are, at most 64.
+    pub fn len(&self) -> usize
+        ensures value { result ≡ length self.now.entries }
+        ensures few { result ≤ max_routes }
+    {
+        self.routes.len()
+    }
+
     /// A route is put: behind the others where its prefix has none, else in the place of the one that it has. Where a new prefix would be the
     /// 65th, it is `Full`, and nothing has changed. It takes no memory.
     pub fn put(&mut self, prefix: Prefix, route: Route) -> Result<(), Full>
