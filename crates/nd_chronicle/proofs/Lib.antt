@@ -12,3 +12,6 @@ pub mod Grounded
 pub mod OwnKeys
 pub mod Idle
 pub mod Rivals
+pub mod Keeping
+pub mod Unrivalled
+pub mod Unchanged

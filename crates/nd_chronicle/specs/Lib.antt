@@ -23,3 +23,4 @@ pub mod Growth
 pub mod Places
 pub mod Due
 pub mod History
+pub mod Unchanged

@@ -1,8 +1,9 @@
 -- The text of a chronicle: what is told of each row, and nothing of what has no text (the texts are this project's own).
--- What is told of it is a list of items too, of which both the text and the frames that were sent can be read off.
+-- What is told of it is a list of items too, off which the text and the frames that were sent can be read.
 use Rattle.std.specs.Prelude.{ℕ, List, [], ◌∷◌, ◌++◌, length, map, codes}
 use Rattle.std.specs.Fmt.{decimal}
 use Rattle.std.specs.List.{flat_map}
+use Rattle.nd_addr.specs.declared.addr.Addr.{Addr}
 use Rattle.nd_addr.specs.Ip6.{header_of}
 use Rattle.nd_addr.specs.Places.{packet_in}
 use Rattle.nd_addr.specs.Text.{address_text}
@@ -101,14 +102,19 @@ abbrev pub text : Chronicle → List ℕ
 text [] = []
 text (row ∷ c) = text c ++ lines_of row
 
--- what is told of a row: a frame that was sent as it is, all else by its text
+-- what is told of a row: a frame that was sent, a message that was heard with its addresses and its fields, a packet that was lost and why; all
+-- else by its text
 pub data Told : Type 0 where
   Frame : (frame : List ℕ) → Told
+  Message : (source destination : Addr) (body : Body) → Told
+  LostPacket : (why : Loss) (packet : List ℕ) → Told
   Words : (words : List ℕ) → Told
 
 -- what is told of what happened
 abbrev pub items_of : Happening → List Told
 items_of (Sent frame) = Frame frame ∷ []
+items_of (Heard source destination message) = Message source destination message.body ∷ []
+items_of (Lost why packet) = LostPacket why packet ∷ []
 items_of what = map (λ t. Words t) (told_of what)
 
 -- and with the moment
@@ -123,6 +129,8 @@ items (row ∷ c) = items c ++ items_at row
 -- the text of an item
 abbrev pub words_of : Told → List ℕ
 words_of (Frame frame) = codes "tx " ++ hex_text frame
+words_of (Message source destination body) = codes "heard " ++ kind_text body
+words_of (LostPacket why packet) = codes "lost " ++ loss_text why ++ codes " " ++ way_text packet
 words_of (Words words) = words
 
 -- and its line

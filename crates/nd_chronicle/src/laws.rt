@@ -8,11 +8,11 @@ ghost use Rattle.nd_decode.specs.declared.body.Body.TheVariants as bodies;
 ghost use Rattle.nd_table.specs.History.{Past};
 ghost use Rattle.nd_frames.specs.Frames.{unspecified, all_nodes, solicited_node};
 ghost use Rattle.nd_frames.specs.Meaning.{IsUnicast, IsDetection, IsDefence};
-ghost use Rattle.nd_slaac.specs.History.{Row, RowKind, Solicited};
+ghost use Rattle.nd_slaac.specs.History.{Assigned, Row, RowKind, Solicited};
 ghost use Rattle.nd_slaac.specs.MayCome.{Held};
 ghost use Rattle.nd_slaac.specs.State.{is_assigned, is_known};
 ghost use Rattle.nd_chronicle.specs.Start.{Start, link_local_key};
-ghost use Rattle.nd_chronicle.specs.Happening.{Address, Chronicle, Heard};
+ghost use Rattle.nd_chronicle.specs.Happening.{Address, Chronicle, Happening, Heard, Passed};
 ghost use Rattle.nd_chronicle.specs.Histories.{address_history};
 ghost use Rattle.nd_chronicle.specs.OwnAddress.{is_own, is_up, story_of};
 ghost use Rattle.nd_chronicle.specs.Event.{ComeAsBytes, Event, FrameAdds};
@@ -23,7 +23,8 @@ ghost use Rattle.nd_chronicle.specs.Due.{Due};
 ghost use Rattle.nd_chronicle.specs.Growth.{Grows};
 ghost use Rattle.nd_chronicle.specs.History.{IsChronicle, Runs, Walk};
 ghost use Rattle.nd_chronicle.specs.Told.{text};
-ghost use Rattle.nd_chronicle.specs.Places.{HeldInRows, PlaceOf, solicited_with};
+ghost use Rattle.nd_chronicle.specs.Places.{AssignedInRows, HeldInRows, PlaceOf, solicited_with};
+ghost use Rattle.nd_chronicle.specs.Unchanged.{IsUnchanged, changes_nothing};
 
 /// A history has one chronicle.
 pub fn one_chronicle()
@@ -47,6 +48,20 @@ pub fn none_untried()
 pub fn tried_before_held()
     ensures history { (start : Start) (events : List (ℕ × Event)) (c d : Chronicle) (key : ℕ) → IsChronicle start events c → Past d c → is_assigned (story_of d key) ≡ true → Held start.transmits key (address_history d) }
     ensures rows { (start : Start) (events : List (ℕ × Event)) (c d : Chronicle) (key : ℕ) → IsChronicle start events c → Past d c → is_assigned (story_of d key) ≡ true → HeldInRows start key d }
+{}
+
+/// Each assignment of an own address ends a Duplicate Address Detection that found no rival (RFC 4862, sections 5.4.3 to 5.4.5): `HeldInRows` holds
+/// of that assignment, and from the forming of the address up to it the node received neither a Neighbor Solicitation from `::` for the address
+/// nor a Neighbor Advertisement for it.
+pub fn each_assignment_was_tried()
+    ensures { (start : Start) (events : List (ℕ × Event)) (c over : Chronicle) (at key : ℕ) → IsChronicle start events c → Past ((at, Address key Assigned) ∷ over) c → AssignedInRows start at key over }
+{}
+
+/// A frame that is dropped, an event that is refused and an event in the past change nothing: the history of each table, the packets that wait, the
+/// words of the generator, what is due, each next hop and what each table shows stay as they were.
+pub fn refusals_change_nothing()
+    ensures row { (start : Start) (c : Chronicle) (at : ℕ) (what : Happening) → changes_nothing what ≡ true → IsUnchanged start c ((at, what) ∷ c) }
+    ensures event { (start : Start) (c : Chronicle) (now : ℕ) (what : Happening) → changes_nothing what ≡ true → IsUnchanged start c ((now, what) ∷ (now, Passed) ∷ c) }
 {}
 
 /// The number of an own address is that of an address, and of no multicast address, whatever bytes come as frames (RFC 4862, section 5.5.3).
