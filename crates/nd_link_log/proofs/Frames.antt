@@ -17,7 +17,7 @@ more_sent (Carries node at frame) log = omega arith
 more_sent (Reaches at) log = omega arith
 more_sent (Refuses at why) log = omega arith
 
-sent_before : (d log : Log) → Past d log → sent d ≤ sent log
+pub sent_before : (d log : Log) → Past d log → sent d ≤ sent log
 sent_before d [] p = subst (λ (x : Log). sent x ≤ 0) (sym p) (omega arith)
 sent_before d (entry ∷ log) p = ⊎_elim
     (λ same. subst (λ (x : Log). sent x ≤ sent (entry ∷ log)) (sym same) (omega arith))

@@ -19,3 +19,5 @@ pub mod Frames
 pub mod Texts
 pub mod Holding
 pub mod Timely
+pub mod FewNodes
+pub mod NodeHistories

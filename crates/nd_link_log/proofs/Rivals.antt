@@ -114,8 +114,8 @@ module _ (Bytes : Type 0) (b : Bytes) (start : Start) (c : Chronicle) (now : ℕ
         let heard : Chronicle = (now, Heard address all_nodes t.message) ∷ c in
         let conflict : Chronicle = (now, Address (number_of address.0) Conflict) ∷ heard in
         let more : Chronicle → Chronicle = λ x. leaving now (ends_in_list now c (said c address t.message)) (number_of address.0) (releasing now (said c address t.message) (neighbour_history c) x) in
-        let g = leaving_grows now (ends_in_list now c (said c address t.message)) (number_of address.0) _
-        (releasing_grows now (said c address t.message) (neighbour_history c) conflict (stays now conflict)) in (
+        let g = leaving_grows now start (ends_in_list now c (said c address t.message)) (number_of address.0) _
+        (releasing_grows now start (said c address t.message) (neighbour_history c) conflict (stays now conflict)) in (
           g.newer,
           told start c now frame address bytes d unicast t (awake address (bodies.Na (record { router = t.router; solicited = false; override_flag = t.overrides; target = address })) itself) adds
               ∙ ap (λ (t : Bool). more (conflicting now t (number_of address.0) heard)) trying ∙ g.all,

@@ -28,7 +28,7 @@ use Rattle.nd_link_log.proofs.Growth.{runs_past}
 use Rattle.nd_link_log.proofs.Standing.{Stands, reaching, stands_seen}
 
 module _ (Bytes : Type 0) (limits : Limits) where
-  late : (log : Log) (now : ℕ) → Stands Bytes log → Stands Bytes (Refuses now (TooLate (last_moment log)) ∷ log)
+  pub late : (log : Log) (now : ℕ) → Stands Bytes log → Stands Bytes (Refuses now (TooLate (last_moment log)) ∷ log)
   late log now s =
       let g = s.kept in record {
         kept = record {
@@ -40,7 +40,7 @@ module _ (Bytes : Type 0) (limits : Limits) where
         lives = s.lives;
       }
 
-  stands_follows : (log : Log) (now : ℕ) (event : Event) (d : Log) (t : Bool) → nat_lt now (last_moment log) ≡ t → (Bytes → IsOfBytes event) → (Bytes → SendsBytes d) → Stands Bytes log
+  pub stands_follows : (log : Log) (now : ℕ) (event : Event) (d : Log) (t : Bool) → nat_lt now (last_moment log) ≡ t → (Bytes → IsOfBytes event) → (Bytes → SendsBytes d) → Stands Bytes log
       → MatchBool t (d ≡ Refuses now (TooLate (last_moment log)) ∷ log) ((e : Log) × Walk log (last_moment log) now e × EventHappens limits now event (passing now (nodes e) (Reaches now ∷ e)) d)
       → Stands Bytes d
   stands_follows log now event d true in_time bytes sends s h = subst (Stands Bytes) (sym h) (late log now s)
@@ -55,7 +55,7 @@ module _ (Bytes : Type 0) (limits : Limits) where
       let more : Bytes → SendsBytes h.0 = λ b i at frame before p. sends b i at frame before (past_then _ h.0 d p (runs_past limits events h.0 d h.2)) in
       stands_runs events h.0 d (λ b. (bytes b).1) sends h.2 (stands_follows log event.0 event.1 h.0 (nat_lt event.0 (last_moment log)) refl (λ b. (bytes b).0) more s h.1)
 
-  empty : Stands Bytes []
+  pub empty : Stands Bytes []
   empty = record {
     kept = record {
       rises = record { rising = tt; by = omega arith };

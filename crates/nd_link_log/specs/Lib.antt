@@ -7,3 +7,4 @@ pub mod Holding
 pub mod Attempt
 pub mod Losing
 pub mod Sound
+pub mod NodeHistory

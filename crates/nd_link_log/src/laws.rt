@@ -1,6 +1,6 @@
 //! Laws of the definitions, each the contract of a function that does nothing.
 
-ghost use Rattle.std.specs.Prelude.{◌≡◌, ◌*◌, ◌++◌, ◌∷◌, ℕ, List, Some};
+ghost use Rattle.std.specs.Prelude.{◌≡◌, ◌≤◌, ◌*◌, ◌++◌, ◌∷◌, ℕ, List, [], Some};
 ghost use Rattle.nd_addr.specs.Bytes.{AreBytes};
 ghost use Rattle.nd_table.specs.History.{Past};
 ghost use Rattle.nd_chronicle.specs.Start.{Limits, Start};
@@ -9,9 +9,10 @@ ghost use Rattle.nd_chronicle.specs.Event as chronicle;
 ghost use Rattle.nd_chronicle.specs.Event.{ComeAsBytes};
 ghost use Rattle.nd_chronicle.specs.History.{IsChronicle};
 ghost use Rattle.nd_link_log.specs.Log.{Adds, Carries, Entry, Log, chronicle_of, nodes, sent, start_of};
-ghost use Rattle.nd_link_log.specs.Event.{Event};
+ghost use Rattle.nd_link_log.specs.Event.{Event, max_nodes};
 ghost use Rattle.nd_link_log.specs.Bytes.{AreOfBytes, SendsBytes};
 ghost use Rattle.nd_link_log.specs.History.{IsLog, Runs};
+ghost use Rattle.nd_link_log.specs.NodeHistory.{IsHistoryOf};
 ghost use Rattle.nd_link_log.specs.Holding.{AllArrive, AllWait, Arrives, HasOneHolder, Holds, IsTimely};
 ghost use Rattle.nd_link_log.specs.Losing.{LosesLittle};
 ghost use Rattle.nd_link_log.specs.Sound.{IsSound};
@@ -33,6 +34,11 @@ pub fn log_only_grows()
     ensures { (limits : Limits) (events : List (ℕ × Event)) (log d : Log) → Runs limits log events d → (newer : List Entry) × (d ≡ newer ++ log) }
 {}
 
+/// A link has at most sixteen nodes: a further one is refused.
+pub fn few_nodes()
+    ensures { (limits : Limits) (events : List (ℕ × Event)) (log : Log) → IsLog limits events log → nodes log ≤ max_nodes }
+{}
+
 /// What is told of a log is told behind the text of what it was before.
 pub fn text_only_grows()
     ensures { (newer log : List Entry) → text (newer ++ log) ≡ text log ++ text newer }
@@ -42,6 +48,13 @@ pub fn text_only_grows()
 pub fn nodes_have_histories()
     ensures { (limits : Limits) (events : List (ℕ × Event)) (log : Log) (node : ℕ) (start : Start) → IsLog limits events log → start_of node log ≡ Some start
         → (history : List (ℕ × chronicle.Event)) × IsChronicle start history (chronicle_of node log) × (AreOfBytes events → SendsBytes log → ComeAsBytes history) }
+{}
+
+/// Which history that is: every event on the link since the node started that didn't come too late, as its own event where it comes to the node, as
+/// a received frame where the link carries another node's frame to it, and else as time that passes.
+pub fn nodes_live_the_links_events()
+    ensures { (limits : Limits) (events : List (ℕ × Event)) (log : Log) (node : ℕ) (start : Start) → IsLog limits events log → start_of node log ≡ Some start
+        → (history : List (ℕ × chronicle.Event)) × IsHistoryOf limits node [] events history log × IsChronicle start history (chronicle_of node log) }
 {}
 
 /// The log of each link is sound: whatever events come, in whatever order, its nodes and the link itself do what they owe.
