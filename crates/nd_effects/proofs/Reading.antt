@@ -2,7 +2,7 @@
 use Rattle.std.proofs.Common.{◌≡◌, ℕ, List, [], ◌∷◌, ◌++◌, map, refl, sym, ◌∙◌, ap}
 use Rattle.std.proofs.lemmas.Grind.{flat_map-append}
 use Rattle.std.specs.List.{flat_map}
-use Rattle.nd_chronicle.specs.Happening.{Chronicle, Happening, Sent}
+use Rattle.nd_chronicle.specs.Happening.{Chronicle, Happening, Heard, Lost, Sent}
 use Rattle.nd_chronicle.specs.Told.{Told, Frame, Words, told_of, items_at, items, line_at, line_of, lines_of, text}
 use Rattle.nd_out.specs.declared.out.Out.{Out}
 use Rattle.nd_effects.specs.Told.{frame_sent, frames_in, sent_in, Tells}
@@ -35,6 +35,8 @@ words_lines at (t ∷ texts) = ap (λ (l : List ℕ). line_at at t ++ l) (words_
 
 row_lines : (at : ℕ) (what : Happening) → lines_of (at, what) ≡ flat_map line_of (items_at (at, what))
 row_lines at (Sent frame) = refl
+row_lines at (Heard source destination message) = refl
+row_lines at (Lost why packet) = refl
 row_lines at what = words_lines at (told_of what)
 
 -- what is handed out is told at the end of the text
@@ -45,7 +47,7 @@ Tells-text c d x y t = of_newer line_of lines_of row_lines text refl (λ row c. 
 
 abbrev frame_of : Told → List (List ℕ)
 frame_of (Frame frame) = frame ∷ []
-frame_of (Words words) = []
+frame_of _ = []
 
 abbrev frame_at : ℕ × Told → List (List ℕ)
 frame_at item = frame_of item.1
@@ -56,6 +58,8 @@ words_send at (t ∷ texts) = words_send at texts
 
 row_frames : (at : ℕ) (what : Happening) → frame_sent what ≡ flat_map frame_at (items_at (at, what))
 row_frames at (Sent frame) = refl
+row_frames at (Heard source destination message) = refl
+row_frames at (Lost why packet) = refl
 row_frames at what = words_send at (told_of what)
 
 -- what is handed out holds the frames that were sent, and no other

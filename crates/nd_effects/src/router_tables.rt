@@ -1,4 +1,4 @@
-ghost use Rattle.std.specs.Prelude.{◌≡◌, ◌≢◌, ◌<◌, ◌^◌, List, [], None, Some, IfOk, IfSome, is_some, option_map, true, false};
+ghost use Rattle.std.specs.Prelude.{◌≡◌, ◌≢◌, ◌<◌, ◌^◌, List, [], None, Ok, Some, IfOk, IfSome, is_some, option_map, true, false};
 ghost use Rattle.nd_addr.specs.Number.{number_of};
 ghost use Rattle.nd_advertiser.specs.Calls.{settings_in};
 ghost use Rattle.nd_advertiser.specs.Contents.{contents_of, last_contents_of};
@@ -47,8 +47,8 @@ impl<A: Allocator + Copy> RouterTables<A> {
 }
 
 impl<A: Allocator + Clone> RouterTables<A> {
-    /// The Router Advertisement that is due at a moment, in milliseconds, from an interface with these addresses, if one is (RFC 4861, section
-    /// 6.2.3). The error is want of memory.
+    /// Returns the Router Advertisement that is due at `now`, in milliseconds, from an interface with these addresses, and none if none is due
+    /// (RFC 4861, section 6.2.3). Returns an error if out of memory, and only where one is due.
     pub fn advertisement_due(
         &self,
         alloc: A,
@@ -57,7 +57,8 @@ impl<A: Allocator + Clone> RouterTables<A> {
         mac: Mac,
         own: Addr,
     ) -> Result<Option<Packet<A>>, AllocError>
-        ensures { (history : List Row) → advertising.Stands self.now.advertiser history → next_advertisement role self.now ≡ Some now → IfOk result (λ frame. frame ≡ option_map (router_advertisement_frame mac own) (contents_of mac history)) }
+        ensures due { (history : List Row) → advertising.Stands self.now.advertiser history → next_advertisement role self.now ≡ Some now → IfOk result (λ frame. frame ≡ option_map (router_advertisement_frame mac own) (contents_of mac history)) }
+        ensures none { next_advertisement role self.now ≢ Some now → result ≡ Ok None }
     {
         if self.next_due(role) != Some(now) {
             return Ok(None);
