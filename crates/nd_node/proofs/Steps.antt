@@ -162,6 +162,10 @@ too_late stream node x y now event out out_is lt told = record {
       );
 }
 
+-- one that comes too late comes at no moment of a chronicle
+pub not_past : {R A : Type 0} (stream : R → Stream) (old new : Node R A) (x y : List (ℕ × Out A)) (now : ℕ) (event : events.Event) → now < old.last → AddsEvent stream old new x y now event
+not_past stream old new x y now event lt = record { each = λ start c s le. absurd (omega (arith, lt, le, s.last)) }
+
 -- another one adds what it adds, once all that is due up to it is done
 pub follows : {R A : Type 0} (stream : R → Stream) (old mid new : Node R A) (x y z : List (ℕ × Out A)) (now : ℕ) (event : events.Event) → old.last ≤ now
     → Leads stream old mid x y (Passes now) → AddsEvent stream mid new y z now event → Leads stream old new x z (FollowsBy now event)

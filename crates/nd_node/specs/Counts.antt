@@ -3,6 +3,9 @@ use Rattle.std.specs.Prelude.{◌≡◌, ◌≤◌, length}
 use Rattle.nd_dns.specs.Dns.{max_servers, max_names}
 use Rattle.nd_routers.specs.PrefixOptions.{max_prefixes}
 use Rattle.nd_slaac.specs.Room.{max_addresses}
+use Rattle.nd_advertiser.specs.Offers.{max_offers}
+use Rattle.nd_nexthop.specs.History.{max_redirects}
+use Rattle.nd_routes.specs.Routes.{max_routes}
 use Rattle.nd_chronicle.specs.Start.{Limits}
 use Rattle.nd_node.specs.declared.counts.Counts.{Counts}
 use Rattle.nd_node.specs.declared.node.Node.{Node}
@@ -15,6 +18,9 @@ pub record Counted {R A : Type 0} (node : Node R A) (counts : Counts) : Type 0 w
   pub addresses : counts.addresses ≡ length node.addresses.addresses
   pub servers : counts.servers ≡ length node.dns.servers
   pub search_names : counts.search_names ≡ length node.dns.names
+  pub redirects : counts.redirects ≡ length node.choice.redirects
+  pub offers : counts.offers ≡ length node.router.advertiser.offers
+  pub routes : counts.routes ≡ length node.router.routes.entries
 
 -- no table passes its limit
 pub record WithinLimits (limits : Limits) (counts : Counts) : Type 0 where
@@ -24,3 +30,6 @@ pub record WithinLimits (limits : Limits) (counts : Counts) : Type 0 where
   pub addresses : counts.addresses ≤ max_addresses
   pub servers : counts.servers ≤ max_servers
   pub search_names : counts.search_names ≤ max_names
+  pub redirects : counts.redirects ≤ max_redirects
+  pub offers : counts.offers ≤ max_offers
+  pub routes : counts.routes ≤ max_routes

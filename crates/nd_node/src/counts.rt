@@ -1,10 +1,17 @@
 //! How many rows the tables of a node have.
 
+ghost use Rattle.std.specs.Prelude.{◌≡◌, ◌≤◌, length};
+ghost use Rattle.nd_addr.specs.Number.{number_of};
 ghost use Rattle.nd_chronicle.specs.Happening.{Chronicle};
+ghost use Rattle.nd_chronicle.specs.Histories.{neighbour_history};
 ghost use Rattle.nd_chronicle.specs.Start.{Start};
+ghost use Rattle.nd_neighbour.specs.History.{story};
+ghost use Rattle.nd_neighbour.specs.Story.{waits_of};
+ghost use Rattle.nd_waiting.specs.Waiting.{max_waiting};
 ghost use Rattle.nd_node.specs.Counts.{Counted, WithinLimits};
 
 use crate::node::Node;
+use nd_addr::Addr;
 use rand_core::Rng;
 use std::alloc::Allocator;
 
@@ -18,6 +25,12 @@ pub struct Counts {
     pub addresses: usize,
     pub servers: usize,
     pub search_names: usize,
+    /// The destinations that have a place among the kept redirects.
+    pub redirects: usize,
+    /// The prefixes that a router advertises: none at a host.
+    pub offers: usize,
+    /// The static routes of a router: none at a host.
+    pub routes: usize,
 }
 
 impl<R: Rng + Drop, A: Allocator + Clone> Node<R, A> {
@@ -35,6 +48,9 @@ impl<R: Rng + Drop, A: Allocator + Clone> Node<R, A> {
         let addresses = self.addresses.len();
         let servers = self.dns.servers_len();
         let search_names = self.dns.search_names_len();
+        let redirects = self.choice.redirects_len();
+        let offers = self.router.advertiser.offers_len();
+        let routes = self.router.routes.len();
         Counts {
             neighbours,
             routers,
@@ -42,6 +58,17 @@ impl<R: Rng + Drop, A: Allocator + Clone> Node<R, A> {
             addresses,
             servers,
             search_names,
+            redirects,
+            offers,
+            routes,
         }
+    }
+
+    /// Returns how many packets wait for a neighbour's link-layer address, at most three (RFC 4861, section 7.2.2). It takes no memory.
+    pub fn waiting_at(&self, addr: Addr) -> usize
+        ensures value { (start : Start) (c : Chronicle) → Stands R.stream start self.now c → result ≡ length (waits_of (story (number_of addr.0) (neighbour_history c))) }
+        ensures few { result ≤ max_waiting }
+    {
+        self.neighbours.waiting_at(addr)
     }
 }

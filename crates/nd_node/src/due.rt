@@ -93,7 +93,7 @@ impl<R: Rng + Drop, A: Allocator + Clone> Node<R, A> {
     }
 }
 
-/// Forgets remembered next hops if an own address ended.
+/// Forgets remembered next hops if one of the node's own addresses has ended.
 fn forget_if_ended<A: Allocator>(choice: &mut Choice<A>, due: nd_slaac::Due)
     ensures { choice.new ≡ (if ends (falls_of due) then record choice.old { memory = forgotten choice.old.memory } else choice.old) }
 {

@@ -1,4 +1,5 @@
 ghost use Rattle.std.specs.Prelude.{◌≡◌, ◌^◌, ◌-◌, ◌<◌, ◌≤◌, IsOk, OnOk, OnErr, vec_len, vec_capacity};
+ghost use Rattle.nd_chronicle.specs.Event as events;
 ghost use Rattle.nd_chronicle.specs.Happening.{Chronicle, last_moment};
 ghost use Rattle.nd_chronicle.specs.Start.{Start};
 ghost use Rattle.nd_node.specs.Event.{event_of, events_of, AddsEvent, AreEarly, FollowsBy, RunsBy, RunsInPart};
@@ -88,8 +89,7 @@ impl<R: Rng + Drop, A: Allocator + Clone> Node<R, A> {
         ensures late { now < self.old.last → vec_len outs.old < vec_capacity outs.old → IsOk result }
     {
         if now < self.last {
-            outs.push((now, Out::Past(self.last)))?;
-            return Ok(());
+            return self.refuse_past(now, outs);
         }
         self.settle(now, outs)?;
         self.add(now, event, outs)
@@ -114,8 +114,22 @@ impl<R: Rng + Drop, A: Allocator + Clone> Node<R, A> {
         Ok(())
     }
 
-    /// What an event adds, once all that is due up to it is done: a link, whose nodes take their turns together, asks for it. The error is
-    /// want of memory, and then nothing has happened.
+    /// Reports an event that comes before the moment up to which time has passed, and changes nothing else. Returns an error if out of memory;
+    /// nothing is reported then.
+    fn refuse_past(&mut self, now: u64, outs: &mut Vec<(u64, Out<A>), A>) -> Result<(), AllocError>
+        requires { now < self.old.last }
+        ensures past { OnOk result ((event : events.Event) → Leads R.stream self.old self.new outs.old.items outs.new.items (FollowsBy now event)) }
+        ensures same { self.new ≡ self.old }
+        ensures told { OnErr result (outs.new.items ≡ outs.old.items) }
+        ensures ready { vec_len outs.old < vec_capacity outs.old → IsOk result }
+    {
+        outs.push((now, Out::Past(self.last)))?;
+        Ok(())
+    }
+
+    /// Adds what an event adds, once all that is due up to it is done: a link calls it, whose nodes take their turns together. An event that
+    /// comes before the moment up to which time has passed is reported alone, and the clock stays. Returns an error if out of memory; nothing has
+    /// happened then.
     pub fn add(
         &mut self,
         now: u64,
@@ -125,10 +139,15 @@ impl<R: Rng + Drop, A: Allocator + Clone> Node<R, A> {
         requires moment { now < 2 ^ 62 }
         requires settled { now < next_of self.old }
         ensures adds { OnOk result (AddsEvent R.stream self.old self.new outs.old.items outs.new.items now (event_of event.now)) }
+        ensures past { now < self.old.last → OnOk result (Leads R.stream self.old self.new outs.old.items outs.new.items (FollowsBy now (event_of event.now))) }
         ensures stays { OnErr result (Stays R.stream self.old self.new) }
         ensures told { OnErr result (outs.new.items ≡ outs.old.items) }
         ensures quiet { (start : Start) (c : Chronicle) → Stands R.stream start self.old c → last_moment start.at c ≤ now → AsksForNone start c self.old now (vec_capacity outs.old - vec_len outs.old) (event_of event.now) → IsOk result }
+        ensures late { now < self.old.last → vec_len outs.old < vec_capacity outs.old → IsOk result }
     {
+        if now < self.last {
+            return self.refuse_past(now, outs);
+        }
         match event {
             Event::Passes => {
                 self.last = now;

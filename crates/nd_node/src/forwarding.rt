@@ -69,9 +69,9 @@ impl<R: Rng + Drop, A: Allocator + Clone> Node<R, A> {
         self.lose(now, why, frame, outs)
     }
 
-    /// A packet whose destination is an own address or isn't is sent on to its next hop, behind a Redirect where who sent it has a better
-    /// first hop (RFC 4861, section 8.2). It is in a frame from whose IPv6 header on there are these bytes. The error is want of memory, and
-    /// then nothing has changed.
+    /// Forwards a packet to `hop`, preceded by a Redirect if the sender has a better first hop (RFC 4861, section 8.2). `own`: its destination is
+    /// one of the node's own addresses; `bytes` is the packet as received, from its IPv6 header on. Room for the neighbours is asked before a
+    /// frame is made. Returns an error if out of memory; nothing has changed then.
     fn send_on(
         &mut self,
         now: u64,
@@ -90,6 +90,9 @@ impl<R: Rng + Drop, A: Allocator + Clone> Node<R, A> {
     {
         match self.router.routes.redirect_for(now, &packet.header, own) {
             None => {
+                if !self.neighbours.room(now, hop, None) {
+                    return self.refuse_neighbour(now, hop, outs);
+                }
                 let frame = frame_sent_on(outs.allocator().clone()?, self.mac, packet)?;
                 self.send_to(now, hop, frame, outs)
             }

@@ -1,11 +1,14 @@
 //! A packet of the upper layer that is to be sent (RFC 4861, section 5.2).
 
-ghost use Rattle.std.specs.Prelude.{◌≡◌, ◌<◌, ◌≤◌, ◌^◌, length, ℕ, None, OnErr, OnOk, option_map};
+ghost use Rattle.std.specs.Prelude.{◌≡◌, ◌<◌, ◌≤◌, ◌^◌, length, ℕ, List, None, OnErr, OnOk, false, true, option_map};
 ghost use Rattle.nd_addr.specs.Number.{number_of};
 ghost use Rattle.nd_chronicle.specs.Event as events;
 ghost use Rattle.nd_chronicle.specs.Event.{refusal_of_packet};
 ghost use Rattle.nd_chronicle.specs.Happening.{Chronicle, Lost, Sent};
 ghost use Rattle.nd_chronicle.specs.Start.{Start};
+ghost use Rattle.nd_effects.specs.OutgoingPacket.{frame_of};
+ghost use Rattle.nd_frames.specs.Frames.{open_mac};
+ghost use Rattle.nd_neighbour.specs.Room.{has_room};
 ghost use Rattle.nd_nexthop.specs.NextHop.{hop_of, direct};
 ghost use Rattle.nd_node.specs.Event.{AddsEvent};
 ghost use Rattle.nd_node.specs.Frame.{AddsAlone, Stays};
@@ -83,8 +86,25 @@ impl<R: Rng + Drop, A: Allocator + Clone> Node<R, A> {
         Ok(())
     }
 
-    /// A packet goes to a neighbour, and is refused where that has no place (RFC 4861, sections 7.2.2 and 7.3.3). The error is want of
-    /// memory, and then nothing has changed.
+    /// Refuses a packet to a neighbour for which there is no room. Returns an error if out of memory; nothing has changed then.
+    pub(crate) fn refuse_neighbour(
+        &mut self,
+        now: u64,
+        to: Addr,
+        outs: &mut Vec<(u64, Out<A>), A>,
+    ) -> Result<(), AllocError>
+        requires settled { now < next_of self.old }
+        requires full { has_room self.old.neighbours.limit now (number_of to.0) None self.old.neighbours.nodes ≡ false }
+        ensures adds { OnOk result ((packet : List ℕ) → AddsToNeighbour R.stream self.old self.new outs.old.items outs.new.items now (number_of to.0) packet) }
+        ensures keeps { OnErr result (Keeps self.old self.new) }
+        ensures told { OnErr result (outs.new.items ≡ outs.old.items) }
+    {
+        nd_neighbour::laws::full_by_history();
+        self.refuse(now, Refusal::Full(Limit::Neighbours), outs)
+    }
+
+    /// Sends a packet to a neighbour for which there is room (RFC 4861, sections 7.2.2 and 7.3.3). Returns an error if out of memory; nothing
+    /// has changed then.
     pub(crate) fn send_to(
         &mut self,
         now: u64,
@@ -94,26 +114,46 @@ impl<R: Rng + Drop, A: Allocator + Clone> Node<R, A> {
     ) -> Result<(), AllocError>
         requires moment { now < 2 ^ 62 }
         requires settled { now < next_of self.old }
+        requires room { has_room self.old.neighbours.limit now (number_of to.0) None self.old.neighbours.nodes ≡ true }
         ensures adds { OnOk result (AddsToNeighbour R.stream self.old self.new outs.old.items outs.new.items now (number_of to.0) packet) }
         ensures keeps { OnErr result (Keeps self.old self.new) }
         ensures told { OnErr result (outs.new.items ≡ outs.old.items) }
     {
         nd_neighbour::laws::room_is_place();
         nd_neighbour::laws::full_by_history();
-        if !self.neighbours.room(now, to, None) {
-            let full = Out::Refused(Refusal::Full(Limit::Neighbours));
-            outs.push((now, full))?;
-            self.last = now;
-            return Ok(());
-        }
         let solicitation = ready_for(&mut self.neighbours, now, to, outs)?;
         self.last = now;
         self.go(now, to, packet, solicitation, outs);
         Ok(())
     }
 
-    /// A packet whose destination is on the link goes there: at once to a multicast address, of which no entry is kept (RFC 2464,
-    /// section 7), and else as to a neighbour. The error is want of memory, and then nothing has changed.
+    /// Sends a packet of the upper layer to a neighbour, or refuses it if there is no room for the neighbour: that is asked before the frame is
+    /// made. Returns an error if out of memory; nothing has changed then.
+    fn send_to_neighbour(
+        &mut self,
+        now: u64,
+        to: Addr,
+        outgoing: &OutgoingPacket<A>,
+        outs: &mut Vec<(u64, Out<A>), A>,
+    ) -> Result<(), AllocError>
+        requires moment { now < 2 ^ 62 }
+        requires settled { now < next_of self.old }
+        requires short { length outgoing.now.payload.items ≤ 65535 }
+        ensures adds { OnOk result (AddsToNeighbour R.stream self.old self.new outs.old.items outs.new.items now (number_of to.0) (frame_of open_mac self.old.mac self.old.params.hop_limit outgoing.now)) }
+        ensures keeps { OnErr result (Keeps self.old self.new) }
+        ensures told { OnErr result (outs.new.items ≡ outs.old.items) }
+    {
+        if !self.neighbours.room(now, to, None) {
+            return self.refuse_neighbour(now, to, outs);
+        }
+        let hop_limit = self.params.hop_limit();
+        let alloc = outs.allocator().clone()?;
+        let packet = outgoing.frame(alloc, OPEN_MAC, self.mac, hop_limit)?;
+        self.send_to(now, to, packet, outs)
+    }
+
+    /// Sends a packet whose destination is on the link: at once to a multicast address, of which no entry is kept (RFC 2464, section 7), and
+    /// else as to a neighbour. Returns an error if out of memory; nothing has changed then.
     fn send_directly(
         &mut self,
         now: u64,
@@ -127,20 +167,19 @@ impl<R: Rng + Drop, A: Allocator + Clone> Node<R, A> {
         ensures keeps { OnErr result (Keeps self.old self.new) }
         ensures told { OnErr result (outs.new.items ≡ outs.old.items) }
     {
-        let hop_limit = self.params.hop_limit();
-        let alloc = outs.allocator().clone()?;
         let destination = outgoing.destination;
         if destination.is_multicast() {
+            let hop_limit = self.params.hop_limit();
+            let alloc = outs.allocator().clone()?;
             let to = Mac::multicast(destination);
             let packet = outgoing.frame(alloc, to, self.mac, hop_limit)?;
             return self.send_at_once(now, packet, outs);
         }
-        let packet = outgoing.frame(alloc, OPEN_MAC, self.mac, hop_limit)?;
-        self.send_to(now, destination, packet, outs)
+        self.send_to_neighbour(now, destination, outgoing, outs)
     }
 
-    /// A packet goes to its next hop, and is lost where it has none (RFC 4861, section 5.2). The error is want of memory, and then
-    /// nothing has changed.
+    /// Sends a packet to its next hop, or loses it if it has none (RFC 4861, section 5.2). Returns an error if out of memory; nothing has
+    /// changed then.
     fn send_by_hop(
         &mut self,
         now: u64,
@@ -155,15 +194,11 @@ impl<R: Rng + Drop, A: Allocator + Clone> Node<R, A> {
         ensures keeps { OnErr result (Keeps self.old self.new) }
         ensures told { OnErr result (outs.new.items ≡ outs.old.items) }
     {
-        let hop_limit = self.params.hop_limit();
         match hop {
             Hop::Direct => self.send_directly(now, outgoing, outs),
-            Hop::Via(router) => {
-                let alloc = outs.allocator().clone()?;
-                let packet = outgoing.frame(alloc, OPEN_MAC, self.mac, hop_limit)?;
-                self.send_to(now, router, packet, outs)
-            }
+            Hop::Via(router) => self.send_to_neighbour(now, router, outgoing, outs),
             Hop::NoRoute => {
+                let hop_limit = self.params.hop_limit();
                 let alloc = outs.allocator().clone()?;
                 let packet = outgoing.frame(alloc, OPEN_MAC, self.mac, hop_limit)?;
                 self.lose(now, Loss::NoRoute, packet, outs)

@@ -1,8 +1,8 @@
 use Rattle.std.proofs.Common.{refl, map, string_bytes}
-use Rattle.std.proofs.lemmas.Result.{on_err_weaker}
-use Rattle.nd_node.specs.Event.{table_of}
+use Rattle.std.proofs.lemmas.Result.{on_err_weaker, on_ok_weaker}
+use Rattle.nd_node.specs.Event.{event_of, table_of}
 use Rattle.nd_node.proofs.Judging.{stays_same}
-use Rattle.nd_node.proofs.Steps.{passing, showing}
+use Rattle.nd_node.proofs.Steps.{not_past, passing, showing}
 use Rattle.nd_node.proofs.node.Node.add.Goals as goal
 
 pub returns-in-Passes-clause-adds : goal.returns-in-Passes-clause-adds
@@ -17,3 +17,9 @@ returns-in-Forgets-clause-stays g c = on_err_weaker c.forget.result (stays_same 
 
 pub returns-in-Clears-clause-stays : goal.returns-in-Clears-clause-stays
 returns-in-Clears-clause-stays g c = on_err_weaker c.clear.result (stays_same g.R.Rng.stream c.args.self.now c.clear.new.self) c.clear.ensures.keeps
+
+pub returns-then-now-self-clause-adds : goal.returns-then-now-self-clause-adds
+returns-then-now-self-clause-adds g c = on_ok_weaker c.refuse_past.result (λ past. not_past g.R.Rng.stream c.args.self.now c.refuse_past.new.self c.args.outs.now.items c.refuse_past.new.outs.items c.args.now (event_of c.args.event.now) c.if-now-self.true) c.refuse_past.ensures.past
+
+pub returns-then-now-self-clause-past : goal.returns-then-now-self-clause-past
+returns-then-now-self-clause-past g c = λ late. on_ok_weaker c.refuse_past.result (λ past. past (event_of c.args.event.now)) c.refuse_past.ensures.past

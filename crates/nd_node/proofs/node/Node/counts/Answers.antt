@@ -9,6 +9,9 @@ returns-clause-value g c = record {
   addresses = c.len-addresses.ensures.value;
   servers = c.servers_len-servers.ensures.value;
   search_names = c.search_names_len-search_names.ensures.value;
+  redirects = c.redirects_len-redirects.ensures.value;
+  offers = c.offers_len-offers.ensures.value;
+  routes = c.len-routes.ensures.value;
 }
 
 pub returns-clause-within : goal.returns-clause-within
@@ -19,4 +22,7 @@ returns-clause-within g c start d s = record {
   addresses = c.len-addresses.ensures.few;
   servers = c.servers_len-servers.ensures.few;
   search_names = c.search_names_len-search_names.ensures.few;
+  redirects = c.redirects_len-redirects.ensures.few;
+  offers = c.offers_len-offers.ensures.few;
+  routes = c.len-routes.ensures.few;
 }

@@ -1,3 +1,4 @@
+use Rattle.std.proofs.Common.{refl}
 use Rattle.std.specs.Prelude.{None, Some}
 use Rattle.std.proofs.lemmas.Result.{on_ok_weaker}
 use Rattle.nd_addr.specs.Ip6.{packet_parts}
@@ -11,6 +12,13 @@ returns-in_ok-frame-in-None-clause-adds g c =
     (number_of c.args.hop.0) None c.in-None.ensures.by_history
     (sent_alone g.R.Rng.stream c.args.self.now c.send_to.new.self c.args.outs.now.items c.send_to.new.outs.items c.args.now (packet_parts c.args.packet.now) (number_of c.args.hop.0) c.args.bytes.now c.in_ok-frame-in-None.frame c.in_ok-frame-in-None.ensures adds))
     c.send_to.ensures.adds
+
+pub returns-then-not-room-clause-adds : goal.returns-then-not-room-clause-adds
+returns-then-not-room-clause-adds g c =
+    on_ok_weaker c.refuse_neighbour.result (λ adds. onward g.R.Rng.stream c.args.self.now c.refuse_neighbour.new.self c.args.outs.now.items c.refuse_neighbour.new.outs.items c.args.now (packet_parts c.args.packet.now) c.args.bytes.now c.args.own
+    (number_of c.args.hop.0) None c.in-None.ensures.by_history
+    (sent_alone g.R.Rng.stream c.args.self.now c.refuse_neighbour.new.self c.args.outs.now.items c.refuse_neighbour.new.outs.items c.args.now (packet_parts c.args.packet.now) (number_of c.args.hop.0) c.args.bytes.now _ refl (adds _)))
+    c.refuse_neighbour.ensures.adds
 
 pub returns-in-Some-clause-adds : goal.returns-in-Some-clause-adds
 returns-in-Some-clause-adds g c =

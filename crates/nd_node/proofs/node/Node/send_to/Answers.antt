@@ -1,18 +1,11 @@
-use Rattle.std.proofs.Common.{refl, sym}
+use Rattle.std.proofs.Common.{refl}
 use Rattle.nd_addr.specs.Number.{number_of}
-use Rattle.nd_chronicle.specs.Happening.{Full, Neighbours}
-use Rattle.nd_node.proofs.OutgoingPackets.{goes_to, refused_full, refuses}
+use Rattle.nd_node.proofs.OutgoingPackets.{goes_to}
 use Rattle.nd_node.proofs.node.Node.send_to.Goals as goal
-
-pub returns-then-not-room-clause-adds : goal.returns-then-not-room-clause-adds
-returns-then-not-room-clause-adds g c =
-    refused_full g.R.Rng.stream c.args.self.now _ c.args.outs.now.items c.push.new.self.items c.args.now (number_of c.args.to.0) c.args.packet c.requires.settled
-    c.full_by_history.ensures (sym c.if-not-room.ensures.value)
-    (refuses g.R.Rng.stream c.args.self.now _ c.args.outs.now.items c.push.new.self.items c.args.now _ c.requires.settled refl c.in_ok-push.ensures.items (Full Neighbours) refl)
 
 pub returns-clause-adds : goal.returns-clause-adds
 returns-clause-adds g c =
     goes_to g.R.Rng.stream c.args.self.now c.go.new.self c.args.outs.now.items c.go.new.outs.items c.args.now (number_of c.args.to.0) c.args.packet c.requires.settled
     (record c.args.self.now { last = c.args.now; neighbours = c.ready_for.new.neighbours }) c.ready_for.new.outs.items
     (record { role = refl; mac = refl; generator = refl; last = refl; params = refl; routers = refl; prefixes = refl; addresses = refl; nodes = c.ready_for.ensures.nodes; limit = c.ready_for.ensures.limit; dns = refl; choice = refl; solicitations = refl; router = refl })
-    c.ready_for.ensures.same c.room_is_place.ensures c.full_by_history.ensures (sym c.if-not-room.ensures.value) c.go.ensures.leads
+    c.ready_for.ensures.same c.room_is_place.ensures c.full_by_history.ensures c.requires.room c.go.ensures.leads

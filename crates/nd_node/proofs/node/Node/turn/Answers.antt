@@ -11,5 +11,5 @@ pub returns-clause-leads : goal.returns-clause-leads
 returns-clause-leads g c =
     turn_leads g.R.Rng.stream c.args.self.now c.take_turn-turned.new.self c.args.outs.now.items c.tell.new.outs.items c.args.now (what_of c.take_turn-turned.result) c.link_local-own.result c.in_ok-advertisement.advertisement c.take_turn-turned.ensures.due c.take_turn-turned.ensures.stands
     (λ start m. c.link_local-own.ensures ∙ ap (λ (mac : Mac). addr_at (link_local_of mac)) m)
-    c.in_ok-advertisement.ensures
+    c.in_ok-advertisement.ensures.due
     (c.tell.ensures ∙ ap (λ l. happenings l ++ at_moment c.args.now (told_of c.take_turn-turned.new.self.mac c.link_local-own.result (advertised_by c.in_ok-advertisement.advertisement) (what_of c.take_turn-turned.result))) c.reserve.ensures.items)
