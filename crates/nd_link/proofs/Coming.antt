@@ -46,6 +46,10 @@ pub record Came {W R A : Type 0} (Faithful : Type 0) (stream : R → Stream) (or
   pub bytes : AreOfBytes (link_events stream came)
   pub sofar : Faithful → Leads stream origin link x y (RunsBy (link_events stream came))
 
+-- none of them came
+pub nothing_came : {W R A : Type 0} (stream : R → Stream) (link : Link W R A) (told : List (Told A)) (events : List (ℕ × Event)) → TellsOf stream link told told (RunsInPart events)
+nothing_came stream link told events = record { each = λ log s. (log, (0, 0, log, refl, λ e w. w), told_same log told) }
+
 module _ {W R A : Type 0} (Faithful : Type 0) (stream : R → Stream) where
   pub none_came : (link : Link W R A) (told : List (Told A)) (all rest : List (ℕ × LinkEvent R A)) → all ≡ rest → AreEarly all → Came Faithful stream link link told told all rest
   none_came link told all rest is early = record {

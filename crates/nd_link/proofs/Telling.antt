@@ -5,7 +5,7 @@ use Rattle.std.proofs.lemmas.Grind.{flat_map-append}
 use Rattle.std.specs.Prelude.{codes}
 use Rattle.std.specs.Fmt.{decimal}
 use Rattle.std.specs.List.{flat_map}
-use Rattle.nd_chronicle.specs.Happening.{Chronicle, Happening, Sent}
+use Rattle.nd_chronicle.specs.Happening.{Chronicle, Happening, Heard, Lost, Sent}
 use Rattle.nd_chronicle.specs.Told.{Told, Words, told_of, items_at, items, line_at, line_of, node_lines}
 use Rattle.nd_out.specs.declared.out.Out.{Out}
 use Rattle.nd_effects.specs.Told as effects
@@ -46,6 +46,8 @@ words_lines node at (t ∷ texts) = ap (λ l. (codes "n" ++ decimal node ++ code
 
 row_lines : (node at : ℕ) (what : Happening) → lines_of (Adds node at what) ≡ flat_map (item_line node) (items_at (at, what))
 row_lines node at (Sent frame) = refl
+row_lines node at (Heard source destination message) = refl
+row_lines node at (Lost why packet) = refl
 row_lines node at what = words_lines node at (told_of what)
 
 text_with : (node : ℕ) (rows : Chronicle) (log : Log) → text (adding node rows log) ≡ text log ++ flat_map (item_line node) (items rows)

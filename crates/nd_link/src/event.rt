@@ -1,4 +1,4 @@
-ghost use Rattle.std.specs.Prelude.{◌≡◌, ◌≢◌, ◌≤◌, ◌<◌, ◌^◌, Err, IsErrOf, OnErr, OnOk, true};
+ghost use Rattle.std.specs.Prelude.{◌≡◌, ◌≢◌, ◌≤◌, ◌<◌, ◌^◌, Err, IsErrOf, IsOk, OnErr, OnOk, false, true, vec_capacity, vec_len};
 ghost use Rattle.nd_addr.specs.Bytes.{IsBytes};
 ghost use Rattle.nd_io.specs.Counts.{one_more};
 ghost use Rattle.nd_wire.specs.Wire.{IsFaithful};
@@ -80,6 +80,9 @@ impl<W: Wire, R: Rng + Drop, A: Allocator + Copy> Link<W, R, A> {
         ensures unspent { OnOk result (self.new.spent ≡ self.old.spent) }
         ensures unspent_by_wire { IsErrOf result LinkFault.Wire → self.new.spent ≡ self.old.spent }
         ensures bytes { IsOfBytes (link_event R.stream event) }
+
+        // One that comes too late is refused whatever memory there is, if there is a place for it.
+        ensures late { self.old.spent ≡ false → now < self.old.last → vec_len told.old < vec_capacity told.old → IsOk result }
     {
         known(&event);
         if self.spent {
@@ -93,7 +96,8 @@ impl<W: Wire, R: Rng + Drop, A: Allocator + Copy> Link<W, R, A> {
     }
 
     /// Runs events one after the other, each at its moment, in milliseconds, and reports what happens. It stops at the first fault: the events
-    /// before it have run, and possibly part of what is due before the next one, and all of that is reported. Out of memory: the link is closed. If
+    /// before it have run, and possibly part of what is due before the next one, and all of that is reported. Out of memory: the link is closed,
+    /// and every later call returns that error, for no events too. If
     /// the wire fails, all that was due up to that event is done, and the link stays in use.
     ///
     /// If there was no fault since the link was made, and its log is timely, no address is preferred or deprecated at two nodes at any moment up
@@ -113,9 +117,13 @@ impl<W: Wire, R: Rng + Drop, A: Allocator + Copy> Link<W, R, A> {
         ensures wire_failed { IsErrOf result LinkFault.Wire → W.failed self.new.wire ≡ one_more (W.failed self.old.wire) }
         ensures wire_carried { result ≢ Err LinkFault.Wire → W.failed self.new.wire ≡ W.failed self.old.wire }
         ensures spent { IsErrOf result LinkFault.Memory → self.new.spent ≡ true }
+        ensures stays_spent { self.old.spent ≡ true → result ≡ Err LinkFault.Memory }
         ensures unspent { OnOk result (self.new.spent ≡ self.old.spent) }
         ensures unspent_by_wire { IsErrOf result LinkFault.Wire → self.new.spent ≡ self.old.spent }
     {
+        if self.spent {
+            return Err(LinkFault::Memory);
+        }
         for (at, event) in events {
             self.event(at, event, told)?;
         }
@@ -136,6 +144,7 @@ impl<W: Wire, R: Rng + Drop, A: Allocator + Copy> Link<W, R, A> {
         ensures wire_failed { IsErrOf result LinkFault.Wire → W.failed self.new.wire ≡ one_more (W.failed self.old.wire) }
         ensures wire_carried { result ≢ Err LinkFault.Wire → W.failed self.new.wire ≡ W.failed self.old.wire }
         ensures spent { self.new.spent ≡ self.old.spent }
+        ensures late { now < self.old.last → vec_len told.old < vec_capacity told.old → IsOk result }
     {
         if now < self.last {
             tell_refused(told, now, Refusal::TooLate(self.last))?;

@@ -47,6 +47,14 @@ impl<W: Wire, R: Rng + Drop, A: Allocator + Copy> Link<W, R, A> {
         }
     }
 
+    /// Returns how many nodes have started: never more than `MAX_NODES`.
+    pub fn node_count(&self) -> usize
+        ensures count { result ≡ vec_len self.now.nodes }
+        ensures few { result ≤ max_nodes }
+    {
+        self.nodes.len()
+    }
+
     /// How many calls of its wire failed, up to the greatest number of 64 bits.
     pub fn failures(&self) -> u64
         ensures { result ≡ W.failed self.now.wire }

@@ -1,4 +1,4 @@
-ghost use Rattle.std.specs.Prelude.{◌≡◌, OnErr, OnOk};
+ghost use Rattle.std.specs.Prelude.{◌≡◌, ◌<◌, IsOk, OnErr, OnOk, vec_capacity, vec_len};
 ghost use Rattle.std.specs.List.{flat_map};
 ghost use Rattle.nd_chronicle.specs.Told.{node_lines};
 ghost use Rattle.nd_effects.specs.Told.{happenings};
@@ -43,6 +43,7 @@ pub(crate) fn tell_refused<A: Allocator>(
 ) -> Result<(), AllocError>
     ensures tells { OnOk result (TellsLines told.old.items told.new.items (lines_of (Refuses at (refusal_of why)))) }
     ensures same { OnErr result (told.new.items ≡ told.old.items) }
+    ensures ready { vec_len told.old < vec_capacity told.old → IsOk result }
 {
     told.push(Told::Refused(at, why))?;
     Ok(())

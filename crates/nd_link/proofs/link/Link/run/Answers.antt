@@ -4,9 +4,12 @@ use Rattle.std.specs.Vec.Iter.{into_iter_items}
 use Rattle.nd_wire.specs.Wire.{IsFaithful}
 use Rattle.nd_node.proofs.Running.{on_err_any}
 use Rattle.nd_link.specs.Event.{link_events}
-use Rattle.nd_link.proofs.Coming.{all_came, all_of_bytes, came_in_part, came_up_to, handed_back, handed_on, none_came, one_came}
+use Rattle.nd_link.proofs.Coming.{all_came, all_of_bytes, came_in_part, came_up_to, handed_back, handed_on, none_came, nothing_came, one_came}
 use Rattle.nd_link.proofs.Holder.{keeps_one_holder, keeps_one_holder_with_losses}
 use Rattle.nd_link.proofs.link.Link.run.Goals as goal
+
+pub returns-then-self-clause-in_part : goal.returns-then-self-clause-in_part
+returns-then-self-clause-in_part g c = λ faithful. nothing_came g.R.Rng.stream c.args.self.now c.args.told.now.items (link_events g.R.Rng.stream c.args.events.items)
 
 pub loop-at-init : goal.loop-at-init
 loop-at-init g c = record {
