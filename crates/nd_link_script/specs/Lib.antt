@@ -7,4 +7,3 @@ pub mod Line
 pub mod Script
 pub mod ScriptLaws
 pub mod Answer
-pub mod Fault

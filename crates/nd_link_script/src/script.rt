@@ -1,14 +1,16 @@
 //! A link that answers lines.
 
-ghost use Rattle.std.specs.Prelude.{◌≡◌, ◌++◌, [], None, Ok, OnOk, OnErr, IfOk, IfSome, IfNone, ◌^◌, ◌<◌, ℕ, List, string_bytes};
+ghost use Rattle.std.specs.Prelude.{◌≡◌, ◌≢◌, ◌++◌, [], None, Ok, Err, OnOk, OnErr, IsErrOf, IfOk, IfSome, IfNone, ◌^◌, ◌<◌, ℕ, List, string_bytes};
+ghost use Rattle.nd_io.specs.Counts.{one_more};
+ghost use Rattle.nd_script.specs.Said.{SaysNothing};
 ghost use Rattle.nd_script.specs.Source.{stream_of_source};
 ghost use Rattle.nd_link_log.specs.Event as events;
 ghost use Rattle.nd_link.specs.Event.{link_event};
 ghost use Rattle.nd_link.specs.Link.{Stands};
 ghost use Rattle.nd_link_script.specs.Line.{IsLinkLine};
-ghost use Rattle.nd_link_script.specs.Script.{Leads};
+ghost use Rattle.nd_link_script.specs.Script.{FailsAt, Leads};
 ghost use Rattle.nd_link_script.specs.ScriptLaws.{no_line, long_line};
-ghost use Rattle.nd_link_script.specs.Answer.{AnswersEvent};
+ghost use Rattle.nd_link_script.specs.Answer.{AnswersEvent, Passes};
 
 use crate::line::{LinkLine, read_line};
 use crate::told::write_told;
@@ -53,7 +55,10 @@ impl<W: Wire, A: Allocator + Copy> LinkScript<W, A> {
         text: &mut String<B>,
     ) -> Result<(), LinkFault>
         requires { at < 2 ^ 62 }
-        ensures { OnOk result (AnswersEvent W.arrives stream_of_source self.old.link self.new.link at (link_event stream_of_source event) (string_bytes text.old) (string_bytes text.new)) }
+        ensures answered { OnOk result (AnswersEvent W.arrives stream_of_source self.old.link self.new.link at (link_event stream_of_source event) (string_bytes text.old) (string_bytes text.new)) }
+        ensures passes { IsErrOf result LinkFault.Wire → Passes stream_of_source self.old.link self.new.link at }
+        ensures wire_failed { IsErrOf result LinkFault.Wire → W.failed self.new.link.wire ≡ one_more (W.failed self.old.link.wire) }
+        ensures wire_carried { result ≢ Err LinkFault.Wire → W.failed self.new.link.wire ≡ W.failed self.old.link.wire }
     {
         self.told.clear();
         self.link.event(at, event, &mut self.told)?;
@@ -62,13 +67,18 @@ impl<W: Wire, A: Allocator + Copy> LinkScript<W, A> {
 }
 
 impl<W: Wire, A: Allocator + Copy> Answering for LinkScript<W, A> {
-    ghost texts = { λ script. Leads W.arrives stream_of_source script.link };
+    ghost texts = { λ script later. Leads W.arrives stream_of_source script.link later.link };
+
+    ghost is_malformed = { SaysNothing IsLinkLine };
+
+    ghost fails = { λ script line later why. FailsAt stream_of_source script.link line later.link why };
+
+    ghost failed = { λ script. W.failed script.link.wire };
 
     ghost no_lines = { λ script. no_line W.arrives stream_of_source script.link };
 
     ghost too_long = { λ script. long_line W.arrives stream_of_source script.link };
 
-    // A fault of the wire is told as want of memory here, and by the wire's count: what ends a run tells them apart.
     fn answer<B: Allocator>(
         &mut self,
         line: &[u8],
@@ -77,7 +87,8 @@ impl<W: Wire, A: Allocator + Copy> Answering for LinkScript<W, A> {
         match self.read(line) {
             Ok(Some(read)) => match self.event(read.at, read.event, text) {
                 Ok(()) => Ok(()),
-                Err(_) => Err(Unanswered::Memory),
+                Err(LinkFault::Memory) => Err(Unanswered::Memory),
+                Err(LinkFault::Wire) => Err(Unanswered::Wire),
             },
             Ok(None) => Err(Unanswered::Malformed),
             Err(_) => Err(Unanswered::Memory),

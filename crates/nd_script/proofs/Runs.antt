@@ -1,9 +1,12 @@
 -- What lines lead a node to.
 use Rattle.std.proofs.Common.{◌≡◌, ℕ, List, [], ◌∷◌, ◌++◌, refl, sym, ap, subst, ◌∙◌, append_assoc}
+use Rattle.std.specs.Prelude.{Option, ⊤}
 use Rattle.std.specs.List.{flat_map}
 use Rattle.rand_core.specs.Stream.{Stream}
 use Rattle.nd_io.specs.Answers.{ComesFirst, EndsWell}
-use Rattle.nd_io.specs.ToldLaws.{Allows, GoesOn}
+use Rattle.nd_io.specs.Told.{TellsFront}
+use Rattle.nd_io.specs.ToldLaws.{Allows, GoesOn, tells_front_by}
+use Rattle.nd_io.proofs.RunLemmas.{TellsFront-nothing}
 use Rattle.nd_chronicle.specs.Start.{Start}
 use Rattle.nd_chronicle.specs.Happening.{Chronicle}
 use Rattle.nd_chronicle.specs.Event as events
@@ -45,29 +48,35 @@ event_answered stream old new at event outs before after leads written = record 
 -- a line that says an event comes before what later lines say
 pub event_first : {R A : Type 0} (stream : R → Stream) (old new : Node R A) (line : List ℕ) (at : ℕ) (event : events.Event) (before after : List ℕ) → Says IsLine line at event
     → (a : AnswersEvent stream old new at event before after) → ComesFirst (Leads stream old) (Leads stream new) line a.told
-event_first stream old new line at event before after said a n lines later found given = record {
+event_first stream old new line at event before after said a end n lines later found given = record {
   each = λ start c s.
       let next = a.each start c s in
-      let on = given.each start next.0 next.2 in
-      record {
-        said = (at, event) ∷ on.said;
-        say = says at event said on.say;
-        end = on.end;
-        runs = (next.0, next.1, on.runs);
-        text_is = on.text_is ∙ (ap (λ l. l ++ later) next.3 ∙ append_assoc (text c) a.told later);
-      };
+      let theirs = given.each start next.0 next.2 in
+      let on = theirs.0 in (
+        record {
+          said = (at, event) ∷ on.said;
+          say = says at event said on.say;
+          end = on.end;
+          runs = (next.0, next.1, on.runs);
+          text_is = on.text_is ∙ (ap (λ l. l ++ later) next.3 ∙ append_assoc (text c) a.told later);
+        },
+        theirs.1,
+      );
 }
 
 -- ---- from the start on
 
 -- what a node that starts tells is the text of a chronicle
-pub from_start : {R A : Type 0} (stream : R → Stream) (start : Start) (node : Node R A) → Stands stream start node (beginning start) → Allows (Leads stream node) (IsText start)
-from_start stream start node s n lines told found given =
-    let on = given.each start (beginning start) s in
+pub from_start : {R A : Type 0} (stream : R → Stream) (start : Start) (node later : Node R A) → Stands stream start node (beginning start) → Allows (Leads stream node later) (IsText start)
+from_start stream start node later s n lines told found given =
+    let on = (given.each start (beginning start) s).0 in
     record { said = on.said; say = on.say; chronicle = on.end; is_theirs = on.runs; text_is = sym on.text_is }
 
-pub no_text : (start : Start) → EndsWell (IsText start)
+no_text : (start : Start) → EndsWell (IsText start)
 no_text start n = record { said = []; say = (refl, refl); chronicle = beginning start; is_theirs = refl; text_is = refl }
+
+pub nothing_told : (start : Start) (input old : Option (List ℕ)) → TellsFront (IsText start) input old old
+nothing_told start input old = tells_front_by _ _ (λ n lines told found given. given.1) input old old (TellsFront-nothing {T = ⊤} (λ _. IsText start) tt input old (no_text start))
 
 -- ---- the first few lines
 

@@ -19,9 +19,9 @@ pub record RunsOn (start : Start) (c : Chronicle) (n : ℕ) (lines : List (List 
   pub runs : Runs start c said end
   pub text_is : text end ≡ text c ++ told
 
--- the same from each chronicle that a node stands for
-pub record Leads {R A : Type 0} (stream : R → Stream) (node : Node R A) (n : ℕ) (lines : List (List ℕ)) (told : List ℕ) (found : Option ℕ) : Type 0 where
-  pub each : (start : Start) (c : Chronicle) → Stands stream start node c → RunsOn start c n lines told found
+-- the same from each chronicle that a node stands for, to one that the later node stands for
+pub record Leads {R A : Type 0} (stream : R → Stream) (node later : Node R A) (n : ℕ) (lines : List (List ℕ)) (told : List ℕ) (found : Option ℕ) : Type 0 where
+  pub each : (start : Start) (c : Chronicle) → Stands stream start node c → (on : RunsOn start c n lines told found) × Stands stream start later on.end
 
 -- THE HEADLINE. The text is that of the chronicle of what the lines say.
 pub record IsText (start : Start) (n : ℕ) (lines : List (List ℕ)) (told : List ℕ) (found : Option ℕ) : Type 0 where

@@ -12,13 +12,13 @@ use Rattle.nd_script.specs.Said.{SaysNothing, stops}
 
 module _ {R A : Type 0} (stream : R → Stream) (node : Node R A) where
   -- no line leads nowhere
-  pub no_line : EndsWell (Leads stream node)
-  no_line n = record { each = λ start c s. record { said = []; say = (refl, refl); end = c; runs = refl; text_is = sym (append-nil (text c)) } }
+  pub no_line : EndsWell (Leads stream node node)
+  no_line n = record { each = λ start c s. (record { said = []; say = (refl, refl); end = c; runs = refl; text_is = sym (append-nil (text c)) }, s) }
 
   -- a malformed line leads nowhere
-  pub malformed_line : (line : List ℕ) → SaysNothing IsLine line → IsMalformed (Leads stream node) line
-  malformed_line line nothing n lines = record { each = λ start c s. record { said = []; say = stops nothing; end = c; runs = refl; text_is = sym (append-nil (text c)) } }
+  pub malformed_line : (line : List ℕ) → SaysNothing IsLine line → IsMalformed (Leads stream node node) line
+  malformed_line line nothing n lines = record { each = λ start c s. (record { said = []; say = stops nothing; end = c; runs = refl; text_is = sym (append-nil (text c)) }, s) }
 
   -- a line that is too long is malformed
-  pub long_line : (line : List ℕ) → longest_line < length line → IsMalformed (Leads stream node) line
+  pub long_line : (line : List ℕ) → longest_line < length line → IsMalformed (Leads stream node node) line
   long_line line long = malformed_line line (λ at event says. absurd (omega (arith, long, says.short)))

@@ -2,9 +2,11 @@
 
 ghost use Rattle.std.specs.Prelude.{◌≢◌, ◌⊎◌, ℕ, IfOk, OnOk, OnErr, IsErrOf, Some, None, Err};
 ghost use Rattle.nd_io.specs.Counts.{HasRisen, HasGrownBy, most_reads};
-ghost use Rattle.nd_io.specs.Told.{TellsAll, TellsFront, TellsBeginning, TellsAsRead};
+ghost use Rattle.nd_io.specs.Told.{TellsAll, TellsFront, TellsBeginning, TellsAsRead, TellsToMemory};
 ghost use Rattle.nd_chronicle.specs.History.{beginning};
 ghost use Rattle.nd_node.specs.Node.{starting, Stands};
+ghost use Rattle.nd_script.specs.Line.{IsLine};
+ghost use Rattle.nd_script.specs.Said.{SaysNothing};
 ghost use Rattle.nd_script.specs.Script.{IsText};
 
 use crate::laws::one_reading;
@@ -21,8 +23,8 @@ use std::alloc::{AllocError, Allocator};
 
 /// Runs a node that starts at 0 on the lines of `reader`, and writes its answers to `writer`, up to the first malformed line.
 ///
-/// **What is written is the text of the chronicle of what the lines say**: all of it, or all before the malformed line. If memory runs out,
-/// or a read or a write fails, it is a beginning of that text.
+/// **What is written is the text of the chronicle of what the lines say**: all of it, or all before the malformed line. If memory runs out
+/// at a line, it is the text of all lines before that one. If a read or a write fails, it is a beginning of that text.
 pub fn run_script<I: Input, O: Output, R: Rng + Drop, A: Allocator + Copy>(
     alloc: A,
     reader: &mut I,
@@ -37,6 +39,8 @@ pub fn run_script<I: Input, O: Output, R: Rng + Drop, A: Allocator + Copy>(
     // Where a read fails, the answers to all lines that were read before it are written.
     ensures answered { IsErrOf result ToolFault.Read → TellsAsRead (IsText (starting 0 options.role options.mac options.transmits options.limits (R.stream options.generator))) (I.remaining reader.old) (I.remaining reader.new) (O.contents writer.old) (O.contents writer.new) }
     ensures write_failed { IsErrOf result ToolFault.Write → HasRisen (O.failed writer.old) (O.failed writer.new) }
+    // Out of memory: the answers to all lines before the one at which it ran out are written, whole. That line is not malformed.
+    ensures memory { IsErrOf result ToolFault.Memory → TellsToMemory (IsText (starting 0 options.role options.mac options.transmits options.limits (R.stream options.generator))) (SaysNothing IsLine) (I.remaining reader.old) (I.remaining reader.new) (O.contents writer.old) (O.contents writer.new) }
     ensures never_wire { result ≢ Err ToolFault.Wire }
 {
     one_reading();

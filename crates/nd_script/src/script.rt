@@ -1,12 +1,13 @@
 //! A node that answers the lines of a script.
 
-ghost use Rattle.std.specs.Prelude.{◌≡◌, None, Ok, OnOk, IfOk, IfSome, IfNone, ◌^◌, ◌<◌, ℕ, string_bytes};
+ghost use Rattle.std.specs.Prelude.{◌≡◌, None, Ok, OnOk, IfOk, IfSome, IfNone, ◌^◌, ◌<◌, ℕ, string_bytes, ⊤};
 ghost use Rattle.nd_node.specs.Event.{event_of};
 ghost use Rattle.nd_chronicle.specs.Event as events;
 ghost use Rattle.nd_script.specs.Line.{IsLine};
 ghost use Rattle.nd_script.specs.Script.{Leads};
 ghost use Rattle.nd_script.specs.ScriptLaws.{no_line, long_line};
 ghost use Rattle.nd_script.specs.Answer.{AnswersEvent};
+ghost use Rattle.nd_script.specs.Said.{SaysNothing};
 
 use crate::line::{Line, read_line};
 use nd_io::answering::{Answering, Unanswered};
@@ -59,7 +60,13 @@ impl<R: Rng + Drop, A: Allocator + Clone> Script<R, A> {
 }
 
 impl<R: Rng + Drop, A: Allocator + Clone> Answering for Script<R, A> {
-    ghost texts = { λ script. Leads R.stream script.node };
+    ghost texts = { λ script later. Leads R.stream script.node later.node };
+
+    ghost is_malformed = { SaysNothing IsLine };
+
+    ghost fails = { λ _ _ _ _. ⊤ };
+
+    ghost failed = { λ _. 0 };
 
     ghost no_lines = { λ script. no_line R.stream script.node };
 

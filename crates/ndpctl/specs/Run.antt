@@ -1,13 +1,17 @@
 -- What is written for what is asked.
+use Rattle.std.specs.Prelude.{◌≡◌, ℕ, List, None}
 use Rattle.nd_io.specs.Answers.{Texts, Only}
 use Rattle.nd_io.specs.Each.{text_of_each, malformed_of_each}
 use Rattle.nd_check.specs.Check.{answer_to}
 use Rattle.nd_node.specs.Node.{starting}
+use Rattle.nd_script.specs.Line.{IsLine}
+use Rattle.nd_script.specs.Said.{SaysNothing}
 use Rattle.nd_script.specs.Script.{IsText}
 use Rattle.nd_script.specs.Source.{stream_of_source}
 use Rattle.nd_command_line.specs.declared.asked.Asked.{Asked}
 use Rattle.nd_command_line.specs.declared.asked.Asked.TheVariants.{Check, Run, Link}
 use Rattle.nd_command_line.specs.declared.asked.Carrier.TheVariants.{Udp}
+use Rattle.nd_link_script.specs.Line.{IsLinkLine}
 use Rattle.nd_link_script.specs.Script.{IsLinkText}
 
 -- Which text the lines of the input have: of `check`, what each frame is; of `run`, the text of the chronicle of what they say to a node of
@@ -17,6 +21,12 @@ texts_asked Check = Only (text_of_each answer_to) (malformed_of_each answer_to)
 texts_asked (Run options) =
     IsText (starting 0 options.role options.mac options.transmits options.limits (stream_of_source options.generator))
 texts_asked (Link carrier) = IsLinkText
+
+-- which of its lines are malformed
+abbrev pub is_malformed_asked : Asked → List ℕ → Type 0
+is_malformed_asked Check = λ line. answer_to line ≡ None
+is_malformed_asked (Run options) = SaysNothing IsLine
+is_malformed_asked (Link carrier) = SaysNothing IsLinkLine
 
 -- the text is claimed: that of a link over datagrams isn't
 abbrev pub IsClaimed : Asked → Type 0

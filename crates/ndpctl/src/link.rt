@@ -2,7 +2,9 @@
 
 ghost use Rattle.std.specs.Prelude.{◌≢◌, ◌⊎◌, ℕ, OnOk, OnErr, IsErrOf, Some, None, Err};
 ghost use Rattle.nd_io.specs.Counts.{HasRisen, HasGrownBy, most_reads};
-ghost use Rattle.nd_io.specs.Told.{TellsAll, TellsBeginning, TellsAsRead};
+ghost use Rattle.nd_io.specs.Told.{TellsAll, TellsFront, TellsBeginning, TellsAsRead, TellsToMemory};
+ghost use Rattle.nd_script.specs.Said.{SaysNothing};
+ghost use Rattle.nd_link_script.specs.Line.{IsLinkLine};
 ghost use Rattle.nd_link_script.specs.Script.{IsLinkText};
 
 use nd_io::input::Input;
@@ -12,6 +14,7 @@ use nd_link::{MAX_NODES, MemoryWire, UdpWire};
 use nd_link_script::{LinkScript, run_link};
 use nd_wire::laws::memory_is_faithful;
 use std::alloc::Allocator;
+use std::io::ErrorKind;
 use std::net::Net;
 
 /// A link whose frames are carried by memory.
@@ -22,10 +25,12 @@ pub(crate) fn link_over_memory<R: Input, W: Output, A: Allocator + Copy>(
 ) -> Result<(), ToolFault>
     ensures ok { OnOk result (TellsAll IsLinkText (R.remaining reader.old) (W.contents writer.old) (W.contents writer.new) None) }
     ensures line { (n : ℕ) → IsErrOf result (ToolFault.Line n) → TellsAll IsLinkText (R.remaining reader.old) (W.contents writer.old) (W.contents writer.new) (Some n) }
-    ensures front { OnErr result (TellsBeginning IsLinkText (R.remaining reader.old) (W.contents writer.old) (W.contents writer.new)) }
+    ensures front { OnErr result (TellsFront IsLinkText (R.remaining reader.old) (W.contents writer.old) (W.contents writer.new)) }
+    ensures beginning { OnErr result (TellsBeginning IsLinkText (R.remaining reader.old) (W.contents writer.old) (W.contents writer.new)) }
     ensures read_failed { IsErrOf result ToolFault.Read → HasRisen (R.failed reader.old) (R.failed reader.new) ⊎ HasGrownBy most_reads (R.given reader.old) (R.given reader.new) }
     ensures answered { IsErrOf result ToolFault.Read → TellsAsRead IsLinkText (R.remaining reader.old) (R.remaining reader.new) (W.contents writer.old) (W.contents writer.new) }
     ensures write_failed { IsErrOf result ToolFault.Write → HasRisen (W.failed writer.old) (W.failed writer.new) }
+    ensures memory { IsErrOf result ToolFault.Memory → TellsToMemory IsLinkText (SaysNothing IsLinkLine) (R.remaining reader.old) (R.remaining reader.new) (W.contents writer.old) (W.contents writer.new) }
     ensures never_wire { result ≢ Err ToolFault.Wire }
 {
     memory_is_faithful();
@@ -33,7 +38,8 @@ pub(crate) fn link_over_memory<R: Input, W: Output, A: Allocator + Copy>(
     run_link(alloc, reader, writer, &mut script)
 }
 
-/// The same over datagrams between sockets of this machine: where these can't be opened, the wire failed.
+/// The same over datagrams between sockets of this machine. If a socket can't be opened, the wire failed; if there is no memory for the sockets, it
+/// is out of memory.
 pub(crate) fn link_over_datagrams<N: Net, R: Input, W: Output, A: Allocator + Copy>(
     net: &N,
     alloc: A,
@@ -43,8 +49,12 @@ pub(crate) fn link_over_datagrams<N: Net, R: Input, W: Output, A: Allocator + Co
     ensures read_failed { IsErrOf result ToolFault.Read → HasRisen (R.failed reader.old) (R.failed reader.new) ⊎ HasGrownBy most_reads (R.given reader.old) (R.given reader.new) }
     ensures write_failed { IsErrOf result ToolFault.Write → HasRisen (W.failed writer.old) (W.failed writer.new) }
 {
-    let Ok(wire) = UdpWire::new(net, alloc, MAX_NODES) else {
-        return Err(ToolFault::Wire);
+    let wire = match UdpWire::new(net, alloc, MAX_NODES) {
+        Ok(wire) => wire,
+        Err(error) => match error.kind() {
+            ErrorKind::OutOfMemory => return Err(ToolFault::Memory),
+            _ => return Err(ToolFault::Wire),
+        },
     };
     let mut script = LinkScript::new(alloc, wire);
     run_link(alloc, reader, writer, &mut script)

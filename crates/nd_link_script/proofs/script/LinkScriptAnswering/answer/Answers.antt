@@ -18,4 +18,15 @@ returns-in-Ok-clause-answered g c =
     let read = c.in-Ok-Some.read in
     let is : c.in-Ok-Some.field-0 ≡ Some c.in-Ok-Some.read = search rules in
     let spelled = some_is c.in-Ok-Some.field-0 c.in-Ok-Some.read (λ read. IsLinkLine c.args.line.now read.at (link_event stream_of_source read.event)) is c.in-Ok-Some.ensures.found in
-    (c.in-Ok.ensures.told, c.in-Ok.ensures.written, event_first g.W.Wire.arrives stream_of_source c.args.self.now.link c.event.new.self.link read.at (link_event stream_of_source read.event) c.args.line.now _ _ (record { short = c.requires; spelled = spelled }) c.in-Ok.ensures)
+    (c.in-Ok.ensures.answered.told, c.in-Ok.ensures.answered.written, λ end. event_first g.W.Wire.arrives stream_of_source c.args.self.now.link c.event.new.self.link read.at (link_event stream_of_source read.event) c.args.line.now _ _ (record { short = c.requires; spelled = spelled }) c.in-Ok.ensures.answered end.link)
+
+pub returns-in-Ok-None-clause-only : goal.returns-in-Ok-None-clause-only
+returns-in-Ok-None-clause-only g c = λ _.
+    let is : c.in-Ok-None.field-0 ≡ None = search rules in
+    let nothing = none_is c.in-Ok-None.field-0 _ is c.in-Ok-None.ensures.malformed in
+    λ at event said. nothing at event said.spelled
+
+pub returns-in-Err-clause-none : goal.returns-in-Err-clause-none
+returns-in-Err-clause-none g c = λ nothing.
+    let is = c.read.ensures.quiet (λ at event spelled. nothing at event (record { short = c.requires; spelled = spelled })) in
+    search rules
