@@ -8,6 +8,10 @@ mod addresses;
 #[cfg(test)]
 mod dns;
 #[cfg(test)]
+mod full;
+#[cfg(test)]
+mod memo;
+#[cfg(test)]
 mod neighbours;
 #[cfg(test)]
 mod next_hops;

@@ -27,23 +27,23 @@ const LAST: usize = 2;
 /// The most blocks of one size.
 const MOST_BLOCKS: usize = 2048;
 
-const MAC: Mac = Mac([0x34, 0x56, 0x78, 0x9a, 0xbc, 0xde]);
+pub(crate) const MAC: Mac = Mac([0x34, 0x56, 0x78, 0x9a, 0xbc, 0xde]);
 
-const OWN: Addr = Addr([
+pub(crate) const OWN: Addr = Addr([
     0xfe, 0x80, 0, 0, 0, 0, 0, 0, 0x36, 0x56, 0x78, 0xff, 0xfe, 0x9a, 0xbc, 0xde,
 ]);
 
 const ROUTER: Addr = Addr([0xfe, 0x80, 0, 0, 0, 0, 0, 0, 0, 0, 0, 0xff, 0xfe, 0, 0, 1]);
 
 /// Of which nothing was heard.
-const STRANGER: Addr = Addr([0xfe, 0x80, 0, 0, 0, 0, 0, 0, 0, 0, 0, 0, 0, 0, 0, 9]);
+pub(crate) const STRANGER: Addr = Addr([0xfe, 0x80, 0, 0, 0, 0, 0, 0, 0, 0, 0, 0, 0, 0, 0, 9]);
 
 /// Which says nothing: the Ethernet type of IPv6, and no packet.
 const EMPTY: [u8; 14] = [0, 0, 0, 0, 0, 0, 0, 0, 0, 0, 0, 0, 0x86, 0xdd];
 
 /// A Router Advertisement of `ROUTER` with its link-layer address, the prefix 2001:db8::/64 on the link for 30 days, and the server
 /// 2001:db8::53 for 1800 s.
-const ADVERTISEMENT: [u8; 134] = [
+pub(crate) const ADVERTISEMENT: [u8; 134] = [
     0x33, 0x33, 0, 0, 0, 1, 2, 0, 0, 0, 0, 1, 0x86, 0xdd, 0x60, 0, 0, 0, 0, 0x50, 0x3a, 0xff, 0xfe,
     0x80, 0, 0, 0, 0, 0, 0, 0, 0, 0, 0xff, 0xfe, 0, 0, 1, 0xff, 2, 0, 0, 0, 0, 0, 0, 0, 0, 0, 0, 0,
     0, 0, 1, 0x86, 0, 0xab, 0xdf, 0x40, 0, 7, 8, 0, 0, 0, 0, 0, 0, 0, 0, 1, 1, 2, 0, 0, 0, 0, 1, 3,
@@ -69,7 +69,7 @@ const TRANSIT: [u8; 54] = [
 ];
 
 /// An event comes. A function of its own, so that no test's proof carries what an event adds.
-fn come<'h>(
+pub(crate) fn come<'h>(
     node: &mut Node<Pcg32, &'h LocalHeap>,
     now: u64,
     event: &Event<&'h LocalHeap>,
@@ -99,14 +99,17 @@ fn host<'h>(rt: &impl Abort, heap: &'h LocalHeap) -> Node<Pcg32, &'h LocalHeap> 
 }
 
 /// A frame comes.
-fn receives<'h>(heap: &'h LocalHeap, bytes: &[u8]) -> Result<Event<&'h LocalHeap>, AllocError> {
+pub(crate) fn receives<'h>(
+    heap: &'h LocalHeap,
+    bytes: &[u8],
+) -> Result<Event<&'h LocalHeap>, AllocError> {
     let mut frame = Vec::new(heap);
     frame.extend_from_slice(bytes)?;
     Ok(Event::Receives(frame))
 }
 
 /// A packet without a payload is to be sent.
-fn sends(heap: &LocalHeap, destination: Addr) -> Event<&LocalHeap> {
+pub(crate) fn sends(heap: &LocalHeap, destination: Addr) -> Event<&LocalHeap> {
     Event::Sends(OutgoingPacket {
         source: OWN,
         destination,
@@ -282,7 +285,7 @@ fn each_request_of_a_hosts_event_is_refused_once(rt: HostRuntime) {
 }
 
 /// 2001:db8::/64 on the link, and 2001:db8:1::/64 behind fe80::2.
-fn routes() -> Option<[KeptRoute; 2]> {
+pub(crate) fn routes() -> Option<[KeptRoute; 2]> {
     let on_link = Addr([0x20, 1, 0x0d, 0xb8, 0, 0, 0, 0, 0, 0, 0, 0, 0, 0, 0, 0]);
     let behind = Addr([0x20, 1, 0x0d, 0xb8, 0, 1, 0, 0, 0, 0, 0, 0, 0, 0, 0, 0]);
     let hop = Addr([0xfe, 0x80, 0, 0, 0, 0, 0, 0, 0, 0, 0, 0, 0, 0, 0, 2]);
