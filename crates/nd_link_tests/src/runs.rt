@@ -14,6 +14,10 @@ const TWO_TRY: &str =
 const BOTH_SENT: &str =
     "n0 0 tx 3333ff9abcde3456789abcde86dd6000000000183aff00000000000000000000000000000000ff0200000000000000000001ff9abcde870053df00000000fe80000000000000365678fffe9abcde\nn1 0 tx 3333ff9abcde3456789abcde86dd6000000000183aff00000000000000000000000000000000ff0200000000000000000001ff9abcde870053df00000000fe80000000000000365678fffe9abcde\n";
 
+/// What the first two of these lines say: the second host sends once the third line comes.
+const FIRST_SENT: &str =
+    "n0 0 tx 3333ff9abcde3456789abcde86dd6000000000183aff00000000000000000000000000000000ff0200000000000000000001ff9abcde870053df00000000fe80000000000000365678fffe9abcde\n";
+
 const FIRST_HEARD: &str = "n1 400 heard ns\nn1 400 duplicate fe80::3656:78ff:fe9a:bcde\n";
 
 const SECOND_HEARD: &str = "n0 400 heard ns\nn0 400 duplicate fe80::3656:78ff:fe9a:bcde\n";
@@ -126,20 +130,23 @@ fn one_of_two_is_assigned_where_every_second_frame_is_lost(rt: HostRuntime) {
     );
 }
 
-/// Where the wire fails at the frame of a number, what is written begins so.
-fn fails_at(rt: &(impl Abort + AllocGlobal), number: u64, wanted: &[&str]) {
-    let wire = FailingWire::new(MemoryWire, number);
-    let (text, done) = run(rt.alloc(), wire, TWO_TRY, 4096);
-    assert!(rt; done == Err(ToolFault::Wire));
-    let whole = joined(rt, rt.alloc(), wanted);
-    assert!(rt; whole.as_bytes().starts_with(&text));
-}
-
-/// Where the wire fails at one frame, what came before it is written, the nodes' turns included.
+/// If the wire fails at a line, the answers to all lines before it are written, whatever pieces the lines come in.
 #[test]
 fn a_wire_that_fails_ends_the_run(rt: HostRuntime) {
-    fails_at(&rt, 0, &[BOTH_SENT]);
-    fails_at(&rt, 1, &[BOTH_SENT, FIRST_HEARD]);
+    for piece in [1, 7, 4096] {
+        let failed = Err(ToolFault::Wire);
+        let first = FailingWire::new(MemoryWire, 0);
+        writes(&rt, first, TWO_TRY, piece, failed, &[FIRST_SENT]);
+        let second = FailingWire::new(MemoryWire, 1);
+        writes(
+            &rt,
+            second,
+            TWO_TRY,
+            piece,
+            failed,
+            &[BOTH_SENT, FIRST_HEARD],
+        );
+    }
     let (_, done) = run(rt.alloc(), FailingWire::new(MemoryWire, 2), TWO_TRY, 4096);
     assert!(rt; done == Ok(()));
 }
@@ -160,4 +167,37 @@ fn a_malformed_line_ends_the_run(rt: HostRuntime) {
         Err(ToolFault::Line(5)),
         &wanted,
     );
+}
+
+/// A malformed line is told as such, however long it is.
+#[test]
+fn a_long_malformed_line_ends_the_run(rt: HostRuntime) {
+    let mut lines = joined(&rt, rt.alloc(), &[TWO_TRY, "400 on 0 rx "]);
+    for _ in 0..16000 {
+        lines.push('0').expect(&rt, "memory");
+    }
+    let malformed = Err(ToolFault::Line(5));
+    let wanted = [BOTH_SENT, FIRST_HEARD, SECOND_HEARD];
+    writes(&rt, MemoryWire, &lines, 4096, malformed, &wanted);
+    for _ in 0..1000 {
+        lines.push('0').expect(&rt, "memory");
+    }
+    writes(&rt, MemoryWire, &lines, 4096, malformed, &wanted);
+}
+
+/// A link goes on where its lines left it: the frame that was sent in the first run is carried in the second one.
+#[test]
+fn a_link_runs_on(rt: HostRuntime) {
+    let mut script = LinkScript::new(rt.alloc(), MemoryWire);
+    let mut text = Writing::new(Vec::new(rt.alloc()));
+    for lines in [
+        "0 node host 34:56:78:9a:bc:de word:0\n0 node host 34:56:78:9a:bc:de word:0\n",
+        "400 deliver 1 0\n400 deliver 0 1\n",
+    ] {
+        let mut reader = Pieces::new(lines.as_bytes(), 4096);
+        let done = run_link(rt.alloc(), &mut reader, &mut text, &mut script);
+        assert!(rt; done == Ok(()));
+    }
+    let wanted = joined(&rt, rt.alloc(), &[BOTH_SENT, FIRST_HEARD, SECOND_HEARD]);
+    assert!(rt; text.into_inner().as_slice() == wanted.as_bytes());
 }

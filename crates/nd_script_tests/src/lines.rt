@@ -506,3 +506,19 @@ fn tables_of_a_start(rt: HostRuntime) {
         );
     }
 }
+
+#[test]
+fn an_empty_line_is_malformed(rt: HostRuntime) -> Result<(), Fail> {
+    malformed(&rt, rt.alloc(), &["", " ", "-"])?;
+    for script in ["\n", "\n0 at\n"] {
+        told(&rt, rt.alloc(), &[script], Err(ToolFault::Line(1)), &[]);
+    }
+    told(
+        &rt,
+        rt.alloc(),
+        &["0 at\n\n"],
+        Err(ToolFault::Line(2)),
+        &[STARTED],
+    );
+    Ok(())
+}

@@ -1,4 +1,4 @@
-ghost use Rattle.std.specs.Prelude.{◌≡◌, [], ◌∷◌, ◌++◌, Some, None, if◌then◌else◌, ◌&&◌, not, codes, length, refl};
+ghost use Rattle.std.specs.Prelude.{◌≡◌, [], ◌∷◌, ◌++◌, Some, None, if◌then◌else◌, ◌&&◌, not, codes, length, refl, ⊤};
 ghost use Rattle.std.specs.Str.{is_utf8, bytes_eq};
 ghost use Rattle.std.proofs.Common.{ap};
 ghost use Rattle.nd_io.specs.Each.{text_of_each, malformed_of_each};
@@ -59,7 +59,13 @@ struct Turns {
 }
 
 impl Answering for Turns {
-    ghost texts = { λ _ n lines told found. (length told ≡ length (text_of_each (λ _. Some (0 ∷ [])) lines)) × (malformed_of_each (λ _. Some (0 ∷ [])) n lines ≡ found) };
+    ghost is_malformed = { λ _. ⊥ };
+
+    ghost fails = { λ _ _ _ _. ⊤ };
+
+    ghost failed = { λ _. 0 };
+
+    ghost texts = { λ _ _ n lines told found. (length told ≡ length (text_of_each (λ _. Some (0 ∷ [])) lines)) × (malformed_of_each (λ _. Some (0 ∷ [])) n lines ≡ found) };
 
     fn answer<A: Allocator>(
         &mut self,
@@ -77,6 +83,52 @@ impl Answering for Turns {
     ghost no_lines = { λ _ _. (refl, refl) };
 
     ghost too_long = { λ _ line long n lines. (ap length (each_too_long (λ _. Some (0 ∷ [])) line long n lines).0, (each_too_long (λ _. Some (0 ∷ [])) line long n lines).1) };
+}
+
+/// Answers each line by `a` and a line feed, up to the line at which it stops with a part of an answer: its wire fails there, or it is out of memory.
+#[derive(Drop)]
+struct Stopping {
+    before: u64,
+    has_wire: bool,
+    failures: u64,
+}
+
+impl Answering for Stopping {
+    ghost texts = { λ _ _ _ _ _ _. ⊤ };
+
+    ghost is_malformed = { λ _. ⊥ };
+
+    ghost fails = { λ _ _ _ _. ⊤ };
+
+    ghost failed = { λ stopping. stopping.failures };
+
+    fn answer<A: Allocator>(
+        &mut self,
+        _line: &[u8],
+        text: &mut String<A>,
+    ) -> Result<(), Unanswered> {
+        if self.before > 0 {
+            return match text.push_str("a\n") {
+                Ok(()) => {
+                    self.before -= 1;
+                    Ok(())
+                }
+                Err(_) => Err(Unanswered::Memory),
+            };
+        }
+        if text.push_str("a").is_err() {
+            return Err(Unanswered::Memory);
+        }
+        if self.has_wire {
+            self.failures = self.failures.saturating_add(1);
+            return Err(Unanswered::Wire);
+        }
+        Err(Unanswered::Memory)
+    }
+
+    ghost no_lines = { λ _ _. tt };
+
+    ghost too_long = { λ _ _ _ _ _. tt };
 }
 
 /// Bytes in pieces of one, with one read that fails.
@@ -293,6 +345,54 @@ fn one_byte_a_write(rt: HostRuntime) -> Result<(), Fail> {
     assert!(rt; ended == Err(ToolFault::Line(3)));
     assert!(rt; reader.failures() == 0);
     assert!(rt; writer.bytes.as_slice() == b"a\nb\n".as_slice());
+    Ok(())
+}
+
+/// The answers to the lines before the one that has none are written, whole, and nothing of that one.
+#[test]
+fn each_line_failing_in_turn(rt: HostRuntime) -> Result<(), Fail> {
+    for (has_wire, fault) in [(false, ToolFault::Memory), (true, ToolFault::Wire)] {
+        for (before, wanted) in [
+            (0, b"".as_slice()),
+            (1, b"a\n".as_slice()),
+            (2, b"a\na\n".as_slice()),
+        ] {
+            for piece in [1, 2, 100] {
+                let mut reader = Pieces::new(b"1\n2\n3", piece);
+                let mut writer = Writing::new(Vec::new(rt.alloc()));
+                let mut stopping = Stopping {
+                    before,
+                    has_wire,
+                    failures: 0,
+                };
+                let ended = run_lines(rt.alloc(), &mut reader, &mut writer, &mut stopping);
+                assert!(rt; ended == Err(fault));
+                assert!(rt; writer.into_inner().as_slice() == wanted);
+            }
+        }
+    }
+    Ok(())
+}
+
+/// Where a write fails too, its fault is told, and the wire has counted its own.
+#[test]
+fn a_write_failing_after_the_wire(rt: HostRuntime) -> Result<(), Fail> {
+    let mut reader = Pieces::new(b"1\n2\n3\n", 100);
+    let mut writer = FailingWriter {
+        bytes: Vec::new(rt.alloc()),
+        calls: 0,
+        failing: 3,
+        failures: 0,
+    };
+    let mut stopping = Stopping {
+        before: 2,
+        has_wire: true,
+        failures: 0,
+    };
+    let ended = run_lines(rt.alloc(), &mut reader, &mut writer, &mut stopping);
+    assert!(rt; ended == Err(ToolFault::Write));
+    assert!(rt; stopping.failures == 1);
+    assert!(rt; writer.bytes.as_slice() == b"a\n".as_slice());
     Ok(())
 }
 
