@@ -28,8 +28,8 @@ impl<A: Allocator + Clone> Choice<A> {
     ghost use Rattle.nd_nexthop.specs.Memo.{is_asked};
     ghost use Rattle.nd_nexthop.specs.Choice.{Agrees, Stands, target_in};
 
-    /// Returns the next hop of a packet at a moment, in milliseconds (RFC 4861, section 5.2), if what is remembered agrees with the view. It
-    /// remembers the next hop; when out of memory it does not, and nothing else differs.
+    /// Returns the next hop of a packet at `now`, in milliseconds (RFC 4861, section 5.2), if what is remembered agrees with the view. It
+    /// remembers the next hop of a destination that isn't link-local; when out of memory it does not, and nothing else differs.
     pub fn next_hop<V: View>(&mut self, now: u64, destination: Addr, view: &V) -> Hop
         ensures value { Agrees now (V.own view.now) (V.linked view.now) (V.candidates view.now) self.old
             → hop_of result ≡ hop (V.own view.now) (V.linked view.now) (V.candidates view.now) (target_in (number_of destination.0) self.old.redirects) destination.0 }
@@ -45,6 +45,10 @@ impl<A: Allocator + Clone> Choice<A> {
     {
         addresses_are_told_by_numbers();
         let _bytes = destination.as_bytes();
+        // It is on the link at all times: to determine its next hop costs less than to remember it.
+        if destination.is_link_local() {
+            return determine(self.target(destination), destination, view);
+        }
         match self.memo.recall(now, destination) {
             Some(hop) => hop,
             None => {

@@ -6,6 +6,13 @@ use Rattle.nd_nexthop.specs.NextHop.{hop_of, hop}
 use Rattle.nd_nexthop.proofs.Recalled.{agrees_with, by_history_of, recalled, remembers_less}
 use Rattle.nd_nexthop.proofs.choice.Choice.next_hop.Goals as goal
 
+-- ---- the destination is link-local
+
+pub returns-then-is_link_local-clause-by_history : goal.returns-then-is_link_local-clause-by_history
+returns-then-is_link_local-clause-by_history g c = λ agrees.
+    by_history_of (g.V.View.own c.args.view.now) (g.V.View.linked c.args.view.now) (g.V.View.candidates c.args.view.now) c.args.self.now c.args.destination (hop_of c.determine.result)
+    (c.determine.ensures ∙ ap (λ k. hop (g.V.View.own c.args.view.now) (g.V.View.linked c.args.view.now) (g.V.View.candidates c.args.view.now) k c.args.destination.0) c.target.ensures)
+
 -- ---- it was remembered
 
 pub returns-in-Some-clause-value : goal.returns-in-Some-clause-value
@@ -38,7 +45,7 @@ value_anew : (g : _) (c : goal.After-remember g)
 value_anew g c =
     let key = number_of c.args.destination.0 in
     c.determine-hop.ensures
-    ∙ ap (λ k. hop (g.V.View.own c.args.view.now) (g.V.View.linked c.args.view.now) (g.V.View.candidates c.args.view.now) k c.args.destination.0) (c.target.ensures ∙ ap (λ t. target_in key t.redirects) c.self.view_is)
+    ∙ ap (λ k. hop (g.V.View.own c.args.view.now) (g.V.View.linked c.args.view.now) (g.V.View.candidates c.args.view.now) k c.args.destination.0) (c.target-in-None.ensures ∙ ap (λ t. target_in key t.redirects) c.self.view_is)
 
 pub returns-in-None-clause-value : goal.returns-in-None-clause-value
 returns-in-None-clause-value g c = λ agrees. value_anew g c
