@@ -69,11 +69,11 @@ module _ (start : Start) (c : Chronicle) (now : ℕ) where
   one_place_for None d e h k = h ∙ sym k
   one_place_for (Some news) d e h k = one_place start c now news.0 _ d e h k
 
-  one_placed : (need : Option (ℕ × Bool)) (a b : Bool) → Placed start c now need a → Placed start c now need b → a ≡ b
+  pub one_placed : (need : Option (ℕ × Bool)) (a b : Bool) → Placed start c now need a → Placed start c now need b → a ≡ b
   one_placed None a b h k = h ∙ sym k
   one_placed (Some need) a b h k = one_has_place start c now need.0 need.1 a b h k
 
-  one_full : (source : Addr) (message : Parts) (body : Body) (a b : Option Limit) → Fills start c now source message body a → Fills start c now source message body b → a ≡ b
+  pub one_full : (source : Addr) (message : Parts) (body : Body) (a b : Option Limit) → Fills start c now source message body a → Fills start c now source message body b → a ≡ b
   one_full source message (bodies.Ra ra) a b h k =
       let e1 = one_placed (needs c source message message.body) h.neighbours k.neighbours h.placed k.placed in
       let e2 = one_router_list c now h.routers k.routers h.those_routers k.those_routers in
