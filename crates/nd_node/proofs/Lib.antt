@@ -27,3 +27,4 @@ pub mod ClearedTables
 pub mod RouterRows
 pub mod RouterCommands
 pub mod InTransit
+pub mod Refusals

@@ -170,7 +170,7 @@ module _ {R A : Type 0} (stream : R → Stream) (old new : Node R A) (x y : List
 -- ---- the event
 
 -- the next hop is the same once time has passed
-hop_later : (role : Role) (c : Chronicle) (now : ℕ) (destination : Addr) (next : NextHop) → IsHopOf role c now destination next → IsHopOf role ((now, Passed) ∷ c) now destination next
+pub hop_later : (role : Role) (c : Chronicle) (now : ℕ) (destination : Addr) (next : NextHop) → IsHopOf role c now destination next → IsHopOf role ((now, Passed) ∷ c) now destination next
 hop_later Host c now destination next h = next_later c now destination next h
 hop_later Router c now destination next h = h
 

@@ -30,6 +30,7 @@ use Rattle.nd_chronicle.specs.Happening.{Chronicle, Drew, ForAnswer, Heard, Pass
 use Rattle.nd_chronicle.specs.Histories.{advertising_history, neighbour_history, router_history, redirect_history, said_of_neighbour, then_neighbour, then_redirect}
 use Rattle.nd_chronicle.specs.Due.{assigned_at}
 use Rattle.nd_chronicle.specs.Full.{entering, needs, Placed, MessageFills, Fills}
+use Rattle.nd_chronicle.specs.Packet.{no_place}
 use Rattle.nd_chronicle.specs.Message.{said, PlaceFor, releasing}
 use Rattle.nd_chronicle.specs.Event.{MessageAdds}
 use Rattle.nd_chronicle.specs.Advertising.{planning, wants_answer}
@@ -52,6 +53,7 @@ use Rattle.nd_node.proofs.Quiet.{stands_quiet, refused_is_quiet}
 use Rattle.nd_node.proofs.RouterRows.{DrawsDelay, PlansAnswer, aside, aside_same, aside_then, stands_advertising, stands_aside}
 use Rattle.nd_node.proofs.Recalling.{Recalls}
 use Rattle.nd_node.proofs.Standing.{Apart, Still, apart_then, stands_at}
+use Rattle.nd_chronicle.proofs.Events.{one_placed}
 use Rattle.nd_node.proofs.Steps.{passed}
 use Rattle.nd_node.proofs.Turns.{addresses_before, advertisement_before, neighbours_before, routers_before}
 
@@ -181,6 +183,19 @@ module _ {R A : Type 0} (stream : R → Stream) (old : Node R A) (now : ℕ) (so
           },
         );
   }
+
+  -- its target has place, so that no table is full
+  pub none_full : ((start : Start) (c : Chronicle) → Stands stream start old c → Placed start c now (entering (option_map (said_by times) news)) true)
+      → (start : Start) (c : Chronicle) (limit : Limit) → Stands stream start old c → MessageFills start ((now, Passed) ∷ c) now source (message_of body options) (Some limit) → ⊥
+  none_full placed start c limit s fills =
+      let later : Chronicle = (now, Passed) ∷ c in
+      let placed' : Placed start later now (entering (said later source (message_of body options))) true =
+      subst (λ (o : Option (ℕ × rows.RowKind)). Placed start later now (entering o) true) (said_is start c s) (placed_later start c now (option_map (said_by times) news) true (placed start c s)) in
+      let here : Placed start later now (needs later source (message_of body options) body) true = rw (plain.needs_is later) placed' in
+      let same : fills.neighbours ≡ true = one_placed start later now (needs later source (message_of body options) body) fills.neighbours true fills.placed here in
+      let first : Some limit ≡ no_place fills.neighbours = fills.first in
+      let never : ⊥ = cc in
+      never
 
   module _ (new final : Node R A) (x room y z : List (ℕ × Out A)) (ends : Bool) (heard : Out A)
       (still : NoneOverdueStill) (table : OverdueByTable) (one_goes : OneGoes) (same : Still old new now) (routers_same : new.routers ≡ old.routers) (addresses_same : new.addresses ≡ old.addresses)

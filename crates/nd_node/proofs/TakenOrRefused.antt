@@ -42,7 +42,7 @@ tells_one c now told_is what x y out out_is same is = record {
 
 module _ (now : ℕ) (source : Addr) (ra : RouterAdvertisement) (options : List Said) where
   -- the same table is full once time has passed
-  fills_later : (start : Start) (c : Chronicle) (limit : Option happenings.Limit) → AdvertisementFills start c now source ra (advertised ra options) limit
+  pub fills_later : (start : Start) (c : Chronicle) (limit : Option happenings.Limit) → AdvertisementFills start c now source ra (advertised ra options) limit
       → AdvertisementFills start ((now, Passed) ∷ c) now source ra (advertised ra options) limit
   fills_later start c limit f = record {
     neighbours = f.neighbours;

@@ -11,7 +11,7 @@ use Rattle.nd_dns.specs.Dns.{new_names}
 use Rattle.nd_neighbour.specs.Removal.{waiting_at}
 use Rattle.nd_neighbour.specs.Table.{node_in}
 use Rattle.nd_chronicle.specs.Start.{Start}
-use Rattle.nd_chronicle.specs.Happening.{Chronicle, Passed}
+use Rattle.nd_chronicle.specs.Happening.{Chronicle, Passed, Refusal, Refused}
 use Rattle.nd_chronicle.specs.Hearing.{IsHeard, drops}
 use Rattle.nd_chronicle.specs.Event as events
 use Rattle.nd_node.specs.declared.node.Node.{Node}
@@ -51,3 +51,7 @@ AsksForNone start c node now places (events.Confirms neighbour) = Unit {0}
 AsksForNone start c node now places (events.Forgets neighbour) = length (waiting_at (node_in (number_of neighbour.0) node.neighbours.nodes)) ≤ places
 AsksForNone start c node now places (events.Clears table) = TellsNothing table
 AsksForNone start c node now places _ = ⊥
+
+-- what adds to a chronicle, once time has passed, adds a refusal alone
+abbrev pub AddsRefusal : ℕ → Chronicle → (Chronicle → Chronicle → Type 0) → Type 0
+AddsRefusal now c Adds = (why : Refusal) × Adds ((now, Passed) ∷ c) ((now, Refused why) ∷ (now, Passed) ∷ c)

@@ -1,9 +1,13 @@
 //! What a router is told to advertise (RFC 4861, section 6.2).
 
-ghost use Rattle.std.specs.Prelude.{◌≡◌, ◌<◌, ◌^◌, OnErr, OnOk};
+ghost use Rattle.std.specs.Prelude.{◌≡◌, ◌<◌, ◌^◌, OnErr, OnOk, ◌≤◌, IsOk, vec_capacity, vec_len};
 ghost use Rattle.nd_chronicle.specs.Event as events;
+ghost use Rattle.nd_chronicle.specs.Event.{EventAdds};
+ghost use Rattle.nd_chronicle.specs.Happening.{Chronicle, last_moment};
+ghost use Rattle.nd_chronicle.specs.Start.{Start};
 ghost use Rattle.nd_node.specs.Event.{AddsEvent};
 ghost use Rattle.nd_node.specs.Frame.{Stays};
+ghost use Rattle.nd_node.specs.Memory.{AddsRefusal};
 
 use crate::node::Node;
 use nd_addr::Role;
@@ -14,7 +18,7 @@ use rand_core::Rng;
 use std::alloc::{AllocError, Allocator};
 
 impl<R: Rng + Drop, A: Allocator + Clone> Node<R, A> {
-    ghost use Rattle.nd_node.specs.Node.{next_of};
+    ghost use Rattle.nd_node.specs.Node.{Stands, next_of};
 
     /// A router is to advertise so from a moment on, in milliseconds (RFC 4861, section 6.2.1). A host refuses it. The error is want of
     /// memory, and then nothing has changed.
@@ -29,6 +33,7 @@ impl<R: Rng + Drop, A: Allocator + Clone> Node<R, A> {
         ensures adds { OnOk result (AddsEvent R.stream self.old self.new outs.old.items outs.new.items now (events.Advertises config)) }
         ensures stays { OnErr result (Stays R.stream self.old self.new) }
         ensures told { OnErr result (outs.new.items ≡ outs.old.items) }
+        ensures refused { (start : Start) (c : Chronicle) → Stands R.stream start self.old c → last_moment start.at c ≤ now → AddsRefusal now c (EventAdds start now (events.Advertises config)) → vec_len outs.old < vec_capacity outs.old → IsOk result }
     {
         match self.role {
             Role::Host => return self.refuse(now, Refusal::WrongRole, outs),
@@ -51,6 +56,7 @@ impl<R: Rng + Drop, A: Allocator + Clone> Node<R, A> {
         ensures adds { OnOk result (AddsEvent R.stream self.old self.new outs.old.items outs.new.items now (events.Offers offer)) }
         ensures stays { OnErr result (Stays R.stream self.old self.new) }
         ensures told { OnErr result (outs.new.items ≡ outs.old.items) }
+        ensures refused { (start : Start) (c : Chronicle) → Stands R.stream start self.old c → last_moment start.at c ≤ now → AddsRefusal now c (EventAdds start now (events.Offers offer)) → vec_len outs.old < vec_capacity outs.old → IsOk result }
     {
         match self.role {
             Role::Host => return self.refuse(now, Refusal::WrongRole, outs),
@@ -77,6 +83,7 @@ impl<R: Rng + Drop, A: Allocator + Clone> Node<R, A> {
         ensures adds { OnOk result (AddsEvent R.stream self.old self.new outs.old.items outs.new.items now events.Stops) }
         ensures stays { OnErr result (Stays R.stream self.old self.new) }
         ensures told { OnErr result (outs.new.items ≡ outs.old.items) }
+        ensures refused { (start : Start) (c : Chronicle) → Stands R.stream start self.old c → last_moment start.at c ≤ now → AddsRefusal now c (EventAdds start now events.Stops) → vec_len outs.old < vec_capacity outs.old → IsOk result }
     {
         match self.role {
             Role::Host => return self.refuse(now, Refusal::WrongRole, outs),

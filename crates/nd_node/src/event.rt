@@ -1,10 +1,11 @@
 ghost use Rattle.std.specs.Prelude.{◌≡◌, ◌^◌, ◌-◌, ◌<◌, ◌≤◌, IsOk, OnOk, OnErr, vec_len, vec_capacity};
 ghost use Rattle.nd_chronicle.specs.Event as events;
+ghost use Rattle.nd_chronicle.specs.Event.{EventAdds};
 ghost use Rattle.nd_chronicle.specs.Happening.{Chronicle, last_moment};
 ghost use Rattle.nd_chronicle.specs.Start.{Start};
 ghost use Rattle.nd_node.specs.Event.{event_of, events_of, AddsEvent, AreEarly, FollowsBy, RunsBy, RunsInPart};
 ghost use Rattle.nd_node.specs.Frame.{Stays};
-ghost use Rattle.nd_node.specs.Memory.{AsksForNone};
+ghost use Rattle.nd_node.specs.Memory.{AddsRefusal, AsksForNone};
 ghost use Rattle.nd_node.specs.Time.{Leads, Onward};
 
 use crate::clearing::Clearable;
@@ -87,6 +88,9 @@ impl<R: Rng + Drop, A: Allocator + Clone> Node<R, A> {
         // Where nothing is due up to it and it asks for no memory, or where it comes too late, nothing refuses, whatever memory there is.
         ensures quiet { (start : Start) (c : Chronicle) → Stands R.stream start self.old c → last_moment start.at c ≤ now → now < next_of self.old → AsksForNone start c self.old now (vec_capacity outs.old - vec_len outs.old) (event_of event.now) → IsOk result }
         ensures late { now < self.old.last → vec_len outs.old < vec_capacity outs.old → IsOk result }
+
+        // Where nothing is due up to it and it is refused, it is reported so whatever memory there is.
+        ensures refused { (start : Start) (c : Chronicle) → Stands R.stream start self.old c → last_moment start.at c ≤ now → now < next_of self.old → AddsRefusal now c (EventAdds start now (event_of event.now)) → vec_len outs.old < vec_capacity outs.old → IsOk result }
     {
         if now < self.last {
             return self.refuse_past(now, outs);
@@ -144,6 +148,7 @@ impl<R: Rng + Drop, A: Allocator + Clone> Node<R, A> {
         ensures told { OnErr result (outs.new.items ≡ outs.old.items) }
         ensures quiet { (start : Start) (c : Chronicle) → Stands R.stream start self.old c → last_moment start.at c ≤ now → AsksForNone start c self.old now (vec_capacity outs.old - vec_len outs.old) (event_of event.now) → IsOk result }
         ensures late { now < self.old.last → vec_len outs.old < vec_capacity outs.old → IsOk result }
+        ensures refused { (start : Start) (c : Chronicle) → Stands R.stream start self.old c → last_moment start.at c ≤ now → AddsRefusal now c (EventAdds start now (event_of event.now)) → vec_len outs.old < vec_capacity outs.old → IsOk result }
     {
         if now < self.last {
             return self.refuse_past(now, outs);

@@ -1,12 +1,20 @@
 //! A packet in transit, which a router sends on (RFC 8200, section 3; RFC 4861, section 8.2).
 
-ghost use Rattle.std.specs.Prelude.{◌≡◌, ◌<◌, ◌≤◌, ◌^◌, None, OnErr, OnOk, Some, length};
+ghost use Rattle.std.specs.Prelude.{◌≡◌, ◌<◌, ◌≤◌, ◌^◌, ℕ, List, None, IsOk, OnErr, OnOk, Some, length, vec_capacity, vec_len};
 ghost use Rattle.nd_addr.specs.Ip6.{packet_parts};
 ghost use Rattle.nd_addr.specs.Number.{number_of};
 ghost use Rattle.nd_chronicle.specs.Event.{packet_bytes};
+ghost use Rattle.nd_chronicle.specs.Forwarding.{ForwardAdds, SendsOn};
+ghost use Rattle.nd_chronicle.specs.Happening.{Chronicle};
+ghost use Rattle.nd_chronicle.specs.Histories.{route_history};
+ghost use Rattle.nd_chronicle.specs.OwnAddress.{is_own};
+ghost use Rattle.nd_chronicle.specs.Start.{Start};
 ghost use Rattle.nd_node.specs.Forwarding.{AddsForwarded, AddsLostInTransit, AddsOnward, AddsSentOn};
 ghost use Rattle.nd_node.specs.Hearing.{Keeps};
+ghost use Rattle.nd_node.specs.Memory.{AddsRefusal};
 ghost use Rattle.nd_out.specs.Out.{loss_of};
+ghost use Rattle.nd_routes.specs.Redirect.{last_redirect, redirect};
+ghost use Rattle.nd_routes.specs.Routes.{routes};
 ghost use Rattle.nd_validity.specs.Hearing.{Hears, other};
 
 use crate::node::Node;
@@ -21,7 +29,7 @@ use rand_core::Rng;
 use std::alloc::{AllocError, Allocator};
 
 impl<R: Rng + Drop, A: Allocator + Clone> Node<R, A> {
-    ghost use Rattle.nd_node.specs.Node.{next_of};
+    ghost use Rattle.nd_node.specs.Node.{Stands, next_of};
 
     /// A packet in transit comes in a frame, at a moment, in milliseconds, up to which nothing is due: it is sent on to its next hop, or lost
     /// where there is none or its hop limit is spent (RFC 8200, section 3). The error is want of memory, and then nothing has changed.
@@ -38,6 +46,7 @@ impl<R: Rng + Drop, A: Allocator + Clone> Node<R, A> {
         ensures adds { OnOk result (AddsForwarded R.stream self.old self.new outs.old.items outs.new.items now (packet_parts packet.now) (packet_bytes frame.now)) }
         ensures keeps { OnErr result (Keeps self.old self.new) }
         ensures told { OnErr result (outs.new.items ≡ outs.old.items) }
+        ensures refused { (came : List ℕ) (start : Start) (c : Chronicle) → Stands R.stream start self.old c → AddsRefusal now c (ForwardAdds start now (packet_parts packet.now) came) → vec_len outs.old < vec_capacity outs.old → IsOk result }
     {
         let header = &packet.header;
         let own = self.addresses.counts(Counted::Own, header.destination);
@@ -87,9 +96,12 @@ impl<R: Rng + Drop, A: Allocator + Clone> Node<R, A> {
         ensures adds { OnOk result (AddsOnward R.stream self.old self.new outs.old.items outs.new.items now (number_of hop.0) own (packet_parts packet.now) bytes.now) }
         ensures keeps { OnErr result (Keeps self.old self.new) }
         ensures told { OnErr result (outs.new.items ≡ outs.old.items) }
+        ensures refused { (came : List ℕ) (start : Start) (c : Chronicle) → Stands R.stream start self.old c → is_own c packet.now.header.destination.0 ≡ own → AddsRefusal now c (SendsOn start now (redirect (is_own c) (routes (route_history c)) (last_redirect (route_history c)) now packet.now.header) (packet_parts packet.now) came (number_of hop.0)) → vec_len outs.old < vec_capacity outs.old → IsOk result }
     {
         match self.router.routes.redirect_for(now, &packet.header, own) {
             None => {
+                nd_neighbour::laws::room_is_place();
+                nd_neighbour::laws::full_by_history();
                 if !self.neighbours.room(now, hop, None) {
                     return self.refuse_neighbour(now, hop, outs);
                 }
@@ -117,6 +129,7 @@ impl<R: Rng + Drop, A: Allocator + Clone> Node<R, A> {
         ensures adds { OnOk result (AddsSentOn R.stream self.old self.new outs.old.items outs.new.items now (number_of hop.0) (Some target) (packet_parts packet.now) bytes.now) }
         ensures keeps { OnErr result (Keeps self.old self.new) }
         ensures told { OnErr result (outs.new.items ≡ outs.old.items) }
+        ensures refused { (came : List ℕ) (start : Start) (c : Chronicle) → Stands R.stream start self.old c → AddsRefusal now c (SendsOn start now (Some target) (packet_parts packet.now) came (number_of hop.0)) → vec_len outs.old < vec_capacity outs.old → IsOk result }
     {
         let source = packet.header.source;
         if !self.neighbours.room(now, source, Some(hop)) {

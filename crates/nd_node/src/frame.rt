@@ -10,11 +10,12 @@ ghost use Rattle.nd_validity.specs.Hearing.{Hears, other, valid};
 ghost use Rattle.nd_addr.specs.declared.why.Why.{Why};
 ghost use Rattle.nd_chronicle.specs.Start.{Start};
 ghost use Rattle.nd_chronicle.specs.Happening.{Chronicle, Passed, last_moment};
-ghost use Rattle.nd_chronicle.specs.Hearing.{Judges, drops};
+ghost use Rattle.nd_chronicle.specs.Hearing.{Judges, Verdict, drops};
 ghost use Rattle.nd_chronicle.specs.Event as events;
+ghost use Rattle.nd_chronicle.specs.Event.{EventAdds, VerdictAdds};
 ghost use Rattle.nd_node.specs.Event.{AddsEvent};
 ghost use Rattle.nd_node.specs.Frame.{Stays};
-ghost use Rattle.nd_node.specs.Memory.{AddsNoName, AsksForNone};
+ghost use Rattle.nd_node.specs.Memory.{AddsNoName, AddsRefusal, AsksForNone};
 
 use crate::node::Node;
 use nd_addr::{Ip6Ref, Why};
@@ -42,6 +43,7 @@ impl<R: Rng + Drop, A: Allocator + Clone> Node<R, A> {
         ensures adds { OnOk result (AddsEvent R.stream self.old self.new outs.old.items outs.new.items now (events.Receives frame.now)) }
         ensures stays { OnErr result (Stays R.stream self.old self.new) }
         ensures told { OnErr result (outs.new.items ≡ outs.old.items) }
+        ensures refused { (verdict : Verdict) (start : Start) (c : Chronicle) → Stands R.stream start self.old c → last_moment start.at c ≤ now → Judges start ((now, Passed) ∷ c) now (other (packet_parts packet.entry)) verdict → AddsRefusal now c (VerdictAdds start now frame.now verdict) → vec_len outs.old < vec_capacity outs.old → IsOk result }
         ensures quiet { (why : Why) (start : Start) (c : Chronicle) → Stands R.stream start self.old c → last_moment start.at c ≤ now → Judges start ((now, Passed) ∷ c) now (other (packet_parts packet.entry)) (drops why) → vec_len outs.old < vec_capacity outs.old → IsOk result }
     {
         if !self.is_packet_for_us(packet.header.destination) {
@@ -69,6 +71,7 @@ impl<R: Rng + Drop, A: Allocator + Clone> Node<R, A> {
         ensures adds { OnOk result ((frame : List ℕ) → Hears frame self.old.role (valid heard.now.source heard.now.destination (parts heard.now.message)) → AddsEvent R.stream self.old self.new outs.old.items outs.new.items now (events.Receives frame)) }
         ensures stays { OnErr result (Stays R.stream self.old self.new) }
         ensures told { OnErr result (outs.new.items ≡ outs.old.items) }
+        ensures refused { (frame : List ℕ) (verdict : Verdict) (start : Start) (c : Chronicle) → Stands R.stream start self.old c → last_moment start.at c ≤ now → Judges start ((now, Passed) ∷ c) now (valid heard.now.source heard.now.destination (parts heard.now.message)) verdict → AddsRefusal now c (VerdictAdds start now frame verdict) → vec_len outs.old < vec_capacity outs.old → IsOk result }
         ensures quiet { (ra : RouterAdvertisement) → heard.now.message.body ≡ bodies.Ra ra → AddsNoName self.old now heard.now.source (options_left heard.now.message.options) (vec_capacity outs.old - vec_len outs.old) → IsOk result }
         ensures dropped { (why : Why) (start : Start) (c : Chronicle) → Stands R.stream start self.old c → last_moment start.at c ≤ now → Judges start ((now, Passed) ∷ c) now (valid heard.now.source heard.now.destination (parts heard.now.message)) (drops why) → vec_len outs.old < vec_capacity outs.old → IsOk result }
     {
@@ -102,6 +105,7 @@ impl<R: Rng + Drop, A: Allocator + Clone> Node<R, A> {
         ensures adds { OnOk result (AddsEvent R.stream self.old self.new outs.old.items outs.new.items now (events.Receives frame.now)) }
         ensures stays { OnErr result (Stays R.stream self.old self.new) }
         ensures told { OnErr result (outs.new.items ≡ outs.old.items) }
+        ensures refused { (start : Start) (c : Chronicle) → Stands R.stream start self.old c → last_moment start.at c ≤ now → AddsRefusal now c (EventAdds start now (events.Receives frame.now)) → vec_len outs.old < vec_capacity outs.old → IsOk result }
         ensures quiet { (start : Start) (c : Chronicle) → Stands R.stream start self.old c → last_moment start.at c ≤ now → AsksForNone start c self.old now (vec_capacity outs.old - vec_len outs.old) (events.Receives frame.now) → IsOk result }
     {
         match hear(frame, self.role) {

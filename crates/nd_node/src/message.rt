@@ -1,14 +1,17 @@
 //! A valid message that is for this node.
 
-ghost use Rattle.std.specs.Prelude.{◌≡◌, ◌∷◌, ◌-◌, ◌<◌, ◌≤◌, ◌^◌, IsOk, OnOk, OnErr, vec_len, vec_capacity};
+ghost use Rattle.std.specs.Prelude.{◌≡◌, ◌∷◌, ◌-◌, ◌<◌, ◌≤◌, ◌^◌, ℕ, List, Some, IsOk, OnOk, OnErr, vec_len, vec_capacity};
 ghost use Rattle.nd_decode.specs.Pieces.{options_left};
 ghost use Rattle.nd_decode.specs.declared.body.Body.TheVariants as bodies;
 ghost use Rattle.nd_decode.specs.declared.router_advertisement.RouterAdvertisement.{RouterAdvertisement};
 ghost use Rattle.nd_chronicle.specs.Start.{Start};
-ghost use Rattle.nd_chronicle.specs.Happening.{Chronicle, Dropped, Passed, last_moment};
-ghost use Rattle.nd_chronicle.specs.Hearing.{NotFromFirstHop};
+ghost use Rattle.nd_validity.specs.Hearing.{valid};
+ghost use Rattle.nd_chronicle.specs.Event.{VerdictAdds};
+ghost use Rattle.nd_chronicle.specs.Full.{Fills};
+ghost use Rattle.nd_chronicle.specs.Happening.{Chronicle, Dropped, Limit as Table, Passed, last_moment};
+ghost use Rattle.nd_chronicle.specs.Hearing.{Judges, NotFromFirstHop, Verdict};
 ghost use Rattle.nd_node.specs.Frame.{AddsAlone, AddsJudged, Stays};
-ghost use Rattle.nd_node.specs.Memory.{AddsNoName};
+ghost use Rattle.nd_node.specs.Memory.{AddsNoName, AddsRefusal};
 
 use crate::node::Node;
 use nd_addr::{Addr, Why};
@@ -58,6 +61,7 @@ impl<R: Rng + Drop, A: Allocator + Clone> Node<R, A> {
         ensures adds { OnOk result (AddsJudged R.stream self.old self.new outs.old.items outs.new.items now source destination (record { body = bodies.Redirect redirect.now; options = options_left options.entry })) }
         ensures stays { OnErr result (Stays R.stream self.old self.new) }
         ensures told { OnErr result (outs.new.items ≡ outs.old.items) }
+        ensures full { (limit : Table) (start : Start) (c : Chronicle) → Stands R.stream start self.old c → last_moment start.at c ≤ now → Fills start ((now, Passed) ∷ c) now source (record { body = bodies.Redirect redirect.now; options = options_left options.entry }) (bodies.Redirect redirect.now) (Some limit) → vec_len outs.old < vec_capacity outs.old → IsOk result }
         ensures misdirected { (start : Start) (c : Chronicle) → Stands R.stream start self.old c → last_moment start.at c ≤ now → NotFromFirstHop ((now, Passed) ∷ c) now source (bodies.Redirect redirect.now) → vec_len outs.old < vec_capacity outs.old → IsOk result }
     {
         let hop = self.next_hop(now, redirect.destination);
@@ -83,6 +87,7 @@ impl<R: Rng + Drop, A: Allocator + Clone> Node<R, A> {
         ensures adds { OnOk result (AddsJudged R.stream self.old self.new outs.old.items outs.new.items now source destination (record { body = body.now; options = options_left options.entry })) }
         ensures stays { OnErr result (Stays R.stream self.old self.new) }
         ensures told { OnErr result (outs.new.items ≡ outs.old.items) }
+        ensures refused { (frame : List ℕ) (verdict : Verdict) (start : Start) (c : Chronicle) → Stands R.stream start self.old c → last_moment start.at c ≤ now → Judges start ((now, Passed) ∷ c) now (valid source destination (record { body = body.now; options = options_left options.entry })) verdict → AddsRefusal now c (VerdictAdds start now frame verdict) → vec_len outs.old < vec_capacity outs.old → IsOk result }
         ensures quiet { (ra : RouterAdvertisement) → body.now ≡ bodies.Ra ra → AddsNoName self.old now source (options_left options.entry) (vec_capacity outs.old - vec_len outs.old) → IsOk result }
         ensures misdirected { (start : Start) (c : Chronicle) → Stands R.stream start self.old c → last_moment start.at c ≤ now → NotFromFirstHop ((now, Passed) ∷ c) now source body.now → vec_len outs.old < vec_capacity outs.old → IsOk result }
     {

@@ -1,6 +1,9 @@
-ghost use Rattle.std.specs.Prelude.{◌≡◌, ◌<◌, ◌^◌, OnOk, OnErr};
+ghost use Rattle.std.specs.Prelude.{◌≡◌, ◌∷◌, ◌<◌, ◌≤◌, ◌^◌, Some, IsOk, OnOk, OnErr, vec_capacity, vec_len};
 ghost use Rattle.nd_decode.specs.Pieces.{options_left};
 ghost use Rattle.nd_decode.specs.declared.body.Body.TheVariants as bodies;
+ghost use Rattle.nd_chronicle.specs.Full.{Fills};
+ghost use Rattle.nd_chronicle.specs.Happening.{Chronicle, Limit as Table, Passed, last_moment};
+ghost use Rattle.nd_chronicle.specs.Start.{Start};
 ghost use Rattle.nd_node.specs.Hearing.{AddsMessage};
 
 use crate::node::Node;
@@ -18,7 +21,7 @@ use std::alloc::{AllocError, Allocator};
 const MOST_ADVERTISED: usize = 3;
 
 impl<R: Rng + Drop, A: Allocator + Clone> Node<R, A> {
-    ghost use Rattle.nd_node.specs.Node.{next_of};
+    ghost use Rattle.nd_node.specs.Node.{Stands, next_of};
 
     /// A Neighbor Advertisement is heard at a moment, in milliseconds: its target is a duplicate if it is a tentative own address, what it
     /// says of the neighbour is taken and releases what waits, and a router that is none any more leaves the list (RFC 4861, section
@@ -37,6 +40,7 @@ impl<R: Rng + Drop, A: Allocator + Clone> Node<R, A> {
         ensures adds { OnOk result (AddsMessage R.stream self.old self.new outs.old.items outs.new.items now source destination (record { body = bodies.Na na.now; options = options_left options.entry })) }
         ensures keeps { OnErr result (self.new ≡ self.old) }
         ensures told { OnErr result (outs.new.items ≡ outs.old.items) }
+        ensures full { (limit : Table) (start : Start) (c : Chronicle) → Stands R.stream start self.old c → last_moment start.at c ≤ now → Fills start ((now, Passed) ∷ c) now source (record { body = bodies.Na na.now; options = options_left options.entry }) (bodies.Na na.now) (Some limit) → vec_len outs.old < vec_capacity outs.old → IsOk result }
     {
         nd_neighbour::laws::none_overdue();
         nd_neighbour::laws::one_is_pushed_out();

@@ -1,4 +1,4 @@
-ghost use Rattle.std.specs.Prelude.{◌≡◌, ◌+◌, ◌<◌, ◌≤◌, ◌^◌, List, None, OnOk, OnErr, bytes_eq, false, true, vec_len, vec_capacity};
+ghost use Rattle.std.specs.Prelude.{◌≡◌, ◌∷◌, ◌+◌, ◌<◌, ◌≤◌, ◌^◌, List, None, Some, IsOk, OnOk, OnErr, bytes_eq, false, true, vec_len, vec_capacity};
 ghost use Rattle.nd_addr.specs.Kind.{unspecified_address};
 ghost use Rattle.nd_addr.specs.Number.{number_of};
 ghost use Rattle.nd_decode.specs.Option.{Said};
@@ -7,6 +7,9 @@ ghost use Rattle.nd_decode.specs.declared.body.Body.TheVariants as bodies;
 ghost use Rattle.nd_neighbour.specs.Table.{node_in};
 ghost use Rattle.nd_chronicle.specs.NeighborSolicitation as solicited;
 ghost use Rattle.nd_effects.specs.LinkLayerAddress.{waiting_for};
+ghost use Rattle.nd_chronicle.specs.Full.{Fills};
+ghost use Rattle.nd_chronicle.specs.Happening.{Chronicle, Limit as Table, Passed, last_moment};
+ghost use Rattle.nd_chronicle.specs.Start.{Start};
 ghost use Rattle.nd_node.specs.Hearing.{AddsMessage, Keeps};
 
 use crate::node::Node;
@@ -32,7 +35,7 @@ struct AnswerRoom<A: Allocator> {
 }
 
 impl<R: Rng + Drop, A: Allocator + Clone> Node<R, A> {
-    ghost use Rattle.nd_node.specs.Node.{next_of};
+    ghost use Rattle.nd_node.specs.Node.{Stands, next_of};
 
     /// A Neighbor Solicitation for an own address is heard at a moment, in milliseconds: from `::` another node tries the address, and
     /// from an address it is answered (RFC 4861, sections 7.2.3 and 7.2.4; RFC 4862, section 5.4.3). The error is want of memory, and
@@ -51,6 +54,7 @@ impl<R: Rng + Drop, A: Allocator + Clone> Node<R, A> {
         ensures adds { OnOk result (AddsMessage R.stream self.old self.new outs.old.items outs.new.items now source destination (record { body = bodies.Ns ns.now; options = options_left options.entry })) }
         ensures keeps { OnErr result (Keeps self.old self.new) }
         ensures told { OnErr result (outs.new.items ≡ outs.old.items) }
+        ensures full { (limit : Table) (start : Start) (c : Chronicle) → Stands R.stream start self.old c → last_moment start.at c ≤ now → Fills start ((now, Passed) ∷ c) now source (record { body = bodies.Ns ns.now; options = options_left options.entry }) (bodies.Ns ns.now) (Some limit) → vec_len outs.old < vec_capacity outs.old → IsOk result }
     {
         if source.is_unspecified() {
             return self.hear_detection(now, source, destination, ns, outs);
@@ -75,6 +79,7 @@ impl<R: Rng + Drop, A: Allocator + Clone> Node<R, A> {
         ensures adds { OnOk result ((options : List Said) → AddsMessage R.stream self.old self.new outs.old.items outs.new.items now source destination (record { body = bodies.Ns ns.now; options = options })) }
         ensures keeps { OnErr result (Keeps self.old self.new) }
         ensures told { OnErr result (outs.new.items ≡ outs.old.items) }
+        ensures full { (options : List Said) (limit : Table) (start : Start) (c : Chronicle) → Stands R.stream start self.old c → last_moment start.at c ≤ now → Fills start ((now, Passed) ∷ c) now source (record { body = bodies.Ns ns.now; options = options }) (bodies.Ns ns.now) (Some limit) → vec_len outs.old < vec_capacity outs.old → IsOk result }
     {
         nd_slaac::laws::none_overdue();
         let room = FrameRoom::new(outs.allocator().clone()?)?;
@@ -117,6 +122,7 @@ impl<R: Rng + Drop, A: Allocator + Clone> Node<R, A> {
         ensures adds { OnOk result (AddsMessage R.stream self.old self.new outs.old.items outs.new.items now source destination (record { body = bodies.Ns ns.now; options = options_left options.entry })) }
         ensures keeps { OnErr result (Keeps self.old self.new) }
         ensures told { OnErr result (outs.new.items ≡ outs.old.items) }
+        ensures full { (limit : Table) (start : Start) (c : Chronicle) → Stands R.stream start self.old c → last_moment start.at c ≤ now → Fills start ((now, Passed) ∷ c) now source (record { body = bodies.Ns ns.now; options = options_left options.entry }) (bodies.Ns ns.now) (Some limit) → vec_len outs.old < vec_capacity outs.old → IsOk result }
     {
         nd_neighbour::laws::none_overdue();
         nd_neighbour::laws::one_is_pushed_out();

@@ -1,10 +1,11 @@
 //! A packet of the upper layer that is to be sent (RFC 4861, section 5.2).
 
-ghost use Rattle.std.specs.Prelude.{◌≡◌, ◌<◌, ◌≤◌, ◌^◌, length, ℕ, List, None, OnErr, OnOk, false, true, option_map};
+ghost use Rattle.std.specs.Prelude.{◌≡◌, ◌<◌, ◌≤◌, ◌^◌, length, ℕ, List, None, IsOk, OnErr, OnOk, false, true, option_map, vec_capacity, vec_len};
 ghost use Rattle.nd_addr.specs.Number.{number_of};
 ghost use Rattle.nd_chronicle.specs.Event as events;
-ghost use Rattle.nd_chronicle.specs.Event.{refusal_of_packet};
-ghost use Rattle.nd_chronicle.specs.Happening.{Chronicle, Lost, Sent};
+ghost use Rattle.nd_chronicle.specs.Event.{EventAdds, PacketAdds, refusal_of_packet};
+ghost use Rattle.nd_chronicle.specs.Happening.{Chronicle, Lost, Sent, last_moment};
+ghost use Rattle.nd_chronicle.specs.Packet.{GoesIfPlaced};
 ghost use Rattle.nd_chronicle.specs.Start.{Start};
 ghost use Rattle.nd_effects.specs.OutgoingPacket.{frame_of};
 ghost use Rattle.nd_frames.specs.Frames.{open_mac};
@@ -13,6 +14,7 @@ ghost use Rattle.nd_nexthop.specs.NextHop.{hop_of, direct};
 ghost use Rattle.nd_node.specs.Event.{AddsEvent};
 ghost use Rattle.nd_node.specs.Frame.{AddsAlone, Stays};
 ghost use Rattle.nd_node.specs.Hearing.{Keeps};
+ghost use Rattle.nd_node.specs.Memory.{AddsRefusal};
 ghost use Rattle.nd_node.specs.OutgoingPacket.{AddsPacket, AddsToNeighbour};
 ghost use Rattle.nd_out.specs.Out.{loss_of, refusal_of};
 
@@ -98,6 +100,7 @@ impl<R: Rng + Drop, A: Allocator + Clone> Node<R, A> {
         ensures adds { OnOk result ((packet : List ℕ) → AddsToNeighbour R.stream self.old self.new outs.old.items outs.new.items now (number_of to.0) packet) }
         ensures keeps { OnErr result (Keeps self.old self.new) }
         ensures told { OnErr result (outs.new.items ≡ outs.old.items) }
+        ensures ready { vec_len outs.old < vec_capacity outs.old → IsOk result }
     {
         nd_neighbour::laws::full_by_history();
         self.refuse(now, Refusal::Full(Limit::Neighbours), outs)
@@ -142,7 +145,10 @@ impl<R: Rng + Drop, A: Allocator + Clone> Node<R, A> {
         ensures adds { OnOk result (AddsToNeighbour R.stream self.old self.new outs.old.items outs.new.items now (number_of to.0) (frame_of open_mac self.old.mac self.old.params.hop_limit outgoing.now)) }
         ensures keeps { OnErr result (Keeps self.old self.new) }
         ensures told { OnErr result (outs.new.items ≡ outs.old.items) }
+        ensures refused { (packet : List ℕ) (start : Start) (c : Chronicle) → Stands R.stream start self.old c → AddsRefusal now c (GoesIfPlaced start now (number_of to.0) packet) → vec_len outs.old < vec_capacity outs.old → IsOk result }
     {
+        nd_neighbour::laws::room_is_place();
+        nd_neighbour::laws::full_by_history();
         if !self.neighbours.room(now, to, None) {
             return self.refuse_neighbour(now, to, outs);
         }
@@ -166,6 +172,7 @@ impl<R: Rng + Drop, A: Allocator + Clone> Node<R, A> {
         ensures adds { OnOk result (AddsPacket R.stream self.old self.new outs.old.items outs.new.items now direct outgoing.now) }
         ensures keeps { OnErr result (Keeps self.old self.new) }
         ensures told { OnErr result (outs.new.items ≡ outs.old.items) }
+        ensures refused { (start : Start) (c : Chronicle) → Stands R.stream start self.old c → AddsRefusal now c (PacketAdds start now direct outgoing.now.source outgoing.now.destination outgoing.now.next_header outgoing.now.payload.items) → vec_len outs.old < vec_capacity outs.old → IsOk result }
     {
         let destination = outgoing.destination;
         if destination.is_multicast() {
@@ -193,6 +200,7 @@ impl<R: Rng + Drop, A: Allocator + Clone> Node<R, A> {
         ensures adds { OnOk result (AddsPacket R.stream self.old self.new outs.old.items outs.new.items now (hop_of hop) outgoing.now) }
         ensures keeps { OnErr result (Keeps self.old self.new) }
         ensures told { OnErr result (outs.new.items ≡ outs.old.items) }
+        ensures refused { (start : Start) (c : Chronicle) → Stands R.stream start self.old c → AddsRefusal now c (PacketAdds start now (hop_of hop) outgoing.now.source outgoing.now.destination outgoing.now.next_header outgoing.now.payload.items) → vec_len outs.old < vec_capacity outs.old → IsOk result }
     {
         match hop {
             Hop::Direct => self.send_directly(now, outgoing, outs),
@@ -219,6 +227,7 @@ impl<R: Rng + Drop, A: Allocator + Clone> Node<R, A> {
         ensures adds { OnOk result (AddsEvent R.stream self.old self.new outs.old.items outs.new.items now (events.Sends outgoing.now.source outgoing.now.destination outgoing.now.next_header outgoing.now.payload.items)) }
         ensures stays { OnErr result (Stays R.stream self.old self.new) }
         ensures told { OnErr result (outs.new.items ≡ outs.old.items) }
+        ensures refused { (start : Start) (c : Chronicle) → Stands R.stream start self.old c → last_moment start.at c ≤ now → AddsRefusal now c (EventAdds start now (events.Sends outgoing.now.source outgoing.now.destination outgoing.now.next_header outgoing.now.payload.items)) → vec_len outs.old < vec_capacity outs.old → IsOk result }
     {
         match self.refusal_of(outgoing) {
             Some(refusal) => self.refuse(now, refusal, outs),

@@ -1,4 +1,4 @@
-ghost use Rattle.std.specs.Prelude.{◌≡◌, ◌<◌, OnErr, OnOk};
+ghost use Rattle.std.specs.Prelude.{◌≡◌, ◌<◌, IsOk, OnErr, OnOk, vec_capacity, vec_len};
 ghost use Rattle.nd_chronicle.specs.Happening.{Refused};
 ghost use Rattle.nd_node.specs.Frame.{AddsAlone};
 ghost use Rattle.nd_out.specs.Out.{refusal_of};
@@ -23,6 +23,9 @@ impl<R: Rng + Drop, A: Allocator + Clone> Node<R, A> {
         ensures adds { OnOk result (AddsAlone R.stream self.old self.new outs.old.items outs.new.items now (Refused (refusal_of refusal))) }
         ensures keeps { OnErr result (self.new ≡ self.old) }
         ensures told { OnErr result (outs.new.items ≡ outs.old.items) }
+
+        // With a place for the reason it succeeds whatever memory there is.
+        ensures ready { vec_len outs.old < vec_capacity outs.old → IsOk result }
     {
         outs.push((now, Out::Refused(refusal)))?;
         self.last = now;

@@ -1,10 +1,13 @@
-ghost use Rattle.std.specs.Prelude.{◌≡◌, ◌≤◌, ◌<◌, ◌^◌, ◌+◌, ◌-◌, ◌&&◌, if◌then◌else◌, [], true, IsOk, OnOk, OnErr, vec_len, vec_capacity};
+ghost use Rattle.std.specs.Prelude.{◌≡◌, ◌∷◌, ◌≤◌, ◌<◌, ◌^◌, ◌+◌, ◌-◌, ◌&&◌, if◌then◌else◌, [], true, Some, IsOk, OnOk, OnErr, vec_len, vec_capacity};
 ghost use Rattle.std.specs.Option.{option_map};
 ghost use Rattle.nd_decode.specs.Pieces.{options_left};
 ghost use Rattle.nd_decode.specs.declared.body.Body.TheVariants as bodies;
 ghost use Rattle.nd_dns.specs.Dns.{new_names};
 ghost use Rattle.nd_neighbour.specs.declared.news.Times.{Times};
 ghost use Rattle.nd_chronicle.specs.Histories.{said_of_neighbour};
+ghost use Rattle.nd_chronicle.specs.Full.{Fills};
+ghost use Rattle.nd_chronicle.specs.Happening.{Chronicle, Limit as Table, Passed, last_moment};
+ghost use Rattle.nd_chronicle.specs.Start.{Start};
 ghost use Rattle.nd_effects.specs.LinkLayerAddress.{said_by, HasPlace, waiting_for};
 ghost use Rattle.nd_node.specs.RouterAdvertisement.{TakesAdvertisement};
 ghost use Rattle.nd_node.specs.Hearing.{AddsMessage};
@@ -30,7 +33,7 @@ use std::alloc::{AllocError, Allocator};
 const BESIDE_FRAMES: usize = 2;
 
 impl<R: Rng + Drop, A: Allocator + Clone> Node<R, A> {
-    ghost use Rattle.nd_node.specs.Node.{next_of};
+    ghost use Rattle.nd_node.specs.Node.{Stands, next_of};
 
     /// A Router Advertisement is taken, for which there is room in all tables, with its news of its sender and the search names that it
     /// adds. It takes no memory.
@@ -116,6 +119,7 @@ impl<R: Rng + Drop, A: Allocator + Clone> Node<R, A> {
         ensures adds { OnOk result (AddsMessage R.stream self.old self.new outs.old.items outs.new.items now source destination (record { body = bodies.Ra ra.now; options = options_left options.entry })) }
         ensures keeps { OnErr result (self.new ≡ self.old) }
         ensures told { OnErr result (outs.new.items ≡ outs.old.items) }
+        ensures full { (limit : Table) (start : Start) (c : Chronicle) → Stands R.stream start self.old c → last_moment start.at c ≤ now → Fills start ((now, Passed) ∷ c) now source (record { body = bodies.Ra ra.now; options = options_left options.entry }) (bodies.Ra ra.now) (Some limit) → vec_len outs.old < vec_capacity outs.old → IsOk result }
 
         // Where it adds no search name nothing refuses, whatever memory there is.
         ensures quiet { AddsNoName self.old now source (options_left options.entry) (vec_capacity outs.old - vec_len outs.old) → IsOk result }

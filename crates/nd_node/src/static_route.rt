@@ -1,9 +1,13 @@
 //! A static route of a router (RFC 4861, section 5.2).
 
-ghost use Rattle.std.specs.Prelude.{◌≡◌, ◌<◌, OnErr, OnOk};
+ghost use Rattle.std.specs.Prelude.{◌≡◌, ◌<◌, OnErr, OnOk, ◌≤◌, IsOk, vec_capacity, vec_len};
 ghost use Rattle.nd_chronicle.specs.Event as events;
+ghost use Rattle.nd_chronicle.specs.Event.{EventAdds};
+ghost use Rattle.nd_chronicle.specs.Happening.{Chronicle, last_moment};
+ghost use Rattle.nd_chronicle.specs.Start.{Start};
 ghost use Rattle.nd_node.specs.Event.{AddsEvent};
 ghost use Rattle.nd_node.specs.Frame.{Stays};
+ghost use Rattle.nd_node.specs.Memory.{AddsRefusal};
 
 use crate::node::Node;
 use nd_addr::Role;
@@ -13,7 +17,7 @@ use rand_core::Rng;
 use std::alloc::{AllocError, Allocator};
 
 impl<R: Rng + Drop, A: Allocator + Clone> Node<R, A> {
-    ghost use Rattle.nd_node.specs.Node.{next_of};
+    ghost use Rattle.nd_node.specs.Node.{Stands, next_of};
 
     /// A router is to have this route, in place of that of its prefix, if one is there. It is refused where it is one too many, and by a host.
     /// The error is want of memory, and then nothing has changed.
@@ -27,6 +31,7 @@ impl<R: Rng + Drop, A: Allocator + Clone> Node<R, A> {
         ensures adds { OnOk result (AddsEvent R.stream self.old self.new outs.old.items outs.new.items now (events.Routes kept.prefix kept.route)) }
         ensures stays { OnErr result (Stays R.stream self.old self.new) }
         ensures told { OnErr result (outs.new.items ≡ outs.old.items) }
+        ensures refused { (start : Start) (c : Chronicle) → Stands R.stream start self.old c → last_moment start.at c ≤ now → AddsRefusal now c (EventAdds start now (events.Routes kept.prefix kept.route)) → vec_len outs.old < vec_capacity outs.old → IsOk result }
     {
         match self.role {
             Role::Host => return self.refuse(now, Refusal::WrongRole, outs),

@@ -1,8 +1,12 @@
-use Rattle.std.proofs.Common.{refl, map, string_bytes}
+use Rattle.std.proofs.Common.{refl, map, string_bytes, ℕ, List, sym, subst}
 use Rattle.std.proofs.lemmas.Result.{on_err_weaker, on_ok_weaker}
-use Rattle.nd_node.specs.Event.{event_of, table_of}
+use Rattle.nd_node.specs.Event.{event_of, table_of, clearable_of}
 use Rattle.nd_node.proofs.Judging.{stays_same}
 use Rattle.nd_node.proofs.Steps.{not_past, passing, showing}
+use Rattle.nd_node.proofs.Refusals.{clears_left, forgets_left}
+use Rattle.nd_chronicle.specs.Event as events
+use Rattle.nd_chronicle.specs.Event.{EventAdds}
+use Rattle.nd_node.specs.Memory.{AddsRefusal}
 use Rattle.nd_node.proofs.node.Node.add.Goals as goal
 
 pub returns-in-Passes-clause-adds : goal.returns-in-Passes-clause-adds
@@ -23,3 +27,13 @@ returns-then-now-self-clause-adds g c = on_ok_weaker c.refuse_past.result (λ pa
 
 pub returns-then-now-self-clause-past : goal.returns-then-now-self-clause-past
 returns-then-now-self-clause-past g c = λ late. on_ok_weaker c.refuse_past.result (λ past. past (event_of c.args.event.now)) c.refuse_past.ensures.past
+
+pub returns-in-Receives-clause-refused : goal.returns-in-Receives-clause-refused
+returns-in-Receives-clause-refused g c = rw c.in-Receives.is (λ start c' s le adds place.
+    c.receive.ensures.refused start c' s le (subst (λ (frame : List ℕ). AddsRefusal c.args.now c' (EventAdds start c.args.now (events.Receives frame))) (sym c.deref.ensures.value) adds) place)
+
+pub returns-in-Forgets-clause-refused : goal.returns-in-Forgets-clause-refused
+returns-in-Forgets-clause-refused g c = rw c.in-Forgets.is (λ start c' s le adds place. absurd (forgets_left start c.args.now c' c.in-Forgets.neighbour adds))
+
+pub returns-in-Clears-clause-refused : goal.returns-in-Clears-clause-refused
+returns-in-Clears-clause-refused g c = rw c.in-Clears.is (λ start c' s le adds place. absurd (clears_left start c.args.now c' (clearable_of c.in-Clears.table) adds))

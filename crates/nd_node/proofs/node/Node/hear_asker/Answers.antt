@@ -1,4 +1,4 @@
-use Rattle.std.proofs.Common.{ℕ, List, refl, sym, subst, ◌∙◌}
+use Rattle.std.proofs.Common.{ℕ, List, refl, sym, subst, ◌∙◌, ◌≡◌}
 use Rattle.std.specs.Option.{option_map}
 use Rattle.nd_addr.specs.Number.{number_of}
 use Rattle.nd_decode.specs.Pieces.{options_left}
@@ -8,6 +8,9 @@ use Rattle.nd_effects.specs.LinkLayerAddress.{said_by, HearsOf}
 use Rattle.nd_effects.specs.Remembered.{MayRemember}
 use Rattle.nd_node.proofs.Recalling.{may_redirects}
 use Rattle.nd_node.proofs.Asking.{answered, of_asker, place_for_news, refused}
+use Rattle.nd_node.proofs.Refusals.{asker_full, room_left}
+use Rattle.std.specs.Prelude.{None, true}
+use Rattle.nd_neighbour.specs.Room.{has_room}
 use Rattle.nd_node.proofs.node.Node.hear_asker.Goals as goal
 
 pub returns-then-not-room-clause-adds : goal.returns-then-not-room-clause-adds
@@ -38,3 +41,9 @@ returns-clause-adds g c =
     c.make_room.ensures.same c.push_reserved.ensures.items refl
     c.go.new.self c.go.new.outs.items c.requires.specified c.room_is_place.ensures c.full_by_history.ensures (sym c.if-not-room.ensures.value)
     c.is_router-router.result c.is_router-router.ensures _ c.answer-answer.ensures c.go.ensures.leads
+
+pub returns-in_err-room-clause-full : goal.returns-in_err-room-clause-full
+returns-in_err-room-clause-full g c = λ limit start c' s le fills place.
+    let has : has_room c.args.self.now.neighbours.limit c.args.now (number_of c.args.source.0) None c.args.self.now.neighbours.nodes ≡ true = sym c.if-not-room.ensures.value in
+    absurd (room_left g.R.Rng.stream start c.args.self.now c' c.args.now (number_of c.args.source.0) c.room_is_place.ensures c.full_by_history.ensures s has
+    (asker_full start c.args.now c.args.source (options_left c.args.options) _ limit c.args.ns.now c.requires.specified fills))

@@ -6,6 +6,7 @@ use Rattle.nd_chronicle.specs.Hearing.{NotFromFirstHop}
 use Rattle.nd_decode.specs.Pieces.{options_left}
 use Rattle.nd_decode.specs.declared.body.Body.TheVariants as bodies
 use Rattle.nd_node.proofs.Judging.{judged}
+use Rattle.nd_node.proofs.Refusals.{message_full}
 use Rattle.nd_node.proofs.node.Node.hear_message.Goals as goal
 
 pub returns-in-Rs-clause-adds : goal.returns-in-Rs-clause-adds
@@ -43,3 +44,28 @@ returns-in-Na-clause-misdirected g c = λ start c' s le misdirected place.
 pub returns-in-Redirect-clause-misdirected : goal.returns-in-Redirect-clause-misdirected
 returns-in-Redirect-clause-misdirected g c = λ start c' s le misdirected place.
     c.judge_redirect.ensures.misdirected start c' s le (subst (λ (b : Body). NotFromFirstHop ((c.args.now, Passed) ∷ c') c.args.now c.args.source b) c.in-Redirect.is misdirected) place
+
+pub returns-in-Rs-clause-refused : goal.returns-in-Rs-clause-refused
+returns-in-Rs-clause-refused g c = rw c.in-Rs.is (λ frame verdict start c' s le judged adds place.
+    let f = message_full start c.args.now c.args.source c.args.destination (record { body = bodies.Rs; options = options_left c.args.options }) c' frame verdict judged adds in
+    c.hear_router_solicitation.ensures.full f.0 start c' s le f.1 place)
+
+pub returns-in-Ra-clause-refused : goal.returns-in-Ra-clause-refused
+returns-in-Ra-clause-refused g c = rw c.in-Ra.is (λ frame verdict start c' s le judged adds place.
+    let f = message_full start c.args.now c.args.source c.args.destination (record { body = bodies.Ra c.in-Ra.ra; options = options_left c.args.options }) c' frame verdict judged adds in
+    c.hear_router_advertisement.ensures.full f.0 start c' s le f.1 place)
+
+pub returns-in-Ns-clause-refused : goal.returns-in-Ns-clause-refused
+returns-in-Ns-clause-refused g c = rw c.in-Ns.is (λ frame verdict start c' s le judged adds place.
+    let f = message_full start c.args.now c.args.source c.args.destination (record { body = bodies.Ns c.in-Ns.ns; options = options_left c.args.options }) c' frame verdict judged adds in
+    c.hear_neighbor_solicitation.ensures.full f.0 start c' s le f.1 place)
+
+pub returns-in-Na-clause-refused : goal.returns-in-Na-clause-refused
+returns-in-Na-clause-refused g c = rw c.in-Na.is (λ frame verdict start c' s le judged adds place.
+    let f = message_full start c.args.now c.args.source c.args.destination (record { body = bodies.Na c.in-Na.na; options = options_left c.args.options }) c' frame verdict judged adds in
+    c.hear_neighbor_advertisement.ensures.full f.0 start c' s le f.1 place)
+
+pub returns-in-Redirect-clause-refused : goal.returns-in-Redirect-clause-refused
+returns-in-Redirect-clause-refused g c = rw c.in-Redirect.is (λ frame verdict start c' s le judged adds place.
+    let f = message_full start c.args.now c.args.source c.args.destination (record { body = bodies.Redirect c.in-Redirect.redirect; options = options_left c.args.options }) c' frame verdict judged adds in
+    c.judge_redirect.ensures.full f.0 start c' s le f.1 place)

@@ -6,6 +6,8 @@ use Rattle.nd_chronicle.specs.Happening.{Up, Passed}
 use Rattle.nd_chronicle.specs.Hearing.{IsPacketForUs}
 use Rattle.nd_node.proofs.Judging.{goes_up, in_transit_later, is_not, packet_goes_on, packet_goes_up, packet_is_strange, up_to_payload, stays_keeps, stays_same}
 use Rattle.nd_node.proofs.Memory.{packet_stays, passing_stays}
+use Rattle.nd_node.proofs.Refusals.{ours_left, passing_refused}
+use Rattle.nd_chronicle.specs.Event.{packet_bytes}
 use Rattle.nd_node.proofs.node.Node.hear_packet.Goals as goal
 
 pub returns-then-is_in_transit-clause-adds : goal.returns-then-is_in_transit-clause-adds
@@ -62,3 +64,20 @@ pub returns-in_err-push-clause-quiet : goal.returns-in_err-push-clause-quiet
 returns-in_err-push-clause-quiet g c = λ why start c' s le judged place.
     let ours = (c.is_packet_for_us.ensures start c' (packet_parts c.args.packet) s refl).0 c.if-not-is_packet_for_us.false in
     absurd (packet_stays start ((c.args.now, Passed) ∷ c') c.args.now (packet_parts c.args.packet) why (record { destination_is = ours.destination_is; up = ours.up }) judged)
+
+pub returns-then-is_in_transit-clause-refused : goal.returns-then-is_in_transit-clause-refused
+returns-then-is_in_transit-clause-refused g c = λ verdict start c' s le judged adds place.
+    let packet : PacketParts = packet_parts c.args.packet in
+    let stranger = is_not c.is_packet_for_us.result (IsPacketForUs start c' packet) (c.is_packet_for_us.ensures start c' packet s refl) c.if-not-is_packet_for_us.true in
+    let passes = in_transit_later start c' c.args.now packet ((c.is_in_transit.ensures start c' packet s refl stranger).0 c.if-is_in_transit.true) in
+    c.forward.ensures.refused (packet_bytes c.args.frame.now) start c' s (passing_refused start c.args.now c.args.frame.now packet c' verdict passes.not_ours judged adds) place
+
+pub returns-in_err-clone-clause-refused : goal.returns-in_err-clone-clause-refused
+returns-in_err-clone-clause-refused g c = λ verdict start c' s le judged adds place.
+    let ours = (c.is_packet_for_us.ensures start c' (packet_parts c.args.packet) s refl).0 c.if-not-is_packet_for_us.false in
+    absurd (ours_left start c.args.now c.args.frame.now (packet_parts c.args.packet) c' verdict (record { destination_is = ours.destination_is; up = ours.up }) judged adds)
+
+pub returns-in_err-extend_from_slice-clause-refused : goal.returns-in_err-extend_from_slice-clause-refused
+returns-in_err-extend_from_slice-clause-refused g c = λ verdict start c' s le judged adds place.
+    let ours = (c.is_packet_for_us.ensures start c' (packet_parts c.args.packet) s refl).0 c.if-not-is_packet_for_us.false in
+    absurd (ours_left start c.args.now c.args.frame.now (packet_parts c.args.packet) c' verdict (record { destination_is = ours.destination_is; up = ours.up }) judged adds)

@@ -7,7 +7,7 @@ use Rattle.nd_chronicle.specs.Full.{entering, Placed}
 use Rattle.nd_effects.specs.LinkLayerAddress.{said_by}
 use Rattle.nd_decode.specs.declared.body.Body.TheVariants as bodies
 use Rattle.nd_node.proofs.Recalling.{forgets, may_nothing, may_redirects, may_until, redirects_stand}
-use Rattle.nd_node.proofs.PlainMessages.{adds_message, message_refused, nothing, plain_redirect}
+use Rattle.nd_node.proofs.PlainMessages.{adds_message, message_refused, nothing, plain_redirect, none_full}
 use Rattle.nd_node.proofs.node.Node.hear_redirect.Goals as goal
 
 pub returns-then-not-has_place-clause-adds : goal.returns-then-not-has_place-clause-adds
@@ -31,3 +31,17 @@ returns-clause-adds g c =
     (may_until c.redirected.new.self c.hear_of_neighbour.new.choice c.args.self.now.neighbours.nodes c.hear_of_neighbour.new.neighbours.nodes c.hear_of_neighbour.ensures.remembers ∙ ap (λ m. m.until) c.in_ok-redirected.ensures.memory))
     (λ start c' s. subst (λ (b : Bool). Placed start c' c.args.now (entering (option_map (said_by times) c.news_of-news.result)) b) c.if-not-has_place.false (c.has_place.ensures.placed start c' times s.neighbour_limit s.neighbours))
     c.reserve.ensures.items c.push_reserved.ensures.items refl (λ history h. redirects_stand c.redirected.new.self c.hear_of_neighbour.new.choice _ (may_redirects c.redirected.new.self c.hear_of_neighbour.new.choice c.args.self.now.neighbours.nodes c.hear_of_neighbour.new.neighbours.nodes c.hear_of_neighbour.ensures.remembers) ((c.in_ok-redirected.ensures.stands c.args.now).stands history h)) c.hear_of_neighbour.ensures.hears (λ start before d same at s. s) (λ start before d. refl)
+
+pub returns-in_err-reserve-clause-full : goal.returns-in_err-reserve-clause-full
+returns-in_err-reserve-clause-full g c = λ limit start c' s le fills place.
+    let times : Times = record { retrans = 0; reachable = c.args.self.now.params.reachable_time } in
+    absurd (none_full g.R.Rng.stream c.args.self.now c.args.now c.args.source c.args.destination (bodies.Redirect c.args.redirect.now) (options_left c.args.options) nothing (plain_redirect c.args.now c.args.source c.args.destination c.args.redirect.now (options_left c.args.options)) c.requires.settled times c.news_of-news.result (c.news_of-news.ensures times) refl
+    (λ start' d stands. subst (λ (b : Bool). Placed start' d c.args.now (entering (option_map (said_by times) c.news_of-news.result)) b) c.if-not-has_place.false (c.has_place.ensures.placed start' d times stands.neighbour_limit stands.neighbours))
+    start c' limit s fills)
+
+pub returns-in_err-redirected-clause-full : goal.returns-in_err-redirected-clause-full
+returns-in_err-redirected-clause-full g c = λ limit start c' s le fills place.
+    let times : Times = record { retrans = 0; reachable = c.args.self.now.params.reachable_time } in
+    absurd (none_full g.R.Rng.stream c.args.self.now c.args.now c.args.source c.args.destination (bodies.Redirect c.args.redirect.now) (options_left c.args.options) nothing (plain_redirect c.args.now c.args.source c.args.destination c.args.redirect.now (options_left c.args.options)) c.requires.settled times c.news_of-news.result (c.news_of-news.ensures times) refl
+    (λ start' d stands. subst (λ (b : Bool). Placed start' d c.args.now (entering (option_map (said_by times) c.news_of-news.result)) b) c.if-not-has_place.false (c.has_place.ensures.placed start' d times stands.neighbour_limit stands.neighbours))
+    start c' limit s fills)

@@ -1,15 +1,16 @@
-use Rattle.std.proofs.Common.{refl, ap, subst, arith}
+use Rattle.std.proofs.Common.{refl, ap, subst, arith, ◌∷◌}
 use Rattle.std.specs.Prelude.{Option}
 use Rattle.std.specs.Option.{option_map}
 use Rattle.nd_addr.specs.Number.{number_of}
 use Rattle.nd_decode.specs.Pieces.{options_left}
 use Rattle.nd_out.specs.Out.{limit_of}
-use Rattle.nd_chronicle.specs.Happening.{Limit}
+use Rattle.nd_chronicle.specs.Happening.{Limit, Passed}
 use Rattle.nd_chronicle.specs.LinkLayerAddress.{first_slla}
 use Rattle.nd_chronicle.specs.Full.{AdvertisementFills}
 use Rattle.nd_node.specs.RouterAdvertisement.{advertised}
 use Rattle.nd_node.proofs.Memory.{waits_for_sender}
 use Rattle.nd_node.proofs.TakenOrRefused.{sender_placed, refuses, takes}
+use Rattle.nd_node.proofs.Refusals.{router_advertisement_left}
 use Rattle.nd_node.proofs.node.Node.hear_router_advertisement.Goals as goal
 
 pub returns-in-Some-clause-adds : goal.returns-in-Some-clause-adds
@@ -42,3 +43,17 @@ returns-in_err-reserve-clause-quiet g c = λ adds.
 
 pub returns-in_err-names-clause-quiet : goal.returns-in_err-names-clause-quiet
 returns-in_err-names-clause-quiet g c = λ adds. let refused = c.in_err-names.ensures.quiet adds.names in let no : ⊥ = cc in absurd no
+
+pub returns-in_err-names-clause-full : goal.returns-in_err-names-clause-full
+returns-in_err-names-clause-full g c = λ limit start c' s le fills place.
+    let options = options_left c.args.options in
+    let none = subst (λ (limit' : Option Limit). AdvertisementFills start c' c.args.now c.args.source c.args.ra.now (advertised c.args.ra.now options) limit') (ap (option_map limit_of) c.in-None.is)
+    (c.first_full.ensures.fills start c' s le (sender_placed g.R.Rng.stream c.args.now c.args.source c.args.destination c.args.ra.now options c.args.self.now c.news_of-news.result c.has_place-place.result c.news_of-news.ensures c.has_place-place.ensures.placed start c' s)) in
+    absurd (router_advertisement_left start c.args.now c.args.source options ((c.args.now, Passed) ∷ c') limit c.args.ra.now c' refl none fills)
+
+pub returns-in_err-reserve-clause-full : goal.returns-in_err-reserve-clause-full
+returns-in_err-reserve-clause-full g c = λ limit start c' s le fills place.
+    let options = options_left c.args.options in
+    let none = subst (λ (limit' : Option Limit). AdvertisementFills start c' c.args.now c.args.source c.args.ra.now (advertised c.args.ra.now options) limit') (ap (option_map limit_of) c.in-None.is)
+    (c.first_full.ensures.fills start c' s le (sender_placed g.R.Rng.stream c.args.now c.args.source c.args.destination c.args.ra.now options c.args.self.now c.news_of-news.result c.has_place-place.result c.news_of-news.ensures c.has_place-place.ensures.placed start c' s)) in
+    absurd (router_advertisement_left start c.args.now c.args.source options ((c.args.now, Passed) ∷ c') limit c.args.ra.now c' refl none fills)

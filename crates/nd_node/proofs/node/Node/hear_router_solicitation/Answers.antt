@@ -8,7 +8,7 @@ use Rattle.nd_effects.specs.LinkLayerAddress.{said_by}
 use Rattle.nd_decode.specs.declared.body.Body.TheVariants as bodies
 use Rattle.nd_chronicle.specs.Histories.{neighbour_history}
 use Rattle.nd_node.proofs.Recalling.{may_recall, may_redirects, redirects_stand}
-use Rattle.nd_node.proofs.PlainMessages.{adds_message, items_planned, message_refused, plain_solicitation, planned, stands_planned}
+use Rattle.nd_node.proofs.PlainMessages.{adds_message, items_planned, message_refused, plain_solicitation, planned, stands_planned, none_full}
 use Rattle.nd_node.proofs.node.Node.hear_router_solicitation.Goals as goal
 
 pub returns-then-not-has_place-clause-adds : goal.returns-then-not-has_place-clause-adds
@@ -31,3 +31,10 @@ returns-clause-adds g c =
     (λ start c' s. subst (λ (b : Bool). Placed start c' c.args.now (entering (option_map (said_by times) c.news_of-news.result)) b) c.if-not-has_place.false (c.has_place.ensures.placed start c' times s.neighbour_limit s.neighbours))
     c.reserve.ensures.items c.push_reserved.ensures.items refl (λ history h. redirects_stand c.args.self.now.choice c.hear_of_neighbour.new.choice history (may_redirects c.args.self.now.choice c.hear_of_neighbour.new.choice c.args.self.now.neighbours.nodes c.hear_of_neighbour.new.neighbours.nodes c.hear_of_neighbour.ensures.remembers) h) c.hear_of_neighbour.ensures.hears
     (λ start before d same at s. stands_planned g.R.Rng.stream start (record c.args.self.now { last = c.args.now; neighbours = c.hear_of_neighbour.new.neighbours; choice = c.hear_of_neighbour.new.choice }) _ before d c.args.now c.hear_solicitation.new.self c.hear_solicitation.new.generator refl same c.hear_solicitation.ensures at s) (items_planned c.args.now)
+
+pub returns-in_err-reserve-clause-full : goal.returns-in_err-reserve-clause-full
+returns-in_err-reserve-clause-full g c = λ limit start c' s le fills place.
+    let times : Times = record { retrans = 0; reachable = c.args.self.now.params.reachable_time } in
+    absurd (none_full g.R.Rng.stream c.args.self.now c.args.now c.args.source c.args.destination bodies.Rs (options_left c.args.options) (planned c.args.now) (plain_solicitation c.args.now c.args.source c.args.destination (options_left c.args.options)) c.requires.settled times c.news_of-news.result (c.news_of-news.ensures times) refl
+    (λ start' d stands. subst (λ (b : Bool). Placed start' d c.args.now (entering (option_map (said_by times) c.news_of-news.result)) b) c.if-not-has_place.false (c.has_place.ensures.placed start' d times stands.neighbour_limit stands.neighbours))
+    start c' limit s fills)

@@ -26,3 +26,6 @@ returns-clause-misdirected g c = λ start c' s le n place.
     let here = next_later c' c.args.now destination hop (c.next_hop-hop.ensures.next start c' s le) in
     let same : hop ≡ n.0 = one_next_hop ((c.args.now, Passed) ∷ c') c.args.now destination hop n.0 here n.1 in
     absurd (n.2 (sym same ∙ c.is_via.ensures.0 c.if-not-is_via.false))
+
+pub returns-clause-full : goal.returns-clause-full
+returns-clause-full g c = λ limit start c' s le fills place. c.hear_redirect.ensures.full limit start c' (c.next_hop-hop.ensures.stands start c' s) le fills place

@@ -7,6 +7,7 @@ use Rattle.nd_validity.specs.declared.hearing.Hearing.{Hearing}
 use Rattle.nd_chronicle.specs.Happening.{Passed}
 use Rattle.nd_node.proofs.Judging.{dropped_by_frame}
 use Rattle.nd_node.proofs.Memory.{judged_by_frame, nameless, no_other}
+use Rattle.nd_node.proofs.Refusals.{judged_frame}
 use Rattle.nd_node.proofs.node.Node.receive.Goals as goal
 
 pub returns-in-Drop-clause-adds : goal.returns-in-Drop-clause-adds
@@ -41,3 +42,15 @@ returns-in-Valid-clause-quiet g c = λ start c' s le asks.
     (λ d. c.judge_message.ensures.dropped d.why start c' s le (judged_by_frame start ((c.args.now, Passed) ∷ c') c.args.now c.args.frame.now c.args.self.now.role (valid heard.source heard.destination message) d.why s.role only d.heard) (omega (arith, d.told)))
     (λ n. (let such = nameless c.args.self.now c.args.now c.args.frame.now _ heard.source heard.destination message only n in c.judge_message.ensures.quiet such.ra such.body such.adds))
     asks
+
+pub returns-in-Other-clause-refused : goal.returns-in-Other-clause-refused
+returns-in-Other-clause-refused g c = λ start c' s le adds place.
+    let only = subst (λ (r : Hearing). (o : Outcome) → Hears c.args.frame.now c.args.self.now.role o → outcome r ≡ o) c.in-Other.is c.hear.ensures.only in
+    let j = judged_frame start c' c.args.now c.args.frame.now c.args.self.now.role (other (packet_parts c.in-Other.packet)) s.role only adds in
+    c.hear_packet.ensures.refused j.0 start c' s le j.1 j.2 place
+
+pub returns-in-Valid-clause-refused : goal.returns-in-Valid-clause-refused
+returns-in-Valid-clause-refused g c = λ start c' s le adds place.
+    let only = subst (λ (r : Hearing). (o : Outcome) → Hears c.args.frame.now c.args.self.now.role o → outcome r ≡ o) c.in-Valid.is c.hear.ensures.only in
+    let j = judged_frame start c' c.args.now c.args.frame.now c.args.self.now.role (valid c.in-Valid.heard.source c.in-Valid.heard.destination (parts c.in-Valid.heard.message)) s.role only adds in
+    c.judge_message.ensures.refused c.args.frame.now j.0 start c' s le j.1 j.2 place

@@ -6,6 +6,7 @@ use Rattle.nd_neighbour.specs.Room.{has_room}
 use Rattle.std.specs.Prelude.{List, Some, true}
 use Rattle.std.proofs.lemmas.Result.{on_ok_weaker}
 use Rattle.nd_node.proofs.InTransit.{both_go, both_refused, first_placed, one_left, place_left}
+use Rattle.nd_node.proofs.Refusals.{both_left}
 use Rattle.nd_node.proofs.node.Node.redirect_and_send.Goals as goal
 
 pub returns-then-not-room-clause-adds : goal.returns-then-not-room-clause-adds
@@ -45,3 +46,15 @@ returns-clause-adds g c =
     c.ready_for_two.ensures.same
     (record c.args.self.now.router { routes = c.redirected.new.self }) refl refl c.redirected.ensures.stands
     c.link_local-own.ensures c.in_ok-redirect.ensures.by_history c.in_ok-frame.ensures c.go.ensures.leads c.go-2.ensures.leads
+
+pub returns-in_err-redirect-clause-refused : goal.returns-in_err-redirect-clause-refused
+returns-in_err-redirect-clause-refused g c = λ came start c' s adds place.
+    absurd (both_left g.R.Rng.stream start c.args.self.now c' c.args.now (number_of c.args.hop.0) c.args.target (packet_parts c.args.packet.now) came c.room.result c.room.ensures.history c.if-not-room.false s adds)
+
+pub returns-in_err-frame-clause-refused : goal.returns-in_err-frame-clause-refused
+returns-in_err-frame-clause-refused g c = λ came start c' s adds place.
+    absurd (both_left g.R.Rng.stream start c.args.self.now c' c.args.now (number_of c.args.hop.0) c.args.target (packet_parts c.args.packet.now) came c.room.result c.room.ensures.history c.if-not-room.false s adds)
+
+pub returns-in_err-first-clause-refused : goal.returns-in_err-first-clause-refused
+returns-in_err-first-clause-refused g c = λ came start c' s adds place.
+    absurd (both_left g.R.Rng.stream start c.args.self.now c' c.args.now (number_of c.args.hop.0) c.args.target (packet_parts c.args.packet.now) came c.room.result c.room.ensures.history c.if-not-room.false s adds)

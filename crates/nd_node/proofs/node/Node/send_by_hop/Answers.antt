@@ -11,3 +11,6 @@ returns-in_ok-packet-in-NoRoute-clause-adds g c =
     open_mac c.in_ok-packet-in-NoRoute.packet (c.in_ok-packet-in-NoRoute.ensures ∙ ap (λ (n : ℕ). frame_of open_mac c.args.self.now.mac n c.args.outgoing.now) c.hop_limit-hop_limit.ensures.value)
     refl adds)
     c.lose.ensures.adds)
+
+pub returns-in-Via-clause-refused : goal.returns-in-Via-clause-refused
+returns-in-Via-clause-refused g c = rw c.in-Via.is (λ start c' s adds place. c.send_to_neighbour.ensures.refused _ start c' s adds place)

@@ -2,6 +2,7 @@ use Rattle.std.proofs.Common.{ℕ, sym, ◌∙◌, ap}
 use Rattle.std.proofs.lemmas.Result.{on_ok_weaker}
 use Rattle.nd_effects.specs.OutgoingPacket.{frame_of}
 use Rattle.nd_node.proofs.OutgoingPackets.{goes_to_all}
+use Rattle.nd_node.proofs.Refusals.{to_destination}
 use Rattle.nd_node.proofs.node.Node.send_directly.Goals as goal
 
 pub returns-then-is_multicast-clause-adds : goal.returns-then-is_multicast-clause-adds
@@ -10,3 +11,7 @@ returns-then-is_multicast-clause-adds g c =
     c.multicast-to.result c.in_ok-packet.packet (c.in_ok-packet.ensures ∙ ap (λ (n : ℕ). frame_of c.multicast-to.result c.args.self.now.mac n c.args.outgoing.now) c.hop_limit-hop_limit.ensures.value)
     c.multicast-to.ensures (sym c.is_multicast.ensures.exactly ∙ c.if-is_multicast.true) adds)
     c.send_at_once.ensures.adds
+
+pub returns-clause-refused : goal.returns-clause-refused
+returns-clause-refused g c = λ start c' s adds place.
+    c.send_to_neighbour.ensures.refused _ start c' s (to_destination start c.args.now c.args.outgoing.now.source c.args.outgoing.now.destination c.args.outgoing.now.next_header c.args.outgoing.now.payload.items c' (sym c.is_multicast.ensures.exactly ∙ c.if-is_multicast.false) adds) place

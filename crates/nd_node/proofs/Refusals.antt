@@ -1,0 +1,331 @@
+-- What adds a refusal alone, and what doesn't.
+use Rattle.std.proofs.Common.{◌≡◌, ℕ, ◌≤◌, Bool, true, false, List, [], ◌∷◌, Option, Some, None, refl, sym, ◌∙◌, ap, subst}
+use Rattle.std.specs.Prelude.{MatchBool, bytes_eq, if◌then◌else◌}
+use Rattle.std.specs.Option.{option_to_list}
+use Rattle.rand_core.specs.Stream.{Stream}
+use Rattle.nd_addr.specs.declared.addr.Addr.{Addr}
+use Rattle.nd_addr.specs.declared.role.Role.{Role}
+use Rattle.nd_addr.specs.Kind.{multicast_prefix, unspecified_address}
+use Rattle.nd_addr.specs.Number.{holds, number_of}
+use Rattle.nd_decode.specs.Message.{Parts}
+use Rattle.nd_decode.specs.declared.body.Body.{Body}
+use Rattle.nd_decode.specs.declared.body.Body.TheVariants as bodies
+use Rattle.nd_decode.specs.declared.prefix_info.PrefixInfo.{PrefixInfo}
+use Rattle.nd_neighbour.specs.History as rows
+use Rattle.nd_neighbour.specs.History.{RowKind, story}
+use Rattle.nd_neighbour.specs.News.{released_by}
+use Rattle.nd_neighbour.specs.Room.{has_room, HasRoom}
+use Rattle.nd_neighbour.specs.Sending.{Sending, Sends, Queues, sending_of_story}
+use Rattle.nd_neighbour.specs.Story.{mac_of, waits_of}
+use Rattle.nd_slaac.specs.PrefixOption.{is_taken, lifetimes_of, named_by, prefixes_in}
+use Rattle.nd_slaac.specs.State.{is_known}
+use Rattle.nd_nexthop.specs.NextHop.{NextHop, direct}
+use Rattle.nd_chronicle.specs.Start.{Start}
+use Rattle.nd_chronicle.specs.Happening.{Chronicle, Heard, Limit, Loss, Lost, Passed, Refusal, Refused, Forgotten, Neighbour}
+use Rattle.nd_chronicle.specs.Advertising.{planning, wants_answer}
+use Rattle.nd_chronicle.specs.Event as events
+use Rattle.nd_chronicle.specs.Event.{EventAdds, MessageAdds, PacketAdds, packet_frame, refusal_of_packet, VerdictAdds, FrameAdds, packet_bytes, Clearable, clearing}
+use Rattle.nd_chronicle.specs.Histories.{neighbour_history, route_history}
+use Rattle.nd_chronicle.specs.InForce.{base_reachable_time, retrans_timer}
+use Rattle.nd_chronicle.specs.Message.{leaving, releasing, said, sending_if_known}
+use Rattle.nd_chronicle.specs.NeighborAdvertisement.{conflicting, ends_in_list}
+use Rattle.nd_chronicle.specs.NeighborSolicitation.{Answers, then_tried}
+use Rattle.nd_chronicle.specs.OwnAddress.{is_assigned, is_tentative, story_of, is_own}
+use Rattle.nd_chronicle.specs.Packet.{Goes, GoesIfPlaced, HasPlace, losing, no_place, sending, then_packet, HavePlace}
+use Rattle.nd_chronicle.specs.NextHop.{IsHopOf}
+use Rattle.nd_chronicle.specs.Refused.{UnlessFull, UnlessRefused}
+use Rattle.nd_chronicle.specs.RouterAdvertisement.{forming, naming, redrawing, then_option, then_options, times_out}
+use Rattle.nd_chronicle.proofs.Hops.{one_hop}
+use Rattle.nd_chronicle.proofs.Places.{one_has_place}
+use Rattle.nd_frames.specs.Frames.{open_mac}
+use Rattle.nd_params.specs.Params.{redraws}
+use Rattle.nd_addr.specs.Ip6.{PacketParts}
+use Rattle.nd_decode.specs.Option.{Said}
+use Rattle.nd_decode.specs.declared.neighbor_solicitation.NeighborSolicitation.{NeighborSolicitation}
+use Rattle.nd_decode.specs.declared.router_advertisement.RouterAdvertisement.{RouterAdvertisement}
+use Rattle.nd_validity.specs.Hearing.{valid, Hears, Outcome, other}
+use Rattle.nd_routes.specs.Forward.{Fate, fate}
+use Rattle.nd_routes.specs.Redirect.{last_redirect, redirect}
+use Rattle.nd_routes.specs.Routes.{routes}
+use Rattle.nd_chronicle.specs.Forwarding.{FateAdds, ForwardAdds, Redirects, SendsOn}
+use Rattle.nd_chronicle.specs.Full.{AdvertisementFills, Fills, MessageFills, Placed}
+use Rattle.nd_chronicle.specs.Hearing.{IsMisdirected, IsStrange, IsTaken, Judges, Verdict, IsPacket, IsPacketForUs, IsPassing, IsStrangePacket}
+use Rattle.nd_node.proofs.InTransit.{SaysRoom}
+use Rattle.nd_node.proofs.TakenOrRefused.{fills_later}
+use Rattle.nd_chronicle.proofs.Events.{one_full}
+use Rattle.nd_node.specs.RouterAdvertisement.{advertised}
+use Rattle.nd_neighbour.specs.Entry as entries
+use Rattle.nd_neighbour.specs.Entry.{waiting_in}
+use Rattle.nd_node.specs.declared.node.Node.{Node}
+use Rattle.nd_node.specs.Memory.{AddsRefusal}
+use Rattle.nd_node.specs.Node.{Stands}
+use Rattle.nd_node.proofs.Asking.{FullByHistory, RoomIsPlace, has_place_for}
+
+-- ---- the newest row
+
+-- the newest row is a refusal
+abbrev pub is_refusal : Chronicle → Bool
+is_refusal [] = false
+is_refusal ((at, Refused why) ∷ c) = true
+is_refusal ((at, _) ∷ c) = false
+
+pub not_refused : (at : ℕ) (why : Refusal) (c d : Chronicle) → is_refusal d ≡ false → (at, Refused why) ∷ c ≡ d → ⊥
+not_refused at why c d h is = let never : true ≡ false = ap is_refusal is ∙ h in let absurdity : ⊥ = cc in absurdity
+
+either : (b : Bool) (c d : Chronicle) → is_refusal c ≡ false → is_refusal d ≡ false → is_refusal (if b then c else d) ≡ false
+either true c d h k = h
+either false c d h k = k
+
+module _ (at : ℕ) where
+  losing_adds : (why : Loss) (packets : List (List ℕ)) (c : Chronicle) → is_refusal c ≡ false → is_refusal (losing at why packets c) ≡ false
+  losing_adds why [] c h = h
+  losing_adds why (packet ∷ packets) c h = losing_adds why packets ((at, Lost why packet) ∷ c) refl
+
+  sending_adds : (mac : ℕ) (packets : List (List ℕ)) (c : Chronicle) → is_refusal c ≡ false → is_refusal (sending at mac packets c) ≡ false
+  sending_adds mac [] c h = h
+  sending_adds mac (packet ∷ packets) c h = sending_adds mac packets _ refl
+
+  sending_known_adds : (mac : Option ℕ) (packets : List (List ℕ)) (c : Chronicle) → is_refusal c ≡ false → is_refusal (sending_if_known at mac packets c) ≡ false
+  sending_known_adds None packets c h = h
+  sending_known_adds (Some mac) packets c h = sending_adds mac packets c h
+
+  releasing_adds : (news : Option (ℕ × RowKind)) (history : List rows.Row) (c : Chronicle) → is_refusal c ≡ false → is_refusal (releasing at news history c) ≡ false
+  releasing_adds None history c h = h
+  releasing_adds (Some news) history c h = sending_known_adds (mac_of ((at, news.1) ∷ story news.0 history)) (released_by at news.1 (story news.0 history)) c h
+
+  leaving_adds : (leaves : Bool) (key : ℕ) (c : Chronicle) → is_refusal c ≡ false → is_refusal (leaving at leaves key c) ≡ false
+  leaving_adds true key c h = refl
+  leaving_adds false key c h = h
+
+  conflicting_adds : (tentative : Bool) (key : ℕ) (c : Chronicle) → is_refusal c ≡ false → is_refusal (conflicting at tentative key c) ≡ false
+  conflicting_adds true key c h = refl
+  conflicting_adds false key c h = h
+
+  module _ (start : Start) where
+    redrawing_adds : (base : ℕ) (draws : Bool) (c : Chronicle) → is_refusal c ≡ false → is_refusal (redrawing start at base draws c) ≡ false
+    redrawing_adds base true c h = refl
+    redrawing_adds base false c h = h
+
+    naming_adds : (to_all known : Bool) (info : PrefixInfo) (c : Chronicle) → is_refusal c ≡ false → is_refusal (naming start at to_all known info c) ≡ false
+    naming_adds to_all true info c h = refl
+    naming_adds to_all false info c h = either _ c (forming start at to_all (named_by start.mac info) (lifetimes_of info) c) h refl
+
+    option_adds : (to_all : Bool) (info : PrefixInfo) (c : Chronicle) → is_refusal c ≡ false → is_refusal (then_option start at to_all info c) ≡ false
+    option_adds to_all info c h = either (is_taken info) _ c (naming_adds to_all (is_known (story_of c (named_by start.mac info))) info c h) h
+
+    options_add : (to_all : Bool) (infos : List PrefixInfo) (c : Chronicle) → is_refusal c ≡ false → is_refusal (then_options start at to_all infos c) ≡ false
+    options_add to_all [] c h = h
+    options_add to_all (info ∷ infos) c h = options_add to_all infos (then_option start at to_all info c) (option_adds to_all info c h)
+
+    planning_adds : (wants : Bool) (c : Chronicle) → is_refusal c ≡ false → is_refusal (planning start at wants c) ≡ false
+    planning_adds true c h = refl
+    planning_adds false c h = h
+
+    packet_adds : (key retrans : ℕ) (packet : List ℕ) (goes : Sending) (c : Chronicle) → is_refusal (then_packet start at key retrans packet goes c) ≡ false
+    packet_adds key retrans packet (Sends mac sent) c = refl
+    packet_adds key retrans packet (Queues true replaced) c = refl
+    packet_adds key retrans packet (Queues false replaced) c = losing_adds _ (option_to_list replaced) _ refl
+
+    goes_adds : (key : ℕ) (packet : List ℕ) (c d : Chronicle) → Goes start c at key packet d → is_refusal d ≡ false
+    goes_adds key packet c d g = ap is_refusal g.goes ∙ packet_adds key (retrans_timer c) packet (sending_of_story (story key (neighbour_history c)) packet) g.placed
+
+    module _ (source destination : Addr) (message : Parts) where
+      solicited_adds : (target : Addr) (unspecified : Bool) (c d : Chronicle)
+          → MatchBool unspecified (d ≡ then_tried start at target ((at, Heard source destination message) ∷ c)) (Answers start at source destination target message c d) → is_refusal d ≡ false
+      solicited_adds target true c d h = ap is_refusal h ∙ either (is_assigned ((at, Heard source destination message) ∷ c) target.0) _ _ refl refl
+      solicited_adds target false c d h = goes_adds _ _ _ d h.answer
+
+      -- a message that is heard is no refusal
+      pub message_adds : (body : Body) (c d : Chronicle) → MessageAdds start at source destination message body c d → is_refusal d ≡ false
+      message_adds (bodies.Ns ns) c d h = solicited_adds ns.target (bytes_eq source.0 unspecified_address) c d h
+      message_adds (bodies.Ra ra) c d h =
+          let placed : Chronicle = h.0 in
+          let heard : Chronicle = (at, Heard source destination message) ∷ placed in
+          let drawn : Chronicle = redrawing start at ra.reachable_time (redraws (base_reachable_time placed) ra.reachable_time) heard in
+          let released : Chronicle = releasing at (said placed source message) (neighbour_history placed) drawn in
+          ap is_refusal h.2
+          ∙ options_add (holds multicast_prefix destination.0) (prefixes_in message.options) (leaving at (times_out start at placed source ra) (number_of source.0) released)
+          (leaving_adds (times_out start at placed source ra) (number_of source.0) released
+          (releasing_adds (said placed source message) (neighbour_history placed) drawn
+          (redrawing_adds ra.reachable_time (redraws (base_reachable_time placed) ra.reachable_time) heard refl)))
+      message_adds (bodies.Na na) c d h =
+          let placed : Chronicle = h.0 in
+          let heard : Chronicle = (at, Heard source destination message) ∷ placed in
+          let claimed : Chronicle = conflicting at (is_tentative placed na.target.0) (number_of na.target.0) heard in
+          let released : Chronicle = releasing at (said placed source message) (neighbour_history placed) claimed in
+          ap is_refusal h.2
+          ∙ leaving_adds (ends_in_list at placed (said placed source message)) (number_of na.target.0) released
+          (releasing_adds (said placed source message) (neighbour_history placed) claimed (conflicting_adds (is_tentative placed na.target.0) (number_of na.target.0) heard refl))
+      message_adds (bodies.Redirect r) c d h = ap is_refusal h.2 ∙ releasing_adds (said c source message) (neighbour_history h.0) _ refl
+      message_adds bodies.Rs c d h = ap is_refusal h.2 ∙ planning_adds (wants_answer start c) _ (releasing_adds (said c source message) (neighbour_history h.0) _ refl)
+
+-- ---- what is full
+
+-- what adds a refusal unless a table is full finds one full
+pub full_of : (now : ℕ) (why : Refusal) (c : Chronicle) (full : Option Limit) (Adds : Chronicle → Type 0) → ((d : Chronicle) → Adds d → is_refusal d ≡ false)
+    → UnlessFull now full Adds c ((now, Refused why) ∷ c) → (limit : Limit) × (full ≡ Some limit)
+full_of now why c None Adds never adds = absurd (not_refused now why c _ (never _ adds) refl)
+full_of now why c (Some limit) Adds never adds = (limit, refl)
+
+module _ (start : Start) (now key : ℕ) (packet : List ℕ) where
+  placed_is : (c : Chronicle) (why : Refusal) (place : Bool) → HasPlace start c now key true place → UnlessFull now (no_place place) (Goes start c now key packet) c ((now, Refused why) ∷ c) → HasPlace start c now key true false
+  placed_is c why true has adds = absurd (not_refused now why c _ (goes_adds now start key packet c _ adds) refl)
+  placed_is c why false has adds = has
+
+  -- a packet to a neighbour adds a refusal alone where that has no place
+  pub place_refused : (c : Chronicle) → AddsRefusal now c (GoesIfPlaced start now key packet) → HasPlace start ((now, Passed) ∷ c) now key true false
+  place_refused c adds = placed_is ((now, Passed) ∷ c) adds.0 adds.1.0 adds.1.1 adds.1.2
+
+-- so a node has no room for it
+module _ {R A : Type 0} (stream : R → Stream) (start : Start) (node : Node R A) (c : Chronicle) (now key : ℕ) (room_is_place : RoomIsPlace) (full_by_history : FullByHistory) (s : Stands stream start node c) where
+  pub room_left : has_room node.neighbours.limit now key None node.neighbours.nodes ≡ true → HasPlace start ((now, Passed) ∷ c) now key true false → ⊥
+  room_left has full =
+      let same : true ≡ false = one_has_place start ((now, Passed) ∷ c) now key true true false (has_place_for stream start node c now key room_is_place full_by_history s has) full in
+      let never : ⊥ = cc in
+      never
+
+-- ---- a packet of the upper layer
+
+module _ (start : Start) (now : ℕ) (source destination : Addr) (next_header : ℕ) (payload : List ℕ) (c : Chronicle) where
+  -- one that goes to its destination, which isn't multicast, goes as to a neighbour
+  pub to_destination : holds multicast_prefix destination.0 ≡ false → AddsRefusal now c (PacketAdds start now direct source destination next_header payload)
+      → AddsRefusal now c (GoesIfPlaced start now (number_of destination.0) (packet_frame start now open_mac source destination next_header payload ((now, Passed) ∷ c)))
+  to_destination single adds = (adds.0, goes _ _ (holds multicast_prefix destination.0) single adds.1)
+    where
+      goes : (Others Goes' : Type 0) (multicast : Bool) → multicast ≡ false → MatchBool multicast Others Goes' → Goes'
+      goes Others Goes' true is h = let never : ⊥ = cc in absurd never
+      goes Others Goes' false is h = h
+
+  -- one that isn't refused itself goes to its next hop
+  pub to_hop : (role : Role) (hop : NextHop) → role ≡ start.role → None ≡ refusal_of_packet start now source payload c → IsHopOf role ((now, Passed) ∷ c) now destination hop
+      → AddsRefusal now c (EventAdds start now (events.Sends source destination next_header payload)) → AddsRefusal now c (PacketAdds start now hop source destination next_header payload)
+  to_hop role hop role_is says next adds = (adds.0, by (refusal_of_packet start now source payload ((now, Passed) ∷ c)) says adds.1)
+    where
+      later : Chronicle
+      later = (now, Passed) ∷ c
+
+      refused : Chronicle
+      refused = (now, Refused adds.0) ∷ later
+
+      by : (o : Option Refusal) → None ≡ o → UnlessRefused now o (λ e. (next' : NextHop) × IsHopOf start.role later now destination next' × PacketAdds start now next' source destination next_header payload later e) later refused
+          → PacketAdds start now hop source destination next_header payload later refused
+      by None is h =
+          let same : h.0 ≡ hop = one_hop later now start.role destination h.0 hop h.1 (subst (λ (r : Role). IsHopOf r later now destination hop) role_is next) in
+          subst (λ (n : NextHop). PacketAdds start now n source destination next_header payload later refused) same h.2
+      by (Some refusal) is h = let never : ⊥ = cc in absurd never
+
+-- ---- a packet in transit
+
+module _ (start : Start) (now : ℕ) (packet : PacketParts) (came : List ℕ) (c : Chronicle) where
+  -- its fate is this
+  pub fate_refused : (f : Fate) → f ≡ fate (is_own c) (routes (route_history c)) packet.header → AddsRefusal now c (ForwardAdds start now packet came) → AddsRefusal now c (FateAdds start now f packet came)
+  fate_refused f is adds = (adds.0, subst (λ (f' : Fate). FateAdds start now f' packet came ((now, Passed) ∷ c) ((now, Refused adds.0) ∷ (now, Passed) ∷ c)) (sym is) adds.1)
+
+  -- the target of its Redirect is this, or there is none
+  pub onward_refused : (target : Option Addr) (key : ℕ) → target ≡ redirect (is_own c) (routes (route_history c)) (last_redirect (route_history c)) now packet.header
+      → AddsRefusal now c (SendsOn start now (redirect (is_own c) (routes (route_history c)) (last_redirect (route_history c)) now packet.header) packet came key)
+      → AddsRefusal now c (SendsOn start now target packet came key)
+  onward_refused target key is adds = (adds.0, subst (λ (t : Option Addr). SendsOn start now t packet came key ((now, Passed) ∷ c) ((now, Refused adds.0) ∷ (now, Passed) ∷ c)) (sym is) adds.1)
+
+-- a node that has room for both refuses neither a Redirect nor the packet behind it
+pub both_left : {R A : Type 0} (stream : R → Stream) (start : Start) (node : Node R A) (c : Chronicle) (now key : ℕ) (target : Addr) (packet : PacketParts) (came : List ℕ) (room : Bool)
+    → SaysRoom node now (number_of packet.header.source.0) key room → room ≡ true → Stands stream start node c → AddsRefusal now c (SendsOn start now (Some target) packet came key) → ⊥
+both_left stream start node c now key target packet came room says is s adds = left adds.1.0 adds.1.1 adds.1.2
+  where
+    later : Chronicle
+    later = (now, Passed) ∷ c
+
+    has : HasRoom start.limits.neighbours now (number_of packet.header.source.0) (Some key) (neighbour_history c)
+    has = subst (λ (limit : ℕ). HasRoom limit now (number_of packet.header.source.0) (Some key) (neighbour_history c)) s.neighbour_limit ((says (neighbour_history c) s.neighbours).0 is)
+
+    left : (place : Bool) → HavePlace start later now (number_of packet.header.source.0) key place
+        → UnlessFull now (no_place place) (Redirects start now target packet came key later) later ((now, Refused adds.0) ∷ later) → ⊥
+    left true have redirects = not_refused now adds.0 later _ (goes_adds now start key _ _ _ redirects.behind) refl
+    left false have redirects = have has
+
+-- ---- a message
+
+module _ (start : Start) (now : ℕ) (source destination : Addr) (message : Parts) (c : Chronicle) where
+  abbrev later : Chronicle
+  later = (now, Passed) ∷ c
+
+  -- a message is refused where a table is full
+  pub message_full : (frame : List ℕ) (verdict : Verdict) → Judges start later now (valid source destination message) verdict → AddsRefusal now c (VerdictAdds start now frame verdict)
+      → (limit : Limit) × Fills start later now source message message.body (Some limit)
+  message_full frame _ (IsTaken us first) adds =
+      let f = full_of now adds.0 later adds.1.0 (MessageAdds start now source destination message message.body later) (message_adds now start source destination message message.body later) adds.1.2 in
+      (f.0, subst (λ (o : Option Limit). Fills start later now source message message.body o) f.1 adds.1.1)
+  message_full frame _ (IsStrange never) adds = absurd (not_refused now adds.0 later _ refl adds.1)
+  message_full frame _ (IsMisdirected us other') adds = absurd (not_refused now adds.0 later _ refl adds.1)
+
+module _ (start : Start) (now : ℕ) (source : Addr) (options : List Said) (c : Chronicle) (limit : Limit) where
+  -- a solicitation from an address wants place for the asker
+  pub asker_full : (ns : NeighborSolicitation) → bytes_eq source.0 unspecified_address ≡ false → MessageFills start c now source (record { body = bodies.Ns ns; options = options }) (Some limit)
+      → HasPlace start c now (number_of source.0) true false
+  asker_full ns specified fills = full (bytes_eq source.0 unspecified_address) specified fills.neighbours fills.placed fills.first
+    where
+      full : (none : Bool) → none ≡ false → (place : Bool) → Placed start c now (if none then None else Some (number_of source.0, true)) place → Some limit ≡ no_place place
+          → HasPlace start c now (number_of source.0) true false
+      full true is place placed first = let never : ⊥ = cc in absurd never
+      full false is true placed first = let never : ⊥ = cc in absurd never
+      full false is false placed first = placed
+
+  -- a Router Advertisement for which each table had room once time has passed fills none
+  pub router_advertisement_left : (ra : RouterAdvertisement) (before : Chronicle) → c ≡ (now, Passed) ∷ before → AdvertisementFills start before now source ra (advertised ra options) None
+      → AdvertisementFills start c now source ra (advertised ra options) (Some limit) → ⊥
+  router_advertisement_left ra before is none some =
+      let here : AdvertisementFills start c now source ra (advertised ra options) None = rw is (fills_later now source ra options start before None none) in
+      let same : None ≡ Some limit = one_full start c now source (advertised ra options) (bodies.Ra ra) None (Some limit) here some in
+      let never : ⊥ = cc in
+      never
+
+-- ---- a packet that is no message
+
+module _ (start : Start) (now : ℕ) (frame : List ℕ) (packet : PacketParts) (c : Chronicle) where
+  -- one that isn't for this node is refused where it is in transit
+  pub passing_refused : (verdict : Verdict) → (IsPacketForUs start ((now, Passed) ∷ c) packet → ⊥) → Judges start ((now, Passed) ∷ c) now (other packet) verdict → AddsRefusal now c (VerdictAdds start now frame verdict)
+      → AddsRefusal now c (ForwardAdds start now packet (packet_bytes frame))
+  passing_refused _ never (IsPacket us) adds = absurd (never us)
+  passing_refused _ never (IsPassing passes) adds = adds
+  passing_refused _ never (IsStrangePacket not_ours not_passing) adds = absurd (not_refused now adds.0 ((now, Passed) ∷ c) _ refl adds.1)
+
+  -- one that is for this node isn't refused
+  pub ours_left : (verdict : Verdict) → IsPacketForUs start ((now, Passed) ∷ c) packet → Judges start ((now, Passed) ∷ c) now (other packet) verdict → AddsRefusal now c (VerdictAdds start now frame verdict) → ⊥
+  ours_left _ us (IsPacket ours) adds = not_refused now adds.0 ((now, Passed) ∷ c) _ refl adds.1
+  ours_left _ us (IsPassing passes) adds = passes.not_ours us
+  ours_left _ us (IsStrangePacket not_ours not_passing) adds = not_ours us
+
+-- ---- a frame
+
+-- what the frame says is judged so
+pub judged_frame : (start : Start) (c : Chronicle) (now : ℕ) (frame : List ℕ) (role : Role) (said : Outcome) → role ≡ start.role → ((o : Outcome) → Hears frame role o → said ≡ o)
+    → AddsRefusal now c (FrameAdds start now frame) → (verdict : Verdict) × Judges start ((now, Passed) ∷ c) now said verdict × AddsRefusal now c (VerdictAdds start now frame verdict)
+judged_frame start c now frame role said same only adds =
+    let h = adds.1.heard in
+    let is : said ≡ h.outcome = only h.outcome (subst (λ (r : Role). Hears frame r h.outcome) (sym same) h.by_frame) in
+    (adds.1.verdict, subst (λ (o : Outcome). Judges start ((now, Passed) ∷ c) now o adds.1.verdict) (sym is) h.by_node, (adds.0, adds.1.adds))
+
+-- ---- a command
+
+module _ (start : Start) (now : ℕ) where
+  clearing_adds : (nodes : List entries.Node) (c : Chronicle) → is_refusal c ≡ false → is_refusal (clearing start now nodes c) ≡ false
+  clearing_adds [] c h = h
+  clearing_adds (n ∷ nodes) c h =
+      let gone : Chronicle = (now, Neighbour n.key (rows.Forgot rows.Cleared)) ∷ c in
+      clearing_adds nodes (losing now Forgotten (waiting_in n.stage) gone) (losing_adds now Forgotten (waiting_in n.stage) gone refl)
+
+module _ (start : Start) (now : ℕ) (c : Chronicle) where
+  -- a neighbour is forgotten
+  pub forgets_left : (neighbour : Addr) → AddsRefusal now c (EventAdds start now (events.Forgets neighbour)) → ⊥
+  forgets_left neighbour adds =
+      let later : Chronicle = (now, Passed) ∷ c in
+      let key : ℕ = number_of neighbour.0 in
+      not_refused now adds.0 later _ (losing_adds now Forgotten (waits_of (story key (neighbour_history later))) ((now, Neighbour key (rows.Forgot rows.Removed)) ∷ later) refl) adds.1
+
+  -- a table is cleared
+  pub clears_left : (table : Clearable) → AddsRefusal now c (EventAdds start now (events.Clears table)) → ⊥
+  clears_left events.ClearNeighbours adds = not_refused now adds.0 ((now, Passed) ∷ c) _ (clearing_adds start now adds.1.0 ((now, Passed) ∷ c) refl) adds.1.2
+  clears_left events.ClearRouters adds = not_refused now adds.0 ((now, Passed) ∷ c) _ refl adds.1.2
+  clears_left events.ClearPrefixes adds = not_refused now adds.0 ((now, Passed) ∷ c) _ refl adds.1
+  clears_left events.ClearRedirects adds = not_refused now adds.0 ((now, Passed) ∷ c) _ refl adds.1
+  clears_left events.ClearDns adds = not_refused now adds.0 ((now, Passed) ∷ c) _ refl adds.1
