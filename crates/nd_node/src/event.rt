@@ -155,7 +155,7 @@ impl<R: Rng + Drop, A: Allocator + Clone> Node<R, A> {
         }
         match event {
             Event::Passes => {
-                self.last = now;
+                self.pass(now);
                 Ok(())
             }
             Event::Receives(frame) => self.receive(now, frame, outs),

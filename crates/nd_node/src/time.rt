@@ -1,4 +1,6 @@
-ghost use Rattle.std.specs.Prelude.{◌≡◌, ℕ, ◌^◌, ◌<◌, ◌≤◌, Ok, OnOk, OnErr};
+ghost use Rattle.std.specs.Prelude.{◌≡◌, ◌∷◌, ℕ, ◌^◌, ◌<◌, ◌≤◌, Ok, OnOk, OnErr};
+ghost use Rattle.nd_chronicle.specs.Happening.{Chronicle, Passed, last_moment};
+ghost use Rattle.nd_chronicle.specs.Start.{Start};
 ghost use Rattle.nd_node.specs.Time.{Leads, Comes, Passes, Onward};
 
 use crate::node::Node;
@@ -10,7 +12,7 @@ use rand_core::Rng;
 use std::alloc::{AllocError, Allocator};
 
 impl<R: Rng + Drop, A: Allocator + Clone> Node<R, A> {
-    ghost use Rattle.nd_node.specs.Node.{next_of, turns_left};
+    ghost use Rattle.nd_node.specs.Node.{Stands, next_of, turns_left};
 
     /// Does what is due first at the moment, which is the next at which something is, and tells it: the ends of routers, of own addresses,
     /// their detections, the neighbours, Router Solicitations, Router Advertisements, a redraw of ReachableTime, each in the order of
@@ -52,6 +54,18 @@ impl<R: Rng + Drop, A: Allocator + Clone> Node<R, A> {
                 return Ok(());
             }
             self.turn(next, outs)?;
+        }
+    }
+
+    /// Lets time pass up to `now`, in milliseconds, before which nothing is due. Where `now` is in the past, nothing changes. It takes no memory.
+    pub fn pass(&mut self, now: u64)
+        requires settled { now < next_of self.old }
+        ensures passes { (start : Start) (c : Chronicle) → Stands R.stream start self.old c → last_moment start.at c ≤ now → Stands R.stream start self.new ((now, Passed) ∷ c) }
+        ensures moves { self.old.last ≤ now → self.new ≡ record self.old { last = now } }
+        ensures past { now ≤ self.old.last → self.new ≡ self.old }
+    {
+        if self.last < now {
+            self.last = now;
         }
     }
 }

@@ -10,7 +10,7 @@ use Rattle.nd_node.specs.Memory.{AddsRefusal}
 use Rattle.nd_node.proofs.node.Node.add.Goals as goal
 
 pub returns-in-Passes-clause-adds : goal.returns-in-Passes-clause-adds
-returns-in-Passes-clause-adds g c = rw c.in-Passes.is (passing g.R.Rng.stream c.args.self.now _ c.args.outs.now.items c.args.now c.requires.settled refl)
+returns-in-Passes-clause-adds g c = rw c.in-Passes.is (passing g.R.Rng.stream c.args.self.now c.pass.new.self c.args.outs.now.items c.args.now c.requires.settled (c.pass.ensures.moves c.if-now-self.false))
 
 pub returns-in_ok-push-in-Shows-clause-adds : goal.returns-in_ok-push-in-Shows-clause-adds
 returns-in_ok-push-in-Shows-clause-adds g c =

@@ -1,0 +1,8 @@
+use Rattle.std.proofs.Common.{◌≡◌, ℕ, ap, sym, arith}
+use Rattle.nd_node.proofs.Steps.{passed}
+use Rattle.nd_node.proofs.node.Node.pass.Goals as goal
+
+pub returns-else-self-now-clause-passes : goal.returns-else-self-now-clause-passes
+returns-else-self-now-clause-passes g c = λ start c' s le.
+    let now_is : c.args.self.now.last ≡ c.args.now = omega (arith, s.last, le, c.if-self-now.false) in
+    passed g.R.Rng.stream start c.args.self.now c.args.self.now c' c.args.now s le c.requires.settled (ap (λ (last : ℕ). record c.args.self.now { last = last }) now_is)
