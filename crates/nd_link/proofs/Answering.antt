@@ -1,6 +1,6 @@
 -- What comes of an event, by what its parts lead to.
 use Rattle.std.proofs.Common.{◌≡◌, ℕ, ◌<◌, ◌≤◌, true, List, [], ◌∷◌, ◌++◌, length, append-nil, Some, None, Err, refl, sym, ◌∙◌, ap, subst, arith}
-use Rattle.std.specs.Prelude.{◌==◌, nat_lt, MatchBool, slice_get}
+use Rattle.std.specs.Prelude.{◌==◌, nat_lt, MatchBool, slice_get, Result, IsErrOf, OnErr, ⊤}
 use Rattle.std.proofs.lemmas.Bool.{le-ltb, lt-ltb}
 use Rattle.std.proofs.lemmas.Bool.Decides.{Decides-eqb}
 use Rattle.std.proofs.lemmas.Option.{slice_get_within}
@@ -19,6 +19,7 @@ use Rattle.nd_link_log.specs.Event as links
 use Rattle.nd_link_log.specs.Event.{AddsRows, Event, max_nodes}
 use Rattle.nd_link_log.specs.Told.{lines_of, text}
 use Rattle.nd_wire.specs.Wire.{IsFaithfulTo}
+use Rattle.nd_link.specs.declared.fault.LinkFault.{LinkFault}
 use Rattle.nd_link.specs.declared.link.Link.{Link}
 use Rattle.nd_link.specs.declared.told.Told.{Told}
 use Rattle.nd_link.specs.Arrival.{Arrives, Happens, IsRefused, reached}
@@ -38,6 +39,10 @@ use Rattle.nd_link.proofs.Passage.{frames_reached, moment_reached, nodes_reached
 use Rattle.nd_link.proofs.Sending.{count_frames, kept_at, kept_length, named}
 use Rattle.nd_link.proofs.Starting.{frames_started, nodes_started, started, text_started}
 use Rattle.nd_link.proofs.Walks.{told_lines_of, told_same, told_then}
+
+-- what holds at an error holds at this one
+of_err : {T E : Type 0} (r : Result T E) (e : E) (P : Type 0) → IsErrOf r e → OnErr r P → P
+of_err r e P is holds = subst (λ (x : Result _ _). OnErr x P) is holds
 
 module _ {W R A : Type 0} (stream : R → Stream) where
   -- the same for one of the relations that follow from another
@@ -64,7 +69,7 @@ module _ {W R A : Type 0} (stream : R → Stream) where
 
   -- ---- a node starts
 
-  count_reached : (link : Link W R A) (now : ℕ) (log : Log) → Stands stream link log → nodes (reached now log) ≡ length link.nodes.items
+  pub count_reached : (link : Link W R A) (now : ℕ) (log : Log) → Stands stream link log → nodes (reached now log) ≡ length link.nodes.items
   count_reached link now log s = nodes_reached now log ∙ sym s.nodes.count
 
   pub start_leads : (old mid new : Link W R A) (x : List (Told A)) (n : Node R A) (now : ℕ) (role : Role) (mac : Mac) (transmits : ℕ) (words : Stream) → length old.nodes.items < max_nodes
@@ -105,7 +110,7 @@ module _ {W R A : Type 0} (stream : R → Stream) where
       (subst (λ (k : ℕ). AddsRows usual_limits now k event (reached now log) d) same is))
 
   -- a frame is to be carried
-  sent_reached : (link : Link W R A) (now : ℕ) (log : Log) → Stands stream link log → sent (reached now log) ≡ length link.frames.items
+  pub sent_reached : (link : Link W R A) (now : ℕ) (log : Log) → Stands stream link log → sent (reached now log) ≡ length link.frames.items
   sent_reached link now log s = sym (count_frames (reached now log)) ∙ (ap length (frames_reached now log ∙ sym s.frames) ∙ kept_length link.frames.items)
 
   module _ (old new : Link W R A) (x y : List (Told A)) (now to number : ℕ) where
@@ -184,3 +189,14 @@ module _ {W R A : Type 0} (stream : R → Stream) where
 
   pub told_nothing : (old : Link W R A) (x y : List (Told A)) (now : ℕ) → y ≡ x → TellsOf stream old x y (Onward now)
   told_nothing old x y now same = record { each = λ log s. (log, λ e w. w, subst (Tells log log x) (sym same) (told_same log x)) }
+
+  -- nothing is told behind the milliseconds that passed
+  pub told_so_far : (old mid : Link W R A) (x y z : List (Told A)) (now : ℕ) → Leads stream old mid x y (Onward now) → z ≡ y → TellsOf stream old x z (Onward now)
+  told_so_far old mid x y z now passed same = record { each = λ log s. let m = passed.each log s in (m.0, m.1, subst (Tells log m.0 x) (sym same) m.3) }
+
+  -- the wire failed, and the milliseconds passed
+  pub passed_so_far : (old mid new : Link W R A) (x y z : List (Told A)) (now : ℕ) (r : Result ⊤ LinkFault) (e : LinkFault) → Leads stream old mid x y (Passes now) → ((log : Log) → Stands stream mid log → Stands stream new log)
+      → IsErrOf r e → OnErr r (z ≡ y) → Leads stream old new x z (Passes now)
+  passed_so_far old mid new x y z now r e passed stands is told = record {
+    each = λ log s. let m = passed.each log s in (m.0, m.1, stands m.0 m.2, subst (Tells log m.0 x) (sym (of_err r e (z ≡ y) is told)) m.3);
+  }

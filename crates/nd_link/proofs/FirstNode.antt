@@ -4,14 +4,14 @@ use Rattle.std.specs.Prelude.{slice_get, nat_lt, if◌then◌else◌}
 use Rattle.std.proofs.lemmas.Bool.{cases_lt, ltb-false}
 use Rattle.std.proofs.lemmas.Bool.Decides.{Decides-ltb}
 use Rattle.std.proofs.lemmas.List.{length-take-le}
-use Rattle.std.proofs.lemmas.Option.{slice_get_within}
+use Rattle.std.proofs.lemmas.Option.{slice_get_cases, slice_get_within}
 use Rattle.rand_core.specs.Stream.{Stream}
 use Rattle.nd_chronicle.specs.Start.{Start}
 use Rattle.nd_chronicle.specs.Happening.{Chronicle}
 use Rattle.nd_node.specs.declared.node.Node.{Node}
 use Rattle.nd_node.specs.Node.{NextDue, Stands, next_of}
 use Rattle.nd_node.proofs.Running.{take_more}
-use Rattle.nd_link.specs.Due.{AreDated, FirstDue, IsFirst, earlier}
+use Rattle.nd_link.specs.Due.{AreDated, AreSettled, FirstDue, IsFirst, earlier}
 use Rattle.nd_link.proofs.Lists.{push_length, push_others, push_own, same_element}
 
 module _ {R A : Type 0} (stream : R → Stream) (list : List (Node R A)) (n : Node R A) where
@@ -89,3 +89,10 @@ module _ {R A : Type 0} (stream : R → Stream) where
       subst (λ (l : List (Node R A)). FirstDue stream l (earlier first i due)) (sym (ap (λ (k : ℕ). take k nodes) more ∙ take_more nodes i n lt is))
       (subst (λ (m : ℕ). FirstDue stream (take i nodes ++ n ∷ []) (earlier first i m)) (sym due_is)
       (subst (λ (k : ℕ). FirstDue stream (take i nodes ++ n ∷ []) (earlier first k (next_of n))) count (one_more (take i nodes) n first dated sofar)))
+
+-- the first node has nothing due where none has
+pub none_first : {R A : Type 0} (stream : R → Stream) (nodes : List (Node R A)) (place moment now : ℕ) → IsFirst stream nodes place moment → moment ≤ now → AreSettled now nodes → ⊥
+none_first stream nodes place moment now first due settled = ⊎_elim
+    (λ there. let lt = settled place there.0 there.2 in let is = first.is there.0 there.2 in absurd (omega (arith, lt, is, due)))
+    (λ past. let le = past.0 in let within = first.within in absurd (omega (arith, le, within)))
+    (slice_get_cases nodes place).1

@@ -11,3 +11,4 @@ pub mod Sending
 pub mod Answering
 pub mod Coming
 pub mod Holder
+pub mod Refusing

@@ -9,3 +9,4 @@ pub mod Time
 pub mod Run
 pub mod Delivery
 pub mod Holder
+pub mod Memory

@@ -1,4 +1,4 @@
-ghost use Rattle.std.specs.Prelude.{◌≡◌, ◌≢◌, ◌^◌, ◌<◌, ◌≤◌, ℕ, List, OnErr, OnOk, Option, vec_len};
+ghost use Rattle.std.specs.Prelude.{◌≡◌, ◌≢◌, ◌^◌, ◌<◌, ◌≤◌, ℕ, List, IsOk, OnErr, OnOk, Option, vec_capacity, vec_len};
 ghost use Rattle.nd_node.specs.Event.{event_of};
 ghost use Rattle.nd_link_log.specs.Log.{Log};
 ghost use Rattle.nd_link_log.specs.Event as links;
@@ -19,23 +19,22 @@ use rand_core::Rng;
 use std::alloc::{AllocError, Allocator};
 
 impl<W, R: Rng + Drop, A: Allocator + Copy> Link<W, R, A> {
-    /// Time passes up to a moment at all nodes. The error is want of memory.
-    pub(crate) fn reach(&mut self, now: u64) -> Result<(), AllocError>
+    /// Lets time pass up to `now`, in milliseconds, at all nodes. It takes no memory.
+    pub(crate) fn reach(&mut self, now: u64)
         requires moment { now < 2 ^ 62 }
         requires settled { AreSettled now self.old.nodes.items }
         requires in_time { self.old.last ≤ now }
-        ensures reaches { OnOk result ((log : Log) → Stands R.stream self.old log → Stands R.stream self.new (reached now log)) }
+        ensures reaches { (log : Log) → Stands R.stream self.old log → Stands R.stream self.new (reached now log) }
         ensures count { vec_len self.new.nodes ≡ vec_len self.old.nodes }
         ensures wire { self.new.wire ≡ self.old.wire }
         ensures spent { self.new.spent ≡ self.old.spent }
     {
         let none = self.nodes.len();
-        pass_others(&mut self.nodes, self.alloc, now, none)?;
+        pass_others(&mut self.nodes, now, none);
         self.last = now;
-        Ok(())
     }
 
-    /// The link refuses an event. The error is want of memory, and then nothing is told.
+    /// Refuses an event, and reports why. Returns an error if out of memory; nothing is reported then.
     pub(crate) fn refuse(
         &mut self,
         now: u64,
@@ -48,10 +47,11 @@ impl<W, R: Rng + Drop, A: Allocator + Copy> Link<W, R, A> {
         requires not_late { (last : ℕ) → why ≢ Refusal.TooLate last }
         ensures leads { OnOk result (Leads R.stream self.old self.new told.old.items told.new.items (IsRefused now (refusal_of why))) }
         ensures told { OnErr result (told.new.items ≡ told.old.items) }
+        ensures ready { vec_len told.old < vec_capacity told.old → IsOk result }
         ensures wire { self.new.wire ≡ self.old.wire }
         ensures spent { self.new.spent ≡ self.old.spent }
     {
-        self.reach(now)?;
+        self.reach(now);
         tell_refused(told, now, why)
     }
 
@@ -72,7 +72,7 @@ impl<W, R: Rng + Drop, A: Allocator + Copy> Link<W, R, A> {
         ensures wire { self.new.wire ≡ self.old.wire }
         ensures spent { self.new.spent ≡ self.old.spent }
     {
-        pass_others(&mut self.nodes, self.alloc, now, place)?;
+        pass_others(&mut self.nodes, now, place);
         let mut outs = Vec::new(self.alloc);
         let node = &mut self.nodes[place];
         node.add(now, event, &mut outs)?;

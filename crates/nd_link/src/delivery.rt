@@ -1,10 +1,11 @@
-ghost use Rattle.std.specs.Prelude.{◌≡◌, ◌≢◌, ◌^◌, ◌<◌, ◌≤◌, Err, IfNone, IfOk, IfSome, IsErrOf, OnErr, OnOk, vec_len};
+ghost use Rattle.std.specs.Prelude.{◌≡◌, ◌≢◌, ◌∷◌, ◌^◌, ◌<◌, ◌≤◌, Err, IfNone, IfOk, IfSome, IsErrOf, IsOk, OnErr, OnOk, vec_capacity, vec_len};
 ghost use Rattle.nd_node.specs.Event.{event_of};
 ghost use Rattle.nd_io.specs.Counts.{one_more};
 ghost use Rattle.nd_wire.specs.Wire.{IsFaithfulTo};
-ghost use Rattle.nd_link_log.specs.Log.{Log};
+ghost use Rattle.nd_link_log.specs.Log as links;
+ghost use Rattle.nd_link_log.specs.Log.{Log, Refuses};
 ghost use Rattle.nd_link_log.specs.Event.{Comes, Delivers};
-ghost use Rattle.nd_link.specs.Arrival.{Happens};
+ghost use Rattle.nd_link.specs.Arrival.{Happens, reached};
 ghost use Rattle.nd_link.specs.Delivery.{IsWay};
 ghost use Rattle.nd_link.specs.Due.{AreSettled};
 ghost use Rattle.nd_link.specs.Frames.{Arrived};
@@ -35,6 +36,7 @@ impl<W, R: Rng + Drop, A: Allocator + Copy> Link<W, R, A> {
         requires in_time { self.old.last ≤ now }
         ensures leads { OnOk result (Leads R.stream self.old self.new told.old.items told.new.items (Happens now (Comes node (event_of event.now)))) }
         ensures told { OnErr result (told.new.items ≡ told.old.items) }
+        ensures refused { (why : links.Refusal) (log : Log) → Stands R.stream self.old log → Happens now (Comes node (event_of event.now)) log (Refuses now why ∷ reached now log) → vec_len told.old < vec_capacity told.old → IsOk result }
         ensures wire { self.new.wire ≡ self.old.wire }
         ensures spent { self.new.spent ≡ self.old.spent }
     {
@@ -60,6 +62,7 @@ impl<W: Wire, R: Rng + Drop, A: Allocator + Copy> Link<W, R, A> {
         requires in_time { self.old.last ≤ now }
         ensures leads { IsFaithfulTo node W.arrives → OnOk result (Leads R.stream self.old self.new told.old.items told.new.items (Happens now (Delivers node number))) }
         ensures told { OnErr result (told.new.items ≡ told.old.items) }
+        ensures refused { (why : links.Refusal) (log : Log) → Stands R.stream self.old log → Happens now (Delivers node number) log (Refuses now why ∷ reached now log) → vec_len told.old < vec_capacity told.old → IsOk result }
         ensures stands { IsErrOf result LinkFault.Wire → (log : Log) → Stands R.stream self.old log → Stands R.stream self.new log }
         ensures fault { IsErrOf result LinkFault.Wire → W.failed self.new.wire ≡ one_more (W.failed self.old.wire) }
         ensures no_fault { result ≢ Err LinkFault.Wire → W.failed self.new.wire ≡ W.failed self.old.wire }

@@ -1,4 +1,4 @@
-ghost use Rattle.std.specs.Prelude.{◌≡◌, ◌≢◌, ◌≤◌, ◌<◌, ◌^◌, Err, IsErrOf, IsOk, OnErr, OnOk, false, true, vec_capacity, vec_len};
+ghost use Rattle.std.specs.Prelude.{◌≡◌, ◌≢◌, ◌≤◌, ◌<◌, ◌-◌, ◌^◌, Err, IsErrOf, IsOk, OnErr, OnOk, false, true, vec_capacity, vec_len};
 ghost use Rattle.nd_addr.specs.Bytes.{IsBytes};
 ghost use Rattle.nd_io.specs.Counts.{one_more};
 ghost use Rattle.nd_wire.specs.Wire.{IsFaithful};
@@ -9,6 +9,7 @@ ghost use Rattle.nd_link.specs.Due.{AreSettled};
 ghost use Rattle.nd_link.specs.Event.{AreEarly, link_event, link_events};
 ghost use Rattle.nd_link.specs.Holder.{KeepsOneHolder, KeepsOneHolderWithLosses};
 ghost use Rattle.nd_link.specs.Link.{Stands};
+ghost use Rattle.nd_link.specs.Memory.{AsksForNone};
 ghost use Rattle.nd_link.specs.Run.{FollowsBy, RunsBy, RunsInPart, RunsUpTo};
 ghost use Rattle.nd_link.specs.Time.{Leads, Onward, Passes, TellsOf};
 
@@ -83,6 +84,9 @@ impl<W: Wire, R: Rng + Drop, A: Allocator + Copy> Link<W, R, A> {
 
         // One that comes too late is refused whatever memory there is, if there is a place for it.
         ensures late { self.old.spent ≡ false → now < self.old.last → vec_len told.old < vec_capacity told.old → IsOk result }
+
+        // Where nothing is due up to it, time that passes and an event that the link refuses ask for no memory.
+        ensures quiet { (log : Log) → Stands R.stream self.old log → self.old.spent ≡ false → self.old.last ≤ now → AreSettled now self.old.nodes.items → AsksForNone now log (link_event R.stream event) (vec_capacity told.old - vec_len told.old) → IsOk result }
     {
         known(&event);
         if self.spent {
@@ -145,6 +149,7 @@ impl<W: Wire, R: Rng + Drop, A: Allocator + Copy> Link<W, R, A> {
         ensures wire_carried { result ≢ Err LinkFault.Wire → W.failed self.new.wire ≡ W.failed self.old.wire }
         ensures spent { self.new.spent ≡ self.old.spent }
         ensures late { now < self.old.last → vec_len told.old < vec_capacity told.old → IsOk result }
+        ensures quiet { (log : Log) → Stands R.stream self.old log → self.old.last ≤ now → AreSettled now self.old.nodes.items → AsksForNone now log (link_event R.stream event) (vec_capacity told.old - vec_len told.old) → IsOk result }
     {
         if now < self.last {
             tell_refused(told, now, Refusal::TooLate(self.last))?;
@@ -170,9 +175,13 @@ impl<W: Wire, R: Rng + Drop, A: Allocator + Copy> Link<W, R, A> {
         ensures fault { IsErrOf result LinkFault.Wire → W.failed self.new.wire ≡ one_more (W.failed self.old.wire) }
         ensures no_fault { result ≢ Err LinkFault.Wire → W.failed self.new.wire ≡ W.failed self.old.wire }
         ensures spent { self.new.spent ≡ self.old.spent }
+        ensures quiet { (log : Log) → Stands R.stream self.old log → AsksForNone now log (link_event R.stream event) (vec_capacity told.old - vec_len told.old) → IsOk result }
     {
         match event {
-            LinkEvent::Passes => Ok(self.reach(now)?),
+            LinkEvent::Passes => {
+                self.reach(now);
+                Ok(())
+            }
             LinkEvent::Starts(role, mac, transmits, generator) => {
                 Ok(self.start(now, role, mac, transmits, generator, told)?)
             }

@@ -1,9 +1,12 @@
 //! The start of a node on a link.
 
-ghost use Rattle.std.specs.Prelude.{◌≡◌, ◌^◌, ◌<◌, ◌≤◌, OnErr, OnOk};
+ghost use Rattle.std.specs.Prelude.{◌≡◌, ◌∷◌, ◌^◌, ◌<◌, ◌≤◌, IsOk, OnErr, OnOk, vec_capacity, vec_len};
+ghost use Rattle.nd_link_log.specs.Log as links;
+ghost use Rattle.nd_link_log.specs.Log.{Log, Refuses};
 ghost use Rattle.nd_link_log.specs.Event.{Starts};
-ghost use Rattle.nd_link.specs.Arrival.{Happens};
+ghost use Rattle.nd_link.specs.Arrival.{Happens, reached};
 ghost use Rattle.nd_link.specs.Due.{AreSettled};
+ghost use Rattle.nd_link.specs.Link.{Stands};
 ghost use Rattle.nd_link.specs.Time.{Leads};
 
 use crate::link::{Link, MAX_NODES};
@@ -31,6 +34,7 @@ impl<W, R: Rng + Drop, A: Allocator + Copy> Link<W, R, A> {
         requires in_time { self.old.last ≤ now }
         ensures leads { OnOk result (Leads R.stream self.old self.new told.old.items told.new.items (Happens now (Starts role mac transmits (R.stream generator)))) }
         ensures told { OnErr result (told.new.items ≡ told.old.items) }
+        ensures refused { (why : links.Refusal) (log : Log) → Stands R.stream self.old log → Happens now (Starts role mac transmits (R.stream generator)) log (Refuses now why ∷ reached now log) → vec_len told.old < vec_capacity told.old → IsOk result }
         ensures wire { self.new.wire ≡ self.old.wire }
         ensures spent { self.new.spent ≡ self.old.spent }
     {
@@ -48,7 +52,7 @@ impl<W, R: Rng + Drop, A: Allocator + Copy> Link<W, R, A> {
         ) else {
             return Err(AllocError);
         };
-        self.reach(now)?;
+        self.reach(now);
         self.nodes.push(node)?;
         Ok(())
     }

@@ -1,4 +1,4 @@
-ghost use Rattle.std.specs.Prelude.{◌≡◌, ℕ, ◌^◌, ◌<◌, ◌≤◌, OnOk, OnErr};
+ghost use Rattle.std.specs.Prelude.{◌≡◌, ℕ, ◌^◌, ◌<◌, ◌≤◌, Ok, OnOk, OnErr};
 ghost use Rattle.nd_link.specs.Due.{AreSettled, IsFirst};
 ghost use Rattle.nd_link.specs.Time.{Leads, TellsOf, Onward, Passes, Turns, turns_left};
 
@@ -19,6 +19,7 @@ impl<W, R: Rng + Drop, A: Allocator + Copy> Link<W, R, A> {
         ensures settled { OnOk result (AreSettled now self.new.nodes.items) }
         ensures in_time { OnOk result (self.new.last ≤ now) }
         ensures told { OnErr result (TellsOf R.stream self.old told.old.items told.new.items (Onward now)) }
+        ensures idle { AreSettled now self.old.nodes.items → (result ≡ Ok tt) × (self.new ≡ self.old) × (told.new ≡ told.old) }
         ensures wire { self.new.wire ≡ self.old.wire }
         ensures spent { self.new.spent ≡ self.old.spent }
     {

@@ -9,20 +9,20 @@ use Rattle.nd_link.proofs.Arriving.{arrival_leads}
 use Rattle.nd_link.proofs.Passage.{own_settled, passed_in}
 use Rattle.nd_link.proofs.link.Link.arrive.Goals as goal
 
-pub pass_others-requires-clause-settled : goal.pass_others-requires-clause-settled
-pass_others-requires-clause-settled g c = λ i node is. c.requires.settled i node (subst (λ l. slice_get l i ≡ Some node) c.deref_mut.ensures.value is)
+pub pass_others-requires : goal.pass_others-requires
+pass_others-requires g c = record { settled = λ i node is. c.requires.settled i node (subst (λ l. slice_get l i ≡ Some node) c.deref_mut.ensures.value is) }
 
 pub add-requires-clause-settled : goal.add-requires-clause-settled
 add-requires-clause-settled g c =
     let nodes = (with_items c.args.self.now.nodes c.pass_others.new.nodes).items in
-    let p = passed_in g.R.Rng.stream c.args.now c.args.place c.args.self.now.nodes c.deref_mut.result.now c.pass_others.new.nodes c.deref_mut.ensures.value c.in_ok-pass_others.ensures in
+    let p = passed_in g.R.Rng.stream c.args.now c.args.place c.args.self.now.nodes c.deref_mut.result.now c.pass_others.new.nodes c.deref_mut.ensures.value c.pass_others.ensures in
     let within : c.args.place < length nodes = let n = p.count in let ok = c.args.self.now.nodes.ok.0 in let there = c.requires.there in omega (arith, n, ok, there) in
     own_settled g.R.Rng.stream c.args.now c.args.place c.args.self.now.nodes.items nodes p c.requires.settled c.index_mut-node.result.now (slice_get_read nodes (length nodes) c.args.place c.index_mut-node.result.now refl within c.index_mut-node.ensures.value)
 
 pub returns-clause-leads : goal.returns-clause-leads
 returns-clause-leads g c = λ carried.
     let nodes = (with_items c.args.self.now.nodes c.pass_others.new.nodes).items in
-    let p = passed_in g.R.Rng.stream c.args.now c.args.place c.args.self.now.nodes c.deref_mut.result.now c.pass_others.new.nodes c.deref_mut.ensures.value c.in_ok-pass_others.ensures in
+    let p = passed_in g.R.Rng.stream c.args.now c.args.place c.args.self.now.nodes c.deref_mut.result.now c.pass_others.new.nodes c.deref_mut.ensures.value c.pass_others.ensures in
     let within : c.args.place < length nodes = let n = p.count in let ok = c.args.self.now.nodes.ok.0 in let there = c.requires.there in omega (arith, n, ok, there) in
     let is = slice_get_read nodes (length nodes) c.args.place c.index_mut-node.result.now refl within c.index_mut-node.ensures.value in
     let adds = subst (λ l. AddsEvent g.R.Rng.stream c.index_mut-node.result.now c.add.new.self l c.add.new.outs.items c.args.now (event_of c.args.event.now)) c.new-outs.ensures.items c.in_ok-add.ensures.adds in

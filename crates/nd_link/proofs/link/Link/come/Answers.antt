@@ -2,6 +2,7 @@ use Rattle.std.proofs.Common.{◌<◌, ◌≤◌, None, length, arith}
 use Rattle.std.proofs.lemmas.Result.{on_ok_weaker}
 use Rattle.nd_node.specs.Event.{event_of}
 use Rattle.nd_link.proofs.Answering.{come_leads, no_node_leads}
+use Rattle.nd_link.proofs.Refusing.{come_left}
 use Rattle.nd_link.proofs.link.Link.come.Goals as goal
 
 pub returns-in-Some-clause-leads : goal.returns-in-Some-clause-leads
@@ -24,3 +25,13 @@ returns-in-None-clause-leads g c =
     on_ok_weaker c.refuse.result
     (λ leads. no_node_leads g.R.Rng.stream c.args.self.now c.refuse.new.self c.args.told.now.items c.refuse.new.told.items c.args.now c.args.node (event_of c.args.event.now) past leads)
     c.refuse.ensures.leads
+
+pub returns-in-Some-clause-refused : goal.returns-in-Some-clause-refused
+returns-in-Some-clause-refused g c = λ why log s h place'.
+    let ok = c.args.self.now.nodes.ok.0 in
+    let e = c.len.ensures in
+    let place = c.in-Some.ensures.some in
+    let lt = place.1 in
+    let same = place.0 in
+    let there : c.args.node < length c.args.self.now.nodes.items = omega (arith, ok, e, lt, same) in
+    absurd (come_left g.R.Rng.stream c.args.self.now c.args.now why log s c.args.node (event_of c.args.event.now) there h)

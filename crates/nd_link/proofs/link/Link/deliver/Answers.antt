@@ -3,6 +3,7 @@ use Rattle.nd_chronicle.specs.Event as events
 use Rattle.nd_link.specs.Arrival.{Arrives}
 use Rattle.nd_link.specs.Delivery.{Goes, IsWay}
 use Rattle.nd_link.proofs.Answering.{delivered, leads_from, refused_delivery, same_stands}
+use Rattle.nd_link.proofs.Refusing.{deliver_left}
 use Rattle.nd_link.proofs.link.Link.deliver.Goals as goal
 
 pub returns-in_ok-arrive-in-Ok-clause-leads : goal.returns-in_ok-arrive-in-Ok-clause-leads
@@ -22,3 +23,17 @@ returns-in_ok-refuse-in-Err-clause-leads g c = λ faithful.
     let way = subst (λ count. IsWay count frames c.args.node c.args.number (Err c.in-Err.why)) (c.len.ensures ∙ c.args.self.now.nodes.ok.0)
     (subst (λ kept. IsWay c.len.result kept c.args.node c.args.number (Err c.in-Err.why)) c.deref.ensures.value c.in-Err.ensures) in
     refused_delivery g.R.Rng.stream c.args.self.now c.refuse.new.self c.args.told.now.items c.refuse.new.told.items c.args.now c.args.node c.args.number c.in-Err.why way c.in_ok-refuse-in-Err.ensures.leads
+
+pub returns-in_err-frame-in-Ok-clause-refused : goal.returns-in_err-frame-in-Ok-clause-refused
+returns-in_err-frame-in-Ok-clause-refused g c = λ why log s h place.
+    let frames = c.args.self.now.frames.items in
+    let goes = subst (λ count. Goes count frames c.args.node c.args.number (c.in-Ok.place, c.in-Ok.sent)) (c.len.ensures ∙ c.args.self.now.nodes.ok.0)
+    (subst (λ kept. Goes c.len.result kept c.args.node c.args.number (c.in-Ok.place, c.in-Ok.sent)) c.deref.ensures.value c.in-Ok.ensures) in
+    absurd (deliver_left g.R.Rng.stream c.args.self.now c.args.now why log s c.args.node c.args.number (c.in-Ok.place, c.in-Ok.sent) goes h)
+
+pub returns-in_err-arrive-in-Ok-clause-refused : goal.returns-in_err-arrive-in-Ok-clause-refused
+returns-in_err-arrive-in-Ok-clause-refused g c = λ why log s h place.
+    let frames = c.args.self.now.frames.items in
+    let goes = subst (λ count. Goes count frames c.args.node c.args.number (c.in-Ok.place, c.in-Ok.sent)) (c.len.ensures ∙ c.args.self.now.nodes.ok.0)
+    (subst (λ kept. Goes c.len.result kept c.args.node c.args.number (c.in-Ok.place, c.in-Ok.sent)) c.deref.ensures.value c.in-Ok.ensures) in
+    absurd (deliver_left g.R.Rng.stream c.args.self.now c.args.now why log s c.args.node c.args.number (c.in-Ok.place, c.in-Ok.sent) goes h)
