@@ -1,0 +1,4 @@
+pub mod Gathering
+pub mod Tables
+pub mod Listings
+pub mod Failed
