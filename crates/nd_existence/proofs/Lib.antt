@@ -5,3 +5,8 @@ pub mod Failed
 pub mod Turning
 pub mod Timed
 pub mod Walking
+pub mod Placing
+pub mod Hopping
+pub mod Adding
+pub mod Timing
+pub mod Running

@@ -41,11 +41,11 @@ nodes_stand history = record {
 
 -- ---- the own addresses
 
-abbrev address_bound : List addresses.Row → ℕ
+abbrev pub address_bound : List addresses.Row → ℕ
 address_bound [] = 0
 address_bound ((at, key, kind) ∷ history) = suc key + address_bound history
 
-nothing_of_address : (k : ℕ) (history : List addresses.Row) → address_bound history ≤ k → addresses.story k history ≡ []
+pub nothing_of_address : (k : ℕ) (history : List addresses.Row) → address_bound history ≤ k → addresses.story k history ≡ []
 nothing_of_address k [] le = refl
 nothing_of_address k ((at, key, kind) ∷ history) le =
     let other : eqb key k ≡ false = grind (arith, nat_tests, le) in
