@@ -1,5 +1,5 @@
 -- Each event adds something.
-use Rattle.std.proofs.Common.{◌≡◌, ℕ, ◌+◌, ◌<◌, ◌≤◌, Bool, true, false, cond, eqb, List, [], ◌∷◌, ◌++◌, length, Option, Some, None, refl, sym, ◌∙◌, ap, subst}
+use Rattle.std.proofs.Common.{◌≡◌, ℕ, Bool, true, false, cond, eqb, List, [], ◌∷◌, Option, Some, None, refl, sym, ◌∙◌, ap, subst}
 use Rattle.std.specs.Prelude.{MatchBool, map, bytes_eq}
 use Rattle.std.proofs.lemmas.Bool.Decides.{eqb_tells}
 use Rattle.std.proofs.lemmas.Bool.{cond-true, cond-false, eq-eqb, true≢false}
@@ -21,7 +21,6 @@ use Rattle.nd_dns.specs.Names.{same_name, names_told}
 use Rattle.nd_dns.specs.Servers.{servers_told}
 use Rattle.nd_frames.specs.Frames.{answer_frame, multicast_mac, open_mac}
 use Rattle.nd_lifetime.specs.Listing.{fits}
-use Rattle.nd_neighbour.specs.Entry.{Node}
 use Rattle.nd_neighbour.specs.History as neighbours
 use Rattle.nd_neighbour.specs.History.{RowKind, Row, story}
 use Rattle.nd_neighbour.specs.Place.{WouldBeFull}
@@ -30,7 +29,7 @@ use Rattle.nd_neighbour.specs.Story.{is_present, mac_of}
 use Rattle.nd_neighbour.specs.News.{released_by}
 use Rattle.nd_neighbour.proofs.Forgetting as forgetting_proofs
 use Rattle.nd_nexthop.specs.NextHop.{NextHop, direct, via, no_route}
-use Rattle.nd_routers.specs.History.{announcements, preference_of}
+use Rattle.nd_routers.specs.History.{announcements}
 use Rattle.nd_routers.specs.PrefixOptions.{max_prefixes, prefixes_in}
 use Rattle.nd_routers.specs.Routers.{same}
 use Rattle.nd_routes.specs.Forward.{Fate, lost_no_route, lost_hop_limit, sent, fate}
@@ -43,7 +42,7 @@ use Rattle.nd_slaac.specs.Table.{key_of}
 use Rattle.nd_slaac.proofs.Showing as showing
 use Rattle.nd_chronicle.specs.Start.{Start}
 use Rattle.nd_chronicle.specs.Happening.{Chronicle, Heard, Dropped, Up, Neighbour, Configured, Offered, RoutePut, ClearedPrefixes, ClearedRedirects, ClearedDns, Sent, Lost, Routeless, Spent, RedirectMade, Shown, Refused, Refusal, WrongRole, Full, Limit, Neighbours}
-use Rattle.nd_chronicle.specs.Histories.{neighbour_history, router_history, prefix_history, address_history, server_history, name_history, redirect_history, route_history, advertising_history, given_or_marked, then_neighbour}
+use Rattle.nd_chronicle.specs.Histories.{neighbour_history, router_history, prefix_history, address_history, server_history, name_history, route_history, given_or_marked, then_neighbour}
 use Rattle.nd_chronicle.specs.LinkLayerAddress.{first_slla}
 use Rattle.nd_chronicle.specs.InForce.{reachable_time}
 use Rattle.nd_chronicle.specs.OwnAddress.{is_own}
@@ -54,14 +53,13 @@ use Rattle.nd_chronicle.specs.RouterAdvertisement.{then_advertised}
 use Rattle.nd_chronicle.specs.NeighborSolicitation as asked
 use Rattle.nd_chronicle.specs.NeighborSolicitation.{is_router, then_tried}
 use Rattle.nd_chronicle.specs.NeighborAdvertisement.{then_neighbor_advertised}
-use Rattle.nd_chronicle.specs.Full.{entering, asking, needs, Placed, first_full, AdvertisementFills, MessageFills, Fills}
+use Rattle.nd_chronicle.specs.Full.{entering, asking, Placed, first_full, AdvertisementFills, MessageFills, Fills}
 use Rattle.nd_chronicle.specs.Refused.{UnlessRefused, UnlessFull, AtRouter}
 use Rattle.nd_chronicle.specs.Advertising.{planning, wants_answer, ceasing, full_of_offers, full_of_routes}
-use Rattle.nd_chronicle.specs.Forwarding.{key_of as hop_key, better_hop_frame, frame_as_it_came, frame_sent_on, Redirects, SendsOn, FateAdds, ForwardAdds}
+use Rattle.nd_chronicle.specs.Forwarding.{key_of as hop_key, better_hop_frame, frame_as_it_came, frame_sent_on, SendsOn, FateAdds}
 use Rattle.nd_chronicle.specs.Hearing.{Verdict, hears, goes_up, goes_on, drops}
 use Rattle.nd_chronicle.specs.Shown as tables
 use Rattle.nd_chronicle.specs.Shown.{Table, AreRows, neighbour_row, router_row, prefix_row, address_row, server_row, search_row, redirect_row, parameter_row, advertise_rows, route_rows}
-use Rattle.nd_nexthop.specs.History.{redirects}
 use Rattle.nd_chronicle.specs.Event as events
 use Rattle.nd_chronicle.specs.Event.{Event, Clearable, packet_bytes, MessageAdds, VerdictAdds, FrameAdds, packet_frame, PacketAdds, refusal_of_packet, SendAdds, forgetting, clearing, all_leaving, ClearAdds, EventAdds}
 use Rattle.nd_existence.proofs.Tables.{nodes_of, nodes_stand, addresses_of, addresses_stand}

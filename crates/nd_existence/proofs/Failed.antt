@@ -1,12 +1,12 @@
 -- Each history of the routers has the list of those that failed.
-use Rattle.std.proofs.Common.{◌≡◌, ℕ, ◌<◌, Bool, true, false, cond, eqb, List, [], ◌∷◌, ◌++◌, length, Option, Some, None, refl, sym, ◌∙◌, ap, arith}
+use Rattle.std.proofs.Common.{◌≡◌, ℕ, Bool, true, false, eqb, List, [], ◌∷◌, ◌++◌, Option, Some, None, refl, sym, ◌∙◌, arith}
 use Rattle.std.specs.Prelude.{is_some}
 use Rattle.std.proofs.lemmas.Bool.Decides.{nat_tests}
 use Rattle.std.proofs.lemmas.Bool.{true≢false}
 use Rattle.nd_addr.specs.declared.preference.Preference.{Preference}
 use Rattle.nd_lifetime.specs.History.{end_of, is_open, stands}
 use Rattle.nd_routers.specs.History.{RouterRow, Heard, LeftList, Failed, announcements, failure_of}
-use Rattle.nd_routers.specs.DefaultRouterSelection.{has_failed, number_in, Failures, others}
+use Rattle.nd_routers.specs.DefaultRouterSelection.{number_in, Failures, others}
 use Rattle.nd_routers.specs.Routers.{same}
 use Rattle.nd_routers.proofs.Failing.{has_failed-others, InOrder-agree, InOrder-others, leaves, fails_again, fails_unlisted, is_removed, is_heard}
 

@@ -1,5 +1,5 @@
 -- Each destination has a next hop, and of each frame something is made.
-use Rattle.std.proofs.Common.{◌≡◌, ℕ, zero, suc, ◌+◌, ◌<◌, ◌≤◌, Bool, true, false, List, [], ◌∷◌, refl, sym, ◌∙◌, ap, subst, arith, ◌⊎◌, inl, inr}
+use Rattle.std.proofs.Common.{◌≡◌, ℕ, zero, suc, ◌<◌, Bool, true, false, List, [], refl, sym, ◌∙◌, ap, subst, arith, ◌⊎◌, inl, inr}
 use Rattle.std.specs.Prelude.{map, ◌≢◌, ◌||◌}
 use Rattle.std.proofs.lemmas.Bool.Decides.{nat_tests, eqb_tells}
 use Rattle.std.proofs.lemmas.Bool.{true≢false, cases_lt}
@@ -27,8 +27,8 @@ use Rattle.nd_validity.proofs.Deciding.{hears}
 use Rattle.nd_chronicle.specs.Start.{Start}
 use Rattle.nd_chronicle.specs.Happening.{Chronicle}
 use Rattle.nd_chronicle.specs.Histories.{router_history, prefix_history, redirect_history, address_history}
-use Rattle.nd_chronicle.specs.NextHop.{candidate, AreRouters, IsNextHop, routed_hop, IsHopOf}
-use Rattle.nd_chronicle.specs.OwnAddress.{story_of, is_tentative, is_assigned, is_own, is_up}
+use Rattle.nd_chronicle.specs.NextHop.{candidate, IsNextHop, routed_hop, IsHopOf}
+use Rattle.nd_chronicle.specs.OwnAddress.{story_of, is_assigned, is_own, is_up}
 use Rattle.nd_chronicle.specs.Hearing.{IsCounted, IsOurs, takes_target, is_awake, IsForUs, IsPacketForUs, IsInTransit, FromFirstHop, NotFromFirstHop, Verdict, Judges, IsDropped, IsTaken, IsStrange, IsMisdirected, IsPacket, IsPassing, IsStrangePacket, IsHeard}
 use Rattle.nd_existence.proofs.Tables.{address_bound, nothing_of_address}
 use Rattle.nd_existence.proofs.Listings.{listed}
@@ -41,14 +41,16 @@ next_hop c now destination =
     let routers = listed same eqb_tells (announcements (router_history c)) now in
     let prefixes = listed same_prefix prefixes_tell (prefix_history c) now in
     let failed = failed_in (router_history c) in
-    let all = map (λ (e : Lasting ℕ). candidate c failed e.key) routers.0 in
-    (hop (is_own c) (λ (a : List ℕ). is_held a prefixes.0) all (kept (number_of destination.0) (redirect_history c)) destination.0, record {
-      prefixes = prefixes.0;
-      standing = prefixes.1;
-      routers = all;
-      those = record { entries = routers.0; listed = routers.1; failed = failed; failures = failures (router_history c); routers_are = refl };
-      next_is = refl;
-    })
+    let all = map (λ (e : Lasting ℕ). candidate c failed e.key) routers.0 in (
+      hop (is_own c) (λ (a : List ℕ). is_held a prefixes.0) all (kept (number_of destination.0) (redirect_history c)) destination.0,
+      record {
+        prefixes = prefixes.0;
+        standing = prefixes.1;
+        routers = all;
+        those = record { entries = routers.0; listed = routers.1; failed = failed; failures = failures (router_history c); routers_are = refl };
+        next_is = refl;
+      },
+    )
 
 pub hop_of : (role : Role) (c : Chronicle) (now : ℕ) (destination : Addr) → (next : NextHop) × IsHopOf role c now destination next
 hop_of Host c now destination = next_hop c now destination
@@ -99,12 +101,12 @@ module _ (P : ℕ → Type 0) (decided : (k : ℕ) → P k ⊎ (P k → ⊥)) wh
   some_below (suc bound) = elim (decided bound) [
     | inl p ↦ inl (bound, p)
     | inr none ↦ elim (some_below bound) [
-        | inl p ↦ inl p
-        | inr nothing ↦ inr (λ k lt p. elim (eqb_tells k bound) [
-            | inl e ↦ none (subst P e.1 p)
-            | inr d ↦ nothing k (let other = d.1 in grind (arith, nat_tests, other, lt)) p
-          ])
-      ]
+      | inl p ↦ inl p
+      | inr nothing ↦ inr (λ k lt p. elim (eqb_tells k bound) [
+        | inl e ↦ none (subst P e.1 p)
+        | inr d ↦ nothing k (let other = d.1 in grind (arith, nat_tests, other, lt)) p
+      ])
+    ]
   ]
 
 -- ---- to whom a packet goes

@@ -1,20 +1,19 @@
 -- Each neighbour has place or hasn't, and a packet to one that has place goes.
-use Rattle.std.proofs.Common.{◌≡◌, ℕ, ◌+◌, ◌<◌, ◌≤◌, Bool, true, false, cond, eqb, ltb, List, [], ◌∷◌, length, Option, Some, None, refl, sym, ◌∙◌, ap, subst, arith, ◌⊎◌, inl, inr}
-use Rattle.std.specs.Prelude.{MatchBool, ◌&&◌, ◌||◌, not, is_some, nat_lt, ◌↔◌, ◌++◌, if◌then◌else◌, slice_get}
+use Rattle.std.proofs.Common.{◌≡◌, ℕ, Bool, true, false, ltb, List, [], ◌∷◌, length, Option, Some, None, refl, sym, ◌∙◌, ap, subst, arith, ◌⊎◌, inl, inr}
+use Rattle.std.specs.Prelude.{MatchBool, ◌&&◌, ◌||◌, not, is_some, nat_lt, ◌++◌, if◌then◌else◌, slice_get}
 use Rattle.std.specs.Option.{option_to_list}
 use Rattle.nd_waiting.specs.Waiting.{max_waiting}
 use Rattle.std.proofs.lemmas.Bool.Decides.{nat_tests}
 use Rattle.std.proofs.lemmas.Bool.{cond-false, true≢false, cases_Bool}
 use Rattle.nd_neighbour.specs.History as neighbours
 use Rattle.nd_neighbour.specs.History.{Row, Story, story}
-use Rattle.nd_neighbour.specs.Entry.{Node}
 use Rattle.nd_neighbour.specs.Place.{MakesPlace, HadPlace, Pushed, Prepares, pushing, WouldBeFull, stalest, has_place}
 use Rattle.nd_neighbour.specs.Room.{HasRoom, has_room}
 use Rattle.nd_neighbour.specs.Sending as sendings
 use Rattle.nd_neighbour.specs.Sending.{sending_by, sending_of_story}
 use Rattle.nd_neighbour.specs.AddressResolution.{waiting_of}
 use Rattle.nd_neighbour.specs.Story.{is_present, mac_of, the_node}
-use Rattle.nd_neighbour.specs.Table.{Stands, node_in}
+use Rattle.nd_neighbour.specs.Table.{node_in}
 use Rattle.nd_neighbour.proofs.Entering.{stalest_is_longest, stalest_in}
 use Rattle.nd_neighbour.proofs.Second.{room_by_history}
 use Rattle.nd_neighbour.proofs.Unique.{full_by_history}
@@ -24,7 +23,7 @@ use Rattle.nd_chronicle.specs.Histories.{neighbour_history}
 use Rattle.nd_chronicle.specs.InForce.{retrans_timer}
 use Rattle.nd_chronicle.specs.Packet as packets
 use Rattle.nd_chronicle.specs.Packet.{HasPlace, HavePlace, Goes, GoesIfPlaced, no_place, with_pushed, then_packet}
-use Rattle.nd_chronicle.specs.Refused.{UnlessRefused, UnlessFull}
+use Rattle.nd_chronicle.specs.Refused.{UnlessFull}
 use Rattle.nd_existence.proofs.Tables.{nodes_of, nodes_stand}
 use Rattle.nd_existence.proofs.Walking.{option_cases, losing_keeps}
 
@@ -37,9 +36,9 @@ module _ (limit now key : ℕ) (h : List Row) where
       elim (option_cases (node_in key ns)) [
         | inr n ↦ inr (λ full. let none = (by.1 full).0 in let no : Some n.0 ≡ None = sym n.1 ∙ none in absurd (let never : ⊥ = cc in never))
         | inl none ↦ elim (cases_Bool (has_place limit now ns)) [
-            | inl has ↦ inr (λ full. absurd (true≢false (sym has ∙ (by.1 full).1)))
-            | inr lacks ↦ inl (by.0 (none, lacks))
-          ]
+          | inl has ↦ inr (λ full. absurd (true≢false (sym has ∙ (by.1 full).1)))
+          | inr lacks ↦ inl (by.0 (none, lacks))
+        ]
       ]
 
   -- who makes place, where there is place
@@ -52,11 +51,11 @@ module _ (limit now key : ℕ) (h : List Row) where
       elim (cases_Bool (ltb (length ns) limit)) [
         | inl few ↦ (None, HadPlace ns s (grind (arith, nat_tests, few)) refl)
         | inr many ↦ elim (option_cases (stalest now ns)) [
-            | inr n ↦ (Some n.0.key, Pushed ns n.0.key s (grind (arith, nat_tests, many)) (stalest_is_longest ns h s now n.0 n.1 (stalest_in now ns n.0 s.order n.1)) refl)
-            | inl fresh ↦
-                let no : has_place limit now ns ≡ false = ap (λ b. b || is_some (stalest now ns)) many ∙ ap is_some fresh in
-                absurd (never (by.0 (none, no)))
-          ]
+          | inr n ↦ (Some n.0.key, Pushed ns n.0.key s (grind (arith, nat_tests, many)) (stalest_is_longest ns h s now n.0 n.1 (stalest_in now ns n.0 s.order n.1)) refl)
+          | inl fresh ↦
+              let no : has_place limit now ns ≡ false = ap (λ b. b || is_some (stalest now ns)) many ∙ ap is_some fresh in
+              absurd (never (by.0 (none, no)))
+        ]
       ]
 
   parts : (a b : Bool) → (a && not b) ≡ true → (a ≡ true) × (b ≡ false)

@@ -1,20 +1,17 @@
 -- The settings of a chronicle, and the time that they leave between two Router Advertisements.
-use Rattle.std.proofs.Common.{◌≡◌, ℕ, ◌+◌, ◌*◌, ◌%◌, ◌-◌, ◌<◌, ◌≤◌, Bool, true, false, cond, eqb, ltb, List, [], ◌∷◌, Option, Some, None, refl, sym, ◌∙◌, ap, subst, arith}
-use Rattle.std.specs.Prelude.{◌≢◌, min, not, ◌==◌}
+use Rattle.std.proofs.Common.{◌≡◌, ℕ, ◌+◌, ◌<◌, Bool, true, false, cond, eqb, List, [], ◌∷◌, Option, Some, None, refl, sym, ◌∙◌, subst, arith}
 use Rattle.std.proofs.lemmas.Bool.Decides.{nat_tests}
 use Rattle.std.proofs.lemmas.Bool.{cond_both, cond-true, true≢false}
-use Rattle.rand_core.specs.Stream.{Stream, next_u32}
+use Rattle.rand_core.specs.Stream.{Stream}
 use Rattle.nd_advertiser.specs.History as advertising
-use Rattle.nd_advertiser.specs.Advertising.{is_on, settings_of, advertised_by, sent_of, planned_of, next_of, interval_after}
+use Rattle.nd_advertiser.specs.Advertising.{is_on, settings_of, advertised_by, sent_of, next_of, interval_after}
 use Rattle.nd_advertiser.specs.Config.{Settings}
-use Rattle.nd_advertiser.specs.Contents.{contents}
-use Rattle.nd_advertiser.specs.Offers.{offers_of}
 use Rattle.nd_slaac.specs.History as addresses
 use Rattle.nd_chronicle.specs.Start.{Start, link_local_key}
 use Rattle.nd_chronicle.specs.Happening.{Chronicle, Passed, Drew, Heard, Dropped, Up, Neighbour, Address, LeftRouter, ClearedPrefixes, ClearedRedirects, ClearedDns, SolicitedRouters, Configured, Offered, Ceased, Advertised, Planned, RoutePut, RedirectMade, Sent, Lost, Refused, Shown, TooLate}
 use Rattle.nd_chronicle.specs.Histories.{advertising_history, then_assigned}
-use Rattle.nd_chronicle.specs.Generator.{stream_left, drawn_from, interval_drawn}
-use Rattle.nd_chronicle.specs.Advertising.{with_interval, advertising_by, then_advertising}
+use Rattle.nd_chronicle.specs.Generator.{stream_left, interval_drawn}
+use Rattle.nd_chronicle.specs.Advertising.{advertising_by, then_advertising}
 use Rattle.nd_chronicle.specs.Due.{is_host, router_advertisement_date}
 use Rattle.nd_existence.specs.Intervals.{AreTimed}
 

@@ -1,8 +1,7 @@
 -- The settings of a chronicle stay in their range where each that an event gives is: every function of the definitions that adds rows is walked here.
-use Rattle.std.proofs.Common.{◌≡◌, ℕ, ◌<◌, Bool, true, false, cond, List, [], ◌∷◌, Option, Some, None, refl, sym, ◌∙◌, ap, subst}
+use Rattle.std.proofs.Common.{◌≡◌, ℕ, ◌<◌, Bool, true, false, cond, List, [], ◌∷◌, Option, Some, None, refl, sym, subst}
 use Rattle.std.proofs.lemmas.Bool.{true≢false}
-use Rattle.std.proofs.lemmas.Slice.Eq.{bytes_eq-Decides}
-use Rattle.std.specs.Prelude.{MatchBool, bytes_eq, ◌==◌, ◌&&◌, not}
+use Rattle.std.specs.Prelude.{MatchBool, bytes_eq, ◌==◌}
 use Rattle.std.specs.Option.{option_map, option_to_list}
 use Rattle.nd_addr.specs.declared.addr.Addr.{Addr}
 use Rattle.nd_addr.specs.Kind.{multicast_prefix, unspecified_address}
@@ -31,18 +30,17 @@ use Rattle.nd_neighbour.specs.News.{released_by}
 use Rattle.nd_neighbour.specs.Sending.{Sending, Sends, Queues}
 use Rattle.nd_neighbour.specs.Story.{mac_of, waits_of}
 use Rattle.nd_nexthop.specs.NextHop.{NextHop, direct, via, no_route}
-use Rattle.nd_slaac.specs.History as addresses
-use Rattle.nd_slaac.specs.History.{Lifetimes, Story}
-use Rattle.nd_slaac.specs.PrefixOption.{is_taken, prefixes_in, named_by, lifetimes_of}
+use Rattle.nd_slaac.specs.History.{Lifetimes}
+use Rattle.nd_slaac.specs.PrefixOption.{is_taken, prefixes_in, named_by}
 use Rattle.nd_slaac.specs.State as states
 use Rattle.nd_chronicle.specs.Start.{Start}
-use Rattle.nd_chronicle.specs.Happening.{Chronicle, Happening, Address, Configured, Heard, Neighbour, Sent, Ceased, RedirectMade, Forgotten, Loss, Refusal, Full}
+use Rattle.nd_chronicle.specs.Happening.{Chronicle, Happening, Configured, Heard, Neighbour, Sent, Ceased, RedirectMade, Forgotten, Loss, Refusal, Full}
 use Rattle.nd_chronicle.specs.Histories.{neighbour_history, advertising_history, route_history}
-use Rattle.nd_chronicle.specs.InForce.{base_reachable_time, retrans_timer}
+use Rattle.nd_chronicle.specs.InForce.{base_reachable_time}
 use Rattle.nd_chronicle.specs.OwnAddress.{story_of, is_assigned, is_own, is_tentative}
 use Rattle.nd_chronicle.specs.Packet.{losing, sending, with_pushed, MakesPlace, then_packet, Goes, GoesIfPlaced}
 use Rattle.nd_chronicle.specs.Refused.{UnlessRefused, AtRouter}
-use Rattle.nd_chronicle.specs.Hearing.{Verdict, hears, goes_up, goes_on, drops, conflicts_with}
+use Rattle.nd_chronicle.specs.Hearing.{Verdict, hears, goes_up, goes_on, drops}
 use Rattle.nd_chronicle.specs.Advertising.{advertising_by, planning, telling_end, wants_answer, full_of_offers, full_of_routes}
 use Rattle.nd_chronicle.specs.Forwarding.{Redirects, SendsOn, FateAdds}
 use Rattle.nd_chronicle.specs.Message.{said, PlaceFor, sending_if_known, releasing, leaving}

@@ -1,7 +1,6 @@
 -- What is first due in a table is given by a turn of it.
-use Rattle.std.proofs.Common.{◌≡◌, ℕ, ◌<◌, cond, List, length, get_or, set, Option, Some, None, refl}
+use Rattle.std.proofs.Common.{◌≡◌, ℕ, cond, List, set, Some, None, refl}
 use Rattle.std.specs.List.{remove}
-use Rattle.nd_table.specs.Due as due
 use Rattle.nd_table.proofs.Due.{due_has}
 use Rattle.nd_table.proofs.Keyed.{place_found}
 use Rattle.nd_neighbour.specs.Entry.{Node}
@@ -18,16 +17,18 @@ pub neighbour_turns : (now : ℕ) (ns : List Node) (n : Node) → cache.Rises ns
     → (new : List Node) × neighbours.Turns now ns new (neighbours.falls n)
 neighbour_turns now ns n r first =
     let has = due_has cache.address neighbours.date_of now ns n r first in
-    let place = place_found cache.address n.key ns n has in
-    (cond (neighbours.stays (neighbours.falls n)) (set ns place.0 (neighbours.solicited now n)) (remove ns place.0), record {
-      at = place.0;
-      node = n;
-      within = place.1;
-      is = place.2;
-      first = first;
-      falls_is = refl;
-      new_is = refl;
-    })
+    let place = place_found cache.address n.key ns n has in (
+      cond (neighbours.stays (neighbours.falls n)) (set ns place.0 (neighbours.solicited now n)) (remove ns place.0),
+      record {
+        at = place.0;
+        node = n;
+        within = place.1;
+        is = place.2;
+        first = first;
+        falls_is = refl;
+        new_is = refl;
+      },
+    )
 
 module _ (transmits now : ℕ) (xs : List Address) (r : keyed.Rises own.key_of xs) where
   -- an address whose end has come goes

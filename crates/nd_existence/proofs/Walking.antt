@@ -1,9 +1,7 @@
 -- Each millisecond ends, and so does a walk up to a moment.
-use Rattle.std.proofs.Common.{◌≡◌, ℕ, zero, suc, ◌+◌, ◌-◌, ◌<◌, ◌≤◌, Bool, true, false, cond, List, [], ◌∷◌, length, Option, Some, None, refl, sym, ◌∙◌, ap, subst, arith, ◌⊎◌, inl, inr}
-use Rattle.std.specs.Prelude.{◌≢◌, ◌&&◌, not, nat_lt}
+use Rattle.std.proofs.Common.{◌≡◌, ℕ, zero, suc, ◌+◌, ◌<◌, ◌≤◌, Bool, true, false, cond, List, [], ◌∷◌, length, Option, Some, None, refl, ap, subst, arith, ◌⊎◌, inl, inr}
+use Rattle.std.specs.Prelude.{◌&&◌, not, nat_lt}
 use Rattle.std.proofs.lemmas.Bool.Decides.{nat_tests, eqb_tells}
-use Rattle.std.proofs.lemmas.Bool.{cond_both}
-use Rattle.nd_addr.specs.declared.role.Role.{Role}
 use Rattle.nd_advertiser.specs.Advertising.{advertised_by}
 use Rattle.nd_advertiser.specs.Config.{Settings}
 use Rattle.nd_decode.specs.Message.{Parts}
@@ -14,7 +12,6 @@ use Rattle.nd_neighbour.specs.Due as neighbours
 use Rattle.nd_neighbour.specs.Entry.{Node}
 use Rattle.nd_neighbour.specs.Table as cache
 use Rattle.nd_neighbour.proofs.Dues.{first_falls, none_falls, turned_gains, turned_fewer}
-use Rattle.nd_routers.specs.Due as routers
 use Rattle.nd_routers.specs.History.{announcements}
 use Rattle.nd_routers.specs.Routers.{same, first_due}
 use Rattle.nd_routers.proofs.Dues.{first_is_due, first_has, length-without}
@@ -171,11 +168,11 @@ module _ (start : Start) (m end : ℕ) (le : m ≤ end) where
     addressed (suc left) c xs lt s b = elim (option_cases (dates.first_at dates.end_date m xs)) [
       | inr a ↦ stepped left (λ e ys lt' s' b'. addressed left e ys lt' s' b') (addresses.Ends a.0.key) c xs lt s b (address_ends start.transmits m xs s.order a.0 a.1)
       | inl none ↦ elim (option_cases (dates.first_at dates.next_step m xs)) [
-          | inr a ↦ stepped left (λ e ys lt' s' b'. addressed left e ys lt' s' b') (dates.falls_by start.transmits a.0.key a.0.stage) c xs lt s b (address_steps start.transmits m xs s.order a.0 none a.1)
-          | inl rests ↦
-              neighboured (suc (neighbours.turns_left (nodes_of (neighbour_history c)))) c (nodes_of (neighbour_history c)) (omega arith) (nodes_stand (neighbour_history c))
-              (b.0, b.1, rest_falls start.transmits xs (address_history c) s m (record { ends = none; steps = rests }))
-        ]
+        | inr a ↦ stepped left (λ e ys lt' s' b'. addressed left e ys lt' s' b') (dates.falls_by start.transmits a.0.key a.0.stage) c xs lt s b (address_steps start.transmits m xs s.order a.0 none a.1)
+        | inl rests ↦
+            neighboured (suc (neighbours.turns_left (nodes_of (neighbour_history c)))) c (nodes_of (neighbour_history c)) (omega arith) (nodes_stand (neighbour_history c))
+            (b.0, b.1, rest_falls start.transmits xs (address_history c) s m (record { ends = none; steps = rests }))
+      ]
     ]
 
     routed : (left : ℕ) (c : Chronicle) (es : List (Lasting ℕ)) → length es < left → StandsUntilTold same es (announcements (router_history c)) → AreTimed c → Leads c
