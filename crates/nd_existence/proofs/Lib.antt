@@ -10,3 +10,4 @@ pub mod Hopping
 pub mod Adding
 pub mod Timing
 pub mod Running
+pub mod Endless

@@ -66,7 +66,7 @@ on_settings (advertising.Sent at interval ∷ h) on = on_settings h on
 on_settings (advertising.Offered info ∷ h) on = on_settings h on
 
 -- where an advertisement has a date the interface advertises
-dated_on : (h : List advertising.Row) (m : ℕ) → next_of h ≡ Some m → is_on h ≡ true
+pub dated_on : (h : List advertising.Row) (m : ℕ) → next_of h ≡ Some m → is_on h ≡ true
 dated_on h m is = cond_both (is_on h) _ None (λ (o : Option ℕ). o ≡ Some m → is_on h ≡ true) (λ on _. on) (λ off none. absurd (let no : ⊥ = cc in no)) is
 
 drawn_above : (s : Settings) (stream : Stream) → 0 < s.min_interval → 0 < interval_drawn s stream
@@ -84,7 +84,7 @@ next_later h m interval on some is =
     let date : next_of (advertising.Sent m interval ∷ h) ≡ Some (m + interval_after (sent_of h) interval) = rw on refl in
     later_is (m + interval_after (sent_of h) interval) m (let lt = cut_above (sent_of h) interval some in omega (arith, lt)) (sym date ∙ is)
 
-of_router : (host : Bool) (next : Option ℕ) (m : ℕ) → cond host None next ≡ Some m → next ≡ Some m
+pub of_router : (host : Bool) (next : Option ℕ) (m : ℕ) → cond host None next ≡ Some m → next ≡ Some m
 of_router true next m is = absurd (let no : ⊥ = cc in no)
 of_router false next m is = is
 
