@@ -43,9 +43,12 @@ assigned_date m (Some b) (Some a) last None answer is =
     ap Some (omega (arith, e))
 
 assigned_due : (s : Settings) (m : ℕ) (h : List advertising.Row) → IsDueWith s m h → IsDueWith s m (advertising.Assigned m ∷ h)
-assigned_due s m h due =
-    (due.0, due.1, on_date (advertising.Assigned m ∷ h) due.0
-    ∙ assigned_date m (began_of h) (assigned_of h) (last_of h) (planned_of h) (answer_of h) (sym (on_date h due.0) ∙ due.2))
+assigned_due s m h due = (
+  due.0,
+  due.1,
+  on_date (advertising.Assigned m ∷ h) due.0
+      ∙ assigned_date m (began_of h) (assigned_of h) (last_of h) (planned_of h) (answer_of h) (sym (on_date h due.0) ∙ due.2),
+)
 
 module _ (start : Start) (s : Settings) (least : s.min_interval ≡ 0) (greatest : s.max_interval ≡ 0) (m : ℕ) where
   abbrev StaysDue : Chronicle → Type 0

@@ -5,7 +5,8 @@ use Rattle.std.proofs.lemmas.Bool.{cond_both, cond-true, true≢false}
 use Rattle.rand_core.specs.Stream.{Stream}
 use Rattle.nd_advertiser.specs.History as advertising
 use Rattle.nd_advertiser.specs.Advertising.{is_on, settings_of, advertised_by, sent_of, next_of, interval_after}
-use Rattle.nd_advertiser.specs.Config.{Settings}
+use Rattle.nd_advertiser.specs.Config.{Settings, is_max_interval, is_min_interval, config_fault}
+use Rattle.nd_advertiser.specs.declared.config_fault.ConfigFault.{ConfigFault}
 use Rattle.nd_slaac.specs.History as addresses
 use Rattle.nd_chronicle.specs.Start.{Start, link_local_key}
 use Rattle.nd_chronicle.specs.Happening.{Chronicle, Passed, Drew, Heard, Dropped, Up, Neighbour, Address, LeftRouter, ClearedPrefixes, ClearedRedirects, ClearedDns, SolicitedRouters, Configured, Offered, Ceased, Advertised, Planned, RoutePut, RedirectMade, Sent, Lost, Refused, Shown, TooLate}
@@ -98,3 +99,14 @@ once start m c t date again =
     let sent = subst (λ (o : Option Settings). router_advertisement_date start (advertising_by start m o c) ≡ Some m) by again in
     next_later h m (interval_drawn s.0 (stream_left start c)) on (drawn_above s.0 (stream_left start c) (timed start c s.0 t s.1))
     (of_router (is_host start.role) (next_of (advertising.Sent m (interval_drawn s.0 (stream_left start c)) ∷ h)) m sent)
+
+-- settings without a fault have an interval above 0
+by_least : (a b : Bool) (rest : Option ConfigFault) (x y : ConfigFault) → cond a (cond b rest (Some x)) (Some y) ≡ None → b ≡ true
+by_least true true rest x y none = refl
+by_least true false rest x y none = absurd (let never : ⊥ = cc in never)
+by_least false b rest x y none = absurd (let never : ⊥ = cc in never)
+
+pub faultless : (s : Settings) → config_fault s ≡ None → 0 < s.min_interval
+faultless s none =
+    let least : is_min_interval s.min_interval s.max_interval ≡ true = by_least (is_max_interval s.max_interval) (is_min_interval s.min_interval s.max_interval) _ _ _ none in
+    grind (arith, nat_tests, least)

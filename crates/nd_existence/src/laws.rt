@@ -1,8 +1,8 @@
 //! Laws of the definitions, each the contract of a function that does nothing.
 
-ghost use Rattle.std.specs.Prelude.{◌≡◌, ◌≤◌, ℕ, List, Some};
+ghost use Rattle.std.specs.Prelude.{◌≡◌, ◌<◌, ◌≤◌, ℕ, List, Some, None};
 ghost use Rattle.nd_advertiser.specs.Advertising.{advertised_by};
-ghost use Rattle.nd_advertiser.specs.Config.{Settings};
+ghost use Rattle.nd_advertiser.specs.Config.{Settings, config_fault};
 ghost use Rattle.nd_chronicle.specs.Start.{Start};
 ghost use Rattle.nd_chronicle.specs.Happening.{Chronicle};
 ghost use Rattle.nd_chronicle.specs.Histories.{advertising_history};
@@ -30,4 +30,9 @@ pub fn no_end_without_an_interval()
     ensures { (start : Start) (c d : Chronicle) (moment end : ℕ) (settings : Settings) → settings.min_interval ≡ 0 → settings.max_interval ≡ 0
         → advertised_by (advertising_history start c) ≡ Some settings → router_advertisement_date start c ≡ Some moment → moment ≤ end
         → Walk start c moment end d → ⊥ }
+{}
+
+/// Settings without a fault meet the premise.
+pub fn settings_without_a_fault_leave_time()
+    ensures { (settings : Settings) → config_fault settings ≡ None → 0 < settings.min_interval }
 {}
