@@ -9,7 +9,7 @@ use Rattle.nd_addr.specs.Ip6.{PacketParts}
 use Rattle.nd_addr.specs.Number.{number_of, holds}
 use Rattle.nd_addr.specs.declared.role.Role.{Role}
 use Rattle.nd_addr.specs.declared.role.Role.TheVariants.{Host, Router}
-use Rattle.nd_advertiser.specs.Advertising.{tells_its_end}
+use Rattle.nd_advertiser.specs.Advertising.{advertised_by, tells_its_end}
 use Rattle.nd_advertiser.specs.Config.{Settings}
 use Rattle.nd_advertiser.specs.Contents.{last_contents_of}
 use Rattle.nd_routes.specs.Forward.{Fate, lost_no_route, lost_hop_limit, sent, fate}
@@ -23,6 +23,7 @@ use Rattle.nd_decode.specs.declared.router_advertisement.RouterAdvertisement.{Ro
 use Rattle.nd_lifetime.specs.declared.lasting.Lasting.{Lasting}
 use Rattle.nd_params.specs.Params.{redraws}
 use Rattle.nd_neighbour.specs.Due as neighbours_due
+use Rattle.nd_slaac.specs.Due as addresses_due
 use Rattle.nd_neighbour.specs.Entry.{Node, waiting_in}
 use Rattle.nd_neighbour.specs.History as neighbours
 use Rattle.nd_neighbour.specs.History.{RowKind, story}
@@ -50,7 +51,7 @@ use Rattle.nd_chronicle.specs.NeighborSolicitation.{then_tried}
 use Rattle.nd_chronicle.specs.NeighborAdvertisement.{conflicting, ends_in_list}
 use Rattle.nd_chronicle.specs.Event as events
 use Rattle.nd_chronicle.specs.Event.{Event, Clearable, packet_bytes, MessageAdds, VerdictAdds, PacketAdds, SendAdds, refusal_of_packet, ClearAdds, clearing, all_leaving, EventAdds}
-use Rattle.nd_chronicle.specs.Due.{then_neighbour}
+use Rattle.nd_chronicle.specs.Due.{What, RouterEnds, AddressFalls, NeighbourFalls, RoutersSolicited, RouterAdvertises, Redraws, then_neighbour, comes}
 use Rattle.nd_existence.specs.Intervals.{AreTimed, LeavesTime}
 
 -- it gives no settings
@@ -286,3 +287,14 @@ quiet at _ c is t = t
 pub event_timed : (start : Start) (at : ℕ) (c : Chronicle) (event : Event) (d : Chronicle) → LeavesTime event → EventAdds start at event c d → AreTimed c → AreTimed d
 event_timed start at c event d fits h t =
     event_keeps start at AreTimed (quiet at) (λ settings. 0 < settings.min_interval) (λ settings e some timed. (some, timed)) c event d fits h t
+
+-- and so does what is due
+pub comes_timed : (start : Start) (at : ℕ) (what : What) (c : Chronicle) → AreTimed c → AreTimed (comes start at what c)
+comes_timed start at (RouterEnds key) c t = t
+comes_timed start at (AddressFalls (addresses_due.Ends key)) c t = t
+comes_timed start at (AddressFalls (addresses_due.Solicits key)) c t = t
+comes_timed start at (AddressFalls (addresses_due.Assigns key)) c t = t
+comes_timed start at (NeighbourFalls falls) c t = neighbour_keeps start at AreTimed (quiet at) falls c t
+comes_timed start at RoutersSolicited c t = t
+comes_timed start at RouterAdvertises c t = advertising_keeps start at AreTimed (quiet at) (advertised_by (advertising_history start c)) c t
+comes_timed start at Redraws c t = t
