@@ -1,5 +1,5 @@
 -- Each event on a link adds something.
-use Rattle.std.proofs.Common.{◌≡◌, ℕ, zero, suc, ◌+◌, ◌<◌, ◌≤◌, Bool, true, false, List, [], ◌∷◌, ◌++◌, Some, refl, sym, ◌∙◌, ap, subst, arith, inl, inr}
+use Rattle.std.proofs.Common.{◌≡◌, ℕ, zero, suc, ◌<◌, Bool, true, false, List, [], ◌∷◌, ◌++◌, refl, subst, arith, inl, inr}
 use Rattle.std.specs.Prelude.{◌==◌, nat_lt, MatchBool}
 use Rattle.std.proofs.lemmas.Bool.{cond_both}
 use Rattle.std.proofs.lemmas.Bool.Decides.{nat_tests, eqb_tells}
@@ -10,7 +10,7 @@ use Rattle.nd_chronicle.specs.Event as chronicle
 use Rattle.nd_chronicle.specs.Event.{EventAdds}
 use Rattle.nd_chronicle.proofs.Growth.{event_grows}
 use Rattle.nd_link_log.specs.Log.{Entry, Log, NoNode, NoFrame, Own, Full, Begins, Adds, Carries, Reaches, Refuses, nodes, start_of, chronicle_of, adding, sent, IsFrame}
-use Rattle.nd_link_log.specs.Event.{Event, Passes, Starts, Comes, Delivers, max_nodes, passing, AddsRows, AddsDelivery, IfThere, EventHappens}
+use Rattle.nd_link_log.specs.Event.{Event, Passes, Starts, Comes, Delivers, max_nodes, passing, AddsRows, AddsDelivery, EventHappens}
 use Rattle.nd_link_log.proofs.Nodes.{is_there}
 use Rattle.nd_existence.specs.Intervals as nodes
 use Rattle.nd_existence.specs.Intervals.{AreTimed}
@@ -54,7 +54,7 @@ fine_passing now log (suc k) fine =
       timed = λ i. cond_both (k == i) ((now, Passed) ∷ chronicle_of i (passing now k log)) (chronicle_of i (passing now k log)) AreTimed (λ own. before.timed i) (λ other. before.timed i);
     }
 
-fine_reached : (now : ℕ) (log : Log) → IsFine log → IsFine (Reaches now ∷ log)
+pub fine_reached : (now : ℕ) (log : Log) → IsFine log → IsFine (Reaches now ∷ log)
 fine_reached now log fine = record { numbered = fine.numbered; timed = fine.timed }
 
 module _ (limits : Limits) (now : ℕ) where
@@ -69,14 +69,17 @@ module _ (limits : Limits) (now : ℕ) where
       let c = chronicle_of i log in
       let a = event_adds s.0 c now event in
       let g = event_grows s.0 now c event a.0 a.1 in
-      let timed : AreTimed (g.newer ++ c) = subst AreTimed g.all (event_timed s.0 now c event a.0 fits a.1 (fine.timed i)) in
-      (adding i g.newer log, record {
-        start = s.0;
-        starts = s.1;
-        rows = g.newer;
-        adds = subst (λ (d : Chronicle). EventAdds s.0 now event c d) g.all a.1;
-        all = refl;
-      }, fine_with i g.newer log fine timed)
+      let timed : AreTimed (g.newer ++ c) = subst AreTimed g.all (event_timed s.0 now c event a.0 fits a.1 (fine.timed i)) in (
+        adding i g.newer log,
+        record {
+          start = s.0;
+          starts = s.1;
+          rows = g.newer;
+          adds = subst (λ (d : Chronicle). EventAdds s.0 now event c d) g.all a.1;
+          all = refl;
+        },
+        fine_with i g.newer log fine timed,
+      )
 
   refused : (why : _) (log : Log) → IsFine log → IsFine (Refuses now why ∷ log)
   refused why log fine = record { numbered = fine.numbered; timed = fine.timed }

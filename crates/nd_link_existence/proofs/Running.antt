@@ -6,7 +6,7 @@ use Rattle.std.proofs.lemmas.Bool.Decides.{nat_tests}
 use Rattle.nd_chronicle.specs.Start.{Limits}
 use Rattle.nd_link_log.specs.Log.{Log, TooLate, Reaches, Refuses, nodes, last_moment}
 use Rattle.nd_link_log.specs.Event.{Event, EventHappens, passing}
-use Rattle.nd_link_log.specs.History.{Walk, Follows, Runs}
+use Rattle.nd_link_log.specs.History.{Walk, Runs}
 use Rattle.nd_link_existence.specs.Intervals.{LeavesTime}
 use Rattle.nd_link_existence.proofs.Walking.{IsFine, link_walked}
 use Rattle.nd_link_existence.proofs.Adding.{event_happens, fine_passing, fine_reached}
