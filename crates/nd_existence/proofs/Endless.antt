@@ -1,8 +1,8 @@
 -- A millisecond in which a Router Advertisement is due has no end where the interval is 0.
-use Rattle.std.proofs.Common.{◌≡◌, ℕ, ◌+◌, ◌<◌, ◌≤◌, Bool, true, false, cond, eqb, List, [], ◌∷◌, Option, Some, None, refl, sym, ◌∙◌, ap, subst, arith}
-use Rattle.std.specs.Prelude.{max, min}
+use Rattle.std.proofs.Common.{◌≡◌, ℕ, ◌≤◌, Bool, true, false, cond, eqb, List, ◌∷◌, Option, Some, None, refl, sym, ◌∙◌, ap, subst, arith}
+use Rattle.std.specs.Prelude.{max}
 use Rattle.std.proofs.lemmas.Bool.Decides.{nat_tests}
-use Rattle.std.proofs.lemmas.Bool.{cond_both, cond-true, true≢false}
+use Rattle.std.proofs.lemmas.Bool.{cond_both, cond-true}
 use Rattle.rand_core.specs.Stream.{Stream}
 use Rattle.nd_advertiser.specs.History as advertising
 use Rattle.nd_advertiser.specs.Advertising.{is_on, settings_of, advertised_by, began_of, assigned_of, last_of, sent_of, planned_of, answer_of, ready_after, first_date, next_date, next_of, interval_after}

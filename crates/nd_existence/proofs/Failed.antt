@@ -1,18 +1,14 @@
 -- Each history of the routers has the list of those that failed.
-use Rattle.std.proofs.Common.{◌≡◌, ℕ, Bool, true, false, eqb, List, [], ◌∷◌, ◌++◌, Option, Some, None, refl, sym, ◌∙◌, arith}
+use Rattle.std.proofs.Common.{◌≡◌, ℕ, Bool, true, false, eqb, List, [], ◌∷◌, ◌++◌, refl, sym, ◌∙◌, arith}
 use Rattle.std.specs.Prelude.{is_some}
 use Rattle.std.proofs.lemmas.Bool.Decides.{nat_tests}
-use Rattle.std.proofs.lemmas.Bool.{true≢false}
 use Rattle.nd_addr.specs.declared.preference.Preference.{Preference}
-use Rattle.nd_lifetime.specs.History.{end_of, is_open, stands}
+use Rattle.nd_lifetime.specs.History.{end_of, stands}
+use Rattle.nd_existence.proofs.Listings.{opened_some}
 use Rattle.nd_routers.specs.History.{RouterRow, Heard, LeftList, Failed, announcements, failure_of}
 use Rattle.nd_routers.specs.DefaultRouterSelection.{number_in, Failures, others}
 use Rattle.nd_routers.specs.Routers.{same}
 use Rattle.nd_routers.proofs.Failing.{has_failed-others, InOrder-agree, InOrder-others, leaves, fails_again, fails_unlisted, is_removed, is_heard}
-
-opened_some : (o : Option (Option ℕ)) (t : ℕ) → is_open o t ≡ true → is_some o ≡ true
-opened_some None t h = absurd (true≢false (sym h))
-opened_some (Some end) t h = refl
 
 -- a router that announces itself loses its failure unless it stands
 abbrev behind_heard : Bool → Bool → ℕ → List ℕ → List ℕ

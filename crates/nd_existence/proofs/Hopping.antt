@@ -1,7 +1,7 @@
 -- Each destination has a next hop, and of each frame something is made.
-use Rattle.std.proofs.Common.{◌≡◌, ℕ, zero, suc, ◌<◌, Bool, true, false, List, [], refl, sym, ◌∙◌, ap, subst, arith, ◌⊎◌, inl, inr}
+use Rattle.std.proofs.Common.{◌≡◌, ℕ, ◌<◌, Bool, true, false, List, [], refl, sym, ◌∙◌, ap, subst, ◌⊎◌, inl, inr}
 use Rattle.std.specs.Prelude.{map, ◌≢◌, ◌||◌}
-use Rattle.std.proofs.lemmas.Bool.Decides.{nat_tests, eqb_tells}
+use Rattle.std.proofs.lemmas.Bool.Decides.{eqb_tells}
 use Rattle.std.proofs.lemmas.Bool.{true≢false, cases_lt}
 use Rattle.nd_addr.specs.declared.addr.Addr.{Addr}
 use Rattle.nd_addr.specs.declared.role.Role.{Role}
@@ -9,7 +9,7 @@ use Rattle.nd_addr.specs.declared.role.Role.TheVariants.{Host, Router}
 use Rattle.nd_addr.specs.Ip6.{PacketParts}
 use Rattle.nd_addr.specs.Kind.{all_nodes_address, all_routers_address, solicited_node_of}
 use Rattle.nd_addr.specs.Number.{addr_at, number_of}
-use Rattle.nd_addr.specs.Same.{same_prefix, prefixes_tell, bytes_tell}
+use Rattle.nd_addr.specs.Same.{same_prefix, prefixes_tell}
 use Rattle.nd_addr.proofs.Numbered.{addr_back, sixteen}
 use Rattle.nd_decode.specs.Message.{Parts}
 use Rattle.nd_decode.specs.declared.body.Body.{Body}
@@ -30,6 +30,7 @@ use Rattle.nd_chronicle.specs.Histories.{router_history, prefix_history, redirec
 use Rattle.nd_chronicle.specs.NextHop.{candidate, IsNextHop, routed_hop, IsHopOf}
 use Rattle.nd_chronicle.specs.OwnAddress.{story_of, is_assigned, is_own, is_up}
 use Rattle.nd_chronicle.specs.Hearing.{IsCounted, IsOurs, takes_target, is_awake, IsForUs, IsPacketForUs, IsInTransit, FromFirstHop, NotFromFirstHop, Verdict, Judges, IsDropped, IsTaken, IsStrange, IsMisdirected, IsPacket, IsPassing, IsStrangePacket, IsHeard}
+use Rattle.nd_existence.proofs.Deciding.{either_or, both_or, true_or, same_or, some_below}
 use Rattle.nd_existence.proofs.Tables.{address_bound, nothing_of_address}
 use Rattle.nd_existence.proofs.Listings.{listed}
 use Rattle.nd_existence.proofs.Failed.{failed_in, failures}
@@ -69,45 +70,9 @@ via_or_not (via j) k = elim (eqb_tells j k) [
   | inr d ↦ inr (λ e. d.1 (key_is j k e))
 ]
 
-either_or : {A B : Type 0} → (A ⊎ (A → ⊥)) → (B ⊎ (B → ⊥)) → ((A ⊎ B) ⊎ ((A ⊎ B) → ⊥))
-either_or (inl a) b = inl (inl a)
-either_or (inr not_a) (inl b) = inl (inr b)
-either_or {A} {B} (inr not_a) (inr not_b) = inr none
-  where
-    none : (A ⊎ B) → ⊥
-    none (inl a) = not_a a
-    none (inr b) = not_b b
-
-both_or : {A B : Type 0} → (A ⊎ (A → ⊥)) → (B ⊎ (B → ⊥)) → ((A × B) ⊎ ((A × B) → ⊥))
-both_or (inl a) (inl b) = inl (a, b)
-both_or (inl a) (inr not_b) = inr (λ p. not_b p.1)
-both_or (inr not_a) b = inr (λ p. not_a p.0)
-
-true_or : (b : Bool) → (b ≡ true) ⊎ (b ≡ true → ⊥)
-true_or true = inl refl
-true_or false = inr (λ e. true≢false (sym e))
-
-same_or : (a b : List ℕ) → (a ≡ b) ⊎ (a ≡ b → ⊥)
-same_or a b = elim (bytes_tell a b) [ inl e ↦ inl e.1 | inr d ↦ inr d.1 ]
-
 router_or : (role : Role) → (role ≡ Router) ⊎ (role ≡ Router → ⊥)
 router_or Router = inl refl
 router_or Host = inr (λ e. let no : ⊥ = cc in no)
-
--- a number below a bound has the property, or none has
-module _ (P : ℕ → Type 0) (decided : (k : ℕ) → P k ⊎ (P k → ⊥)) where
-  some_below : (bound : ℕ) → ((k : ℕ) × P k) ⊎ ((k : ℕ) → k < bound → P k → ⊥)
-  some_below zero = inr (λ k lt p. absurd (omega (arith, lt)))
-  some_below (suc bound) = elim (decided bound) [
-    | inl p ↦ inl (bound, p)
-    | inr none ↦ elim (some_below bound) [
-      | inl p ↦ inl p
-      | inr nothing ↦ inr (λ k lt p. elim (eqb_tells k bound) [
-        | inl e ↦ none (subst P e.1 p)
-        | inr d ↦ nothing k (let other = d.1 in grind (arith, nat_tests, other, lt)) p
-      ])
-    ]
-  ]
 
 -- ---- to whom a packet goes
 

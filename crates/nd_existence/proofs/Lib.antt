@@ -1,3 +1,4 @@
+pub mod Deciding
 pub mod Gathering
 pub mod Tables
 pub mod Listings

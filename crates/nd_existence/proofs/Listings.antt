@@ -10,7 +10,8 @@ use Rattle.nd_lifetime.proofs.Finding.{Tells, Has, end_in-renewed, end_in-withou
 use Rattle.nd_lifetime.proofs.Order.{Rises-agree, Rises-renewed, Rises-filter, Rises-push}
 use Rattle.nd_lifetime.proofs.Steps.{place_below, ends, lists_at}
 
-opened_some : (o : Option (Option ℕ)) (t : ℕ) → is_open o t ≡ true → is_some o ≡ true
+-- where an end is open there is one
+pub opened_some : (o : Option (Option ℕ)) (t : ℕ) → is_open o t ≡ true → is_some o ≡ true
 opened_some None t h = absurd (true≢false (sym h))
 opened_some (Some end) t h = refl
 

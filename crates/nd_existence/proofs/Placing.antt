@@ -25,7 +25,8 @@ use Rattle.nd_chronicle.specs.Packet as packets
 use Rattle.nd_chronicle.specs.Packet.{HasPlace, HavePlace, Goes, GoesIfPlaced, no_place, with_pushed, then_packet}
 use Rattle.nd_chronicle.specs.Refused.{UnlessFull}
 use Rattle.nd_existence.proofs.Tables.{nodes_of, nodes_stand}
-use Rattle.nd_existence.proofs.Walking.{option_cases, losing_keeps}
+use Rattle.nd_existence.proofs.Deciding.{option_cases}
+use Rattle.nd_existence.proofs.Walking.{losing_keeps}
 
 module _ (limit now key : ℕ) (h : List Row) where
   -- a new neighbour has no place, or has one

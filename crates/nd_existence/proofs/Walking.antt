@@ -1,5 +1,5 @@
 -- Each millisecond ends, and so does a walk up to a moment.
-use Rattle.std.proofs.Common.{◌≡◌, ℕ, zero, suc, ◌+◌, ◌<◌, ◌≤◌, Bool, true, false, cond, List, [], ◌∷◌, length, Option, Some, None, refl, ap, subst, arith, ◌⊎◌, inl, inr}
+use Rattle.std.proofs.Common.{◌≡◌, ℕ, zero, suc, ◌+◌, ◌<◌, ◌≤◌, Bool, true, false, cond, List, [], ◌∷◌, length, Option, Some, None, refl, subst, arith, inl, inr}
 use Rattle.std.specs.Prelude.{◌&&◌, not, nat_lt}
 use Rattle.std.proofs.lemmas.Bool.Decides.{nat_tests, eqb_tells}
 use Rattle.nd_advertiser.specs.Advertising.{advertised_by}
@@ -29,27 +29,11 @@ use Rattle.nd_chronicle.specs.Advertising.{with_interval, advertising_by, then_a
 use Rattle.nd_chronicle.specs.Due.{What, RouterEnds, AddressFalls, NeighbourFalls, RoutersSolicited, RouterAdvertises, Redraws, Due, NoRouter, NoAddress, NoNeighbour, NoSolicitation, NoAdvertisement, is_host, solicited_routers, heard_router, router_solicitation_date, router_advertisement_date, then_address, then_neighbour, comes}
 use Rattle.nd_chronicle.specs.History.{Walk, over, adds, passes}
 use Rattle.nd_existence.specs.Intervals.{AreTimed}
+use Rattle.nd_existence.proofs.Deciding.{option_cases, dated}
 use Rattle.nd_existence.proofs.Tables.{nodes_of, nodes_stand, addresses_of, addresses_stand}
 use Rattle.nd_existence.proofs.Listings.{listing, listing_stands}
 use Rattle.nd_existence.proofs.Turning.{neighbour_turns, address_ends, address_steps}
 use Rattle.nd_existence.proofs.Timed.{once}
-
--- ---- decisions
-
-pub option_cases : {A : Type 0} (o : Option A) → (o ≡ None) ⊎ ((a : A) × (o ≡ Some a))
-option_cases None = inl refl
-option_cases (Some a) = inr (a, refl)
-
-some_is : (a b : ℕ) → Some a ≡ Some b → a ≡ b
-some_is a b e = cc
-
--- a date is this moment or isn't
-dated : (o : Option ℕ) (m : ℕ) → (o ≡ Some m) ⊎ (o ≡ Some m → ⊥)
-dated None m = inr (λ e. let no : ⊥ = cc in no)
-dated (Some x) m = elim (eqb_tells x m) [
-  | inl e ↦ inl (ap Some e.1)
-  | inr d ↦ inr (λ e. d.1 (some_is x m e))
-]
 
 -- ---- what the rows of a millisecond keep
 
