@@ -27,7 +27,7 @@ use Rattle.nd_script_existence.proofs.Arguments.{clearable_or, table_or, setting
 
 -- ---- commands
 
-some_command : (P : Command → Type 0) → ((c : Command) → Decided (P c)) → Decided ((c : Command) × P c)
+pub some_command : (P : Command → Type 0) → ((c : Command) → Decided (P c)) → Decided ((c : Command) × P c)
 some_command P decided = elim (decided Rx) [
   | inl p ↦ inl (Rx, p)
   | inr a ↦ elim (decided Send) [
@@ -95,7 +95,7 @@ whole_or bytes = elim (same_or bytes (codes "at")) [
     neither event (inl e) a b = a e.0
     neither event (inr e) a b = b e.0
 
-command_or : (bytes : List ℕ) → Decided ((event : Event) × IsCommand bytes event)
+pub command_or : (bytes : List ℕ) → Decided ((event : Event) × IsCommand bytes event)
 command_or bytes = elim (parted_or bytes) [
   | inr none ↦ elim (whole_or bytes) [
     | inl p ↦ inl (p.0, inl p.1)
@@ -163,7 +163,7 @@ arguments_leave Show words event a = λ t e. let f : Shows a.0 ≡ Advertises t 
 arguments_leave Prefix words event a = λ t e. let f : Offers a.0 ≡ Advertises t = sym a.1 ∙ e in absurd (let no : ⊥ = cc in no)
 arguments_leave Route words event a = λ t e. let f : Routes a.0 a.1 ≡ Advertises t = sym a.2 ∙ e in absurd (let no : ⊥ = cc in no)
 
-command_leaves : (bytes : List ℕ) (event : Event) → IsCommand bytes event → LeavesTime event
+pub command_leaves : (bytes : List ℕ) (event : Event) → IsCommand bytes event → LeavesTime event
 command_leaves bytes event (inl (inl e)) = λ t f. let g : Passes ≡ Advertises t = sym e.1 ∙ f in absurd (let no : ⊥ = cc in no)
 command_leaves bytes event (inl (inr e)) = λ t f. let g : Stops ≡ Advertises t = sym e.1 ∙ f in absurd (let no : ⊥ = cc in no)
 command_leaves bytes event (inr c) = arguments_leave c.0 c.1.rest event c.1.behind

@@ -75,7 +75,7 @@ split_or P decided (x ∷ xs) = elim (decided [] (x ∷ xs)) [
 
 -- ---- numbers
 
-less_or : (n limit : ℕ) → Decided (n < limit)
+pub less_or : (n limit : ℕ) → Decided (n < limit)
 less_or n limit = elim (cases_lt n limit) [ inl lt ↦ inl lt | inr ge ↦ inr (λ lt. absurd (omega (arith, lt, ge))) ]
 
 pub most_or : (n most : ℕ) → Decided (n ≤ most)
