@@ -1,0 +1,347 @@
+-- Each event adds something.
+use Rattle.std.proofs.Common.{◌≡◌, ℕ, Bool, true, false, cond, eqb, List, [], ◌∷◌, Option, Some, None, refl, sym, ◌∙◌, ap, subst}
+use Rattle.std.specs.Prelude.{MatchBool, map, bytes_eq}
+use Rattle.std.proofs.lemmas.Bool.Decides.{eqb_tells}
+use Rattle.std.proofs.lemmas.Bool.{cond-true, cond-false, eq-eqb, true≢false}
+use Rattle.nd_addr.specs.declared.addr.Addr.{Addr}
+use Rattle.nd_addr.specs.declared.mac.Mac.{Mac}
+use Rattle.nd_addr.specs.declared.role.Role.{Role}
+use Rattle.nd_addr.specs.declared.role.Role.TheVariants.{Host, Router}
+use Rattle.nd_addr.specs.Ip6.{PacketParts}
+use Rattle.nd_addr.specs.Kind.{multicast_prefix, unspecified_address}
+use Rattle.nd_addr.specs.Number.{number_of, holds}
+use Rattle.nd_addr.specs.Same.{same_addr, addrs_tell, same_prefix, prefixes_tell, bytes_tell}
+use Rattle.nd_decode.specs.Message.{Parts}
+use Rattle.nd_decode.specs.Option.{Said}
+use Rattle.nd_decode.specs.declared.body.Body.{Body}
+use Rattle.nd_decode.specs.declared.body.Body.TheVariants as bodies
+use Rattle.nd_decode.specs.declared.router_advertisement.RouterAdvertisement.{RouterAdvertisement}
+use Rattle.nd_dns.specs.Dns.{max_servers, max_names}
+use Rattle.nd_dns.specs.Names.{same_name, names_told}
+use Rattle.nd_dns.specs.Servers.{servers_told}
+use Rattle.nd_frames.specs.Frames.{answer_frame, multicast_mac, open_mac}
+use Rattle.nd_lifetime.specs.Listing.{fits}
+use Rattle.nd_neighbour.specs.History as neighbours
+use Rattle.nd_neighbour.specs.History.{RowKind, Row, story}
+use Rattle.nd_neighbour.specs.Place.{WouldBeFull}
+use Rattle.nd_neighbour.specs.Shown as shown_neighbours
+use Rattle.nd_neighbour.specs.Story.{is_present, mac_of}
+use Rattle.nd_neighbour.specs.News.{released_by}
+use Rattle.nd_neighbour.proofs.Forgetting as forgetting_proofs
+use Rattle.nd_nexthop.specs.NextHop.{NextHop, direct, via, no_route}
+use Rattle.nd_routers.specs.History.{announcements}
+use Rattle.nd_routers.specs.PrefixOptions.{max_prefixes, prefixes_in}
+use Rattle.nd_routers.specs.Routers.{same}
+use Rattle.nd_routes.specs.Forward.{Fate, lost_no_route, lost_hop_limit, sent, fate}
+use Rattle.nd_routes.specs.Redirect.{last_redirect, redirect}
+use Rattle.nd_routes.specs.Routes.{routes}
+use Rattle.nd_slaac.specs.PrefixOption as own_prefixes
+use Rattle.nd_slaac.specs.Room.{fits_in}
+use Rattle.nd_slaac.specs.Shown as shown_addresses
+use Rattle.nd_slaac.specs.Table.{key_of}
+use Rattle.nd_slaac.proofs.Showing as showing
+use Rattle.nd_chronicle.specs.Start.{Start}
+use Rattle.nd_chronicle.specs.Happening.{Chronicle, Heard, Dropped, Up, Neighbour, Configured, Offered, RoutePut, ClearedPrefixes, ClearedRedirects, ClearedDns, Sent, Lost, Routeless, Spent, RedirectMade, Shown, Refused, Refusal, WrongRole, Full, Limit, Neighbours}
+use Rattle.nd_chronicle.specs.Histories.{neighbour_history, router_history, prefix_history, address_history, server_history, name_history, route_history, given_or_marked, then_neighbour}
+use Rattle.nd_chronicle.specs.LinkLayerAddress.{first_slla}
+use Rattle.nd_chronicle.specs.InForce.{reachable_time}
+use Rattle.nd_chronicle.specs.OwnAddress.{is_own}
+use Rattle.nd_chronicle.specs.Packet.{sending, Goes, GoesIfPlaced, HavePlace}
+use Rattle.nd_chronicle.specs.NextHop.{IsHopOf}
+use Rattle.nd_chronicle.specs.Message.{said, lets_enter, PlaceFor, sending_if_known, releasing}
+use Rattle.nd_chronicle.specs.RouterAdvertisement.{then_advertised}
+use Rattle.nd_chronicle.specs.NeighborSolicitation as asked
+use Rattle.nd_chronicle.specs.NeighborSolicitation.{is_router, then_tried}
+use Rattle.nd_chronicle.specs.NeighborAdvertisement.{then_neighbor_advertised}
+use Rattle.nd_chronicle.specs.Full.{entering, asking, Placed, first_full, AdvertisementFills, MessageFills, Fills}
+use Rattle.nd_chronicle.specs.Refused.{UnlessRefused, UnlessFull, AtRouter}
+use Rattle.nd_chronicle.specs.Advertising.{planning, wants_answer, ceasing, full_of_offers, full_of_routes}
+use Rattle.nd_chronicle.specs.Forwarding.{key_of as hop_key, better_hop_frame, frame_as_it_came, frame_sent_on, SendsOn, FateAdds}
+use Rattle.nd_chronicle.specs.Hearing.{Verdict, hears, goes_up, goes_on, drops}
+use Rattle.nd_chronicle.specs.Shown as tables
+use Rattle.nd_chronicle.specs.Shown.{Table, AreRows, neighbour_row, router_row, prefix_row, address_row, server_row, search_row, redirect_row, parameter_row, advertise_rows, route_rows}
+use Rattle.nd_chronicle.specs.Event as events
+use Rattle.nd_chronicle.specs.Event.{Event, Clearable, packet_bytes, MessageAdds, VerdictAdds, FrameAdds, packet_frame, PacketAdds, refusal_of_packet, SendAdds, forgetting, clearing, all_leaving, ClearAdds, EventAdds}
+use Rattle.nd_existence.proofs.Tables.{nodes_of, nodes_stand, addresses_of, addresses_stand}
+use Rattle.nd_existence.proofs.Listings.{listed}
+use Rattle.nd_existence.proofs.Placing.{unless_full, place_told, second_told, place_made, packet_goes, goes_if_placed, second_placed}
+use Rattle.nd_existence.proofs.Hopping.{hop_of, frame_heard}
+
+-- a neighbour whose address was just given is there
+given_not_full : (limit now key at mac : ℕ) (mark : Option Bool) (h : List Row) → WouldBeFull limit now key ((at, key, neighbours.Given mac mark) ∷ h) → ⊥
+given_not_full limit now key at mac mark h full =
+    true≢false (sym (ap is_present (cond-true (eqb key key) ((at, neighbours.Given mac mark) ∷ story key h) (story key h) (eq-eqb key key refl))) ∙ full.absent)
+
+-- packets that are released are no rows of the neighbours
+sending_rows : (at mac : ℕ) (packets : List (List ℕ)) (c : Chronicle) → neighbour_history (sending at mac packets c) ≡ neighbour_history c
+sending_rows at mac [] c = refl
+sending_rows at mac (packet ∷ packets) c = sending_rows at mac packets _
+
+known_rows : (at : ℕ) (mac : Option ℕ) (packets : List (List ℕ)) (c : Chronicle) → neighbour_history (sending_if_known at mac packets c) ≡ neighbour_history c
+known_rows at None packets c = refl
+known_rows at (Some mac) packets c = sending_rows at mac packets c
+
+releasing_rows : (at : ℕ) (news : Option (ℕ × RowKind)) (h : List Row) (c : Chronicle) → neighbour_history (releasing at news h c) ≡ neighbour_history c
+releasing_rows at None h c = refl
+releasing_rows at (Some news) h c = known_rows at (mac_of ((at, news.1) ∷ story news.0 h)) (released_by at news.1 (story news.0 h)) c
+
+module _ (start : Start) (c : Chronicle) (now : ℕ) where
+  -- ---- a message is heard
+
+  placed : (need : Option (ℕ × Bool)) → (place : Bool) × Placed start c now need place
+  placed None = (true, refl)
+  placed (Some need) = place_told start c now need.0 need.1
+
+  place_for : (news : Option (ℕ × RowKind)) → Placed start c now (entering news) true → (d : Chronicle) × PlaceFor start c now news d
+  place_for None p = (c, refl)
+  place_for (Some news) p = place_made start c now news.0 (lets_enter news.1) p
+
+  module _ (source destination : Addr) (options : List Said) where
+    abbrev message : Body → Parts
+    message body = record { body = body; options = options }
+
+    -- behind the place for a neighbour
+    behind : (body : Body) (then' : Chronicle → Chronicle) → Placed start c now (entering (said c source (message body))) true
+        → (d : Chronicle) × ((made : Chronicle) × PlaceFor start c now (said c source (message body)) made × (d ≡ then' made))
+    behind body then' p = let f = place_for (said c source (message body)) p in (then' f.0, (f.0, f.1, refl))
+
+    -- ---- a Neighbor Solicitation
+
+    module _ (target : Addr) where
+      abbrev solicitation : Parts
+      solicitation = message (bodies.Ns (record { target = target }))
+
+      abbrev heard_over : Chronicle → Chronicle
+      heard_over made = (now, Heard source destination solicitation) ∷ made
+
+      abbrev AnswersBy : Option (ℕ × RowKind) → Chronicle → Type 0
+      AnswersBy news d = (made : Chronicle) × PlaceFor start c now news made
+          × Goes start (releasing now news (neighbour_history made) (heard_over made)) now (number_of source.0) (answer_frame (is_router start.role) start.mac target source) d
+
+      module _ (never : WouldBeFull start.limits.neighbours now (number_of source.0) (neighbour_history c) → ⊥) where
+        answered : (news : Option (ℕ × RowKind)) (made : Chronicle) → PlaceFor start c now news made
+            → (WouldBeFull start.limits.neighbours now (number_of source.0) (neighbour_history (heard_over made)) → ⊥) → (d : Chronicle) × AnswersBy news d
+        answered news made place room =
+            let g = packet_goes start (releasing now news (neighbour_history made) (heard_over made)) now (number_of source.0) (answer_frame (is_router start.role) start.mac target source)
+            (λ full. room (subst (λ (h : List Row). WouldBeFull start.limits.neighbours now (number_of source.0) h) (releasing_rows now news (neighbour_history made) (heard_over made)) full)) in
+            (g.0, (made, place, g.1))
+
+        -- with the asker's link-layer address or without it
+        answered_by : (mac : Option Mac) → said c source solicitation ≡ given_or_marked (number_of source.0) mac None
+            → (d : Chronicle) × AnswersBy (given_or_marked (number_of source.0) mac None) d
+        answered_by None is = answered None c refl (λ full. never (subst (λ (h : List Row). WouldBeFull start.limits.neighbours now (number_of source.0) h) (heard_rows c None is) full))
+          where
+            heard_rows : (made : Chronicle) (news : Option (ℕ × RowKind)) → said c source solicitation ≡ news
+                → neighbour_history (heard_over made) ≡ then_neighbour now news (neighbour_history made)
+            heard_rows made news e = ap (λ o. then_neighbour now o (neighbour_history made)) e
+        answered_by (Some mac) is =
+            let p = place_made start c now (number_of source.0) true (λ e. never) in
+            answered (Some (number_of source.0, neighbours.Given (number_of mac.0) None)) p.0 p.1
+            (λ full. given_not_full start.limits.neighbours now (number_of source.0) now (number_of mac.0) None (neighbour_history p.0)
+            (subst (λ (h : List Row). WouldBeFull start.limits.neighbours now (number_of source.0) h)
+            (ap (λ o. then_neighbour now o (neighbour_history p.0)) is) full))
+
+      solicited : (t : Bool) → bytes_eq source.0 unspecified_address ≡ t → Placed start c now (asking source) true
+          → (d : Chronicle) × MatchBool t (d ≡ then_tried start now target (heard_over c)) (asked.Answers start now source destination target solicitation c d)
+      solicited true is p = (then_tried start now target (heard_over c), refl)
+      solicited false is p =
+          let has = subst (λ (b : Bool). Placed start c now (cond b None (Some (number_of source.0, true))) true) is p in
+          let news : said c source solicitation ≡ given_or_marked (number_of source.0) (first_slla options) None =
+          cond-false (bytes_eq source.0 unspecified_address) None (given_or_marked (number_of source.0) (first_slla options) None) is in
+          let a = answered_by (has refl) (first_slla options) news in
+          let b = subst (λ o. AnswersBy o a.0) (sym news) a.1 in
+          (a.0, record { placed = b.0; place = b.1; answer = b.2 })
+
+    -- ---- any message, which may have no room
+
+    abbrev Filled : Body → Chronicle → Type 0
+    Filled body d = (full : Option Limit) × Fills start c now source (message body) body full × UnlessFull now full (MessageAdds start now source destination (message body) body c) c d
+
+    filled : (need : Option (ℕ × Bool)) (A : Chronicle → Type 0) (MayFill : Option Limit → Type 0) → ((place : Bool) → Placed start c now need place → MayFill (cond place None (Some Neighbours)))
+        → (Placed start c now need true → (d : Chronicle) × A d) → (place : Bool) → Placed start c now need place → (d : Chronicle) × ((full : Option Limit) × MayFill full × UnlessFull now full A c d)
+    filled need A MayFill fills f true p = let d = f p in (d.0, (None, fills true p, d.1))
+    filled need A MayFill fills f false p = ((now, Refused (Full Neighbours)) ∷ c, (Some Neighbours, fills false p, refl))
+
+    -- a Router Advertisement
+    module _ (ra : RouterAdvertisement) where
+      abbrev advertisement : Parts
+      advertisement = message (bodies.Ra ra)
+
+      advertised : (place : Bool) → Placed start c now (entering (said c source advertisement)) place → (d : Chronicle) × Filled (bodies.Ra ra) d
+      advertised place p =
+          let routers = listed same eqb_tells (announcements (router_history c)) now in
+          let prefixes = listed same_prefix prefixes_tell (prefix_history c) now in
+          let servers = listed same_addr addrs_tell (server_history c) now in
+          let names = listed same_name bytes_tell (name_history c) now in
+          let known = addresses_of (address_history c) in
+          let forms = fits_in start.mac (map key_of known) (own_prefixes.prefixes_in options) in
+          let full = first_full place
+          (fits same start.limits.routers now ((number_of source.0, ra.router_lifetime) ∷ []) routers.0)
+          (fits same_prefix max_prefixes now (prefixes_in options) prefixes.0)
+          forms
+          (fits same_addr max_servers now (servers_told options) servers.0)
+          (fits same_name max_names now (names_told options) names.0) in
+          let all : AdvertisementFills start c now source ra advertisement full = record {
+            neighbours = place;
+            placed = p;
+            routers = routers.0;
+            those_routers = routers.1;
+            prefixes = prefixes.0;
+            those_prefixes = prefixes.1;
+            forms = forms;
+            those_addresses = record { known = known; those = addresses_stand (address_history c); fit_is = refl };
+            servers = servers.0;
+            those_servers = servers.1;
+            names = names.0;
+            those_names = names.1;
+            first = refl;
+          } in
+          let d = unless_full now full (MessageAdds start now source destination advertisement (bodies.Ra ra) c) c
+          (λ none. behind (bodies.Ra ra) (λ made. then_advertised start now source destination ra advertisement made) (has_place place _ p none)) in
+          (d.0, (full, all, d.1))
+        where
+          has_place : (q : Bool) (rest : Option Limit) → Placed start c now (entering (said c source advertisement)) q → cond q rest (Some Neighbours) ≡ None
+              → Placed start c now (entering (said c source advertisement)) true
+          has_place true rest h none = h
+          has_place false rest h none = absurd (let never : ⊥ = cc in never)
+
+    message_adds : (body : Body) → (d : Chronicle) × Filled body d
+    message_adds (bodies.Ra ra) = let p = placed (entering (said c source (message (bodies.Ra ra)))) in advertised ra p.0 p.1
+    message_adds (bodies.Ns ns) =
+        let p = placed (asking source) in
+        filled (asking source) (MessageAdds start now source destination (message (bodies.Ns ns)) (bodies.Ns ns) c) (MessageFills start c now source (message (bodies.Ns ns)))
+        (λ place q. record { neighbours = place; placed = q; first = refl })
+        (λ q. solicited ns.target (bytes_eq source.0 unspecified_address) refl q) p.0 p.1
+    message_adds (bodies.Na na) =
+        let p = placed (entering (said c source (message (bodies.Na na)))) in
+        filled (entering (said c source (message (bodies.Na na)))) (MessageAdds start now source destination (message (bodies.Na na)) (bodies.Na na) c) (MessageFills start c now source (message (bodies.Na na)))
+        (λ place q. record { neighbours = place; placed = q; first = refl })
+        (λ q. behind (bodies.Na na) (λ made. then_neighbor_advertised now source destination na.target (message (bodies.Na na)) made) q) p.0 p.1
+    message_adds (bodies.Redirect r) =
+        let p = placed (entering (said c source (message (bodies.Redirect r)))) in
+        filled (entering (said c source (message (bodies.Redirect r)))) (MessageAdds start now source destination (message (bodies.Redirect r)) (bodies.Redirect r) c) (MessageFills start c now source (message (bodies.Redirect r)))
+        (λ place q. record { neighbours = place; placed = q; first = refl })
+        (λ q. behind (bodies.Redirect r) (λ made. releasing now (said c source (message (bodies.Redirect r))) (neighbour_history made) ((now, Heard source destination (message (bodies.Redirect r))) ∷ made)) q) p.0 p.1
+    message_adds bodies.Rs =
+        let p = placed (entering (said c source (message bodies.Rs))) in
+        filled (entering (said c source (message bodies.Rs))) (MessageAdds start now source destination (message bodies.Rs) bodies.Rs c) (MessageFills start c now source (message bodies.Rs))
+        (λ place q. record { neighbours = place; placed = q; first = refl })
+        (λ q. behind bodies.Rs (λ made. planning start now (wants_answer start c) (releasing now (said c source (message bodies.Rs)) (neighbour_history made) ((now, Heard source destination (message bodies.Rs)) ∷ made))) q) p.0 p.1
+
+  -- ---- a packet in transit
+
+  module _ (packet : PacketParts) (bytes : List ℕ) (key : ℕ) (target : Addr) where
+    both_go : (place : Bool) → HavePlace start c now (number_of packet.header.source.0) key place → (d : Chronicle) × SendsOn start now (Some target) packet bytes key c d
+    both_go true room =
+        let from = (now, RedirectMade) ∷ c in
+        let told = packet_goes start from now (number_of packet.header.source.0) (better_hop_frame start now target packet bytes c) room.first in
+        let behind_it = packet_goes start told.0 now key (frame_sent_on start now packet)
+        (second_placed start from now (number_of packet.header.source.0) key (better_hop_frame start now target packet bytes c) told.0 room told.1) in
+        (behind_it.0, (true, room, record { told = told.0; redirect = told.1; behind = behind_it.1 }))
+    both_go false lacks = ((now, Refused (Full Neighbours)) ∷ c, (false, lacks, refl))
+
+  sends_on : (target : Option Addr) (packet : PacketParts) (bytes : List ℕ) (key : ℕ) → (d : Chronicle) × SendsOn start now target packet bytes key c d
+  sends_on None packet bytes key = goes_if_placed start c now key (frame_sent_on start now packet)
+  sends_on (Some target) packet bytes key =
+      let p = second_told start c now (number_of packet.header.source.0) key in both_go packet bytes key target p.0 p.1
+
+  fate_adds : (f : Fate) (packet : PacketParts) (bytes : List ℕ) → (d : Chronicle) × FateAdds start now f packet bytes c d
+  fate_adds lost_no_route packet bytes = ((now, Lost Routeless (frame_as_it_came start now packet)) ∷ c, refl)
+  fate_adds lost_hop_limit packet bytes = ((now, Lost Spent (frame_as_it_came start now packet)) ∷ c, refl)
+  fate_adds (sent next) packet bytes =
+      sends_on (redirect (is_own c) (routes (route_history c)) (last_redirect (route_history c)) now packet.header) packet bytes (hop_key next packet.header.destination)
+
+  -- ---- a frame
+
+  verdict_adds : (frame : List ℕ) (verdict : Verdict) → (d : Chronicle) × VerdictAdds start now frame verdict c d
+  verdict_adds frame (drops why) = ((now, Dropped why) ∷ c, refl)
+  verdict_adds frame (goes_up packet) = ((now, Up (packet_bytes frame)) ∷ c, refl)
+  verdict_adds frame (goes_on packet) = fate_adds (fate (is_own c) (routes (route_history c)) packet.header) packet (packet_bytes frame)
+  verdict_adds frame (hears source destination message) = message_adds source destination message.options message.body
+
+  frame_adds : (frame : List ℕ) → (d : Chronicle) × FrameAdds start now frame c d
+  frame_adds frame =
+      let v = frame_heard start c now frame in
+      let d = verdict_adds frame v.0 in
+      (d.0, record { verdict = v.0; heard = v.1; adds = d.1 })
+
+  -- ---- a packet is to be sent
+
+  unless_refused : (why : Option Refusal) (A : Chronicle → Type 0) → (d : Chronicle) × A d → (d : Chronicle) × UnlessRefused now why A c d
+  unless_refused None A d = d
+  unless_refused (Some refusal) A d = ((now, Refused refusal) ∷ c, refl)
+
+  module _ (source destination : Addr) (next_header : ℕ) (payload : List ℕ) where
+    direct_adds : (t : Bool) → (d : Chronicle) × MatchBool t
+        (d ≡ (now, Sent (packet_frame start now (multicast_mac destination) source destination next_header payload c)) ∷ c)
+        (GoesIfPlaced start now (number_of destination.0) (packet_frame start now open_mac source destination next_header payload c) c d)
+    direct_adds true = (_, refl)
+    direct_adds false = goes_if_placed start c now (number_of destination.0) (packet_frame start now open_mac source destination next_header payload c)
+
+    packet_adds : (next : NextHop) → (d : Chronicle) × PacketAdds start now next source destination next_header payload c d
+    packet_adds no_route = (_, refl)
+    packet_adds direct = direct_adds (holds multicast_prefix destination.0)
+    packet_adds (via key) = goes_if_placed start c now key (packet_frame start now open_mac source destination next_header payload c)
+
+    send_adds : (d : Chronicle) × SendAdds start now source destination next_header payload c d
+    send_adds =
+        let next = hop_of start.role c now destination in
+        let d = packet_adds next.0 in
+        unless_refused (refusal_of_packet start now source payload c)
+        (λ e. (next : NextHop) × IsHopOf start.role c now destination next × PacketAdds start now next source destination next_header payload c e)
+        (d.0, (next.0, next.1, d.1))
+
+  -- ---- commands
+
+  clear_adds : (table : Clearable) → (d : Chronicle) × ClearAdds start now table c d
+  clear_adds events.ClearNeighbours = (clearing start now (nodes_of (neighbour_history c)) c, (nodes_of (neighbour_history c), nodes_stand (neighbour_history c), refl))
+  clear_adds events.ClearRouters =
+      let es = listed same eqb_tells (announcements (router_history c)) now in
+      ((now, ClearedRedirects) ∷ all_leaving start now es.0 c, (es.0, es.1, refl))
+  clear_adds events.ClearPrefixes = ((now, ClearedPrefixes) ∷ c, refl)
+  clear_adds events.ClearRedirects = ((now, ClearedRedirects) ∷ c, refl)
+  clear_adds events.ClearDns = ((now, ClearedDns) ∷ c, refl)
+
+  -- each table has rows to be shown
+  pub rows_of : (table : Table) → (rows : List (List ℕ)) × AreRows start c now table rows
+  rows_of tables.NeighbourTable =
+      let nodes = nodes_of (neighbour_history c) in
+      let seen = map (shown_neighbours.seen now) nodes in
+      (map neighbour_row seen, (seen, forgetting_proofs.lists_all now nodes (neighbour_history c) seen refl (nodes_stand (neighbour_history c)), refl))
+  rows_of tables.RouterTable = let es = listed same eqb_tells (announcements (router_history c)) now in (_, (es.0, es.1, refl))
+  rows_of tables.PrefixTable = let es = listed same_prefix prefixes_tell (prefix_history c) now in (_, (es.0, es.1, refl))
+  rows_of tables.AddressTable =
+      let known = addresses_of (address_history c) in
+      let seen = map (shown_addresses.seen now) known in
+      (map address_row seen, (seen, showing.lists_all now known (address_history c) seen refl (addresses_stand (address_history c)), refl))
+  rows_of tables.DnsTable =
+      let servers = listed same_addr addrs_tell (server_history c) now in
+      let names = listed same_name bytes_tell (name_history c) now in
+      (_, (servers.0, servers.1, names.0, names.1, refl))
+  rows_of tables.RedirectTable = (_, refl)
+  rows_of tables.ParameterTable = (_, refl)
+  rows_of tables.AdvertiseTable = (_, refl)
+  rows_of tables.RouteTable = (_, refl)
+
+  at_router : (role : Role) (A : Chronicle → Type 0) → (d : Chronicle) × A d → (d : Chronicle) × AtRouter now role A c d
+  at_router Host A d = ((now, Refused WrongRole) ∷ c, refl)
+  at_router Router A d = d
+
+  -- ---- the event
+
+  pub event_adds : (event : Event) → (d : Chronicle) × EventAdds start now event c d
+  event_adds events.Passes = (c, refl)
+  event_adds (events.Receives frame) = frame_adds frame
+  event_adds (events.Sends source destination next_header payload) = send_adds source destination next_header payload
+  event_adds (events.Confirms neighbour) = ((now, Neighbour (number_of neighbour.0) (neighbours.Confirmed (reachable_time c))) ∷ c, refl)
+  event_adds (events.Forgets neighbour) = (forgetting start now (number_of neighbour.0) c, refl)
+  event_adds (events.Clears table) = clear_adds table
+  event_adds (events.Shows table) = let rows = rows_of table in ((now, Shown rows.0) ∷ c, (rows.0, rows.1, refl))
+  event_adds (events.Advertises settings) = at_router start.role (λ e. e ≡ (now, Configured settings) ∷ c) ((now, Configured settings) ∷ c, refl)
+  event_adds (events.Offers info) =
+      at_router start.role (λ e. UnlessFull now (full_of_offers start info.prefix c) (λ x. x ≡ (now, Offered info) ∷ c) c e)
+      (unless_full now (full_of_offers start info.prefix c) (λ x. x ≡ (now, Offered info) ∷ c) c (λ none. ((now, Offered info) ∷ c, refl)))
+  event_adds (events.Routes prefix route) =
+      at_router start.role (λ e. UnlessFull now (full_of_routes prefix c) (λ x. x ≡ (now, RoutePut prefix route) ∷ c) c e)
+      (unless_full now (full_of_routes prefix c) (λ x. x ≡ (now, RoutePut prefix route) ∷ c) c (λ none. ((now, RoutePut prefix route) ∷ c, refl)))
+  event_adds events.Stops = at_router start.role (λ e. e ≡ ceasing start now c) (ceasing start now c, refl)

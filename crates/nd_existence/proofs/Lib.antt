@@ -1,0 +1,14 @@
+pub mod Deciding
+pub mod Gathering
+pub mod Tables
+pub mod Listings
+pub mod Failed
+pub mod Turning
+pub mod Timed
+pub mod Walking
+pub mod Placing
+pub mod Hopping
+pub mod Adding
+pub mod Timing
+pub mod Running
+pub mod Endless

@@ -1,0 +1,3 @@
+pub mod Walking
+pub mod Adding
+pub mod Running
