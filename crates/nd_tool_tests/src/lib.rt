@@ -1,4 +1,4 @@
-//! Tests of the tool: of lines between any reader and writer, and of the words of its command line. They stand here, so that no crate is
+//! Tests of the tool: of lines between any reader and writer, of the words of its command line, and of the whole program. They stand here, so that no crate is
 //! proved a second time for its tests. There is nothing here but tests.
 #![tactic(auto)]
 
@@ -6,3 +6,5 @@
 mod command_line;
 #[cfg(test)]
 mod input_and_output;
+#[cfg(test)]
+mod tool;

@@ -1,6 +1,9 @@
 use crate::{FailingWire, MemoryWire, UdpWire, Wire, WireFault};
+use std::alloc::Global;
 use std::net::{Ipv4Addr, SocketAddrV4, UdpSocket};
+use std::process::Abort;
 use std::test::Fail;
+use std::time::{Duration, Instant};
 
 /// A frame is carried; what arrived, or that it did not.
 fn carried<W: Wire>(
@@ -119,36 +122,81 @@ fn datagrams_of_strangers_are_not_taken(rt: HostRuntime) -> Result<(), Fail> {
     Ok(())
 }
 
-#[test]
-fn what_a_failed_call_left_is_thrown_away(rt: HostRuntime) -> Result<(), Fail> {
-    let mut wire = UdpWire::new(&rt, rt.alloc(), 1)?;
-    let frame = [1u8, 2, 3];
-    assert!(rt; carried(&rt, &mut wire, 0, &frame)?.is_ok());
-    // One of another length comes first, so the frame of that call stays behind.
-    match wire.receivers.first() {
-        Some(receiver) => assert!(rt; wire.sender.send_to(&[4, 5, 6, 7], receiver.at)? == 4),
-        None => panic!(rt; "no receiver"),
-    }
-    assert!(rt; carried(&rt, &mut wire, 0, &frame)? == Err(WireFault));
-    assert!(rt; wire.failures() == 1);
-    match carried(&rt, &mut wire, 0, &[7, 8, 9])? {
-        Ok(bytes) => assert!(rt; bytes.as_slice() == [7, 8, 9].as_slice()),
-        Err(_) => panic!(rt; "a fault"),
-    }
-    assert!(rt; wire.failures() == 1);
+/// Sends a datagram from the wire's own socket to that of a node.
+fn send(rt: &impl Abort, wire: &UdpWire<Global>, to: usize, bytes: &[u8]) -> Result<(), Fail> {
+    let receiver = wire.receivers.get(to).ok_or("receiver")?;
+    assert!(rt; wire.sender.send_to(bytes, receiver.at)? == bytes.len());
     Ok(())
 }
 
+/// A datagram that comes before the first frame is thrown away, whoever sent it.
+#[test]
+fn what_came_before_the_first_frame_is_thrown_away(rt: HostRuntime) -> Result<(), Fail> {
+    for stale in [[4u8].as_slice(), &[4, 5, 6], &[4, 5, 6, 7]] {
+        let mut wire = UdpWire::new(&rt, rt.alloc(), 1)?;
+        send(&rt, &wire, 0, stale)?;
+        let frame = frame_of(&rt, 3, 1)?;
+        assert!(rt; carried(&rt, &mut wire, 0, &frame)? == Ok(frame));
+        assert!(rt; wire.failures() == 0);
+    }
+    Ok(())
+}
+
+/// A datagram of another length than the frame's, a shorter one or a longer one, is a fault. The frame of that call stays behind, and is thrown away
+/// before the next one.
+#[test]
+fn a_datagram_of_another_length_is_a_fault(rt: HostRuntime) -> Result<(), Fail> {
+    for stale in [[].as_slice(), &[4], &[4, 5], &[4, 5, 6, 7]] {
+        let mut wire = UdpWire::new(&rt, rt.alloc(), 1)?;
+        let frame = frame_of(&rt, 3, 1)?;
+        assert!(rt; carried(&rt, &mut wire, 0, &frame)?.is_ok());
+        send(&rt, &wire, 0, stale)?;
+        assert!(rt; carried(&rt, &mut wire, 0, &frame)? == Err(WireFault));
+        assert!(rt; wire.failures() == 1);
+        let other = frame_of(&rt, 3, 7)?;
+        assert!(rt; carried(&rt, &mut wire, 0, &other)? == Ok(other));
+        assert!(rt; wire.failures() == 1);
+    }
+    Ok(())
+}
+
+/// What arrives is what comes first out of the node's own socket, and not the frame itself: of two datagrams of one length the first, and at another
+/// node the frame.
+#[test]
+fn frames_go_through_the_socket_of_their_node(rt: HostRuntime) -> Result<(), Fail> {
+    let mut wire = UdpWire::new(&rt, rt.alloc(), 2)?;
+    let frame = [1u8, 2, 3];
+    for to in [0, 1] {
+        assert!(rt; carried(&rt, &mut wire, to, &frame)?.is_ok());
+    }
+    send(&rt, &wire, 1, &[4, 5, 6])?;
+    assert!(rt; carried(&rt, &mut wire, 0, &frame)? == Ok(Vec::from_slice(rt.alloc(), &frame)?));
+    assert!(rt;
+        carried(&rt, &mut wire, 1, &frame)? == Ok(Vec::from_slice(rt.alloc(), &[4, 5, 6])?)
+    );
+    assert!(rt; wire.failures() == 0);
+    Ok(())
+}
+
+/// A datagram that is lost is waited for, and is a fault within two seconds: at the first frame, and behind one that arrived.
 #[test]
 fn a_lost_datagram_is_a_fault(rt: HostRuntime) -> Result<(), Fail> {
-    let mut wire = UdpWire::new(&rt, rt.alloc(), 1)?;
-    let elsewhere = UdpSocket::bind(&rt, SocketAddrV4::new(Ipv4Addr::LOCALHOST, 0))?;
-    let there = elsewhere.local_addr()?;
-    match wire.receivers.first_mut() {
-        Some(receiver) => receiver.at = there,
-        None => panic!(rt; "no receiver"),
+    for frames_before in [0, 1] {
+        let mut wire = UdpWire::new(&rt, rt.alloc(), 1)?;
+        for _ in 0..frames_before {
+            assert!(rt; carried(&rt, &mut wire, 0, &[1, 2, 3])?.is_ok());
+        }
+        let elsewhere = UdpSocket::bind(&rt, SocketAddrV4::new(Ipv4Addr::LOCALHOST, 0))?;
+        let there = elsewhere.local_addr()?;
+        match wire.receivers.first_mut() {
+            Some(receiver) => receiver.at = there,
+            None => panic!(rt; "no receiver"),
+        }
+        let start = Instant::now(&rt)?;
+        assert!(rt; carried(&rt, &mut wire, 0, &[1, 2, 3])? == Err(WireFault));
+        let waited = start.elapsed(&rt)?;
+        assert!(rt; waited >= Duration::from_millis(500) && waited < Duration::from_secs(2));
+        assert!(rt; wire.failures() == 1);
     }
-    assert!(rt; carried(&rt, &mut wire, 0, &[1, 2, 3])? == Err(WireFault));
-    assert!(rt; wire.failures() == 1);
     Ok(())
 }

@@ -1,5 +1,5 @@
 use Rattle.std.proofs.Common.{[]}
-use Rattle.ndpctl.proofs.link.link_over_memory.Goals as goal
+use Rattle.nd_tool.proofs.link.link_over_memory.Goals as goal
 
 pub returns-clause-ok : goal.returns-clause-ok
 returns-clause-ok g c = c.run_link.ensures.ok c.memory_is_faithful.ensures [] c.new-script.ensures.stands

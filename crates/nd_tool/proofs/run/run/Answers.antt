@@ -3,7 +3,7 @@ use Rattle.nd_io.proofs.EachLemmas.{TellsFront-each}
 use Rattle.nd_io.specs.Each.{text_of_each, malformed_of_each}
 use Rattle.nd_io.specs.ToldLaws.{wrote_beginning}
 use Rattle.nd_check.specs.Check.{answer_to}
-use Rattle.ndpctl.proofs.run.run.Goals as goal
+use Rattle.nd_tool.proofs.run.run.Goals as goal
 
 pub returns-in-Check-clause-front : goal.returns-in-Check-clause-front
 returns-in-Check-clause-front g c = rw c.in-Check.is (λ claimed. on_err_weaker c.run_check.result (TellsFront-each answer_to _ _ _) c.run_check.ensures.front)

@@ -3,7 +3,7 @@
 ghost use Rattle.std.specs.Prelude.{◌≢◌, ◌⊎◌, ℕ, OnOk, OnErr, IsErrOf, Some, None, Err};
 ghost use Rattle.nd_io.specs.Counts.{HasRisen, HasGrownBy, most_reads};
 ghost use Rattle.nd_io.specs.Told.{TellsAll, TellsFront, TellsBeginning, TellsAsRead, TellsToMemory};
-ghost use Rattle.ndpctl.specs.Run.{IsClaimed, is_malformed_asked, texts_asked};
+ghost use Rattle.nd_tool.specs.Run.{IsClaimed, is_malformed_asked, texts_asked};
 
 use crate::link::{link_over_datagrams, link_over_memory};
 use nd_check::run_check;

@@ -1,2 +1,0 @@
-pub mod ExitStatus
-pub mod Run
