@@ -7,6 +7,8 @@ mod lines;
 #[cfg(test)]
 mod link;
 #[cfg(test)]
+mod reaching;
+#[cfg(test)]
 mod runs;
 #[cfg(test)]
 mod told;

@@ -41,8 +41,7 @@ fn is_refused<'h>(
     event: &Event<&'h LocalHeap>,
 ) {
     let mut outs = Vec::with_capacity(heap, 1).expect(rt, "memory");
-    let blocks = exhaust(heap).expect(rt, "memory");
-    assert!(rt; Vec::<u8, &LocalHeap>::with_capacity(heap, 1).is_err());
+    let blocks = exhaust(rt, heap);
     assert!(rt; come(node, 3000, event, &mut outs).is_ok());
     assert!(rt; !blocks.is_empty());
     drop(blocks);

@@ -22,4 +22,6 @@ mod redirects;
 #[cfg(test)]
 mod refusing;
 #[cfg(test)]
+mod requests;
+#[cfg(test)]
 mod routers;

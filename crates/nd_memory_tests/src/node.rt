@@ -24,6 +24,9 @@ const SMALL: usize = 16;
 /// As many large blocks are parted into small ones.
 const LAST: usize = 2;
 
+/// The most tries of an event, each of which has 16 bytes more than the one before. No event of these tests asks for more than a kilobyte.
+const MOST_TRIES: usize = 64;
+
 /// The most blocks of one size.
 const MOST_BLOCKS: usize = 2048;
 
@@ -62,7 +65,7 @@ const REDIRECT: [u8; 102] = [
 ];
 
 /// A packet of 2001:db8::9 to 2001:db8:1::5, which a router sends on, and tells its sender of a better hop.
-const TRANSIT: [u8; 54] = [
+pub(crate) const TRANSIT: [u8; 54] = [
     0x34, 0x56, 0x78, 0x9a, 0xbc, 0xde, 2, 0, 0, 0, 0, 9, 0x86, 0xdd, 0x60, 0, 0, 0, 0, 0, 0x11,
     0x40, 0x20, 1, 0x0d, 0xb8, 0, 0, 0, 0, 0, 0, 0, 0, 0, 0, 0, 9, 0x20, 1, 0x0d, 0xb8, 0, 1, 0, 0,
     0, 0, 0, 0, 0, 0, 0, 5,
@@ -81,7 +84,7 @@ pub(crate) fn come<'h>(
 }
 
 /// A host, at 3 s, up to which all that is due is done.
-fn host<'h>(rt: &impl Abort, heap: &'h LocalHeap) -> Node<Pcg32, &'h LocalHeap> {
+pub(crate) fn host<'h>(rt: &impl Abort, heap: &'h LocalHeap) -> Node<Pcg32, &'h LocalHeap> {
     let generator = Pcg32::seed_from_u64(0);
     let mut node = Node::new(
         heap,
@@ -118,17 +121,19 @@ pub(crate) fn sends(heap: &LocalHeap, destination: Addr) -> Event<&LocalHeap> {
     })
 }
 
-/// Takes all that is left of a heap, but for the last of it in blocks of 16 bytes.
-pub(crate) fn exhaust(
-    heap: &LocalHeap,
-) -> Result<Vec<Vec<u8, &LocalHeap>, &LocalHeap>, AllocError> {
-    let mut blocks = Vec::with_capacity(heap, 2 * MOST_BLOCKS)?;
-    fill(heap, LARGE, &mut blocks)?;
+/// Takes all that is left of a heap, but for the last of it in blocks of 16 bytes: one byte more is refused.
+pub(crate) fn exhaust<'h>(
+    rt: &impl Abort,
+    heap: &'h LocalHeap,
+) -> Vec<Vec<u8, &'h LocalHeap>, &'h LocalHeap> {
+    let mut blocks = Vec::with_capacity(heap, 2 * MOST_BLOCKS).expect(rt, "memory");
+    fill(heap, LARGE, &mut blocks).expect(rt, "memory");
     for _ in 0..LAST {
         let _block = blocks.pop();
     }
-    fill(heap, SMALL, &mut blocks)?;
-    Ok(blocks)
+    fill(heap, SMALL, &mut blocks).expect(rt, "memory");
+    assert!(rt; Vec::<u8, &LocalHeap>::with_capacity(heap, 1).is_err());
+    blocks
 }
 
 /// Takes blocks of one size, until there is none any more.
@@ -182,8 +187,7 @@ fn take_without_memory<'h>(
     empty: &Event<&'h LocalHeap>,
     outs: &mut Vec<(u64, Out<&'h LocalHeap>), &'h LocalHeap>,
 ) {
-    let blocks = exhaust(heap).expect(rt, "memory");
-    assert!(rt; Vec::<u8, &LocalHeap>::with_capacity(heap, 1).is_err());
+    let blocks = exhaust(rt, heap);
     assert!(rt; node.settle(3000, outs).is_ok());
     assert!(rt; come(node, 3000, &Event::Passes, outs).is_ok());
     assert!(rt; come(node, 3000, empty, outs).is_ok());
@@ -223,6 +227,7 @@ fn a_host_without_memory_takes_what_asks_for_none(rt: HostRuntime) {
 
 /// An event comes while so many blocks of 16 bytes are left.
 fn try_event<'h>(
+    rt: &impl Abort,
     heap: &'h LocalHeap,
     node: &mut Node<Pcg32, &'h LocalHeap>,
     event: &Event<&'h LocalHeap>,
@@ -232,7 +237,7 @@ fn try_event<'h>(
 ) -> Result<(), AllocError>
     requires { now < 2 ^ 62 }
 {
-    let mut blocks = exhaust(heap)?;
+    let mut blocks = exhaust(rt, heap);
     for _ in 0..spare {
         let _block = blocks.pop();
     }
@@ -240,7 +245,7 @@ fn try_event<'h>(
 }
 
 /// Each request of an event is the one that is refused in some try, since each try has 16 bytes more than the one before; and each that is
-/// refused leaves all tables as they were, and tells nothing.
+/// refused leaves all tables as they were, and tells nothing. The tries are few, so the event asks for little memory.
 fn refuse_each<'h>(
     rt: &impl Abort,
     heap: &'h LocalHeap,
@@ -254,14 +259,14 @@ fn refuse_each<'h>(
     let mut refused = 0;
     for spare in 0..MOST_BLOCKS {
         let mut outs = Vec::new(heap);
-        if try_event(heap, node, event, now, spare, &mut outs).is_ok() {
+        if try_event(rt, heap, node, event, now, spare, &mut outs).is_ok() {
             break;
         }
         assert!(rt; shown(rt, node, heap).as_str() == before.as_str());
         assert!(rt; outs.is_empty());
         refused = spare + 1;
     }
-    assert!(rt; refused > 0 && refused < MOST_BLOCKS);
+    assert!(rt; refused > 0 && refused <= MOST_TRIES);
 }
 
 #[test]

@@ -65,7 +65,8 @@ fn of_routers(flood: &mut Flood, limit: u16) -> Result<(), AllocError> {
 }
 
 /// `limit` neighbours ask a host for its address, one each millisecond, and then one more. A solicitation of `::` is still answered.
-fn of_solicitations(flood: &mut Flood, limit: u16) -> Result<(), AllocError> {
+/// `is_confirmed`: an upper layer confirms each of them, so that all are REACHABLE (RFC 4861, section 7.3.1).
+fn of_solicitations(flood: &mut Flood, limit: u16, is_confirmed: bool) -> Result<(), AllocError> {
     flood.push("10000 at\n", ALONE)?;
     let last = limit.saturating_add(1);
     for n in 1..=last {
@@ -75,6 +76,9 @@ fn of_solicitations(flood: &mut Flood, limit: u16) -> Result<(), AllocError> {
             flood.script,
             "{at} rx 3333ff9abcde02000000{mac:04x}86dd6000000000203afffe80000000000000000000000001{n:04x}ff0200000000000000000001ff9abcde8700525400000000fe80000000000000365678fffe9abcde010102000000{mac:04x}"
         )?;
+        if is_confirmed {
+            writeln!(flood.script, "{at} confirm fe80::1:{n:x}")?;
+        }
     }
     for n in 1..=limit {
         let at = 10_000 + u64::from(n);
@@ -94,6 +98,21 @@ fn of_solicitations(flood: &mut Flood, limit: u16) -> Result<(), AllocError> {
         flood.wanted,
         "{at} refused full neighbours\n{at} heard ns\n{at} tx 3333000000013456789abcde86dd6000000000203afffe80000000000000365678fffe9abcdeff02000000000000000000000000000188001a3020000000fe80000000000000365678fffe9abcde02013456789abcde"
     )?;
+    Ok(())
+}
+
+/// The neighbours of `of_solicitations` are shown, once all were confirmed.
+fn show_confirmed(flood: &mut Flood, limit: u16) -> Result<(), AllocError> {
+    let at = 10_001 + u64::from(limit);
+    writeln!(flood.script, "{at} show neighbours")?;
+    for n in 1..=limit {
+        let [high, low] = u16::MAX.saturating_sub(n).to_be_bytes();
+        writeln!(
+            flood.wanted,
+            "{at} neighbour fe80::1:{n:x} 02:00:00:00:{high:02x}:{low:02x} reachable host"
+        )?;
+    }
+    writeln!(flood.wanted, "{at} end {limit}")?;
     Ok(())
 }
 
@@ -208,7 +227,18 @@ fn a_router_too_many_is_refused(rt: HostRuntime) {
 fn a_solicitation_too_many_is_refused(rt: HostRuntime) {
     for (neighbours, routers) in LIMITS {
         let (node, mut flood) = limited(&rt, rt.alloc(), host(), neighbours, routers);
-        of_solicitations(&mut flood, neighbours).expect(&rt, "memory");
+        of_solicitations(&mut flood, neighbours, false).expect(&rt, "memory");
+        ends(&rt, rt.alloc(), &node, &flood);
+    }
+}
+
+/// Neighbours that are all confirmed are shown so, refuse one more, and hinder no answer to a detection (RFC 4862, section 5.4.3).
+#[test]
+fn a_solicitation_too_many_is_refused_by_confirmed_neighbours(rt: HostRuntime) {
+    for (neighbours, routers) in LIMITS {
+        let (node, mut flood) = limited(&rt, rt.alloc(), host(), neighbours, routers);
+        of_solicitations(&mut flood, neighbours, true).expect(&rt, "memory");
+        show_confirmed(&mut flood, neighbours).expect(&rt, "memory");
         ends(&rt, rt.alloc(), &node, &flood);
     }
 }

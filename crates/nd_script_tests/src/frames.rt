@@ -1,6 +1,7 @@
 //! Frames that come to a host, and what it tells: worked rows of frames and texts, and frames that a program apart from this one wrote.
 
-use crate::tested::told;
+use crate::tested::{host, told, told_in_pieces};
+use std::fmt::Write;
 use std::test::*;
 
 /// What a host tells up to its first Router Solicitation.
@@ -24,21 +25,44 @@ fn an_advertisement_forms_an_address(rt: HostRuntime) {
     );
 }
 
-/// A router ends with its lifetime, and its unused neighbour ages (RFC 4861, section 6.3.5).
+/// An advertisement with a prefix, and what a host tells of it up to the end of its router.
+const ADVERTISED: &str =
+    "1200 rx 33330000000102000000000186dd6000000000383afffe80000000000000000000fffe000001ff0200000000000000000000000000018600f9ce4000070800000000000000000101020000000001030440c000278d0000093a800000000020010db8000000000000000000000000\n";
+
+const FORMED: &str =
+    "1200 heard ra\n1200 tx 3333ff9abcde3456789abcde86dd6000000000183aff00000000000000000000000000000000ff0200000000000000000001ff9abcde870024a70000000020010db800000000365678fffe9abcde\n2200 assigned 2001:db8::3656:78ff:fe9a:bcde\n1801200 ended router fe80::ff:fe00:1\n";
+
+/// A router ends with its lifetime, and its unused neighbour ages after 24 hours (RFC 4861, section 6.3.5; the 24 hours are our choice).
 #[test]
 fn routers_end_and_neighbours_age(rt: HostRuntime) {
-    told(
-        &rt,
-        rt.alloc(),
-        &[
-            "1200 rx 33330000000102000000000186dd6000000000383afffe80000000000000000000fffe000001ff0200000000000000000000000000018600f9ce4000070800000000000000000101020000000001030440c000278d0000093a800000000020010db8000000000000000000000000\n2200 at\n86401200 show neighbours\n",
-        ],
-        Ok(()),
-        &[
-            STARTED,
-            "1200 heard ra\n1200 tx 3333ff9abcde3456789abcde86dd6000000000183aff00000000000000000000000000000000ff0200000000000000000001ff9abcde870024a70000000020010db800000000365678fffe9abcde\n2200 assigned 2001:db8::3656:78ff:fe9a:bcde\n1801200 ended router fe80::ff:fe00:1\n86401200 end 0\n",
-        ],
-    );
+    for (shown, wanted) in [
+        (
+            "86401199 show neighbours\n",
+            "86401199 neighbour fe80::ff:fe00:1 02:00:00:00:00:01 stale router\n86401199 end 1\n",
+        ),
+        ("86401200 show neighbours\n", "86401200 end 0\n"),
+    ] {
+        let script = [ADVERTISED, "2200 at\n", shown];
+        told(&rt, rt.alloc(), &script, Ok(()), &[STARTED, FORMED, wanted]);
+    }
+}
+
+/// The moments of a day, one each second, change no byte: 86,401 lines write what one writes.
+#[test]
+fn a_line_each_second_changes_no_byte(rt: HostRuntime) {
+    let mut script = String::from_str(rt.alloc(), ADVERTISED).expect(&rt, "memory");
+    for second in 0..86_401u64 {
+        let at = 1200 + 1000 * second;
+        writeln!(script, "{at} at").expect(&rt, "memory");
+    }
+    script
+        .push_str("86401200 show neighbours\n")
+        .expect(&rt, "memory");
+    let mut wanted = String::from_str(rt.alloc(), STARTED).expect(&rt, "memory");
+    wanted.push_str(FORMED).expect(&rt, "memory");
+    wanted.push_str("86401200 end 0\n").expect(&rt, "memory");
+    let script = script.as_bytes();
+    told_in_pieces(&rt, rt.alloc(), &host(), 4096, script, Ok(()), &wanted);
 }
 
 /// An option of length 0 drops the frame (RFC 4861, section 6.1.2).

@@ -15,6 +15,8 @@ mod lines;
 #[cfg(test)]
 mod next_hops;
 #[cfg(test)]
+mod reaching;
+#[cfg(test)]
 mod router;
 #[cfg(test)]
 mod router_commands;
