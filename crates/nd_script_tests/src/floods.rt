@@ -64,30 +64,41 @@ fn of_routers(flood: &mut Flood, limit: u16) -> Result<(), AllocError> {
     Ok(())
 }
 
+/// Neighbour `n` asks a host for its address at 10 s and `n` ms, and gives its link-layer address.
+fn push_solicitation(flood: &mut Flood, n: u16) -> Result<(), AllocError> {
+    let at = 10_000 + u64::from(n);
+    let mac = u16::MAX.saturating_sub(n);
+    writeln!(
+        flood.script,
+        "{at} rx 3333ff9abcde02000000{mac:04x}86dd6000000000203afffe80000000000000000000000001{n:04x}ff0200000000000000000001ff9abcde8700525400000000fe80000000000000365678fffe9abcde010102000000{mac:04x}"
+    )
+}
+
+/// The host answers it.
+fn push_answer(flood: &mut Flood, n: u16) -> Result<(), AllocError> {
+    let at = 10_000 + u64::from(n);
+    let mac = u16::MAX.saturating_sub(n);
+    let checksum = 0xdab1u16.saturating_sub(n);
+    writeln!(
+        flood.wanted,
+        "{at} heard ns\n{at} tx 02000000{mac:04x}3456789abcde86dd6000000000203afffe80000000000000365678fffe9abcdefe80000000000000000000000001{n:04x}8800{checksum:04x}60000000fe80000000000000365678fffe9abcde02013456789abcde"
+    )
+}
+
 /// `limit` neighbours ask a host for its address, one each millisecond, and then one more. A solicitation of `::` is still answered.
 /// `is_confirmed`: an upper layer confirms each of them, so that all are REACHABLE (RFC 4861, section 7.3.1).
 fn of_solicitations(flood: &mut Flood, limit: u16, is_confirmed: bool) -> Result<(), AllocError> {
     flood.push("10000 at\n", ALONE)?;
     let last = limit.saturating_add(1);
     for n in 1..=last {
-        let at = 10_000 + u64::from(n);
-        let mac = u16::MAX.saturating_sub(n);
-        writeln!(
-            flood.script,
-            "{at} rx 3333ff9abcde02000000{mac:04x}86dd6000000000203afffe80000000000000000000000001{n:04x}ff0200000000000000000001ff9abcde8700525400000000fe80000000000000365678fffe9abcde010102000000{mac:04x}"
-        )?;
+        push_solicitation(flood, n)?;
         if is_confirmed {
+            let at = 10_000 + u64::from(n);
             writeln!(flood.script, "{at} confirm fe80::1:{n:x}")?;
         }
     }
     for n in 1..=limit {
-        let at = 10_000 + u64::from(n);
-        let mac = u16::MAX.saturating_sub(n);
-        let checksum = 0xdab1u16.saturating_sub(n);
-        writeln!(
-            flood.wanted,
-            "{at} heard ns\n{at} tx 02000000{mac:04x}3456789abcde86dd6000000000203afffe80000000000000365678fffe9abcdefe80000000000000000000000001{n:04x}8800{checksum:04x}60000000fe80000000000000365678fffe9abcde02013456789abcde"
-        )?;
+        push_answer(flood, n)?;
     }
     let at = 10_000 + u64::from(last);
     writeln!(
@@ -230,6 +241,27 @@ fn a_solicitation_too_many_is_refused(rt: HostRuntime) {
         of_solicitations(&mut flood, neighbours, false).expect(&rt, "memory");
         ends(&rt, rt.alloc(), &node, &flood);
     }
+}
+
+/// 300 neighbours ask a host for its address, and then one that doesn't give its link-layer address: the host asks for that before it answers (RFC 4861,
+/// section 7.2.4).
+fn of_an_unknown_asker(flood: &mut Flood) -> Result<(), AllocError> {
+    flood.push("10000 at\n", ALONE)?;
+    for n in 1..=300 {
+        push_solicitation(flood, n)?;
+        push_answer(flood, n)?;
+    }
+    flood.push(
+        "10301 rx 3333ff9abcde02000000000186dd6000000000183afffe80000000000000000000000001012dff0200000000000000000001ff9abcde8700543000000000fe80000000000000365678fffe9abcde\n",
+        "10301 heard ns\n10301 tx 3333ff01012d3456789abcde86dd6000000000203afffe80000000000000365678fffe9abcdeff0200000000000000000001ff01012d8700a5a200000000fe80000000000000000000000001012d01013456789abcde\n",
+    )
+}
+
+#[test]
+fn an_unknown_asker_beside_300_neighbours_is_solicited(rt: HostRuntime) {
+    let (node, mut flood) = limited(&rt, rt.alloc(), host(), 512, 16);
+    of_an_unknown_asker(&mut flood).expect(&rt, "memory");
+    ends(&rt, rt.alloc(), &node, &flood);
 }
 
 /// Neighbours that are all confirmed are shown so, refuse one more, and hinder no answer to a detection (RFC 4862, section 5.4.3).
