@@ -1,6 +1,11 @@
 //! What the words of the command line ask for, or why they are refused.
 
+ghost use Rattle.std.specs.Prelude.{◌≡◌, ◌≢◌, ◌⊎◌};
+ghost use Rattle.clap.specs.Words.{kind_of};
+ghost use Rattle.clap.specs.declared.error.kind.ErrorKind.TheVariants.{OutOfMemory};
+
 use clap::Error;
+use clap::error::ErrorKind;
 use nd_script::{RunOptions, Source};
 
 /// What carries the frames of a link.
@@ -40,4 +45,17 @@ pub enum Refused {
     Routers,
     /// Out of memory.
     Memory,
+}
+
+impl Refused {
+    /// Returns why words are refused of which `clap` reports `error`: `Memory` exactly if it is out of memory, and else the error itself.
+    pub fn of_error(error: Error) -> Refused
+        ensures { ((kind_of error ≡ OutOfMemory) × (result ≡ Refused.Memory)) ⊎ ((kind_of error ≢ OutOfMemory) × (result ≡ Refused.Told error)) }
+    {
+        if error.kind() == ErrorKind::OutOfMemory {
+            Refused::Memory
+        } else {
+            Refused::Told(error)
+        }
+    }
 }

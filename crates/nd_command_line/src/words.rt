@@ -6,7 +6,6 @@ ghost use Rattle.nd_command_line.specs.CommandLine.{Asks, Names, Refuses, faults
 use crate::asked::{Asked, Refused};
 use crate::command::{ROLES, WIRES, command};
 use crate::options::{read_run, read_wire};
-use clap::error::ErrorKind;
 use std::alloc::Global;
 
 /// Returns what `words` ask for; the first word is the program's path.
@@ -22,12 +21,7 @@ pub fn read_words<'a>(alloc: Global, words: &'a [String]) -> Result<Asked, Refus
     };
     let matches = match command.try_get_matches_from(words) {
         Ok(matches) => matches,
-        Err(error) => {
-            if error.kind() == ErrorKind::OutOfMemory {
-                return Err(Refused::Memory);
-            }
-            return Err(Refused::Told(error));
-        }
+        Err(error) => return Err(Refused::of_error(error)),
     };
     if let Some(given) = matches.subcommand_matches("run") {
         return read_run(given);

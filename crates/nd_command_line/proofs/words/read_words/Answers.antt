@@ -3,7 +3,7 @@ use Rattle.std.specs.Prelude.{string_bytes}
 use Rattle.std.proofs.lemmas.Result.{IfOk-weaker, IfErr-weaker}
 use Rattle.clap.specs.Words.{App, HasKind, fault_of, kind_of, first_of, found_of, is_simple_and_free, rows_of}
 use Rattle.clap.specs.declared.error.kind.ErrorKind.TheVariants.{OutOfMemory}
-use Rattle.nd_command_line.specs.CommandLine.{Names, carrier_named}
+use Rattle.nd_command_line.specs.CommandLine.{Names, Refuses, carrier_named}
 use Rattle.nd_command_line.proofs.Matches.{same_name, same_given, asks, refuses}
 use Rattle.nd_command_line.proofs.words.read_words.Goals as goal
 
@@ -14,8 +14,11 @@ pub returns-in-Err-clause-wrong : goal.returns-in-Err-clause-wrong
 returns-in-Err-clause-wrong c =
     let words = map (λ word. string_bytes word) c.args.words.now in
     let kinds = subst (λ (a : App). is_simple_and_free a ≡ true → HasKind (fault_of a words) c.in-Err.error) c.in-Ok.ensures c.in-Err.ensures.kinds refl in
-    let not_memory : kind_of c.in-Err.error ≡ OutOfMemory → ⊥ = search rules in
-    (names_at c.as_slice.result c.as_slice-2.result (search rules) (search rules), record { among = ⊎_elim (λ m. absurd (not_memory m)) (λ a. a) kinds; not_memory = not_memory })
+    let names = names_at c.as_slice.result c.as_slice-2.result (search rules) (search rules) in
+    ⊎_elim
+    (λ m. subst (Refuses words) (sym m.1) tt)
+    (λ t. subst (Refuses words) (sym t.1) (names, record { among = ⊎_elim (λ m. absurd (t.0 m)) (λ a. a) kinds; not_memory = t.0 }))
+    c.of_error.ensures
 
 pub returns-in-Some-clause-right : goal.returns-in-Some-clause-right
 returns-in-Some-clause-right c =
