@@ -1,4 +1,4 @@
-//! An allocator for tests that refuses chosen requests for memory.
+//! An allocator for tests that refuses chosen requests for memory, and counts the bytes of those that it passes on.
 #![tactic(auto)]
 
 use std::alloc::{AllocError, Allocator};
@@ -7,11 +7,23 @@ use std::cell::Cell;
 /// No request is refused.
 const NONE: u64 = 0;
 
-/// Passes requests on to another allocator, and refuses one of them when it is told to.
+/// What is counted. A sum stays at the greatest number of 64 bits where it would pass it.
+#[derive(Clone, Copy)]
+struct Counts {
+    /// The number of the request that is refused, counted from 1 at the next one, or `NONE`.
+    left: u64,
+    /// How many requests were passed on.
+    requests: u64,
+    /// How many bytes these asked for in all.
+    bytes: u64,
+    /// How many of these bytes were not given back.
+    held: u64,
+}
+
+/// Passes requests on to another allocator, counts them, and refuses one of them when it is told to.
 pub struct Refusing<B: Allocator> {
     inner: B,
-    /// The number of the request that is refused, counted from 1 at the next one, or `NONE`.
-    left: Cell<u64>,
+    counts: Cell<Counts>,
 }
 
 impl<B: Allocator> Refusing<B> {
@@ -19,53 +31,85 @@ impl<B: Allocator> Refusing<B> {
     pub fn new(inner: B) -> Refusing<B> {
         Refusing {
             inner,
-            left: Cell::new(NONE),
+            counts: Cell::new(Counts {
+                left: NONE,
+                requests: 0,
+                bytes: 0,
+                held: 0,
+            }),
         }
     }
 
     /// Refuses the request of this number from now on, counted from 1, and no other. 0 refuses none.
     pub fn refuse(&self, number: u64) {
-        self.left.set(number);
+        let mut counts = self.counts.get();
+        counts.left = number;
+        self.counts.set(counts);
     }
 
     /// Returns true if a request that is to be refused hasn't been made yet.
     pub fn is_waiting(&self) -> bool {
-        self.left.get() != NONE
+        self.counts.get().left != NONE
+    }
+
+    /// Returns how many requests were passed on.
+    pub fn requests(&self) -> u64 {
+        self.counts.get().requests
+    }
+
+    /// Returns how many bytes these requests asked for in all. A block that grows asks for its new length.
+    pub fn bytes(&self) -> u64 {
+        self.counts.get().bytes
+    }
+
+    /// Returns how many of these bytes were not given back. It is too great if the inner allocator refused a request.
+    pub fn held(&self) -> u64 {
+        self.counts.get().held
     }
 }
 
 impl<B: Allocator> Drop for Refusing<B> {
     fn drop(self) {
-        let Self { inner: _, left: _ } = self;
+        let Self {
+            inner: _,
+            counts: _,
+        } = self;
     }
 }
 
-/// A block that is given back is no request.
-fn tick(_left: &Cell<u64>) {}
+/// Counts a block of `size` bytes that is given back.
+fn give_back(counts: &Cell<Counts>, size: usize) {
+    let mut after = counts.get();
+    after.held = after.held.saturating_sub(size as u64);
+    counts.set(after);
+}
 
-/// Returns true if this request is refused, and counts it.
-fn is_refused(left: &Cell<u64>) -> bool {
-    match left.get() {
-        NONE => false,
-        count => {
-            left.set(count - 1);
-            count == 1
-        }
+/// Returns true if this request for `size` bytes is refused, and counts it.
+fn is_refused(counts: &Cell<Counts>, size: usize) -> bool {
+    let mut after = counts.get();
+    let refused = after.left == 1;
+    after.left = after.left.saturating_sub(1);
+    if !refused {
+        after.requests = after.requests.saturating_add(1);
+        after.bytes = after.bytes.saturating_add(size as u64);
+        after.held = after.held.saturating_add(size as u64);
     }
+    counts.set(after);
+    refused
 }
 
 unsafe impl<B: Allocator> Allocator for Refusing<B> {
     ghost dealloc_token = { λ heap ty ptr. B.dealloc_token heap.inner ty ptr };
 
     fn allocate(&self, size: usize, align: usize) -> Result<*mut u8, AllocError> {
-        if is_refused(&self.left) {
+        if is_refused(&self.counts, size) {
             return Err(AllocError);
         }
         self.inner.allocate(size, align)
     }
 
     unsafe fn deallocate(&self, ptr: *mut u8, size: usize, align: usize) {
-        tick(&self.left);
+        give_back(&self.counts, size);
         self.inner.deallocate(ptr, size, align);
     }
 }

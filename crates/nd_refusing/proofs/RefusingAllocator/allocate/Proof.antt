@@ -1,4 +1,4 @@
--- It counts the call, and answers what the inner allocator answers. Assumes `Logic`.
+-- It counts the request, and answers what the inner allocator answers. Assumes `Logic`.
 use Rattle.std.proofs.Common.{◌≡◌, ℕ, ◌+◌, ◌^◌, ◌<◌, true, false, List, [], ◌∷◌, Ok, Err, Bool, refl, ap, w64, Bor}
 use seplogic.Ra.Ura.{Ura}
 use denote.Builtin.{bool}
@@ -37,7 +37,7 @@ use denote.RawPtr.{block_ptr}
 use denote.Builtin.{usize, RefOf}
 use denote.Triple.Call.{calls_at}
 use Rattle.std.proofs.alloc.Calls.{Al, α, seen, Answer, answer_val, Answer-typed, Answer-Ok, Answer-err, takes_key, Takes, at_takes, Answered, Takes-goes, Takes-gives, answers}
-use Rattle.nd_refusing.proofs.Ticks.{Gate, at_gate, Gate-goes, rest}
+use Rattle.nd_refusing.proofs.Counting.{Gate, at_gate, Gate-goes, rest}
 use Rattle.nd_refusing.proofs.is_refused.Symbol as c_sym
 use Rattle.nd_refusing.proofs.is_refused.Met as c_met
 use Rattle.nd_refusing.specs.contracts.Refusing as wrapper
@@ -87,9 +87,9 @@ module _ (Z : Al) {M : Type 1} {𝓤 : Ura M} (𝓛 : Logic 𝓤) (at_mem : Memo
         split ! $ split ! $ move ! (2 ∷ []) $ fsplit ! $ fsplit ! $ move ! (1 ∷ []) $ unhide ! $ fsplit ! $ fsplit ! $ use1 𝓛 (‵ (seen Z κ₁ p h)) (id⊢ 𝓤 _) $ move ! (1 ∷ []) $ fsplit ! $ keep ! (0 ∷ 6 ∷ 2 ∷ 7 ∷ []) $
         enter ! 𝓣.C 𝓣.Λ (here Z) vs _ $ alloc_all ! (λ l. pass_all ! refl ((tt, tt), ((tt, record { fits = fn }), ((tt, record { fits = fa }), tt))) $
         sets ! (addr ! (through ! refl (fld ! refl (stop !)))) refl (tt, tt) $
-        use2 𝓛 (raw ((Gate 𝓛 at_mem run).pre (at_gate 𝓛 at_mem run κ₁ q₁ c))) (Gate-goes 𝓛 at_mem run κ₁ q₁ c) $
-        calls_at ! (fm_of 𝓤 H 𝓛.laws 𝓣) (Gate 𝓛 at_mem run) kn (at_gate 𝓛 at_mem run κ₁ q₁ c) (and_then ! (get ! refl) (no_more !)) (λ u.
-        use1 𝓛 (later (some (λ (refused : Bool). ((‵ (flft κ₁ q₁) ⊛ ‵ ftrue) ⊛ ‵ (bool.own_val refused (u ∷ []))) ⊛ some (λ (ws : Unit {0} × Unit {0}). ‵ (fsep ftrue ftrue) ⊛ ‵ ftrue)))) (id⊢ 𝓤 _) $ await ! tt $ pick ! (λ refused.
+        use2 𝓛 (raw ((Gate 𝓛 at_mem run).pre (at_gate 𝓛 at_mem run κ₁ q₁ c n))) (Gate-goes 𝓛 at_mem run κ₁ q₁ c n fn) $
+        calls_at ! (fm_of 𝓤 H 𝓛.laws 𝓣) (Gate 𝓛 at_mem run) kn (at_gate 𝓛 at_mem run κ₁ q₁ c n) (and_then ! (get ! refl) (and_then ! (get ! refl) (no_more !))) (λ u.
+        use1 𝓛 (later (some (λ (refused : Bool). ((‵ (flft κ₁ q₁) ⊛ ‵ ftrue) ⊛ ‵ (bool.own_val refused (u ∷ []))) ⊛ some (λ (ws : Unit {0} × (Unit {0} × Unit {0})). ‵ (fsep ftrue (fsep ftrue ftrue)) ⊛ ‵ ftrue)))) (id⊢ 𝓤 _) $ await ! tt $ pick ! (λ refused.
         split ! $ split ! $ move ! (1 ∷ []) $ feq_l ! (λ eu. split ! $ move ! (1 ∷ []) $ drop ! $ move ! (1 ∷ []) $ drop ! $
         lands_as ! (ap only eu) refl (tt, tt) $
         first ! $ branches ! (get ! refl)
