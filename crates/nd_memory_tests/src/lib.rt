@@ -1,6 +1,6 @@
 //! Tests in which memory runs out. A table is given a heap of a fixed size, from none at all up to what it needs, so that each
 //! of its requests is the one that is refused in some run. What the refused call leaves is compared with what was before it.
-//! There is nothing here but tests.
+//! What an event asks for where there is memory is counted. There is nothing here but tests.
 #![tactic(auto)]
 
 #[cfg(test)]
@@ -9,6 +9,8 @@ mod addresses;
 mod dns;
 #[cfg(test)]
 mod full;
+#[cfg(test)]
+mod links;
 #[cfg(test)]
 mod memo;
 #[cfg(test)]

@@ -42,7 +42,7 @@ const ROUTER: Addr = Addr([0xfe, 0x80, 0, 0, 0, 0, 0, 0, 0, 0, 0, 0xff, 0xfe, 0,
 pub(crate) const STRANGER: Addr = Addr([0xfe, 0x80, 0, 0, 0, 0, 0, 0, 0, 0, 0, 0, 0, 0, 0, 9]);
 
 /// Which says nothing: the Ethernet type of IPv6, and no packet.
-const EMPTY: [u8; 14] = [0, 0, 0, 0, 0, 0, 0, 0, 0, 0, 0, 0, 0x86, 0xdd];
+pub(crate) const EMPTY: [u8; 14] = [0, 0, 0, 0, 0, 0, 0, 0, 0, 0, 0, 0, 0x86, 0xdd];
 
 /// A Router Advertisement of `ROUTER` with its link-layer address, the prefix 2001:db8::/64 on the link for 30 days, and the server
 /// 2001:db8::53 for 1800 s.

@@ -1,11 +1,9 @@
-//! How often an event asks for memory, and that nothing is kept of what is heard: no clause speaks of that.
+//! How often an event asks for memory and for how many bytes, and that nothing is kept of what is heard: no clause speaks of that.
+//! Lengths of frames are those of RFC 2464 (14 bytes of header), RFC 8200 (40) and RFC 4861, section 4.
 
 ghost use Rattle.std.specs.Prelude.{◌<◌, ◌^◌};
 
-use crate::node::{
-    ADVERTISEMENT, AMPLE, MAC, OWN, TRANSIT, come, exhaust, host, receives as frame_of, routes,
-};
-use linked_list_allocator::LocalHeap;
+use crate::node::{ADVERTISEMENT, EMPTY, MAC, OWN, TRANSIT, routes};
 use nd_addr::{Addr, Preference, Role};
 use nd_advertiser::{Config, ConfigFlags};
 use nd_node::{Event, Limits, Node, OutgoingPacket, Table};
@@ -17,7 +15,7 @@ use std::alloc::Global;
 use std::process::Abort;
 use std::test::*;
 
-type Heap = Refusing<Global>;
+pub(crate) type Heap = Refusing<Global>;
 
 /// A solicitation of fe80::2 for the host's address, with the link-layer address of fe80::2.
 const SOLICITATION: [u8; 86] = [
@@ -30,42 +28,93 @@ const SOLICITATION: [u8; 86] = [
 /// Who asks.
 const ASKER: Addr = Addr([0xfe, 0x80, 0, 0, 0, 0, 0, 0, 0, 0, 0, 0, 0, 0, 0, 2]);
 
-/// How often an event comes.
-const TIMES: u64 = 1000;
+/// How often an event comes while it is counted.
+pub(crate) const TIMES: u64 = 1000;
 
-/// Takes an event, and asserts that it asks for memory `requests` times at most. There is room for eight things to be told.
-fn asks_once<'h>(
+/// How often an event comes before it is counted. By then a node keeps what it keeps of it: three packets wait for a neighbour at most.
+const FIRST: u64 = 4;
+
+/// Room for as much as any event here tells, in entries: at most 20, and four in reserve for a turn.
+const ROOM: usize = 24;
+
+/// The frame of a solicitation or an advertisement of a neighbour: a message of 24 bytes, and a link-layer address in 8.
+pub(crate) const FRAME: u64 = 14 + 40 + 24 + 8;
+
+/// How many bytes a host asks for at most that shows two neighbours: 32 for each in a list of them; four for each byte of a text, since its room
+/// doubles as it grows; and a list of four texts, of four words each. The texts are `neighbour fe80::2 02:00:00:00:00:02 delay host` and
+/// `neighbour fe80::ff:fe00:1 02:00:00:00:00:01 stale router`.
+const SHOWN_BYTES: u64 = 2 * 32 + 4 * (46 + 56) + 4 * 32;
+
+/// How often it asks: for the two lists, and for 8, 16, 32 and 64 bytes or more of each text.
+const SHOWN_REQUESTS: u64 = 2 + 2 * 4;
+
+/// How many bytes a turn asks for at most that sends a Router Advertisement: room for a solicitation, as each turn does; for 18 options of five words,
+/// which are a lifetime and a list; and for the frame, with a message of 16 bytes and a link-layer address in 8.
+const ADVERTISED_BYTES: u64 = FRAME + 18 * 40 + (14 + 40 + 16 + 8);
+
+/// How often it asks: for these three.
+const ADVERTISED_REQUESTS: u64 = 3;
+
+/// Up to which minute a router advertises: before ReachableTime is drawn again, after two hours (RFC 4861, section 6.3.4).
+const MINUTES: u64 = 100;
+
+/// What an event asks for.
+#[derive(Clone, Copy)]
+struct Asked {
+    /// How many entries it tells.
+    told: u64,
+    /// How often it asks for memory.
+    requests: u64,
+    /// For how many bytes in all.
+    bytes: u64,
+}
+
+/// Takes an event. There is room for all that is told.
+fn ask<'h>(
     rt: &impl Abort,
     heap: &'h Heap,
     node: &mut Node<Pcg32, &'h Heap>,
     now: u64,
     event: &Event<&'h Heap>,
-    requests: u64,
-)
+) -> Asked
     requires { now < 2 ^ 62 }
 {
-    let mut outs = Vec::with_capacity(heap, 8).expect(rt, "memory");
-    heap.refuse(requests.saturating_add(1));
+    let mut outs = Vec::with_capacity(heap, ROOM).expect(rt, "memory");
+    let requests = heap.requests();
+    let bytes = heap.bytes();
     node.event(now, event, &mut outs).expect(rt, "memory");
-    assert!(rt; heap.is_waiting());
-    heap.refuse(0);
+    Asked {
+        told: outs.len() as u64,
+        requests: heap.requests().saturating_sub(requests),
+        bytes: heap.bytes().saturating_sub(bytes),
+    }
 }
 
-/// An event comes a thousand times, `step` ms apart, and asks for memory `requests` times at most each time, but for the first.
+/// Takes an event a few times at `start`, and then a thousand times, `step` ms apart. Each of these tells as many entries as `most` says and asks for as
+/// much at most, and all together leave as many bytes held as there were.
 fn asks<'h>(
     rt: &impl Abort,
     heap: &'h Heap,
     node: &mut Node<Pcg32, &'h Heap>,
+    start: u64,
     step: u64,
     event: &Event<&'h Heap>,
-    requests: u64,
+    most: Asked,
 )
-    requires { step < 2 ^ 32 }
+    requires start { start < 2 ^ 32 }
+    requires step { step < 2 ^ 32 }
 {
-    asks_once(rt, heap, node, 3000, event, 100);
-    for n in 0..TIMES {
-        asks_once(rt, heap, node, 3000 + step * n, event, requests);
+    for _ in 0..FIRST {
+        let _asked = ask(rt, heap, node, start, event);
     }
+    let held = heap.held();
+    for n in 0..TIMES {
+        let asked = ask(rt, heap, node, start + step * n, event);
+        assert!(rt; asked.told == most.told);
+        assert!(rt; asked.requests <= most.requests);
+        assert!(rt; asked.bytes <= most.bytes);
+    }
+    assert!(rt; heap.held() == held);
 }
 
 /// A frame comes.
@@ -82,13 +131,28 @@ fn started<'h>(rt: &impl Abort, heap: &'h Heap, role: Role) -> Node<Pcg32, &'h H
     let mut node = Node::new(heap, role, MAC, 0, Transmits::ONE, limits, generator).expect(
         rt, "memory",
     );
-    asks_once(rt, heap, &mut node, 3000, &Event::Passes, 100);
+    let _asked = ask(rt, heap, &mut node, 3000, &Event::Passes);
     node
+}
+
+/// What is counted: a list that grows from 100 bytes to twice as many, and no request that is refused.
+#[test]
+fn what_is_counted(rt: HostRuntime) {
+    let heap = Refusing::new(rt.alloc());
+    let mut bytes = Vec::<u8, &Heap>::with_capacity(&heap, 100).expect(&rt, "memory");
+    assert!(rt; heap.requests() == 1 && heap.bytes() == 100 && heap.held() == 100);
+    heap.refuse(1);
+    assert!(rt; bytes.reserve(101).is_err());
+    assert!(rt; heap.requests() == 1 && heap.bytes() == 100 && heap.held() == 100);
+    bytes.reserve(101).expect(&rt, "memory");
+    assert!(rt; heap.requests() == 2 && heap.bytes() == 300 && heap.held() == 200);
+    drop(bytes);
+    assert!(rt; heap.requests() == 2 && heap.bytes() == 300 && heap.held() == 0);
 }
 
 /// A host's events. The neighbour is known when the packet comes.
 #[test]
-fn how_often_a_host_asks(rt: HostRuntime) {
+fn how_much_a_host_asks_for(rt: HostRuntime) {
     let heap = Refusing::new(rt.alloc());
     let mut node = started(&rt, &heap, Role::Host);
     let packet = Event::Sends(OutgoingPacket {
@@ -97,22 +161,52 @@ fn how_often_a_host_asks(rt: HostRuntime) {
         next_header: 59,
         payload: Vec::new(&heap),
     });
-    for (event, requests) in [
+    for (event, told, requests, bytes) in [
+        // A frame that is dropped.
+        (receives(&rt, &heap, &EMPTY), 1, 0, 0),
         // It adds nothing any more.
-        (receives(&rt, &heap, &ADVERTISEMENT), 0),
+        (receives(&rt, &heap, &ADVERTISEMENT), 1, 0, 0),
         // The answer, and room for a solicitation of the asker.
-        (receives(&rt, &heap, &SOLICITATION), 2),
-        // The packet, and room for a solicitation of its neighbour.
-        (packet, 2),
-        // Two rows, each of which doubles as it grows, and a list of them.
-        (Event::Shows(Table::Neighbours), 12),
+        (receives(&rt, &heap, &SOLICITATION), 2, 2, 2 * FRAME),
+        // The packet, which is two headers, and room for a solicitation of its neighbour.
+        (packet, 1, 2, 14 + 40 + FRAME),
+        // Two rows.
+        (
+            Event::Shows(Table::Neighbours),
+            1,
+            SHOWN_REQUESTS,
+            SHOWN_BYTES,
+        ),
+        // Nothing is due.
+        (Event::Passes, 0, 0, 0),
     ] {
-        asks(&rt, &heap, &mut node, 0, &event, requests);
+        let most = Asked {
+            told,
+            requests,
+            bytes,
+        };
+        asks(&rt, &heap, &mut node, 3000, 0, &event, most);
     }
+    // Once all else is over, the neighbours after a day, a turn draws ReachableTime every two hours (RFC 4861, section 6.3.4). It sends nothing, and
+    // asks for room for a frame all the same.
+    let most = Asked {
+        told: 0,
+        requests: 1,
+        bytes: FRAME,
+    };
+    asks(
+        &rt,
+        &heap,
+        &mut node,
+        100_000_000,
+        7_200_000,
+        &Event::Passes,
+        most,
+    );
 }
 
 #[test]
-fn how_often_a_router_asks(rt: HostRuntime) {
+fn how_much_a_router_asks_for(rt: HostRuntime) {
     let heap = Refusing::new(rt.alloc());
     let mut node = started(&rt, &heap, Role::Router);
     let flags = ConfigFlags {
@@ -122,31 +216,29 @@ fn how_often_a_router_asks(rt: HostRuntime) {
     };
     let config = Config::new(3, 4, 1800, 64, flags, 0, 0, 0).expect(&rt, "settings");
     let [on_link, behind] = routes().expect(&rt, "routes");
-    asks_once(&rt, &heap, &mut node, 3000, &Event::Advertises(config), 100);
-    asks_once(&rt, &heap, &mut node, 3000, &Event::PutsRoute(on_link), 100);
-    asks_once(&rt, &heap, &mut node, 3000, &Event::PutsRoute(behind), 100);
+    let events = [
+        Event::Advertises(config),
+        Event::PutsRoute(on_link),
+        Event::PutsRoute(behind),
+    ];
+    for event in &events {
+        let _asked = ask(&rt, &heap, &mut node, 3000, event);
+    }
+    // Advertisements are 3 to 4 s apart, so a minute has 20 at most, and the entries for all of them have room.
+    let held = heap.held();
+    for minute in 1..MINUTES {
+        let asked = ask(&rt, &heap, &mut node, 60_000 * minute, &Event::Passes);
+        assert!(rt; asked.told >= 14);
+        assert!(rt; asked.requests <= asked.told.saturating_mul(ADVERTISED_REQUESTS));
+        assert!(rt; asked.bytes <= asked.told.saturating_mul(ADVERTISED_BYTES));
+    }
+    assert!(rt; heap.held() == held);
     // The packet, and room for a solicitation of its next hop. The Redirect went before the first one.
     let transit = receives(&rt, &heap, &TRANSIT);
-    asks(&rt, &heap, &mut node, 0, &transit, 2);
-    // Room for a frame at each of the turns up to the moment, and twice more for an advertisement.
-    asks(&rt, &heap, &mut node, 5000, &Event::Passes, 12);
-}
-
-/// A host hears the same frames a thousand times with eight kilobytes left: it keeps nothing of them.
-#[test]
-fn nothing_is_kept_of_what_is_heard(rt: HostRuntime) {
-    let heap = LocalHeap::new(rt.alloc(), AMPLE).expect(&rt, "memory");
-    let mut node = host(&rt, &heap);
-    let advertisement = frame_of(&heap, &ADVERTISEMENT).expect(&rt, "memory");
-    let solicitation = frame_of(&heap, &SOLICITATION).expect(&rt, "memory");
-    let mut blocks = exhaust(&rt, &heap);
-    for _ in 0..512 {
-        let _block = blocks.pop();
-    }
-    for _ in 0..TIMES {
-        let mut outs = Vec::new(&heap);
-        come(&mut node, 3000, &advertisement, &mut outs).expect(&rt, "memory");
-        come(&mut node, 3000, &solicitation, &mut outs).expect(&rt, "memory");
-    }
-    assert!(rt; !blocks.is_empty());
+    let most = Asked {
+        told: 1,
+        requests: 2,
+        bytes: 54 + FRAME,
+    };
+    asks(&rt, &heap, &mut node, 6_000_000, 0, &transit, most);
 }
