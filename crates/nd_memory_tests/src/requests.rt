@@ -3,7 +3,7 @@
 
 ghost use Rattle.std.specs.Prelude.{◌<◌, ◌^◌};
 
-use crate::node::{ADVERTISEMENT, EMPTY, MAC, OWN, TRANSIT, routes};
+use crate::node::{ADVERTISEMENT, EMPTY, MAC, OWN, REDIRECT, TRANSIT, routes};
 use nd_addr::{Addr, Preference, Role};
 use nd_advertiser::{Config, ConfigFlags};
 use nd_node::{Event, Limits, Node, OutgoingPacket, Table};
@@ -23,6 +23,21 @@ const SOLICITATION: [u8; 86] = [
     0xff, 0xfe, 0x80, 0, 0, 0, 0, 0, 0, 0, 0, 0, 0, 0, 0, 0, 2, 0xff, 2, 0, 0, 0, 0, 0, 0, 0, 0, 0,
     1, 0xff, 0x9a, 0xbc, 0xde, 0x87, 0, 0x52, 0x51, 0, 0, 0, 0, 0xfe, 0x80, 0, 0, 0, 0, 0, 0, 0x36,
     0x56, 0x78, 0xff, 0xfe, 0x9a, 0xbc, 0xde, 1, 1, 2, 0, 0, 0, 0, 2,
+];
+
+/// The answer of fe80::2 to a solicitation of the host, with its link-layer address.
+const ANSWER: [u8; 86] = [
+    0x34, 0x56, 0x78, 0x9a, 0xbc, 0xde, 2, 0, 0, 0, 0, 2, 0x86, 0xdd, 0x60, 0, 0, 0, 0, 0x20, 0x3a,
+    0xff, 0xfe, 0x80, 0, 0, 0, 0, 0, 0, 0, 0, 0, 0, 0, 0, 0, 2, 0xfe, 0x80, 0, 0, 0, 0, 0, 0, 0x36,
+    0x56, 0x78, 0xff, 0xfe, 0x9a, 0xbc, 0xde, 0x88, 0, 0xad, 0x4b, 0x60, 0, 0, 0, 0xfe, 0x80, 0, 0,
+    0, 0, 0, 0, 0, 0, 0, 0, 0, 0, 0, 2, 2, 1, 2, 0, 0, 0, 0, 2,
+];
+
+/// A Router Solicitation of fe80::2, with its link-layer address.
+const ROUTER_SOLICITATION: [u8; 70] = [
+    0x33, 0x33, 0, 0, 0, 2, 2, 0, 0, 0, 0, 2, 0x86, 0xdd, 0x60, 0, 0, 0, 0, 0x10, 0x3a, 0xff, 0xfe,
+    0x80, 0, 0, 0, 0, 0, 0, 0, 0, 0, 0, 0, 0, 0, 2, 0xff, 2, 0, 0, 0, 0, 0, 0, 0, 0, 0, 0, 0, 0, 0,
+    2, 0x85, 0, 0x7a, 0x2a, 0, 0, 0, 0, 1, 1, 2, 0, 0, 0, 0, 2,
 ];
 
 /// Who asks.
@@ -177,6 +192,9 @@ fn how_much_a_host_asks_for(rt: HostRuntime) {
             SHOWN_REQUESTS,
             SHOWN_BYTES,
         ),
+        // What the neighbour answers, and a Redirect to it: they add nothing any more.
+        (receives(&rt, &heap, &ANSWER), 1, 0, 0),
+        (receives(&rt, &heap, &REDIRECT), 1, 0, 0),
         // Nothing is due.
         (Event::Passes, 0, 0, 0),
     ] {
@@ -233,12 +251,17 @@ fn how_much_a_router_asks_for(rt: HostRuntime) {
         assert!(rt; asked.bytes <= asked.told.saturating_mul(ADVERTISED_BYTES));
     }
     assert!(rt; heap.held() == held);
-    // The packet, and room for a solicitation of its next hop. The Redirect went before the first one.
-    let transit = receives(&rt, &heap, &TRANSIT);
-    let most = Asked {
-        told: 1,
-        requests: 2,
-        bytes: 54 + FRAME,
-    };
-    asks(&rt, &heap, &mut node, 6_000_000, 0, &transit, most);
+    for (event, told, requests, bytes) in [
+        // The packet, and room for a solicitation of its next hop. The Redirect went before the first one.
+        (receives(&rt, &heap, &TRANSIT), 1, 2, 54 + FRAME),
+        // An answer is planned.
+        (receives(&rt, &heap, &ROUTER_SOLICITATION), 1, 0, 0),
+    ] {
+        let most = Asked {
+            told,
+            requests,
+            bytes,
+        };
+        asks(&rt, &heap, &mut node, 6_000_000, 0, &event, most);
+    }
 }
