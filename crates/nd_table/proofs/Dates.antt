@@ -5,11 +5,12 @@ use Rattle.std.specs.List.{insert, remove}
 use Rattle.std.proofs.lemmas.Bool.Decides.{nat_tests}
 use Rattle.std.proofs.lemmas.Bool.{cond-true, cond-false, eqb-true, eq-eqb, ne_eqb, true≢false, cases_Bool, cases_eq, or_cases, or_left}
 use Rattle.std.proofs.lemmas.Option.{slice_get-get_or}
+use Rattle.std.proofs.lemmas.List.Edits.{length-insert}
 use Rattle.nd_table.specs.declared.date.Date.{Date}
-use Rattle.nd_table.specs.Keyed.{at_key, AllAbove, Rises, Unique}
+use Rattle.nd_table.specs.Keyed.{at_key, AllAbove, Rises, Unique, place_of}
 use Rattle.nd_table.specs.Due.{is_at, least_date, first_at, NotBefore}
-use Rattle.nd_table.specs.Dates.{rank, AllAddresses, is_date, has, without, first_moment, date_at, AreDates, Redated}
-use Rattle.nd_table.proofs.Keyed.{key_is, above_at, Rises-unique, others, at_key-others, Unique-others, length-others, put_in, put_low, put_high}
+use Rattle.nd_table.specs.Dates.{rank, AllAddresses, is_date, has, without, put_date, first_moment, date_at, AreDates, Redated}
+use Rattle.nd_table.proofs.Keyed.{key_is, above_at, Rises-unique, others, at_key-others, Unique-others, length-others, put_in, put_low, put_high, place_of-le}
 use Rattle.nd_table.proofs.Due.{AtMost, AtMost-some, AtMost-none, AtMost-same, due_now, due_has, due_least, none_due, least_at_most, least_unique}
 
 pub is_parts : (m k : ℕ) (d : Date) → is_date m k d ≡ true → (d.moment ≡ m) × (d.number ≡ k)
@@ -22,7 +23,7 @@ by_parts m k d e f = grind (arith, nat_tests, e, f)
 rank_parts : (d : Date) (m k : ℕ) → d.number < 2 ^ 128 → k < 2 ^ 128 → rank d ≡ m * 2 ^ 128 + k → is_date m k d ≡ true
 rank_parts d m k fit fit' e = by_parts m k d (omega arith) (omega arith)
 
-rank_is : (d : Date) (m k : ℕ) → is_date m k d ≡ true → rank d ≡ m * 2 ^ 128 + k
+pub rank_is : (d : Date) (m k : ℕ) → is_date m k d ≡ true → rank d ≡ m * 2 ^ 128 + k
 rank_is d m k h = let e = is_parts m k d h in omega (arith, e.0, e.1)
 
 swap : (a b c : Bool) → (a || (b || c)) ≡ (b || (a || c))
@@ -71,6 +72,26 @@ length-without m k (d ∷ ds) = elim (cases_Bool (is_date m k d)) [
   | inr differ ↦ let rest : length ds ≤ suc (length (without m k ds)) = length-without m k ds in rw differ (omega arith)
 ]
 
+pub no_longer : (m k : ℕ) (ds : List Date) → length (without m k ds) ≤ length ds
+no_longer m k [] = omega arith
+no_longer m k (d ∷ ds) = elim (cases_Bool (is_date m k d)) [
+  | inl here ↦ rw here (omega arith)
+  | inr differ ↦ let rest : length (without m k ds) ≤ length ds = no_longer m k ds in rw differ (omega arith)
+]
+
+pub shorter : (m k : ℕ) (ds : List Date) → has m k ds ≡ true → suc (length (without m k ds)) ≤ length ds
+shorter m k [] there = absurd (true≢false (sym there))
+shorter m k (d ∷ ds) there = elim (cases_Bool (is_date m k d)) [
+  | inl here ↦ rw here (omega arith)
+  | inr differ ↦
+      let behind : has m k ds ≡ true = rw differ at there in
+      let rest : suc (length (without m k ds)) ≤ length ds = shorter m k ds behind in
+      rw differ (omega arith)
+]
+
+pub length-put : (d : Date) (ds : List Date) → length (put_date d ds) ≡ length ds + 1
+length-put d ds = length-insert ds (place_of rank (rank d) ds) d (place_of-le rank (rank d) ds)
+
 AllAbove-without : (low m k : ℕ) (ds : List Date) → AllAbove rank low ds → AllAbove rank low (without m k ds)
 AllAbove-without low m k [] h = tt
 AllAbove-without low m k (d ∷ ds) h = elim (cases_Bool (is_date m k d)) [
@@ -84,12 +105,6 @@ Rises-without m k (d ∷ ds) r = elim (cases_Bool (is_date m k d)) [
   | inl here ↦ rw here r.1
   | inr differ ↦ rw differ (AllAbove-without (rank d) m k ds r.0, Rises-without m k ds r.1)
 ]
-
-pub AllAddresses-remove : (ds : List Date) (i : ℕ) → AllAddresses ds → AllAddresses (remove ds i)
-AllAddresses-remove [] zero h = tt
-AllAddresses-remove [] (suc i) h = tt
-AllAddresses-remove (d ∷ ds) zero h = h.1
-AllAddresses-remove (d ∷ ds) (suc i) h = (h.0, AllAddresses-remove ds i h.1)
 
 pub AllAddresses-without : (m k : ℕ) (ds : List Date) → AllAddresses ds → AllAddresses (without m k ds)
 AllAddresses-without m k [] h = tt

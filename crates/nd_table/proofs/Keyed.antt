@@ -199,8 +199,3 @@ module _ {N : Type 0} (key : N → ℕ) where
       let none : place_of key k ns ≡ 0 = none_lower k (key n) ns (omega arith) r.0 in
       grind (arith, nat_tests, high, none)
   place_of-remove_high k (n ∷ ns) (suc i) d r lt high = grind (arith, nat_tests, place_of-remove_high k ns i d r.1 (omega arith) high)
-
-  -- what is at a place isn't absent
-  pub found_absent : (k : ℕ) (ns : List N) (i : ℕ) → i < length ns → at_key key k ns ≡ slice_get ns i → at_key key k ns ≡ None → ⊥
-  found_absent k [] i lt found none = omega arith
-  found_absent k (n ∷ ns) i lt found none = let e : Some (get_or (n ∷ ns) i n) ≡ None = sym (slice_get-get_or (n ∷ ns) i n lt) ∙ (sym found ∙ none) in absurd (cc)

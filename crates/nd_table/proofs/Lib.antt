@@ -1,8 +1,8 @@
 pub mod Keyed
 pub mod Dates
 pub mod Searching
-pub mod Moving
-pub mod Replacing
+pub mod Joining
+pub mod Belonging
 pub mod Redating
 pub mod Stays
 pub mod Unique

@@ -1,12 +1,13 @@
 -- What becomes of the dates where that of one number comes, goes or changes.
-use Rattle.std.proofs.Common.{◌≡◌, ℕ, ◌+◌, ◌*◌, ◌^◌, ◌<◌, Bool, true, false, eqb, ◌&&◌, ◌||◌, List, Option, Some, None, refl, sym, ◌∙◌, ap, subst, inl, inr}
-use Rattle.std.proofs.lemmas.Bool.{eq-eqb, ne_eqb, true≢false, cases_Bool, cases_eq}
+use Rattle.std.proofs.Common.{◌≡◌, ℕ, ◌^◌, ◌<◌, Bool, ◌≤◌, true, false, eqb, ◌&&◌, ◌||◌, List, length, Option, Some, None, refl, sym, ◌∙◌, ap, subst, arith, suc, inl, inr}
+use Rattle.std.specs.Prelude.{IfNone, IfSome}
+use Rattle.std.proofs.lemmas.Bool.{eq-eqb, ne_eqb, cases_Bool, cases_eq}
 use Rattle.nd_table.specs.declared.date.Date.{Date}
-use Rattle.nd_table.specs.Keyed.{at_key, Rises}
+use Rattle.nd_table.specs.Keyed.{at_key, Rises, place_of}
 use Rattle.nd_table.specs.Due.{is_at}
 use Rattle.nd_table.specs.Dates.{rank, AllAddresses, is_date, has, without, put_date, Redated}
 use Rattle.nd_table.proofs.Keyed.{Rises-put}
-use Rattle.nd_table.proofs.Dates.{is_parts, has-put, has-without, has-without_other, without_none, Rises-without, AllAddresses-without, none_found}
+use Rattle.nd_table.proofs.Dates.{is_parts, has-put, has-without, has-without_other, Rises-without, AllAddresses-without, AllAddresses-insert, shorter, none_found}
 
 -- one number's date comes, goes or stays
 pub date_stays : (number : ℕ) (date was : Option ℕ) (ds : List Date) → ((moment : ℕ) → has moment number ds ≡ is_at moment was) → was ≡ date → Redated number date ds ds
@@ -43,14 +44,6 @@ date_put d ds none = record {
 pub date_moved : (number : ℕ) (date : Option ℕ) (ds mid new : List Date) → Redated number None ds mid → Redated number date mid new → Redated number date ds new
 date_moved number date ds mid new gone come = record { own = come.own; others = λ m k differ. come.others m k differ ∙ gone.others m k differ }
 
--- a date that is there is found
-pub some_found : (m k : ℕ) (ds : List Date) → Rises rank ds → has m k ds ≡ true → at_key rank (m * 2 ^ 128 + k) ds ≡ None → ⊥
-some_found m k ds r there none = true≢false (sym there ∙ (ap (has m k) (sym (without_none m k ds none)) ∙ has-without m k ds r))
-
--- what isn't among the dates isn't among fewer of them
-pub none_without : (m k m' k' : ℕ) (ds : List Date) → (m ≡ m' → k ≡ k' → ⊥) → has m' k' ds ≡ false → has m' k' (without m k ds) ≡ false
-none_without m k m' k' ds other none = has-without_other m k m' k' ds other ∙ none
-
 -- what a schedule says, seen by its fields, of the date of a number
 pub own_inside : (inside ds : List Date) (was : Option ℕ) (k number : ℕ) → inside ≡ ds → k ≡ number → ((moment : ℕ) → has moment number ds ≡ is_at moment was) → (moment : ℕ) → has moment k inside ≡ is_at moment was
 own_inside inside ds was k number e f own moment = ap (λ (l : List Date). has moment k l) e ∙ (ap (λ (j : ℕ). has moment j ds) f ∙ own moment)
@@ -85,28 +78,47 @@ module _ (inside ds : List Date) (number : ℕ) (was date : Option ℕ) (e : ins
         redated_inside inside ds new None date d.number number e is (sym none)
         (subst (λ (l : List Date). Redated d.number None inside l) (sym new_is) (date_taken d.number d.moment inside r (has_it some moment_is)))
 
-  -- one takes the place of another
-  module _ (old new : Date) (n m : ℕ) (old_is : old.number ≡ number) (new_is : new.number ≡ number) (old_fit : old.number < 2 ^ 128) (new_fit : new.number < 2 ^ 128) (was_is : was ≡ Some n) (date_is : date ≡ Some m) (old_moment : old.moment ≡ n) (new_moment : new.moment ≡ m) (differ : n ≡ m → ⊥) (items : List Date) where
-    pub old_there : has old.moment old.number inside ≡ true
-    old_there = has_it old n old_is old_fit inside was_is old_moment old.moment ∙ eq-eqb old.moment old.moment refl
-
-    pub new_absent : at_key rank (rank new) inside ≡ None
-    new_absent = none_found new.moment new.number inside a new_fit
-        (own_of new new_is new.moment ∙ (ap (is_at new.moment) was_is ∙ ne_eqb n new.moment (λ same. differ (same ∙ new_moment))))
-
+  -- one goes, and another comes
+  module _ (old new : Date) (n m : ℕ) (old_is : old.number ≡ number) (new_is : new.number ≡ number) (old_fit : old.number < 2 ^ 128) (new_fit : new.number < 2 ^ 128) (was_is : was ≡ Some n) (date_is : date ≡ Some m) (old_moment : old.moment ≡ n) (new_moment : new.moment ≡ m) (mid items : List Date) (mid_is : mid ≡ without old.moment old.number inside) where
     gone : Redated old.number None inside (without old.moment old.number inside)
     gone = date_taken old.number old.moment inside r (has_it old n old_is old_fit inside was_is old_moment)
 
-    none_left : (moment : ℕ) → has moment new.number (without old.moment old.number inside) ≡ false
-    none_left moment = ap (λ k. has moment k (without old.moment old.number inside)) (new_is ∙ sym old_is) ∙ gone.own moment
+    none_left : (moment : ℕ) → has moment new.number mid ≡ false
+    none_left moment = ap (has moment new.number) mid_is ∙ (ap (λ k. has moment k (without old.moment old.number inside)) (new_is ∙ sym old_is) ∙ gone.own moment)
 
-    pub replaced_rises : items ≡ put_date new (without old.moment old.number inside) → Rises rank items
-    replaced_rises is = subst (Rises rank) (sym is) (Rises-put rank new (without old.moment old.number inside) (Rises-without old.moment old.number inside r)
-        (none_found new.moment new.number (without old.moment old.number inside) (AllAddresses-without old.moment old.number inside a) new_fit (none_left new.moment)))
+    pub mid_rises : Rises rank mid
+    mid_rises = subst (Rises rank) (sym mid_is) (Rises-without old.moment old.number inside r)
 
-    pub replaced_redated : items ≡ put_date new (without old.moment old.number inside) → Redated number date ds items
-    replaced_redated is =
-        date_moved number date ds (without old.moment old.number inside) items
-        (redated_inside inside ds (without old.moment old.number inside) None None old.number number e old_is refl gone)
-        (redated_inside (without old.moment old.number inside) (without old.moment old.number inside) items (Some new.moment) date new.number number refl new_is (ap Some new_moment ∙ sym date_is)
-        (subst (λ (l : List Date). Redated new.number (Some new.moment) (without old.moment old.number inside) l) (sym is) (date_put new (without old.moment old.number inside) none_left)))
+    pub mid_addresses : AllAddresses mid
+    mid_addresses = subst AllAddresses (sym mid_is) (AllAddresses-without old.moment old.number inside a)
+
+    pub mid_shorter : suc (length mid) ≤ length inside
+    mid_shorter =
+        let there : has old.moment old.number inside ≡ true = has_it old n old_is old_fit inside was_is old_moment old.moment ∙ eq-eqb old.moment old.moment refl in
+        omega (arith, ap (length {A = Date}) mid_is, shorter old.moment old.number inside there)
+
+    pub mid_absent : at_key rank (rank new) mid ≡ None
+    mid_absent = none_found new.moment new.number mid mid_addresses new_fit (none_left new.moment)
+
+    pub moved_rises : items ≡ put_date new mid → Rises rank items
+    moved_rises is = subst (Rises rank) (sym is) (Rises-put rank new mid mid_rises mid_absent)
+
+    pub moved_redated : items ≡ put_date new mid → Redated number date ds items
+    moved_redated is =
+        date_moved number date ds mid items
+        (redated_inside inside ds mid None None old.number number e old_is refl (subst (Redated old.number None inside) (sym mid_is) gone))
+        (redated_inside mid mid items (Some new.moment) date new.number number refl new_is (ap Some new_moment ∙ sym date_is)
+        (subst (λ (l : List Date). Redated new.number (Some new.moment) mid l) (sym is) (date_put new mid none_left)))
+
+-- all dates are of addresses still
+pub put_addresses : (d : Date) (ds new : List Date) → d.number < 2 ^ 128 → AllAddresses ds → new ≡ put_date d ds → AllAddresses new
+put_addresses d ds new fit a is = subst AllAddresses (sym is) (AllAddresses-insert ds (place_of rank (rank d) ds) d a fit)
+
+pub taken_addresses : (m k : ℕ) (ds new : List Date) → AllAddresses ds → new ≡ without m k ds → AllAddresses new
+taken_addresses m k ds new a is = subst AllAddresses (sym is) (AllAddresses-without m k ds a)
+
+-- there is room for a date that comes
+pub has_room : (was date : Option ℕ) (m : ℕ) (P : Type 0) → was ≡ None → date ≡ Some m → IfNone was (IfSome date (λ _. P)) → P
+has_room None (Some x) m P none some h = h
+has_room None None m P none some h = absurd (cc)
+has_room (Some x) date m P none some h = absurd (cc)

@@ -3,3 +3,4 @@ pub mod Keyed
 pub mod Due
 pub mod Ends
 pub mod Dates
+pub mod Blocks

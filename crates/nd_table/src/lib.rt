@@ -4,6 +4,8 @@
 
 mod addressed;
 mod binary_search;
+mod block;
+mod blocks;
 mod date;
 mod dated;
 mod ends;

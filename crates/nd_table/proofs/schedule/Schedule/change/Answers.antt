@@ -1,56 +1,105 @@
-use Rattle.std.proofs.Common.{ap, subst, sym}
+use Rattle.std.proofs.Common.{◌<◌, length, ap, sym, subst, arith}
 use Rattle.nd_addr.specs.Number.{number_of}
+use Rattle.nd_table.specs.declared.date.Date.{Date}
 use Rattle.nd_table.specs.Keyed.{Rises}
 use Rattle.nd_table.specs.Dates.{Planned, rank}
-use Rattle.nd_table.proofs.Dates.{Rises-without}
-use Rattle.nd_table.proofs.Redating.{put_absent, put_rises, put_redated, take_redated, old_there, new_absent, replaced_rises, replaced_redated}
+use Rattle.nd_table.specs.Blocks.{all_of}
+use Rattle.nd_table.proofs.Dates.{Rises-without, no_longer, length-put}
+use Rattle.nd_table.proofs.Redating.{put_absent, put_rises, put_redated, take_redated, mid_rises, mid_absent, mid_addresses, mid_shorter, moved_rises, moved_redated, put_addresses, taken_addresses, has_room}
 use Rattle.nd_table.proofs.schedule.Schedule.change.Goals as goal
 
 pub put-requires-clause-absent : goal.put-requires-clause-absent
 put-requires-clause-absent g c =
-    put_absent c.self.inside.dates.items _ (number_of c.args.addr.0) c.args.was c.args.date (ap (λ (p : Planned). p.dates) c.self.view_is) c.requires.was c.self.invariant.0 c.self.invariant.1
-    c.new.result c.in-None-Some.moment c.new.ensures.number c.new.ensures.address c.self.inside.dates.items c.in-None-Some.is-0
+    let ds = all_of c.self.inside.blocks.blocks in
+    put_absent ds _ (number_of c.args.addr.0) c.args.was c.args.date (ap (λ (p : Planned). p.dates) c.self.view_is) c.requires.was c.self.invariant.order c.self.invariant.addresses
+    c.new.result c.in-None-Some.moment c.new.ensures.number c.new.ensures.address ds c.in-None-Some.is-0
 
 pub invariant_of-self : goal.invariant_of-self
-invariant_of-self g c = (
-  put_rises c.self.inside.dates.items _ (number_of c.args.addr.0) c.args.was c.args.date (ap (λ (p : Planned). p.dates) c.self.view_is) c.requires.was c.self.invariant.0 c.self.invariant.1
-      c.new.result c.in-None-Some.moment c.new.ensures.number c.new.ensures.address c.put.new.dates.items c.in-None-Some.is-0 c.put.ensures.items,
-  c.put.ensures.addresses,
-)
+invariant_of-self g c =
+    let ds = all_of c.self.inside.blocks.blocks in
+    let new = all_of c.put.new.self.blocks in
+    let space : length c.args.self.now.dates < c.args.self.now.room = has_room c.args.was c.args.date c.in-None-Some.moment _ c.in-None-Some.is-0 c.in-None-Some.is-1 c.requires.room (subst (λ (p : Planned). Rises rank p.dates) c.self.view_is c.self.invariant.order) in
+    record {
+      order = put_rises ds _ (number_of c.args.addr.0) c.args.was c.args.date (ap (λ (p : Planned). p.dates) c.self.view_is) c.requires.was c.self.invariant.order c.self.invariant.addresses
+          c.new.result c.in-None-Some.moment c.new.ensures.number c.new.ensures.address new c.in-None-Some.is-0 c.put.ensures.dates;
+      addresses = put_addresses c.new.result ds new c.new.ensures.address c.self.invariant.addresses c.put.ensures.dates;
+      fits = omega (arith, space, ap (λ (p : Planned). length p.dates) c.self.view_is, ap (λ (p : Planned). p.room) c.self.view_is, ap (length {A = Date}) c.put.ensures.dates, length-put c.new.result ds);
+      kept = c.put.ensures.kept;
+      enough = omega (arith, c.self.invariant.enough, c.put.ensures.number);
+    }
 
 pub returns-in-None-Some-clause-dates : goal.returns-in-None-Some-clause-dates
 returns-in-None-Some-clause-dates g c =
-    put_redated c.self.inside.dates.items _ (number_of c.args.addr.0) c.args.was c.args.date (ap (λ (p : Planned). p.dates) c.self.view_is) c.requires.was c.self.invariant.0 c.self.invariant.1
-    c.new.result c.in-None-Some.moment c.new.ensures.number c.new.ensures.address c.put.new.dates.items c.in-None-Some.is-0 c.in-None-Some.is-1 c.new.ensures.moment c.put.ensures.items
+    put_redated (all_of c.self.inside.blocks.blocks) _ (number_of c.args.addr.0) c.args.was c.args.date (ap (λ (p : Planned). p.dates) c.self.view_is) c.requires.was c.self.invariant.order c.self.invariant.addresses
+    c.new.result c.in-None-Some.moment c.new.ensures.number c.new.ensures.address (all_of c.put.new.self.blocks) c.in-None-Some.is-0 c.in-None-Some.is-1 c.new.ensures.moment c.put.ensures.dates
 
 pub invariant_of-self-in-Some-None : goal.invariant_of-self-in-Some-None
 invariant_of-self-in-Some-None g c =
     let d = c.new-in-Some-None.result in
-    (subst (Rises rank) (sym c.take.ensures.items) (Rises-without d.moment d.number c.self.inside.dates.items c.self.invariant.0), c.take.ensures.addresses)
+    let ds = all_of c.self.inside.blocks.blocks in
+    record {
+      order = subst (Rises rank) (sym c.take.ensures.dates) (Rises-without d.moment d.number ds c.self.invariant.order);
+      addresses = taken_addresses d.moment d.number ds (all_of c.take.new.self.blocks) c.self.invariant.addresses c.take.ensures.dates;
+      fits = omega (arith, c.self.invariant.fits, ap (length {A = Date}) c.take.ensures.dates, no_longer d.moment d.number ds);
+      kept = c.take.ensures.kept;
+      enough = omega (arith, c.self.invariant.enough, c.take.ensures.number);
+    }
 
 pub returns-in-Some-None-clause-dates : goal.returns-in-Some-None-clause-dates
 returns-in-Some-None-clause-dates g c =
-    take_redated c.self.inside.dates.items _ (number_of c.args.addr.0) c.args.was c.args.date (ap (λ (p : Planned). p.dates) c.self.view_is) c.requires.was c.self.invariant.0 c.self.invariant.1
-    c.new-in-Some-None.result c.in-Some-None.moment c.new-in-Some-None.ensures.number c.new-in-Some-None.ensures.address c.take.new.dates.items c.in-Some-None.is-0 c.in-Some-None.is-1 c.new-in-Some-None.ensures.moment c.take.ensures.items
+    take_redated (all_of c.self.inside.blocks.blocks) _ (number_of c.args.addr.0) c.args.was c.args.date (ap (λ (p : Planned). p.dates) c.self.view_is) c.requires.was c.self.invariant.order c.self.invariant.addresses
+    c.new-in-Some-None.result c.in-Some-None.moment c.new-in-Some-None.ensures.number c.new-in-Some-None.ensures.address (all_of c.take.new.self.blocks) c.in-Some-None.is-0 c.in-Some-None.is-1 c.new-in-Some-None.ensures.moment c.take.ensures.dates
 
-pub replace-requires-clause-there : goal.replace-requires-clause-there
-replace-requires-clause-there g c =
-    old_there c.self.inside.dates.items _ (number_of c.args.addr.0) c.args.was c.args.date (ap (λ (p : Planned). p.dates) c.self.view_is) c.requires.was c.self.invariant.0 c.self.invariant.1
-    c.new-old.result c.new-new.result c.in-Some-Some.before c.in-Some-Some.moment c.new-old.ensures.number c.new-new.ensures.number c.new-old.ensures.address c.new-new.ensures.address c.in-Some-Some.is-0 c.in-Some-Some.is-1 c.new-old.ensures.moment c.new-new.ensures.moment c.if-before-moment.true c.self.inside.dates.items
+pub put-requires-then-before-moment-clause-order : goal.put-requires-then-before-moment-clause-order
+put-requires-then-before-moment-clause-order g c =
+    mid_rises (all_of c.self.inside.blocks.blocks) _ (number_of c.args.addr.0) c.args.was c.args.date (ap (λ (p : Planned). p.dates) c.self.view_is) c.requires.was c.self.invariant.order c.self.invariant.addresses
+    c.new-old.result c.new-new.result c.in-Some-Some.before c.in-Some-Some.moment c.new-old.ensures.number c.new-new.ensures.number c.new-old.ensures.address c.new-new.ensures.address c.in-Some-Some.is-0 c.in-Some-Some.is-1 c.new-old.ensures.moment c.new-new.ensures.moment
+    (all_of c.take-then-before-moment.new.self.blocks) (all_of c.take-then-before-moment.new.self.blocks) c.take-then-before-moment.ensures.dates
 
-pub replace-requires-clause-absent : goal.replace-requires-clause-absent
-replace-requires-clause-absent g c =
-    new_absent c.self.inside.dates.items _ (number_of c.args.addr.0) c.args.was c.args.date (ap (λ (p : Planned). p.dates) c.self.view_is) c.requires.was c.self.invariant.0 c.self.invariant.1
-    c.new-old.result c.new-new.result c.in-Some-Some.before c.in-Some-Some.moment c.new-old.ensures.number c.new-new.ensures.number c.new-old.ensures.address c.new-new.ensures.address c.in-Some-Some.is-0 c.in-Some-Some.is-1 c.new-old.ensures.moment c.new-new.ensures.moment c.if-before-moment.true c.self.inside.dates.items
+pub put-requires-then-before-moment-clause-absent : goal.put-requires-then-before-moment-clause-absent
+put-requires-then-before-moment-clause-absent g c =
+    mid_absent (all_of c.self.inside.blocks.blocks) _ (number_of c.args.addr.0) c.args.was c.args.date (ap (λ (p : Planned). p.dates) c.self.view_is) c.requires.was c.self.invariant.order c.self.invariant.addresses
+    c.new-old.result c.new-new.result c.in-Some-Some.before c.in-Some-Some.moment c.new-old.ensures.number c.new-new.ensures.number c.new-old.ensures.address c.new-new.ensures.address c.in-Some-Some.is-0 c.in-Some-Some.is-1 c.new-old.ensures.moment c.new-new.ensures.moment
+    (all_of c.take-then-before-moment.new.self.blocks) (all_of c.take-then-before-moment.new.self.blocks) c.take-then-before-moment.ensures.dates
+
+pub put-requires-then-before-moment-clause-room : goal.put-requires-then-before-moment-clause-room
+put-requires-then-before-moment-clause-room g c =
+    omega (
+      arith,
+      c.self.invariant.enough,
+      c.self.invariant.fits,
+      c.take-then-before-moment.ensures.number,
+      mid_shorter (all_of c.self.inside.blocks.blocks) _ (number_of c.args.addr.0) c.args.was c.args.date (ap (λ (p : Planned). p.dates) c.self.view_is) c.requires.was c.self.invariant.order c.self.invariant.addresses
+          c.new-old.result c.new-new.result c.in-Some-Some.before c.in-Some-Some.moment c.new-old.ensures.number c.new-new.ensures.number c.new-old.ensures.address c.new-new.ensures.address c.in-Some-Some.is-0 c.in-Some-Some.is-1 c.new-old.ensures.moment c.new-new.ensures.moment
+          (all_of c.take-then-before-moment.new.self.blocks) (all_of c.take-then-before-moment.new.self.blocks) c.take-then-before-moment.ensures.dates,
+    )
 
 pub invariant_of-self-then-before-moment : goal.invariant_of-self-then-before-moment
-invariant_of-self-then-before-moment g c = (
-  replaced_rises c.self.inside.dates.items _ (number_of c.args.addr.0) c.args.was c.args.date (ap (λ (p : Planned). p.dates) c.self.view_is) c.requires.was c.self.invariant.0 c.self.invariant.1
-      c.new-old.result c.new-new.result c.in-Some-Some.before c.in-Some-Some.moment c.new-old.ensures.number c.new-new.ensures.number c.new-old.ensures.address c.new-new.ensures.address c.in-Some-Some.is-0 c.in-Some-Some.is-1 c.new-old.ensures.moment c.new-new.ensures.moment c.if-before-moment.true c.replace.new.dates.items c.replace.ensures.items,
-  c.replace.ensures.addresses,
-)
+invariant_of-self-then-before-moment g c =
+    let mid = all_of c.take-then-before-moment.new.self.blocks in
+    let new = all_of c.put-then-before-moment.new.self.blocks in
+    record {
+      order = moved_rises (all_of c.self.inside.blocks.blocks) _ (number_of c.args.addr.0) c.args.was c.args.date (ap (λ (p : Planned). p.dates) c.self.view_is) c.requires.was c.self.invariant.order c.self.invariant.addresses
+          c.new-old.result c.new-new.result c.in-Some-Some.before c.in-Some-Some.moment c.new-old.ensures.number c.new-new.ensures.number c.new-old.ensures.address c.new-new.ensures.address c.in-Some-Some.is-0 c.in-Some-Some.is-1 c.new-old.ensures.moment c.new-new.ensures.moment
+          (all_of c.take-then-before-moment.new.self.blocks) (all_of c.put-then-before-moment.new.self.blocks) c.take-then-before-moment.ensures.dates c.put-then-before-moment.ensures.dates;
+      addresses = put_addresses c.new-new.result mid new c.new-new.ensures.address (mid_addresses (all_of c.self.inside.blocks.blocks) _ (number_of c.args.addr.0) c.args.was c.args.date (ap (λ (p : Planned). p.dates) c.self.view_is) c.requires.was c.self.invariant.order c.self.invariant.addresses
+          c.new-old.result c.new-new.result c.in-Some-Some.before c.in-Some-Some.moment c.new-old.ensures.number c.new-new.ensures.number c.new-old.ensures.address c.new-new.ensures.address c.in-Some-Some.is-0 c.in-Some-Some.is-1 c.new-old.ensures.moment c.new-new.ensures.moment
+          (all_of c.take-then-before-moment.new.self.blocks) (all_of c.put-then-before-moment.new.self.blocks) c.take-then-before-moment.ensures.dates) c.put-then-before-moment.ensures.dates;
+      fits = omega (
+        arith,
+        c.self.invariant.fits,
+        ap (length {A = Date}) c.put-then-before-moment.ensures.dates,
+        length-put c.new-new.result mid,
+        mid_shorter (all_of c.self.inside.blocks.blocks) _ (number_of c.args.addr.0) c.args.was c.args.date (ap (λ (p : Planned). p.dates) c.self.view_is) c.requires.was c.self.invariant.order c.self.invariant.addresses
+            c.new-old.result c.new-new.result c.in-Some-Some.before c.in-Some-Some.moment c.new-old.ensures.number c.new-new.ensures.number c.new-old.ensures.address c.new-new.ensures.address c.in-Some-Some.is-0 c.in-Some-Some.is-1 c.new-old.ensures.moment c.new-new.ensures.moment
+            (all_of c.take-then-before-moment.new.self.blocks) (all_of c.put-then-before-moment.new.self.blocks) c.take-then-before-moment.ensures.dates,
+      );
+      kept = c.put-then-before-moment.ensures.kept;
+      enough = omega (arith, c.self.invariant.enough, c.take-then-before-moment.ensures.number, c.put-then-before-moment.ensures.number);
+    }
 
 pub returns-then-before-moment-clause-dates : goal.returns-then-before-moment-clause-dates
 returns-then-before-moment-clause-dates g c =
-    replaced_redated c.self.inside.dates.items _ (number_of c.args.addr.0) c.args.was c.args.date (ap (λ (p : Planned). p.dates) c.self.view_is) c.requires.was c.self.invariant.0 c.self.invariant.1
-    c.new-old.result c.new-new.result c.in-Some-Some.before c.in-Some-Some.moment c.new-old.ensures.number c.new-new.ensures.number c.new-old.ensures.address c.new-new.ensures.address c.in-Some-Some.is-0 c.in-Some-Some.is-1 c.new-old.ensures.moment c.new-new.ensures.moment c.if-before-moment.true c.replace.new.dates.items c.replace.ensures.items
+    moved_redated (all_of c.self.inside.blocks.blocks) _ (number_of c.args.addr.0) c.args.was c.args.date (ap (λ (p : Planned). p.dates) c.self.view_is) c.requires.was c.self.invariant.order c.self.invariant.addresses
+    c.new-old.result c.new-new.result c.in-Some-Some.before c.in-Some-Some.moment c.new-old.ensures.number c.new-new.ensures.number c.new-old.ensures.address c.new-new.ensures.address c.in-Some-Some.is-0 c.in-Some-Some.is-1 c.new-old.ensures.moment c.new-new.ensures.moment
+    (all_of c.take-then-before-moment.new.self.blocks) (all_of c.put-then-before-moment.new.self.blocks) c.take-then-before-moment.ensures.dates c.put-then-before-moment.ensures.dates

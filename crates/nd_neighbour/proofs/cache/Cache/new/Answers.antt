@@ -1,0 +1,30 @@
+use Rattle.std.proofs.Common.{◌≡◌, List, [], ap, sym, subst, arith, rules}
+use Rattle.nd_table.specs.Dates.{Planned, has}
+use Rattle.nd_neighbour.specs.Entry.{Node}
+use Rattle.nd_neighbour.specs.Planned.{IsPlanned}
+use Rattle.nd_neighbour.specs.Table.{Stands}
+use Rattle.nd_neighbour.proofs.cache.Cache.new.Goals as goal
+
+-- an empty cache has no dates, and stands for no history
+none_planned : (nodes : List Node) (planned : Planned) → nodes ≡ [] → planned.dates ≡ [] → IsPlanned nodes planned
+none_planned nodes planned none empty = subst (λ (l : List Node). IsPlanned l planned) (sym none) (record {
+  order = tt;
+  dates = record { each = λ moment k. ap (has moment k) empty };
+  room = omega arith;
+})
+
+none_stand : Stands [] []
+none_stand = search rules
+
+pub invariant_of-result : goal.invariant_of-result
+invariant_of-result g c = (
+  omega (arith, c.in_ok-entries.ensures.len),
+  omega (arith, c.in_ok-entries.ensures.capacity),
+  omega (arith, c.in_ok-rings.ensures.len),
+  omega (arith, c.in_ok-rings.ensures.capacity),
+  omega (arith, c.in_ok-dates.ensures.room),
+  none_planned c.in_ok-entries.entries.items c.in_ok-dates.dates c.in_ok-entries.ensures.items c.in_ok-dates.ensures.none,
+)
+
+pub returns-clause-stands : goal.returns-clause-stands
+returns-clause-stands g c = subst (λ (l : List Node). Stands l []) (sym c.in_ok-entries.ensures.items) none_stand

@@ -1,0 +1,144 @@
+//! A block of dates: a short run of the dates of a table, in their order.
+
+ghost use Rattle.std.specs.Prelude.{◌≡◌, ◌+◌, ◌<◌, ◌≤◌, ◌^◌, [], ◌++◌, length, None, IfOk};
+ghost use Rattle.nd_table.specs.Keyed.{at_key, Rises};
+ghost use Rattle.nd_table.specs.Dates.{rank, AllAddresses, without, put_date};
+
+use crate::binary_search::search;
+use crate::date::Date;
+use crate::probes::Uncounted;
+use crate::ranked::Ranked;
+use std::alloc::{AllocError, Allocator};
+use std::cmp::Ordering;
+use std::marker::Model;
+
+/// For how many dates a block has room: our choice.
+pub(crate) const BLOCK: usize = 32;
+
+/// How many dates each half of a full block has.
+const HALF: usize = BLOCK / 2;
+
+/// A run of dates, with room for `BLOCK`.
+#[derive(Drop)]
+pub struct Block<A: Allocator> {
+    dates: Vec<Date, A>,
+}
+
+impl<A: Allocator> Model for Block<A> {
+    ghost use Rattle.std.specs.Prelude.{List, ◌≤◌, vec_capacity};
+    ghost use Rattle.nd_table.specs.declared.date.Date.{Date};
+    ghost use Rattle.nd_table.specs.declared.block.TheConstants.{BLOCK};
+
+    ghost Value = { List Date };
+
+    ghost view = { λ b. b.dates.items };
+
+    ghost invariant = { λ b. BLOCK ≤ vec_capacity b.dates };
+}
+
+impl<A: Allocator> Block<A> {
+    /// Returns an empty block with all its room. The error is out of memory.
+    pub(crate) fn new(alloc: A) -> Result<Self, AllocError>
+        ensures { IfOk result (λ block. block ≡ []) }
+    {
+        Ok(Block {
+            dates: Vec::with_capacity(alloc, BLOCK)?,
+        })
+    }
+
+    /// Returns the dates.
+    pub(crate) fn dates(&self) -> &[Date]
+        ensures { result.now ≡ self.now }
+    {
+        &self.dates
+    }
+
+    /// Returns how many dates there are.
+    pub(crate) fn len(&self) -> usize
+        ensures { result ≡ length self.now }
+    {
+        self.dates.len()
+    }
+
+    /// Puts in a date that isn't there. There is room for it.
+    pub(crate) fn put(&mut self, date: Date)
+        requires order { Rises rank self.old }
+        requires absent { at_key rank (rank date) self.old ≡ None }
+        requires room { length self.old < BLOCK }
+        ensures { self.new ≡ put_date date self.old }
+    {
+        let Err(at) = search(&self.dates, &date, &mut Uncounted) else {
+            unreachable!()
+        };
+        match self.dates.insert(at, date) {
+            Ok(()) => {}
+            Err(_) => unreachable!(),
+        }
+    }
+
+    /// Takes out a date, if it is there.
+    pub(crate) fn take(&mut self, date: Date)
+        requires order { Rises rank self.old }
+        requires addresses { AllAddresses self.old }
+        requires address { date.number < 2 ^ 128 }
+        ensures { self.new ≡ without date.moment date.number self.old }
+    {
+        if let Ok(at) = search(&self.dates, &date, &mut Uncounted) {
+            let _ = self.dates.remove(at);
+        }
+    }
+
+    /// Moves the upper half of a full block into `upper`, which gives up its own dates.
+    pub(crate) fn split_into(&mut self, upper: &mut Self)
+        requires { length self.old ≡ BLOCK }
+        ensures dates { self.new ++ upper.new ≡ self.old }
+        ensures lower { length self.new ≡ HALF }
+        ensures upper { length upper.new ≡ HALF }
+    {
+        upper.dates.clear();
+        match upper.dates.extend_from_slice(&self.dates[HALF..]) {
+            Ok(()) => {}
+            Err(_) => unreachable!(),
+        }
+        self.dates.truncate(HALF);
+    }
+
+    /// Appends the dates of the block behind this one. There is room for them.
+    pub(crate) fn join(&mut self, behind: &Self)
+        requires { length self.old + length behind.now ≤ BLOCK }
+        ensures { self.new ≡ self.old ++ behind.now }
+    {
+        match self.dates.extend_from_slice(&behind.dates) {
+            Ok(()) => {}
+            Err(_) => unreachable!(),
+        }
+    }
+
+    /// Takes out all dates.
+    pub(crate) fn clear(&mut self)
+        ensures { self.new ≡ [] }
+    {
+        self.dates.clear();
+    }
+}
+
+/// Blocks are searched for by their first dates. An empty one comes before all others.
+impl<A: Allocator> Ranked<Date> for Block<A> {
+    ghost use Rattle.nd_table.specs.Dates.{rank};
+    ghost use Rattle.nd_table.specs.Blocks.{first_rank};
+
+    ghost key = { first_rank };
+
+    ghost number = { rank };
+
+    fn compare(&self, sought: &Date) -> Ordering {
+        match self.dates.first() {
+            Some(first) => first.compare(sought),
+            None => Date {
+                moment: 0,
+                number: 0,
+            }
+            .compare(sought),
+        }
+    }
+}
