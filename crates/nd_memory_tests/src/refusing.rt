@@ -18,7 +18,7 @@ pub(crate) fn each_is_refused_once<F: Fn(&LocalHeap) -> Option<usize>>(
 {
     let mut refused = [false; MOST];
     let mut whole = false;
-    for units in 0..1000usize {
+    for units in 0..1500usize {
         let heap = LocalHeap::new(alloc, 16 * units)?;
         match run(&heap) {
             None => whole = true,

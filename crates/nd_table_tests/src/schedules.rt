@@ -167,6 +167,91 @@ fn neighbours_fall_due_as_each_alone(rt: HostRuntime) {
     }
 }
 
+// Many neighbours, whose dates are in many blocks.
+
+const NEIGHBOURS: u16 = 2048;
+
+/// How long a neighbour is kept after it was last REACHABLE, in milliseconds.
+const DAY: u64 = 86_400_000;
+
+/// fe80::n.
+fn numbered(n: u16) -> Addr {
+    let [high, low] = n.to_be_bytes();
+    Addr([0xfe, 0x80, 0, 0, 0, 0, 0, 0, 0, 0, 0, 0, 0, 0, high, low])
+}
+
+/// The numbers below `NEIGHBOURS` in a scattered order: the one at `place`. `step` is odd, so that each comes once.
+fn scattered(place: u16, step: u16) -> u16 {
+    (u32::from(place) * u32::from(step) % u32::from(NEIGHBOURS)) as u16
+}
+
+/// Confirms a neighbour, and notes when it ages.
+fn confirm(cache: &mut Cache<Global>, dates: &mut [Option<u64>], now: u64, n: u16, span: u64)
+    requires moment { now < 2 ^ 32 }
+    requires span { span < 2 ^ 32 }
+{
+    cache.confirmed(now, numbered(n), span);
+    if let Some(date) = dates.get_mut(usize::from(n)) {
+        *date = Some(now + span + DAY);
+    }
+}
+
+/// Each date in a plain list of them all, sorted.
+fn in_order(rt: &(impl Abort + AllocGlobal), dates: &[Option<u64>]) -> Vec<(u64, Addr)> {
+    let mut wanted = Vec::new(rt.alloc());
+    for (date, n) in dates.iter().zip(0..NEIGHBOURS) {
+        if let Some(date) = date {
+            wanted.push((*date, numbered(n))).expect(rt, "memory");
+        }
+    }
+    wanted.sort().expect(rt, "memory");
+    wanted
+}
+
+/// The neighbours age in the order of the list, and then nothing is due.
+fn age_all(rt: &impl Abort, cache: &mut Cache<Global>, wanted: &[(u64, Addr)]) {
+    for (date, addr) in wanted {
+        let now = cache.next_due().expect(rt, "due");
+        assert!(rt; now == *date && now < 1 << 62);
+        assert!(rt; told(cache.turn(now)) == Some((3, *addr, 0)));
+    }
+    assert!(rt; cache.next_due() == None);
+}
+
+/// The neighbours are heard, confirmed with their dates close together in another order, and confirmed again, which moves each date
+/// behind all others. Some are forgotten.
+#[test]
+fn many_neighbours_age_in_the_order_of_their_dates(rt: HostRuntime) {
+    let mut cache = Cache::new(rt.alloc(), usize::from(NEIGHBOURS)).expect(&rt, "memory");
+    let mut dates = vec![in rt.alloc(); None; usize::from(NEIGHBOURS)].expect(&rt, "memory");
+    for place in 0..NEIGHBOURS {
+        let addr = numbered(scattered(place, 797));
+        let given = News::Given {
+            addr,
+            mac: MAC,
+            mark: None,
+        };
+        assert!(rt; cache.heard(0, given, TIMES).is_ok());
+    }
+    for place in 0..NEIGHBOURS {
+        let span = 3000 + u64::from(scattered(place, 1021) / 4);
+        confirm(&mut cache, &mut dates, 0, scattered(place, 3), span);
+    }
+    for place in 0..NEIGHBOURS / 2 {
+        let now = 1000 + u64::from(place);
+        confirm(&mut cache, &mut dates, now, scattered(place, 333), 9000);
+    }
+    for place in 0..NEIGHBOURS / 8 {
+        let n = scattered(place, 55);
+        let _ = cache.forget(numbered(n));
+        if let Some(date) = dates.get_mut(usize::from(n)) {
+            *date = None;
+        }
+    }
+    let wanted = in_order(&rt, &dates);
+    age_all(&rt, &mut cache, &wanted);
+}
+
 // Routers.
 
 /// The earliest end of the routers, and of those that end at it the lowest address.
