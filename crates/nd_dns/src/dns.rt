@@ -1,14 +1,15 @@
-ghost use Rattle.std.specs.Prelude.{◌≡◌, ◌≤◌, ◌∷◌, ℕ, List, [], length, IfOk};
+ghost use Rattle.std.specs.Prelude.{◌≡◌, ◌≤◌, ◌∷◌, ℕ, List, [], length, map, IfOk};
 ghost use Rattle.nd_addr.specs.declared.addr.Addr.{Addr};
 ghost use Rattle.nd_addr.specs.Same.{same_addr};
 ghost use Rattle.nd_lifetime.specs.declared.lasting.Lasting.{Lasting};
 ghost use Rattle.nd_lifetime.specs.History.{Row, Cleared, last_moment};
-ghost use Rattle.nd_lifetime.specs.Listing.{open_at, Lists};
-ghost use Rattle.nd_lifetime.specs.Left.{standing_left};
+ghost use Rattle.nd_lifetime.specs.Listing.{open_at};
+ghost use Rattle.nd_lifetime.specs.Left.{lifetimes_left};
+ghost use Rattle.nd_lifetime.specs.Shown.{seen, Shows};
 
 use crate::search_name::SearchName;
 use nd_addr::Addr;
-use nd_lifetime::{Lasting, Standing};
+use nd_lifetime::{Lasting, WithLifetimes};
 use std::alloc::{AllocError, Allocator};
 use std::marker::Model;
 
@@ -45,7 +46,7 @@ impl<A: Allocator> Model for Dns<A> {
 impl<A: Allocator + Clone> Dns<A> {
     ghost use Rattle.nd_dns.specs.Dns.{Stands};
 
-    /// Nothing heard, with room for 32 servers and for 32 names. All of it is reserved here; the error is want of memory.
+    /// Nothing heard, with room for 32 servers and for 32 names. All of it is reserved here; the error is out of memory.
     pub fn new(alloc: A) -> Result<Self, AllocError>
         ensures empty { IfOk result (λ dns. dns ≡ record { servers = []; names = [] }) }
         ensures stands { IfOk result (λ dns. Stands dns [] []) }
@@ -64,12 +65,13 @@ impl<A: Allocator> Dns<A> {
     ghost use Rattle.nd_dns.specs.Dns.{Stands, max_servers, max_names};
     ghost use Rattle.nd_dns.specs.Names.{same_name};
 
-    /// The servers that stand at a moment, with their ends, both in milliseconds, in the order in which they came.
-    pub fn servers(&self, now: u64) -> Standing<'_, Addr>
-        ensures value { standing_left result ≡ open_at now self.now.servers }
-        ensures lists { (history : List (Row Addr)) (names : List (Row (List ℕ))) → Stands self.now history names → last_moment history ≤ now → Lists same_addr history now (standing_left result) }
+    /// Returns the servers that stand at `now`, with what is left of their lifetimes, both in milliseconds, in the order in which they entered the
+    /// list. It takes no memory.
+    pub fn servers(&self, now: u64) -> WithLifetimes<'_, Addr>
+        ensures value { lifetimes_left result ≡ map (seen now) (open_at now self.now.servers) }
+        ensures lists { (history : List (Row Addr)) (names : List (Row (List ℕ))) → Stands self.now history names → last_moment history ≤ now → Shows same_addr history now (lifetimes_left result) }
     {
-        Standing::new(&self.servers, now)
+        WithLifetimes::new(&self.servers, now)
     }
 
     /// How many servers there are that haven't been taken out, at most 32.
@@ -88,12 +90,13 @@ impl<A: Allocator> Dns<A> {
         self.names.len()
     }
 
-    /// The search names that stand at a moment, with their ends, both in milliseconds, in the order in which they came.
-    pub fn search_names(&self, now: u64) -> Standing<'_, SearchName<A>>
-        ensures value { standing_left result ≡ open_at now self.now.names }
-        ensures lists { (servers : List (Row Addr)) (history : List (Row (List ℕ))) → Stands self.now servers history → last_moment history ≤ now → Lists same_name history now (standing_left result) }
+    /// Returns the search names that stand at `now`, with what is left of their lifetimes, both in milliseconds, in the order in which they entered
+    /// the list. It takes no memory.
+    pub fn search_names(&self, now: u64) -> WithLifetimes<'_, SearchName<A>>
+        ensures value { lifetimes_left result ≡ map (seen now) (open_at now self.now.names) }
+        ensures lists { (servers : List (Row Addr)) (history : List (Row (List ℕ))) → Stands self.now servers history → last_moment history ≤ now → Shows same_name history now (lifetimes_left result) }
     {
-        Standing::new(&self.names, now)
+        WithLifetimes::new(&self.names, now)
     }
 
     /// Nothing has been heard from now on.

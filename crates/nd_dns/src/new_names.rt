@@ -51,7 +51,7 @@ impl<A: Allocator + Clone> NewNames<A> {
     ghost use Rattle.std.specs.Prelude.{◌≡◌, ◌++◌, ◌∷◌, [], OnOk};
     ghost use Rattle.nd_search_list.specs.NameRef.{name_of};
 
-    /// A copy of one more, behind the others. The error is want of memory.
+    /// A copy of one more, behind the others. The error is out of memory.
     pub(crate) fn add(&mut self, alloc: &A, name: &NameRef<'_>) -> Result<(), AllocError>
         ensures { OnOk result (self.new ≡ self.old ++ name_of name.now ∷ []) }
     {
@@ -67,7 +67,7 @@ impl<A: Allocator + Clone> NewNames<A> {
     }
 }
 
-/// Copies of the names that the announcements of a message enter, in their order. The error is want of memory.
+/// Copies of the names that the announcements of a message enter, in their order. The error is out of memory.
 pub(crate) fn copies<A: Allocator + Clone>(
     alloc: &A,
     entries: &[Lasting<SearchName<A>>],

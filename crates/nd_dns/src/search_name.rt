@@ -25,7 +25,7 @@ impl<A: Allocator> Model for SearchName<A> {
 }
 
 impl<A: Allocator> SearchName<A> {
-    /// A name that was heard, in small letters. The error is want of memory.
+    /// A name that was heard, in small letters. The error is out of memory.
     pub(crate) fn copied(alloc: A, name: &NameRef<'_>) -> Result<Self, AllocError>
         ensures { IfOk result (λ n. n ≡ name_of name.now) }
     {

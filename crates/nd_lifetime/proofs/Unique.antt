@@ -1,10 +1,11 @@
 -- One list of entries is that of the keys that stand.
 use Rattle.std.proofs.Common.{◌≡◌, ℕ, ◌<◌, ◌≤◌, Bool, List, [], ◌∷◌, Option, Some, None, refl, sym, ◌∙◌, ap, arith, ◌⊎◌, inl, inr, ⊎_elim}
-use Rattle.std.specs.Prelude.{is_some}
+use Rattle.std.specs.Prelude.{is_some, map}
 use Rattle.std.proofs.lemmas.Bool.{cond-false, true≢false}
 use Rattle.nd_lifetime.specs.declared.lasting.Lasting.{Lasting}
 use Rattle.nd_lifetime.specs.History.{Row}
 use Rattle.nd_lifetime.specs.Listing.{end_in, AllAfter, Rises, Lists}
+use Rattle.nd_lifetime.specs.Shown.{Seen, seen, Shows}
 use Rattle.nd_lifetime.proofs.Finding.{Tells}
 use Rattle.nd_lifetime.proofs.Order.{AllAfter-has}
 
@@ -58,3 +59,7 @@ module _ {K : Type 0} (same : K → K → Bool) (tells : Tells same) where
 
   pub one_listing : (history : List (Row K)) (moment : ℕ) (es fs : List (Lasting K)) → Lists same history moment es → Lists same history moment fs → es ≡ fs
   one_listing history moment es fs l m = one_list _ es fs l.order m.order (λ key. l.ends key ∙ sym (m.ends key))
+
+  -- nor is there another list that shows them
+  pub one_shown : (history : List (Row K)) (moment : ℕ) (a b : List (Seen K)) → Shows same history moment a → Shows same history moment b → a ≡ b
+  one_shown history moment a b h k = h.2 ∙ ap (map (seen moment)) (one_listing history moment h.0 k.0 h.1 k.1) ∙ sym k.2

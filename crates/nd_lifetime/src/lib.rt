@@ -11,6 +11,7 @@ mod names_key;
 mod prefix;
 mod refusal;
 mod standing;
+mod with_lifetime;
 
 pub use announces::Announces;
 pub use changing::{announce, count, drop_ended, enters, has, remove, renew, stands};
@@ -19,3 +20,4 @@ pub use message::{announce_all, enters_behind, fits_all};
 pub use names_key::NamesKey;
 pub use refusal::{Limit, TableRefusal};
 pub use standing::Standing;
+pub use with_lifetime::{WithLifetime, WithLifetimes};

@@ -11,7 +11,6 @@ const MAC: Mac = Mac([0x34, 0x56, 0x78, 0x9a, 0xbc, 0xde]);
 #[derive(Clone, Copy, Debug, PartialEq, Eq)]
 enum Call {
     Room,
-    Rows,
 }
 
 /// The addresses of an interface that starts: the first call for which there is no memory.
@@ -26,13 +25,8 @@ fn run(rt: &impl Abort, heap: &LocalHeap) -> Option<Call> {
     assert!(rt; addresses.state(0, addr) == Some(State::Tentative));
     // A conflict takes no memory.
     assert!(rt; addresses.conflict(addr));
-    match addresses.rows(0) {
-        Ok(rows) => assert!(rt; rows.len() == 1),
-        Err(_) => {
-            assert!(rt; addresses.state(0, addr) == Some(State::Duplicate));
-            return Some(Call::Rows);
-        }
-    }
+    assert!(rt; addresses.state(0, addr) == Some(State::Duplicate));
+    assert!(rt; addresses.rows(0).count() == 1);
     None
 }
 
@@ -41,7 +35,7 @@ fn each_request_of_the_addresses_is_refused_once(rt: HostRuntime) -> Result<(), 
     each_is_refused_once(
         &rt,
         rt.alloc(),
-        2,
+        1,
         |heap| run(&rt, heap).map(|call| call as usize),
     )
 }

@@ -16,3 +16,4 @@ pub mod Sending
 pub mod Room
 pub mod Removal
 pub mod View
+pub mod Left

@@ -32,4 +32,4 @@ pub use nd_waiting::{Packet, Packets};
 pub use news::{Flags, News, Times, Touched};
 pub use refusal::CacheRefusal;
 pub use sending::Use;
-pub use shown::{Neighbour, Reachability};
+pub use shown::{Neighbour, Neighbours, Reachability};

@@ -1,4 +1,4 @@
-ghost use Rattle.std.specs.Prelude.{IfOk, List, map, ◌≡◌};
+ghost use Rattle.std.specs.Prelude.{List, map, ◌≡◌};
 ghost use Rattle.std.specs.Option.{option_map};
 ghost use Rattle.nd_addr.specs.Number.{number_of};
 ghost use Rattle.nd_neighbour.specs.Table.{node_in, Rises};
@@ -9,7 +9,7 @@ use crate::cache::Cache;
 use crate::entry::{Entry, Stage};
 use nd_addr::{Addr, Mac};
 use nd_table::find;
-use std::alloc::{AllocError, Allocator};
+use std::alloc::Allocator;
 
 /// What is shown of a neighbour (RFC 4861, section 5.1).
 #[derive(Clone, Copy, Debug, PartialEq, Eq)]
@@ -52,19 +52,59 @@ impl<A: Allocator> Cache<A> {
     }
 }
 
-impl<A: Allocator + Clone> Cache<A> {
+impl<A: Allocator> Cache<A> {
     ghost use Rattle.nd_neighbour.specs.History.{Row};
     ghost use Rattle.nd_neighbour.specs.Table.{Stands};
     ghost use Rattle.nd_neighbour.specs.Shown.{Lists, seen};
+    ghost use Rattle.nd_neighbour.specs.Left.{neighbours_left};
+
+    /// Returns all neighbours as they are at `now`, in milliseconds, in the order of their addresses (RFC 4861, sections 5.1 and 7.3.2). It
+    /// takes no memory.
+    pub fn rows(&self, now: u64) -> Neighbours<'_, A>
+        ensures value { neighbours_left result ≡ map (seen now) self.now.nodes }
+        ensures lists { (history : List Row) → Stands self.now.nodes history → Lists history now (neighbours_left result) }
+    {
+        Neighbours::new(&self.entries, now)
+    }
+}
+
+/// The neighbours as they are at a moment, in the order of their addresses.
+#[derive(Drop)]
+pub struct Neighbours<'a, A: Allocator> {
+    rest: &'a [Entry<A>],
+    moment: u64,
+}
+
+impl<'a, A: Allocator> Neighbours<'a, A> {
+    ghost use Rattle.nd_neighbour.specs.Shown.{seen};
+    ghost use Rattle.nd_neighbour.specs.Left.{neighbours_left};
+
+    /// Returns those of all entries, at a moment in milliseconds.
+    fn new(entries: &'a [Entry<A>], moment: u64) -> Self
+        ensures { neighbours_left result ≡ map (seen moment) entries.entry.now }
+    {
+        Neighbours {
+            rest: entries,
+            moment,
+        }
+    }
+}
+
+impl<A: Allocator> Iterator for Neighbours<'_, A> {
+    type Item = Neighbour;
+
+    ghost use Rattle.std.specs.Iterator.{YieldsFirstBy, item_count};
+    ghost use Rattle.nd_neighbour.specs.Left.{neighbours_left};
     ghost use Rattle.nd_neighbour.specs.View.{seen_in};
 
-    /// All neighbours at a moment, in the order of their addresses (RFC 4861, sections 5.1 and 7.3.2). An error comes
-    /// where memory for the list is refused.
-    pub fn rows(&self, now: u64) -> Result<Vec<Neighbour, A>, AllocError>
-        ensures value { IfOk result (λ shown. map (λ n. seen_in n) shown.items ≡ map (seen now) self.now.nodes) }
-        ensures lists { IfOk result (λ shown. (history : List Row) → Stands self.now.nodes history → Lists history now (map (λ n. seen_in n) shown.items)) }
-    {
-        show_all(&self.entries, now)
+    ghost next_gives = { YieldsFirstBy seen_in neighbours_left };
+
+    ghost remaining = { item_count neighbours_left };
+
+    fn next(&mut self) -> Option<Neighbour> {
+        let (first, rest) = self.rest.split_first()?;
+        self.rest = rest;
+        Some(first.shown(self.moment))
     }
 }
 
@@ -77,21 +117,6 @@ pub(crate) fn show<A: Allocator>(entries: &[Entry<A>], now: u64, addr: Addr) -> 
         Some(i) => Some(entries[i].shown(now)),
         None => None,
     }
-}
-
-/// What is shown of all entries.
-pub(crate) fn show_all<A: Allocator + Clone>(
-    entries: &Vec<Entry<A>, A>,
-    now: u64,
-) -> Result<Vec<Neighbour, A>, AllocError>
-    ensures { IfOk result (λ shown. map (λ n. seen_in n) shown.items ≡ map (seen now) entries.now.items) }
-{
-    let alloc = entries.allocator().clone()?;
-    let mut shown = Vec::with_capacity(alloc, entries.len())?;
-    for entry in entries {
-        shown.push_reserved(entry.shown(now));
-    }
-    Ok(shown)
 }
 
 impl<A: Allocator> Entry<A> {

@@ -61,7 +61,16 @@ impl<A: Allocator + Clone> Choice<A> {
 }
 
 impl<A: Allocator> Choice<A> {
-    ghost use Rattle.nd_nexthop.specs.Choice.{target_in};
+    ghost use Rattle.nd_nexthop.specs.Choice.{Stands, target_in};
+
+    /// Returns the next hop of a packet (RFC 4861, section 5.2), asked of the view anew. It neither reads nor changes what is remembered, and takes
+    /// no memory.
+    pub fn determine<V: View>(&self, destination: Addr, view: &V) -> Hop
+        ensures value { hop_of result ≡ hop (V.own view.now) (V.linked view.now) (V.candidates view.now) (target_in (number_of destination.0) self.now.redirects) destination.0 }
+        ensures by_history { (history : List RedirectRow) → Stands self.now history → hop_of result ≡ hop (V.own view.now) (V.linked view.now) (V.candidates view.now) (kept (number_of destination.0) history) destination.0 }
+    {
+        determine(self.target(destination), destination, view)
+    }
 
     /// The target of a destination's kept redirect. Asking leaves the order in which redirects are forgotten.
     fn target(&self, destination: Addr) -> Option<Addr>

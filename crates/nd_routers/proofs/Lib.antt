@@ -9,3 +9,4 @@ pub mod Told
 pub mod Unique
 pub mod Planning
 pub mod OfType
+pub mod Showing

@@ -8,3 +8,6 @@ pub mod Refreshing
 pub mod RouterAdvertisement
 pub mod Routers
 pub mod Planned
+pub mod Shown
+pub mod View
+pub mod Left

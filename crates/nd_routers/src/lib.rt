@@ -12,12 +12,14 @@ mod prefixes;
 mod router;
 mod router_advertisement;
 mod routers;
+mod shown;
 
 pub use default_router_selection::Listed;
 pub use nd_dns::{Dns, NewNames, SearchName};
-pub use nd_lifetime::{Lasting, Limit, Standing, TableRefusal};
+pub use nd_lifetime::{Limit, TableRefusal, WithLifetime, WithLifetimes};
 pub use nd_params::{Params, reachable_range};
 pub use prefixes::Prefixes;
 pub use router::Router;
 pub use router_advertisement::Change;
 pub use routers::{MAX_ROUTERS, Routers};
+pub use shown::{DefaultRouter, DefaultRouters};

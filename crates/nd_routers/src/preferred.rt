@@ -16,6 +16,14 @@ pub struct Preferred {
     preference: Preference,
 }
 
+impl Preferred {
+    pub(crate) fn preference(&self) -> Preference
+        ensures { result ≡ self.now.preference }
+    {
+        self.preference
+    }
+}
+
 impl<A: Allocator> Routers<A> {
     ghost use Rattle.nd_routers.specs.History.{RouterRow, announcements, preference_of};
     ghost use Rattle.nd_routers.specs.Routers.{same, Stands};

@@ -1,14 +1,15 @@
-ghost use Rattle.std.specs.Prelude.{◌≡◌, ◌≤◌, ◌∷◌, ℕ, List, [], length, IfOk};
+ghost use Rattle.std.specs.Prelude.{◌≡◌, ◌≤◌, ◌∷◌, ℕ, List, [], length, map, IfOk};
 ghost use Rattle.nd_addr.specs.Prefix.{PrefixValue};
 ghost use Rattle.nd_addr.specs.Same.{same_prefix};
 ghost use Rattle.nd_lifetime.specs.declared.lasting.Lasting.{Lasting};
 ghost use Rattle.nd_lifetime.specs.History.{Row, Cleared, last_moment};
-ghost use Rattle.nd_lifetime.specs.Listing.{open_at, Lists, Stands};
-ghost use Rattle.nd_lifetime.specs.Left.{standing_left};
+ghost use Rattle.nd_lifetime.specs.Listing.{open_at, Stands};
+ghost use Rattle.nd_lifetime.specs.Left.{lifetimes_left};
+ghost use Rattle.nd_lifetime.specs.Shown.{seen, Shows};
 ghost use Rattle.nd_routers.specs.PrefixOptions.{max_prefixes};
 
 use nd_addr::Prefix;
-use nd_lifetime::{Lasting, Standing};
+use nd_lifetime::{Lasting, WithLifetimes};
 use std::alloc::{AllocError, Allocator};
 use std::marker::Model;
 
@@ -38,7 +39,7 @@ impl<A: Allocator> Model for Prefixes<A> {
 }
 
 impl<A: Allocator> Prefixes<A> {
-    /// No prefixes, with room for 64. All of it is reserved here; the error is want of memory.
+    /// No prefixes, with room for 64. All of it is reserved here; the error is out of memory.
     pub fn new(alloc: A) -> Result<Self, AllocError>
         ensures empty { IfOk result (λ prefixes. prefixes ≡ []) }
         ensures stands { IfOk result (λ prefixes. Stands same_prefix prefixes []) }
@@ -48,12 +49,13 @@ impl<A: Allocator> Prefixes<A> {
         })
     }
 
-    /// The prefixes that are on the link at a moment, with their ends, both in milliseconds, in the order in which they came. fe80::/64 isn't among them.
-    pub fn rows(&self, now: u64) -> Standing<'_, Prefix>
-        ensures value { standing_left result ≡ open_at now self.now }
-        ensures lists { (history : List (Row PrefixValue)) → Stands same_prefix self.now history → last_moment history ≤ now → Lists same_prefix history now (standing_left result) }
+    /// Returns the prefixes that are on the link at `now`, with what is left of their lifetimes, both in milliseconds, in the order in which they
+    /// entered the list. fe80::/64 isn't among them. It takes no memory.
+    pub fn rows(&self, now: u64) -> WithLifetimes<'_, Prefix>
+        ensures value { lifetimes_left result ≡ map (seen now) (open_at now self.now) }
+        ensures lists { (history : List (Row PrefixValue)) → Stands same_prefix self.now history → last_moment history ≤ now → Shows same_prefix history now (lifetimes_left result) }
     {
-        Standing::new(&self.entries, now)
+        WithLifetimes::new(&self.entries, now)
     }
 
     /// How many prefixes there are whose end hasn't been told, at most 64.

@@ -1,13 +1,12 @@
 ghost use Rattle.std.specs.Prelude.{◌≡◌, ◌≤◌, ℕ, List, [], IfOk, OnOk, OnErr, is_some, length, map};
 ghost use Rattle.nd_addr.specs.Number.{number_of};
 ghost use Rattle.nd_lifetime.specs.History.{stands};
-ghost use Rattle.nd_lifetime.specs.Listing.{end_in, open_at, Lists};
-ghost use Rattle.nd_lifetime.specs.Left.{standing_left};
+ghost use Rattle.nd_lifetime.specs.Listing.{end_in, open_at};
 
 use crate::preferred::Preferred;
 use crate::router::Router;
 use nd_addr::Addr;
-use nd_lifetime::{Lasting, Standing, stands};
+use nd_lifetime::{Lasting, stands};
 use nd_table::Schedule;
 use std::alloc::{AllocError, Allocator};
 use std::marker::Model;
@@ -91,14 +90,6 @@ impl<A: Allocator> Routers<A> {
         ensures stands { (history : List RouterRow) → Stands self.now history → result ≡ stands same (number_of source.0) (announcements history) now }
     {
         stands(&self.entries, now, &source)
-    }
-
-    /// Returns the routers in the list at `now`, with their ends, both in milliseconds, in the order in which they arrived.
-    pub fn rows(&self, now: u64) -> Standing<'_, Router>
-        ensures value { standing_left result ≡ open_at now self.now.entries }
-        ensures lists { (history : List RouterRow) → Stands self.now history → Lists same (announcements history) now (standing_left result) }
-    {
-        Standing::new(&self.entries, now)
     }
 
     /// Returns the number of routers whose end `turn` has not reported.

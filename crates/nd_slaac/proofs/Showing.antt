@@ -8,14 +8,15 @@ use Rattle.nd_slaac.specs.Ends.{preferred_end, valid_end}
 use Rattle.nd_slaac.specs.State.{Forming, forming_of, has_conflict, was_assigned, sent_of, state_by}
 use Rattle.nd_slaac.specs.Address.{Address, stage_by, address_by, state_in}
 use Rattle.nd_slaac.specs.Table.{key_of, address_in, Stands}
-use Rattle.nd_slaac.specs.Shown.{Seen, seen, seen_of, seen_key, rest_until, Lists}
+use Rattle.nd_table.specs.Ends.{time_left}
+use Rattle.nd_slaac.specs.Shown.{Seen, seen, seen_of, seen_key, Lists}
 
 state_is : (f : Forming) (c w : Bool) (sent t : ℕ) (end : Option ℕ) → state_in (stage_by f c w sent) end t ≡ state_by c w end t
 state_is f true w sent t end = refl
 state_is f false true sent t end = refl
 state_is f false false sent t end = refl
 
-seen_by : (key t : ℕ) (o : Option Forming) (c w : Bool) (sent : ℕ) (p v : Option ℕ) → let shown : Seen = record { key = key; state = state_by c w p t; preferred_left = rest_until t p; valid_left = rest_until t v } in let none : Option Seen = None in option_map (seen t) (address_by key o c w sent p v) ≡ cond (is_some o) (Some shown) none
+seen_by : (key t : ℕ) (o : Option Forming) (c w : Bool) (sent : ℕ) (p v : Option ℕ) → let shown : Seen = record { key = key; state = state_by c w p t; preferred_left = time_left t p; valid_left = time_left t v } in let none : Option Seen = None in option_map (seen t) (address_by key o c w sent p v) ≡ cond (is_some o) (Some shown) none
 seen_by key t None c w sent p v = refl
 seen_by key t (Some f) c w sent p v = rw (state_is f c w sent t p) refl
 

@@ -13,5 +13,6 @@ pub mod Room
 pub mod Calls
 pub mod Shown
 pub mod View
+pub mod Left
 pub mod MayCome
 pub mod Destination

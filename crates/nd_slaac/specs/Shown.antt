@@ -1,5 +1,6 @@
 -- What is shown of an address at a moment.
-use Rattle.std.specs.Prelude.{◌≡◌, ℕ, ◌-◌, if◌then◌else◌, List, Option, Some, None}
+use Rattle.std.specs.Prelude.{◌≡◌, ℕ, if◌then◌else◌, List, Option, Some, None}
+use Rattle.nd_table.specs.Ends.{time_left}
 use Rattle.nd_table.specs.Keyed.{at_key, Rises}
 use Rattle.nd_slaac.specs.declared.state.State.{State}
 use Rattle.nd_slaac.specs.History.{Row, Story, story}
@@ -15,18 +16,14 @@ pub record Seen : Type 0 where
   pub preferred_left : Option ℕ
   pub valid_left : Option ℕ
 
-abbrev pub rest_until : ℕ → Option ℕ → Option ℕ
-rest_until now None = None
-rest_until now (Some end) = Some (end - now)
-
 -- what the story says at the moment
 abbrev pub seen_of : ℕ → Story → ℕ → Option Seen
 seen_of key s t =
     if is_known s then Some (record {
       key = key;
       state = state_by (has_conflict s) (was_assigned s) (preferred_end s) t;
-      preferred_left = rest_until t (preferred_end s);
-      valid_left = rest_until t (valid_end s);
+      preferred_left = time_left t (preferred_end s);
+      valid_left = time_left t (valid_end s);
     }) else None
 
 -- the same of what is kept
@@ -34,7 +31,7 @@ abbrev pub state_at : ℕ → Address → State
 state_at t a = state_in a.stage a.preferred_end t
 
 abbrev pub seen : ℕ → Address → Seen
-seen t a = record { key = a.key; state = state_at t a; preferred_left = rest_until t a.preferred_end; valid_left = rest_until t a.valid_end }
+seen t a = record { key = a.key; state = state_at t a; preferred_left = time_left t a.preferred_end; valid_left = time_left t a.valid_end }
 
 abbrev pub seen_key : Seen → ℕ
 seen_key s = s.key

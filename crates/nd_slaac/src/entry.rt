@@ -1,6 +1,5 @@
 ghost use Rattle.std.specs.Prelude.{◌≡◌, ◌<◌, ◌^◌, true, None, Some};
 ghost use Rattle.nd_addr.specs.Number.{number_of};
-ghost use Rattle.nd_slaac.specs.Shown.{rest_until};
 
 use crate::due::Due;
 use crate::shown::OwnAddress;
@@ -10,7 +9,7 @@ use crate::transmits::Transmits;
 use crate::two_hours::renewed;
 use nd_addr::Addr;
 use nd_decode::PrefixInfo;
-use nd_table::{Addressed, end_time, is_before};
+use nd_table::{Addressed, end_time, is_before, time_left};
 use std::marker::Model;
 
 /// An address that is known.
@@ -31,16 +30,6 @@ impl Model for Entry {
     ghost Value = { Address };
 
     ghost view = { λ e. record { key = number_of e.addr.0; preferred_end = e.preferred_end; valid_end = e.valid_end; stage = e.stage } };
-}
-
-/// What is left until an end, if there is one, in milliseconds: 0 where it has come.
-fn rest_until(now: u64, end: Option<u64>) -> Option<u64>
-    ensures { result ≡ rest_until now end }
-{
-    match end {
-        None => None,
-        Some(end) => Some(end.saturating_sub(now)),
-    }
 }
 
 impl Addressed for Entry {
@@ -113,8 +102,8 @@ impl Entry {
         OwnAddress {
             addr: self.addr,
             state: self.state(now),
-            preferred_left: rest_until(now, self.preferred_end),
-            valid_left: rest_until(now, self.valid_end),
+            preferred_left: time_left(now, self.preferred_end),
+            valid_left: time_left(now, self.valid_end),
         }
     }
 

@@ -20,7 +20,7 @@ pub use addresses::{AddressRoom, Addresses, MAX_ADDRESSES};
 pub use destination::Counted;
 pub use due::Due;
 pub use prefix_option::{Full, Taken};
-pub use shown::OwnAddress;
+pub use shown::{OwnAddress, OwnAddresses};
 pub use state::State;
 pub use transmits::Transmits;
 pub use two_hours::renewed;

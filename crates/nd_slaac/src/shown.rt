@@ -1,17 +1,16 @@
-ghost use Rattle.std.specs.Prelude.{◌≡◌, List, map, IfOk};
+ghost use Rattle.std.specs.Prelude.{◌≡◌, List, map};
 ghost use Rattle.std.specs.Option.{option_map};
 ghost use Rattle.nd_addr.specs.Number.{number_of};
 ghost use Rattle.nd_table.specs.Keyed.{Rises};
 ghost use Rattle.nd_slaac.specs.Table.{address_in, key_of};
-ghost use Rattle.nd_slaac.specs.Shown.{state_at, seen};
-ghost use Rattle.nd_slaac.specs.View.{seen_in};
+ghost use Rattle.nd_slaac.specs.Shown.{state_at};
 
 use crate::addresses::Addresses;
 use crate::entry::Entry;
 use crate::state::State;
 use nd_addr::Addr;
 use nd_table::find;
-use std::alloc::{AllocError, Allocator};
+use std::alloc::Allocator;
 
 /// An address of the interface, as it is shown at a moment.
 #[derive(Clone, Copy, Debug, PartialEq, Eq)]
@@ -46,18 +45,58 @@ impl<A: Allocator> Addresses<A> {
     }
 }
 
-impl<A: Allocator + Clone> Addresses<A> {
+impl<A: Allocator> Addresses<A> {
     ghost use Rattle.nd_slaac.specs.History.{Row};
     ghost use Rattle.nd_slaac.specs.Table.{Stands};
     ghost use Rattle.nd_slaac.specs.Shown.{seen, Lists};
+    ghost use Rattle.nd_slaac.specs.Left.{addresses_left};
+
+    /// Returns all addresses as they are at `now`, in milliseconds, in the order of their numbers. It takes no memory.
+    pub fn rows(&self, now: u64) -> OwnAddresses<'_>
+        ensures value { addresses_left result ≡ map (seen now) self.now.addresses }
+        ensures lists { (history : List Row) → Stands self.now.addresses history → Lists history now (addresses_left result) }
+    {
+        OwnAddresses::new(&self.entries, now)
+    }
+}
+
+/// The addresses of the interface as they are at a moment, in the order of their numbers.
+#[derive(Clone, Copy)]
+pub struct OwnAddresses<'a> {
+    rest: &'a [Entry],
+    moment: u64,
+}
+
+impl<'a> OwnAddresses<'a> {
+    ghost use Rattle.nd_slaac.specs.Shown.{seen};
+    ghost use Rattle.nd_slaac.specs.Left.{addresses_left};
+
+    /// Returns those of all entries, at a moment in milliseconds.
+    fn new(entries: &'a [Entry], moment: u64) -> Self
+        ensures { addresses_left result ≡ map (seen moment) entries.entry.now }
+    {
+        OwnAddresses {
+            rest: entries,
+            moment,
+        }
+    }
+}
+
+impl Iterator for OwnAddresses<'_> {
+    type Item = OwnAddress;
+
+    ghost use Rattle.std.specs.Iterator.{YieldsFirstBy, item_count};
+    ghost use Rattle.nd_slaac.specs.Left.{addresses_left};
     ghost use Rattle.nd_slaac.specs.View.{seen_in};
 
-    /// All addresses at a moment, in milliseconds, in the order of their numbers. The error is want of memory.
-    pub fn rows(&self, now: u64) -> Result<Vec<OwnAddress, A>, AllocError>
-        ensures value { IfOk result (λ shown. map (λ a. seen_in a) shown.items ≡ map (seen now) self.now.addresses) }
-        ensures lists { IfOk result (λ shown. (history : List Row) → Stands self.now.addresses history → Lists history now (map (λ a. seen_in a) shown.items)) }
-    {
-        show_all(&self.entries, now)
+    ghost next_gives = { YieldsFirstBy seen_in addresses_left };
+
+    ghost remaining = { item_count addresses_left };
+
+    fn next(&mut self) -> Option<OwnAddress> {
+        let (first, rest) = self.rest.split_first()?;
+        self.rest = rest;
+        Some(first.shown(self.moment))
     }
 }
 
@@ -70,19 +109,4 @@ pub(crate) fn show(entries: &[Entry], now: u64, addr: Addr) -> Option<State>
         Some(i) => Some(entries[i].state(now)),
         None => None,
     }
-}
-
-/// What is shown of all entries.
-pub(crate) fn show_all<A: Allocator + Clone>(
-    entries: &Vec<Entry, A>,
-    now: u64,
-) -> Result<Vec<OwnAddress, A>, AllocError>
-    ensures { IfOk result (λ shown. map (λ a. seen_in a) shown.items ≡ map (seen now) entries.now.items) }
-{
-    let alloc = entries.allocator().clone()?;
-    let mut shown = Vec::with_capacity(alloc, entries.len())?;
-    for entry in entries {
-        shown.push_reserved(entry.shown(now));
-    }
-    Ok(shown)
 }

@@ -1,7 +1,7 @@
 //! The ends of lifetimes. The definitions are in `specs/Ends.antt`.
 
 ghost use Rattle.std.specs.Prelude.{◌≡◌, ◌<◌, ◌^◌};
-ghost use Rattle.nd_table.specs.Ends.{end_time, is_before};
+ghost use Rattle.nd_table.specs.Ends.{end_time, is_before, time_left};
 
 /// A lifetime without an end, in seconds (RFC 4861, section 4.6.2).
 const INFINITY: u32 = 0xffff_ffff;
@@ -26,5 +26,15 @@ pub fn is_before(now: u64, end: Option<u64>) -> bool
     match end {
         None => true,
         Some(end) => now < end,
+    }
+}
+
+/// Returns the time that is left at `now` until an end: 0 once it has come, and `None` where there is no end. All are in milliseconds.
+pub fn time_left(now: u64, end: Option<u64>) -> Option<u64>
+    ensures { result ≡ time_left now end }
+{
+    match end {
+        Some(end) => Some(end.saturating_sub(now)),
+        None => None,
     }
 }

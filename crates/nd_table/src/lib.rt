@@ -20,7 +20,7 @@ pub use addressed::Addressed;
 pub use binary_search::search;
 pub use date::Date;
 pub use dated::Dated;
-pub use ends::{end_time, is_before};
+pub use ends::{end_time, is_before, time_left};
 pub use moments::{is_at, lesser};
 pub use order::compare;
 pub use probes::{Counter, Probes};

@@ -53,14 +53,14 @@ fn turn_next(routers: &mut Routers<Global>) -> Option<(u64, Addr)> {
     Some((next, source))
 }
 
-/// The addresses of the routers that stand, with their ends.
+/// The addresses of the routers that stand at a moment, with what is left of their lifetimes then.
 fn listed(rt: &impl Abort, routers: &Routers<Global>, now: u64, wanted: &[(Addr, Option<u64>)]) {
     let mut rest = wanted;
     for entry in routers.rows(now) {
         match rest {
-            [(addr, end), more @ ..] => {
-                assert!(rt; entry.key.addr() == *addr);
-                assert!(rt; entry.end == *end);
+            [(addr, left), more @ ..] => {
+                assert!(rt; entry.addr == *addr);
+                assert!(rt; entry.left == *left);
                 rest = more;
             }
             [] => assert!(rt; false),
@@ -80,7 +80,7 @@ fn keeps_the_order_of_coming(rt: HostRuntime) {
         &rt,
         &routers,
         3_000,
-        &[(addr(2), Some(13_000)), (addr(1), Some(1_802_000))],
+        &[(addr(2), Some(10_000)), (addr(1), Some(1_799_000))],
     );
     // One that is removed and comes again is last.
     hears(&rt, &mut routers, 4_000, addr(2), 0, Change::Removed);
@@ -90,7 +90,7 @@ fn keeps_the_order_of_coming(rt: HostRuntime) {
         &rt,
         &routers,
         4_000,
-        &[(addr(1), Some(1_802_000)), (addr(2), Some(1_804_000))],
+        &[(addr(1), Some(1_798_000)), (addr(2), Some(1_800_000))],
     );
     assert!(rt; routers.len() == 2);
 }
@@ -287,8 +287,8 @@ fn sixteen_routers_are_shown_and_cleared_in_order(rt: HostRuntime) {
     let mut n = 16u8;
     for entry in routers.rows(1_000) {
         n = n.saturating_sub(1);
-        assert!(rt; entry.key.addr() == addr(n));
-        assert!(rt; entry.end == Some(1_801_000));
+        assert!(rt; entry.addr == addr(n));
+        assert!(rt; entry.left == Some(1_800_000));
     }
     assert!(rt; n == 0);
     let cleared = routers.clear().expect(&rt, "memory");
@@ -555,6 +555,6 @@ fn takes_every_kind_of_option(rt: HostRuntime) {
     assert!(rt; params.base_reachable_time() == 32_047);
     assert!(rt; params.reachable_time() == 16_023);
     assert!(rt; params.retrans_timer() == 2_000);
-    listed(&rt, &routers, 1_200, &[(addr(1), Some(1_801_200))]);
+    listed(&rt, &routers, 1_200, &[(addr(1), Some(1_800_000))]);
     standing(&rt, &prefixes, 1_200, &[(0, 2_592_001_200)]);
 }

@@ -258,12 +258,11 @@ fn many_neighbours_age_in_the_order_of_their_dates(rt: HostRuntime) {
 fn least_end(routers: &Routers<Global>) -> Option<(u64, Addr)> {
     let mut least = None;
     for entry in routers.rows(0) {
-        if let Some(end) = entry.end {
+        // At 0 what is left is the moment of the end.
+        if let Some(end) = entry.left {
             least = match least {
-                Some((moment, addr)) if (moment, addr) <= (end, entry.key.addr()) => {
-                    Some((moment, addr))
-                }
-                _ => Some((end, entry.key.addr())),
+                Some((moment, addr)) if (moment, addr) <= (end, entry.addr) => Some((moment, addr)),
+                _ => Some((end, entry.addr)),
             };
         }
     }

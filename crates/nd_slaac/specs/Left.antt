@@ -1,0 +1,7 @@
+-- What an iterator over the addresses has left.
+use Rattle.std.specs.Prelude.{List, map}
+use Rattle.nd_slaac.specs.declared.shown.OwnAddresses.{OwnAddresses}
+use Rattle.nd_slaac.specs.Shown.{Seen, seen}
+
+abbrev pub addresses_left : OwnAddresses → List Seen
+addresses_left s = map (seen s.moment) s.rest.now
