@@ -15,7 +15,7 @@ use Rattle.nd_routes.specs.Routes.{routes}
 use Rattle.nd_decode.specs.Message.{Parts}
 use Rattle.nd_decode.specs.declared.body.Body.{Body}
 use Rattle.nd_decode.specs.declared.body.Body.TheVariants as bodies
-use Rattle.nd_lifetime.proofs.Unique.{one_listing}
+use Rattle.nd_lifetime.proofs.Unique.{one_listing, one_shown}
 use Rattle.nd_table.proofs.Unique.{one_list}
 use Rattle.nd_neighbour.specs.History.{RowKind}
 use Rattle.nd_neighbour.specs.Shown as neighbours
@@ -46,6 +46,7 @@ use Rattle.nd_chronicle.specs.Shown.{Table, AreRows, neighbour_row, router_row, 
 use Rattle.nd_chronicle.specs.Event as events
 use Rattle.nd_chronicle.specs.Event.{Event, Clearable, packet_bytes, MessageAdds, VerdictAdds, FrameAdds, PacketAdds, SendAdds, refusal_of_packet, ClearAdds, clearing, all_leaving, EventAdds}
 use Rattle.nd_routers.specs.History.{preference_of}
+use Rattle.nd_routers.specs.Shown as routers_shown
 use Rattle.nd_chronicle.specs.History.{Walk, Follows, Runs}
 use Rattle.nd_chronicle.proofs.Places.{one_place, one_has_place, have_one_place, one_goes}
 use Rattle.nd_chronicle.proofs.Hops.{one_router_list, one_hop, one_heard}
@@ -175,14 +176,16 @@ module _ (start : Start) (c : Chronicle) (now : ℕ) where
   pub one_rows : (table : Table) (a b : List (List ℕ)) → AreRows start c now table a → AreRows start c now table b → a ≡ b
   one_rows tables.NeighbourTable a b h k =
       h.2 ∙ ap (map neighbour_row) (one_list neighbours.seen_key h.0 k.0 h.1.order k.1.order (λ key. h.1.each key ∙ sym (k.1.each key))) ∙ sym k.2
-  one_rows tables.RouterTable a b h k = h.2 ∙ ap (map (router_row now (λ key. preference_of key (router_history c)))) (one_router_list c now h.0 k.0 h.1 k.1) ∙ sym k.2
-  one_rows tables.PrefixTable a b h k = h.2 ∙ ap (map (prefix_row now)) (one_listing same_prefix prefixes_tell (prefix_history c) now h.0 k.0 h.1 k.1) ∙ sym k.2
+  one_rows tables.RouterTable a b h k =
+      let same : h.0 ≡ k.0 = h.1.2 ∙ ap (map (routers_shown.seen now (λ key. preference_of key (router_history c)))) (one_router_list c now h.1.0 k.1.0 h.1.1 k.1.1) ∙ sym k.1.2 in
+      h.2 ∙ ap (map router_row) same ∙ sym k.2
+  one_rows tables.PrefixTable a b h k = h.2 ∙ ap (map prefix_row) (one_shown same_prefix prefixes_tell (prefix_history c) now h.0 k.0 h.1 k.1) ∙ sym k.2
   one_rows tables.AddressTable a b h k =
       h.2 ∙ ap (map address_row) (one_list addresses.seen_key h.0 k.0 h.1.order k.1.order (λ key. h.1.each key ∙ sym (k.1.each key))) ∙ sym k.2
   one_rows tables.DnsTable a b h k =
       h.4
-      ∙ ap (λ servers. map (server_row now) servers ++ map (search_row now) h.2) (one_listing same_addr addrs_tell (server_history c) now h.0 k.0 h.1 k.1)
-      ∙ ap (λ names. map (server_row now) k.0 ++ map (search_row now) names) (one_listing same_name bytes_tell (name_history c) now h.2 k.2 h.3 k.3)
+      ∙ ap (λ servers. map server_row servers ++ map search_row h.2) (one_shown same_addr addrs_tell (server_history c) now h.0 k.0 h.1 k.1)
+      ∙ ap (λ names. map server_row k.0 ++ map search_row names) (one_shown same_name bytes_tell (name_history c) now h.2 k.2 h.3 k.3)
       ∙ sym k.4
   one_rows tables.RedirectTable a b h k = h ∙ sym k
   one_rows tables.ParameterTable a b h k = h ∙ sym k

@@ -36,7 +36,7 @@ use Rattle.nd_slaac.specs.History.{Lifetimes, Story}
 use Rattle.nd_slaac.specs.PrefixOption.{is_taken, prefixes_in, named_by, lifetimes_of}
 use Rattle.nd_slaac.specs.State as states
 use Rattle.nd_chronicle.specs.Start.{Start}
-use Rattle.nd_chronicle.specs.Happening.{Chronicle, Happening, Address, Heard, Neighbour, Sent, Ceased, RedirectMade, Forgotten, Loss, Refusal, Full}
+use Rattle.nd_chronicle.specs.Happening.{Chronicle, Happening, Address, Heard, Neighbour, Sent, Refused, Configured, Ceased, RedirectMade, Forgotten, Loss, Refusal, WrongRole, Full}
 use Rattle.nd_chronicle.specs.Histories.{neighbour_history, advertising_history, route_history}
 use Rattle.nd_chronicle.specs.InForce.{base_reachable_time, retrans_timer}
 use Rattle.nd_chronicle.specs.OwnAddress.{story_of, is_assigned, is_own, is_tentative}
@@ -54,10 +54,12 @@ use Rattle.nd_chronicle.specs.Event as events
 use Rattle.nd_chronicle.specs.Event.{Event, Clearable, packet_bytes, MessageAdds, VerdictAdds, PacketAdds, SendAdds, refusal_of_packet, ClearAdds, clearing, all_leaving, EventAdds}
 use Rattle.nd_chronicle.specs.Due.{then_neighbour}
 
--- it is no row of an own address, and no message that was heard
+-- it is no row of an own address, no message that was heard, no refusal and no settings of a router
 abbrev pub is_plain : Happening → Bool
 is_plain (Heard source destination message) = false
 is_plain (Address key kind) = false
+is_plain (Refused refusal) = false
+is_plain (Configured settings) = false
 is_plain _ = true
 
 -- no address that is tentative has a conflict with the message
@@ -264,77 +266,83 @@ module _ (start : Start) (at : ℕ) (Kept : Chronicle → Type 0) (plain : (what
           kept_to h.2 (releasing_keeps (said c source message) (neighbour_history h.0) _
           (harmless (bodies.Redirect r) is (λ address. refl) h.0 (place_for_keeps c (said c source message) h.0 h.1 k)))
 
-    -- ---- any event
+    -- ---- any event: an end is where its rows are kept, or its refusal comes alone
 
-    module _ (c : Chronicle) where
-      refused_keeps : (r : Option Refusal) (A : Chronicle → Type 0) (d : Chronicle) → (A d → Kept d) → UnlessRefused at r A c d → Kept c → Kept d
-      refused_keeps None A d g h k = g h
-      refused_keeps (Some refusal) A d g h k = kept_to h (plain _ c refl k)
+    module _ (c : Chronicle) (End : Chronicle → Type 0) (ends : (d : Chronicle) → Kept d → End d) (refused : (r : Refusal) → End ((at, Refused r) ∷ c)) where
+      end_at : {d e : Chronicle} → d ≡ e → Kept e → End d
+      end_at {d = d} same k = ends d (kept_to same k)
 
-      at_router_keeps : (role : Role) (A : Chronicle → Type 0) (d : Chronicle) → (A d → Kept d) → AtRouter at role A c d → Kept c → Kept d
-      at_router_keeps Host A d g h k = kept_to h (plain _ c refl k)
-      at_router_keeps Router A d g h k = g h
+      refused_at : {d : Chronicle} (r : Refusal) → d ≡ (at, Refused r) ∷ c → End d
+      refused_at r same = subst End (sym same) (refused r)
 
-      placed_keeps : (key : ℕ) (packet : List ℕ) (d : Chronicle) → GoesIfPlaced start at key packet c d → Kept c → Kept d
-      placed_keeps key packet d h k = refused_keeps _ (Goes start c at key packet) d (λ g. goes_keeps c key packet d g k) h.2 k
+      refused_keeps : (r : Option Refusal) (A : Chronicle → Type 0) (d : Chronicle) → (A d → End d) → UnlessRefused at r A c d → End d
+      refused_keeps None A d g h = g h
+      refused_keeps (Some refusal) A d g h = refused_at refusal h
 
-      redirects_keep : (target : Addr) (packet : PacketParts) (bytes : List ℕ) (key : ℕ) (d : Chronicle) → Redirects start at target packet bytes key c d → Kept c → Kept d
+      at_router_keeps : (role : Role) (A : Chronicle → Type 0) (d : Chronicle) → (A d → End d) → AtRouter at role A c d → End d
+      at_router_keeps Host A d g h = refused_at WrongRole h
+      at_router_keeps Router A d g h = g h
+
+      placed_keeps : (key : ℕ) (packet : List ℕ) (d : Chronicle) → GoesIfPlaced start at key packet c d → Kept c → End d
+      placed_keeps key packet d h k = refused_keeps _ (Goes start c at key packet) d (λ g. ends d (goes_keeps c key packet d g k)) h.2
+
+      redirects_keep : (target : Addr) (packet : PacketParts) (bytes : List ℕ) (key : ℕ) (d : Chronicle) → Redirects start at target packet bytes key c d → Kept c → End d
       redirects_keep target packet bytes key d h k =
-          goes_keeps h.told key _ d h.behind (goes_keeps ((at, RedirectMade) ∷ c) _ _ h.told h.redirect (plain RedirectMade c refl k))
+          ends d (goes_keeps h.told key _ d h.behind (goes_keeps ((at, RedirectMade) ∷ c) _ _ h.told h.redirect (plain RedirectMade c refl k)))
 
-      sends_on_keeps : (target : Option Addr) (packet : PacketParts) (bytes : List ℕ) (key : ℕ) (d : Chronicle) → SendsOn start at target packet bytes key c d → Kept c → Kept d
+      sends_on_keeps : (target : Option Addr) (packet : PacketParts) (bytes : List ℕ) (key : ℕ) (d : Chronicle) → SendsOn start at target packet bytes key c d → Kept c → End d
       sends_on_keeps None packet bytes key d h k = placed_keeps key _ d h k
       sends_on_keeps (Some target) packet bytes key d h k =
-          refused_keeps _ (Redirects start at target packet bytes key c) d (λ r. redirects_keep target packet bytes key d r k) h.2 k
+          refused_keeps _ (Redirects start at target packet bytes key c) d (λ r. redirects_keep target packet bytes key d r k) h.2
 
-      fate_keeps : (fate : Fate) (packet : PacketParts) (bytes : List ℕ) (d : Chronicle) → FateAdds start at fate packet bytes c d → Kept c → Kept d
-      fate_keeps lost_no_route packet bytes d h k = kept_to h (plain _ c refl k)
-      fate_keeps lost_hop_limit packet bytes d h k = kept_to h (plain _ c refl k)
+      fate_keeps : (fate : Fate) (packet : PacketParts) (bytes : List ℕ) (d : Chronicle) → FateAdds start at fate packet bytes c d → Kept c → End d
+      fate_keeps lost_no_route packet bytes d h k = end_at h (plain _ c refl k)
+      fate_keeps lost_hop_limit packet bytes d h k = end_at h (plain _ c refl k)
       fate_keeps (sent next) packet bytes d h k = sends_on_keeps (redirect (is_own c) (routes (route_history c)) (last_redirect (route_history c)) at packet.header) packet bytes _ d h k
 
-      verdict_keeps : (frame : List ℕ) (v : Verdict) (d : Chronicle) → VerdictAdds start at frame v c d → Kept c → Kept d
-      verdict_keeps frame (drops why) d h k = kept_to h (plain _ c refl k)
-      verdict_keeps frame (goes_up packet) d h k = kept_to h (plain _ c refl k)
+      verdict_keeps : (frame : List ℕ) (v : Verdict) (d : Chronicle) → VerdictAdds start at frame v c d → Kept c → End d
+      verdict_keeps frame (drops why) d h k = end_at h (plain _ c refl k)
+      verdict_keeps frame (goes_up packet) d h k = end_at h (plain _ c refl k)
       verdict_keeps frame (goes_on packet) d h k = fate_keeps (fate (is_own c) (routes (route_history c)) packet.header) packet (packet_bytes frame) d h k
       verdict_keeps frame (hears source destination message) d h k =
           refused_keeps (option_map Full h.0) (MessageAdds start at source destination message message.body c) d
-          (λ m. message_keeps source destination message message.body refl c d m k) h.2 k
+          (λ m. ends d (message_keeps source destination message message.body refl c d m k)) h.2
 
       module _ (source destination : Addr) (next_header : ℕ) (payload : List ℕ) where
         direct_keeps : (t : Bool) (what : List ℕ) (key : ℕ) (packet : List ℕ) (d : Chronicle)
-            → MatchBool t (d ≡ (at, Sent what) ∷ c) (GoesIfPlaced start at key packet c d) → Kept c → Kept d
-        direct_keeps true what key packet d h k = kept_to h (plain _ c refl k)
+            → MatchBool t (d ≡ (at, Sent what) ∷ c) (GoesIfPlaced start at key packet c d) → Kept c → End d
+        direct_keeps true what key packet d h k = end_at h (plain _ c refl k)
         direct_keeps false what key packet d h k = placed_keeps key packet d h k
 
-        next_keeps : (next : NextHop) (d : Chronicle) → PacketAdds start at next source destination next_header payload c d → Kept c → Kept d
-        next_keeps no_route d h k = kept_to h (plain _ c refl k)
+        next_keeps : (next : NextHop) (d : Chronicle) → PacketAdds start at next source destination next_header payload c d → Kept c → End d
+        next_keeps no_route d h k = end_at h (plain _ c refl k)
         next_keeps direct d h k = direct_keeps (holds multicast_prefix destination.0) _ _ _ d h k
         next_keeps (via key) d h k = placed_keeps key _ d h k
 
-        send_keeps : (d : Chronicle) → SendAdds start at source destination next_header payload c d → Kept c → Kept d
-        send_keeps d h k = refused_keeps (refusal_of_packet start at source payload c) _ d (λ x. next_keeps x.0 d x.2 k) h k
+        send_keeps : (d : Chronicle) → SendAdds start at source destination next_header payload c d → Kept c → End d
+        send_keeps d h k = refused_keeps (refusal_of_packet start at source payload c) _ d (λ x. next_keeps x.0 d x.2 k) h
 
-      clear_keeps : (table : Clearable) (d : Chronicle) → ClearAdds start at table c d → Kept c → Kept d
-      clear_keeps events.ClearNeighbours d h k = kept_to h.2 (clearing_keeps h.0 c k)
-      clear_keeps events.ClearRouters d h k = kept_to h.2 (plain _ _ refl (all_leaving_keeps h.0 c k))
-      clear_keeps events.ClearPrefixes d h k = kept_to h (plain _ c refl k)
-      clear_keeps events.ClearRedirects d h k = kept_to h (plain _ c refl k)
-      clear_keeps events.ClearDns d h k = kept_to h (plain _ c refl k)
+      clear_keeps : (table : Clearable) (d : Chronicle) → ClearAdds start at table c d → Kept c → End d
+      clear_keeps events.ClearNeighbours d h k = end_at h.2 (clearing_keeps h.0 c k)
+      clear_keeps events.ClearRouters d h k = end_at h.2 (plain _ _ refl (all_leaving_keeps h.0 c k))
+      clear_keeps events.ClearPrefixes d h k = end_at h (plain _ c refl k)
+      clear_keeps events.ClearRedirects d h k = end_at h (plain _ c refl k)
+      clear_keeps events.ClearDns d h k = end_at h (plain _ c refl k)
 
-      pub event_keeps : (event : Event) (d : Chronicle) → EventAdds start at event c d → Kept c → Kept d
-      event_keeps events.Passes d h k = kept_to h k
-      event_keeps (events.Receives frame) d h k = verdict_keeps frame h.verdict d h.adds k
-      event_keeps (events.Sends source destination next_header payload) d h k = send_keeps source destination next_header payload d h k
-      event_keeps (events.Confirms neighbour) d h k = kept_to h (plain _ c refl k)
-      event_keeps (events.Forgets neighbour) d h k =
-          kept_to h (losing_keeps Forgotten (waits_of (story (number_of neighbour.0) (neighbour_history c))) _
+      pub event_keeps : (event : Event) (d : Chronicle) → ((settings : Settings) → event ≡ events.Advertises settings → Kept ((at, Configured settings) ∷ c)) → EventAdds start at event c d → Kept c → End d
+      event_keeps events.Passes d settles h k = end_at h k
+      event_keeps (events.Receives frame) d settles h k = verdict_keeps frame h.verdict d h.adds k
+      event_keeps (events.Sends source destination next_header payload) d settles h k = send_keeps source destination next_header payload d h k
+      event_keeps (events.Confirms neighbour) d settles h k = end_at h (plain _ c refl k)
+      event_keeps (events.Forgets neighbour) d settles h k =
+          end_at h (losing_keeps Forgotten (waits_of (story (number_of neighbour.0) (neighbour_history c))) _
           (plain (Neighbour (number_of neighbour.0) (neighbours.Forgot neighbours.Removed)) c refl k))
-      event_keeps (events.Clears table) d h k = clear_keeps table d h k
-      event_keeps (events.Shows table) d h k = kept_to h.2 (plain _ c refl k)
-      event_keeps (events.Advertises settings) d h k = at_router_keeps start.role _ d (λ x. kept_to x (plain _ c refl k)) h k
-      event_keeps (events.Offers info) d h k =
-          at_router_keeps start.role _ d (λ x. refused_keeps (option_map Full (full_of_offers start info.prefix c)) _ d (λ y. kept_to y (plain _ c refl k)) x k) h k
-      event_keeps (events.Routes prefix route) d h k =
-          at_router_keeps start.role _ d (λ x. refused_keeps (option_map Full (full_of_routes prefix c)) _ d (λ y. kept_to y (plain _ c refl k)) x k) h k
-      event_keeps events.Stops d h k =
-          at_router_keeps start.role _ d (λ x. kept_to x (telling_keeps (tells_its_end (advertising_history start c)) (last_contents_of start.mac (advertising_history start c)) _ (plain Ceased c refl k))) h k
+      event_keeps (events.Clears table) d settles h k = clear_keeps table d h k
+      event_keeps (events.Shows table) d settles h k = end_at h.2 (plain _ c refl k)
+      event_keeps (events.Advertises settings) d settles h k = at_router_keeps start.role _ d (λ x. end_at x (settles settings refl)) h
+      event_keeps (events.Offers info) d settles h k =
+          at_router_keeps start.role _ d (λ x. refused_keeps (option_map Full (full_of_offers start info.prefix c)) _ d (λ y. end_at y (plain _ c refl k)) x) h
+      event_keeps (events.Routes prefix route) d settles h k =
+          at_router_keeps start.role _ d (λ x. refused_keeps (option_map Full (full_of_routes prefix c)) _ d (λ y. end_at y (plain _ c refl k)) x) h
+      event_keeps events.Stops d settles h k =
+          at_router_keeps start.role _ d (λ x. end_at x (telling_keeps (tells_its_end (advertising_history start c)) (last_contents_of start.mac (advertising_history start c)) _ (plain Ceased c refl k))) h

@@ -15,3 +15,4 @@ pub mod Rivals
 pub mod Keeping
 pub mod Unrivalled
 pub mod Unchanged
+pub mod Refusals

@@ -11,6 +11,7 @@ use Rattle.nd_dns.specs.Names.{same_name}
 use Rattle.nd_lifetime.specs.declared.lasting.Lasting.{Lasting}
 use Rattle.nd_lifetime.specs.History as lifetimes
 use Rattle.nd_lifetime.specs.Listing.{Lists}
+use Rattle.nd_lifetime.specs.Shown.{Shows}
 use Rattle.nd_neighbour.specs.Due as neighbours_due
 use Rattle.nd_neighbour.specs.History as neighbours
 use Rattle.nd_neighbour.specs.Shown as neighbours_shown
@@ -25,6 +26,7 @@ use Rattle.nd_routers.specs.History as routers
 use Rattle.nd_routers.specs.History.{announcements, preference_of}
 use Rattle.nd_routers.specs.OnLink.{is_held}
 use Rattle.nd_routers.specs.Routers.{same}
+use Rattle.nd_routers.specs.Shown as routers_shown
 use Rattle.nd_slaac.specs.Due as addresses_due
 use Rattle.nd_slaac.specs.History as addresses
 use Rattle.nd_slaac.specs.Shown as addresses_shown
@@ -155,14 +157,14 @@ module _ (start : Start) (c d : Chronicle) (s : Same start c d) where
 
     rows_by : (table : Table) (rows : List (List ℕ)) → AreRows start d now table rows → AreRows start c now table rows
     rows_by NeighbourTable rows h = (h.0, subst (λ (x : List neighbours.Row). neighbours_shown.Lists x now h.0) s.neighbours h.1, h.2)
-    rows_by RouterTable rows h = (h.0, subst (λ (x : List routers.RouterRow). Lists same (announcements x) now h.0) s.routers h.1, h.2 ∙ rw s.routers refl)
-    rows_by PrefixTable rows h = (h.0, subst (λ (x : List (lifetimes.Row PrefixValue)). Lists same_prefix x now h.0) s.prefixes h.1, h.2)
+    rows_by RouterTable rows h = (h.0, subst (λ (x : List routers.RouterRow). routers_shown.Shows x now h.0) s.routers h.1, h.2)
+    rows_by PrefixTable rows h = (h.0, subst (λ (x : List (lifetimes.Row PrefixValue)). Shows same_prefix x now h.0) s.prefixes h.1, h.2)
     rows_by AddressTable rows h = (h.0, subst (λ (x : List addresses.Row). addresses_shown.Lists x now h.0) s.addresses h.1, h.2)
     rows_by DnsTable rows h = (
       h.0,
-      subst (λ (x : List (lifetimes.Row Addr)). Lists same_addr x now h.0) s.servers h.1,
+      subst (λ (x : List (lifetimes.Row Addr)). Shows same_addr x now h.0) s.servers h.1,
       h.2,
-      subst (λ (x : List (lifetimes.Row (List ℕ))). Lists same_name x now h.2) s.names h.3,
+      subst (λ (x : List (lifetimes.Row (List ℕ))). Shows same_name x now h.2) s.names h.3,
       h.4,
     )
     rows_by RedirectTable rows h = h ∙ rw s.redirects refl

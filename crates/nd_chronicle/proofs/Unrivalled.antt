@@ -10,7 +10,7 @@ use Rattle.nd_slaac.specs.Due as addresses_due
 use Rattle.nd_slaac.specs.History as addresses
 use Rattle.nd_slaac.specs.History.{Lifetimes}
 use Rattle.nd_chronicle.specs.Start.{Start, link_local_key}
-use Rattle.nd_chronicle.specs.Happening.{Chronicle, Happening, Address, Drew, ForDelay, ForReachableTime, Heard, Passed, TooLate, last_moment}
+use Rattle.nd_chronicle.specs.Happening.{Chronicle, Happening, Address, Configured, Refused, Drew, ForDelay, ForReachableTime, Heard, Passed, TooLate, last_moment}
 use Rattle.nd_chronicle.specs.Histories.{advertising_history}
 use Rattle.nd_chronicle.specs.InForce.{base_reachable_time, retrans_timer}
 use Rattle.nd_chronicle.specs.Generator.{reachable_drawn, stream_left}
@@ -93,7 +93,7 @@ module _ (start : Start) where
   settled_event : (now : ℕ) (event : Event) (c d : Chronicle) → EventAdds start now event c d → Settled c → Settled d
   settled_event now event c d h s = event_keeps start now Settled (settled_plain now)
       (λ key delay lifetimes c s. settled_forms now key delay (Some lifetimes) c s) (λ key lifetimes c s. settled_by now (Address key (addresses.Announced lifetimes)) c refl s)
-      (settled_listens now) (settled_yields now) c event d h s
+      (settled_listens now) (settled_yields now) c Settled (λ e k. k) (λ r. settled_by now (Refused r) c refl s) event d (λ settings is. settled_by now (Configured settings) c refl s) h s
 
   settled_comes : (at : ℕ) (what : What) (c : Chronicle) → Settled c → Settled (comes start at what c)
   settled_comes at (RouterEnds key) c s = settled_plain at _ c refl s

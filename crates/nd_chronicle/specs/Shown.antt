@@ -19,18 +19,15 @@ use Rattle.nd_advertiser.specs.Offers.{offers_of}
 use Rattle.nd_routes.specs.Routes.{routes}
 use Rattle.nd_routes.specs.declared.route.Route.{Route}
 use Rattle.nd_routes.specs.declared.route.Route.TheVariants.{Direct, Via}
-use Rattle.nd_lifetime.specs.declared.lasting.Lasting.{Lasting}
-use Rattle.nd_lifetime.specs.Listing.{Lists}
+use Rattle.nd_lifetime.specs.Shown as lifetimes
 use Rattle.nd_params.specs.History.{managed_of, other_of}
 use Rattle.nd_neighbour.specs.declared.shown.Reachability.{Reachability}
 use Rattle.nd_neighbour.specs.declared.shown.Reachability.TheVariants.{Incomplete, Reachable, Stale, Delay, Probe}
 use Rattle.nd_neighbour.specs.Shown as neighbours
-use Rattle.nd_routers.specs.History.{announcements, preference_of}
-use Rattle.nd_routers.specs.Routers.{same}
+use Rattle.nd_routers.specs.Shown as routers
 use Rattle.nd_slaac.specs.declared.state.State.{State}
 use Rattle.nd_slaac.specs.declared.state.State.TheVariants.{Tentative, Preferred, Deprecated, Duplicate}
 use Rattle.nd_slaac.specs.Shown as addresses
-use Rattle.nd_slaac.specs.Shown.{rest_until}
 use Rattle.nd_dns.specs.Names.{same_name}
 use Rattle.nd_nexthop.specs.History.{redirects}
 use Rattle.nd_chronicle.specs.Start.{Start}
@@ -88,22 +85,21 @@ abbrev pub neighbour_row : neighbours.Seen → List ℕ
 neighbour_row n =
     codes "neighbour " ++ key_text n.key ++ codes " " ++ mac_or_none_text n.mac ++ codes " " ++ reachability_text n.state ++ codes " " ++ router_or_host_text n.router
 
--- a router, by the preference that each has
-abbrev pub router_row : ℕ → (ℕ → Preference) → Lasting ℕ → List ℕ
-router_row now preference e = codes "router " ++ key_text e.key ++ codes " " ++ left_text (rest_until now e.end) ++ codes " " ++ name_of (preference e.key)
+abbrev pub router_row : routers.Seen → List ℕ
+router_row r = codes "router " ++ key_text r.key ++ codes " " ++ left_text r.left ++ codes " " ++ name_of r.preference
 
-abbrev pub prefix_row : ℕ → Lasting PrefixValue → List ℕ
-prefix_row now e = codes "prefix " ++ prefix_text e.key ++ codes " " ++ left_text (rest_until now e.end)
+abbrev pub prefix_row : lifetimes.Seen PrefixValue → List ℕ
+prefix_row p = codes "prefix " ++ prefix_text p.key ++ codes " " ++ left_text p.left
 
 abbrev pub address_row : addresses.Seen → List ℕ
 address_row a =
     codes "address " ++ key_text a.key ++ codes " " ++ state_text a.state ++ codes " " ++ left_text a.preferred_left ++ codes " " ++ left_text a.valid_left
 
-abbrev pub server_row : ℕ → Lasting Addr → List ℕ
-server_row now e = codes "server " ++ address_text e.key.0 ++ codes " " ++ left_text (rest_until now e.end)
+abbrev pub server_row : lifetimes.Seen Addr → List ℕ
+server_row s = codes "server " ++ address_text s.key.0 ++ codes " " ++ left_text s.left
 
-abbrev pub search_row : ℕ → Lasting (List ℕ) → List ℕ
-search_row now e = codes "search " ++ name_text e.key ++ codes " " ++ left_text (rest_until now e.end)
+abbrev pub search_row : lifetimes.Seen (List ℕ) → List ℕ
+search_row s = codes "search " ++ name_text s.key ++ codes " " ++ left_text s.left
 
 -- a destination and its target
 abbrev pub redirect_row : ℕ × ℕ → List ℕ
@@ -152,15 +148,14 @@ route_rows Router kept = map route_row kept
 -- order in which they came, redirects the newest first, offers and routes in the order in which they were first made.
 abbrev pub AreRows : Start → Chronicle → ℕ → Table → List (List ℕ) → Type 0
 AreRows start c now NeighbourTable rows = (seen : List neighbours.Seen) × neighbours.Lists (neighbour_history c) now seen × (rows ≡ map neighbour_row seen)
-AreRows start c now RouterTable rows =
-    (entries : List (Lasting ℕ)) × Lists same (announcements (router_history c)) now entries × (rows ≡ map (router_row now (λ key. preference_of key (router_history c))) entries)
+AreRows start c now RouterTable rows = (seen : List routers.Seen) × routers.Shows (router_history c) now seen × (rows ≡ map router_row seen)
 AreRows start c now PrefixTable rows =
-    (entries : List (Lasting PrefixValue)) × Lists same_prefix (prefix_history c) now entries × (rows ≡ map (prefix_row now) entries)
+    (seen : List (lifetimes.Seen PrefixValue)) × lifetimes.Shows same_prefix (prefix_history c) now seen × (rows ≡ map prefix_row seen)
 AreRows start c now AddressTable rows = (seen : List addresses.Seen) × addresses.Lists (address_history c) now seen × (rows ≡ map address_row seen)
 AreRows start c now DnsTable rows =
-    (servers : List (Lasting Addr)) × Lists same_addr (server_history c) now servers
-    × (names : List (Lasting (List ℕ))) × Lists same_name (name_history c) now names
-    × (rows ≡ map (server_row now) servers ++ map (search_row now) names)
+    (servers : List (lifetimes.Seen Addr)) × lifetimes.Shows same_addr (server_history c) now servers
+    × (names : List (lifetimes.Seen (List ℕ))) × lifetimes.Shows same_name (name_history c) now names
+    × (rows ≡ map server_row servers ++ map search_row names)
 AreRows start c now RedirectTable rows = rows ≡ map redirect_row (redirects (redirect_history c))
 AreRows start c now ParameterTable rows = rows ≡ parameter_row c ∷ []
 AreRows start c now AdvertiseTable rows = rows ≡ advertise_rows start.role (advertising_history start c)

@@ -15,7 +15,7 @@ ghost use Rattle.nd_chronicle.specs.Start.{Start, link_local_key};
 ghost use Rattle.nd_chronicle.specs.Happening.{Address, Chronicle, Happening, Heard, Passed};
 ghost use Rattle.nd_chronicle.specs.Histories.{address_history};
 ghost use Rattle.nd_chronicle.specs.OwnAddress.{is_own, is_up, story_of};
-ghost use Rattle.nd_chronicle.specs.Event.{ComeAsBytes, Event, FrameAdds};
+ghost use Rattle.nd_chronicle.specs.Event.{ComeAsBytes, Event, EventAdds, FrameAdds};
 ghost use Rattle.nd_chronicle.specs.Hearing.{is_awake};
 ghost use Rattle.nd_chronicle.specs.NeighborAdvertisement.{then_neighbor_advertised};
 ghost use Rattle.nd_chronicle.specs.NeighborSolicitation.{then_tried};
@@ -23,6 +23,7 @@ ghost use Rattle.nd_chronicle.specs.Due.{Due};
 ghost use Rattle.nd_chronicle.specs.Growth.{Grows};
 ghost use Rattle.nd_chronicle.specs.History.{IsChronicle, Runs, Walk};
 ghost use Rattle.nd_chronicle.specs.Told.{text};
+ghost use Rattle.nd_chronicle.specs.Refused.{RefusedOrNot};
 ghost use Rattle.nd_chronicle.specs.Places.{AssignedInRows, HeldInRows, PlaceOf, solicited_with};
 ghost use Rattle.nd_chronicle.specs.Unchanged.{IsUnchanged, changes_nothing};
 
@@ -62,6 +63,11 @@ pub fn each_assignment_was_tried()
 pub fn refusals_change_nothing()
     ensures row { (start : Start) (c : Chronicle) (at : ℕ) (what : Happening) → changes_nothing what ≡ true → IsUnchanged start c ((at, what) ∷ c) }
     ensures event { (start : Start) (c : Chronicle) (now : ℕ) (what : Happening) → changes_nothing what ≡ true → IsUnchanged start c ((now, what) ∷ (now, Passed) ∷ c) }
+{}
+
+/// An event that is refused adds its refusal alone, and any other adds no refusal: so a refusal is the last row that its event adds.
+pub fn refusals_come_alone()
+    ensures { (start : Start) (now : ℕ) (event : Event) (c d : Chronicle) → EventAdds start now event c d → RefusedOrNot now c d }
 {}
 
 /// The number of an own address is that of an address, and of no multicast address, whatever bytes come as frames (RFC 4862, section 5.5.3).

@@ -1,5 +1,5 @@
 -- Each event adds something.
-use Rattle.std.proofs.Common.{◌≡◌, ℕ, Bool, true, false, cond, eqb, List, [], ◌∷◌, Option, Some, None, refl, sym, ◌∙◌, ap, subst}
+use Rattle.std.proofs.Common.{◌≡◌, ℕ, Bool, true, false, cond, eqb, List, [], ◌∷◌, ◌++◌, Option, Some, None, refl, sym, ◌∙◌, ap, subst}
 use Rattle.std.specs.Prelude.{MatchBool, map, bytes_eq}
 use Rattle.std.proofs.lemmas.Bool.Decides.{eqb_tells}
 use Rattle.std.proofs.lemmas.Bool.{cond-true, cond-false, eq-eqb, true≢false}
@@ -21,6 +21,7 @@ use Rattle.nd_dns.specs.Names.{same_name, names_told}
 use Rattle.nd_dns.specs.Servers.{servers_told}
 use Rattle.nd_frames.specs.Frames.{answer_frame, multicast_mac, open_mac}
 use Rattle.nd_lifetime.specs.Listing.{fits}
+use Rattle.nd_lifetime.specs.Shown as shown_lifetimes
 use Rattle.nd_neighbour.specs.History as neighbours
 use Rattle.nd_neighbour.specs.History.{RowKind, Row, story}
 use Rattle.nd_neighbour.specs.Place.{WouldBeFull}
@@ -29,7 +30,8 @@ use Rattle.nd_neighbour.specs.Story.{is_present, mac_of}
 use Rattle.nd_neighbour.specs.News.{released_by}
 use Rattle.nd_neighbour.proofs.Forgetting as forgetting_proofs
 use Rattle.nd_nexthop.specs.NextHop.{NextHop, direct, via, no_route}
-use Rattle.nd_routers.specs.History.{announcements}
+use Rattle.nd_routers.specs.History.{announcements, preference_of}
+use Rattle.nd_routers.specs.Shown as shown_routers
 use Rattle.nd_routers.specs.PrefixOptions.{max_prefixes, prefixes_in}
 use Rattle.nd_routers.specs.Routers.{same}
 use Rattle.nd_routes.specs.Forward.{Fate, lost_no_route, lost_hop_limit, sent, fate}
@@ -308,8 +310,14 @@ module _ (start : Start) (c : Chronicle) (now : ℕ) where
       let nodes = nodes_of (neighbour_history c) in
       let seen = map (shown_neighbours.seen now) nodes in
       (map neighbour_row seen, (seen, forgetting_proofs.lists_all now nodes (neighbour_history c) seen refl (nodes_stand (neighbour_history c)), refl))
-  rows_of tables.RouterTable = let es = listed same eqb_tells (announcements (router_history c)) now in (_, (es.0, es.1, refl))
-  rows_of tables.PrefixTable = let es = listed same_prefix prefixes_tell (prefix_history c) now in (_, (es.0, es.1, refl))
+  rows_of tables.RouterTable =
+      let es = listed same eqb_tells (announcements (router_history c)) now in
+      let seen = map (shown_routers.seen now (λ key. preference_of key (router_history c))) es.0 in
+      (map router_row seen, (seen, (es.0, es.1, refl), refl))
+  rows_of tables.PrefixTable =
+      let es = listed same_prefix prefixes_tell (prefix_history c) now in
+      let seen = map (shown_lifetimes.seen now) es.0 in
+      (map prefix_row seen, (seen, (es.0, es.1, refl), refl))
   rows_of tables.AddressTable =
       let known = addresses_of (address_history c) in
       let seen = map (shown_addresses.seen now) known in
@@ -317,7 +325,9 @@ module _ (start : Start) (c : Chronicle) (now : ℕ) where
   rows_of tables.DnsTable =
       let servers = listed same_addr addrs_tell (server_history c) now in
       let names = listed same_name bytes_tell (name_history c) now in
-      (_, (servers.0, servers.1, names.0, names.1, refl))
+      let seen = map (shown_lifetimes.seen now) servers.0 in
+      let named = map (shown_lifetimes.seen now) names.0 in
+      (map server_row seen ++ map search_row named, (seen, (servers.0, servers.1, refl), named, (names.0, names.1, refl), refl))
   rows_of tables.RedirectTable = (_, refl)
   rows_of tables.ParameterTable = (_, refl)
   rows_of tables.AdvertiseTable = (_, refl)
