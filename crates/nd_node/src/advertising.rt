@@ -20,7 +20,7 @@ use std::alloc::{AllocError, Allocator};
 impl<R: Rng + Drop, A: Allocator + Clone> Node<R, A> {
     ghost use Rattle.nd_node.specs.Node.{Stands, next_of};
 
-    /// A router is to advertise so from a moment on, in milliseconds (RFC 4861, section 6.2.1). A host refuses it. The error is want of
+    /// A router is to advertise so from a moment on, in milliseconds (RFC 4861, section 6.2.1). A host refuses it. The error is out of
     /// memory, and then nothing has changed.
     pub(crate) fn advertise(
         &mut self,
@@ -45,7 +45,7 @@ impl<R: Rng + Drop, A: Allocator + Clone> Node<R, A> {
     }
 
     /// A router is to advertise a prefix, too, or one that it advertises is to have these lifetimes (RFC 4861, section 6.2.1). It is refused where
-    /// it is one too many, and by a host. The error is want of memory, and then nothing has changed.
+    /// it is one too many, and by a host. The error is out of memory, and then nothing has changed.
     pub(crate) fn offer(
         &mut self,
         now: u64,
@@ -72,7 +72,7 @@ impl<R: Rng + Drop, A: Allocator + Clone> Node<R, A> {
     }
 
     /// A router is to cease advertising (RFC 4861, section 6.2.5): where it has sent an advertisement since it began, it sends a last one, with
-    /// a router lifetime of 0. A host refuses it. The error is want of memory, and then nothing has changed.
+    /// a router lifetime of 0. A host refuses it. The error is out of memory, and then nothing has changed.
     pub(crate) fn cease(
         &mut self,
         now: u64,

@@ -29,7 +29,7 @@ pub enum Clearable {
 impl<R: Rng + Drop, A: Allocator + Clone> Node<R, A> {
     ghost use Rattle.nd_node.specs.Node.{next_of};
 
-    /// All neighbours are forgotten, and what waits for them is lost, in the order of their addresses, the oldest first. The error is want
+    /// All neighbours are forgotten, and what waits for them is lost, in the order of their addresses, the oldest first. The error is out
     /// of memory, and then nothing has changed.
     fn clear_neighbours(
         &mut self,
@@ -50,7 +50,7 @@ impl<R: Rng + Drop, A: Allocator + Clone> Node<R, A> {
         Ok(())
     }
 
-    /// All routers leave the list, in its order, and all redirects end with them (RFC 4861, section 6.3.5). The error is want of memory,
+    /// All routers leave the list, in its order, and all redirects end with them (RFC 4861, section 6.3.5). The error is out of memory,
     /// and then nothing has changed.
     fn clear_routers(
         &mut self,
@@ -71,7 +71,7 @@ impl<R: Rng + Drop, A: Allocator + Clone> Node<R, A> {
         Ok(())
     }
 
-    /// A table is cleared at a moment, in milliseconds. The error is want of memory, and then nothing has changed.
+    /// A table is cleared at a moment, in milliseconds. The error is out of memory, and then nothing has changed.
     pub(crate) fn clear(
         &mut self,
         now: u64,

@@ -1,3 +1,5 @@
+//! What falls due at a node, and when.
+
 ghost use Rattle.std.specs.Prelude.{◌≡◌, ℕ, if◌then◌else◌, ◌^◌, ◌<◌, ◌≤◌, ◌↔◌, ◌∷◌, IsTrue, Some};
 ghost use Rattle.rand_core.specs.Stream.{next_u32};
 ghost use Rattle.nd_addr.specs.Number.{number_of};

@@ -1,3 +1,5 @@
+//! Events: what a node receives from outside, and what it does then.
+
 ghost use Rattle.std.specs.Prelude.{◌≡◌, ◌^◌, ◌-◌, ◌<◌, ◌≤◌, IsOk, OnOk, OnErr, vec_len, vec_capacity};
 ghost use Rattle.nd_chronicle.specs.Event as events;
 ghost use Rattle.nd_chronicle.specs.Event.{EventAdds};
@@ -74,7 +76,7 @@ impl<R: Rng + Drop, A: Allocator + Clone> Node<R, A> {
     /// An event comes at a moment, in milliseconds. All that is due up to it comes first, its own millisecond included; then it adds what
     /// it adds. One that comes before the moment up to which time has passed is told alone.
     ///
-    /// The error is want of memory: then a part of what is due may have been done and told, and the event has added nothing.
+    /// The error is out of memory: then a part of what is due may have been done and told, and the event has added nothing.
     pub fn event(
         &mut self,
         now: u64,
@@ -99,9 +101,30 @@ impl<R: Rng + Drop, A: Allocator + Clone> Node<R, A> {
         self.add(now, event, outs)
     }
 
+    /// Receives a frame that the caller keeps, from its Ethernet destination on (RFC 2464, section 3): the event `Receives` without a copy of the
+    /// frame. All that is due up to `now`, in milliseconds, comes first.
+    ///
+    /// The error is out of memory: then a part of what is due may have been done and reported, and the frame has changed nothing.
+    pub fn receive(
+        &mut self,
+        now: u64,
+        frame: &[u8],
+        outs: &mut Vec<(u64, Out<A>), A>,
+    ) -> Result<(), AllocError>
+        requires { now < 2 ^ 62 }
+        ensures follows { OnOk result (Leads R.stream self.old self.new outs.old.items outs.new.items (FollowsBy now (events.Receives frame.now))) }
+        ensures onward { OnErr result (Leads R.stream self.old self.new outs.old.items outs.new.items (Onward now)) }
+    {
+        if now < self.last {
+            return self.refuse_past(now, outs);
+        }
+        self.settle(now, outs)?;
+        self.judge_frame(now, frame, outs)
+    }
+
     /// Events come, one after the other, each at its moment, in milliseconds.
     ///
-    /// The error is want of memory: then some of the events have come, the first ones, and of what is due up to the next one a part may
+    /// The error is out of memory: then some of the events have come, the first ones, and of what is due up to the next one a part may
     /// have been done; all that is told.
     pub fn run(
         &mut self,
@@ -158,7 +181,7 @@ impl<R: Rng + Drop, A: Allocator + Clone> Node<R, A> {
                 self.pass(now);
                 Ok(())
             }
-            Event::Receives(frame) => self.receive(now, frame, outs),
+            Event::Receives(frame) => self.judge_frame(now, frame, outs),
             Event::Sends(outgoing) => self.send(now, outgoing, outs),
             Event::Confirms(neighbour) => {
                 self.confirm(now, *neighbour);

@@ -32,7 +32,7 @@ impl<R: Rng + Drop, A: Allocator + Clone> Node<R, A> {
     ghost use Rattle.nd_node.specs.Node.{Stands, next_of};
 
     /// A packet in transit comes in a frame, at a moment, in milliseconds, up to which nothing is due: it is sent on to its next hop, or lost
-    /// where there is none or its hop limit is spent (RFC 8200, section 3). The error is want of memory, and then nothing has changed.
+    /// where there is none or its hop limit is spent (RFC 8200, section 3). The error is out of memory, and then nothing has changed.
     pub(crate) fn forward(
         &mut self,
         now: u64,
@@ -59,7 +59,7 @@ impl<R: Rng + Drop, A: Allocator + Clone> Node<R, A> {
         }
     }
 
-    /// A packet in transit that isn't sent on is lost for a reason, and told of as it came. The error is want of memory, and then nothing
+    /// A packet in transit that isn't sent on is lost for a reason, and told of as it came. The error is out of memory, and then nothing
     /// has changed.
     fn lose_in_transit(
         &mut self,
@@ -113,7 +113,7 @@ impl<R: Rng + Drop, A: Allocator + Clone> Node<R, A> {
     }
 
     /// A packet is sent on to its next hop behind a Redirect of a target to who sent it, or both are refused where one of the two neighbours
-    /// has no place (RFC 4861, section 8.2). The error is want of memory, and then nothing has changed.
+    /// has no place (RFC 4861, section 8.2). The error is out of memory, and then nothing has changed.
     fn redirect_and_send(
         &mut self,
         now: u64,

@@ -93,8 +93,8 @@ impl<R: Rng + Drop, A: Allocator + Clone> Node<R, A> {
 
     /// A frame comes at a moment, in milliseconds, up to which nothing is due: it is dropped for the first reason that holds, a message
     /// that is for this node is heard, and another packet for it goes to the upper layer (RFC 4861, sections 6.1, 7.1 and 8.1). The error
-    /// is want of memory, and then nothing has happened.
-    pub(crate) fn receive(
+    /// is out of memory, and then nothing has happened.
+    pub(crate) fn judge_frame(
         &mut self,
         now: u64,
         frame: &[u8],

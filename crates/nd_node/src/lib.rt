@@ -1,5 +1,49 @@
-//! A node on its link: it keeps the tables of Neighbor Discovery, and does what falls due for them in the order of its moments (RFC 4861,
-//! RFC 4862, RFC 8106).
+//! One host or router on one link: Neighbor Discovery (RFC 4861), address autoconfiguration (RFC 4862), and the DNS options of Router
+//! Advertisements (RFC 8106).
+//!
+//! A `Node` keeps the conceptual data structures of RFC 4861, section 5.1, for one interface. It has no clock, no socket and no source of
+//! random numbers: the caller passes frames, packets, commands, moments and random words, and the node returns what it sends and reports.
+//! `crates/nd_example` is a host in one page.
+//!
+//! # What the caller owes
+//!
+//! - **Moments** in milliseconds below 2^62, counted from any beginning. An event at an earlier moment than the last one is reported as past
+//!   and changes nothing.
+//! - **Random words**: a generator that the node owns from then on. It draws only the delays and times that the RFCs ask for at random (RFC
+//!   4861, sections 6.2.4, 6.2.6 and 6.3.2; RFC 4862, section 5.4.2).
+//! - **Frames** as they are received, from the Ethernet destination on. The node does not look at that destination: a caller whose interface
+//!   receives more than its own frames and multicast filters them. Nor does the node know its own frames if they are looped back: it takes
+//!   them for those of another node.
+//! - **Time**: something may be due without an event. `next_due` returns when; the event `Passes` at that moment does it.
+//!
+//! # What each call does
+//!
+//! - `Node::new` starts a node: its link-local address is tentative, and duplicate address detection is due (RFC 4862, sections 5.3 and 5.4).
+//! - `event` does all that is due up to a moment, then what the event asks for, and appends what the node sends and reports to a list of
+//!   `Out`, each with its moment. `receive` does so for a frame that the caller keeps, `run` for a list of events. A refused event adds its
+//!   reason alone (`Out::Refused`).
+//! - `settle` and `turn` do what is due without an event. `add` adds an event where nothing is due, for callers whose nodes take turns.
+//! - `next_due` returns the moment at which something is due next, `settled` whether nothing is due up to a moment, and `last_moment` the moment
+//!   up to which time has passed.
+//! - `neighbours`, `default_routers`, `prefixes`, `addresses`, `servers`, `search_names`, `redirects`, `parameters`, `advertising`, `offers` and
+//!   `routes` return what the node knows, row by row. `neighbour` and `next_hop_to` look one thing up; `counts` and `waiting_at` return numbers of
+//!   entries and of waiting packets. The event `Shows` returns the rows of a table as text, and so does `rows`.
+//!
+//! # What may fail
+//!
+//! Only memory. `Node::new` returns the generator then, with no word drawn. After an error of `event` a part of what is due may have been done
+//! and reported, and the event has changed nothing: the same call again goes on from there. No message is applied in part. No table grows: each
+//! has its room from the start, and a full table refuses (`Out::Refused`) or evicts an entry as RFC 4861, section 5.3, suggests.
+//!
+//! Memory is taken for frames that are sent, packets that wait for a neighbour's link-layer address, new search names, the list of outputs and
+//! text. If the list has room, none is taken for a frame that is dropped, an advertisement that adds no search name, a refusal, `Passes` and
+//! `Confirms` (the clauses `quiet`, `late` and `refused` of `event`), nor for any question.
+//!
+//! # What is proved
+//!
+//! `Stands` of `specs/Node.antt` ties a node to a chronicle of all that happened. Each call leads from every chronicle for which the node stands
+//! to one that the definitions of nd_chronicle give, and reports exactly what these say. The definitions look back over what happened, in the
+//! RFCs' terms, and know no tables.
 #![tactic(auto)]
 
 mod advertising;
@@ -28,6 +72,7 @@ mod router_advertisement;
 mod router_solicitation;
 mod shown;
 mod static_route;
+mod tables;
 mod time;
 
 pub use clearing::Clearable;

@@ -24,7 +24,7 @@ use std::alloc::{AllocError, Allocator};
 impl<R: Rng + Drop, A: Allocator + Clone> Node<R, A> {
     ghost use Rattle.nd_node.specs.Node.{Stands, next_of};
 
-    /// A frame is dropped at a moment, in milliseconds, for a reason, which is told. The error is want of memory, and then nothing has
+    /// A frame is dropped at a moment, in milliseconds, for a reason, which is told. The error is out of memory, and then nothing has
     /// changed.
     pub(crate) fn drop_frame(
         &mut self,
@@ -72,7 +72,7 @@ impl<R: Rng + Drop, A: Allocator + Clone> Node<R, A> {
     }
 
     /// A valid message that is for this node is heard at a moment, in milliseconds (RFC 4861, sections 6.2.6, 6.3.4, 7.2.3, 7.2.5 and
-    /// 8.3). The error is want of memory, and then nothing has happened.
+    /// 8.3). The error is out of memory, and then nothing has happened.
     pub(crate) fn hear_message(
         &mut self,
         now: u64,

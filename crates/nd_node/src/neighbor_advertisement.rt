@@ -25,7 +25,7 @@ impl<R: Rng + Drop, A: Allocator + Clone> Node<R, A> {
 
     /// A Neighbor Advertisement is heard at a moment, in milliseconds: its target is a duplicate if it is a tentative own address, what it
     /// says of the neighbour is taken and releases what waits, and a router that is none any more leaves the list (RFC 4861, section
-    /// 7.2.5; RFC 4862, section 5.4.4). The error is want of memory, and then nothing has changed.
+    /// 7.2.5; RFC 4862, section 5.4.4). The error is out of memory, and then nothing has changed.
     pub(crate) fn hear_neighbor_advertisement(
         &mut self,
         now: u64,

@@ -38,7 +38,7 @@ impl<R: Rng + Drop, A: Allocator + Clone> Node<R, A> {
     ghost use Rattle.nd_node.specs.Node.{Stands, next_of};
 
     /// A Neighbor Solicitation for an own address is heard at a moment, in milliseconds: from `::` another node tries the address, and
-    /// from an address it is answered (RFC 4861, sections 7.2.3 and 7.2.4; RFC 4862, section 5.4.3). The error is want of memory, and
+    /// from an address it is answered (RFC 4861, sections 7.2.3 and 7.2.4; RFC 4862, section 5.4.3). The error is out of memory, and
     /// then nothing has changed.
     pub(crate) fn hear_neighbor_solicitation(
         &mut self,
@@ -63,7 +63,7 @@ impl<R: Rng + Drop, A: Allocator + Clone> Node<R, A> {
     }
 
     /// A solicitation from `::` for an own address: another node tries it. All nodes are told where it is assigned; where it is
-    /// tentative, it is a duplicate (RFC 4861, section 7.2.4; RFC 4862, section 5.4.3). The error is want of memory, and then
+    /// tentative, it is a duplicate (RFC 4861, section 7.2.4; RFC 4862, section 5.4.3). The error is out of memory, and then
     /// nothing has changed.
     fn hear_detection(
         &mut self,
@@ -105,7 +105,7 @@ impl<R: Rng + Drop, A: Allocator + Clone> Node<R, A> {
     }
 
     /// A solicitation from an address for an own one: what it says of the asker is taken, and it is answered as any packet goes to a
-    /// neighbour (RFC 4861, sections 7.2.3 and 7.2.4). It is refused where the asker has no place. The error is want of memory, and
+    /// neighbour (RFC 4861, sections 7.2.3 and 7.2.4). It is refused where the asker has no place. The error is out of memory, and
     /// then nothing has changed.
     fn hear_asker(
         &mut self,
@@ -163,7 +163,7 @@ impl<R: Rng + Drop, A: Allocator + Clone> Node<R, A> {
 }
 
 /// Makes room for an answer and for all that is told with it: the frames, the places, and a ring for an asker that isn't there and
-/// doesn't give its link-layer address. The error is want of memory.
+/// doesn't give its link-layer address. The error is out of memory.
 fn make_room<A: Allocator + Clone>(
     neighbours: &mut Cache<A>,
     now: u64,

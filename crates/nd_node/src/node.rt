@@ -1,3 +1,5 @@
+//! A node: its tables, and its start.
+
 ghost use Rattle.std.specs.Prelude.{◌≡◌, ◌^◌, ◌<◌, IfOk, IfErr};
 
 use crate::limits::Limits;

@@ -52,7 +52,7 @@ impl<R: Rng + Drop, A: Allocator + Clone> Node<R, A> {
         None
     }
 
-    /// A packet is lost for a reason (RFC 4861, section 5.2; RFC 8200, section 3). The error is want of memory, and then nothing has changed.
+    /// A packet is lost for a reason (RFC 4861, section 5.2; RFC 8200, section 3). The error is out of memory, and then nothing has changed.
     pub(crate) fn lose(
         &mut self,
         now: u64,
@@ -70,7 +70,7 @@ impl<R: Rng + Drop, A: Allocator + Clone> Node<R, A> {
         Ok(())
     }
 
-    /// A packet whose Ethernet destination is known goes out (RFC 2464, section 7). The error is want of memory, and then nothing has
+    /// A packet whose Ethernet destination is known goes out (RFC 2464, section 7). The error is out of memory, and then nothing has
     /// changed.
     fn send_at_once(
         &mut self,
@@ -215,7 +215,7 @@ impl<R: Rng + Drop, A: Allocator + Clone> Node<R, A> {
     }
 
     /// A packet is to be sent at a moment, in milliseconds, up to which nothing is due: it is refused for the first reason that holds, or
-    /// goes to its next hop (RFC 4861, section 5.2). The error is want of memory, and then nothing has happened.
+    /// goes to its next hop (RFC 4861, section 5.2). The error is out of memory, and then nothing has happened.
     pub(crate) fn send(
         &mut self,
         now: u64,

@@ -22,7 +22,7 @@ impl<R: Rng + Drop, A: Allocator + Clone> Node<R, A> {
 
     /// A Redirect from the first hop of its destination is heard at a moment, in milliseconds: its target is the next hop of its
     /// destination from now on, and what it says of the target is taken (RFC 4861, section 8.3). It is refused where the target has no
-    /// place among the neighbours. The error is want of memory, and then nothing has changed.
+    /// place among the neighbours. The error is out of memory, and then nothing has changed.
     pub(crate) fn hear_redirect(
         &mut self,
         now: u64,

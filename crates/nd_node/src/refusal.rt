@@ -11,7 +11,7 @@ use std::alloc::{AllocError, Allocator};
 impl<R: Rng + Drop, A: Allocator + Clone> Node<R, A> {
     ghost use Rattle.nd_node.specs.Node.{next_of};
 
-    /// What was asked is refused at a moment, in milliseconds, for a reason, which is told alone. The error is want of memory, and then nothing has
+    /// What was asked is refused at a moment, in milliseconds, for a reason, which is told alone. The error is out of memory, and then nothing has
     /// changed.
     pub(crate) fn refuse(
         &mut self,

@@ -18,7 +18,7 @@ impl<R: Rng + Drop, A: Allocator + Clone> Node<R, A> {
     ghost use Rattle.nd_node.specs.Node.{next_of};
 
     /// A neighbour is forgotten at a moment, in milliseconds, and what waits for it is lost, the oldest first. That is no failure: no
-    /// redirect to it ends. The error is want of memory, and then nothing has changed.
+    /// redirect to it ends. The error is out of memory, and then nothing has changed.
     pub(crate) fn forget(
         &mut self,
         now: u64,

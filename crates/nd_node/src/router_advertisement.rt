@@ -104,7 +104,7 @@ impl<R: Rng + Drop, A: Allocator + Clone> Node<R, A> {
 
     /// A Router Advertisement is heard at a moment, in milliseconds (RFC 4861, section 6.3.4; RFC 4862, section 5.5.3; RFC 8106, section
     /// 6.1), once all that is due up to it is done. All tables take it together, or it is refused, since one of them has no room. The
-    /// error is want of memory, and then nothing has changed.
+    /// error is out of memory, and then nothing has changed.
     pub(crate) fn hear_router_advertisement(
         &mut self,
         now: u64,

@@ -1,3 +1,5 @@
+//! The rows of a table as text.
+
 ghost use Rattle.std.specs.Prelude.{◌≤◌, IfOk, map, string_bytes};
 ghost use Rattle.nd_node.specs.Event.{table_of};
 
@@ -16,22 +18,25 @@ impl<R: Rng + Drop, A: Allocator + Clone> Node<R, A> {
     ghost use Rattle.nd_chronicle.specs.Shown.{AreRows};
     ghost use Rattle.nd_node.specs.Node.{Stands};
 
-    /// The rows of a table at a moment, in milliseconds, up to which all that is due is done. What only a router has is empty. The error
-    /// is want of memory.
+    /// Returns the text of each row of a table at `now`, in milliseconds, up to which all that is due is done: of the typed rows that the calls
+    /// of `tables` return, one text for each. What only a router has is empty at a host. The error is out of memory.
     pub fn rows(&self, alloc: &A, now: u64, table: Table) -> Result<Vec<String<A>, A>, AllocError>
         ensures { IfOk result (λ rows. (start : Start) (c : Chronicle) → Stands R.stream start self.now c → last_moment start.at c ≤ now
             → AreRows start c now (table_of table) (map string_bytes rows.items)) }
     {
         match table {
-            Table::Neighbours => neighbour_rows(alloc, &self.neighbours, now),
-            Table::Routers => router_rows(alloc, &self.routers, now),
-            Table::Prefixes => prefix_rows(alloc, &self.prefixes, now),
-            Table::Addresses => address_rows(alloc, &self.addresses, now),
-            Table::Dns => dns_rows(alloc, &self.dns, now),
-            Table::Redirects => redirect_rows(alloc, &self.choice),
-            Table::Params => parameter_row(alloc, &self.params),
-            Table::Advertise => advertise_rows(alloc, self.role, &self.router.advertiser),
-            Table::Routes => route_rows(alloc, self.role, &self.router.routes),
+            Table::Neighbours => neighbour_rows(alloc, self.neighbours(now)),
+            Table::Routers => router_rows(alloc, self.default_routers(now)),
+            Table::Prefixes => prefix_rows(alloc, self.prefixes(now)),
+            Table::Addresses => address_rows(alloc, self.addresses(now)),
+            Table::Dns => dns_rows(alloc, self.servers(now), self.search_names(now)),
+            Table::Redirects => redirect_rows(alloc, self.redirects()),
+            Table::Params => parameter_row(alloc, &self.parameters()),
+            Table::Advertise => {
+                let advertises = self.router.advertiser.is_on();
+                advertise_rows(alloc, self.role, advertises, self.offers())
+            }
+            Table::Routes => route_rows(alloc, self.role, self.routes()),
         }
     }
 }

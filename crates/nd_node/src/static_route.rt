@@ -20,7 +20,7 @@ impl<R: Rng + Drop, A: Allocator + Clone> Node<R, A> {
     ghost use Rattle.nd_node.specs.Node.{Stands, next_of};
 
     /// A router is to have this route, in place of that of its prefix, if one is there. It is refused where it is one too many, and by a host.
-    /// The error is want of memory, and then nothing has changed.
+    /// The error is out of memory, and then nothing has changed.
     pub(crate) fn put_route(
         &mut self,
         now: u64,

@@ -1,3 +1,5 @@
+//! Time that passes at a node.
+
 ghost use Rattle.std.specs.Prelude.{◌≡◌, ◌∷◌, ℕ, ◌^◌, ◌<◌, ◌≤◌, Ok, OnOk, OnErr};
 ghost use Rattle.nd_chronicle.specs.Happening.{Chronicle, Passed, last_moment};
 ghost use Rattle.nd_chronicle.specs.Start.{Start};
@@ -16,7 +18,7 @@ impl<R: Rng + Drop, A: Allocator + Clone> Node<R, A> {
 
     /// Does what is due first at the moment, which is the next at which something is, and tells it: the ends of routers, of own addresses,
     /// their detections, the neighbours, Router Solicitations, Router Advertisements, a redraw of ReachableTime, each in the order of
-    /// addresses. The error is want of memory, and then nothing has changed.
+    /// addresses. The error is out of memory, and then nothing has changed.
     pub fn turn(&mut self, now: u64, outs: &mut Vec<(u64, Out<A>), A>) -> Result<(), AllocError>
         requires moment { now < 2 ^ 62 }
         requires due { now ≡ next_of self.old }
@@ -37,7 +39,7 @@ impl<R: Rng + Drop, A: Allocator + Clone> Node<R, A> {
         Ok(())
     }
 
-    /// Does all that is due up to a moment, and tells it. The error is want of memory, and then the rest can be done later.
+    /// Does all that is due up to a moment, and tells it. The error is out of memory, and then the rest can be done later.
     pub fn settle(&mut self, now: u64, outs: &mut Vec<(u64, Out<A>), A>) -> Result<(), AllocError>
         requires { now < 2 ^ 62 }
         ensures onward { Leads R.stream self.old self.new outs.old.items outs.new.items (Onward now) }

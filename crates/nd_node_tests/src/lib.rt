@@ -18,3 +18,5 @@ mod node_lines;
 mod routes;
 #[cfg(test)]
 mod rows;
+#[cfg(test)]
+mod tables;

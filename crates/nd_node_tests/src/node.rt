@@ -1,3 +1,4 @@
+ghost use Rattle.std.specs.Prelude.{◌<◌, ◌^◌};
 ghost use Rattle.nd_node.specs.Event.{AreEarly};
 
 use nd_addr::{Addr, Mac, Role};
@@ -68,6 +69,38 @@ fn events_run_in_their_order(rt: HostRuntime) {
         &events,
         "3000 drop 3 HeaderShort\n2999 refused past 3000\n3000 end 0\n",
     );
+}
+
+/// At a host to which time has passed up to 3000, a frame that is lent leads to the same as the event of that frame.
+fn is_heard_as_lent(rt: &(impl Abort + AllocGlobal), now: u64, frame: &[u8])
+    requires { now < 2 ^ 62 }
+{
+    let mut lent = host(rt);
+    let mut outs = Vec::new(rt.alloc());
+    lent.event(3000, &Event::Passes, &mut outs)
+        .expect(rt, "memory");
+    lent.receive(now, frame, &mut outs).expect(rt, "memory");
+    let mut owned = host(rt);
+    let mut wanted = Vec::new(rt.alloc());
+    owned
+        .event(3000, &Event::Passes, &mut wanted)
+        .expect(rt, "memory");
+    let event = received(rt, frame);
+    owned.event(now, &event, &mut wanted).expect(rt, "memory");
+    let mut text = String::new(rt.alloc());
+    let mut told = String::new(rt.alloc());
+    write_outs(&mut text, &outs).expect(rt, "memory");
+    write_outs(&mut told, &wanted).expect(rt, "memory");
+    assert!(rt; text.as_str() == told.as_str());
+    assert!(rt; lent.counts() == owned.counts());
+}
+
+#[test]
+fn a_lent_frame_is_heard(rt: HostRuntime) {
+    is_heard_as_lent(&rt, 3000, &ADVERTISEMENT);
+    is_heard_as_lent(&rt, 3000, &EMPTY);
+    is_heard_as_lent(&rt, 3000, &REDIRECT);
+    is_heard_as_lent(&rt, 2999, &ADVERTISEMENT);
 }
 
 /// A host is settled up to the moment at which something falls due, and once that is done.

@@ -185,7 +185,7 @@ fn addresses_are_shown(rt: HostRuntime) {
     let room = AddressRoom::new(rt.alloc()).expect(&rt, "memory");
     let mut addresses = Addresses::start(room, 0, MAC, Transmits::ONE, 0, 1000);
     assert!(rt; addresses.conflict(LINK_LOCAL));
-    let rows = address_rows(&alloc, &addresses, 999).expect(&rt, "memory");
+    let rows = address_rows(&alloc, addresses.rows(999)).expect(&rt, "memory");
     is_told(
         &rt,
         999,
@@ -216,7 +216,7 @@ fn a_router_is_shown(rt: HostRuntime) {
             Some(next) if next <= 1200 => panic!(&rt; "an end is due"),
             _ => assert!(rt; routers.heard_ra(1200, ROUTER, 1800, preference).is_ok()),
         }
-        let rows = router_rows(&alloc, &routers, 2200).expect(&rt, "memory");
+        let rows = router_rows(&alloc, routers.rows(2200)).expect(&rt, "memory");
         is_told(&rt, 2200, Out::Shown(rows), text);
     }
 }
@@ -225,11 +225,11 @@ fn a_router_is_shown(rt: HostRuntime) {
 fn a_prefix_is_shown(rt: HostRuntime) {
     let alloc = rt.alloc();
     let mut prefixes = Prefixes::new(rt.alloc()).expect(&rt, "memory");
-    let rows = prefix_rows(&alloc, &prefixes, 1200).expect(&rt, "memory");
+    let rows = prefix_rows(&alloc, prefixes.rows(1200)).expect(&rt, "memory");
     is_told(&rt, 1200, Out::Shown(rows), "1200 end 0\n");
     let message = advertisement(&ADVERTISEMENT).expect(&rt, "message");
     assert!(rt; prefixes.heard_ra(1200, message.options).is_ok());
-    let rows = prefix_rows(&alloc, &prefixes, 2200).expect(&rt, "memory");
+    let rows = prefix_rows(&alloc, prefixes.rows(2200)).expect(&rt, "memory");
     is_told(
         &rt,
         2200,
@@ -257,7 +257,7 @@ fn neighbours_are_shown(rt: HostRuntime) {
     };
     assert!(rt; cache.heard(1200, given(ROUTER, 1), times).is_ok());
     assert!(rt; cache.heard(2300, given(OTHER_ROUTER, 2), times).is_ok());
-    let rows = neighbour_rows(&alloc, &cache, 2300).expect(&rt, "memory");
+    let rows = neighbour_rows(&alloc, cache.rows(2300)).expect(&rt, "memory");
     is_told(
         &rt,
         2300,
@@ -274,7 +274,7 @@ fn a_redirect_is_shown(rt: HostRuntime) {
     choice
         .redirected(REMOTE, OTHER_ROUTER)
         .expect(&rt, "memory");
-    let rows = redirect_rows(&alloc, &choice).expect(&rt, "memory");
+    let rows = redirect_rows(&alloc, choice.rows()).expect(&rt, "memory");
     is_told(
         &rt,
         2300,
@@ -293,7 +293,7 @@ fn a_server_and_a_name_are_shown(rt: HostRuntime) {
         Ok(names) => assert!(rt; dns.heard_ra(1200, options, names).is_ok()),
         Err(_) => assert!(rt; false),
     }
-    let rows = dns_rows(&alloc, &dns, 2200).expect(&rt, "memory");
+    let rows = dns_rows(&alloc, dns.servers(2200), dns.search_names(2200)).expect(&rt, "memory");
     is_told(
         &rt,
         2200,
@@ -321,14 +321,14 @@ fn a_confirmed_neighbour_is_shown_until_its_time_has_passed(rt: HostRuntime) {
         mac: Some(Mac([2, 0, 0, 0, 0, 1])),
     };
     assert!(rt; cache.heard(8500, advertised, times).is_ok());
-    let rows = neighbour_rows(&alloc, &cache, 23_499).expect(&rt, "memory");
+    let rows = neighbour_rows(&alloc, cache.rows(23_499)).expect(&rt, "memory");
     is_told(
         &rt,
         23_499,
         Out::Shown(rows),
         "23499 neighbour fe80::ff:fe00:1 02:00:00:00:00:01 reachable router\n23499 end 1\n",
     );
-    let rows = neighbour_rows(&alloc, &cache, 23_500).expect(&rt, "memory");
+    let rows = neighbour_rows(&alloc, cache.rows(23_500)).expect(&rt, "memory");
     is_told(
         &rt,
         23_500,
@@ -347,7 +347,7 @@ fn a_neighbour_without_an_address_is_shown(rt: HostRuntime) {
     };
     let sent = cache.used(3000, ABSENT, packet(&rt, &DATAGRAM), times);
     assert!(rt; sent.is_ok());
-    let rows = neighbour_rows(&alloc, &cache, 3000).expect(&rt, "memory");
+    let rows = neighbour_rows(&alloc, cache.rows(3000)).expect(&rt, "memory");
     is_told(
         &rt,
         3000,
@@ -390,7 +390,7 @@ fn two_addresses_are_shown_in_their_order(rt: HostRuntime) {
     assert!(rt; addresses.heard_prefix(1200, &info, 0, 1000).is_ok());
     assert!(rt; turn_at(&rt, &mut addresses, 1200).is_some());
     assert!(rt; turn_at(&rt, &mut addresses, 2200).is_some());
-    let rows = address_rows(&alloc, &addresses, 2200).expect(&rt, "memory");
+    let rows = address_rows(&alloc, addresses.rows(2200)).expect(&rt, "memory");
     is_told(
         &rt,
         2200,
@@ -430,7 +430,8 @@ fn advertises(
     advertiser: &Advertiser<Global>,
     text: &str,
 ) {
-    let rows = advertise_rows(&rt.alloc(), role, advertiser).expect(rt, "memory");
+    let offers = advertiser.rows();
+    let rows = advertise_rows(&rt.alloc(), role, advertiser.is_on(), offers).expect(rt, "memory");
     is_told(rt, 10, Out::Shown(rows), text);
 }
 
@@ -489,13 +490,13 @@ fn static_routes_are_shown(rt: HostRuntime) {
     let mut routes = Routes::new(rt.alloc()).expect(&rt, "memory");
     assert!(rt; put_route(&mut routes, prefix_of(1, 64), Route::Via(OTHER_ROUTER)));
     assert!(rt; put_route(&mut routes, prefix_of(0, 64), Route::Direct));
-    let rows = route_rows(&alloc, Role::Router, &routes).expect(&rt, "memory");
+    let rows = route_rows(&alloc, Role::Router, routes.rows()).expect(&rt, "memory");
     is_told(
         &rt,
         10,
         Out::Shown(rows),
         "10 route 2001:db8:1::/64 fe80::2\n10 route 2001:db8::/64 direct\n10 end 2\n",
     );
-    let rows = route_rows(&alloc, Role::Host, &routes).expect(&rt, "memory");
+    let rows = route_rows(&alloc, Role::Host, routes.rows()).expect(&rt, "memory");
     is_told(&rt, 10, Out::Shown(rows), "10 end 0\n");
 }

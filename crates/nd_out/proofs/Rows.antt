@@ -1,8 +1,7 @@
--- The rows of what is shown of a table, and that of the parameters.
-use Rattle.std.proofs.Common.{◌≡◌, ◌++◌, ℕ, Bool, List, map, sym, ap, ◌∙◌, append_assoc}
+-- The row of the parameters.
+use Rattle.std.proofs.Common.{◌≡◌, ◌++◌, ℕ, Bool, List, ap, ◌∙◌, append_assoc}
 use Rattle.std.specs.Prelude.{codes}
 use Rattle.std.specs.Fmt.{decimal}
-use Rattle.std.proofs.lemmas.Simd.{map-map}
 use Rattle.nd_params.specs.History.{managed_of, other_of}
 use Rattle.nd_params.specs.Params.{Values, Stands}
 use Rattle.nd_chronicle.specs.Happening.{Chronicle}
@@ -10,16 +9,6 @@ use Rattle.nd_chronicle.specs.Histories.{parameter_history}
 use Rattle.nd_chronicle.specs.InForce.{hop_limit, link_mtu, base_reachable_time, reachable_time}
 use Rattle.nd_chronicle.specs.Shown.{flag_text, parameter_row, times_text}
 use Rattle.nd_out.specs.Parameters.{limits_in, times_in, flags_in, parameters_in}
-
--- the rows of what is shown
-pub rows_shown : {A B : Type 0} (row : B → List ℕ) (shown : A → B) (rows : List (List ℕ)) (ds xs : List A)
-    → rows ≡ map (λ a. row (shown a)) ds → ds ≡ xs → rows ≡ map row (map shown xs)
-rows_shown row shown rows ds xs r d = r ∙ ap (map (λ a. row (shown a))) d ∙ sym (map-map row shown xs)
-
--- the same by the table
-pub rows_by : {A B C : Type 0} (row : B → List ℕ) (shown : A → B) (seen : C → B) (rows : List (List ℕ)) (ds xs : List A) (ys : List C)
-    → rows ≡ map (λ a. row (shown a)) ds → ds ≡ xs → map shown xs ≡ map seen ys → rows ≡ map (λ y. row (seen y)) ys
-rows_by row shown seen rows ds xs ys r d s = rows_shown row shown rows ds xs r d ∙ ap (map row) s ∙ map-map row seen ys
 
 -- four lists behind another one
 four : (front a b c d : List ℕ) → front ++ (a ++ b ++ c ++ d) ≡ front ++ a ++ b ++ c ++ d

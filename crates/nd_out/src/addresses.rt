@@ -1,14 +1,10 @@
 ghost use Rattle.std.specs.Prelude.{◌≡◌, IfOk, map, string_bytes};
-ghost use Rattle.nd_slaac.specs.Table.{Stands};
-ghost use Rattle.nd_slaac.specs.Shown.{seen};
-ghost use Rattle.nd_chronicle.specs.Start.{Start};
-ghost use Rattle.nd_chronicle.specs.Happening.{Chronicle};
-ghost use Rattle.nd_chronicle.specs.Histories.{address_history};
-ghost use Rattle.nd_chronicle.specs.Shown.{AreRows, AddressTable, address_row, state_text};
+ghost use Rattle.nd_slaac.specs.Left.{addresses_left};
+ghost use Rattle.nd_chronicle.specs.Shown.{address_row, state_text};
 
 use crate::line::write_address;
-use crate::row::{Row, rows_of, write_left};
-use nd_slaac::{Addresses, OwnAddress, State};
+use crate::row::{Row, add_row, write_left};
+use nd_slaac::{OwnAddress, OwnAddresses, State};
 use std::alloc::{AllocError, Allocator};
 
 impl Row for OwnAddress {
@@ -39,16 +35,16 @@ fn state_word(state: State) -> &'static str
     }
 }
 
-/// The rows of the own addresses at a moment, in milliseconds, in the order of their numbers. The error is want of memory.
+/// Returns the rows of own addresses, in their order. The error is out of memory.
 pub fn address_rows<A: Allocator + Clone>(
     alloc: &A,
-    addresses: &Addresses<A>,
-    now: u64,
+    addresses: OwnAddresses<'_>,
 ) -> Result<Vec<String<A>, A>, AllocError>
-    ensures value { IfOk result (λ rows. map string_bytes rows.items ≡ map (λ a. address_row (seen now a)) addresses.now.addresses) }
-    ensures rows { IfOk result (λ rows. (start : Start) (c : Chronicle) → Stands addresses.now.addresses (address_history c) → AreRows start c now AddressTable (map string_bytes rows.items)) }
+    ensures { IfOk result (λ rows. map string_bytes rows.items ≡ map address_row (addresses_left addresses.entry)) }
 {
-    let shown = addresses.rows(now)?;
-    let rows = rows_of(alloc, &shown)?;
+    let mut rows = Vec::new(alloc.clone()?);
+    for address in addresses {
+        add_row(&mut rows, alloc, &address)?;
+    }
     Ok(rows)
 }

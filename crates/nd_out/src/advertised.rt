@@ -1,16 +1,12 @@
 //! What a router advertises, as it is shown.
 
-ghost use Rattle.std.specs.Prelude.{◌≡◌, ◌++◌, ℕ, IfOk, OnOk, codes, is_some, map, string_bytes};
-ghost use Rattle.nd_advertiser.specs.Table.{Stands};
-ghost use Rattle.nd_chronicle.specs.Start.{Start};
-ghost use Rattle.nd_chronicle.specs.Happening.{Chronicle};
-ghost use Rattle.nd_chronicle.specs.Histories.{advertising_history};
-ghost use Rattle.nd_chronicle.specs.Shown.{AreRows, AdvertiseTable, lifetimes_text, offer_flags_text, on_text};
+ghost use Rattle.std.specs.Prelude.{◌≡◌, ◌++◌, IfOk, OnOk, codes, map, string_bytes};
+ghost use Rattle.nd_chronicle.specs.Shown.{lifetimes_text, offer_flags_text, offer_row, on_text};
 ghost use Rattle.nd_out.specs.Advertised.{advertise_rows_of};
 
-use crate::row::{Row, row_text, write_labelled, write_word};
+use crate::row::{Row, add_row, write_labelled, write_word};
 use nd_addr::Role;
-use nd_advertiser::{Advertiser, Offer};
+use nd_advertiser::{Offer, OfferRows};
 use nd_decode::{PrefixInfo, prefix_flags_text};
 use std::alloc::{AllocError, Allocator};
 
@@ -61,35 +57,36 @@ impl Row for Advertising {
     }
 }
 
-/// The rows of what a router advertises: whether it does, and its prefixes in the order in which each was first offered, with their lifetimes in
-/// seconds. A host has none. The error is want of memory.
+/// Returns the rows of what a router advertises: whether it does, and its offers, in their order. A host has none. The error is out of memory.
 pub fn advertise_rows<A: Allocator + Clone>(
     alloc: &A,
     role: Role,
-    advertiser: &Advertiser<A>,
+    advertises: bool,
+    offers: OfferRows<'_>,
 ) -> Result<Vec<String<A>, A>, AllocError>
-    ensures value { IfOk result (λ rows. map string_bytes rows.items ≡ advertise_rows_of role (is_some advertiser.now.advertising) advertiser.now.offers) }
-    ensures rows { IfOk result (λ rows. (start : Start) (c : Chronicle) (now : ℕ) → role ≡ start.role → Stands advertiser.now (advertising_history start c) → AreRows start c now AdvertiseTable (map string_bytes rows.items)) }
+    ensures { IfOk result (λ rows. map string_bytes rows.items ≡ advertise_rows_of role advertises offers.entry) }
 {
+    let mut rows = Vec::new(alloc.clone()?);
     match role {
-        Role::Host => Ok(Vec::new(alloc.clone()?)),
-        Role::Router => router_rows(alloc, advertiser),
+        Role::Host => Ok(rows),
+        Role::Router => {
+            add_row(&mut rows, alloc, &Advertising(advertises))?;
+            add_offers(&mut rows, alloc, offers)?;
+            Ok(rows)
+        }
     }
 }
 
-/// Those of a router.
-fn router_rows<A: Allocator + Clone>(
+/// Appends the rows of offers. The error is out of memory.
+fn add_offers<A: Allocator + Clone>(
+    rows: &mut Vec<String<A>, A>,
     alloc: &A,
-    advertiser: &Advertiser<A>,
-) -> Result<Vec<String<A>, A>, AllocError>
-    ensures { IfOk result (λ rows. map string_bytes rows.items ≡ advertise_rows_of Role.Router (is_some advertiser.now.advertising) advertiser.now.offers) }
+    offers: OfferRows<'_>,
+) -> Result<(), AllocError>
+    ensures { OnOk result (map string_bytes rows.new.items ≡ map string_bytes rows.old.items ++ map offer_row offers.entry) }
 {
-    let mut rows = Vec::new(alloc.clone()?);
-    let on = row_text(alloc.clone()?, &Advertising(advertiser.is_on()))?;
-    rows.push(on)?;
-    for offer in advertiser.rows() {
-        let text = row_text(alloc.clone()?, &offer)?;
-        rows.push(text)?;
+    for offer in offers {
+        add_row(rows, alloc, &offer)?;
     }
-    Ok(rows)
+    Ok(())
 }

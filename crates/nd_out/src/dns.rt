@@ -1,15 +1,11 @@
-ghost use Rattle.std.specs.Prelude.{◌≡◌, ◌≤◌, ◌++◌, IfOk, map, string_bytes};
-ghost use Rattle.nd_lifetime.specs.History.{last_moment};
-ghost use Rattle.nd_lifetime.specs.Listing.{open_at};
-ghost use Rattle.nd_dns.specs.Dns.{Stands};
-ghost use Rattle.nd_chronicle.specs.Start.{Start};
-ghost use Rattle.nd_chronicle.specs.Happening.{Chronicle};
-ghost use Rattle.nd_chronicle.specs.Histories.{server_history, name_history};
-ghost use Rattle.nd_chronicle.specs.Shown.{AreRows, DnsTable, server_row, search_row};
+ghost use Rattle.std.specs.Prelude.{◌≡◌, ◌++◌, IfOk, map, string_bytes};
+ghost use Rattle.nd_lifetime.specs.Left.{lifetimes_left};
+ghost use Rattle.nd_chronicle.specs.Shown.{server_row, search_row};
 
-use crate::row::{Row, add_standing};
+use crate::row::{Row, add_with_lifetimes};
 use nd_addr::Addr;
-use nd_dns::{Dns, SearchName};
+use nd_dns::SearchName;
+use nd_lifetime::WithLifetimes;
 use std::alloc::{AllocError, Allocator};
 
 impl Row for Addr {
@@ -37,18 +33,16 @@ impl<B: Allocator> Row for SearchName<B> {
     }
 }
 
-/// The rows of the DNS servers and then of the search names at a moment, in milliseconds, each in the order in which they came. The error
-/// is want of memory.
-pub fn dns_rows<A: Allocator + Clone>(
+/// Returns the rows of DNS servers and then of search names, in their orders. The error is out of memory.
+pub fn dns_rows<A: Allocator + Clone, B: Allocator>(
     alloc: &A,
-    dns: &Dns<A>,
-    now: u64,
+    servers: WithLifetimes<'_, Addr>,
+    search_names: WithLifetimes<'_, SearchName<B>>,
 ) -> Result<Vec<String<A>, A>, AllocError>
-    ensures value { IfOk result (λ rows. map string_bytes rows.items ≡ map (server_row now) (open_at now dns.now.servers) ++ map (search_row now) (open_at now dns.now.names)) }
-    ensures rows { IfOk result (λ rows. (start : Start) (c : Chronicle) → Stands dns.now (server_history c) (name_history c) → last_moment (server_history c) ≤ now → last_moment (name_history c) ≤ now → AreRows start c now DnsTable (map string_bytes rows.items)) }
+    ensures { IfOk result (λ rows. map string_bytes rows.items ≡ map server_row (lifetimes_left servers.entry) ++ map search_row (lifetimes_left search_names.entry)) }
 {
     let mut rows = Vec::new(alloc.clone()?);
-    add_standing(&mut rows, alloc, now, dns.servers(now))?;
-    add_standing(&mut rows, alloc, now, dns.search_names(now))?;
+    add_with_lifetimes(&mut rows, alloc, servers)?;
+    add_with_lifetimes(&mut rows, alloc, search_names)?;
     Ok(rows)
 }

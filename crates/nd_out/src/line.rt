@@ -9,7 +9,7 @@ use itoa::Buffer;
 use nd_addr::Addr;
 use std::alloc::{AllocError, Allocator};
 
-/// Writes a number. The error is want of memory.
+/// Writes a number. The error is out of memory.
 pub(crate) fn write_number<A: Allocator>(
     text: &mut String<A>,
     number: u64,

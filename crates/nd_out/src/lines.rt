@@ -142,7 +142,7 @@ fn write_out<A: Allocator, B: Allocator>(
 }
 
 /// Writes the lines of what happened at a node of a link, at a moment in milliseconds: those of the node alone, each with its number
-/// before it. The error is want of memory.
+/// before it. The error is out of memory.
 pub fn write_node_out<A: Allocator, B: Allocator>(
     text: &mut String<A>,
     node: usize,
@@ -161,7 +161,7 @@ pub fn write_node_out<A: Allocator, B: Allocator>(
 }
 
 /// Writes the text of what happened at the end, each with its moment in milliseconds: a line each, and of rows that were shown a line
-/// for each and one for their number. The error is want of memory.
+/// for each and one for their number. The error is out of memory.
 pub fn write_outs<A: Allocator, B: Allocator>(
     text: &mut String<A>,
     outs: &[(u64, Out<B>)],

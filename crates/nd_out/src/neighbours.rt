@@ -1,17 +1,13 @@
 ghost use Rattle.std.specs.Prelude.{◌≡◌, ◌++◌, IfOk, OnOk, map, option_map, string_bytes};
 ghost use Rattle.nd_addr.specs.Number.{number_of, mac_at};
 ghost use Rattle.nd_addr.specs.Text.{mac_text};
-ghost use Rattle.nd_neighbour.specs.Table.{Stands};
-ghost use Rattle.nd_neighbour.specs.Shown.{seen};
-ghost use Rattle.nd_chronicle.specs.Start.{Start};
-ghost use Rattle.nd_chronicle.specs.Happening.{Chronicle};
-ghost use Rattle.nd_chronicle.specs.Histories.{neighbour_history};
-ghost use Rattle.nd_chronicle.specs.Shown.{AreRows, NeighbourTable, neighbour_row, mac_or_none_text, reachability_text, router_or_host_text};
+ghost use Rattle.nd_neighbour.specs.Left.{neighbours_left};
+ghost use Rattle.nd_chronicle.specs.Shown.{neighbour_row, mac_or_none_text, reachability_text, router_or_host_text};
 
 use crate::line::write_address;
-use crate::row::{Row, rows_of, write_word};
+use crate::row::{Row, add_row, write_word};
 use nd_addr::Mac;
-use nd_neighbour::{Cache, Neighbour, Reachability};
+use nd_neighbour::{Neighbour, Neighbours, Reachability};
 use std::alloc::{AllocError, Allocator};
 
 impl Row for Neighbour {
@@ -68,16 +64,16 @@ fn router_or_host(router: bool) -> &'static str
     if router { "router" } else { "host" }
 }
 
-/// The rows of the neighbours at a moment, in milliseconds, in the order of their addresses. The error is want of memory.
-pub fn neighbour_rows<A: Allocator + Clone>(
+/// Returns the rows of neighbours, in their order. The error is out of memory.
+pub fn neighbour_rows<A: Allocator + Clone, B: Allocator>(
     alloc: &A,
-    cache: &Cache<A>,
-    now: u64,
+    neighbours: Neighbours<'_, B>,
 ) -> Result<Vec<String<A>, A>, AllocError>
-    ensures value { IfOk result (λ rows. map string_bytes rows.items ≡ map (λ n. neighbour_row (seen now n)) cache.now.nodes) }
-    ensures rows { IfOk result (λ rows. (start : Start) (c : Chronicle) → Stands cache.now.nodes (neighbour_history c) → AreRows start c now NeighbourTable (map string_bytes rows.items)) }
+    ensures { IfOk result (λ rows. map string_bytes rows.items ≡ map neighbour_row (neighbours_left neighbours.entry)) }
 {
-    let shown = cache.rows(now)?;
-    let rows = rows_of(alloc, &shown)?;
+    let mut rows = Vec::new(alloc.clone()?);
+    for neighbour in neighbours {
+        add_row(&mut rows, alloc, &neighbour)?;
+    }
     Ok(rows)
 }

@@ -6,7 +6,7 @@ ghost use Rattle.nd_chronicle.specs.Histories.{parameter_history};
 ghost use Rattle.nd_chronicle.specs.Shown.{AreRows, ParameterTable};
 ghost use Rattle.nd_out.specs.Parameters.{limits_in, times_in, flags_in, parameters_in};
 
-use crate::row::{Row, rows_of, write_flag, write_labelled};
+use crate::row::{Row, add_row, write_flag, write_labelled};
 use nd_params::Params;
 use std::alloc::{AllocError, Allocator};
 
@@ -50,7 +50,7 @@ fn write_flags<A: Allocator>(text: &mut String<A>, params: &Params) -> Result<()
     write_flag(text, " other ", params.other())
 }
 
-/// The row of the parameters of the link. The error is want of memory.
+/// Returns the row of the parameters of the link. The error is out of memory.
 pub fn parameter_row<A: Allocator + Clone>(
     alloc: &A,
     params: &Params,
@@ -58,6 +58,7 @@ pub fn parameter_row<A: Allocator + Clone>(
     ensures value { IfOk result (λ rows. map string_bytes rows.items ≡ parameters_in params.now ∷ []) }
     ensures rows { IfOk result (λ rows. (start : Start) (c : Chronicle) (now : ℕ) → Stands params.now (parameter_history c) → AreRows start c now ParameterTable (map string_bytes rows.items)) }
 {
-    let rows = rows_of(alloc, &[*params])?;
+    let mut rows = Vec::new(alloc.clone()?);
+    add_row(&mut rows, alloc, params)?;
     Ok(rows)
 }

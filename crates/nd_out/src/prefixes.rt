@@ -1,15 +1,10 @@
-ghost use Rattle.std.specs.Prelude.{◌≡◌, ◌≤◌, IfOk, map, string_bytes};
-ghost use Rattle.nd_addr.specs.Same.{same_prefix};
-ghost use Rattle.nd_lifetime.specs.History.{last_moment};
-ghost use Rattle.nd_lifetime.specs.Listing.{open_at, Stands};
-ghost use Rattle.nd_chronicle.specs.Start.{Start};
-ghost use Rattle.nd_chronicle.specs.Happening.{Chronicle};
-ghost use Rattle.nd_chronicle.specs.Histories.{prefix_history};
-ghost use Rattle.nd_chronicle.specs.Shown.{AreRows, PrefixTable, prefix_row};
+ghost use Rattle.std.specs.Prelude.{◌≡◌, IfOk, map, string_bytes};
+ghost use Rattle.nd_lifetime.specs.Left.{lifetimes_left};
+ghost use Rattle.nd_chronicle.specs.Shown.{prefix_row};
 
-use crate::row::{Row, add_standing};
+use crate::row::{Row, add_with_lifetimes};
 use nd_addr::Prefix;
-use nd_routers::Prefixes;
+use nd_lifetime::WithLifetimes;
 use std::alloc::{AllocError, Allocator};
 
 impl Row for Prefix {
@@ -24,16 +19,14 @@ impl Row for Prefix {
     }
 }
 
-/// The rows of the prefixes on the link at a moment, in milliseconds, in the order in which they came. The error is want of memory.
+/// Returns the rows of prefixes on the link, in their order. The error is out of memory.
 pub fn prefix_rows<A: Allocator + Clone>(
     alloc: &A,
-    prefixes: &Prefixes<A>,
-    now: u64,
+    prefixes: WithLifetimes<'_, Prefix>,
 ) -> Result<Vec<String<A>, A>, AllocError>
-    ensures value { IfOk result (λ rows. map string_bytes rows.items ≡ map (prefix_row now) (open_at now prefixes.now)) }
-    ensures rows { IfOk result (λ rows. (start : Start) (c : Chronicle) → Stands same_prefix prefixes.now (prefix_history c) → last_moment (prefix_history c) ≤ now → AreRows start c now PrefixTable (map string_bytes rows.items)) }
+    ensures { IfOk result (λ rows. map string_bytes rows.items ≡ map prefix_row (lifetimes_left prefixes.entry)) }
 {
     let mut rows = Vec::new(alloc.clone()?);
-    add_standing(&mut rows, alloc, now, prefixes.rows(now))?;
+    add_with_lifetimes(&mut rows, alloc, prefixes)?;
     Ok(rows)
 }

@@ -1,14 +1,10 @@
-ghost use Rattle.std.specs.Prelude.{◌≡◌, ℕ, IfOk, map, string_bytes};
-ghost use Rattle.nd_nexthop.specs.Choice.{Stands};
-ghost use Rattle.nd_nexthop.specs.History.{those_left};
-ghost use Rattle.nd_chronicle.specs.Start.{Start};
-ghost use Rattle.nd_chronicle.specs.Happening.{Chronicle};
-ghost use Rattle.nd_chronicle.specs.Histories.{redirect_history};
-ghost use Rattle.nd_chronicle.specs.Shown.{AreRows, RedirectTable, redirect_row};
+ghost use Rattle.std.specs.Prelude.{◌≡◌, IfOk, map, string_bytes};
+ghost use Rattle.nd_nexthop.specs.Left.{redirects_left};
+ghost use Rattle.nd_chronicle.specs.Shown.{redirect_row};
 
 use crate::line::write_address;
-use crate::row::{Row, row_text};
-use nd_nexthop::{Choice, Redirect};
+use crate::row::{Row, add_row};
+use nd_nexthop::{KeptRedirects, Redirect};
 use std::alloc::{AllocError, Allocator};
 
 impl Row for Redirect {
@@ -25,18 +21,16 @@ impl Row for Redirect {
     }
 }
 
-/// The rows of the kept redirects, the newest first. The error is want of memory.
+/// Returns the rows of kept redirects, in their order. The error is out of memory.
 pub fn redirect_rows<A: Allocator + Clone>(
     alloc: &A,
-    choice: &Choice<A>,
+    redirects: KeptRedirects<'_>,
 ) -> Result<Vec<String<A>, A>, AllocError>
-    ensures value { IfOk result (λ rows. map string_bytes rows.items ≡ map redirect_row (those_left choice.now.redirects)) }
-    ensures rows { IfOk result (λ rows. (start : Start) (c : Chronicle) (now : ℕ) → Stands choice.now (redirect_history c) → AreRows start c now RedirectTable (map string_bytes rows.items)) }
+    ensures { IfOk result (λ rows. map string_bytes rows.items ≡ map redirect_row (redirects_left redirects.entry)) }
 {
     let mut rows = Vec::new(alloc.clone()?);
-    for redirect in choice.rows() {
-        let text = row_text(alloc.clone()?, &redirect)?;
-        rows.push(text)?;
+    for redirect in redirects {
+        add_row(&mut rows, alloc, &redirect)?;
     }
     Ok(rows)
 }

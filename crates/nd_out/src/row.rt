@@ -1,12 +1,11 @@
-ghost use Rattle.std.specs.Prelude.{◌≡◌, ◌++◌, ℕ, List, Option, IfOk, OnOk, codes, map, string_bytes};
+ghost use Rattle.std.specs.Prelude.{◌≡◌, ◌++◌, ◌∷◌, [], ℕ, List, Option, IfOk, OnOk, codes, map, string_bytes};
 ghost use Rattle.std.specs.Fmt.{decimal};
-ghost use Rattle.nd_lifetime.specs.Left.{standing_left};
-ghost use Rattle.nd_slaac.specs.Shown.{rest_until};
+ghost use Rattle.nd_lifetime.specs.Left.{lifetimes_left};
 ghost use Rattle.nd_chronicle.specs.Shown.{flag_text, left_text};
 ghost use Rattle.nd_out.specs.Row.{lasting_text};
 
 use crate::line::write_number;
-use nd_lifetime::{Lasting, Standing};
+use nd_lifetime::{WithLifetime, WithLifetimes};
 use std::alloc::{AllocError, Allocator};
 
 /// What stands in a row of a table.
@@ -14,7 +13,7 @@ pub(crate) trait Row {
     /// Its text.
     ghost shown: { Self → List ℕ };
 
-    /// Writes its text. The error is want of memory.
+    /// Writes its text. The error is out of memory.
     fn write_row<A: Allocator>(&self, text: &mut String<A>) -> Result<(), AllocError>
         ensures { OnOk result (string_bytes text.new ≡ string_bytes text.old ++ shown self.now) };
 }
@@ -64,17 +63,7 @@ pub(crate) fn write_left<A: Allocator>(
     }
 }
 
-/// What is left at a moment until an end, in milliseconds.
-fn rest_until(now: u64, end: Option<u64>) -> Option<u64>
-    ensures { result ≡ rest_until now end }
-{
-    match end {
-        Some(end) => Some(end.saturating_sub(now)),
-        None => None,
-    }
-}
-
-/// The text of a row. The error is want of memory.
+/// The text of a row. The error is out of memory.
 pub(crate) fn row_text<R: Row, A: Allocator>(alloc: A, row: &R) -> Result<String<A>, AllocError>
     ensures { IfOk result (λ text. string_bytes text ≡ R.shown row.now) }
 {
@@ -83,47 +72,41 @@ pub(crate) fn row_text<R: Row, A: Allocator>(alloc: A, row: &R) -> Result<String
     Ok(text)
 }
 
-/// The texts of rows. The error is want of memory.
-pub(crate) fn rows_of<R: Row, A: Allocator + Clone>(
-    alloc: &A,
-    shown: &[R],
-) -> Result<Vec<String<A>, A>, AllocError>
-    ensures { IfOk result (λ rows. map string_bytes rows.items ≡ map (λ r. R.shown r) shown.now) }
-{
-    let mut rows = Vec::new(alloc.clone()?);
-    for row in shown {
-        let text = row_text(alloc.clone()?, row)?;
-        rows.push(text)?;
-    }
-    Ok(rows)
-}
-
-/// The text of a key that stands, and what is left of its lifetime at a moment, both in milliseconds.
-pub(crate) fn lasting_text<K: Row, A: Allocator>(
-    alloc: A,
-    now: u64,
-    entry: &Lasting<K>,
-) -> Result<String<A>, AllocError>
-    ensures { IfOk result (λ text. string_bytes text ≡ lasting_text K.shown now entry.now) }
-{
-    let mut text = String::new(alloc);
-    entry.key.write_row(&mut text)?;
-    write_left(&mut text, rest_until(now, entry.end))?;
-    Ok(text)
-}
-
-/// Puts the texts of keys that stand at a moment, in milliseconds, behind other rows. The error is want of memory.
-pub(crate) fn add_standing<K: Row, A: Allocator + Clone>(
+/// Appends the text of a row. The error is out of memory.
+pub(crate) fn add_row<R: Row, A: Allocator + Clone>(
     rows: &mut Vec<String<A>, A>,
     alloc: &A,
-    now: u64,
-    standing: Standing<'_, K>,
+    row: &R,
 ) -> Result<(), AllocError>
-    ensures { OnOk result (map string_bytes rows.new.items ≡ map string_bytes rows.old.items ++ map (lasting_text K.shown now) (standing_left standing.entry)) }
+    ensures { OnOk result (map string_bytes rows.new.items ≡ map string_bytes rows.old.items ++ R.shown row.now ∷ []) }
 {
-    for entry in standing {
-        let text = lasting_text(alloc.clone()?, now, entry)?;
-        rows.push(text)?;
+    let text = row_text(alloc.clone()?, row)?;
+    rows.push(text)?;
+    Ok(())
+}
+
+impl<K: Row> Row for WithLifetime<'_, K> {
+    ghost use Rattle.nd_lifetime.specs.Left.{seen_in};
+    ghost use Rattle.nd_out.specs.Row.{lasting_text};
+
+    ghost shown = { λ w. lasting_text K.shown (seen_in w) };
+
+    fn write_row<A: Allocator>(&self, text: &mut String<A>) -> Result<(), AllocError> {
+        self.key.write_row(text)?;
+        write_left(text, self.left)
+    }
+}
+
+/// Appends the text of each key with what is left of its lifetime. The error is out of memory.
+pub(crate) fn add_with_lifetimes<K: Row, A: Allocator + Clone>(
+    rows: &mut Vec<String<A>, A>,
+    alloc: &A,
+    keys: WithLifetimes<'_, K>,
+) -> Result<(), AllocError>
+    ensures { OnOk result (map string_bytes rows.new.items ≡ map string_bytes rows.old.items ++ map (lasting_text K.shown) (lifetimes_left keys.entry)) }
+{
+    for key in keys {
+        add_row(rows, alloc, &key)?;
     }
     Ok(())
 }

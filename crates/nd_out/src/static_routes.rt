@@ -1,16 +1,13 @@
 //! The static routes of a router, as they are shown.
 
-ghost use Rattle.std.specs.Prelude.{◌≡◌, ◌++◌, ℕ, IfOk, OnOk, codes, map, string_bytes};
-ghost use Rattle.nd_routes.specs.Table.{Stands};
-ghost use Rattle.nd_chronicle.specs.Start.{Start};
-ghost use Rattle.nd_chronicle.specs.Happening.{Chronicle};
-ghost use Rattle.nd_chronicle.specs.Histories.{route_history};
+ghost use Rattle.std.specs.Prelude.{◌≡◌, ◌++◌, IfOk, OnOk, codes, map, string_bytes};
+ghost use Rattle.nd_routes.specs.KeptRoutes.{routes_left};
 ghost use Rattle.nd_chronicle.specs.Shown as shown;
-ghost use Rattle.nd_chronicle.specs.Shown.{AreRows, RouteTable, route_row, way_of};
+ghost use Rattle.nd_chronicle.specs.Shown.{route_row, way_of};
 
-use crate::row::{Row, row_text};
+use crate::row::{Row, add_row};
 use nd_addr::Role;
-use nd_routes::{KeptRoute, Route, Routes};
+use nd_routes::{KeptRoute, KeptRoutes, Route};
 use std::alloc::{AllocError, Allocator};
 
 /// Writes where a route leads.
@@ -37,32 +34,34 @@ impl Row for KeptRoute {
     }
 }
 
-/// The rows of the static routes, in the order in which their prefixes came. A host has none. The error is want of memory.
+/// Returns the rows of static routes, in their order. A host has none. The error is out of memory.
 pub fn route_rows<A: Allocator + Clone>(
     alloc: &A,
     role: Role,
-    routes: &Routes<A>,
+    routes: KeptRoutes<'_>,
 ) -> Result<Vec<String<A>, A>, AllocError>
-    ensures value { IfOk result (λ rows. map string_bytes rows.items ≡ shown.route_rows role routes.now.entries) }
-    ensures rows { IfOk result (λ rows. (start : Start) (c : Chronicle) (now : ℕ) → role ≡ start.role → Stands routes.now (route_history c) → AreRows start c now RouteTable (map string_bytes rows.items)) }
+    ensures { IfOk result (λ rows. map string_bytes rows.items ≡ shown.route_rows role (routes_left routes.entry)) }
 {
+    let mut rows = Vec::new(alloc.clone()?);
     match role {
-        Role::Host => Ok(Vec::new(alloc.clone()?)),
-        Role::Router => router_rows(alloc, routes),
+        Role::Host => Ok(rows),
+        Role::Router => {
+            add_routes(&mut rows, alloc, routes)?;
+            Ok(rows)
+        }
     }
 }
 
-/// Those of a router.
-fn router_rows<A: Allocator + Clone>(
+/// Appends the rows of routes. The error is out of memory.
+fn add_routes<A: Allocator + Clone>(
+    rows: &mut Vec<String<A>, A>,
     alloc: &A,
-    routes: &Routes<A>,
-) -> Result<Vec<String<A>, A>, AllocError>
-    ensures { IfOk result (λ rows. map string_bytes rows.items ≡ map route_row routes.now.entries) }
+    routes: KeptRoutes<'_>,
+) -> Result<(), AllocError>
+    ensures { OnOk result (map string_bytes rows.new.items ≡ map string_bytes rows.old.items ++ map route_row (routes_left routes.entry)) }
 {
-    let mut rows = Vec::new(alloc.clone()?);
-    for route in routes.rows() {
-        let text = row_text(alloc.clone()?, &route)?;
-        rows.push(text)?;
+    for route in routes {
+        add_row(rows, alloc, &route)?;
     }
-    Ok(rows)
+    Ok(())
 }

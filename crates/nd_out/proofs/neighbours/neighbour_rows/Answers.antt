@@ -1,19 +1,17 @@
-use Rattle.std.proofs.Common.{map}
-use Rattle.nd_neighbour.specs.Shown.{seen}
+use Rattle.std.proofs.Common.{rules, ◌≡◌, ◌++◌, ◌∷◌, [], ℕ, List, map, sym, ap, ◌∙◌, append_assoc}
+use Rattle.std.specs.Prelude.{string_bytes}
+use Rattle.nd_neighbour.specs.Left.{neighbours_left}
+use Rattle.nd_neighbour.specs.Shown.{Seen}
 use Rattle.nd_neighbour.specs.View.{seen_in}
-use Rattle.nd_chronicle.specs.Histories.{neighbour_history}
 use Rattle.nd_chronicle.specs.Shown.{neighbour_row}
-use Rattle.nd_out.proofs.Rows.{rows_by, rows_shown}
 use Rattle.nd_out.proofs.neighbours.neighbour_rows.Goals as goal
 
-pub returns-clause-value : goal.returns-clause-value
-returns-clause-value g c =
-    rows_by neighbour_row seen_in (seen c.args.now) _ c.deref.result.now c.in_ok-shown.shown.items c.args.cache.now.nodes c.in_ok-rows.ensures c.deref.ensures.value c.in_ok-shown.ensures.value
-
-pub returns-clause-rows : goal.returns-clause-rows
-returns-clause-rows g c =
-    λ start ch s. (
-      map seen_in c.in_ok-shown.shown.items,
-      c.in_ok-shown.ensures.lists (neighbour_history ch) s,
-      rows_shown neighbour_row seen_in _ c.deref.result.now c.in_ok-shown.shown.items c.in_ok-rows.ensures c.deref.ensures.value,
-    )
+pub loop-neighbour-preserved : goal.loop-neighbour-preserved
+loop-neighbour-preserved g c =
+    let rows = map string_bytes c.loop-neighbour.rows.items in
+    let rest = map neighbour_row (neighbours_left c.next.new.self) in
+    let row : List ℕ = neighbour_row (seen_in c.in-Some.neighbour) in
+    let put : map string_bytes c.add_row.new.rows.items ≡ rows ++ row ∷ [] = c.in_ok-add_row.ensures in
+    let more : neighbours_left c.loop-neighbour.neighbour-iterator ≡ seen_in c.in-Some.neighbour ∷ neighbours_left c.next.new.self = c.in-Some.ensures.steps in
+    ap (λ (l : List (List ℕ)). l ++ rest) put ∙ append_assoc rows (row ∷ []) rest
+    ∙ ap (λ (l : List Seen). rows ++ map neighbour_row l) (sym more) ∙ c.loop-neighbour.invariant

@@ -30,7 +30,7 @@ returns-then-now-self-clause-past g c = λ late. on_ok_weaker c.refuse_past.resu
 
 pub returns-in-Receives-clause-refused : goal.returns-in-Receives-clause-refused
 returns-in-Receives-clause-refused g c = rw c.in-Receives.is (λ start c' s le adds place.
-    c.receive.ensures.refused start c' s le (subst (λ (frame : List ℕ). AddsRefusal c.args.now c' (EventAdds start c.args.now (events.Receives frame))) (sym c.deref.ensures.value) adds) place)
+    c.judge_frame.ensures.refused start c' s le (subst (λ (frame : List ℕ). AddsRefusal c.args.now c' (EventAdds start c.args.now (events.Receives frame))) (sym c.deref.ensures.value) adds) place)
 
 pub returns-in-Forgets-clause-refused : goal.returns-in-Forgets-clause-refused
 returns-in-Forgets-clause-refused g c = rw c.in-Forgets.is (λ start c' s le adds place. absurd (forgets_left start c.args.now c' c.in-Forgets.neighbour adds))

@@ -1,0 +1,56 @@
+use Rattle.std.proofs.Common.{◌≡◌, ◌∷◌, ⊎_elim, subst, arith}
+use Rattle.std.proofs.lemmas.Result.{on_ok_weaker}
+use Rattle.nd_addr.specs.Ip6.{packet_parts}
+use Rattle.nd_decode.specs.Message.{parts}
+use Rattle.nd_validity.specs.Hearing.{Outcome, Hears, outcome, other, valid}
+use Rattle.nd_validity.specs.declared.hearing.Hearing.{Hearing}
+use Rattle.nd_chronicle.specs.Happening.{Passed}
+use Rattle.nd_node.proofs.Judging.{dropped_by_frame}
+use Rattle.nd_node.proofs.Memory.{judged_by_frame, nameless, no_other}
+use Rattle.nd_node.proofs.Refusals.{judged_frame}
+use Rattle.nd_node.proofs.node.Node.judge_frame.Goals as goal
+
+pub returns-in-Drop-clause-adds : goal.returns-in-Drop-clause-adds
+returns-in-Drop-clause-adds g c =
+    let h = subst (λ (r : Hearing). Hears c.args.frame.now c.args.self.now.role (outcome r)) c.in-Drop.is c.hear.ensures.heard in
+    on_ok_weaker c.drop_frame.result (λ adds. dropped_by_frame g.R.Rng.stream c.args.self.now c.drop_frame.new.self c.args.outs.now.items c.drop_frame.new.outs.items c.args.now c.args.frame.now c.in-Drop.why h adds) c.drop_frame.ensures.adds
+
+pub returns-in-Valid-clause-adds : goal.returns-in-Valid-clause-adds
+returns-in-Valid-clause-adds g c =
+    let h = subst (λ (r : Hearing). Hears c.args.frame.now c.args.self.now.role (outcome r)) c.in-Valid.is c.hear.ensures.heard in
+    on_ok_weaker c.judge_message.result (λ adds. adds c.args.frame.now h) c.judge_message.ensures.adds
+
+pub returns-in-Drop-clause-quiet : goal.returns-in-Drop-clause-quiet
+returns-in-Drop-clause-quiet g c = λ start c' s le asks.
+    ⊎_elim (λ d. c.drop_frame.ensures.quiet (omega (arith, d.told))) (λ n. c.drop_frame.ensures.quiet (omega (arith, n.adds.told))) asks
+
+pub returns-in-Other-clause-quiet : goal.returns-in-Other-clause-quiet
+returns-in-Other-clause-quiet g c = λ start c' s le asks.
+    let packet = c.in-Other.packet in
+    let only = subst (λ (r : Hearing). (o : Outcome) → Hears c.args.frame.now c.args.self.now.role o → outcome r ≡ o) c.in-Other.is c.hear.ensures.only in
+    ⊎_elim
+    (λ d. c.hear_packet.ensures.quiet d.why start c' s le (judged_by_frame start ((c.args.now, Passed) ∷ c') c.args.now c.args.frame.now c.args.self.now.role (other (packet_parts packet)) d.why s.role only d.heard) (omega (arith, d.told)))
+    (λ n. absurd (no_other c.args.self.now c.args.now c.args.frame.now _ (packet_parts packet) only n))
+    asks
+
+pub returns-in-Valid-clause-quiet : goal.returns-in-Valid-clause-quiet
+returns-in-Valid-clause-quiet g c = λ start c' s le asks.
+    let heard = c.in-Valid.heard in
+    let message = parts heard.message in
+    let only = subst (λ (r : Hearing). (o : Outcome) → Hears c.args.frame.now c.args.self.now.role o → outcome r ≡ o) c.in-Valid.is c.hear.ensures.only in
+    ⊎_elim
+    (λ d. c.judge_message.ensures.dropped d.why start c' s le (judged_by_frame start ((c.args.now, Passed) ∷ c') c.args.now c.args.frame.now c.args.self.now.role (valid heard.source heard.destination message) d.why s.role only d.heard) (omega (arith, d.told)))
+    (λ n. (let such = nameless c.args.self.now c.args.now c.args.frame.now _ heard.source heard.destination message only n in c.judge_message.ensures.quiet such.ra such.body such.adds))
+    asks
+
+pub returns-in-Other-clause-refused : goal.returns-in-Other-clause-refused
+returns-in-Other-clause-refused g c = λ start c' s le adds place.
+    let only = subst (λ (r : Hearing). (o : Outcome) → Hears c.args.frame.now c.args.self.now.role o → outcome r ≡ o) c.in-Other.is c.hear.ensures.only in
+    let j = judged_frame start c' c.args.now c.args.frame.now c.args.self.now.role (other (packet_parts c.in-Other.packet)) s.role only adds in
+    c.hear_packet.ensures.refused j.0 start c' s le j.1 j.2 place
+
+pub returns-in-Valid-clause-refused : goal.returns-in-Valid-clause-refused
+returns-in-Valid-clause-refused g c = λ start c' s le adds place.
+    let only = subst (λ (r : Hearing). (o : Outcome) → Hears c.args.frame.now c.args.self.now.role o → outcome r ≡ o) c.in-Valid.is c.hear.ensures.only in
+    let j = judged_frame start c' c.args.now c.args.frame.now c.args.self.now.role (valid c.in-Valid.heard.source c.in-Valid.heard.destination (parts c.in-Valid.heard.message)) s.role only adds in
+    c.judge_message.ensures.refused c.args.frame.now j.0 start c' s le j.1 j.2 place
