@@ -1,50 +1,52 @@
-//! A frame is heard, a neighbour cache is told of it, and something falls due. The README shows it.
+//! A host on its link: it starts, hears a Router Advertisement, and has an address and a default router then. The README shows it.
 #![tactic(auto)]
 
-use nd_addr::Role;
-use nd_decode::OptionRef;
-use nd_neighbour::{Cache, Due, News, Packet, Times};
-use nd_validity::{Hearing, hear};
+use anyhow::bail;
+use nd_addr::{Mac, Role};
+use nd_node::{Event, Limits, Node};
+use nd_out::write_outs;
+use nd_slaac::Transmits;
+use rand_core::SeedableRng;
+use rand_pcg::Pcg32;
 
-/// A Neighbor Solicitation from fe80::ff:fe00:2, with its link-layer address.
-const SOLICITATION: &str =
-    "02000000009902000000000286dd6000000000203afffe80000000000000000000fffe000002\
-    fe80000000000000000000fffe00009987007beb00000000fe80000000000000000000fffe0000990101020000000002";
+/// The host's link-layer address.
+const MAC: Mac = Mac([0x34, 0x56, 0x78, 0x9a, 0xbc, 0xde]);
 
-/// A packet for that sender, without a payload.
-const PACKET: &str = "00000000000002000000009986dd6000000000003b40fe80000000000000000000fffe000099\
-    fe80000000000000000000fffe000002";
+/// A Router Advertisement from fe80::ff:fe00:1 for 2001:db8:1::/64, with a router lifetime of 1800 seconds.
+const ADVERTISEMENT: &str =
+    "33330000000102000000000186dd6000000000383afffe80000000000000000000fffe000001ff0200000000000000000000000000018600f9cd\
+    4000070800000000000000000101020000000001030440c000278d0000093a800000000020010db8000100000000000000000000";
 
 fn main(rt: HostRuntime) -> anyhow::Result<()> {
-    let frame = hex::decode(rt.alloc(), SOLICITATION)?;
-    let times = Times {
-        retrans: 1_000,
-        reachable: 30_000,
+    let random = Pcg32::seed_from_u64(1);
+    let limits = Limits::usual();
+    let Ok(mut host) = Node::new(
+        rt.alloc(),
+        Role::Host,
+        MAC,
+        0,
+        Transmits::ONE,
+        limits,
+        random,
+    ) else {
+        bail!("out of memory");
     };
-    let mut cache = Cache::new(rt.alloc(), 512)?;
-    if let Hearing::Valid(heard) = hear(&frame, Role::Host) {
-        for option in heard.message.options {
-            if let OptionRef::Slla(mac) = option {
-                // At 0 ms the entry is made, STALE; a packet for it is sent at once, and starts the DELAY.
-                let given = News::Given {
-                    addr: heard.source,
-                    mac,
-                    mark: None,
-                };
-                let _ = cache.heard(0, given, times);
-                if let Some(packet) = Packet::new(hex::decode(rt.alloc(), PACKET)?) {
-                    let _ = cache.used(0, heard.source, packet, times);
-                }
-            }
-        }
+    // All that is due up to a moment, in milliseconds, comes before its event: here the detection for the link-local address.
+    let mut outs = Vec::new(rt.alloc());
+    let frame = hex::decode(rt.alloc(), ADVERTISEMENT)?;
+    host.receive(3_000, &frame, &mut outs)?;
+    host.event(6_000, &Event::Passes, &mut outs)?;
+    let mut text = String::new(rt.alloc());
+    write_outs(&mut text, &outs)?;
+    for address in host.addresses(6_000) {
+        address.addr.write_text(&mut text)?;
+        text.push_str(" is an address\n")?;
     }
-    if let Some(now) = cache.next_due()
-        && now < 1 << 62
-        && let Some(Due::Unicast(addr, _)) = cache.turn(now)
-    {
-        let mut text = String::new(rt.alloc());
-        addr.write_text(&mut text)?;
-        println!(rt; "{now} ms: solicit {text}")?;
+    for router in host.default_routers(6_000) {
+        router.addr.write_text(&mut text)?;
+        text.push_str(" is a default router\n")?;
     }
+    let next = host.next_due();
+    print!(rt; "{text}next due at {next}\n")?;
     Ok(())
 }
