@@ -40,7 +40,7 @@ impl<A: Allocator + Copy> Advertiser<A> {
     ghost use Rattle.nd_advertiser.specs.Table.{Stands};
 
     /// An interface that doesn't advertise (RFC 4861, section 6.2.1, AdvSendAdvertisements), and has no prefixes to advertise yet, with
-    /// room for 16. The error is want of memory.
+    /// room for 16. The error is out of memory.
     pub fn new(alloc: A) -> Result<Self, AllocError>
         ensures empty { IfOk result (λ advertiser. advertiser ≡ record { assigned = None; last = None; advertising = None; offers = [] }) }
         ensures stands { IfOk result (λ advertiser. Stands advertiser []) }

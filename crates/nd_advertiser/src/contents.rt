@@ -29,7 +29,7 @@ impl<A: Allocator> Advertiser<A> {
     ghost use Rattle.nd_advertiser.specs.Table.{Stands};
 
     /// What an advertisement says now, if it advertises, from an interface of this Ethernet address (RFC 4861, section 6.2.3). It has
-    /// `MAX_CONTENTS_LENGTH` bytes at most. The error is want of memory.
+    /// `MAX_CONTENTS_LENGTH` bytes at most. The error is out of memory.
     pub fn contents<B: Allocator>(
         &self,
         alloc: B,

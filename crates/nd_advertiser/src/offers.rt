@@ -39,7 +39,7 @@ impl<A: Allocator> Model for Offers<A> {
 }
 
 impl<A: Allocator + Copy> Offers<A> {
-    /// None, with room for 16. The error is want of memory.
+    /// None, with room for 16. The error is out of memory.
     pub(crate) fn new(alloc: A) -> Result<Self, AllocError>
         ensures { IfOk result (λ offers. offers ≡ []) }
     {

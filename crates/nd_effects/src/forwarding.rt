@@ -41,7 +41,7 @@ fn frame_from<A: Allocator>(
 }
 
 /// The frame of a packet in transit as it came, from the node's Ethernet address to one that is still open, as the packet is told of
-/// where it isn't sent on (RFC 2464, section 3). The error is want of memory.
+/// where it isn't sent on (RFC 2464, section 3). The error is out of memory.
 pub fn frame_as_it_came<A: Allocator>(
     alloc: A,
     mac: Mac,
@@ -54,7 +54,7 @@ pub fn frame_as_it_came<A: Allocator>(
 }
 
 /// The frame of a packet in transit as it is sent on, with a hop limit that is lower by one, or 0 where it was 0, from the node's Ethernet
-/// address to one that is still open (RFC 8200, section 3). The error is want of memory.
+/// address to one that is still open (RFC 8200, section 3). The error is out of memory.
 pub fn frame_sent_on<A: Allocator>(
     alloc: A,
     mac: Mac,
@@ -83,7 +83,7 @@ fn known_mac<A: Allocator>(neighbours: &Cache<A>, now: u64, addr: Addr) -> Optio
 
 /// The Redirect that tells who sent a packet of a better first hop for its destination, from the node's Ethernet address and its own
 /// link-local one, with the link-layer address of that hop, if it is known at the moment, in milliseconds (RFC 4861, section 8.2). It
-/// quotes the bytes of the packet, from its IPv6 header on, as they came. The error is want of memory.
+/// quotes the bytes of the packet, from its IPv6 header on, as they came. The error is out of memory.
 pub fn better_hop_frame<A: Allocator + Clone>(
     alloc: &A,
     mac: Mac,
@@ -115,7 +115,7 @@ pub fn better_hop_frame<A: Allocator + Clone>(
 
 /// Makes room for a packet to one neighbour and then one to a second: the solicitation of the link-layer
 /// address of each, a place for what is told of each, and a ring for each, whoever is there, since the first may push the second out. The error
-/// is want of memory, and then no more than room has been made.
+/// is out of memory, and then no more than room has been made.
 pub fn ready_for_two<A: Allocator + Clone>(
     neighbours: &mut Cache<A>,
     outs: &mut Vec<(u64, Out<A>), A>,

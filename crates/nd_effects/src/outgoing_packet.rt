@@ -30,7 +30,7 @@ pub struct OutgoingPacket<A: Allocator> {
 
 impl<A: Allocator> OutgoingPacket<A> {
     /// The frame of the packet, between two Ethernet addresses and with a hop limit (RFC 8200, section 3; RFC 2464, section 3). The error
-    /// is want of memory.
+    /// is out of memory.
     pub fn frame(
         &self,
         alloc: A,
@@ -68,7 +68,7 @@ pub fn is_too_long(payload: &[u8], mtu: u32) -> bool
 }
 
 /// Makes room for a packet to a neighbour at a moment, in milliseconds: the solicitation of its link-layer address, a place for what is
-/// told, and a ring where the neighbour isn't there. The error is want of memory, and then no more than room has been made.
+/// told, and a ring where the neighbour isn't there. The error is out of memory, and then no more than room has been made.
 pub fn ready_for<A: Allocator + Clone>(
     neighbours: &mut Cache<A>,
     now: u64,

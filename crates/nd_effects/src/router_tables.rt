@@ -33,7 +33,7 @@ pub struct RouterTables<A: Allocator> {
 }
 
 impl<A: Allocator + Copy> RouterTables<A> {
-    /// An interface that doesn't advertise, and no routes, with room for as many prefixes and routes as there may be. The error is want
+    /// An interface that doesn't advertise, and no routes, with room for as many prefixes and routes as there may be. The error is out
     /// of memory.
     pub fn new(alloc: A) -> Result<Self, AllocError>
         ensures advertiser { IfOk result (λ tables. tables.advertiser ≡ record { assigned = None; last = None; advertising = None; offers = [] }) }
@@ -68,7 +68,7 @@ impl<A: Allocator + Clone> RouterTables<A> {
     }
 
     /// The last Router Advertisement of an interface with these addresses, with a router lifetime of 0, if it advertises (RFC 4861, section
-    /// 6.2.5). The error is want of memory.
+    /// 6.2.5). The error is out of memory.
     pub fn last_advertisement(
         &self,
         alloc: A,
@@ -82,7 +82,7 @@ impl<A: Allocator + Clone> RouterTables<A> {
     }
 }
 
-/// The frame of a message to all nodes, if there is one. The error is want of memory.
+/// The frame of a message to all nodes, if there is one. The error is out of memory.
 fn framed<A: Allocator>(
     alloc: A,
     mac: Mac,

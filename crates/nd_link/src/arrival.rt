@@ -55,7 +55,7 @@ impl<W, R: Rng + Drop, A: Allocator + Copy> Link<W, R, A> {
         tell_refused(told, now, why)
     }
 
-    /// An event comes to a node that is there. The error is want of memory, and then nothing is told.
+    /// An event comes to a node that is there. The error is out of memory, and then nothing is told.
     pub(crate) fn arrive(
         &mut self,
         now: u64,

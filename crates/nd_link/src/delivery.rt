@@ -23,7 +23,7 @@ use rand_core::Rng;
 use std::alloc::{AllocError, Allocator};
 
 impl<W, R: Rng + Drop, A: Allocator + Copy> Link<W, R, A> {
-    /// An event comes to a node, if that is there. The error is want of memory, and then nothing is told.
+    /// An event comes to a node, if that is there. The error is out of memory, and then nothing is told.
     pub(crate) fn come(
         &mut self,
         now: u64,

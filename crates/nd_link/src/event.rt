@@ -134,7 +134,7 @@ impl<W: Wire, R: Rng + Drop, A: Allocator + Copy> Link<W, R, A> {
         Ok(())
     }
 
-    /// The same, but that the link isn't spent by want of memory.
+    /// The same, but that the link isn't closed by running out of memory.
     fn answer(
         &mut self,
         now: u64,

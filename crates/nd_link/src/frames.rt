@@ -7,7 +7,7 @@ use crate::sent_frame::SentFrame;
 use nd_out::Out;
 use std::alloc::{AllocError, Allocator};
 
-/// The frames among what a node tells are kept, each at the place of its number. The error is want of memory.
+/// The frames among what a node tells are kept, each at the place of its number. The error is out of memory.
 pub(crate) fn keep_frames<A: Allocator + Copy>(
     frames: &mut Vec<SentFrame<A>, A>,
     alloc: A,

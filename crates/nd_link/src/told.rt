@@ -19,7 +19,7 @@ pub enum Told<A: Allocator> {
     Refused(u64, Refusal),
 }
 
-/// What happened at a node goes to the end, if anything did. The error is want of memory, and then nothing is told.
+/// What happened at a node goes to the end, if anything did. The error is out of memory, and then nothing is told.
 pub(crate) fn tell<A: Allocator>(
     told: &mut Vec<Told<A>, A>,
     node: usize,
@@ -35,7 +35,7 @@ pub(crate) fn tell<A: Allocator>(
     Ok(())
 }
 
-/// A refusal goes to the end. The error is want of memory, and then nothing is told.
+/// A refusal goes to the end. The error is out of memory, and then nothing is told.
 pub(crate) fn tell_refused<A: Allocator>(
     told: &mut Vec<Told<A>, A>,
     at: u64,

@@ -10,7 +10,7 @@ use rand_core::Rng;
 use std::alloc::{AllocError, Allocator};
 
 impl<W, R: Rng + Drop, A: Allocator + Copy> Link<W, R, A> {
-    /// Does all that is due up to a moment, at one node after the other, and tells it. The error is want of memory.
+    /// Does all that is due up to a moment, at one node after the other, and tells it. The error is out of memory.
     pub(crate) fn settle(&mut self, now: u64, told: &mut Vec<Told<A>, A>) -> Result<(), AllocError>
         requires moment { now < 2 ^ 62 }
         requires in_time { self.old.last ≤ now }
@@ -34,7 +34,7 @@ impl<W, R: Rng + Drop, A: Allocator + Copy> Link<W, R, A> {
         }
     }
 
-    /// Does what is due first at the node that turns first. The error is want of memory, and then nothing is told.
+    /// Does what is due first at the node that turns first. The error is out of memory, and then nothing is told.
     fn turn(&mut self, place: usize, due: u64, told: &mut Vec<Told<A>, A>) -> Result<(), AllocError>
         requires moment { due < 2 ^ 62 }
         requires first { IsFirst R.stream self.old.nodes.items place due }

@@ -42,7 +42,7 @@ fn read_link_word(word: &[u8]) -> Option<LinkCommand>
     None
 }
 
-/// The event that the words behind a command spell. No other words spell any, and such words take no memory. The error is want of memory.
+/// The event that the words behind a command spell. No other words spell any, and such words take no memory. The error is out of memory.
 fn read_link_arguments<A: Allocator + Clone>(
     alloc: &A,
     command: LinkCommand,
@@ -73,7 +73,7 @@ fn read_link_arguments<A: Allocator + Clone>(
     }
 }
 
-/// The event that the bytes of a command of a link spell. No other bytes spell any, and such bytes take no memory. The error is want of
+/// The event that the bytes of a command of a link spell. No other bytes spell any, and such bytes take no memory. The error is out of
 /// memory.
 pub(crate) fn read_link_command<A: Allocator + Clone>(
     alloc: &A,

@@ -22,7 +22,7 @@ pub struct LinkLine<A: Allocator> {
 }
 
 /// The line that some bytes spell: a moment in milliseconds, one space, and a command of the link. The bytes are those before the line
-/// feed. Any other line is malformed: it spells none, and takes no memory. The error is want of memory.
+/// feed. Any other line is malformed: it spells none, and takes no memory. The error is out of memory.
 pub fn read_line<A: Allocator + Clone>(
     alloc: &A,
     line: &[u8],

@@ -23,7 +23,7 @@ fn is_rx(command: &[u8]) -> bool
     }
 }
 
-/// The event that the bytes of a command other than `rx` spell. No other bytes spell any, and such bytes take no memory. The error is want
+/// The event that the bytes of a command other than `rx` spell. No other bytes spell any, and such bytes take no memory. The error is out
 /// of memory.
 fn read_own_command<A: Allocator + Clone>(
     alloc: &A,
@@ -40,7 +40,7 @@ fn read_own_command<A: Allocator + Clone>(
 }
 
 /// The number of a node, below 2^64, and the event at it that some words spell. No other words spell any, and such words take no memory.
-/// The error is want of memory.
+/// The error is out of memory.
 pub(crate) fn read_node_command<A: Allocator + Clone>(
     alloc: &A,
     words: &[u8],

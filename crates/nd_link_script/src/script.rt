@@ -38,7 +38,7 @@ impl<W: Wire, A: Allocator + Copy> LinkScript<W, A> {
         }
     }
 
-    /// The line that some bytes spell. A malformed one takes no memory. The error is want of memory.
+    /// The line that some bytes spell. A malformed one takes no memory. The error is out of memory.
     fn read(&self, line: &[u8]) -> Result<Option<LinkLine<A>>, AllocError>
         ensures found { IfOk result (λ spelled. IfSome spelled (λ read. IsLinkLine line.now read.at (link_event stream_of_source read.event))) }
         ensures malformed { IfOk result (λ spelled. IfNone spelled ((at : ℕ) (event : events.Event) → IsLinkLine line.now at event → ⊥)) }

@@ -72,7 +72,7 @@ fn write_one<A: Allocator, B: Allocator>(
 }
 
 /// Writes the text of what a link tells at the end: the lines of each node begin with its number, and those of the link with `link`. The
-/// error is want of memory.
+/// error is out of memory.
 pub fn write_told<A: Allocator, B: Allocator>(
     text: &mut String<A>,
     told: &[Told<B>],

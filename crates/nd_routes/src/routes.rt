@@ -47,7 +47,7 @@ impl<A: Allocator> Model for Routes<A> {
 }
 
 impl<A: Allocator + Copy> Routes<A> {
-    /// No routes, with room for 64. The error is want of memory.
+    /// No routes, with room for 64. The error is out of memory.
     pub fn new(alloc: A) -> Result<Self, AllocError>
         ensures empty { IfOk result (λ r. r ≡ record { entries = []; redirected = None }) }
         ensures stands { IfOk result (λ r. Stands r []) }

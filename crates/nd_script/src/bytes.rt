@@ -23,7 +23,7 @@ fn are_digits(word: &[u8]) -> bool
 }
 
 /// The bytes that a word spells: `-` stands for none, and else each byte is two hexadecimal digits, in either case. No other word spells
-/// bytes, and such a word takes no memory. The error is want of memory.
+/// bytes, and such a word takes no memory. The error is out of memory.
 pub(crate) fn read_bytes<A: Allocator + Clone>(
     alloc: &A,
     word: &[u8],

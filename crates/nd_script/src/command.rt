@@ -82,7 +82,7 @@ fn read_command_word(word: &[u8]) -> Option<Command>
     None
 }
 
-/// The event that the words behind a command spell. No other words spell any, and such words take no memory. The error is want of memory.
+/// The event that the words behind a command spell. No other words spell any, and such words take no memory. The error is out of memory.
 fn read_arguments<A: Allocator + Clone>(
     alloc: &A,
     command: Command,
@@ -146,7 +146,7 @@ fn read_whole_command<A: Allocator>(word: &[u8]) -> Option<Event<A>>
     None
 }
 
-/// The event that the bytes of a command spell. No other bytes spell any, and such bytes take no memory. The error is want of memory.
+/// The event that the bytes of a command spell. No other bytes spell any, and such bytes take no memory. The error is out of memory.
 pub fn read_command<A: Allocator + Clone>(
     alloc: &A,
     bytes: &[u8],

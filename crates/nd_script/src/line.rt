@@ -40,7 +40,7 @@ pub fn split_moment(line: &[u8]) -> Option<(u64, &[u8])>
 }
 
 /// The line that some bytes spell: a moment as `split_moment` reads it, and a command. The bytes are those before the line feed. Any other
-/// line is malformed: it spells none, and takes no memory. The error is want of memory.
+/// line is malformed: it spells none, and takes no memory. The error is out of memory.
 pub fn read_line<A: Allocator + Clone>(
     alloc: &A,
     line: &[u8],

@@ -50,7 +50,7 @@ fn split_header(text: &[u8]) -> Option<(Header, &[u8])>
 }
 
 /// The packet that some words spell: its source, its destination, its next header in decimal digits, and its payload as `read_bytes` reads
-/// it. No other words spell one, and such words take no memory. The error is want of memory.
+/// it. No other words spell one, and such words take no memory. The error is out of memory.
 pub(crate) fn read_packet<A: Allocator + Clone>(
     alloc: &A,
     words: &[u8],

@@ -34,7 +34,7 @@ impl<R: Rng + Drop, A: Allocator + Clone> Script<R, A> {
         }
     }
 
-    /// The line that some bytes spell, with its frame in the node's memory. A malformed one takes none. The error is want of memory.
+    /// The line that some bytes spell, with its frame in the node's memory. A malformed one takes none. The error is out of memory.
     fn read(&self, line: &[u8]) -> Result<Option<Line<A>>, AllocError>
         ensures found { IfOk result (λ spelled. IfSome spelled (λ read. IsLine line.now read.at (event_of read.event))) }
         ensures malformed { IfOk result (λ spelled. IfNone spelled ((at : ℕ) (event : events.Event) → IsLine line.now at event → ⊥)) }
@@ -43,7 +43,7 @@ impl<R: Rng + Drop, A: Allocator + Clone> Script<R, A> {
         read_line(self.outs.allocator(), line)
     }
 
-    /// An event comes, and its text goes to the end. The error is want of memory.
+    /// An event comes, and its text goes to the end. The error is out of memory.
     fn event<B: Allocator>(
         &mut self,
         at: u64,
