@@ -26,7 +26,7 @@ fn run(rt: &impl Abort, heap: &LocalHeap) -> Option<Call> {
     // A conflict takes no memory.
     assert!(rt; addresses.conflict(addr));
     assert!(rt; addresses.state(0, addr) == Some(State::Duplicate));
-    assert!(rt; addresses.rows(0).count() == 1);
+    assert!(rt; addresses.rows(0).next().is_some());
     None
 }
 

@@ -199,13 +199,13 @@ fn take_without_memory<'h>(
     assert!(rt; come(node, 3000, &Event::Clears(Clearable::Dns), outs).is_ok());
     assert!(rt; come(node, 2999, &Event::Passes, outs).is_ok());
     // What a node knows is asked without memory.
-    assert!(rt; node.neighbours(3000).count() == 1);
-    assert!(rt; node.default_routers(3000).count() == 1);
-    assert!(rt; node.addresses(3000).count() == 1);
-    assert!(rt; node.prefixes(3000).count() == 0);
-    assert!(rt; node.servers(3000).count() == 0);
-    assert!(rt; node.search_names(3000).count() == 0);
-    assert!(rt; node.redirects().count() == 0);
+    assert!(rt; node.neighbours(3000).next().is_some());
+    assert!(rt; node.default_routers(3000).next().is_some());
+    assert!(rt; node.addresses(3000).next().is_some());
+    assert!(rt; node.prefixes(3000).next().is_none());
+    assert!(rt; node.servers(3000).next().is_none());
+    assert!(rt; node.search_names(3000).next().is_none());
+    assert!(rt; node.redirects().next().is_none());
     assert!(rt; node.neighbour(3000, ROUTER).is_some());
     assert!(rt; !blocks.is_empty());
 }

@@ -301,7 +301,7 @@ fn some_options_say_nothing_of_an_address(rt: HostRuntime) {
             Ok(Taken::Ignored)
         );
     }
-    assert!(rt; addresses.rows(1200).count() == 1);
+    assert!(rt; addresses.len() == 1);
 }
 
 /// The 64 addresses are shown in the order of their numbers, the link-local one behind those of 2001:db8::/32.

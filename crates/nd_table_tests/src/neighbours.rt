@@ -192,7 +192,7 @@ fn the_513th_neighbour_pushes_out_the_one_stale_for_longest(rt: HostRuntime) {
     assert!(rt; cache.entry(1000, addr(0)) == None);
     assert!(rt; state(&cache, 1000, addr(1)) == Some(Reachability::Stale));
     assert!(rt; state(&cache, 1000, addr(512)) == Some(Reachability::Stale));
-    assert!(rt; cache.rows(1000).count() == 512);
+    assert!(rt; cache.len() == 512);
 }
 
 #[test]
@@ -206,7 +206,7 @@ fn the_513th_neighbour_is_full_where_none_is_stale(rt: HostRuntime) {
     let sent = cache.used(1000, addr(512), packet(&rt, 9), TIMES);
     assert!(rt; refusal(sent) == Some((CacheRefusal::Full, 9)));
     assert!(rt; state(&cache, 1000, addr(0)) == Some(Reachability::Reachable));
-    assert!(rt; cache.rows(1000).count() == 512);
+    assert!(rt; cache.len() == 512);
     assert!(rt; cache.entry(1000, addr(512)) == None);
 }
 
@@ -246,7 +246,7 @@ fn what_is_forgotten_hands_out_what_waited(rt: HostRuntime) {
     assert!(rt; first_byte(&mut packets) == 3);
     assert!(rt; cache.forget(addr(9)).is_empty());
     assert!(rt; cache.clear().expect(&rt, "memory").len() == 2);
-    assert!(rt; cache.rows(0).count() == 0);
+    assert!(rt; cache.rows(0).next().is_none());
 }
 
 #[test]
@@ -532,7 +532,7 @@ fn five_hundred_and_eleven_in_use_leave_room_for_one(rt: HostRuntime) {
     assert!(rt; !cache.room(1512, addr(600), Some(addr(601))));
     assert!(rt; cache.room(1512, addr(600), Some(addr(3))));
     assert!(rt; cache.room(1512, addr(3), Some(addr(600))));
-    assert!(rt; cache.rows(1512).count() == 511);
+    assert!(rt; cache.len() == 511);
 }
 
 /// A packet whose last two bytes are this number.

@@ -374,8 +374,8 @@ fn standing(rt: &impl Abort, prefixes: &Prefixes<Global>, now: u64, wanted: &[(u
     for entry in prefixes.rows(now) {
         match rest {
             [(n, end), more @ ..] => {
-                assert!(rt; Some(entry.key) == prefix(*n));
-                assert!(rt; entry.end == Some(*end));
+                assert!(rt; Some(*entry.key) == prefix(*n));
+                assert!(rt; entry.left == Some(end.saturating_sub(now)));
                 rest = more;
             }
             [] => assert!(rt; false),
@@ -476,8 +476,8 @@ fn has_room_for_sixty_four(rt: HostRuntime) {
     }
     let mut n = 0u8;
     for entry in prefixes.rows(1_000) {
-        assert!(rt; Some(entry.key) == prefix(n));
-        assert!(rt; entry.end == Some(201_000));
+        assert!(rt; Some(*entry.key) == prefix(n));
+        assert!(rt; entry.left == Some(200_000));
         n = n.saturating_add(1);
     }
     assert!(rt; n == 64);
@@ -501,7 +501,7 @@ fn has_room_for_sixty_four(rt: HostRuntime) {
     assert!(rt; count_at(&prefixes, 2_000) == 64);
     let mut last = None;
     for entry in prefixes.rows(2_000) {
-        last = Some(entry.key);
+        last = Some(*entry.key);
     }
     assert!(rt; last == prefix(64));
     // Those that have ended don't count.
