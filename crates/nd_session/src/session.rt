@@ -1,0 +1,126 @@
+//! A session: its start, its events, and its queue.
+
+ghost use Rattle.std.specs.Prelude.{◌≡◌, ◌^◌, ◌<◌, ◌∷◌, [], ℕ, List, IfOk, OnOk, OnErr, Option, None, Some, drop, option_copied, slice_get};
+ghost use Rattle.nd_chronicle.specs.Event as events;
+ghost use Rattle.nd_chronicle.specs.History.{beginning};
+ghost use Rattle.nd_node.specs.Event.{event_of, FollowsBy};
+ghost use Rattle.nd_node.specs.Node.{Stands, starting, next_of};
+ghost use Rattle.nd_node.specs.Time.{Leads, Onward};
+ghost use Rattle.nd_session.specs.Stream.{words_of, words_of_seed};
+
+use nd_addr::{Addr, Mac, Role};
+use nd_node::{Event, Limits, Node, OutgoingPacket};
+use nd_out::Out;
+use nd_slaac::Transmits;
+use rand_core::SeedableRng;
+use rand_pcg::Pcg32;
+use std::alloc::{AllocError, Global};
+
+/// A node, and the queue of what it reported and the caller has not taken yet, the oldest report first. Each moment is in milliseconds, from
+/// a beginning that is the caller's.
+#[derive(Drop)]
+pub struct Session {
+    pub(crate) node: Node<Pcg32, Global>,
+    pub(crate) queue: Vec<(u64, Out<Global>), Global>,
+}
+
+impl Session {
+    /// Starts a node at `start`, in milliseconds, whose random words come from `seed`. Its queue is empty. `transmits` is the number of
+    /// solicitations that it sends for each address, and `limits` are the most neighbours and default routers that it keeps. Returns an error if
+    /// out of memory.
+    pub fn start(
+        alloc: Global,
+        role: Role,
+        mac: Mac,
+        start: u64,
+        transmits: Transmits,
+        limits: Limits,
+        seed: u64,
+    ) -> Result<Session, AllocError>
+        requires { start < 2 ^ 62 }
+        ensures stands { IfOk result (λ s. let first = starting start role mac transmits limits (words_of_seed seed) in Stands words_of first s.node (beginning first)) }
+        ensures empty { IfOk result (λ s. s.queue.items ≡ []) }
+    {
+        let generator = Pcg32::seed_from_u64(seed);
+        match Node::new(alloc, role, mac, start, transmits, limits, generator) {
+            Ok(node) => Ok(Session {
+                node,
+                queue: Vec::new(alloc),
+            }),
+            Err(_) => Err(AllocError),
+        }
+    }
+
+    /// Returns the moment at which something is due next, in milliseconds.
+    pub fn next_due(&self) -> u64
+        ensures { result ≡ next_of self.now.node }
+    {
+        self.node.next_due()
+    }
+
+    /// Does all that is due up to `now`, in milliseconds, its own millisecond included, and then what the event asks for. The queue gains what
+    /// the node sends and reports.
+    ///
+    /// The error is out of memory: then a part of what is due may have been done and reported, and the event has added nothing.
+    pub fn event(&mut self, now: u64, event: &Event<Global>) -> Result<(), AllocError>
+        requires { now < 2 ^ 62 }
+        ensures follows { OnOk result (Leads words_of self.old.node self.new.node self.old.queue.items self.new.queue.items (FollowsBy now (event_of event.now))) }
+        ensures onward { OnErr result (Leads words_of self.old.node self.new.node self.old.queue.items self.new.queue.items (Onward now)) }
+    {
+        self.node.event(now, event, &mut self.queue)
+    }
+
+    /// Receives a frame, from its Ethernet destination on (RFC 2464, section 3), at `now`, in milliseconds. The frame stays the caller's and is
+    /// not copied. Fails as `event` does.
+    pub fn receive(&mut self, now: u64, frame: &[u8]) -> Result<(), AllocError>
+        requires { now < 2 ^ 62 }
+        ensures follows { OnOk result (Leads words_of self.old.node self.new.node self.old.queue.items self.new.queue.items (FollowsBy now (events.Receives frame.now))) }
+        ensures onward { OnErr result (Leads words_of self.old.node self.new.node self.old.queue.items self.new.queue.items (Onward now)) }
+    {
+        self.node.receive(now, frame, &mut self.queue)
+    }
+
+    /// Sends a packet of the upper layer at `now`, in milliseconds (RFC 4861, section 5.2), with a copy of `payload`. Fails as `event` does.
+    pub fn send(
+        &mut self,
+        alloc: Global,
+        now: u64,
+        source: Addr,
+        destination: Addr,
+        next_header: u8,
+        payload: &[u8],
+    ) -> Result<(), AllocError>
+        requires { now < 2 ^ 62 }
+        ensures follows { OnOk result (Leads words_of self.old.node self.new.node self.old.queue.items self.new.queue.items (FollowsBy now (events.Sends source destination next_header payload.now))) }
+        ensures onward { OnErr result (Leads words_of self.old.node self.new.node self.old.queue.items self.new.queue.items (Onward now)) }
+    {
+        let mut bytes = Vec::with_capacity(alloc, payload.len())?;
+        bytes.extend_from_slice(payload)?;
+        let packet = OutgoingPacket {
+            source,
+            destination,
+            next_header,
+            payload: bytes,
+        };
+        self.event(now, &Event::Sends(packet))
+    }
+
+    /// Returns the oldest report that the caller has not taken yet, with its moment in milliseconds.
+    pub fn oldest(&self) -> Option<&(u64, Out<Global>)>
+        ensures { option_copied result ≡ slice_get self.now.queue.items 0 }
+    {
+        self.queue.first()
+    }
+
+    /// Removes the oldest report from the queue and returns it, with its moment in milliseconds.
+    pub fn take(&mut self) -> Option<(u64, Out<Global>)>
+        ensures taken { result ≡ slice_get self.old.queue.items 0 }
+        ensures rest { self.new.queue.items ≡ drop 1 self.old.queue.items }
+        ensures node { self.new.node ≡ self.old.node }
+    {
+        if self.queue.is_empty() {
+            return None;
+        }
+        Some(self.queue.remove(0))
+    }
+}
