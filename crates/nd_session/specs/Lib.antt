@@ -1,1 +1,3 @@
 pub mod Stream
+pub mod Held
+pub mod Boxed

@@ -1,0 +1,3 @@
+pub mod SessionBox
+pub mod LettingGo
+pub mod Present
