@@ -210,6 +210,10 @@ belongs_alone k [] one = absurd (omega arith)
 belongs_alone k (b ∷ []) one = tt
 belongs_alone k (b ∷ c ∷ bs) one = absurd (omega arith)
 
+-- the last block is the one, if it is the only one or its first date isn't greater
+pub belongs_last : (k n : ℕ) (bs : List (List Date)) → Kept bs → Rises rank (all_of bs) → suc n ≡ length bs → (0 < n → first_rank (get_or bs n []) ≤ k) → BelongsAt k bs n
+belongs_last k n bs kept r last low = belongs_at k n bs kept r (omega arith) low (λ within. absurd (omega arith))
+
 -- the block whose first date is found
 pub belongs_found : (k n : ℕ) (bs : List (List Date)) → Kept bs → Rises rank (all_of bs) → n < length bs → at_key first_rank k bs ≡ slice_get bs n → BelongsAt k bs n
 belongs_found k n bs kept r lt found =

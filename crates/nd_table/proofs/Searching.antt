@@ -7,7 +7,7 @@ use Rattle.std.proofs.lemmas.Option.{slice_get-get_or}
 use Rattle.std.proofs.lemmas.Bool.Decides.{nat_tests}
 use Rattle.std.proofs.lemmas.Bool.{cases_Bool, eqb-true, eq-eqb, true≢false}
 use Rattle.nd_table.specs.Keyed.{at_key, AllAbove, Rises, place_of, binary_digits}
-use Rattle.nd_table.proofs.Keyed.{above_at, none_above, at_place}
+use Rattle.nd_table.proofs.Keyed.{above_at, none_above, at_place, place_of-le}
 
 -- what an order of two numbers says of them
 module _ (a b : ℕ) where
@@ -88,6 +88,17 @@ module _ {N : Type 0} (key : N → ℕ) (k : ℕ) where
   -- the same of the entry at a place, as a look at it gives it
   pub seen_low : (ns : List N) (i : ℕ) (n : N) → n ≡ get_or ns i n → i < length ns → Rises key ns → key n < k → suc i ≤ place_of key k ns
   seen_low ns i n is lt r low = place_above ns i n r lt (subst (λ (m : N). key m < k) is low)
+
+  -- where the last one is lower all are
+  pub last_low : (ns : List N) (n : N) → Some n ≡ slice_get ns (length ns - 1) → Rises key ns → key n < k → place_of key k ns ≡ length ns
+  last_low [] n is r low = let no : Some n ≡ None = is in absurd (cc)
+  last_low (m ∷ ns) n is r low =
+      let i : ℕ = length ns in
+      let e : length (m ∷ ns) - 1 ≡ i = omega arith in
+      let lt : i < length (m ∷ ns) = omega arith in
+      let f : Some n ≡ Some (get_or (m ∷ ns) i n) = is ∙ (ap (slice_get (m ∷ ns)) e ∙ slice_get-get_or (m ∷ ns) i n lt) in
+      let here : suc i ≤ place_of key k (m ∷ ns) = seen_low (m ∷ ns) i n (cc) lt r low in
+      omega (arith, here, place_of-le key k (m ∷ ns))
 
   pub seen_high : (ns : List N) (i : ℕ) (n : N) → n ≡ get_or ns i n → i < length ns → k ≤ key n → place_of key k ns ≤ i
   seen_high ns i n is lt high = place_until ns i n lt (subst (λ (m : N). k ≤ key m) is high)

@@ -1,7 +1,7 @@
 //! A block of dates: a short run of the dates of a table, in their order.
 
 ghost use Rattle.std.specs.Prelude.{◌≡◌, ◌+◌, ◌<◌, ◌≤◌, ◌^◌, [], ◌++◌, length, None, IfOk};
-ghost use Rattle.nd_table.specs.Keyed.{at_key, Rises};
+ghost use Rattle.nd_table.specs.Keyed.{at_key, Rises, place_of};
 ghost use Rattle.nd_table.specs.Dates.{rank, AllAddresses, without, put_date};
 
 use crate::binary_search::search;
@@ -14,9 +14,6 @@ use std::marker::Model;
 
 /// For how many dates a block has room: our choice.
 pub(crate) const BLOCK: usize = 32;
-
-/// How many dates each half of a full block has.
-const HALF: usize = BLOCK / 2;
 
 /// A run of dates, with room for `BLOCK`.
 #[derive(Drop)]
@@ -67,13 +64,29 @@ impl<A: Allocator> Block<A> {
         requires room { length self.old < BLOCK }
         ensures { self.new ≡ put_date date self.old }
     {
-        let Err(at) = search(&self.dates, &date, &mut Uncounted) else {
-            unreachable!()
-        };
+        let at = self.place(&date);
         match self.dates.insert(at, date) {
             Ok(()) => {}
             Err(_) => unreachable!(),
         }
+    }
+
+    /// Returns the place where a date belongs that isn't there. The last date is looked at before the others are searched.
+    fn place(&self, date: &Date) -> usize
+        requires order { Rises rank self.now }
+        requires absent { at_key rank (rank date.now) self.now ≡ None }
+        ensures place { result ≡ place_of rank (rank date.now) self.now }
+        ensures fits { result ≤ length self.now }
+    {
+        if let Some(last) = self.dates.last()
+            && last.compare(date).is_lt()
+        {
+            return self.dates.len();
+        }
+        let Err(at) = search(&self.dates, date, &mut Uncounted) else {
+            unreachable!()
+        };
+        at
     }
 
     /// Takes out a date, if it is there.
@@ -88,19 +101,20 @@ impl<A: Allocator> Block<A> {
         }
     }
 
-    /// Moves the upper half of a full block into `upper`, which gives up its own dates.
-    pub(crate) fn split_into(&mut self, upper: &mut Self)
-        requires { length self.old ≡ BLOCK }
+    /// Moves the dates of a full block from the place `at` on into `upper`, which gives up its own dates.
+    pub(crate) fn split_into(&mut self, at: usize, upper: &mut Self)
+        requires full { length self.old ≡ BLOCK }
+        requires within { at < BLOCK }
         ensures dates { self.new ++ upper.new ≡ self.old }
-        ensures lower { length self.new ≡ HALF }
-        ensures upper { length upper.new ≡ HALF }
+        ensures lower { length self.new ≡ at }
+        ensures upper { length upper.new + at ≡ BLOCK }
     {
         upper.dates.clear();
-        match upper.dates.extend_from_slice(&self.dates[HALF..]) {
+        match upper.dates.extend_from_slice(&self.dates[at..]) {
             Ok(()) => {}
             Err(_) => unreachable!(),
         }
-        self.dates.truncate(HALF);
+        self.dates.truncate(at);
     }
 
     /// Appends the dates of the block behind this one. There is room for them.

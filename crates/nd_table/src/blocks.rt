@@ -10,11 +10,12 @@ use crate::binary_search::search;
 use crate::block::{BLOCK, Block};
 use crate::date::Date;
 use crate::probes::Uncounted;
+use crate::ranked::Ranked;
 use std::alloc::{AllocError, Allocator};
 use std::marker::Model;
 
-/// Blocks of dates: those in use, in the order of their dates, and those to spare. A block that becomes full is split in halves, and
-/// two adjacent ones that wouldn't fill a block are joined.
+/// Blocks of dates: those in use, in the order of their dates, and those to spare. A block that becomes full is split, and two adjacent
+/// ones that wouldn't fill a block are joined.
 #[derive(Drop)]
 pub struct Blocks<A: Allocator> {
     used: Vec<Block<A>, A>,
@@ -69,12 +70,12 @@ impl<A: Allocator> Blocks<A> {
         ensures kept { Kept self.new.blocks }
         ensures number { length self.new.blocks + self.new.spare ≡ length self.old.blocks + self.old.spare }
     {
-        let at = self.find(date);
+        let at = self.find_from_last(date);
         let block = &mut self.used[at];
         block.put(date);
         if block.len() == BLOCK {
             self.split(at);
-            self.settle(at);
+            self.settle_split(at);
         }
     }
 
@@ -109,6 +110,21 @@ impl<A: Allocator> Blocks<A> {
         block.clear();
     }
 
+    /// Returns the place of the block where a date belongs, which `find` returns. The last block is looked at before the others are searched,
+    /// since most dates that come are behind all others.
+    fn find_from_last(&self, date: Date) -> usize
+        requires order { Rises rank (all_of self.now.blocks) }
+        requires kept { Kept self.now.blocks }
+        ensures within { result < length self.now.blocks }
+        ensures here { BelongsAt (rank date) self.now.blocks result }
+    {
+        let last = self.used.len() - 1;
+        if last == 0 || self.used[last].compare(&date).is_le() {
+            return last;
+        }
+        self.find(date)
+    }
+
     /// Returns the place of the block where a date belongs: the last one whose first date doesn't come behind it, or else the first.
     fn find(&self, date: Date) -> usize
         requires order { Rises rank (all_of self.now.blocks) }
@@ -126,7 +142,7 @@ impl<A: Allocator> Blocks<A> {
         }
     }
 
-    /// Splits a full block in halves.
+    /// Splits a full block in halves. The last block gives up its last date alone, so that dates that come in their order fill the blocks.
     fn split(&mut self, at: usize)
         requires within { at < length self.old.blocks }
         requires full { length (slice_index_or self.old.blocks at []) ≡ BLOCK }
@@ -143,16 +159,21 @@ impl<A: Allocator> Blocks<A> {
         let Some(mut upper) = self.spare.pop() else {
             unreachable!()
         };
+        let lower = if at + 1 == self.used.len() {
+            BLOCK - 1
+        } else {
+            BLOCK / 2
+        };
         let block = &mut self.used[at];
-        block.split_into(&mut upper);
+        block.split_into(lower, &mut upper);
         match self.used.insert(at + 1, upper) {
             Ok(()) => {}
             Err(_) => unreachable!(),
         }
     }
 
-    /// Joins the adjacent blocks that a change at a place has left too short: the block there, the one before it, and the two behind it.
-    fn settle(&mut self, at: usize)
+    /// Joins the adjacent blocks that a split at a place has left too short: the two blocks there, the one before them, and the one behind.
+    fn settle_split(&mut self, at: usize)
         requires within { at < length self.old.blocks }
         requires short { AllShort self.old.blocks }
         requires before { Filled (take at self.old.blocks) }
@@ -164,6 +185,22 @@ impl<A: Allocator> Blocks<A> {
         // A list's length is known to leave room for `at + 2` once it is looked at.
         let _ = &self.used;
         self.join(at + 2);
+        self.join(at + 1);
+        self.join(at);
+    }
+
+    /// Joins the adjacent blocks that a date that went has left too short: the block at a place, the one before it, and the one behind it.
+    fn settle(&mut self, at: usize)
+        requires within { at < length self.old.blocks }
+        requires short { AllShort self.old.blocks }
+        requires before { Filled (take at self.old.blocks) }
+        requires behind { Filled (drop (at + 1) self.old.blocks) }
+        ensures dates { all_of self.new.blocks ≡ all_of self.old.blocks }
+        ensures kept { Kept self.new.blocks }
+        ensures number { length self.new.blocks + self.new.spare ≡ length self.old.blocks + self.old.spare }
+    {
+        // A list's length is known to leave room for `at + 1` once it is looked at.
+        let _ = &self.used;
         self.join(at + 1);
         self.join(at);
     }

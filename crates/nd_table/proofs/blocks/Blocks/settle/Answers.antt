@@ -4,9 +4,9 @@ use Rattle.nd_table.proofs.blocks.Blocks.settle.Goals as goal
 
 pub returns-clause-kept : goal.returns-clause-kept
 returns-clause-kept g c = record {
-  some = c.join-3.ensures.some (c.join-2.ensures.some (c.join.ensures.some (omega arith)));
-  short = c.join-3.ensures.short;
-  filled = filled_around c.args.at _ c.join-3.new.self.blocks (omega arith)
-      (c.join-3.ensures.before c.args.at (omega arith) (c.join-2.ensures.before c.args.at (omega arith) (c.join.ensures.before c.args.at (omega arith) c.requires.before)))
-      c.join-3.ensures.filled;
+  some = c.join-2.ensures.some (c.join.ensures.some (omega arith));
+  short = c.join-2.ensures.short;
+  filled = filled_around c.args.at _ c.join-2.new.self.blocks (omega arith)
+      (c.join-2.ensures.before c.args.at (omega arith) (c.join.ensures.before c.args.at (omega arith) c.requires.before))
+      c.join-2.ensures.filled;
 }

@@ -26,7 +26,7 @@ settle-requires-clause-before g c =
 pub settle-requires-clause-behind : goal.settle-requires-clause-behind
 settle-requires-clause-behind g c =
     let same : c.self.inside.used.items ≡ c.args.self.now.blocks = ap (λ (b : Blocked). b.blocks) c.self.view_is in
-    filled_behind c.find-at.result c.args.self.now.blocks c.self.inside.used.items c.index_mut-block.result.now c.find-at.ensures.within same c.index_mut-block.ensures.value c.take.new.self (c.find-at.result + 2) (omega arith) c.requires.kept.filled
+    filled_behind c.find-at.result c.args.self.now.blocks c.self.inside.used.items c.index_mut-block.result.now c.find-at.ensures.within same c.index_mut-block.ensures.value c.take.new.self (c.find-at.result + 1) (omega arith) c.requires.kept.filled
 
 pub returns-clause-dates : goal.returns-clause-dates
 returns-clause-dates g c =
