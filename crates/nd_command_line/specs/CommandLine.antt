@@ -18,7 +18,7 @@ use Rattle.nd_script.specs.Number.{IsCountWord}
 use Rattle.nd_script.specs.Source.{IsSource}
 use Rattle.nd_script.specs.Transmits.{IsTransmitsWord}
 use Rattle.nd_script.specs.declared.options.RunOptions.{RunOptions}
-use Rattle.nd_script.specs.declared.source.Source.{Source}
+use Rattle.nd_random.specs.declared.source.Source.{Source}
 use Rattle.nd_command_line.specs.declared.asked.Asked.{Asked}
 use Rattle.nd_command_line.specs.declared.asked.Asked.TheVariants as asked
 use Rattle.nd_command_line.specs.declared.asked.Carrier.{Carrier}

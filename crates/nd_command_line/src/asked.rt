@@ -6,7 +6,8 @@ ghost use Rattle.clap.specs.declared.error.kind.ErrorKind.TheVariants.{OutOfMemo
 
 use clap::Error;
 use clap::error::ErrorKind;
-use nd_script::{RunOptions, Source};
+use nd_random::Source;
+use nd_script::RunOptions;
 
 /// What carries the frames of a link.
 #[derive(Clone, Copy, Debug, PartialEq, Eq)]

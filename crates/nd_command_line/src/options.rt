@@ -2,7 +2,7 @@
 
 ghost use Rattle.std.specs.Prelude.{◌≡◌, ℕ, codes, IfErr, IfNone, IfOk, IfSome};
 ghost use Rattle.clap.specs.Words.{first_of, found_of, rows_of};
-ghost use Rattle.nd_script.specs.declared.source.Source.{Source};
+ghost use Rattle.nd_random.specs.declared.source.Source.{Source};
 ghost use Rattle.nd_command_line.specs.CommandLine.{GivesAsked, RefusesGiven, carrier_named, role_named};
 ghost use Rattle.nd_command_line.specs.CommandLine.{GivesCount, GivesDraws, GivesMac, GivesTransmits, MacIsBad};
 
@@ -12,8 +12,9 @@ use clap::ArgMatches;
 use nd_addr::{Mac, Role};
 use nd_neighbour::MAX_NEIGHBOURS;
 use nd_node::Limits;
+use nd_random::Source;
 use nd_routers::MAX_ROUTERS;
-use nd_script::{RunOptions, Source, read_count, read_transmits};
+use nd_script::{RunOptions, read_count, read_source, read_transmits};
 use nd_slaac::Transmits;
 
 /// Returns the role that the value of `--role` names. `clap` accepts no other values.
@@ -47,7 +48,7 @@ fn given_draws(given: &ArgMatches<'_>) -> Option<Source>
     ensures none { IfNone result ((source : Source) → GivesDraws (rows_of (found_of given.now)) source → ⊥) }
 {
     let word = given.get_str("draws")?;
-    Source::parse(word.as_bytes())
+    read_source(word.as_bytes())
 }
 
 /// Returns the number of solicitations that the value of `--transmits` says.

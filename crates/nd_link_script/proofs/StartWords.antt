@@ -7,9 +7,10 @@ use Rattle.nd_addr.specs.declared.role.Role.{Role}
 use Rattle.nd_addr.specs.declared.role.Role.TheVariants.{Host, Router}
 use Rattle.nd_addr.specs.Spelling.{SpellsMac}
 use Rattle.nd_addr.proofs.MacTexts.{mac_one}
-use Rattle.nd_script.specs.declared.source.Source.{Source}
-use Rattle.nd_script.specs.declared.source.Source.TheVariants.{Seeded, Constant}
-use Rattle.nd_script.specs.Source.{IsSource, seeded}
+use Rattle.nd_random.specs.declared.source.Source.{Source}
+use Rattle.nd_random.specs.declared.source.Source.TheVariants.{Seeded, Constant}
+use Rattle.nd_random.specs.Source.{seeded}
+use Rattle.nd_script.specs.Source.{IsSource}
 use Rattle.nd_script.proofs.Partings.{parts_at}
 use Rattle.nd_link_script.specs.Role.{role_word}
 use Rattle.nd_script.specs.Words.{words_of}

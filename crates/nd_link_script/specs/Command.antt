@@ -3,8 +3,8 @@ use Rattle.std.specs.Prelude.{◌≡◌, ℕ, List, codes}
 use Rattle.nd_addr.specs.declared.mac.Mac.{Mac}
 use Rattle.nd_addr.specs.declared.role.Role.{Role}
 use Rattle.nd_chronicle.specs.Event as nodes
-use Rattle.nd_script.specs.declared.source.Source.{Source}
-use Rattle.nd_script.specs.Source.{stream_of_source}
+use Rattle.nd_random.specs.declared.source.Source.{Source}
+use Rattle.nd_random.specs.Source.{stream_of_source}
 use Rattle.nd_script.specs.Words.{Parts}
 use Rattle.nd_link_log.specs.Event.{Event, Starts, Comes, Delivers}
 use Rattle.nd_link_script.specs.declared.command.LinkCommand.{LinkCommand}

@@ -3,7 +3,7 @@ use Rattle.std.specs.Prelude.{◌≡◌, ℕ, List, [], ◌∷◌}
 use Rattle.nd_addr.specs.declared.mac.Mac.{Mac}
 use Rattle.nd_addr.specs.declared.role.Role.{Role}
 use Rattle.nd_addr.specs.Spelling.{SpellsMac}
-use Rattle.nd_script.specs.declared.source.Source.{Source}
+use Rattle.nd_random.specs.declared.source.Source.{Source}
 use Rattle.nd_script.specs.Source.{IsSource}
 use Rattle.nd_script.specs.Transmits.{IsTransmitsWord}
 use Rattle.nd_script.specs.Words.{Parts, words_of}

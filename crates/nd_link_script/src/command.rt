@@ -2,7 +2,7 @@
 
 ghost use Rattle.std.specs.Prelude.{◌≡◌, Some, None, Ok, IfSome, IfOk};
 ghost use Rattle.std.specs.Option.{option_map};
-ghost use Rattle.nd_script.specs.Source.{stream_of_source};
+ghost use Rattle.nd_random.specs.Source.{stream_of_source};
 ghost use Rattle.nd_link_log.specs.Event.{Event};
 ghost use Rattle.nd_link_script.specs.Command.{AreLinkArguments, IsLinkCommand, link_word};
 ghost use Rattle.nd_link.specs.Event.{link_event};
@@ -11,7 +11,8 @@ use crate::delivery::read_delivery;
 use crate::node_command::read_node_command;
 use crate::start::read_start;
 use nd_link::LinkEvent;
-use nd_script::{Source, split_word};
+use nd_random::Source;
+use nd_script::split_word;
 use std::alloc::{AllocError, Allocator};
 
 /// The commands of a link, each by its word.

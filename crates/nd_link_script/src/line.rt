@@ -2,14 +2,15 @@
 
 ghost use Rattle.std.specs.Prelude.{◌≡◌, ℕ, None, Ok, IfSome, IfOk};
 ghost use Rattle.std.specs.Option.{IsSomeAnd};
-ghost use Rattle.nd_script.specs.Source.{stream_of_source};
+ghost use Rattle.nd_random.specs.Source.{stream_of_source};
 ghost use Rattle.nd_link_log.specs.Event.{Event};
 ghost use Rattle.nd_link.specs.Event.{link_event};
 ghost use Rattle.nd_link_script.specs.Line.{IsLinkLine};
 
 use crate::command::read_link_command;
 use nd_link::LinkEvent;
-use nd_script::{Source, split_moment};
+use nd_random::Source;
+use nd_script::split_moment;
 use std::alloc::{AllocError, Allocator};
 
 /// A line of a link.

@@ -4,7 +4,7 @@ ghost use Rattle.std.specs.Prelude.{◌≡◌, ◌≢◌, ◌⊎◌, ℕ, List, 
 ghost use Rattle.nd_io.specs.Counts.{HasRisen, HasGrownBy, most_reads, one_more};
 ghost use Rattle.nd_io.specs.Told.{TellsAll, TellsFront, TellsBeginning, TellsAsRead, TellsToMemory, TellsUntil};
 ghost use Rattle.nd_script.specs.Said.{SaysNothing};
-ghost use Rattle.nd_script.specs.Source.{stream_of_source};
+ghost use Rattle.nd_random.specs.Source.{stream_of_source};
 ghost use Rattle.nd_wire.specs.Wire.{IsFaithful};
 ghost use Rattle.nd_link_log.specs.Log.{Log};
 ghost use Rattle.nd_link_log.specs.Event.{Event};

@@ -3,7 +3,7 @@
 ghost use Rattle.std.specs.Prelude.{◌≡◌, ◌≢◌, ◌++◌, [], None, Ok, Err, OnOk, OnErr, IsErrOf, IfOk, IfSome, IfNone, ◌^◌, ◌<◌, ℕ, List, string_bytes};
 ghost use Rattle.nd_io.specs.Counts.{one_more};
 ghost use Rattle.nd_script.specs.Said.{SaysNothing};
-ghost use Rattle.nd_script.specs.Source.{stream_of_source};
+ghost use Rattle.nd_random.specs.Source.{stream_of_source};
 ghost use Rattle.nd_link_log.specs.Event as events;
 ghost use Rattle.nd_link.specs.Event.{link_event};
 ghost use Rattle.nd_link.specs.Link.{Stands};
@@ -16,7 +16,7 @@ use crate::line::{LinkLine, read_line};
 use crate::told::write_told;
 use nd_io::answering::{Answering, Unanswered};
 use nd_link::{Link, LinkEvent, LinkFault, Told, Wire};
-use nd_script::Source;
+use nd_random::Source;
 use std::alloc::{AllocError, Allocator};
 
 /// A link whose nodes draw from sources that lines name, and room for what it tells of one line.

@@ -8,7 +8,8 @@ ghost use Rattle.nd_link_script.specs.Start.{IsStart, SpellEnd};
 
 use crate::role::split_role;
 use nd_addr::{Mac, Role};
-use nd_script::{Source, read_transmits, split_word, two_words};
+use nd_random::Source;
+use nd_script::{read_source, read_transmits, split_word, two_words};
 use nd_slaac::Transmits;
 
 /// The node that a `node` line starts. It has the usual limits.
@@ -52,12 +53,12 @@ fn read_end(text: &[u8]) -> Option<(Transmits, Source)>
 {
     match split_word(text) {
         None => {
-            let source = Source::parse(text)?;
+            let source = read_source(text)?;
             Some((Transmits::ONE, source))
         }
         Some(_) => {
             let (word, number) = two_words(text)?;
-            let source = Source::parse(word)?;
+            let source = read_source(word)?;
             let transmits = read_transmits(number)?;
             Some((transmits, source))
         }

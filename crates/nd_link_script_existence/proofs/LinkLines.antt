@@ -8,7 +8,7 @@ use Rattle.nd_node.specs.Limits.{usual_limits}
 use Rattle.nd_existence.proofs.Deciding.{Decided, same_or}
 use Rattle.nd_script.specs.Number.{IsNumberWord}
 use Rattle.nd_script.specs.Said.{Says, SaysNothing, stops, says, Say}
-use Rattle.nd_script.specs.Source.{stream_of_source}
+use Rattle.nd_random.specs.Source.{stream_of_source}
 use Rattle.nd_script.proofs.CommandWords.{one_command}
 use Rattle.nd_script_existence.proofs.Words.{parted_or, number_or, most_or}
 use Rattle.nd_script_existence.proofs.Arguments.{parts_or}

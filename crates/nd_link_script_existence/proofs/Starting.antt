@@ -10,9 +10,10 @@ use Rattle.nd_addr.specs.declared.role.Role.{Role}
 use Rattle.nd_addr.specs.declared.role.Role.TheVariants.{Host, Router}
 use Rattle.nd_addr.specs.Spelling.{SpellsMac}
 use Rattle.nd_existence.proofs.Deciding.{Decided, both_or, same_or, some_below}
-use Rattle.nd_script.specs.declared.source.Source.{Source}
-use Rattle.nd_script.specs.declared.source.Source.TheVariants.{Seeded, Constant}
-use Rattle.nd_script.specs.Source.{seeded, IsSource}
+use Rattle.nd_random.specs.declared.source.Source.{Source}
+use Rattle.nd_random.specs.declared.source.Source.TheVariants.{Seeded, Constant}
+use Rattle.nd_random.specs.Source.{seeded}
+use Rattle.nd_script.specs.Source.{IsSource}
 use Rattle.nd_script.specs.Transmits.{IsTransmitsWord}
 use Rattle.nd_script.specs.Words.{Parts, words_of}
 use Rattle.nd_script_existence.proofs.Words.{less_or, most_or}

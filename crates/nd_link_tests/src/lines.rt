@@ -2,7 +2,7 @@ use nd_addr::{Addr, Mac, Role};
 use nd_link::LinkEvent;
 use nd_link_script::*;
 use nd_node::{Event, Table};
-use nd_script::Source;
+use nd_random::Source;
 use rand_core::Rng;
 use std::alloc::Global;
 use std::process::Abort;

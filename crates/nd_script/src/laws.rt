@@ -1,15 +1,10 @@
-//! What is true of all lines of a script, and of all sources of words: the contracts of functions that do nothing.
+//! What is true of all lines of a script: the contracts of functions that do nothing.
 
 ghost use Rattle.std.specs.Prelude.{◌≡◌, ℕ, List, Option};
-ghost use Rattle.rand_core.specs.Stream.{next_u32};
-ghost use Rattle.rand_pcg.specs.Lcg.{Lcg};
-ghost use Rattle.rand_pcg.specs.Pcg.{pcg32};
 ghost use Rattle.nd_chronicle.specs.Event.{Event};
 ghost use Rattle.nd_chronicle.specs.Start.{Start};
-ghost use Rattle.nd_script.specs.declared.source.Source.TheVariants.{Seeded, Constant};
 ghost use Rattle.nd_script.specs.Line.{IsLine};
 ghost use Rattle.nd_script.specs.Script.{IsText};
-ghost use Rattle.nd_script.specs.Source.{stream_of_source};
 
 use nd_chronicle::laws::one_chronicle;
 
@@ -27,10 +22,3 @@ pub fn one_text()
     one_reading();
     one_chronicle();
 }
-
-/// The next word of a source is that of its generator, which goes one step on, or the word that is given each time.
-pub fn next_words()
-    ensures seeded { (generator : Lcg) → next_u32 (stream_of_source (Seeded generator))
-        ≡ ((pcg32 generator).0, stream_of_source (Seeded (pcg32 generator).1)) }
-    ensures constant { (word : ℕ) → next_u32 (stream_of_source (Constant word)) ≡ (word, stream_of_source (Constant word)) }
-{}

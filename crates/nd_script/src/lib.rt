@@ -1,4 +1,4 @@
-//! The lines of a script that a node reads, and the sources that its random words come from.
+//! The lines of a script that a node reads.
 #![tactic(auto)]
 
 mod address;
@@ -26,6 +26,6 @@ pub use line::{Line, read_line, split_moment};
 pub use number::{read_count, read_number, split_number};
 pub use options::RunOptions;
 pub use run::run_script;
-pub use source::Source;
+pub use source::read_source;
 pub use transmits::read_transmits;
 pub use words::{split_word, two_words};

@@ -2,6 +2,7 @@ use crate::tested::told;
 use nd_addr::Addr;
 use nd_io::tool_fault::ToolFault;
 use nd_node::{Clearable, Event, Table};
+use nd_random::Source;
 use nd_script::*;
 use nd_text::write_hex;
 use rand_core::Rng;
@@ -343,7 +344,7 @@ fn other_words_are_no_packets(rt: HostRuntime) -> Result<(), Fail> {
 
 /// The first words of a source, if the text names one.
 fn words(text: &[u8]) -> Option<[u32; 3]> {
-    let mut source = Source::parse(text)?;
+    let mut source = read_source(text)?;
     Some([source.next_u32(), source.next_u32(), source.next_u32()])
 }
 
@@ -367,11 +368,11 @@ fn a_word_is_given_each_time(rt: HostRuntime) {
 
 #[test]
 fn longer_words_are_of_32_bits(rt: HostRuntime) -> Result<(), Fail> {
-    let Some(mut source) = Source::parse(b"seed:0") else {
+    let Some(mut source) = read_source(b"seed:0") else {
         return Err(Fail::new("no source"));
     };
     assert!(rt; source.next_u64() == 18195738587432868099);
-    let Some(mut source) = Source::parse(b"word:258") else {
+    let Some(mut source) = read_source(b"word:258") else {
         return Err(Fail::new("no source"));
     };
     let mut bytes = [0; 6];

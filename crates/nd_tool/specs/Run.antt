@@ -7,7 +7,7 @@ use Rattle.nd_node.specs.Node.{starting}
 use Rattle.nd_script.specs.Line.{IsLine}
 use Rattle.nd_script.specs.Said.{SaysNothing}
 use Rattle.nd_script.specs.Script.{IsText}
-use Rattle.nd_script.specs.Source.{stream_of_source}
+use Rattle.nd_random.specs.Source.{stream_of_source}
 use Rattle.nd_command_line.specs.declared.asked.Asked.{Asked}
 use Rattle.nd_command_line.specs.declared.asked.Asked.TheVariants.{Check, Run, Link}
 use Rattle.nd_command_line.specs.declared.asked.Carrier.TheVariants.{Udp}

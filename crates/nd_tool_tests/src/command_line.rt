@@ -3,7 +3,8 @@
 use nd_addr::{Mac, Role};
 use nd_command_line::{Asked, Carrier, Refused, read_words};
 use nd_node::Limits;
-use nd_script::{RunOptions, Source};
+use nd_random::Source;
+use nd_script::RunOptions;
 use nd_slaac::Transmits;
 use std::process::Abort;
 use std::test::*;

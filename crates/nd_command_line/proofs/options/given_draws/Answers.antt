@@ -9,8 +9,8 @@ returns-in_err-word-clause-none c = if_none c.from_residual.result (λ x. none_g
 
 pub returns-clause-found : goal.returns-clause-found
 returns-clause-found c =
-    read_given (found_of c.args.given.now) (codes "draws") c.as_bytes.result.now IsSource (ap Some c.as_bytes.ensures.value ∙ c.in_ok-word.ensures) c.parse.result c.parse.ensures.found
+    read_given (found_of c.args.given.now) (codes "draws") c.as_bytes.result.now IsSource (ap Some c.as_bytes.ensures.value ∙ c.in_ok-word.ensures) c.read_source.result c.read_source.ensures.found
 
 pub returns-clause-none : goal.returns-clause-none
 returns-clause-none c =
-    none_read (found_of c.args.given.now) (codes "draws") c.as_bytes.result.now IsSource (ap Some c.as_bytes.ensures.value ∙ c.in_ok-word.ensures) c.parse.result c.parse.ensures.only
+    none_read (found_of c.args.given.now) (codes "draws") c.as_bytes.result.now IsSource (ap Some c.as_bytes.ensures.value ∙ c.in_ok-word.ensures) c.read_source.result c.read_source.ensures.only

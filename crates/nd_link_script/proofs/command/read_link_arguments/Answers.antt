@@ -1,6 +1,6 @@
 use Rattle.std.proofs.Common.{Some, ap, refl, sym}
 use Rattle.nd_node.specs.Event.{event_of}
-use Rattle.nd_script.specs.Source.{stream_of_source}
+use Rattle.nd_random.specs.Source.{stream_of_source}
 use Rattle.nd_script.proofs.Readings.{some_is, some_and, none_and}
 use Rattle.nd_link_log.specs.Event.{Event, Starts, Comes, Delivers}
 use Rattle.nd_link_script.specs.declared.command.LinkCommand.TheVariants.{Node, On, Deliver}

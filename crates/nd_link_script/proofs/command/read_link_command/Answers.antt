@@ -1,5 +1,5 @@
 use Rattle.nd_script.proofs.Readings.{if_read}
-use Rattle.nd_script.specs.Source.{stream_of_source}
+use Rattle.nd_random.specs.Source.{stream_of_source}
 use Rattle.nd_link.specs.Event.{link_event}
 use Rattle.nd_link_script.proofs.LinkCommandWords.{link_arguments_of, link_command_of, no_link_command, no_link_words}
 use Rattle.nd_link_script.proofs.command.read_link_command.Goals as goal

@@ -1,5 +1,5 @@
 use Rattle.std.proofs.Common.{subst, sym}
-use Rattle.nd_script.specs.Source.{stream_of_source}
+use Rattle.nd_random.specs.Source.{stream_of_source}
 use Rattle.nd_script.proofs.Partings.{in_front, with_rest}
 use Rattle.nd_script.proofs.Readings.{mapped, not_mapped, some_is}
 use Rattle.nd_link_script.specs.Command.{IsLinkCommand}

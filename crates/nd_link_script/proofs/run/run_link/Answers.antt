@@ -1,7 +1,7 @@
 use Rattle.std.proofs.Common.{None, Some}
 use Rattle.std.proofs.lemmas.Result.{on_ok_weaker, on_err_weaker}
 use Rattle.nd_io.specs.ToldLaws.{tells_all_by, tells_front_by, tells_as_read_by, tells_beginning, tells_to_memory}
-use Rattle.nd_script.specs.Source.{stream_of_source}
+use Rattle.nd_random.specs.Source.{stream_of_source}
 use Rattle.nd_link_script.specs.Script.{RunsOn}
 use Rattle.nd_link_script.proofs.LinkRuns.{from_log, keeps_one, log_goes_on, to_link, until_wire}
 use Rattle.nd_link_script.proofs.run.run_link.Goals as goal

@@ -1,5 +1,5 @@
 use Rattle.std.proofs.Common.{◌≡◌}
-use Rattle.nd_script.specs.Source.{stream_of_source}
+use Rattle.nd_random.specs.Source.{stream_of_source}
 use Rattle.nd_script.proofs.Readings.{none_read}
 use Rattle.nd_link.specs.Event.{link_event}
 use Rattle.nd_link_script.specs.Line.{IsLinkLine}

@@ -1,5 +1,5 @@
 use Rattle.std.proofs.Common.{rules, ◌≡◌, Some, None}
-use Rattle.nd_script.specs.Source.{stream_of_source}
+use Rattle.nd_random.specs.Source.{stream_of_source}
 use Rattle.nd_script.proofs.Readings.{none_is, some_is}
 use Rattle.nd_link.specs.Event.{link_event}
 use Rattle.nd_link_script.specs.ScriptLaws.{malformed_line}
