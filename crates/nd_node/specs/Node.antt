@@ -32,6 +32,10 @@ use Rattle.nd_node.specs.declared.node.Node.{Node}
 abbrev pub starting : ℕ → Role → Mac → ℕ → Limits → Stream → Start
 starting at role mac transmits limits stream = record { at = at; role = role; mac = mac; transmits = transmits; stream = stream; limits = limits }
 
+-- the moment up to which time has passed
+abbrev pub last_of : {R A : Type 0} → Node R A → ℕ
+last_of node = node.last
+
 -- the earliest of the routers', the addresses', the neighbours', the Router Solicitations', the Router Advertisements' and the redraw's
 abbrev pub earliest : Option ℕ → Option ℕ → Option ℕ → Option ℕ → Option ℕ → ℕ → ℕ
 earliest routers addresses neighbours solicitation advertisement redraw =

@@ -28,7 +28,7 @@ ghost use Rattle.nd_chronicle.specs.Start.{Start};
 ghost use Rattle.nd_chronicle.specs.Happening.{Chronicle, last_moment};
 ghost use Rattle.nd_chronicle.specs.Histories.{parameter_history, neighbour_history, router_history, prefix_history, address_history, server_history, name_history, redirect_history, advertising_history, route_history};
 ghost use Rattle.nd_chronicle.specs.NextHop.{IsHopOf};
-ghost use Rattle.nd_node.specs.Node.{Stands, next_of};
+ghost use Rattle.nd_node.specs.Node.{Stands, last_of, next_of};
 
 use crate::node::Node;
 use nd_addr::{Addr, Prefix, Role};
@@ -47,7 +47,8 @@ use std::alloc::Allocator;
 impl<R: Rng + Drop, A: Allocator + Clone> Node<R, A> {
     /// Returns the moment up to which time has passed, in milliseconds. An event at an earlier one is refused as past.
     pub fn last_moment(&self) -> u64
-        ensures { (start : Start) (c : Chronicle) → Stands R.stream start self.now c → result ≡ last_moment start.at c }
+        ensures value { result ≡ last_of self.now }
+        ensures moment { (start : Start) (c : Chronicle) → Stands R.stream start self.now c → result ≡ last_moment start.at c }
     {
         self.last
     }

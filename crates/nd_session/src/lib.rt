@@ -1,8 +1,7 @@
 //! A node and the queue of its reports in one value, for programs that take each report by a call.
 //!
 //! `Session` is the node with its queue. Each event appends to the queue what the node sends and reports; `oldest` returns the first report
-//! that the caller has not taken yet, and `take` removes it. The random words are those of PCG32, from a seed that the caller passes
-//! (`specs/Stream.antt`).
+//! that the caller has not taken yet, and `take` removes it. The random words are those of a `Source` of `nd_random`.
 //!
 //! `Slot` is the form in which a program in another language keeps a session: a flag and an untyped pointer, whose owner is a ghost
 //! (`specs/Held.antt`). A function for that language takes the session out of the slot, calls it, and puts it back.

@@ -1,31 +1,30 @@
 //! A session: its start, its events, and its queue.
 
-ghost use Rattle.std.specs.Prelude.{◌≡◌, ◌^◌, ◌<◌, ◌∷◌, [], ℕ, List, IfOk, OnOk, OnErr, Option, None, Some, drop, option_copied, slice_get};
+ghost use Rattle.std.specs.Prelude.{◌≡◌, ◌-◌, ◌^◌, ◌<◌, ◌∷◌, [], ℕ, List, IfOk, OnOk, OnErr, Option, None, Some, drop, length, option_copied, slice_get};
 ghost use Rattle.nd_chronicle.specs.Event as events;
 ghost use Rattle.nd_chronicle.specs.History.{beginning};
 ghost use Rattle.nd_node.specs.Event.{event_of, FollowsBy};
 ghost use Rattle.nd_node.specs.Node.{Stands, starting, next_of};
 ghost use Rattle.nd_node.specs.Time.{Leads, Onward};
-ghost use Rattle.nd_session.specs.Stream.{words_of, words_of_seed};
+ghost use Rattle.nd_random.specs.Source.{stream_of_source};
 
 use nd_addr::{Addr, Mac, Role};
 use nd_node::{Event, Limits, Node, OutgoingPacket};
 use nd_out::Out;
+use nd_random::Source;
 use nd_slaac::Transmits;
-use rand_core::SeedableRng;
-use rand_pcg::Pcg32;
 use std::alloc::{AllocError, Global};
 
 /// A node, and the queue of what it reported and the caller has not taken yet, the oldest report first. Each moment is in milliseconds, from
 /// a beginning that is the caller's.
 #[derive(Drop)]
 pub struct Session {
-    pub(crate) node: Node<Pcg32, Global>,
+    pub(crate) node: Node<Source, Global>,
     pub(crate) queue: Vec<(u64, Out<Global>), Global>,
 }
 
 impl Session {
-    /// Starts a node at `start`, in milliseconds, whose random words come from `seed`. Its queue is empty. `transmits` is the number of
+    /// Starts a node at `start`, in milliseconds, whose random words come from `source`. Its queue is empty. `transmits` is the number of
     /// solicitations that it sends for each address, and `limits` are the most neighbours and default routers that it keeps. Returns an error if
     /// out of memory.
     pub fn start(
@@ -35,14 +34,13 @@ impl Session {
         start: u64,
         transmits: Transmits,
         limits: Limits,
-        seed: u64,
+        source: Source,
     ) -> Result<Session, AllocError>
         requires { start < 2 ^ 62 }
-        ensures stands { IfOk result (λ s. let first = starting start role mac transmits limits (words_of_seed seed) in Stands words_of first s.node (beginning first)) }
+        ensures stands { IfOk result (λ s. let first = starting start role mac transmits limits (stream_of_source source) in Stands stream_of_source first s.node (beginning first)) }
         ensures empty { IfOk result (λ s. s.queue.items ≡ []) }
     {
-        let generator = Pcg32::seed_from_u64(seed);
-        match Node::new(alloc, role, mac, start, transmits, limits, generator) {
+        match Node::new(alloc, role, mac, start, transmits, limits, source) {
             Ok(node) => Ok(Session {
                 node,
                 queue: Vec::new(alloc),
@@ -64,8 +62,8 @@ impl Session {
     /// The error is out of memory: then a part of what is due may have been done and reported, and the event has added nothing.
     pub fn event(&mut self, now: u64, event: &Event<Global>) -> Result<(), AllocError>
         requires { now < 2 ^ 62 }
-        ensures follows { OnOk result (Leads words_of self.old.node self.new.node self.old.queue.items self.new.queue.items (FollowsBy now (event_of event.now))) }
-        ensures onward { OnErr result (Leads words_of self.old.node self.new.node self.old.queue.items self.new.queue.items (Onward now)) }
+        ensures follows { OnOk result (Leads stream_of_source self.old.node self.new.node self.old.queue.items self.new.queue.items (FollowsBy now (event_of event.now))) }
+        ensures onward { OnErr result (Leads stream_of_source self.old.node self.new.node self.old.queue.items self.new.queue.items (Onward now)) }
     {
         self.node.event(now, event, &mut self.queue)
     }
@@ -74,8 +72,8 @@ impl Session {
     /// not copied. Fails as `event` does.
     pub fn receive(&mut self, now: u64, frame: &[u8]) -> Result<(), AllocError>
         requires { now < 2 ^ 62 }
-        ensures follows { OnOk result (Leads words_of self.old.node self.new.node self.old.queue.items self.new.queue.items (FollowsBy now (events.Receives frame.now))) }
-        ensures onward { OnErr result (Leads words_of self.old.node self.new.node self.old.queue.items self.new.queue.items (Onward now)) }
+        ensures follows { OnOk result (Leads stream_of_source self.old.node self.new.node self.old.queue.items self.new.queue.items (FollowsBy now (events.Receives frame.now))) }
+        ensures onward { OnErr result (Leads stream_of_source self.old.node self.new.node self.old.queue.items self.new.queue.items (Onward now)) }
     {
         self.node.receive(now, frame, &mut self.queue)
     }
@@ -91,8 +89,8 @@ impl Session {
         payload: &[u8],
     ) -> Result<(), AllocError>
         requires { now < 2 ^ 62 }
-        ensures follows { OnOk result (Leads words_of self.old.node self.new.node self.old.queue.items self.new.queue.items (FollowsBy now (events.Sends source destination next_header payload.now))) }
-        ensures onward { OnErr result (Leads words_of self.old.node self.new.node self.old.queue.items self.new.queue.items (Onward now)) }
+        ensures follows { OnOk result (Leads stream_of_source self.old.node self.new.node self.old.queue.items self.new.queue.items (FollowsBy now (events.Sends source destination next_header payload.now))) }
+        ensures onward { OnErr result (Leads stream_of_source self.old.node self.new.node self.old.queue.items self.new.queue.items (Onward now)) }
     {
         let mut bytes = Vec::with_capacity(alloc, payload.len())?;
         bytes.extend_from_slice(payload)?;
@@ -103,6 +101,20 @@ impl Session {
             payload: bytes,
         };
         self.event(now, &Event::Sends(packet))
+    }
+
+    /// Returns how many reports the caller has not taken yet.
+    pub fn reports(&self) -> usize
+        ensures { result ≡ length self.now.queue.items }
+    {
+        self.queue.len()
+    }
+
+    /// Returns the newest report, with its moment in milliseconds, if the caller has not taken it yet.
+    pub fn newest(&self) -> Option<&(u64, Out<Global>)>
+        ensures { option_copied result ≡ slice_get self.now.queue.items (length self.now.queue.items - 1) }
+    {
+        self.queue.last()
     }
 
     /// Returns the oldest report that the caller has not taken yet, with its moment in milliseconds.

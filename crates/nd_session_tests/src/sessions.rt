@@ -2,6 +2,7 @@
 
 use nd_addr::{Addr, Mac, Role};
 use nd_node::{Event, Limits};
+use nd_random::Source;
 use nd_session::{Session, Slot};
 use nd_slaac::Transmits;
 use std::alloc::Global;
@@ -22,9 +23,16 @@ const EMPTY: [u8; 14] = [0, 0, 0, 0, 0, 0, 0, 0, 0, 0, 0, 0, 0x86, 0xdd];
 fn host_in_slot(rt: &(impl Abort + AllocGlobal)) -> Slot {
     let alloc = rt.alloc();
     let limits = Limits::usual();
-    let session = Session::start(alloc, Role::Host, MAC, 0, Transmits::ONE, limits, 0).expect(
-        rt, "memory",
-    );
+    let session = Session::start(
+        alloc,
+        Role::Host,
+        MAC,
+        0,
+        Transmits::ONE,
+        limits,
+        Source::seeded(0),
+    )
+    .expect(rt, "memory");
     let mut slot = Slot::closed();
     if let Ok(boxed) = Box::new(alloc, session) {
         slot.put(boxed);
