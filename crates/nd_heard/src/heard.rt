@@ -5,7 +5,7 @@ ghost use Rattle.nd_validity.specs.Hearing.{outcome};
 ghost use Rattle.nd_addr.specs.Ip6.{payload_length_of};
 ghost use Rattle.nd_addr.specs.Places.{packet_in};
 ghost use Rattle.nd_decode.specs.Message.{least_length};
-ghost use Rattle.nd_hear_c.specs.Heard.{heard_of, with_body, preference_number};
+ghost use Rattle.nd_heard.specs.Heard.{heard_of, with_body, preference_number};
 
 use nd_addr::{Addr, Preference};
 use nd_decode::Body;

@@ -11,7 +11,7 @@ use Rattle.nd_decode.specs.Message.{Parts, least_length}
 use Rattle.nd_decode.specs.declared.body.Body.{Body}
 use Rattle.nd_decode.specs.declared.body.Body.TheVariants as bodies
 use Rattle.nd_validity.specs.Hearing.{Outcome, valid, other, dropped}
-use Rattle.nd_hear_c.specs.declared.heard.Heard.{Heard}
+use Rattle.nd_heard.specs.declared.heard.Heard.{Heard}
 
 -- the roles by their numbers
 abbrev pub role_of : ℕ → Role
