@@ -1,13 +1,13 @@
 -- What a program in C reads of a frame.
 use Rattle.std.specs.Prelude.{ℕ, ◌+◌, ◌-◌, Bool, true, false, List, ◌==◌, if◌then◌else◌, replicate}
-use Rattle.nd_addr.specs.Ip6.{PacketParts, next_header_icmpv6, payload_length_of}
+use Rattle.nd_addr.specs.Ip6.{next_header_icmpv6, payload_length_of}
 use Rattle.nd_addr.specs.Places.{packet_in}
 use Rattle.nd_addr.specs.Why.{number_of}
 use Rattle.nd_addr.specs.declared.preference.Preference.{Preference}
 use Rattle.nd_addr.specs.declared.preference.Preference.TheVariants.{Medium, High, Low}
 use Rattle.nd_addr.specs.declared.role.Role.{Role}
 use Rattle.nd_addr.specs.declared.role.Role.TheVariants.{Host, Router}
-use Rattle.nd_decode.specs.Message.{Parts, least_length}
+use Rattle.nd_decode.specs.Message.{least_length}
 use Rattle.nd_decode.specs.declared.body.Body.{Body}
 use Rattle.nd_decode.specs.declared.body.Body.TheVariants as bodies
 use Rattle.nd_validity.specs.Hearing.{Outcome, valid, other, dropped}
