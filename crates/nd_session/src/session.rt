@@ -5,7 +5,7 @@ ghost use Rattle.nd_chronicle.specs.Event as events;
 ghost use Rattle.nd_chronicle.specs.History.{beginning};
 ghost use Rattle.nd_node.specs.Event.{event_of, FollowsBy};
 ghost use Rattle.nd_node.specs.Node.{Stands, starting, next_of};
-ghost use Rattle.nd_node.specs.Time.{Leads, Onward};
+ghost use Rattle.nd_node.specs.Time.{Leads, Onward, Passes};
 ghost use Rattle.nd_random.specs.Source.{stream_of_source};
 
 use nd_addr::{Addr, Mac, Role};
@@ -66,6 +66,17 @@ impl Session {
         ensures onward { OnErr result (Leads stream_of_source self.old.node self.new.node self.old.queue.items self.new.queue.items (Onward now)) }
     {
         self.node.event(now, event, &mut self.queue)
+    }
+
+    /// Does all that is due up to `now`, in milliseconds, its own millisecond included. The error is out of memory: then a part of it may have
+    /// been done and reported.
+    pub fn settle(&mut self, now: u64) -> Result<(), AllocError>
+        requires { now < 2 ^ 62 }
+        ensures passes { OnOk result (Leads stream_of_source self.old.node self.new.node self.old.queue.items self.new.queue.items (Passes now)) }
+        ensures settled { OnOk result (now < next_of self.new.node) }
+        ensures onward { OnErr result (Leads stream_of_source self.old.node self.new.node self.old.queue.items self.new.queue.items (Onward now)) }
+    {
+        self.node.settle(now, &mut self.queue)
     }
 
     /// Receives a frame, from its Ethernet destination on (RFC 2464, section 3), at `now`, in milliseconds. The frame stays the caller's and is
