@@ -1,0 +1,9 @@
+pub mod Status
+pub mod Event
+pub mod Given
+pub mod Question
+pub mod Poll
+pub mod Open
+pub mod Rows
+pub mod NextHop
+pub mod Bytes

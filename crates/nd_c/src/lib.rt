@@ -1,0 +1,19 @@
+//! A node of Neighbor Discovery for programs in C and in other languages. The header is `include/nd.h`, which says what each function does.
+//!
+//! The caller keeps a `Slot`, which has a session or none. Each function takes the session out of the slot, calls it, and puts it back. None has a
+//! condition: an argument that a call does not take has a status. The statuses are in `specs/Status.antt`, what an event does in `specs/Event.antt`,
+//! and what a question returns in `specs/Question.antt` and `specs/Rows.antt`. The structures are those of `nd_c_types`.
+#![tactic(auto)]
+
+mod answer;
+mod bytes;
+mod events;
+mod hear;
+mod next_hop;
+mod node;
+mod poll;
+mod questions;
+mod router_events;
+mod rows;
+mod status;
+mod version;

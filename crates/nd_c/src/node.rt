@@ -1,0 +1,114 @@
+//! A node is opened and closed, and asked for its moments.
+
+ghost use Rattle.std.specs.Prelude.{◌≡◌, ◌-◌, ◌^◌, ◌<◌, IfOk, None, Some};
+ghost use Rattle.nd_node.specs.Limits.{AreLimits};
+ghost use Rattle.nd_node.specs.Node.{last_of, next_of};
+ghost use Rattle.nd_session.specs.declared.session.Session.{Session};
+ghost use Rattle.nd_c_types.specs.Options.{opening_of};
+ghost use Rattle.nd_c.specs.Open.{Begins, Opens, source_of};
+
+use crate::status::{DONE, INVALID, NO_MEMORY};
+use nd_c_types::{Draws, Opening, Options};
+use nd_node::Limits;
+use nd_random::Source;
+use nd_session::{Session, Slot};
+use std::alloc::{AllocError, Global};
+
+/// Opens a node: it starts as the options say, and nothing is reported yet.
+#[unsafe(no_mangle)]
+pub extern "C" fn nd_open(alloc: Global, node: &mut Slot, options: &Options) -> i32
+    ensures { Opens (opening_of options.now) result node.old.handle.session node.new.handle.session }
+{
+    if node.is_open() {
+        return INVALID;
+    }
+    let Some(opening) = options.opening() else {
+        return INVALID;
+    };
+    let Ok(session) = start_boxed(alloc, &opening) else {
+        return NO_MEMORY;
+    };
+    node.put(session);
+    DONE
+}
+
+/// Starts a session in a box, as it is asked for. The error is out of memory.
+fn start_boxed(alloc: Global, opening: &Opening) -> Result<Box<Session, Global>, AllocError>
+    requires moment { opening.now.start < 2 ^ 62 }
+    requires limits { AreLimits opening.now.neighbours opening.now.routers }
+    ensures { IfOk result (λ session. Begins opening.now session.value) }
+{
+    let session = start(alloc, opening)?;
+    match Box::new(alloc, session) {
+        Ok(session) => Ok(session),
+        Err(_) => Err(AllocError),
+    }
+}
+
+/// Starts a session as it is asked for. The error is out of memory.
+fn start(alloc: Global, opening: &Opening) -> Result<Session, AllocError>
+    requires moment { opening.now.start < 2 ^ 62 }
+    requires limits { AreLimits opening.now.neighbours opening.now.routers }
+    ensures { IfOk result (λ s. Begins opening.now s) }
+{
+    let Some(limits) = Limits::new(opening.neighbours, opening.routers) else {
+        unreachable!()
+    };
+    Session::start(
+        alloc,
+        opening.role,
+        opening.mac,
+        opening.start,
+        opening.transmits,
+        limits,
+        source_of(opening.draws),
+    )
+}
+
+/// Returns the source of a node's random words.
+fn source_of(draws: Draws) -> Source
+    ensures { result ≡ source_of draws }
+{
+    match draws {
+        Draws::Seed(seed) => Source::seeded(seed),
+        Draws::Word(word) => Source::Constant(word),
+    }
+}
+
+/// Closes a node and gives its memory back. Nothing is sent, and records that were not polled are lost.
+#[unsafe(no_mangle)]
+pub extern "C" fn nd_close(alloc: Global, node: &mut Slot)
+    ensures { node.new.handle.session ≡ None }
+{
+    let _session = node.take(alloc);
+}
+
+/// Returns the moment up to which time has passed, in milliseconds: all ones if the node is closed.
+#[unsafe(no_mangle)]
+pub extern "C" fn nd_last_moment(alloc: Global, node: &mut Slot) -> u64
+    ensures closed { node.old.handle.session ≡ None → result ≡ 2 ^ 64 - 1 }
+    ensures value { (s : Session) → node.old.handle.session ≡ Some s → result ≡ last_of s.node }
+    ensures kept { node.new.handle.session ≡ node.old.handle.session }
+{
+    let Some(session) = node.take(alloc) else {
+        return u64::MAX;
+    };
+    let last = session.last_moment();
+    node.put(session);
+    last
+}
+
+/// Returns the earliest moment at which something is due, in milliseconds: all ones if the node is closed.
+#[unsafe(no_mangle)]
+pub extern "C" fn nd_next_due(alloc: Global, node: &mut Slot) -> u64
+    ensures closed { node.old.handle.session ≡ None → result ≡ 2 ^ 64 - 1 }
+    ensures value { (s : Session) → node.old.handle.session ≡ Some s → result ≡ next_of s.node }
+    ensures kept { node.new.handle.session ≡ node.old.handle.session }
+{
+    let Some(session) = node.take(alloc) else {
+        return u64::MAX;
+    };
+    let next = session.next_due();
+    node.put(session);
+    next
+}

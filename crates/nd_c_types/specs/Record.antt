@@ -1,0 +1,91 @@
+-- What a node reports, as C sees it.
+use Rattle.std.specs.Prelude.{ℕ, List, [], drop, length}
+use Rattle.nd_addr.specs.Frame.{ethernet_header_length}
+use Rattle.nd_addr.specs.Why.{number_of}
+use Rattle.nd_decode.specs.declared.body.Body.{Body}
+use Rattle.nd_decode.specs.declared.body.Body.TheVariants as bodies
+use Rattle.nd_out.specs.declared.out.Loss.{Loss}
+use Rattle.nd_out.specs.declared.out.Loss.TheVariants as losses
+use Rattle.nd_out.specs.declared.out.Limit.{Limit}
+use Rattle.nd_out.specs.declared.out.Limit.TheVariants as limits
+use Rattle.nd_out.specs.declared.out.Refusal.{Refusal}
+use Rattle.nd_out.specs.declared.out.Refusal.TheVariants as refusals
+use Rattle.nd_out.specs.declared.out.Out.{Out}
+use Rattle.nd_out.specs.declared.out.Out.TheVariants as outs
+use Rattle.nd_c_types.specs.Numbers.{no_address}
+use Rattle.nd_c_types.specs.declared.«record».Record.{Record}
+
+-- the ICMPv6 types (RFC 4861, section 4)
+abbrev pub type_of : Body → ℕ
+type_of bodies.Rs = 133
+type_of (bodies.Ra _) = 134
+type_of (bodies.Ns _) = 135
+type_of (bodies.Na _) = 136
+type_of (bodies.Redirect _) = 137
+
+-- enum nd_loss
+abbrev pub loss_number : Loss → ℕ
+loss_number losses.Unreachable = 1
+loss_number losses.Replaced = 2
+loss_number losses.Forgotten = 3
+loss_number losses.NoRoute = 4
+loss_number losses.HopLimit = 5
+
+-- enum nd_limit
+abbrev pub limit_number : Limit → ℕ
+limit_number limits.Neighbours = 1
+limit_number limits.Routers = 2
+limit_number limits.Prefixes = 3
+limit_number limits.Addresses = 4
+limit_number limits.Servers = 5
+limit_number limits.Names = 6
+limit_number limits.Offers = 7
+limit_number limits.StaticRoutes = 8
+
+-- no field
+abbrev pub nothing : Record
+nothing = record { moment = 0; length = 0; kind = 0; code = 0; limit = 0; reserved = 0; address = no_address }
+
+-- an event that was refused: enum nd_refusal
+abbrev pub of_refusal : Refusal → Record
+of_refusal refusals.WrongRole = record nothing { kind = 11; code = 1 }
+of_refusal refusals.Disabled = record nothing { kind = 11; code = 2 }
+of_refusal (refusals.NotOurs source) = record nothing { kind = 11; code = 3; address = source.0 }
+of_refusal refusals.TooLong = record nothing { kind = 11; code = 4 }
+of_refusal (refusals.Full full) = record nothing { kind = 11; code = 5; limit = limit_number full }
+
+-- the kind, and what it has besides a moment and bytes: enum nd_kind
+abbrev pub contents_of : {A : Type 0} → Out A → Record
+contents_of (outs.Frame packet) = record nothing { kind = 1 }
+contents_of (outs.Heard source destination body) = record nothing { kind = 2; code = type_of body; address = source.0 }
+contents_of (outs.Dropped why) = record nothing { kind = 3; code = number_of why }
+contents_of (outs.Up packet) = record nothing { kind = 4 }
+contents_of (outs.Duplicate own) = record nothing { kind = 5; address = own.0 }
+contents_of (outs.Assigned own) = record nothing { kind = 6; address = own.0 }
+contents_of (outs.EndedAddress own) = record nothing { kind = 7; address = own.0 }
+contents_of (outs.EndedRouter router) = record nothing { kind = 8; address = router.0 }
+contents_of (outs.Failed neighbour) = record nothing { kind = 9; address = neighbour.0 }
+contents_of (outs.Lost why packet) = record nothing { kind = 10; code = loss_number why }
+contents_of (outs.Shown rows) = nothing
+contents_of (outs.Refused why) = of_refusal why
+contents_of (outs.Past last) = nothing
+
+-- the bytes: a frame that is sent, or a packet from its IPv6 header on
+abbrev pub bytes_in : {A : Type 0} → Out A → List ℕ
+bytes_in (outs.Frame packet) = packet
+bytes_in (outs.Up packet) = packet.items
+bytes_in (outs.Lost why packet) = drop ethernet_header_length packet
+bytes_in (outs.Heard source destination body) = []
+bytes_in (outs.Dropped why) = []
+bytes_in (outs.Duplicate own) = []
+bytes_in (outs.Assigned own) = []
+bytes_in (outs.EndedAddress own) = []
+bytes_in (outs.EndedRouter router) = []
+bytes_in (outs.Failed neighbour) = []
+bytes_in (outs.Shown rows) = []
+bytes_in (outs.Refused why) = []
+bytes_in (outs.Past last) = []
+
+-- the whole record
+abbrev pub record_of : {A : Type 0} → ℕ → Out A → Record
+record_of moment out = record (contents_of out) { moment = moment; length = length (bytes_in out) }

@@ -1,0 +1,38 @@
+//! Values that are numbers in several structures. Their definitions are in `specs/Numbers.antt`.
+
+ghost use Rattle.std.specs.Prelude.{◌≡◌, ◌==◌};
+ghost use Rattle.nd_c_types.specs.Numbers.{left_number, preference_number, preference_in};
+
+use nd_addr::Preference;
+
+/// Returns what is left of a lifetime, in milliseconds: ND_FOREVER if it has no end.
+pub(crate) fn left_number(left: Option<u64>) -> u64
+    ensures { result ≡ left_number left }
+{
+    match left {
+        Some(left) => left,
+        None => u64::MAX,
+    }
+}
+
+/// Returns the number of a preference.
+pub(crate) fn preference_number(preference: Preference) -> u8
+    ensures { result ≡ preference_number preference }
+{
+    match preference {
+        Preference::Medium => 0,
+        Preference::High => 1,
+        Preference::Low => 2,
+    }
+}
+
+/// Returns the preference with this number, and Medium for a number that is no preference.
+pub(crate) fn preference_in(number: u8) -> Preference
+    ensures { result ≡ preference_in number }
+{
+    match number {
+        1 => Preference::High,
+        2 => Preference::Low,
+        _ => Preference::Medium,
+    }
+}

@@ -1,0 +1,17 @@
+//! The roles by their numbers in C. The definition is in `specs/Role.antt`.
+
+ghost use Rattle.std.specs.Prelude.{◌≡◌};
+ghost use Rattle.nd_c_types.specs.Role.{role_of};
+
+use nd_addr::Role;
+
+/// Returns the role with the number ND_ROLE_HOST or ND_ROLE_ROUTER, 0 or 1. Returns `None` for another number.
+pub fn role_of(number: u32) -> Option<Role>
+    ensures { result ≡ role_of number }
+{
+    match number {
+        0 => Some(Role::Host),
+        1 => Some(Role::Router),
+        _ => None,
+    }
+}
