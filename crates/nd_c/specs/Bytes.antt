@@ -1,12 +1,11 @@
 -- How many bytes the tables of a node take at most: what was measured, and rounded up.
-use Rattle.std.specs.Prelude.{ℕ, ◌+◌, ◌*◌, ◌==◌, ◌&&◌, nat_le, if◌then◌else◌}
+use Rattle.std.specs.Prelude.{ℕ, ◌+◌, ◌*◌, ◌/◌, Option, Some, None}
+use Rattle.nd_c_types.specs.Options.{limits_in}
 
--- the number that is asked for, 0 standing for the usual one
-abbrev pub or_usual : ℕ → ℕ → ℕ
-or_usual n usual = if n == 0 then usual else n
+-- with these limits: an entry for each neighbour and router, blocks of dates for each 32 of them, and all that has a fixed limit
+abbrev pub bytes_for : Option (ℕ × ℕ) → ℕ
+bytes_for None = 0
+bytes_for (Some (neighbours, routers)) = 75776 + 80 * neighbours + 65 * routers + 2144 * (neighbours / 32 + routers / 32)
 
 abbrev pub node_bytes : ℕ → ℕ → ℕ
-node_bytes neighbours routers =
-    let n = or_usual neighbours 512 in
-    let r = or_usual routers 16 in
-    if nat_le n 2048 && nat_le r 64 then 65536 + 128 * n + 112 * r else 0
+node_bytes neighbours routers = bytes_for (limits_in neighbours routers)

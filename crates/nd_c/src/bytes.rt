@@ -3,35 +3,33 @@
 ghost use Rattle.std.specs.Prelude.{◌≡◌};
 ghost use Rattle.nd_c.specs.Bytes.{node_bytes};
 
-/// How many bytes a neighbour, a default router, and all that has a fixed limit take at most: as measured, and rounded up.
-const NEIGHBOUR: usize = 128;
+use nd_c_types::limits_in;
 
-const ROUTER: usize = 112;
+/// How many bytes a neighbour takes, as measured: its entry.
+const NEIGHBOUR: usize = 80;
 
-const FIXED: usize = 65_536;
+/// How many bytes a default router takes, as measured: its entry and its preference.
+const ROUTER: usize = 65;
 
-/// The greatest limits, and the usual ones.
-const MOST_NEIGHBOURS: u32 = 2048;
+/// How many bytes the dates of as many entries as fill a block take, as measured, and how many entries these are.
+const DATES: usize = 2144;
 
-const MOST_ROUTERS: u32 = 64;
+const ENTRIES: usize = 32;
 
-const USUAL_NEIGHBOURS: u32 = 512;
-
-const USUAL_ROUTERS: u32 = 16;
+/// How many bytes all that has a fixed limit takes at most, as measured and rounded up.
+const FIXED: usize = 75_776;
 
 /// Returns how many bytes the tables of a node take at most with these limits, 0 standing for the usual ones. Returns 0 if a limit is out of its range.
 #[unsafe(no_mangle)]
 pub extern "C" fn nd_node_bytes(neighbours: u32, routers: u32) -> usize
     ensures { result ≡ node_bytes neighbours routers }
 {
-    let neighbours = if neighbours == 0 {
-        USUAL_NEIGHBOURS
-    } else {
-        neighbours
-    };
-    let routers = if routers == 0 { USUAL_ROUTERS } else { routers };
-    if neighbours > MOST_NEIGHBOURS || routers > MOST_ROUTERS {
-        return 0;
+    match limits_in(neighbours, routers) {
+        Some((neighbours, routers)) => {
+            let (neighbours, routers) = (usize::from(neighbours), usize::from(routers));
+            let blocks = neighbours / ENTRIES + routers / ENTRIES;
+            FIXED + NEIGHBOUR * neighbours + ROUTER * routers + DATES * blocks
+        }
+        None => 0,
     }
-    FIXED + NEIGHBOUR * neighbours as usize + ROUTER * routers as usize
 }

@@ -11,6 +11,10 @@ use Rattle.nd_c_types.specs.declared.options.Options.{Options}
 abbrev pub number_or : ℕ → ℕ → ℕ
 number_or number usual = if number == 0 then usual else number
 
+-- the limits on neighbours and on default routers, if they are within their ranges
+abbrev pub limits_in : ℕ → ℕ → Option (ℕ × ℕ)
+limits_in neighbours routers = if nat_le neighbours 2048 && nat_le routers 64 then Some (number_or neighbours 512, number_or routers 16) else None
+
 -- enum nd_draws, with a seed, or a word below 2^32
 abbrev pub are_draws : ℕ → ℕ → Bool
 are_draws draws seed = (draws == 0) || ((draws == 1) && nat_le seed (2 ^ 32 - 1))

@@ -32,7 +32,7 @@ pub use dns::{NameRow, ServerRow};
 pub use neighbour::NeighbourRow;
 pub use next_hop::NextHopRow;
 pub use offer::OfferRow;
-pub use options::{Draws, MOMENT_LIMIT, Opening, Options};
+pub use options::{Draws, MOMENT_LIMIT, Opening, Options, limits_in};
 pub use parameters::ParametersRow;
 pub use prefix::PrefixRow;
 pub use record::{Record, bytes_of};

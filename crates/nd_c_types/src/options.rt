@@ -2,7 +2,7 @@
 
 ghost use Rattle.std.specs.Prelude.{◌≡◌, ◌≤◌, ◌<◌, ◌^◌, IfSome, IsTrue};
 ghost use Rattle.nd_node.specs.Limits.{AreLimits};
-ghost use Rattle.nd_c_types.specs.Options.{are_draws, draws_in, is_well_formed, number_or, opening_of};
+ghost use Rattle.nd_c_types.specs.Options.{are_draws, draws_in, is_well_formed, limits_in, number_or, opening_of};
 
 use crate::role::role_of;
 use nd_addr::{Mac, Role};
@@ -114,6 +114,16 @@ impl Options {
             && self.reserved[1] == 0
             && self.reserved[2] == 0
     }
+}
+
+/// Returns the limits on neighbours and on default routers, with the usual ones in place of 0. Returns `None` if one is outside its range.
+pub fn limits_in(neighbours: u32, routers: u32) -> Option<(u16, u8)>
+    ensures { result ≡ limits_in neighbours routers }
+{
+    if neighbours > MOST_NEIGHBOURS || routers > MOST_ROUTERS {
+        return None;
+    }
+    Some((neighbours_of(neighbours), routers_of(routers)))
 }
 
 /// Returns the number of solicitations: 1 in place of 0.
