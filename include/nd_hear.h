@@ -2,8 +2,10 @@
  * nd_hear.h - what a frame is to a host or to a router, by the rules of IPv6 Neighbor Discovery
  * (RFC 4861, sections 6.1, 7.1 and 8.1; RFC 4191, section 2.2).
  *
- * One function, with no state: filters, logs and test benches can link it alone. It takes no memory
- * and calls nothing. The crate nd_hear_c has the contract of each field.
+ * One function, with no state: filters, logs and test benches can link it alone, from
+ * libnd_hear_c.a. It takes no memory and calls nothing. The crate nd_hear_c has the contract of
+ * each field. The library of a whole node, libnd_c.a, has the function too: nd.h includes this
+ * header.
  */
 #ifndef ND_HEAR_H
 #define ND_HEAR_H
@@ -19,14 +21,21 @@
 extern "C" {
 #endif
 
-enum nd_status {
+enum nd_status { /* nd_hear returns ND_DONE or ND_INVALID, the functions of nd.h all of them */
     ND_DONE = 0,
-    ND_INVALID = -3 /* an argument that the call does not take */
+    ND_NOTHING = 1,    /* there is no such row or record */
+    ND_REFUSED = 2,    /* the event was refused: time has passed up to it, what was due is done, and
+                          nothing else has changed. The newest record, ND_OUT_REFUSED, says why */
+    ND_NO_MEMORY = -1, /* memory was refused */
+    ND_CLOSED = -2,    /* the node is not open */
+    ND_INVALID = -3,   /* an argument that the call does not take */
+    ND_PAST = -4,      /* `now` is before nd_last_moment */
+    ND_NO_ROOM = -5    /* the buffer is too short */
 };
 
 enum nd_role {
     ND_ROLE_HOST = 0,
-    ND_ROLE_ROUTER = 1
+    ND_ROLE_ROUTER = 1 /* it has its link-local address alone, and takes no Router Advertisement */
 };
 
 enum nd_preference { /* of a default router (RFC 4191, 2.1) */
@@ -35,8 +44,8 @@ enum nd_preference { /* of a default router (RFC 4191, 2.1) */
     ND_PREFERENCE_LOW = 2
 };
 
-/* Why a frame is dropped. The first that holds is returned, in the order 1 to 5, 10, 11, 6 to 9,
- * 12 to 19: no option is looked at before the checksum is good. RS, RA, NS, NA are the messages of
+/* Why a frame is dropped. The first that holds is reported, in the order 1 to 5, 10, 11, 6 to 9,
+ * 12 to 20: no option is looked at before the checksum is good. RS, RA, NS, NA are the messages of
  * RFC 4861, 4.1 to 4.4. */
 enum nd_why {
     ND_WHY_FRAME_SHORT = 1,           /* under 14 bytes (RFC 2464, 3) */
@@ -60,8 +69,13 @@ enum nd_why {
     ND_WHY_SOLICITED_MULTICAST = 16,  /* an NA with S to a multicast address (RFC 4861, 7.1.2) */
     ND_WHY_REDIRECT_TARGET = 17,      /* neither link-local nor the destination (RFC 4861, 8.1) */
     ND_WHY_REDIRECT_DESTINATION = 18, /* multicast (RFC 4861, 8.1) */
-    ND_WHY_NOT_FOR_US = 19            /* a message that the other role takes: an RS at a host, an RA
-                                         or a Redirect at a router */
+    ND_WHY_NOT_FOR_US = 19,           /* a message that the other role takes: an RS at a host, an RA
+                                         or a Redirect at a router. At a node also a destination or
+                                         target that is not the node's; until its link-local address
+                                         is assigned, all but detection */
+    ND_WHY_NOT_FIRST_HOP = 20         /* at a node only, not of nd_hear: a Redirect from another
+                                         node than the first hop of its destination
+                                         (RFC 4861, 8.1) */
 };
 
 enum nd_hearing {
@@ -82,7 +96,7 @@ typedef struct nd_heard {
     nd_addr target;           /* NS, NA and Redirect */
     nd_addr redirected;       /* the Destination Address field of a Redirect */
     uint32_t hearing;         /* enum nd_hearing */
-    uint32_t why;             /* enum nd_why: DROP */
+    uint32_t why;             /* enum nd_why, 1 to 19: DROP */
     uint32_t message_type;    /* the ICMPv6 type, 133 to 137: VALID */
     uint32_t next_header;     /* VALID (58) and OTHER */
     uint32_t options;         /* where the options begin in the frame: VALID */
