@@ -1,0 +1,121 @@
+/* refuse: refuses each request for memory of a run once. A call that returns ND_NO_MEMORY is made again. What the node reports, and all rows at the
+ * end, are the same bytes as with memory, and all memory comes back. Reads frames; the argument, if there is one, is how many are used. */
+#include "heap.h"
+#include "tested.h"
+
+enum { SEEN_AT = 3000, APART = 7, LATER = 20000 };
+
+static struct frame frames[MOST_FRAMES];
+static size_t count, again;
+
+/* Opens a host. Where memory is refused it is closed and holds none. */
+static void open_again(nd_node *node)
+{
+    nd_options options = host_options();
+    int32_t status;
+    while ((status = nd_open(node, &options)) == ND_NO_MEMORY) {
+        require(!node->is_open && heap_blocks == 0, "nd_open that is refused leaves nothing");
+        again++;
+    }
+    require(status == ND_DONE, "nd_open");
+}
+
+static void turn_again(nd_node *node, uint64_t now)
+{
+    int32_t status;
+    while ((status = nd_turn(node, now)) == ND_NO_MEMORY)
+        again++;
+    require(status == ND_DONE && nd_last_moment(node) == now, "nd_turn");
+}
+
+static void receive_again(nd_node *node, uint64_t now, const struct frame *frame)
+{
+    int32_t status;
+    while ((status = nd_receive(node, now, frame->bytes, frame->length)) == ND_NO_MEMORY)
+        again++;
+    require(status >= 0 && nd_last_moment(node) == now, "nd_receive");
+}
+
+static void send_again(nd_node *node, uint64_t now, size_t i)
+{
+    static const uint8_t payload[4] = {1, 2, 3, 4};
+    nd_addr far = {{0x20, 0x01, 0x0d, 0xb8, 0, 0x77, [15] = (uint8_t)i}};
+    int32_t status;
+    while ((status = nd_send(node, now, &LINK_LOCAL, &far, 17, payload, sizeof payload)) == ND_NO_MEMORY)
+        again++;
+    require(status >= 0 && nd_last_moment(node) == now, "nd_send");
+}
+
+/* Mixes in all rows of the tables. The rows are written whole: they have no padding. */
+static uint64_t rows_of(nd_node *node, uint64_t now, uint64_t hash)
+{
+    nd_neighbour_row neighbour;
+    nd_router_row router;
+    nd_prefix_row prefix;
+    nd_address_row own;
+    nd_server_row server;
+    nd_name_row name;
+    nd_redirect_row redirect;
+    nd_parameters_row parameters;
+    for (size_t i = 0; nd_neighbour_at(node, now, i, &neighbour) == ND_DONE; i++)
+        hash = mix(hash, &neighbour, sizeof neighbour);
+    for (size_t i = 0; nd_router_at(node, now, i, &router) == ND_DONE; i++)
+        hash = mix(hash, &router, sizeof router);
+    for (size_t i = 0; nd_prefix_at(node, now, i, &prefix) == ND_DONE; i++)
+        hash = mix(hash, &prefix, sizeof prefix);
+    for (size_t i = 0; nd_address_at(node, now, i, &own) == ND_DONE; i++)
+        hash = mix(hash, &own, sizeof own);
+    for (size_t i = 0; nd_server_at(node, now, i, &server) == ND_DONE; i++)
+        hash = mix(hash, &server, sizeof server);
+    for (size_t i = 0; nd_name_at(node, now, i, &name) == ND_DONE; i++)
+        hash = mix(hash, &name, sizeof name);
+    for (size_t i = 0; nd_redirect_at(node, now, i, &redirect) == ND_DONE; i++)
+        hash = mix(hash, &redirect, sizeof redirect);
+    require(nd_parameters_of(node, now, &parameters) == ND_DONE, "nd_parameters_of");
+    return mix(hash, &parameters, sizeof parameters);
+}
+
+/* Runs all frames with the request of this number refused, none for 0. Returns the hash of what was reported. */
+static uint64_t run(size_t refuse)
+{
+    nd_node node = ND_NODE_INIT;
+    uint64_t hash = FIRST_HASH, now = SEEN_AT;
+    heap_refuse = refuse;
+    again = 0;
+    open_again(&node);
+    turn_again(&node, now);
+    hash = drain(&node, hash);
+    for (size_t i = 0; i < count; i++) {
+        now += APART;
+        receive_again(&node, now, &frames[i]);
+        if (i % 8 == 0)
+            send_again(&node, now, i);
+        hash = drain(&node, hash);
+    }
+    turn_again(&node, now + LATER);
+    hash = drain(&node, hash);
+    hash = rows_of(&node, now + LATER, hash);
+    heap_refuse = 0;
+    nd_close(&node);
+    require(heap_blocks == 0 && heap_now == 0, "all memory comes back");
+    return hash;
+}
+
+int main(int argc, char **argv)
+{
+    size_t most = argc > 1 ? strtoul(argv[1], NULL, 10) : MOST_FRAMES, requests, unseen = 0, wrong = 0;
+    uint64_t right;
+    count = read_frames(frames);
+    count = count < most ? count : most;
+    heap_requests = 0;
+    right = run(0);
+    requests = heap_requests;
+    for (size_t i = 1; i <= requests; i++) {
+        wrong += run(i) != right;
+        unseen += again != 1;
+    }
+    printf("%zu requests in %zu frames, each refused once: %zu runs reported something else, %zu refusals were not one ND_NO_MEMORY\n", requests, count,
+           wrong, unseen);
+    free_frames(frames, count);
+    return wrong > 0 || requests == 0;
+}
