@@ -1,0 +1,133 @@
+#!/usr/bin/env python3
+"""frames KIND COUNT: frames for the tests, one a line in hexadecimal digits, as a host of 34:56:78:9a:bc:de receives them. KIND is `mixed`: COUNT of
+all kinds; or `full`: frames that fill the tables, COUNT neighbours among them. They are made here from the layouts of the RFCs, and are the same each
+time. Other scripts import it."""
+import ipaddress
+import random
+import struct
+import sys
+
+HOST, HOST_MAC, ROUTER_MAC = "fe80::3656:78ff:fe9a:bcde", "34:56:78:9a:bc:de", "02:00:00:00:00:01"
+
+
+def packed(text):
+    return ipaddress.IPv6Address(text).packed
+
+
+def mac_bytes(text):
+    return bytes(int(digits, 16) for digits in text.split(":"))
+
+
+def link_local(mac):
+    b = mac_bytes(mac)
+    return str(ipaddress.IPv6Address(b"\xfe\x80" + bytes(6) + bytes([b[0] ^ 2]) + b[1:3] + b"\xff\xfe" + b[3:]))
+
+
+def solicited_node(address):
+    return str(ipaddress.IPv6Address(bytes.fromhex("ff0200000000000000000001ff") + packed(address)[13:]))
+
+
+def checksum(source, destination, message):
+    text = packed(source) + packed(destination) + struct.pack(">II", len(message), 58) + message + bytes(len(message) % 2)
+    total = sum(struct.unpack(f">{len(text) // 2}H", text))
+    while total >> 16:
+        total = (total & 0xFFFF) + (total >> 16)
+    return ~total & 0xFFFF
+
+
+def frame(source, destination, source_mac, message, flip=0):
+    """Returns a frame with an ICMPv6 message. `flip` spoils its checksum."""
+    message = message[:2] + struct.pack(">H", checksum(source, destination, message[:2] + bytes(2) + message[4:]) ^ flip) + message[4:]
+    to = packed(destination)
+    ethernet = (b"\x33\x33" + to[12:] if to[0] == 0xFF else mac_bytes(HOST_MAC)) + mac_bytes(source_mac) + b"\x86\xdd"
+    return (ethernet + struct.pack(">IHBB", 6 << 28, len(message), 58, 255) + packed(source) + to + message).hex()
+
+
+def link_layer(number, mac):
+    return bytes([number, 1]) + mac_bytes(mac)
+
+
+def prefix(address, flags, valid=2592000, preferred=604800):
+    return bytes([3, 4, 64, flags]) + struct.pack(">III", valid, preferred, 0) + packed(address)
+
+
+def servers(lifetime, *addresses):
+    return bytes([25, 1 + 2 * len(addresses), 0, 0]) + struct.pack(">I", lifetime) + b"".join(map(packed, addresses))
+
+
+def names(lifetime, *texts):
+    spelled = b"".join(b"".join(bytes([len(label)]) + label.encode() for label in text.split(".")) + b"\0" for text in texts)
+    spelled += bytes(-len(spelled) % 8)
+    return bytes([31, 1 + len(spelled) // 8, 0, 0]) + struct.pack(">I", lifetime) + spelled
+
+
+def advertisement(mac=ROUTER_MAC, options=None, lifetime=1800, flags=0, flip=0):
+    if options is None:
+        options = link_layer(1, mac) + b"\5\1\0\0" + struct.pack(">I", 1500) + prefix("2001:db8:1::", 0xC0) + prefix("2001:db8:2::", 0x80)
+        options += prefix("2001:db8:3::", 0x80) + servers(1800, "2001:db8::53", "2001:db8::54") + names(1800, "example.com", "lab.example.net")
+    return frame(link_local(mac), "ff02::1", mac, bytes([134, 0, 0, 0, 64, flags]) + struct.pack(">HII", lifetime, 0, 0) + options, flip)
+
+
+def solicitation(mac, flip=0):
+    return frame(link_local(mac), solicited_node(HOST), mac, bytes([135]) + bytes(7) + packed(HOST) + link_layer(1, mac), flip)
+
+
+def answer(mac, flags=0x60, flip=0):
+    return frame(link_local(mac), HOST, mac, bytes([136, 0, 0, 0, flags, 0, 0, 0]) + packed(link_local(mac)) + link_layer(2, mac), flip)
+
+
+def redirect(k, flip=0):
+    message = bytes([137]) + bytes(7) + packed(link_local(ROUTER_MAC)) + packed(f"2001:db8:99::{1 + k:x}") + link_layer(2, ROUTER_MAC)
+    return frame(link_local(ROUTER_MAC), HOST, ROUTER_MAC, message, flip)
+
+
+def router_solicitation(mac):
+    return frame(link_local(mac), "ff02::2", mac, bytes([133]) + bytes(7) + link_layer(1, mac))
+
+
+def echo(mac):
+    return frame(link_local(mac), HOST, mac, bytes([128, 0, 0, 0, 0, 1, 0, 1]) + b"who is there?")
+
+
+def neighbour(i):
+    return f"02:00:00:01:{i >> 8:02x}:{i & 255:02x}"
+
+
+def mixed(count):
+    """Yields frames of all kinds, some with a fault, from a few dozen neighbours."""
+    choice = random.Random(4861)
+    yield advertisement()
+    for i in range(1, count):
+        mac, k = neighbour(choice.randrange(40)), choice.randrange(80)
+        one = choice.choice([solicitation(mac), solicitation(mac), answer(mac), answer(mac, 0x20), redirect(k), router_solicitation(mac), echo(mac),
+                             advertisement(), advertisement(mac, link_layer(1, mac), 600, choice.choice([0, 8, 24, 192])), advertisement(mac, b"", 0)])
+        if choice.random() < 0.05:
+            digits = bytearray.fromhex(one)
+            digits[choice.randrange(len(digits))] ^= 1 << choice.randrange(8)
+            one = digits.hex() if choice.random() < 0.5 else digits.hex()[: 2 * choice.randrange(len(digits))]
+        yield one
+
+
+def full(count):
+    """Yields frames that fill each table of a host: routers, prefixes, addresses, servers, names, redirects, and then `count` neighbours."""
+    yield advertisement(options=link_layer(1, ROUTER_MAC), lifetime=9000)
+    for i in range(1, 16):
+        yield advertisement(f"02:00:00:02:00:{i:02x}", b"", 9000)
+    for i in range(0, 64, 8):
+        yield advertisement(options=b"".join(prefix(f"2001:db8:{k + 1:x}::", 0xC0 if k < 63 else 0x80) for k in range(i, i + 8)))
+    for i in range(0, 32, 8):
+        yield advertisement(options=servers(1800, *(f"2001:db8::{k + 1:x}" for k in range(i, i + 8))))
+    for k in range(32):
+        label = "a" * 61
+        yield advertisement(options=names(1800, f"{label}{k:02}.{label}00.{label}00.{'b' * 61}"))
+    for k in range(64):
+        yield redirect(k)
+    for i in range(count):
+        yield solicitation(neighbour(i))
+
+
+if __name__ == "__main__":
+    if len(sys.argv) != 3 or sys.argv[1] not in ("mixed", "full"):
+        sys.exit(__doc__)
+    for line in (mixed if sys.argv[1] == "mixed" else full)(int(sys.argv[2])):
+        print(line)
