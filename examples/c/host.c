@@ -1,0 +1,60 @@
+/* host MAC DRAWS < frames: reads lines "MOMENT HEX", a moment in milliseconds and a frame that is received then; without a frame time passes. Prints
+ * what happens in the words of `ndpctl run`, but numbers of nd.h for words that follow, and at last what it knows. DRAWS is seed:N or word:N. */
+#include <arpa/inet.h>
+#include <inttypes.h>
+#include <stdio.h>
+#include <stdlib.h>
+#include <string.h>
+#include "nd.h"
+
+static uint8_t frame[65536], buffer[65536];
+static char text[INET6_ADDRSTRLEN], line[2 * sizeof frame + 32];
+
+static void drain(nd_node *node) /* prints all records, the oldest first */
+{
+    static const char *const kinds[] = {"",         "tx ",           "heard",        "drop",   "up ",  "duplicate",
+                                        "assigned", "ended address", "ended router", "failed", "lost", "refused"};
+    nd_out out;
+    while (nd_poll(node, &out, buffer, sizeof buffer) == ND_DONE) {
+        printf("%" PRIu64 " %s", out.moment, out.kind <= ND_OUT_REFUSED ? kinds[out.kind] : "of a later version");
+        for (size_t i = 0; i < out.length && out.kind != ND_OUT_LOST; i++)
+            printf("%02x", buffer[i]);
+        if (out.code > 0)
+            printf(" %" PRIu32, out.code);
+        if (out.kind >= ND_OUT_DUPLICATE && out.kind <= ND_OUT_FAILED)
+            printf(" %s", inet_ntop(AF_INET6, &out.address, text, sizeof text));
+        printf("\n");
+    }
+}
+
+int main(int argc, char **argv)
+{
+    nd_node node = ND_NODE_INIT;
+    nd_options options = ND_OPTIONS_INIT;
+    uint8_t *m = options.mac.bytes;
+    if (argc != 3 || sscanf(argv[1], "%hhx:%hhx:%hhx:%hhx:%hhx:%hhx", m, m + 1, m + 2, m + 3, m + 4, m + 5) != 6)
+        return fprintf(stderr, "usage: host MAC DRAWS < frames\n"), 2;
+    options.draws = argv[2][0] == 'w' ? ND_DRAWS_WORD : ND_DRAWS_SEED;
+    options.seed = strtoull(argv[2] + strcspn(argv[2], "0123456789"), NULL, 10);
+    if (nd_open(&node, &options) != ND_DONE)
+        return fprintf(stderr, "host: not opened\n"), 1;
+    while (fgets(line, sizeof line, stdin) != NULL) {
+        char *digits;
+        uint64_t now = strtoull(line, &digits, 10);
+        size_t length = 0;
+        for (digits += *digits == ' '; length < sizeof frame && sscanf(digits, "%2hhx", &frame[length]) == 1; digits += 2)
+            length++;
+        if ((length > 0 ? nd_receive(&node, now, frame, length) : nd_turn(&node, now)) < 0)
+            fprintf(stderr, "host: no event at %" PRIu64 "\n", now);
+        drain(&node);
+    }
+    nd_address_row own;
+    for (size_t i = 0; nd_address_at(&node, nd_last_moment(&node), i, &own) == ND_DONE; i++)
+        printf("address %s %" PRIu32 " %" PRIu64 " %" PRIu64 "\n", inet_ntop(AF_INET6, &own.address, text, sizeof text), own.state,
+               own.preferred_left, own.valid_left);
+    nd_router_row router;
+    for (size_t i = 0; nd_router_at(&node, nd_last_moment(&node), i, &router) == ND_DONE; i++)
+        printf("router %s %" PRIu64 " %" PRIu32 "\n", inet_ntop(AF_INET6, &router.address, text, sizeof text), router.left, router.preference);
+    nd_close(&node);
+    return 0;
+}
