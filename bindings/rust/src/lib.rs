@@ -1,0 +1,209 @@
+//! IPv6 Neighbor Discovery for one Ethernet interface, as a host or as a router, over the library `libnd_c.a`. `nd.h` says what each call does; this
+//! crate gives them Rust's types. It has no dependencies.
+//!
+//! The program passes frames and moments in, and takes reports out:
+//!
+//! ```no_run
+//! use nd::{Event, Node, Options};
+//!
+//! # fn transmit(frame: &[u8]) {}
+//! # fn example(frame: &[u8]) -> Result<(), nd::Error> {
+//! let mut node = Node::open(&Options::host([0x34, 0x56, 0x78, 0x9a, 0xbc, 0xde], 0, 1))?;
+//! node.receive(3000, frame)?;
+//! for report in node.poll() {
+//!     match report.event {
+//!         Event::Frame(frame) => transmit(&frame),
+//!         other => println!("{} {other:?}", report.moment),
+//!     }
+//! }
+//! for address in node.addresses(3000)? {
+//!     println!("{} {:?}", address.address, address.state);
+//! }
+//! let due = node.next_due();
+//! # Ok(())
+//! # }
+//! ```
+//!
+//! What the caller owes: moments never decrease; only frames to the interface's own address and to multicast addresses are passed, and none that the
+//! interface itself sent.
+#![deny(unsafe_op_in_unsafe_fn)]
+
+mod event;
+#[cfg(feature = "memory")]
+mod memory;
+mod node;
+mod numbers;
+pub mod raw;
+mod rows;
+
+pub use event::{Event, Refusal, Report};
+pub use node::{Node, Reports, Rows};
+pub use numbers::{Clearable, Limit, Loss, Preference, Reachability, State, Why};
+pub use raw::nd_advertising as Advertising;
+pub use raw::nd_counts_row as Counts;
+pub use raw::nd_heard as Heard;
+pub use raw::nd_offer_row as Offer;
+pub use raw::nd_parameters_row as Parameters;
+pub use rows::{Address, Hop, Name, Neighbour, Prefix, Redirect, Route, Router, Server};
+
+/// Moments are below it.
+pub const MOMENT_LIMIT: u64 = 1 << 62;
+
+/// What a node is.
+#[derive(Clone, Copy, Debug, PartialEq, Eq)]
+pub enum Role {
+    Host,
+    Router,
+}
+
+impl Role {
+    fn number(self) -> u32 {
+        match self {
+            Role::Host => 0,
+            Role::Router => 1,
+        }
+    }
+}
+
+/// Where a node's random words are from.
+#[derive(Clone, Copy, Debug, PartialEq, Eq)]
+pub enum Draws {
+    /// PCG32 with this seed. Take it from the system's entropy, so that machines that start together do not send together.
+    Seed(u64),
+    /// Each word is this one: for tests.
+    Word(u32),
+}
+
+/// How a node is opened.
+#[derive(Clone, Debug, PartialEq, Eq)]
+pub struct Options {
+    pub role: Role,
+    /// The interface's own address.
+    pub mac: [u8; 6],
+    /// The moment of the start, in milliseconds.
+    pub start: u64,
+    pub draws: Draws,
+    /// DupAddrDetectTransmits (RFC 4862, 5.1), 1 to 8.
+    pub transmits: u8,
+    /// Neighbours at most, 1 to 2048.
+    pub neighbours: u32,
+    /// Default routers at most, 1 to 64.
+    pub routers: u32,
+}
+
+impl Options {
+    /// Returns the options of a host with the usual limits.
+    pub fn host(mac: [u8; 6], start: u64, seed: u64) -> Options {
+        Options { role: Role::Host, mac, start, draws: Draws::Seed(seed), transmits: 1, neighbours: 512, routers: 16 }
+    }
+
+    /// Returns the options of a router with the usual limits.
+    pub fn router(mac: [u8; 6], start: u64, seed: u64) -> Options {
+        Options { role: Role::Router, ..Options::host(mac, start, seed) }
+    }
+
+    fn raw(&self) -> raw::nd_options {
+        let (draws, seed) = match self.draws {
+            Draws::Seed(seed) => (0, seed),
+            Draws::Word(word) => (1, u64::from(word)),
+        };
+        raw::nd_options {
+            size: std::mem::size_of::<raw::nd_options>() as u32,
+            role: self.role.number(),
+            mac: self.mac,
+            transmits: self.transmits,
+            draws,
+            neighbours: self.neighbours,
+            routers: self.routers,
+            start: self.start,
+            seed,
+            reserved: [0; 3],
+        }
+    }
+}
+
+/// What an event did.
+#[derive(Clone, Copy, Debug, PartialEq, Eq)]
+pub enum Outcome {
+    Done,
+    /// Time has passed up to the event, and nothing else has changed. The newest report says why.
+    Refused,
+}
+
+/// Why a call did not take place.
+#[derive(Clone, Copy, Debug, PartialEq, Eq)]
+pub enum Error {
+    /// Memory was refused. Take the reports, and make the same call again.
+    NoMemory,
+    /// The node is not open.
+    Closed,
+    /// An argument that the call does not take.
+    Invalid,
+    /// The moment is before the last one.
+    Past,
+    /// The buffer is too short for this many bytes.
+    NoRoom(usize),
+    /// A status of a later version.
+    Other(i32),
+}
+
+impl Error {
+    fn from_status(status: i32) -> Error {
+        match status {
+            -1 => Error::NoMemory,
+            -2 => Error::Closed,
+            -3 => Error::Invalid,
+            -4 => Error::Past,
+            status => Error::Other(status),
+        }
+    }
+}
+
+impl std::fmt::Display for Error {
+    fn fmt(&self, f: &mut std::fmt::Formatter<'_>) -> std::fmt::Result {
+        match self {
+            Error::NoMemory => f.write_str("out of memory"),
+            Error::Closed => f.write_str("the node is not open"),
+            Error::Invalid => f.write_str("an argument that the call does not take"),
+            Error::Past => f.write_str("the moment is before the last one"),
+            Error::NoRoom(length) => write!(f, "the buffer is too short for {length} bytes"),
+            Error::Other(status) => write!(f, "status {status}"),
+        }
+    }
+}
+
+impl std::error::Error for Error {}
+
+/// Returns the version of the library that is linked: major, minor and patch.
+pub fn version() -> (u32, u32, u32) {
+    let version = unsafe { raw::nd_version() };
+    (version >> 16, version >> 8 & 0xff, version & 0xff)
+}
+
+/// Returns how many bytes the tables of a node take at most with these limits, or `None` if a limit is out of its range.
+pub fn node_bytes(neighbours: u32, routers: u32) -> Option<usize> {
+    let bytes = unsafe { raw::nd_node_bytes(neighbours, routers) };
+    (bytes > 0).then_some(bytes)
+}
+
+/// What a frame is to a host or to a router that knows nothing else.
+#[derive(Clone, Copy, Debug)]
+pub enum Hearing {
+    /// A valid message of Neighbor Discovery.
+    Valid(Heard),
+    /// Another IPv6 packet.
+    Other(Heard),
+    /// A frame that is dropped.
+    Drop(Why),
+}
+
+/// Returns what a frame is to a role.
+pub fn hear(frame: &[u8], role: Role) -> Hearing {
+    let mut heard = Heard::default();
+    unsafe { raw::nd_hear(frame.as_ptr(), frame.len(), role.number(), &mut heard) };
+    match heard.hearing {
+        1 => Hearing::Valid(heard),
+        2 => Hearing::Other(heard),
+        _ => Hearing::Drop(Why::from(heard.why)),
+    }
+}

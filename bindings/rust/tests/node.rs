@@ -1,0 +1,167 @@
+//! A node through the safe interface. The frames and texts of the host are those of `examples/`, which were not written by this library.
+
+use nd::*;
+use std::net::Ipv6Addr;
+
+const MAC: [u8; 6] = [0x34, 0x56, 0x78, 0x9a, 0xbc, 0xde];
+const ROUTER_MAC: [u8; 6] = [2, 0, 0, 0, 0, 1];
+
+fn address(text: &str) -> Ipv6Addr {
+    text.parse().unwrap()
+}
+
+fn bytes(digits: &str) -> Vec<u8> {
+    (0..digits.len() / 2).map(|i| u8::from_str_radix(&digits[2 * i..2 * i + 2], 16).unwrap()).collect()
+}
+
+fn host() -> Node {
+    Node::open(&Options { draws: Draws::Word(0), ..Options::host(MAC, 0, 0) }).unwrap()
+}
+
+fn router() -> Node {
+    Node::open(&Options { draws: Draws::Word(0), ..Options::router(ROUTER_MAC, 0, 0) }).unwrap()
+}
+
+/// Returns a host that has received all frames of the example.
+fn informed() -> Node {
+    let mut node = host();
+    for line in include_str!("../../../examples/host.hex").lines() {
+        let (moment, digits) = line.split_once(' ').unwrap_or((line, ""));
+        let (moment, frame) = (moment.parse().unwrap(), bytes(digits));
+        if frame.is_empty() { node.turn(moment).unwrap() } else { node.receive(moment, &frame).unwrap() };
+    }
+    node
+}
+
+#[test]
+fn may_go_to_another_thread() {
+    fn goes<T: Send>() {}
+    goes::<Node>();
+    let mut node = host();
+    let reports = std::thread::spawn(move || {
+        node.turn(1000).unwrap();
+        node.poll().count()
+    });
+    assert_eq!(reports.join().unwrap(), 3);
+}
+
+#[test]
+fn a_host_assigns_its_address_and_solicits_routers() {
+    let mut node = host();
+    assert_eq!(node.last_moment(), 0);
+    assert_eq!(node.turn(2000), Ok(Outcome::Done));
+    let reports: Vec<_> = node.poll().collect();
+    let moments: Vec<u64> = reports.iter().map(|report| report.moment).collect();
+    assert_eq!(moments, [0, 1000, 1000]);
+    assert_eq!(reports[1].event, Event::Assigned(address("fe80::3656:78ff:fe9a:bcde")));
+    assert!(matches!(&reports[2].event, Event::Frame(frame) if frame.len() == 70 && frame[54] == 133));
+    assert_eq!(node.next_due(), 5000);
+    assert_eq!(node.poll().next(), None);
+}
+
+#[test]
+fn what_a_host_knows_is_in_rows() {
+    let node = informed();
+    let now = node.last_moment();
+    let own: Vec<Address> = node.addresses(now).unwrap().collect();
+    assert_eq!(own[0].address, address("2001:db8::3656:78ff:fe9a:bcde"));
+    assert_eq!((own[0].state, own[0].preferred_left, own[0].valid_left), (State::Preferred, Some(604_798_900), Some(2_591_998_900)));
+    assert_eq!((own[1].state, own[1].valid_left, own.len()), (State::Preferred, None, 2));
+    let routers: Vec<Router> = node.routers(now).unwrap().collect();
+    assert_eq!(routers[0], Router { address: address("fe80::ff:fe00:1"), left: 1_798_900, preference: Preference::Medium });
+    assert_eq!(routers[1], Router { address: address("fe80::2"), left: 1_800_000, preference: Preference::High });
+    let prefixes: Vec<Prefix> = node.prefixes(now).unwrap().collect();
+    assert_eq!(prefixes, [Prefix { prefix: address("2001:db8::"), bits: 64, left: Some(2_591_998_900) }]);
+    let neighbours: Vec<Neighbour> = node.neighbours(now).unwrap().collect();
+    assert_eq!(neighbours.len(), 2);
+    assert_eq!(node.neighbour(now, address("fe80::2")), Ok(Some(neighbours[0])));
+    assert_eq!((neighbours[0].mac, neighbours[0].is_router, neighbours[0].state), (Some([2, 0, 0, 0, 0, 2]), true, Reachability::Stale));
+    assert_eq!(node.neighbour(now, address("fe80::3")), Ok(None));
+    let counts = node.counts(now).unwrap();
+    assert_eq!((counts.neighbours, counts.routers, counts.prefixes, counts.addresses), (2, 2, 1, 2));
+    let parameters = node.parameters(now).unwrap();
+    assert_eq!((parameters.mtu, parameters.hop_limit, parameters.reachable_time), (1500, 64, 15_000));
+    assert_eq!(node.servers(now).unwrap().count() + node.names(now).unwrap().count() + node.redirects(now).unwrap().count(), 0);
+}
+
+#[test]
+fn packets_go_to_their_next_hop() {
+    let mut node = informed();
+    let (own, far) = (address("2001:db8::3656:78ff:fe9a:bcde"), address("2001:db8:1::5"));
+    assert_eq!(node.next_hop(2300, far), Ok(Some(Hop::Via(address("fe80::2")))));
+    assert_eq!(node.next_hop(2300, address("2001:db8::1")), Ok(Some(Hop::Direct)));
+    let _ = node.poll().count();
+    assert_eq!(node.send(2400, own, far, 17, &[]), Ok(Outcome::Done));
+    let sent = bytes("0200000000023456789abcde86dd600000000000114020010db800000000365678fffe9abcde20010db8000100000000000000000005");
+    let mut buffer = [0; 1514];
+    assert_eq!(node.poll_into(&mut buffer[..53]), Err(Error::NoRoom(54)));
+    assert_eq!(node.poll_into(&mut buffer), Ok(Some(Report { moment: 2400, event: Event::Frame(&sent[..]) })));
+    assert_eq!(node.poll_into(&mut buffer), Ok(None));
+    assert_eq!(node.confirm(2500, address("fe80::2")), Ok(Outcome::Done));
+    assert_eq!(node.neighbour(2500, address("fe80::2")).unwrap().unwrap().state, Reachability::Reachable);
+    assert_eq!(node.forget(2500, address("fe80::2")), Ok(Outcome::Done));
+    assert_eq!(node.neighbour(2500, address("fe80::2")), Ok(None));
+    assert_eq!(node.clear(2500, Clearable::Routers), Ok(Outcome::Done));
+    let ended: Vec<_> = node.poll().map(|report| report.event).collect();
+    assert_eq!(ended, [Event::EndedRouter(address("fe80::ff:fe00:1")), Event::EndedRouter(address("fe80::2"))]);
+    assert_eq!(node.send(2500, own, far, 17, &[7]), Ok(Outcome::Done));
+    assert!(matches!(node.poll().next().unwrap().event, Event::Lost(Loss::NoRoute, packet) if packet.len() == 41 && packet[40] == 7));
+}
+
+#[test]
+fn mistakes_are_errors_and_refusals_are_outcomes() {
+    let mut node = host();
+    assert_eq!(Node::open(&Options { transmits: 9, ..Options::host(MAC, 0, 0) }).err(), Some(Error::Invalid));
+    node.turn(2000).unwrap();
+    assert_eq!(node.turn(1999), Err(Error::Past));
+    assert_eq!(node.turn(MOMENT_LIMIT), Err(Error::Invalid));
+    assert_eq!(node.addresses(1999).err(), Some(Error::Past));
+    assert_eq!(node.addresses(MOMENT_LIMIT).err(), Some(Error::Invalid));
+    let _ = node.poll().count();
+    assert_eq!(node.stop(2000), Ok(Outcome::Refused));
+    assert_eq!(node.poll().next().unwrap().event, Event::Refused(Refusal::WrongRole));
+    let unknown = address("2001:db8::9");
+    assert_eq!(node.send(2000, unknown, unknown, 17, &[]), Ok(Outcome::Refused));
+    assert_eq!(node.poll().next().unwrap().event, Event::Refused(Refusal::NotOurs(unknown)));
+    assert_eq!(node.receive(2000, &[]), Ok(Outcome::Done));
+    assert_eq!(node.poll().next().unwrap().event, Event::Dropped(Why::FrameShort));
+}
+
+#[test]
+fn a_router_advertises() {
+    let mut node = router();
+    let settings = Advertising { min_interval: 200, max_interval: 600, lifetime: 1800, hop_limit: 64, ..Default::default() };
+    let offer = Offer { prefix: address("2001:db8::").octets(), bits: 64, valid_lifetime: 3600, preferred_lifetime: 1800, on_link: 1, autonomous: 1, ..Default::default() };
+    let route = Route { prefix: address("2001:db8:1::"), bits: 64, hop: Hop::Via(address("fe80::2")) };
+    node.turn(1000).unwrap();
+    let _ = node.poll().count();
+    assert_eq!(node.advertising(1000), Ok(None));
+    assert_eq!(node.offer(1000, &offer), Ok(Outcome::Done));
+    assert_eq!(node.route(1000, &route), Ok(Outcome::Done));
+    assert_eq!(node.advertise(1000, &settings), Ok(Outcome::Done));
+    assert_eq!(node.advertising(1000), Ok(Some(settings)));
+    assert_eq!(node.offers(1000).unwrap().collect::<Vec<_>>(), [offer]);
+    assert_eq!(node.routes(1000).unwrap().collect::<Vec<_>>(), [route]);
+    node.turn(1000).unwrap();
+    assert!(matches!(node.poll().next().unwrap().event, Event::Frame(frame) if frame[54] == 134));
+    assert_eq!(node.next_hop(1000, address("2001:db8:1::7")), Ok(Some(Hop::Via(address("fe80::2")))));
+    assert_eq!(node.stop(1000), Ok(Outcome::Done));
+    assert_eq!(node.advertising(1000), Ok(None));
+}
+
+#[test]
+fn a_frame_is_heard_without_a_node() {
+    let line = include_str!("../../../examples/host.hex").lines().nth(1).unwrap();
+    let frame = bytes(line.split_once(' ').unwrap().1);
+    assert!(matches!(hear(&frame, Role::Host), Hearing::Valid(heard) if heard.message_type == 134 && heard.router_lifetime == 1800));
+    assert!(matches!(hear(&frame, Role::Router), Hearing::Drop(Why::NotForUs)));
+    assert!(matches!(hear(&[], Role::Host), Hearing::Drop(Why::FrameShort)));
+}
+
+#[test]
+fn the_version_and_the_bytes() {
+    assert_eq!((version().0, version().1 >= 1), (0, true));
+    assert_eq!(node_bytes(0, 0), node_bytes(512, 16));
+    assert_eq!(node_bytes(2049, 0), None);
+    assert!(node_bytes(16, 1) < node_bytes(512, 16));
+}
