@@ -1,0 +1,207 @@
+"""check_programs: the archives, and the programs over them: the examples and the tests in C, and the crate for Rust. Each also runs under valgrind, on
+fewer frames where that takes long."""
+import os
+import re
+import shutil
+import sys
+
+from checking import INCLUDE, TOP, WARNINGS, has, read, report, report_if, run, skip
+
+BINDINGS = f"{TOP}/bindings"
+TESTS = f"{BINDINGS}/tests"
+sys.path.insert(0, TESTS)
+import frames  # noqa: E402
+import scripts  # noqa: E402
+
+# The symbols that the archive of a node takes from the program.
+NEEDED = {"memcpy", "memmove", "memset", "rattle_alloc", "rattle_realloc", "rattle_dealloc"}
+HEAP = f"{BINDINGS}/c/heap.c"
+POOL = f"{BINDINGS}/c/pool.c"
+COUNTING = f"{TESTS}/heap.c"
+VALGRIND = ["valgrind", "-q", "--error-exitcode=99", "--leak-check=full", "--errors-for-leak-kinds=definite"]
+HOST = ["34:56:78:9a:bc:de", "word:0"]
+NDPCTL = f"{TOP}/crates/ndpctl/out/ndpctl"
+MIXED = "\n".join(frames.mixed(300)) + "\n"
+FEW = "\n".join(frames.mixed(40)) + "\n"
+
+
+def archive_of(crate, variable):
+    """Returns the archive of a crate: the one that the variable names, or the one that `rt lib` makes. None if there is none."""
+    if os.environ.get(variable):
+        return os.environ[variable]
+    folder = f"{TOP}/crates/{crate}"
+    if not os.path.isdir(folder):
+        return skip(f"the archive of {crate}", f"crates/{crate} is not there")
+    if not has("rt", f"the archive of {crate}"):
+        return None
+    is_built = run(["rt", "lib"], cwd=folder)
+    return f"{folder}/out/lib{crate}.a" if report(f"the archive of {crate} is built", is_built) or is_built.returncode == 0 else None
+
+
+def check_symbols(what, archive, needed):
+    """Requires that an archive needs no other symbols than these."""
+    if has("nm", f"the symbols of {what}"):
+        listed = run(["nm", archive]).stdout
+        others = set(re.findall(r"^ +U (\S+)", listed, re.M)) - set(re.findall(r"^\w+ [TtRrDdBb] (\S+)", listed, re.M)) - needed
+        report_if(f"{what} needs no other symbols than {len(needed)}", not others, f"it needs {sorted(others)}\n")
+
+
+def build(room, name, sources, *more):
+    """Builds a program and returns its path, or None if that fails."""
+    words = ["gcc", "-std=c11", "-D_POSIX_C_SOURCE=200809L", "-O2", "-g", *WARNINGS, f"-I{INCLUDE}", *sources, *more, "-o", f"{room}/{name}"]
+    is_built = run(words)
+    return f"{room}/{name}" if report_if(f"{name} is built", is_built.returncode == 0, is_built.stderr) else None
+
+
+def check_runs(what, words, text="", under=None):
+    """Runs a program, and then under valgrind, on the text `under` if it is given. Returns what it printed first."""
+    first = run(words, input=text)
+    report(what, first)
+    if has("valgrind", f"{what}, under valgrind"):
+        report(f"{what}, under valgrind", run([*VALGRIND, *words], input=text if under is None else under))
+    return first.stdout
+
+
+def check_hear(room):
+    archive = archive_of("nd_hear_c", "ND_HEAR_ARCHIVE")
+    if not archive or not has("gcc", "the example hear"):
+        return
+    check_symbols("the archive of nd_hear_c", archive, set())
+    program = build(room, "hear", [f"{TOP}/examples/c/hear.c", archive])
+    if not program:
+        return
+    wanted = read(f"{TOP}/examples/link.txt").splitlines()
+    lines = check_runs("hear reads the frames", [program], read(f"{TOP}/examples/link.hex")).splitlines()
+    are_right = len(lines) == len(wanted) and all(f"{line} ".startswith(f"{said} ") for said, line in zip(lines, wanted))
+    report_if("hear says what ndpctl check says", are_right, "\n".join(lines))
+
+
+def check_host(what, program):
+    """Requires that a host of the examples says of the frames what is wanted."""
+    said = check_runs(what, [program, *HOST], read(f"{TOP}/examples/host.hex"))
+    report_if(f"{what} says what is wanted", said == read(f"{TOP}/examples/host.txt"), said)
+
+
+def check_traces(program):
+    """Runs the scripts of the repository over the library: what it prints is what is wanted of `ndpctl run`."""
+    wrong = []
+    known = scripts.scripts()
+    for name, args, script, wanted in known:
+        said = run([program, *args], input=script)
+        if said.returncode or said.stdout != wanted:
+            wrong.append(f"{name}: {said.stderr}{difference(said.stdout, wanted)}")
+    report_if(f"trace: {len(known)} scripts of the tests of ndpctl run", not wrong, "\n".join(wrong[:8]))
+    name, args, script, wanted = known[-1]
+    if has("valgrind", "trace, under valgrind"):
+        report(f"trace: {name}, under valgrind", run([*VALGRIND, program, *args], input=script))
+
+
+def difference(said, wanted):
+    """Returns the first line that differs."""
+    for number, (one, other) in enumerate(zip([*said.splitlines(), "(end)"], [*wanted.splitlines(), "(end)"]), 1):
+        if one != other:
+            return f"line {number} is {one[:200]!r}, not {other[:200]!r}"
+    return "one has more lines"
+
+
+def check_beside_ndpctl(program):
+    """Runs longer scripts over the library and by ndpctl, with the same seeds."""
+    if not os.path.exists(NDPCTL):
+        return skip("trace beside ndpctl run", "crates/ndpctl/out/ndpctl is not there")
+    tables = ["neighbours", "routers", "prefixes", "addresses", "dns", "redirects", "params", "advertise", "routes"]
+    captured = read(f"{TOP}/examples/link.hex").split()
+    for seed in ("seed:0", "seed:4861", "word:0"):
+        for role in ("host", "router"):
+            args = ["run", "--role", role, "--mac", frames.HOST_MAC, "--draws", seed]
+            script = "".join(f"{3000 + 50 * i} rx {digits or '-'}\n" for i, digits in enumerate([*captured, *frames.mixed(2000)]))
+            script += "".join(f"200000 show {table}\n" for table in tables) + "9000000 at\n" + "".join(f"9000000 show {table}\n" for table in tables)
+            said, wanted = run([program, *args], input=script), run([NDPCTL, *args], input=script)
+            is_same = said.returncode == 0 and said.stdout == wanted.stdout
+            report_if(f"trace: as ndpctl run, {role}, {seed}, {len(wanted.stdout.splitlines())} lines", is_same,
+                      said.stderr + difference(said.stdout, wanted.stdout))
+
+
+def check_tests(room, archive):
+    misuse = build(room, "misuse", [f"{TESTS}/misuse.c", COUNTING, archive])
+    if misuse:
+        print(check_runs("misuse", [misuse]), end="")
+    refuse = build(room, "refuse", [f"{TESTS}/refuse.c", COUNTING, archive])
+    if refuse:
+        print(check_runs("refuse: 300 frames, each request refused once", [refuse], MIXED, FEW), end="")
+    threads = build(room, "threads", [f"{TESTS}/threads.c", HEAP, archive], "-pthread")
+    if threads:
+        print(check_runs("threads", [threads], MIXED, FEW), end="")
+        if has("valgrind", "threads, under helgrind"):
+            report("threads, under helgrind", run(["valgrind", "--tool=helgrind", "-q", "--error-exitcode=99", threads], input=FEW))
+    size = build(room, "bytes", [f"{TESTS}/bytes.c", COUNTING, archive])
+    for count in (1, 16, 512, 2048) if size else ():
+        text = "\n".join(frames.full(count)) + "\n"
+        said = run([size, str(count)], input=text)
+        report(f"bytes: {count} neighbours", said)
+        print(said.stdout, end="")
+    trace = build(room, "trace", [f"{TESTS}/trace.c", HEAP, archive])
+    if trace:
+        check_traces(trace)
+        check_beside_ndpctl(trace)
+    build(room, "measure", [f"{TESTS}/measure.c", HEAP, archive])
+
+
+def check_bare(room, archive):
+    """Builds and runs a host without a C library, in a pool."""
+    if os.uname().machine != "x86_64":
+        return skip("bare", "it is for x86-64")
+    more = ["-ffreestanding", "-fno-stack-protector", "-nostdlib", "-static", "-no-pie"]
+    bare = build(room, "bare", [f"{TESTS}/bare.c", POOL, archive], *more)
+    if bare:
+        said = run([bare])
+        report_if("bare: a host without libc", said.returncode == 0 and said.stdout == "frame\nassigned\nframe\nframe\n", said.stdout)
+    return None
+
+
+def check_examples(room, archive):
+    host = build(room, "host", [f"{TOP}/examples/c/host.c", HEAP, archive])
+    if host:
+        check_host("host", host)
+    in_pool = build(room, "host_in_a_pool", [f"{TOP}/examples/c/host.c", POOL, archive])
+    if in_pool:
+        check_host("host in a pool", in_pool)
+    build(room, "loop", [f"{TOP}/examples/c/loop.c", HEAP, archive])
+
+
+def check_make(archive):
+    """Makes what the Makefile makes, and what it makes for aarch64."""
+    if not has("make", "the Makefile"):
+        return
+    words = ["make", "-s", "-C", BINDINGS]
+    report("make", run([*words, f"ND_ARCHIVE={archive}"]))
+    if os.environ.get("ND_ARCHIVE"):
+        return skip("make aarch64", "ND_ARCHIVE names an archive for this machine")
+    made = run([*words, "aarch64"])
+    print("".join(line + "\n" for line in made.stdout.splitlines() if line.startswith("skipped: ")), end="")
+    report("make aarch64", made)
+
+
+def check_rust(room, archive):
+    if not has("cargo", "the crate for Rust"):
+        return
+    shutil.copy(archive, f"{room}/libnd_c.a")
+    environment = {**os.environ, "ND_LIB": room, "CARGO_TARGET_DIR": f"{room}/target"}
+    words = ["--offline", "--locked", "--quiet", "--manifest-path"]
+    report("the tests of the crate nd", run(["cargo", "test", *words, f"{BINDINGS}/rust/Cargo.toml"], env=environment))
+    if report("the example in Rust is built", run(["cargo", "build", *words, f"{TOP}/examples/rust/Cargo.toml"], env=environment)):
+        check_host("host in Rust", f"{room}/target/debug/host")
+
+
+def check_programs(room):
+    check_hear(room)
+    archive = archive_of("nd_c", "ND_ARCHIVE")
+    if not archive or not os.path.exists(archive):
+        return
+    archive = os.path.abspath(archive)
+    check_symbols("the archive of nd_c", archive, NEEDED)
+    if has("gcc", "the programs in C"):
+        check_examples(room, archive)
+        check_tests(room, archive)
+        check_bare(room, archive)
+        check_make(archive)
+    check_rust(room, archive)

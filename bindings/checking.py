@@ -1,0 +1,47 @@
+"""checking: what the checks of the bindings share: running a command, and counting what passed and failed."""
+import os
+import shutil
+import subprocess
+
+TOP = os.path.dirname(os.path.dirname(os.path.abspath(__file__)))
+INCLUDE = f"{TOP}/include"
+WARNINGS = ["-Wall", "-Wextra", "-Wpedantic", "-Werror"]
+
+passed, failed = 0, 0
+
+
+def run(words, **more):
+    """Runs a command. What it prints is text."""
+    return subprocess.run(words, capture_output=True, text=True, **more)
+
+
+def report_if(what, is_so, detail=""):
+    """Counts and prints a check. `detail` is printed if it failed."""
+    global passed, failed
+    passed, failed = (passed + 1, failed) if is_so else (passed, failed + 1)
+    print(f"{'passed' if is_so else 'FAILED'}: {what}", flush=True)
+    if not is_so and detail:
+        print(detail.rstrip("\n"), flush=True)
+    return is_so
+
+
+def report(what, process):
+    """Counts and prints a command that is to end with status 0."""
+    return report_if(what, process.returncode == 0, (process.stdout + process.stderr)[-4000:])
+
+
+def skip(what, why):
+    print(f"skipped: {what}: {why}", flush=True)
+
+
+def has(tool, what):
+    """Returns true if a tool is there. Else it prints that `what` is skipped."""
+    if shutil.which(tool):
+        return True
+    skip(what, f"{tool} is not there")
+    return False
+
+
+def read(path):
+    with open(path, encoding="utf-8") as file:
+        return file.read()
