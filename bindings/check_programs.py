@@ -34,8 +34,7 @@ def archive_of(crate, variable):
         return skip(f"the archive of {crate}", f"crates/{crate} is not there")
     if not has("rt", f"the archive of {crate}"):
         return None
-    is_built = run(["rt", "lib"], cwd=folder)
-    return f"{folder}/out/lib{crate}.a" if report(f"the archive of {crate} is built", is_built) or is_built.returncode == 0 else None
+    return f"{folder}/out/lib{crate}.a" if report(f"the archive of {crate} is built", run(["rt", "lib"], cwd=folder)) else None
 
 
 def check_symbols(what, archive, needed):
