@@ -83,9 +83,7 @@ impl Node {
     /// Sends a packet of an upper layer. `source` is an assigned address of the node, and `payload` what follows the IPv6 header.
     pub fn send(&mut self, now: u64, source: Ipv6Addr, destination: Ipv6Addr, next_header: u8, payload: &[u8]) -> Result<Outcome, Error> {
         let (source, destination) = (source.octets(), destination.octets());
-        outcome_of(unsafe {
-            raw::nd_send(self.slot.get(), now, &source, &destination, next_header, payload.as_ptr(), payload.len())
-        })
+        outcome_of(unsafe { raw::nd_send(self.slot.get(), now, &source, &destination, next_header, payload.as_ptr(), payload.len()) })
     }
 
     /// Confirms that a neighbour, the next hop, is reached.

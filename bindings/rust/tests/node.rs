@@ -28,7 +28,11 @@ fn informed() -> Node {
     for line in include_str!("../../../examples/host.hex").lines() {
         let (moment, digits) = line.split_once(' ').unwrap_or((line, ""));
         let (moment, frame) = (moment.parse().unwrap(), bytes(digits));
-        if frame.is_empty() { node.turn(moment).unwrap() } else { node.receive(moment, &frame).unwrap() };
+        if frame.is_empty() {
+            node.turn(moment).unwrap()
+        } else {
+            node.receive(moment, &frame).unwrap()
+        };
     }
     node
 }
@@ -131,7 +135,15 @@ fn mistakes_are_errors_and_refusals_are_outcomes() {
 fn a_router_advertises() {
     let mut node = router();
     let settings = Advertising { min_interval: 200, max_interval: 600, lifetime: 1800, hop_limit: 64, ..Default::default() };
-    let offer = Offer { prefix: address("2001:db8::").octets(), bits: 64, valid_lifetime: 3600, preferred_lifetime: 1800, on_link: 1, autonomous: 1, ..Default::default() };
+    let offer = Offer {
+        prefix: address("2001:db8::").octets(),
+        bits: 64,
+        valid_lifetime: 3600,
+        preferred_lifetime: 1800,
+        on_link: 1,
+        autonomous: 1,
+        ..Default::default()
+    };
     let route = Route { prefix: address("2001:db8:1::"), bits: 64, hop: Hop::Via(address("fe80::2")) };
     node.turn(1000).unwrap();
     let _ = node.poll().count();

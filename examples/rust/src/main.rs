@@ -44,7 +44,11 @@ fn main() -> Result<(), Box<dyn std::error::Error>> {
     for line in std::io::stdin().lines().map_while(Result::ok) {
         let (moment, frame) = line.split_once(' ').unwrap_or((&line, ""));
         let (now, frame) = (moment.parse()?, bytes(frame));
-        if frame.is_empty() { node.turn(now)? } else { node.receive(now, &frame)? };
+        if frame.is_empty() {
+            node.turn(now)?
+        } else {
+            node.receive(now, &frame)?
+        };
         node.poll().for_each(|report| println!("{} {}", report.moment, text(report.event)));
     }
     for own in node.addresses(node.last_moment())? {
