@@ -107,17 +107,14 @@ def check_beside_ndpctl(program):
     """Runs longer scripts over the library and by ndpctl, with the same seeds."""
     if not os.path.exists(NDPCTL):
         return skip("trace beside ndpctl run", "crates/ndpctl/out/ndpctl is not there")
-    tables = ["neighbours", "routers", "prefixes", "addresses", "dns", "redirects", "params", "advertise", "routes"]
-    captured = read(f"{TOP}/examples/link.hex").split()
-    for seed in ("seed:0", "seed:4861", "word:0"):
+    for seed in (1, 2, 3):
         for role in ("host", "router"):
-            args = ["run", "--role", role, "--mac", frames.HOST_MAC, "--draws", seed]
-            script = "".join(f"{3000 + 50 * i} rx {digits or '-'}\n" for i, digits in enumerate([*captured, *frames.mixed(2000)]))
-            script += "".join(f"200000 show {table}\n" for table in tables) + "9000000 at\n" + "".join(f"9000000 show {table}\n" for table in tables)
+            args = ["run", "--role", role, "--mac", frames.HOST_MAC, "--draws", f"seed:{seed}"]
+            script = scripts.long(seed, 2000)
             said, wanted = run([program, *args], input=script), run([NDPCTL, *args], input=script)
-            is_same = said.returncode == 0 and said.stdout == wanted.stdout
-            report_if(f"trace: as ndpctl run, {role}, {seed}, {len(wanted.stdout.splitlines())} lines", is_same,
-                      said.stderr + difference(said.stdout, wanted.stdout))
+            is_same = said.returncode == wanted.returncode == 0 and said.stdout == wanted.stdout
+            report_if(f"trace: as ndpctl run, {role}, seed {seed}, {len(wanted.stdout.splitlines())} lines", is_same,
+                      said.stderr + wanted.stderr + difference(said.stdout, wanted.stdout))
 
 
 def check_tests(room, archive):

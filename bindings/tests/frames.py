@@ -89,6 +89,12 @@ def echo(mac):
     return frame(link_local(mac), HOST, mac, bytes([128, 0, 0, 0, 0, 1, 0, 1]) + b"who is there?")
 
 
+def datagram(source, destination, hop_limit, payload):
+    """Returns a frame with a packet of an upper layer, from a neighbour."""
+    ethernet = mac_bytes(HOST_MAC) + mac_bytes(neighbour(1)) + b"\x86\xdd"
+    return (ethernet + struct.pack(">IHBB", 6 << 28, len(payload), 17, hop_limit) + packed(source) + packed(destination) + payload).hex()
+
+
 def neighbour(i):
     return f"02:00:00:01:{i >> 8:02x}:{i & 255:02x}"
 
