@@ -122,8 +122,8 @@ def check_tests(room, archive):
     if misuse:
         print(check_runs("misuse", [misuse]), end="")
     refuse = build(room, "refuse", [f"{TESTS}/refuse.c", COUNTING, archive])
-    if refuse:
-        print(check_runs("refuse: 300 frames, each request refused once", [refuse], MIXED, FEW), end="")
+    for number, role in ((0, "host"), (1, "router")) if refuse else ():
+        print(check_runs(f"refuse: {role}, 300 frames, each request refused once", [refuse, str(number)], MIXED, FEW), end="")
     threads = build(room, "threads", [f"{TESTS}/threads.c", HEAP, archive], "-pthread")
     if threads:
         print(check_runs("threads", [threads], MIXED, FEW), end="")

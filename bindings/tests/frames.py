@@ -106,7 +106,7 @@ def mixed(count):
     for i in range(1, count):
         mac, k = neighbour(choice.randrange(40)), choice.randrange(80)
         one = choice.choice([solicitation(mac), solicitation(mac), answer(mac), answer(mac, 0x20), redirect(k), router_solicitation(mac), echo(mac),
-                             advertisement(), advertisement(mac, link_layer(1, mac), 600, choice.choice([0, 8, 24, 192])), advertisement(mac, b"", 0)])
+                             datagram(link_local(mac), f"2001:db8:2::{k:x}", 64, b"payload"), advertisement(), advertisement(mac, link_layer(1, mac), 600, choice.choice([0, 8, 24, 192])), advertisement(mac, b"", 0)])
         if choice.random() < 0.05:
             digits = bytearray.fromhex(one)
             digits[choice.randrange(len(digits))] ^= 1 << choice.randrange(8)

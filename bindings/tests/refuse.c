@@ -1,5 +1,5 @@
 /* refuse: refuses each request for memory of a run once. A call that returns ND_NO_MEMORY is made again. What the node reports, and all rows at the
- * end, are the same bytes as with memory, and all memory comes back. Reads frames; the argument, if there is one, is how many are used. */
+ * end, are the same bytes as with memory, and all memory comes back. Reads frames. The argument is the role, a number of `enum nd_role`. */
 #include "heap.h"
 #include "tested.h"
 
@@ -7,12 +7,17 @@ enum { SEEN_AT = 3000, APART = 7, LATER = 20000 };
 
 static struct frame frames[MOST_FRAMES];
 static size_t count, again;
+static uint32_t role;
 
-/* Opens a host. Where memory is refused it is closed and holds none. */
+/* Makes a call until memory is not refused. */
+#define RETRIED(status, call) while ((status = (call)) == ND_NO_MEMORY) again++
+
+/* Opens a node. Where memory is refused it is closed and holds none. */
 static void open_again(nd_node *node)
 {
     nd_options options = host_options();
     int32_t status;
+    options.role = role;
     while ((status = nd_open(node, &options)) == ND_NO_MEMORY) {
         require(!node->is_open && heap_blocks == 0, "nd_open that is refused leaves nothing");
         again++;
@@ -23,27 +28,39 @@ static void open_again(nd_node *node)
 static void turn_again(nd_node *node, uint64_t now)
 {
     int32_t status;
-    while ((status = nd_turn(node, now)) == ND_NO_MEMORY)
-        again++;
+    RETRIED(status, nd_turn(node, now));
     require(status == ND_DONE && nd_last_moment(node) == now, "nd_turn");
 }
 
 static void receive_again(nd_node *node, uint64_t now, const struct frame *frame)
 {
     int32_t status;
-    while ((status = nd_receive(node, now, frame->bytes, frame->length)) == ND_NO_MEMORY)
-        again++;
+    RETRIED(status, nd_receive(node, now, frame->bytes, frame->length));
     require(status >= 0 && nd_last_moment(node) == now, "nd_receive");
 }
 
 static void send_again(nd_node *node, uint64_t now, size_t i)
 {
     static const uint8_t payload[4] = {1, 2, 3, 4};
-    nd_addr far = {{0x20, 0x01, 0x0d, 0xb8, 0, 0x77, [15] = (uint8_t)i}};
+    const nd_addr far = {{0x20, 0x01, 0x0d, 0xb8, 0, 0x77, [15] = (uint8_t)i}};
     int32_t status;
-    while ((status = nd_send(node, now, &LINK_LOCAL, &far, 17, payload, sizeof payload)) == ND_NO_MEMORY)
-        again++;
+    RETRIED(status, nd_send(node, now, &LINK_LOCAL, &far, 17, payload, sizeof payload));
     require(status >= 0 && nd_last_moment(node) == now, "nd_send");
+}
+
+/* Asks for the events of a router. A host refuses them. */
+static void advertise_again(nd_node *node, uint64_t now)
+{
+    const nd_advertising settings = {.min_interval = 3, .max_interval = 4, .lifetime = 1800, .hop_limit = 64};
+    const nd_offer_row offer = {.prefix = {{0x20, 1, 0xd, 0xb8}}, .bits = 64, .valid_lifetime = 3600, .preferred_lifetime = 1800, .on_link = 1};
+    const nd_route_row route = {.prefix = {{0x20, 1, 0xd, 0xb8}}, .bits = 32, .hop = ND_HOP_DIRECT};
+    int32_t status, wanted = role == ND_ROLE_ROUTER ? ND_DONE : ND_REFUSED;
+    RETRIED(status, nd_offer(node, now, &offer));
+    require(status == wanted, "nd_offer");
+    RETRIED(status, nd_route(node, now, &route));
+    require(status == wanted, "nd_route");
+    RETRIED(status, nd_advertise(node, now, &settings));
+    require(status == wanted, "nd_advertise");
 }
 
 /* Mixes in all rows of the tables. The rows are written whole: they have no padding. */
@@ -57,6 +74,8 @@ static uint64_t rows_of(nd_node *node, uint64_t now, uint64_t hash)
     nd_name_row name;
     nd_redirect_row redirect;
     nd_parameters_row parameters;
+    nd_offer_row offer;
+    nd_route_row route;
     for (size_t i = 0; nd_neighbour_at(node, now, i, &neighbour) == ND_DONE; i++)
         hash = mix(hash, &neighbour, sizeof neighbour);
     for (size_t i = 0; nd_router_at(node, now, i, &router) == ND_DONE; i++)
@@ -71,6 +90,10 @@ static uint64_t rows_of(nd_node *node, uint64_t now, uint64_t hash)
         hash = mix(hash, &name, sizeof name);
     for (size_t i = 0; nd_redirect_at(node, now, i, &redirect) == ND_DONE; i++)
         hash = mix(hash, &redirect, sizeof redirect);
+    for (size_t i = 0; nd_offer_at(node, now, i, &offer) == ND_DONE; i++)
+        hash = mix(hash, &offer, sizeof offer);
+    for (size_t i = 0; nd_route_at(node, now, i, &route) == ND_DONE; i++)
+        hash = mix(hash, &route, sizeof route);
     require(nd_parameters_of(node, now, &parameters) == ND_DONE, "nd_parameters_of");
     return mix(hash, &parameters, sizeof parameters);
 }
@@ -84,6 +107,7 @@ static uint64_t run(size_t refuse)
     again = 0;
     open_again(&node);
     turn_again(&node, now);
+    advertise_again(&node, now);
     hash = drain(&node, hash);
     for (size_t i = 0; i < count; i++) {
         now += APART;
@@ -103,10 +127,10 @@ static uint64_t run(size_t refuse)
 
 int main(int argc, char **argv)
 {
-    size_t most = argc > 1 ? strtoul(argv[1], NULL, 10) : MOST_FRAMES, requests, unseen = 0, wrong = 0;
+    size_t requests, unseen = 0, wrong = 0;
     uint64_t right;
     count = read_frames(frames);
-    count = count < most ? count : most;
+    role = argc > 1 ? (uint32_t)strtoul(argv[1], NULL, 10) : ND_ROLE_HOST;
     heap_requests = 0;
     right = run(0);
     requests = heap_requests;
@@ -114,8 +138,8 @@ int main(int argc, char **argv)
         wrong += run(i) != right;
         unseen += again != 1;
     }
-    printf("%zu requests in %zu frames, each refused once: %zu runs reported something else, %zu refusals were not one ND_NO_MEMORY\n", requests, count,
-           wrong, unseen);
+    printf("%s: %zu requests in %zu frames, each refused once: %zu runs reported something else, %zu refusals were not one ND_NO_MEMORY\n",
+           role == ND_ROLE_HOST ? "host" : "router", requests, count, wrong, unseen);
     free_frames(frames, count);
     return wrong > 0 || requests == 0;
 }
