@@ -54,7 +54,7 @@ int main(int argc, char **argv)
            (unsigned)options.neighbours, bytes, opened, heap_now, (unsigned)counts.neighbours, (unsigned)counts.routers, (unsigned)counts.prefixes,
            (unsigned)counts.addresses, (unsigned)counts.servers, (unsigned)counts.names);
     require(counts.neighbours == options.neighbours, "the neighbours are full");
-    require(opened <= bytes && opened * 2 > bytes, "most of the bytes are requested by nd_open");
+    require(opened <= bytes && heap_now * 4 > bytes, "nd_node_bytes is not far from what is held");
     nd_close(&node);
     require(heap_blocks == 0, "all memory comes back");
     free_frames(frames, count);
