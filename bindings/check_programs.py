@@ -72,17 +72,17 @@ def check_hear(room):
     wanted = read(f"{TOP}/examples/link.txt").splitlines()
     lines = check_runs("hear reads the frames", [program], read(f"{TOP}/examples/link.hex")).splitlines()
     are_right = len(lines) == len(wanted) and all(f"{line} ".startswith(f"{said} ") for said, line in zip(lines, wanted))
-    report_if("hear says what ndpctl check says", are_right, "\n".join(lines))
+    report_if("hear prints what ndpctl check prints", are_right, "\n".join(lines))
 
 
 def check_host(what, program):
-    """Requires that a host of the examples says of the frames what is wanted."""
+    """Requires that a host of the examples prints the expected text for its frames."""
     said = check_runs(what, [program, *HOST], read(f"{TOP}/examples/host.hex"))
-    report_if(f"{what} says what is wanted", said == read(f"{TOP}/examples/host.txt"), said)
+    report_if(f"{what} prints the expected text", said == read(f"{TOP}/examples/host.txt"), said)
 
 
 def check_traces(program):
-    """Runs the scripts of the repository over the library: what it prints is what is wanted of `ndpctl run`."""
+    """Runs the scripts of the repository over the library, and compares what it prints with the expected texts of `ndpctl run`."""
     wrong = []
     known = scripts.scripts()
     for name, args, script, wanted in known:

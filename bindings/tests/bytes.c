@@ -56,7 +56,7 @@ int main(int argc, char **argv)
     require(counts.neighbours == options.neighbours, "the neighbours are full");
     require(opened <= bytes && heap_now * 4 > bytes, "nd_node_bytes is not far from what is held");
     nd_close(&node);
-    require(heap_blocks == 0, "all memory comes back");
+    require(heap_blocks == 0, "all memory is given back");
     free_frames(frames, count);
     return 0;
 }

@@ -3,9 +3,9 @@
 #define HEAP_H
 #include <stddef.h>
 
-extern size_t heap_now;      /* bytes that are out */
+extern size_t heap_now;      /* bytes in use */
 extern size_t heap_most;     /* the most that were */
-extern size_t heap_blocks;   /* blocks that are out */
+extern size_t heap_blocks;   /* blocks in use */
 extern size_t heap_requests; /* requests so far, refused ones too */
 extern size_t heap_refuse;   /* if above 0: the number of the request, from now on, that is refused */
 extern size_t heap_refused;  /* requests that were refused */

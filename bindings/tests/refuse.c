@@ -1,5 +1,5 @@
 /* refuse: refuses each request for memory of a run once. A call that returns ND_NO_MEMORY is made again. What the node reports, and all rows at the
- * end, are the same bytes as with memory, and all memory comes back. Reads frames. The argument is the role, a number of `enum nd_role`. */
+ * end, are the same bytes as with memory, and all memory is given back. Reads frames. The argument is the role, a number of `enum nd_role`. */
 #include "heap.h"
 #include "tested.h"
 
@@ -121,7 +121,7 @@ static uint64_t run(size_t refuse)
     hash = rows_of(&node, now + LATER, hash);
     heap_refuse = 0;
     nd_close(&node);
-    require(heap_blocks == 0 && heap_now == 0, "all memory comes back");
+    require(heap_blocks == 0 && heap_now == 0, "all memory is given back");
     return hash;
 }
 

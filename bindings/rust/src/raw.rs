@@ -1,5 +1,5 @@
-//! The declarations of `nd.h` and `nd_hear.h`, under their names there. `bindings/check` has gcc compare them with the headers, as it does with the
-//! library's source. What each field and function is about is said in `nd.h`.
+//! The declarations of `nd.h` and `nd_hear.h`, under their names there. `bindings/check` has gcc compare them with the headers, as it compares the
+//! headers with the library's source. `nd.h` documents each field and function.
 #![allow(non_camel_case_types)]
 
 pub type nd_addr = [u8; 16];
