@@ -31,7 +31,8 @@ cp "$archive" "$out/libnd_c.a"
 # The archive for this machine comes back where `rt lib` overwrote it.
 [ "$archive" != "$crate/out/libnd_c.a" ] || { rm "$archive"; [ ! -s "$kept" ] || cp -p "$kept" "$archive"; }
 command -v "$cc" >/dev/null || skip "$cc"
-"$cc" -std=c11 -D_POSIX_C_SOURCE=200809L -O2 -Wall -Wextra -Werror -static -I"$top/include" "$top/examples/c/host.c" "$here/c/heap.c" "$out/libnd_c.a" -o "$out/host"
+"$cc" -std=c11 -D_POSIX_C_SOURCE=200809L -O2 -Wall -Wextra -Werror -static -I"$top/include" -o "$out/host" \
+    "$top/examples/c/host.c" "$here/c/heap.c" "$out/libnd_c.a"
 command -v "$qemu" >/dev/null || skip "$qemu"
 "$qemu" "$out/host" 34:56:78:9a:bc:de word:0 < "$top/examples/host.hex" | cmp - "$top/examples/host.txt"
 echo "passed: the example of a host on aarch64"

@@ -1,5 +1,6 @@
 """scripts: the scripts of `ndpctl run` in this repository with their expected texts: those of the tests of crates/nd_script_tests, whose texts were
-written by hand or by another program, and the stored run of crates/ndpctl_run. Each is a name, arguments, a script and a text. `long` is a script without a text, for two programs side by side."""
+written by hand or by another program, and the stored run of crates/ndpctl_run. Each is a name, arguments, a script and a text. `long` is a script without a text, for two programs side by
+side."""
 import ast
 import os
 import random
