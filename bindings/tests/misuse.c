@@ -201,6 +201,7 @@ static void try_router(nd_node *node)
 int main(void)
 {
     nd_node node = ND_NODE_INIT, moved;
+    is("the version of the header", nd_version(), ND_VERSION);
     try_closed(&node);
     try_options(&node);
     try_moments(&node);

@@ -10,6 +10,9 @@ static nd_options options;
 
 static uint8_t buffer[131072];
 
+/* The longest record that nd.h allows so far. */
+static size_t longest = ND_BUFFER_BYTES;
+
 /* ---- words ----------------------------------------------------------------------------------- */
 
 static const char *const LOSSES[] = {"", "unreachable", "replaced", "forgotten", "no-route", "hop-limit"};
@@ -180,6 +183,7 @@ static uint32_t print_records(void)
     int32_t status;
     while ((status = nd_poll(&node, &out, buffer, sizeof buffer)) == ND_DONE) {
         require_zeros(&out);
+        require(out.length <= longest, "ND_BUFFER_BYTES, or the longest frame that was received, is enough");
         print_record(&out);
         kind = out.kind;
     }
@@ -439,6 +443,7 @@ static int32_t receive(uint64_t now)
 {
     static uint8_t frame[65536];
     size_t length = read_hex(frame, sizeof frame);
+    longest = length > longest ? length : longest;
     return nd_receive(&node, now, frame, length);
 }
 
