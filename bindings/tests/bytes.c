@@ -16,13 +16,13 @@ static void hold(size_t bytes)
     exit(1);
 }
 
-/* Sends to more destinations than a node remembers next hops for. */
+/* Sends to more destinations than a node remembers next hops for. Where the neighbours are full some are refused. */
 static void send_to_many(nd_node *node, uint64_t now, size_t bytes)
 {
     static const uint8_t payload[1] = {0};
     for (size_t i = 0; i < DESTINATIONS; i++) {
         const nd_addr far = {{0x20, 0x01, 0x0d, 0xb8, 0, 0x99, [14] = (uint8_t)(i >> 8), [15] = (uint8_t)i}};
-        require(nd_send(node, now, &LINK_LOCAL, &far, 17, payload, sizeof payload) == ND_DONE, "nd_send");
+        require(nd_send(node, now, &LINK_LOCAL, &far, 17, payload, sizeof payload) >= 0, "nd_send");
         drain(node, FIRST_HASH);
         hold(bytes);
     }
