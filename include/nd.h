@@ -113,9 +113,14 @@
  * and codes that you do not know. An older library refuses a newer field that is not 0
  * (ND_INVALID).
  *
- * PROVED. Every call returns, reads no byte outside what it is passed, and writes none outside;
- * docs/PROVED.md lists what is proved of each function. TRUSTED: the duties above, the three memory
- * functions, and the toolchain. bindings/check compares this header with the library's source.
+ * PROVED. Every call returns, reads no byte outside what it is passed, and writes none outside.
+ * Every function has a clause that pins its status, the node afterwards, and what is written;
+ * docs/PROVED.md lists them. For each event, ND_DONE and ND_REFUSED mean: from every history that
+ * the node represents it goes to one that the RFCs' conceptual host or router has after the event,
+ * and the queue gains exactly what is reported of the difference. TESTED: ND_BUFFER_BYTES and
+ * nd_node_bytes are enough, equal calls report the same bytes, also after ND_NO_MEMORY, and a row
+ * costs what its index is. TRUSTED: the duties above, the three memory functions, and the
+ * toolchain. bindings/check compares this header with the library's source.
  */
 #ifndef ND_H
 #define ND_H
