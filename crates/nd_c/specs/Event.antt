@@ -14,7 +14,7 @@ use Rattle.nd_c.specs.Status.{done, refused, no_memory, closed, invalid, past}
 
 -- From each history that the node stood for, the call leads to one that the relation gives, and the queue gains what is reported of the difference.
 abbrev pub LedBy : Session → Session → (Start → Chronicle → Chronicle → Type 0) → Type 0
-LedBy old new To = Leads stream_of_source old.node new.node old.queue.items new.queue.items To
+LedBy old new To = Leads stream_of_source old.node new.node old.queue new.queue To
 
 -- the report is a refusal
 abbrev pub refuses : {A : Type 0} → Option (ℕ × Out A) → Bool
@@ -31,7 +31,7 @@ answer_of before reports = if nat_lt before (length reports) then (if refuses (s
 pub record Comes (now : ℕ) (event : Event) (status : ℤ) (old new : Session) : Type 0 where
   pub early : now < last_of old.node → (status ≡ past) × (new ≡ old)
   pub comes : last_of old.node ≤ now
-      → ((status ≡ no_memory) × LedBy old new (Onward now)) ⊎ ((status ≡ answer_of (length old.queue.items) new.queue.items) × LedBy old new (FollowsBy now event))
+      → ((status ≡ no_memory) × LedBy old new (Onward now)) ⊎ ((status ≡ answer_of (length old.queue) new.queue) × LedBy old new (FollowsBy now event))
 
 -- An event comes to a slot with a session, or without one.
 pub record Answers (now : ℕ) (event : Event) (status : ℤ) (old new : Option Session) : Type 0 where

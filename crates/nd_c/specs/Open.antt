@@ -24,7 +24,7 @@ start_of o = starting o.start o.role o.mac o.transmits (record { neighbours = o.
 -- A session that has just been opened: its node stands for the beginning, and nothing is reported yet.
 pub record Begins (opening : Opening) (s : Session) : Type 0 where
   pub stands : Stands stream_of_source (start_of opening) s.node (beginning (start_of opening))
-  pub empty : s.queue.items ≡ []
+  pub empty : s.queue ≡ []
 
 -- A closed slot is opened as the options say, if they say it.
 pub record Opens (opening : Option Opening) (status : ℤ) (old new : Option Session) : Type 0 where

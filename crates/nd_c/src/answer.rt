@@ -81,7 +81,7 @@ fn give(alloc: Global, session: &mut Session, now: u64, given: Given<'_>) -> Res
 
 /// Returns ND_REFUSED if the newest report is a refusal that comes behind `before` others, and else ND_DONE.
 fn answer_of(session: &Session, before: usize) -> i32
-    ensures { result ≡ answer_of before session.now.queue.items }
+    ensures { result ≡ answer_of before session.now.queue }
 {
     if session.reports() <= before {
         return DONE;

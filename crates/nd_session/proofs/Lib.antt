@@ -1,3 +1,4 @@
 pub mod SessionBox
 pub mod LettingGo
 pub mod Present
+pub mod Behind

@@ -9,6 +9,7 @@
 
 mod handle;
 mod questions;
+mod queue;
 mod session;
 mod slot;
 

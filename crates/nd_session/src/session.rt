@@ -8,6 +8,7 @@ ghost use Rattle.nd_node.specs.Node.{Stands, starting, next_of};
 ghost use Rattle.nd_node.specs.Time.{Leads, Onward, Passes};
 ghost use Rattle.nd_random.specs.Source.{stream_of_source};
 
+use crate::queue::Queue;
 use nd_addr::{Addr, Mac, Role};
 use nd_node::{Event, Limits, Node, OutgoingPacket};
 use nd_out::Out;
@@ -20,7 +21,7 @@ use std::alloc::{AllocError, Global};
 #[derive(Drop)]
 pub struct Session {
     pub(crate) node: Node<Source, Global>,
-    pub(crate) queue: Vec<(u64, Out<Global>), Global>,
+    pub(crate) queue: Queue,
 }
 
 impl Session {
@@ -38,12 +39,12 @@ impl Session {
     ) -> Result<Session, AllocError>
         requires { start < 2 ^ 62 }
         ensures stands { IfOk result (λ s. let first = starting start role mac transmits limits (stream_of_source source) in Stands stream_of_source first s.node (beginning first)) }
-        ensures empty { IfOk result (λ s. s.queue.items ≡ []) }
+        ensures empty { IfOk result (λ s. s.queue ≡ []) }
     {
         match Node::new(alloc, role, mac, start, transmits, limits, source) {
             Ok(node) => Ok(Session {
                 node,
-                queue: Vec::new(alloc),
+                queue: Queue::new(alloc),
             }),
             Err(_) => Err(AllocError),
         }
@@ -62,31 +63,31 @@ impl Session {
     /// The error is out of memory: then a part of what is due may have been done and reported, and the event has added nothing.
     pub fn event(&mut self, now: u64, event: &Event<Global>) -> Result<(), AllocError>
         requires { now < 2 ^ 62 }
-        ensures follows { OnOk result (Leads stream_of_source self.old.node self.new.node self.old.queue.items self.new.queue.items (FollowsBy now (event_of event.now))) }
-        ensures onward { OnErr result (Leads stream_of_source self.old.node self.new.node self.old.queue.items self.new.queue.items (Onward now)) }
+        ensures follows { OnOk result (Leads stream_of_source self.old.node self.new.node self.old.queue self.new.queue (FollowsBy now (event_of event.now))) }
+        ensures onward { OnErr result (Leads stream_of_source self.old.node self.new.node self.old.queue self.new.queue (Onward now)) }
     {
-        self.node.event(now, event, &mut self.queue)
+        self.node.event(now, event, &mut self.queue.back)
     }
 
     /// Does all that is due up to `now`, in milliseconds, its own millisecond included. The error is out of memory: then a part of it may have
     /// been done and reported.
     pub fn settle(&mut self, now: u64) -> Result<(), AllocError>
         requires { now < 2 ^ 62 }
-        ensures passes { OnOk result (Leads stream_of_source self.old.node self.new.node self.old.queue.items self.new.queue.items (Passes now)) }
+        ensures passes { OnOk result (Leads stream_of_source self.old.node self.new.node self.old.queue self.new.queue (Passes now)) }
         ensures settled { OnOk result (now < next_of self.new.node) }
-        ensures onward { OnErr result (Leads stream_of_source self.old.node self.new.node self.old.queue.items self.new.queue.items (Onward now)) }
+        ensures onward { OnErr result (Leads stream_of_source self.old.node self.new.node self.old.queue self.new.queue (Onward now)) }
     {
-        self.node.settle(now, &mut self.queue)
+        self.node.settle(now, &mut self.queue.back)
     }
 
     /// Receives a frame, from its Ethernet destination on (RFC 2464, section 3), at `now`, in milliseconds. The frame stays the caller's and is
     /// not copied. Fails as `event` does.
     pub fn receive(&mut self, now: u64, frame: &[u8]) -> Result<(), AllocError>
         requires { now < 2 ^ 62 }
-        ensures follows { OnOk result (Leads stream_of_source self.old.node self.new.node self.old.queue.items self.new.queue.items (FollowsBy now (events.Receives frame.now))) }
-        ensures onward { OnErr result (Leads stream_of_source self.old.node self.new.node self.old.queue.items self.new.queue.items (Onward now)) }
+        ensures follows { OnOk result (Leads stream_of_source self.old.node self.new.node self.old.queue self.new.queue (FollowsBy now (events.Receives frame.now))) }
+        ensures onward { OnErr result (Leads stream_of_source self.old.node self.new.node self.old.queue self.new.queue (Onward now)) }
     {
-        self.node.receive(now, frame, &mut self.queue)
+        self.node.receive(now, frame, &mut self.queue.back)
     }
 
     /// Sends a packet of the upper layer at `now`, in milliseconds (RFC 4861, section 5.2), with a copy of `payload`. Fails as `event` does.
@@ -100,8 +101,8 @@ impl Session {
         payload: &[u8],
     ) -> Result<(), AllocError>
         requires { now < 2 ^ 62 }
-        ensures follows { OnOk result (Leads stream_of_source self.old.node self.new.node self.old.queue.items self.new.queue.items (FollowsBy now (events.Sends source destination next_header payload.now))) }
-        ensures onward { OnErr result (Leads stream_of_source self.old.node self.new.node self.old.queue.items self.new.queue.items (Onward now)) }
+        ensures follows { OnOk result (Leads stream_of_source self.old.node self.new.node self.old.queue self.new.queue (FollowsBy now (events.Sends source destination next_header payload.now))) }
+        ensures onward { OnErr result (Leads stream_of_source self.old.node self.new.node self.old.queue self.new.queue (Onward now)) }
     {
         let mut bytes = Vec::with_capacity(alloc, payload.len())?;
         bytes.extend_from_slice(payload)?;
@@ -116,34 +117,31 @@ impl Session {
 
     /// Returns how many reports the caller has not taken yet.
     pub fn reports(&self) -> usize
-        ensures { result ≡ length self.now.queue.items }
+        ensures { result ≡ length self.now.queue }
     {
         self.queue.len()
     }
 
     /// Returns the newest report, with its moment in milliseconds, if the caller has not taken it yet.
     pub fn newest(&self) -> Option<&(u64, Out<Global>)>
-        ensures { option_copied result ≡ slice_get self.now.queue.items (length self.now.queue.items - 1) }
+        ensures { option_copied result ≡ slice_get self.now.queue (length self.now.queue - 1) }
     {
         self.queue.last()
     }
 
     /// Returns the oldest report that the caller has not taken yet, with its moment in milliseconds.
     pub fn oldest(&self) -> Option<&(u64, Out<Global>)>
-        ensures { option_copied result ≡ slice_get self.now.queue.items 0 }
+        ensures { option_copied result ≡ slice_get self.now.queue 0 }
     {
         self.queue.first()
     }
 
     /// Removes the oldest report from the queue and returns it, with its moment in milliseconds.
     pub fn take(&mut self) -> Option<(u64, Out<Global>)>
-        ensures taken { result ≡ slice_get self.old.queue.items 0 }
-        ensures rest { self.new.queue.items ≡ drop 1 self.old.queue.items }
+        ensures taken { result ≡ slice_get self.old.queue 0 }
+        ensures rest { self.new.queue ≡ drop 1 self.old.queue }
         ensures node { self.new.node ≡ self.old.node }
     {
-        if self.queue.is_empty() {
-            return None;
-        }
-        Some(self.queue.remove(0))
+        self.queue.pop_first()
     }
 }
