@@ -168,16 +168,11 @@ def check_examples(room, archive):
 
 
 def check_make(archive):
-    """Makes what the Makefile makes, and what it makes for aarch64."""
+    """Makes what the Makefile makes for this machine."""
     if not has("make", "the Makefile"):
         return
     words = ["make", "-s", "-C", BINDINGS]
     report("make", run([*words, f"ND_ARCHIVE={archive}"]))
-    if os.environ.get("ND_ARCHIVE"):
-        return skip("make aarch64", "ND_ARCHIVE names an archive for this machine")
-    made = run([*words, "aarch64"])
-    print("".join(line + "\n" for line in made.stdout.splitlines() if line.startswith("skipped: ")), end="")
-    report("make aarch64", made)
 
 
 def check_rust(room, archive):
@@ -192,10 +187,11 @@ def check_rust(room, archive):
 
 
 def check_programs(room):
+    """Checks the programs for this machine, and returns the archive of a node, or None."""
     check_hear(room)
     archive = archive_of("nd_c", "ND_ARCHIVE")
     if not archive or not os.path.exists(archive):
-        return
+        return None
     archive = os.path.abspath(archive)
     check_symbols("the archive of nd_c", archive, NEEDED)
     if has("gcc", "the programs in C"):
@@ -204,3 +200,4 @@ def check_programs(room):
         check_bare(room, archive)
         check_make(archive)
     check_rust(room, archive)
+    return archive

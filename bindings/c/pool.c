@@ -1,5 +1,6 @@
 /* pool: the three memory functions of nd.h over a static array, without a heap and without the C library. The first free block that is long enough
- * is taken; neighbouring free blocks are joined in passing. One thread at a time may call them. */
+ * is taken; neighbouring free blocks are joined in passing. One thread at a time may call them. With ND_POOL_GIVEN the program has the array elsewhere:
+ * nd_pool is its first byte, a multiple of 16, and nd_pool_units its length in heads of 16 bytes, all zeros at first. */
 #include "nd.h"
 
 #ifndef ND_POOL_BYTES
@@ -12,11 +13,19 @@ struct head {
     size_t is_used;
 };
 
-enum { UNITS = ND_POOL_BYTES / sizeof(struct head), MOST_ALIGNED = 16 };
+enum { MOST_ALIGNED = 16 };
 
 _Static_assert(sizeof(struct head) == MOST_ALIGNED, "a block behind a head is aligned to 16");
 
+#ifdef ND_POOL_GIVEN
+extern struct head *nd_pool;
+extern size_t nd_pool_units;
+#define pool nd_pool
+#define UNITS nd_pool_units
+#else
+enum { UNITS = ND_POOL_BYTES / sizeof(struct head) };
 static _Alignas(MOST_ALIGNED) struct head pool[UNITS];
+#endif
 
 static struct head *next(struct head *at)
 {

@@ -1,0 +1,196 @@
+#!/usr/bin/env python3
+"""build TARGET..: the library for other processors, of what `rt lib` keeps of crates/nd_c. What is made is in bindings/out/targets, and nd.c with its
+headers in bindings/dist. Where a tool is missing the target is skipped, with a line 'skipped: ..'.
+
+  aarch64   libnd_c.a for aarch64: the one that `rt lib --target` makes, as it comes with the module for the others
+  riscv64   libnd_c.a for riscv64, of Rattle's LLVM module
+  wasm64    nd.wasm of the same module, with a 64-bit memory
+  dist      nd.c: the node in C, of a module of WebAssembly with a 32-bit memory and without instructions that copy or fill memory"""
+import hashlib
+import os
+import re
+import shutil
+import subprocess
+import sys
+from concurrent.futures import ThreadPoolExecutor
+
+HERE = os.path.dirname(os.path.realpath(__file__))
+BINDINGS = os.path.dirname(HERE)
+TOP = os.path.dirname(BINDINGS)
+OUT = f"{BINDINGS}/out/targets"
+DIST = f"{BINDINGS}/dist"
+HEADERS = ["nd.h", "nd_hear.h"]
+STACK = 16384
+PAGE = 65536
+WASM = "wasm64-unknown-unknown"
+LOWER = [f"--enable-{feature}" for feature in ("memory64", "bulk-memory", "sign-ext", "nontrapping-float-to-int", "mutable-globals", "extended-const",
+                                               "multivalue")]
+PACKAGES = {"wasm-opt": "binaryen", "wasm2c": "wabt", "gcc": "gcc"}
+
+
+class Skipped(Exception):
+    pass
+
+
+def need(*tools):
+    for tool in tools:
+        if not shutil.which(tool):
+            package = f" (Debian: {PACKAGES[tool]})" if tool in PACKAGES else ""
+            raise Skipped(f"{tool} is not there{package}")
+
+
+def run(*words, **more):
+    made = subprocess.run(words, capture_output=True, text=True, check=False, **more)
+    if made.returncode:
+        sys.exit(f"FAILED: {' '.join(words)}\n{made.stdout}{made.stderr}")
+    return made.stdout
+
+
+def read(path):
+    with open(path, encoding="utf-8") as file:
+        return file.read()
+
+
+def write(path, text):
+    """Writes a file, unless it has this text: nd.c is not compiled again then."""
+    if os.path.exists(path) and read(path) == text:
+        return
+    with open(path, "w", encoding="utf-8") as file:
+        file.write(text)
+
+
+def kit():
+    return os.path.dirname(os.path.dirname(os.path.realpath(shutil.which("rt"))))
+
+
+def sum_of(paths, words=()):
+    """Returns a sum of files, words and the kit's name."""
+    both = hashlib.sha256(" ".join([read(f"{kit()}/KIT-ID"), *words]).encode())
+    for path in sorted(paths):
+        with open(path, "rb") as file:
+            both.update(path.encode() + file.read())
+    return both.hexdigest()
+
+
+def sources():
+    for folder, folders, names in os.walk(f"{TOP}/crates"):
+        folders[:] = [name for name in folders if name != "out"]
+        yield from (os.path.join(folder, name) for name in names if name.endswith((".rt", ".antt")))
+
+
+def made_once(path, paths, make, words=()):
+    """Calls `make` unless the file was made of the same files and words before."""
+    stamp = f"{path}.of"
+    wanted = sum_of(paths, words)
+    if os.path.exists(path) and os.path.exists(stamp) and read(stamp) == wanted:
+        return
+    make()
+    write(stamp, wanted)
+
+
+def bitcode():
+    """Makes Rattle's LLVM module for aarch64, and returns its path."""
+    need("rt")
+    tool = f"{HERE}/bitcode.py"
+    made_once(f"{OUT}/nd.bc", [*sources(), f"{TOP}/crates.txt", tool], lambda: print(run(sys.executable, tool, OUT), end="", flush=True))
+    return f"{OUT}/nd.bc"
+
+
+def clang():
+    return f"{kit()}/toolchain/bin/clang"
+
+
+def compiled(target, out, *flags):
+    """Compiles Rattle's module for a target."""
+    module, tool = bitcode(), f"{HERE}/retarget.py"
+    words = [target, out, *flags]
+    made_once(out, [module, tool], lambda: run(sys.executable, tool, clang(), module, *words), words)
+
+
+def aarch64():
+    bitcode()
+    os.makedirs(f"{OUT}/aarch64", exist_ok=True)
+    shutil.copy(f"{OUT}/nd.a", f"{OUT}/aarch64/libnd_c.a")
+
+
+def riscv64():
+    compiled("riscv64-unknown-linux-gnu", f"{OUT}/riscv64.o", "-march=rv64gc", "-mabi=lp64d", "-fPIC")
+    os.makedirs(f"{OUT}/riscv64", exist_ok=True)
+    archive = f"{OUT}/riscv64/libnd_c.a"
+    if os.path.exists(archive):
+        os.remove(archive)
+    run(f"{kit()}/toolchain/bin/llvm-ar", "rcsD", archive, f"{OUT}/riscv64.o")
+
+
+def functions():
+    """Returns the functions of the headers that the library defines."""
+    text = "".join(read(f"{TOP}/include/{name}") for name in HEADERS)
+    return re.findall(r"^[a-z]\w* (?:\*)?(nd_\w+)\(", text, re.M)
+
+
+def module(name, memory, *flags):
+    """Makes a module of WebAssembly with a 64-bit memory of so many bytes."""
+    need("rt", "gcc")
+    compiled(WASM, f"{OUT}/{name}.o", "-mcpu=lime1", *flags)
+    # gcc's headers that need no C library stand in for clang's, which the kit lacks.
+    words = [f"--target={WASM}", "-mcpu=lime1", *flags, "-std=c11", "-O2", "-ffreestanding", "-fno-builtin", "-DND_POOL_GIVEN", "-Wall", "-Wextra", "-Werror",
+             "-nostdinc", "-isystem", run("gcc", "-print-file-name=include").strip(), f"-I{TOP}/include"]
+    others = {f"{OUT}/{name}.module.o": f"{HERE}/module.c", f"{OUT}/{name}.pool.o": f"{BINDINGS}/c/pool.c"}
+    for to, source in others.items():
+        run(clang(), *words, "-c", source, "-o", to)
+    exports = [f"--export={it}" for it in [*functions(), "nd_free_memory", "nd_give_pool"]]
+    # The stack comes first, so that one that is too short leaves the memory, which is a trap.
+    sizes = ["-z", f"stack-size={STACK}", f"--initial-memory={memory}"]
+    run(f"{OUT}/wasm-ld", "-mwasm64", "--no-entry", "--stack-first", *sizes, "--gc-sections", *exports, f"{OUT}/{name}.o", *others, "-o", f"{OUT}/{name}.wasm")
+    return f"{OUT}/{name}.wasm"
+
+
+def wasm64():
+    module("nd", 16 * PAGE)
+
+
+def without_includes(text):
+    """Returns C without what includes wasm2c's own headers."""
+    return re.sub(r'^#include "(?:wasm-rt|nd_module)\.h"\n', "", text, flags=re.M)
+
+
+def dist():
+    need("rt", "gcc", "wasm-opt", "wasm2c")
+    wide = module("nd_bytewise", PAGE, "-mno-bulk-memory-opt")
+    run("wasm-opt", *LOWER, "--memory64-lowering", wide, "-o", f"{OUT}/nd_module.wasm")
+    listed = run("wasm-objdump", "-d", f"{OUT}/nd_module.wasm")
+    if re.search(r"\| memory\.(copy|fill|init)|call_indirect", listed):
+        sys.exit("FAILED: the module for nd.c copies or fills memory as a whole, or calls by a table")
+    run("wasm2c", "nd_module.wasm", "-n", "nd_module", "-o", "nd_module.c", cwd=OUT)
+    os.makedirs(DIST, exist_ok=True)
+    parts = [read(f"{HERE}/runtime.h"), *(without_includes(read(f"{OUT}/nd_module.{end}")) for end in "hc"), read(f"{HERE}/front.c")]
+    write(f"{DIST}/nd.c", "/* Made by `make -C bindings dist` of the proved library, by way of WebAssembly; see README.md. */\n" + "\n".join(parts))
+    for name in HEADERS:
+        text = read(f"{TOP}/include/{name}")
+        write(f"{DIST}/{name}", re.sub(r"^#if UINTPTR_MAX != UINT64_MAX\n#error .*\n#endif\n\n", "", text, flags=re.M))
+    shutil.copy(f"{HERE}/dist.md", f"{DIST}/README.md")
+
+
+TARGETS = {"aarch64": aarch64, "riscv64": riscv64, "wasm64": wasm64, "dist": dist}
+
+
+def make(name):
+    try:
+        TARGETS[name]()
+        print(f"made: {name}", flush=True)
+    except Skipped as why:
+        print(f"skipped: {name}: {why}", flush=True)
+
+
+def main(names):
+    sys.dont_write_bytecode = True
+    os.makedirs(OUT, exist_ok=True)
+    if shutil.which("rt"):
+        bitcode()
+        if not os.path.lexists(f"{OUT}/wasm-ld"):
+            os.symlink(clang(), f"{OUT}/wasm-ld")
+    with ThreadPoolExecutor(2) as pool:
+        list(pool.map(make, names))
+
+
+main(sys.argv[1:])
