@@ -54,7 +54,7 @@ def lacking(compiler, qemu):
     """Returns what is missing to build and run on a target, or None."""
     for tool in (compiler, qemu):
         if tool and not shutil.which(tool):
-            return f"{tool} is not there (Debian: {PACKAGES.get(tool) or tool.replace('linux-gnu-gcc', 'linux-gnu')})"
+            return f"{tool} is not there (Debian: {PACKAGES.get(tool) or 'gcc-' + tool.removesuffix('-gcc')})"
     return None
 
 
@@ -114,7 +114,7 @@ def check_targets(room, archive):
         return None
     made = run([sys.executable, f"{BINDINGS}/targets/build.py", "aarch64", "riscv64", "wasm64", "dist"])
     print("".join(f"{line}\n" for line in made.stdout.splitlines() if line.startswith("skipped: ")), end="")
-    if not report_if("the library for other processors is built", made.returncode == 0, made.stdout + made.stderr):
+    if not report_if("targets/build.py", made.returncode == 0, made.stdout + made.stderr):
         return None
     trace = f"{room}/trace_here"
     said = run(["gcc", *STATIC, "-O2", f"-I{TOP}/include", f"{TESTS}/trace.c", HEAP, archive, "-o", trace])
