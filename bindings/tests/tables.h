@@ -1,0 +1,42 @@
+/* tables.h: a hash of all that a node shows: each row of each table, the settings, the counts, and the moment that is due next. */
+#ifndef TABLES_H
+#define TABLES_H
+#include "tested.h"
+
+/* Mixes in the rows of a table, and how many there are. A row is written whole, and has no padding. */
+#define MIX_ROWS(hash, row_type, ask) \
+    do { \
+        row_type row; \
+        size_t i = 0; \
+        for (; ask(node, now, i, &row) == ND_DONE; i++) \
+            hash = mix(hash, &row, sizeof row); \
+        hash = mix(hash, &i, sizeof i); \
+    } while (0)
+
+/* Returns the hash of what a node shows at a moment, where nothing is due before it. */
+static inline uint64_t tables_of(nd_node *node, uint64_t now)
+{
+    uint64_t hash = FIRST_HASH, due = nd_next_due(node), last = nd_last_moment(node);
+    nd_parameters_row parameters;
+    nd_advertising settings;
+    nd_counts_row counts;
+    int32_t status;
+    MIX_ROWS(hash, nd_neighbour_row, nd_neighbour_at);
+    MIX_ROWS(hash, nd_router_row, nd_router_at);
+    MIX_ROWS(hash, nd_prefix_row, nd_prefix_at);
+    MIX_ROWS(hash, nd_address_row, nd_address_at);
+    MIX_ROWS(hash, nd_server_row, nd_server_at);
+    MIX_ROWS(hash, nd_name_row, nd_name_at);
+    MIX_ROWS(hash, nd_redirect_row, nd_redirect_at);
+    MIX_ROWS(hash, nd_offer_row, nd_offer_at);
+    MIX_ROWS(hash, nd_route_row, nd_route_at);
+    require(nd_parameters_of(node, now, &parameters) == ND_DONE, "nd_parameters_of");
+    require(nd_counts_of(node, now, &counts) == ND_DONE, "nd_counts_of");
+    hash = mix(mix(hash, &parameters, sizeof parameters), &counts, sizeof counts);
+    status = nd_advertising_of(node, now, &settings);
+    require(status == ND_DONE || status == ND_NOTHING, "nd_advertising_of");
+    if (status == ND_DONE)
+        hash = mix(hash, &settings, sizeof settings);
+    return mix(mix(mix(hash, &status, sizeof status), &due, sizeof due), &last, sizeof last);
+}
+#endif
