@@ -59,6 +59,9 @@ static inline void hear_named(nd_node *node, uint64_t now, const char *name)
     require(nd_receive(node, now, frame->bytes, frame->length) == ND_DONE, name);
 }
 
+/* The limit of default routers of a busy node, 0 for the usual one. */
+static uint32_t busy_routers;
+
 /* Opens a busy node. Its records are taken. */
 static inline void open_busy(nd_node *node, uint32_t role)
 {
@@ -69,6 +72,7 @@ static inline void open_busy(nd_node *node, uint32_t role)
     nd_options options = host_options();
     options.role = role;
     options.mac = role == ND_ROLE_ROUTER ? ROUTER_MAC : MAC;
+    options.routers = busy_routers;
     require(nd_open(node, &options) == ND_DONE && nd_turn(node, 2000) == ND_DONE, "nd_open");
     if (role == ND_ROLE_HOST) {
         hear_named(node, 2050, "ADVERTISEMENT_WITH_DNS");
@@ -93,13 +97,13 @@ static inline void open_busy(nd_node *node, uint32_t role)
  * no table shows is seen too: packets that wait, dates, and the random words that are left. */
 static inline uint64_t later_of(nd_node *node)
 {
-    static const uint64_t LATER[] = {BUSY_AT + 10000, BUSY_AT + 700000, BUSY_AT + 8000000};
-    uint64_t hash = FIRST_HASH;
-    for (size_t i = 0; i < sizeof LATER / sizeof *LATER; i++) {
-        require(nd_turn(node, LATER[i]) == ND_DONE, "nd_turn");
+    static const uint64_t STEPS[] = {10000, 690000, 7300000};
+    uint64_t hash = FIRST_HASH, now = nd_last_moment(node);
+    for (size_t i = 0; i < sizeof STEPS / sizeof *STEPS; i++) {
+        now += STEPS[i];
+        require(nd_turn(node, now) == ND_DONE, "nd_turn");
         hash = drain(node, hash);
     }
-    hash ^= tables_of(node, LATER[2]);
-    return hash;
+    return hash ^ tables_of(node, now);
 }
 #endif

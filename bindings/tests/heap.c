@@ -1,5 +1,5 @@
-/* The memory functions of nd.h for tests: they count, refuse the request that heap_refuse names, and end the program where the library breaks its
- * side. Blocks hold other bytes than zeros when they are returned, and are overwritten when they are given back. */
+/* The memory functions of nd.h for tests: they count, refuse the request that heap_refuse names or all of them, and end the program where the
+ * library breaks its side. Blocks hold other bytes than zeros when they are returned, and are overwritten when they are given back. */
 #include "heap.h"
 
 #include <stdint.h>
@@ -12,6 +12,7 @@
 enum { MOST_ALIGNED = 16, FRESH = 0xa5, GONE = 0x5a, MARK = 0x6e64 };
 
 size_t heap_now, heap_most, heap_blocks, heap_requests, heap_refuse, heap_refused;
+bool heap_is_spent;
 
 struct head {
     size_t size;
@@ -33,12 +34,12 @@ static struct nd_block refused(void)
     return (struct nd_block){false, &nothing};
 }
 
-/* Returns true if this request is the one to refuse. */
+/* Returns true if this request is to be refused. */
 static bool is_refused(size_t align)
 {
     require(align > 0 && align <= MOST_ALIGNED && (align & (align - 1)) == 0, "an alignment is not 1, 2, 4, 8 or 16");
     heap_requests++;
-    return heap_refuse > 0 && --heap_refuse == 0;
+    return (heap_refuse > 0 && --heap_refuse == 0) || heap_is_spent;
 }
 
 static struct head *head_of(void *p)
