@@ -5,6 +5,7 @@ import re
 import shutil
 import sys
 
+from check_hostile import check_hostile
 from checking import INCLUDE, TOP, WARNINGS, has, read, report, report_if, run, skip
 
 BINDINGS = f"{TOP}/bindings"
@@ -137,6 +138,7 @@ def check_tests(room, archive):
     if trace:
         check_traces(trace)
         check_beside_ndpctl(trace)
+    check_hostile(room, archive, build, trace)
     build(room, "measure", [f"{TESTS}/measure.c", HEAP, archive])
 
 

@@ -1,4 +1,5 @@
-"""hostile: what is expected of the programs `hostile`, .. """
+"""hostile: what `hostile` and `random` are to print, by the rules of rules.py: of the frames of hostile.hex, cut and changed, at the nodes of busy.h; and
+of a sample of random frames."""
 import ipaddress
 import os
 from collections import Counter
@@ -61,3 +62,28 @@ def expected_lines(is_mended, step=1):
                 reports = (node.reports(frame, hearing) for node, hearing in zip(BUSY, hearings))
                 yield "%02x%02x%02x%02x" % (*hearings, *reports)
             number += 1
+
+
+COLUMNS = ("nd_hear, for a host", "nd_hear, for a router", "the host", "the router")
+MESSAGES = {rules.RS: "rs", rules.RA: "ra", rules.NS: "ns", rules.NA: "na", rules.REDIRECT: "redirect", rules.OTHER: "other", rules.IN_TRANSIT: "in transit"}
+
+
+def counts(lines):
+    """Returns how many frames were what, for each column of the lines that `hostile` prints."""
+    text = f"{len(lines)} frames\n"
+    for i, column in enumerate(COLUMNS):
+        said = Counter(int(line[2 * i:2 * i + 2], 16) for line in lines)
+        heard = " ".join(f"{word} {said[number]}" for number, word in MESSAGES.items())
+        text += f"  {column}: heard {heard}\n    dropped by reason {' '.join(str(said[why]) for why in rules.REASONS)}\n"
+    return text
+
+
+def wrong_samples(lines):
+    """Returns the lines of `random` in which nd_hear says something else of a frame than the rules."""
+    wrong = []
+    for line in lines:
+        if line.startswith("frame "):
+            _, said, digits = line.split(" ")
+            if said != "%02x%02x" % rules.heard_by_both(bytes.fromhex(digits)):
+                wrong.append(line)
+    return wrong

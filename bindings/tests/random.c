@@ -3,14 +3,15 @@
  * addresses, flags, lifetimes and options, random bytes, another length. Most have a good checksum. Between them time passes and packets are sent.
  *   It requires: no table passes its limit. After each call, with all records taken, the node holds no more memory than nd_node_bytes, three of the
  * longest packets for each neighbour and the room of the queue; during a call, no more than that and twice what it reports. A frame that is dropped or
- * refused has one record and leaves all tables as they were. A reason that nd_hear says is the node's reason. At the end all memory is given back.
+ * refused has one record and leaves all tables as they were. A reason that nd_hear says is the node's reason. A second node, which receives none of
+ * the frames that were dropped or refused, reports the same as the first one of all else. At the end all memory is given back.
  *   The last lines are the counts. */
 #include "heap.h"
 #include "busy.h"
 
 #include <inttypes.h>
 
-enum { BASES = 24, LONGEST = 1600, NEIGHBOURS = 4, ROUTERS = 2, WAITING = 3, REASONS = 21, REFUSALS = 6, LIMITS = 9, TYPES = 5 };
+enum { BASES = 24, LONGEST = 1600, NEIGHBOURS = 4, ROUTERS = 2, WAITING = 3, REASONS = 21, REFUSALS = 6, LIMITS = 9, TYPES = 5, OPENED_AT = 2000 };
 
 /* More than the room that one record takes in the queue, which doubles when it is full. */
 enum { RECORD_ROOM = 2 * 128, FIRST_ROOM = 1024 };
@@ -19,9 +20,11 @@ static const char *const LIMIT_NAMES[LIMITS] = {"", "neighbours", "routers", "pr
 
 static nd_node node;
 static uint32_t role;
-static uint64_t random_state, now = 2000;
+static uint64_t random_state, now = OPENED_AT;
 static uint8_t buffer[2 * LONGEST];
 static size_t held_most, peak_most, records_most, bound;
+static uint64_t reported = FIRST_HASH; /* the hash of all records but those of frames that were dropped or refused */
+static uint8_t *is_without_effect;
 
 static size_t heard[TYPES], up, in_transit, dropped[REASONS], refused[LIMITS], events, refused_events[REFUSALS];
 
@@ -277,13 +280,14 @@ static size_t take_records(nd_out *first, size_t *bytes)
         if (count == 0)
             *first = out;
         *bytes += out.length;
+        reported = mix(mix(reported, &out, sizeof out), buffer, out.length);
     }
     require(status == ND_NOTHING, "the queue is emptied");
     return count;
 }
 
 /* Requires the bounds of memory and of the tables after a call whose records were taken. */
-static void require_bounds(size_t records, size_t reported)
+static void require_bounds(size_t records, size_t bytes)
 {
     nd_counts_row counts;
     nd_redirect_row redirect;
@@ -292,7 +296,7 @@ static void require_bounds(size_t records, size_t reported)
     peak_most = heap_most > peak_most ? heap_most : peak_most;
     size_t rings = NEIGHBOURS * WAITING * (LONGEST + 14), queue = FIRST_ROOM + RECORD_ROOM * records_most;
     require(heap_now <= bound + rings + queue, "the node holds no more than nd_node_bytes, full rings and the queue's room");
-    require(heap_most <= bound + rings + queue + 2 * reported + 2 * LONGEST, "a call takes no more than that and what it reports");
+    require(heap_most <= bound + rings + queue + 2 * bytes + 2 * LONGEST, "a call takes no more than that and what it reports");
     heap_most = heap_now;
     require(nd_counts_of(&node, now, &counts) == ND_DONE, "nd_counts_of");
     require(counts.neighbours <= NEIGHBOURS && counts.routers <= ROUTERS && counts.prefixes <= 64 && counts.addresses <= 64 && counts.servers <= 32 &&
@@ -431,47 +435,96 @@ static void print_counts(size_t frames)
            refused_events[ND_REFUSAL_FULL]);
 }
 
-int main(int argc, char **argv)
+/* Passes a frame to the node, and requires what holds of it. `tables` is the hash before it, and afterwards. Returns true if it had no effect. */
+static bool receive(const uint8_t *bytes, size_t length, uint64_t *tables)
+{
+    nd_heard hears;
+    nd_out first;
+    size_t records, size;
+    uint64_t before = reported, afterwards;
+    int32_t status;
+    uint8_t *own = malloc(length + 1); /* a block of its own, whose end valgrind knows */
+    require(own != NULL, "memory for a frame");
+    memcpy(own, bytes, length);
+    require(nd_hear(own, length, role, &hears) == ND_DONE, "nd_hear");
+    status = nd_receive(&node, now, own, length);
+    free(own);
+    records = take_records(&first, &size);
+    require_bounds(records, size);
+    afterwards = tables_of(&node, now);
+    if (count(status, records, &first, &hears)) {
+        require(afterwards == *tables, "a frame that is dropped or refused leaves all tables as they were");
+        reported = before;
+        return true;
+    }
+    *tables = afterwards;
+    return false;
+}
+
+/* Passes all frames to a node, and notes which had no effect. */
+static void run(size_t frames, size_t every)
 {
     static uint8_t bytes[LONGEST];
     uint64_t tables;
-    size_t frames, every;
+    open_small();
+    tables = tables_of(&node, now);
+    for (size_t i = 0; i < frames; i++) {
+        size_t length;
+        if (settle() | between() | settle())
+            tables = tables_of(&node, now);
+        length = make_frame(bytes);
+        if (every > 0 && i % every == 0)
+            print_sample(bytes, length);
+        is_without_effect[i] = receive(bytes, length, &tables);
+    }
+}
+
+/* Makes the same frames, and passes those alone that had an effect. */
+static void run_without(size_t frames)
+{
+    static uint8_t bytes[LONGEST];
+    now = OPENED_AT;
+    open_small();
+    for (size_t i = 0; i < frames; i++) {
+        nd_out first;
+        size_t length, size;
+        (void)(settle() | between() | settle());
+        length = make_frame(bytes);
+        if (is_without_effect[i])
+            continue;
+        require(nd_receive(&node, now, bytes, length) == ND_DONE, "a frame that had an effect has it again");
+        take_records(&first, &size);
+    }
+}
+
+static uint64_t closed(void)
+{
+    uint64_t hash = reported ^ tables_of(&node, now) ^ later_of(&node);
+    nd_close(&node);
+    require(heap_blocks == 0 && heap_now == 0, "all memory is given back");
+    reported = FIRST_HASH;
+    return hash;
+}
+
+int main(int argc, char **argv)
+{
+    uint64_t hash;
+    size_t frames;
     require(argc == 5, "random ROLE FRAMES SEED N < hostile.hex");
     role = (uint32_t)strtoul(argv[1], NULL, 10);
     frames = strtoul(argv[2], NULL, 10);
     random_state = strtoull(argv[3], NULL, 10);
-    every = strtoul(argv[4], NULL, 10);
+    is_without_effect = malloc(frames + 1);
+    require(is_without_effect != NULL, "memory for the frames");
     read_named();
-    open_small();
-    tables = tables_of(&node, now);
-    for (size_t i = 0; i < frames; i++) {
-        nd_heard hears;
-        nd_out first;
-        size_t length, records, reported;
-        int32_t status;
-        uint8_t *own;
-        if (settle() | between() | settle())
-            tables = tables_of(&node, now);
-        length = make_frame(bytes);
-        own = malloc(length + 1); /* a block of its own, whose end valgrind knows */
-        require(own != NULL, "memory for a frame");
-        memcpy(own, bytes, length);
-        require(nd_hear(own, length, role, &hears) == ND_DONE, "nd_hear");
-        status = nd_receive(&node, now, own, length);
-        free(own);
-        records = take_records(&first, &reported);
-        require_bounds(records, reported);
-        uint64_t afterwards = tables_of(&node, now);
-        if (count(status, records, &first, &hears))
-            require(afterwards == tables, "a frame that is dropped or refused leaves all tables as they were");
-        tables = afterwards;
-        if (every > 0 && i % every == 0)
-            print_sample(bytes, length);
-    }
+    run(frames, strtoul(argv[4], NULL, 10));
     print_counts(frames);
     fprintf(stderr, "nd_node_bytes %zu, held at most %zu, during a call %zu, at most %zu records\n", bound, held_most, peak_most, records_most);
-    nd_close(&node);
-    require(heap_blocks == 0 && heap_now == 0, "all memory is given back");
+    hash = closed();
+    random_state = strtoull(argv[3], NULL, 10);
+    run_without(frames);
+    require(closed() == hash, "without the frames that were dropped or refused the node reports the same");
+    free(is_without_effect);
     free_named();
     return 0;
 }

@@ -1,0 +1,120 @@
+"""check_hostile: what hostile input does to the library: frames that are cut and changed, floods, random frames, and memory that is refused to an event.
+The counts are compared with tests/hostile.txt. `bindings/check full` takes all of the frames with a mended checksum, and four seeds of random frames."""
+import os
+import subprocess
+import sys
+
+from checking import TOP, has, read, report, report_if, run
+
+TESTS = f"{TOP}/bindings/tests"
+sys.path.insert(0, TESTS)
+import floods  # noqa: E402
+import hostile  # noqa: E402
+
+HEX = f"{TESTS}/hostile.hex"
+STORED = f"{TESTS}/hostile.txt"
+VALGRIND = ["valgrind", "-q", "--error-exitcode=99", "--leak-check=full", "--errors-for-leak-kinds=definite"]
+SEED, RANDOM_FRAMES, EACH_OF_RANDOM = 4861, 1_000_000, 20
+
+
+def stored():
+    """Returns the texts of the file of counts by their titles."""
+    parts = read(STORED).split("## ")[1:] if os.path.exists(STORED) else []
+    return dict(part.split("\n", 1) for part in parts)
+
+
+def compare(title, text):
+    """Requires that counts are those of the file."""
+    wanted = stored().get(title, "")
+    report_if(f"{title}: the counts are those of hostile.txt", text.strip() == wanted.strip(), f"## {title}\n{text}")
+
+
+def start(room, name, words):
+    """Starts a program on the frames of hostile.hex. What it prints goes to files."""
+    with open(HEX, "rb") as frames, open(f"{room}/{name}.out", "wb") as out, open(f"{room}/{name}.err", "wb") as err:
+        return subprocess.Popen(words, stdin=frames, stdout=out, stderr=err)
+
+
+def finish(room, name, process):
+    """Waits for a program. Returns the lines that it printed, or None if it failed."""
+    status = process.wait()
+    is_done = report_if(f"{name}", status == 0, read(f"{room}/{name}.err"))
+    return read(f"{room}/{name}.out").splitlines() if is_done else None
+
+
+def under_valgrind(what, words):
+    if has("valgrind", f"{what}, under valgrind"):
+        with open(HEX, "rb") as frames:
+            report(f"{what}, under valgrind", run([*VALGRIND, *words], stdin=frames))
+
+
+def check_changed(room, name, is_mended, step, process):
+    """Compares what nd_hear and both nodes say of each frame with what the rules say."""
+    expected = list(hostile.expected_lines(is_mended, step))
+    lines = finish(room, name, process)
+    if lines is None:
+        return
+    wrong = [f"frame {i}: {line}, not {wanted}" for i, (line, wanted) in enumerate(zip(lines, expected)) if line != wanted]
+    are_right = not wrong and len(lines) == len(expected)
+    report_if(f"{name}: {len(lines)} frames, of each the four answers that the rules say", are_right, "\n".join(wrong[:8]))
+    compare(name, hostile.counts(lines))
+
+
+def check_random(room, name, process):
+    """Compares what nd_hear says of a sample of the random frames with what the rules say."""
+    lines = finish(room, name, process)
+    if lines is None:
+        return
+    wrong = hostile.wrong_samples(lines)
+    samples = sum(line.startswith("frame ") for line in lines)
+    report_if(f"{name}: nd_hear says of each {EACH_OF_RANDOM}th frame, {samples}, what the rules say", not wrong and samples, "\n".join(wrong[:8]))
+    compare(name, "\n".join(line for line in lines if not line.startswith("frame ")))
+    print(f"  {read(f'{room}/{name}.err').strip()}")
+
+
+def check_floods(trace):
+    for name, args, script, wanted in floods.floods():
+        said = run([trace, *args], input=script)
+        is_same = said.returncode == 0 and said.stdout == wanted
+        report_if(f"flood: {name}: {len(wanted.splitlines())} lines", is_same, said.stderr + said.stdout[-2000:])
+
+
+def check_scarce(program):
+    with open(HEX, "rb") as frames:
+        said = run([program], stdin=frames)
+    if report("scarce: each request of an event refused", said):
+        compare("scarce", said.stdout)
+
+
+def check_hostile(room, archive, build, trace):
+    """Builds the programs over the archive, and runs them side by side. `trace` is the program of that name, or None."""
+    is_full = "full" in sys.argv[1:]
+    step, seeds = (1, 4) if is_full else (5, 1)
+    counting = f"{TESTS}/heap.c"
+    program = build(room, "hostile", [f"{TESTS}/hostile.c", f"{TOP}/bindings/c/heap.c", archive])
+    fuzz = build(room, "random", [f"{TESTS}/random.c", counting, archive])
+    scarce = build(room, "scarce", [f"{TESTS}/scarce.c", counting, archive])
+    changed, random = [], []
+    if program:
+        for name, is_mended, n in (("frames changed", False, 1), (f"frames changed and mended, each {step}th" if step > 1 else "frames changed and mended",
+                                                                  True, step)):
+            words = [program, "mended" if is_mended else "plain", str(n)]
+            changed.append((name, is_mended, n, start(room, name, words)))
+    for seed in range(SEED, SEED + seeds) if fuzz else ():
+        for number, role in ((0, "host"), (1, "router")):
+            name = f"random frames at a {role}, seed {seed}"
+            random.append((name, start(room, name, [fuzz, str(number), str(RANDOM_FRAMES), str(seed), str(EACH_OF_RANDOM)])))
+    if trace:
+        check_floods(trace)
+    if scarce:
+        check_scarce(scarce)
+        under_valgrind("scarce", [scarce])
+    for name, is_mended, n, process in changed:
+        check_changed(room, name, is_mended, n, process)
+    for name, process in random:
+        check_random(room, name, process)
+    if program:
+        under_valgrind("hostile, each 499th frame", [program, "plain", "499"])
+        under_valgrind("hostile, each 499th frame, mended", [program, "mended", "499"])
+    for number, role in ((0, "host"), (1, "router")) if fuzz else ():
+        under_valgrind(f"random: {role}, 5000 frames", [fuzz, str(number), "5000", str(SEED), "0"])
