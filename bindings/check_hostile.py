@@ -1,5 +1,6 @@
 """check_hostile: what hostile input does to the library: frames that are cut and changed, floods, random frames, and memory that is refused to an event.
-The counts are compared with tests/hostile.txt. `bindings/check full` takes all of the frames with a mended checksum, and four seeds of random frames."""
+It also runs the scripts of `ndpctl run` with each request refused once. The counts are compared with tests/hostile.txt. `bindings/check full` takes all
+frames with a mended checksum, and four seeds of random frames."""
 import os
 import subprocess
 import sys
@@ -10,6 +11,7 @@ TESTS = f"{TOP}/bindings/tests"
 sys.path.insert(0, TESTS)
 import floods  # noqa: E402
 import hostile  # noqa: E402
+import scripts  # noqa: E402
 
 HEX = f"{TESTS}/hostile.hex"
 STORED = f"{TESTS}/hostile.txt"
@@ -72,6 +74,26 @@ def check_random(room, name, process):
     print(f"  {read(f'{room}/{name}.err').strip()}")
 
 
+def refusals_of(trace, args, script, text, is_first):
+    """Runs a script once for each request for memory, which is refused. Returns how many runs there were, and those that wrote something else. The
+    requests of nd_open are the same for all scripts, and are refused for the first one alone."""
+    requests, opening = (int(run([trace, *args, "--refuse", "0"], input=lines).stderr) for lines in (script, ""))
+    refused = range(1 if is_first else opening + 1, requests + 1)
+    said = ((n, run([trace, *args, "--refuse", str(n)], input=script)) for n in refused)
+    return len(refused), [n for n, process in said if process.returncode or process.stdout != text]
+
+
+def check_scripts(trace):
+    """Requires that each script of the tests of `ndpctl run` has its text whichever request is refused."""
+    known, runs, wrong = scripts.scripts(), 0, []
+    for i, (name, args, script, text) in enumerate(known):
+        count, others = refusals_of(trace, args, script, text, i == 0)
+        runs += count
+        wrong += [f"{name}: request {n}" for n in others]
+    report_if(f"trace: {len(known)} scripts, each request refused once", not wrong, "\n".join(wrong[:8]))
+    compare("scripts", f"{len(known)} scripts, {runs} requests refused")
+
+
 def check_floods(trace):
     for name, args, script, wanted in floods.floods():
         said = run([trace, *args], input=script)
@@ -106,6 +128,7 @@ def check_hostile(room, archive, build, trace):
             random.append((name, start(room, name, [fuzz, str(number), str(RANDOM_FRAMES), str(seed), str(EACH_OF_RANDOM)])))
     if trace:
         check_floods(trace)
+        check_scripts(trace)
     if scarce:
         check_scarce(scarce)
         under_valgrind("scarce", [scarce])

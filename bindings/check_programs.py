@@ -134,7 +134,7 @@ def check_tests(room, archive):
     for count in (1, 16, 512, 2048) if size else ():
         text = "\n".join(frames.full(count)) + "\n"
         print(check_runs(f"bytes: {count} neighbours", [size, str(count)], text), end="")
-    trace = build(room, "trace", [f"{TESTS}/trace.c", HEAP, archive])
+    trace = build(room, "trace", [f"{TESTS}/trace.c", COUNTING, archive])
     if trace:
         check_traces(trace)
         check_beside_ndpctl(trace)

@@ -4,7 +4,8 @@
  *   It requires: no table passes its limit. After each call, with all records taken, the node holds no more memory than nd_node_bytes, three of the
  * longest packets for each neighbour and the room of the queue; during a call, no more than that and twice what it reports. A frame that is dropped or
  * refused has one record and leaves all tables as they were. A reason that nd_hear says is the node's reason. A second node, which receives none of
- * the frames that were dropped or refused, reports the same as the first one of all else. At the end all memory is given back.
+ * the frames that were dropped or refused, reports the same as the first one of all else; and so does a third one, to which memory is refused at every
+ * other call, and calls that return ND_NO_MEMORY are made again. At the end all memory is given back.
  *   The last lines are the counts. */
 #include "heap.h"
 #include "busy.h"
@@ -26,6 +27,11 @@ static size_t held_most, peak_most, records_most, bound;
 static uint64_t reported = FIRST_HASH; /* the hash of all records but those of frames that were dropped or refused */
 static uint8_t *is_without_effect;
 
+/* While memory is scarce, many calls meet a refused request. */
+static bool is_scarce;
+static uint64_t scarce_state;
+static size_t again;
+
 static size_t heard[TYPES], up, in_transit, dropped[REASONS], refused[LIMITS], events, refused_events[REFUSALS];
 
 /* ---- random frames --------------------------------------------------------------------------- */
@@ -38,6 +44,16 @@ static uint64_t next(void)
     z = (z ^ (z >> 27)) * UINT64_C(0x94d049bb133111eb);
     return z ^ (z >> 31);
 }
+
+/* Names the request of the next call that is refused, or none. */
+static void refuse_some(void)
+{
+    scarce_state = scarce_state * UINT64_C(6364136223846793005) + 1442695040888963407u;
+    heap_refuse = is_scarce && scarce_state >> 63 == 0 ? 1 + (scarce_state >> 60) % 4 : 0;
+}
+
+/* Makes a call, and again while memory is refused. */
+#define RETRIED(status, call) while (refuse_some(), (status = (call)) == ND_NO_MEMORY) again++
 
 static size_t below(size_t limit)
 {
@@ -309,9 +325,11 @@ static bool settle(void)
 {
     nd_out first;
     size_t bytes, records;
+    int32_t status;
     if (nd_next_due(&node) > now)
         return false;
-    require(nd_turn(&node, now) == ND_DONE && nd_next_due(&node) > now, "nd_turn");
+    RETRIED(status, nd_turn(&node, now));
+    require(status == ND_DONE && nd_next_due(&node) > now, "nd_turn");
     records = take_records(&first, &bytes);
     require_bounds(records, bytes);
     return true;
@@ -327,10 +345,12 @@ static bool between(void)
     int32_t status;
     if (once_in(8)) {
         now += once_in(2000) ? 9000000 : STEPS[below(once_in(8) ? 7 : 5)];
-        require(nd_turn(&node, now) == ND_DONE && nd_next_due(&node) > now, "nd_turn");
+        RETRIED(status, nd_turn(&node, now));
+        require(status == ND_DONE && nd_next_due(&node) > now, "nd_turn");
     } else if (once_in(8)) {
         const nd_addr source = an_own(), destination = once_in(2) ? a_far() : a_neighbour();
-        status = nd_send(&node, now, &source, &destination, 17, payload, once_in(8) ? below(1400) : 4);
+        size_t length = once_in(8) ? below(1400) : 4;
+        RETRIED(status, nd_send(&node, now, &source, &destination, 17, payload, length));
         require(status == ND_DONE || status == ND_REFUSED, "nd_send");
         if (status == ND_REFUSED) {
             records = take_records(&first, &bytes);
@@ -341,10 +361,13 @@ static bool between(void)
         }
     } else if (once_in(20)) {
         const nd_addr neighbour = a_neighbour();
-        require(nd_confirm(&node, now, &neighbour) == ND_DONE, "nd_confirm");
-    } else if (once_in(1500))
-        require(nd_clear(&node, now, (uint32_t)(1 + below(5))) == ND_DONE, "nd_clear");
-    else
+        RETRIED(status, nd_confirm(&node, now, &neighbour));
+        require(status == ND_DONE, "nd_confirm");
+    } else if (once_in(1500)) {
+        uint32_t table = (uint32_t)(1 + below(5));
+        RETRIED(status, nd_clear(&node, now, table));
+        require(status == ND_DONE, "nd_clear");
+    } else
         return false;
     events++;
     records = take_records(&first, &bytes);
@@ -479,22 +502,31 @@ static void run(size_t frames, size_t every)
     }
 }
 
-/* Makes the same frames, and passes those alone that had an effect. */
-static void run_without(size_t frames)
+/* Makes the same frames. Passes those alone that had an effect, or all of them while memory is scarce. */
+static void run_again(size_t frames, bool takes_all)
 {
     static uint8_t bytes[LONGEST];
     now = OPENED_AT;
     open_small();
+    is_scarce = takes_all;
     for (size_t i = 0; i < frames; i++) {
         nd_out first;
         size_t length, size;
+        uint64_t before;
+        int32_t status;
         (void)(settle() | between() | settle());
         length = make_frame(bytes);
-        if (is_without_effect[i])
+        if (is_without_effect[i] && !takes_all)
             continue;
-        require(nd_receive(&node, now, bytes, length) == ND_DONE, "a frame that had an effect has it again");
+        before = reported;
+        RETRIED(status, nd_receive(&node, now, bytes, length));
+        require(status == ND_DONE || (status == ND_REFUSED && is_without_effect[i]), "a frame that had an effect has it again");
         take_records(&first, &size);
+        if (is_without_effect[i])
+            reported = before;
     }
+    is_scarce = false;
+    heap_refuse = 0;
 }
 
 static uint64_t closed(void)
@@ -522,8 +554,12 @@ int main(int argc, char **argv)
     fprintf(stderr, "nd_node_bytes %zu, held at most %zu, during a call %zu, at most %zu records\n", bound, held_most, peak_most, records_most);
     hash = closed();
     random_state = strtoull(argv[3], NULL, 10);
-    run_without(frames);
+    run_again(frames, false);
     require(closed() == hash, "without the frames that were dropped or refused the node reports the same");
+    random_state = strtoull(argv[3], NULL, 10);
+    run_again(frames, true);
+    require(closed() == hash && again > 0, "where memory is refused and calls are made again, the node reports the same");
+    printf("  calls made again after ND_NO_MEMORY, in a second run %zu\n", again);
     free(is_without_effect);
     free_named();
     return 0;

@@ -1,7 +1,8 @@
 /* scarce: memory that is refused to one event. For each event of a list at a busy node of busy.h (frames from standard input), each request for memory
- * is refused in turn, and then all of them for three calls. It requires: a call that returns ND_NO_MEMORY has reported nothing
- * and leaves all tables as they were, if nothing was due before it; and the same call again has the status, the records and the tables of a run in which
- * nothing was refused, then and later. Then all requests are refused, and the events that take no memory are done all the same, without a request.
+ * is refused in turn, and then all of them for three calls. It requires: a call that returns ND_NO_MEMORY has reported nothing and leaves all tables as
+ * they were, if nothing was due before it. The same call again has the status, the records and the tables of a run in which nothing was refused, then and
+ * later. Then all requests are refused, and the events that take no memory are done all the same, without a request, while the queue has room for their
+ * records.
  *   A line for each event says how many requests it makes, how many of them were refused with ND_NO_MEMORY, and how many changed nothing (a next hop that
  * was not remembered). */
 #include "heap.h"
@@ -329,6 +330,41 @@ static void do_all_without(const struct event *events, size_t count)
     printf("  all %zu, one after the other\n", count);
 }
 
+/* Returns how many frames are dropped while each request is refused, until the queue has no room for another record. */
+static size_t drop_until_full(nd_node *node)
+{
+    const struct frame *frame = frame_named("SOLICITATION_FOR_LINK_LOCAL");
+    size_t count = 0;
+    int32_t status;
+    heap_is_spent = true;
+    while ((status = nd_receive(node, nd_last_moment(node), frame->bytes, frame->length - 1)) == ND_DONE)
+        count++;
+    heap_is_spent = false;
+    require(status == ND_NO_MEMORY, "a frame that is dropped needs room for its record");
+    return count;
+}
+
+/* The queue keeps its room for records when they are taken. That of a node that has just been opened has none. */
+static void fill_the_queue(void)
+{
+    nd_node fresh = ND_NODE_INIT, busy = ND_NODE_INIT;
+    const nd_options options = host_options();
+    uint64_t before;
+    size_t first, second;
+    require(nd_open(&fresh, &options) == ND_DONE, "nd_open");
+    open_busy(&busy, role);
+    before = tables_of(&busy, BUSY_AT);
+    first = drop_until_full(&busy);
+    require(tables_of(&busy, BUSY_AT) == before, "all tables are as before");
+    drain(&busy, FIRST_HASH);
+    second = drop_until_full(&busy);
+    require(first > 0 && first == second, "a queue that was emptied has its room again");
+    printf("frames dropped without memory: by a host that was just opened %zu, by the busy host %zu, and as many again once its records are taken\n",
+           drop_until_full(&fresh), first);
+    nd_close(&fresh);
+    nd_close(&busy);
+}
+
 #define EACH(events, act) for (size_t i = 0; i < sizeof(events) / sizeof *(events); i++) act
 
 int main(void)
@@ -345,6 +381,7 @@ int main(void)
     role = ND_ROLE_HOST;
     EACH(WITHOUT_MEMORY_AT_HOST, do_without(&WITHOUT_MEMORY_AT_HOST[i], ND_DONE));
     do_all_without(WITHOUT_MEMORY_AT_HOST, sizeof WITHOUT_MEMORY_AT_HOST / sizeof *WITHOUT_MEMORY_AT_HOST);
+    fill_the_queue();
     printf("refused without memory at a host\n");
     EACH(REFUSED_AT_HOST, do_without(&REFUSED_AT_HOST[i], ND_REFUSED));
     busy_routers = 2;

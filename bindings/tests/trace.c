@@ -1,5 +1,8 @@
 /* trace: `ndpctl run` over the library: the same options, lines and texts (docs/FORMATS.md). It is for well-formed scripts: a line that it cannot read
- * ends it with status 2, where a value out of range is found by the library alone. On the way it requires what nd.h says of moments and records. */
+ * ends it with status 2, where a value out of range is found by the library alone. On the way it requires what nd.h says of moments and records. With
+ * `--refuse N` the Nth request for memory is refused, none for 0; a call that returns ND_NO_MEMORY is made again, and standard error says how many
+ * requests there were. */
+#include "heap.h"
 #include "tested.h"
 
 #include <inttypes.h>
@@ -9,6 +12,8 @@ static nd_node node;
 static nd_options options;
 
 static uint8_t buffer[131072];
+
+static bool counts_requests;
 
 /* The longest record that nd.h allows so far. */
 static size_t longest = ND_BUFFER_BYTES;
@@ -497,12 +502,22 @@ static void show(uint64_t now, const char *name)
 
 static void answer(char *line)
 {
-    char *moment = strtok(line, " \n"), *verb = word(), *end;
+    static char copy[2 * sizeof buffer];
+    char *moment, *verb, *end;
+    strcpy(copy, line);
+    moment = strtok(line, " \n");
+    verb = word();
     uint64_t now = strtoull(moment, &end, 10);
     uint64_t last = nd_last_moment(&node);
     if (*end != 0)
         malformed();
     int32_t status = event(now, verb);
+    while (status == ND_NO_MEMORY) {
+        strcpy(line, copy);
+        (void)strtok(line, " \n");
+        verb = word();
+        status = event(now, verb);
+    }
     uint32_t kind = print_records();
     if (status == ND_PAST) {
         require(now < last && kind == 0 && nd_last_moment(&node) == last, "what is past changes nothing");
@@ -533,7 +548,10 @@ static void read_option(const char *name, const char *value)
         options.neighbours = (uint32_t)strtoul(value, NULL, 10);
     else if (strcmp(name, "--routers") == 0)
         options.routers = (uint32_t)strtoul(value, NULL, 10);
-    else if (sscanf(value, "word:%" SCNu64, &options.seed) == 1)
+    else if (strcmp(name, "--refuse") == 0) {
+        heap_refuse = strtoul(value, NULL, 10);
+        counts_requests = true;
+    } else if (sscanf(value, "word:%" SCNu64, &options.seed) == 1)
         options.draws = ND_DRAWS_WORD;
     else
         require(sscanf(value, "seed:%" SCNu64, &options.seed) == 1, "--draws");
@@ -543,12 +561,18 @@ int main(int argc, char **argv)
 {
     static char line[2 * sizeof buffer];
     const nd_options none = ND_OPTIONS_INIT;
+    int32_t status;
     options = none;
     for (int i = 2; i + 1 < argc; i += 2)
         read_option(argv[i], argv[i + 1]);
-    require(nd_open(&node, &options) == ND_DONE, "nd_open");
+    while ((status = nd_open(&node, &options)) == ND_NO_MEMORY)
+        require(heap_blocks == 0, "nd_open that is refused leaves nothing");
+    require(status == ND_DONE, "nd_open");
     while (fgets(line, sizeof line, stdin) != NULL)
         answer(line);
     nd_close(&node);
+    require(heap_blocks == 0, "all memory is given back");
+    if (counts_requests)
+        fprintf(stderr, "%zu\n", heap_requests);
     return 0;
 }
