@@ -1,6 +1,6 @@
-"""check_hostile: what hostile input does to the library: frames that are cut and changed, floods, random frames, and memory that is refused to an event.
-It also runs the scripts of `ndpctl run` with each request refused once. The counts are compared with tests/hostile.txt. `bindings/check full` takes all
-frames with a mended checksum, and four seeds of random frames."""
+"""check_hostile: what hostile input does to the library: frames that are cut and changed, floods, random frames, and memory that is refused to an
+event. It also runs the scripts of `ndpctl run` with each request refused once. The counts are compared with tests/hostile.txt. `bindings/check full`
+takes all frames with a mended checksum, and four seeds of random frames."""
 import os
 import subprocess
 import sys
@@ -117,9 +117,9 @@ def check_hostile(room, archive, build, trace):
     fuzz = build(room, "random", [f"{TESTS}/random.c", counting, archive])
     scarce = build(room, "scarce", [f"{TESTS}/scarce.c", counting, archive])
     changed, random = [], []
+    with_sum = "frames changed and mended" + (f", each {step}th" if step > 1 else "")
     if program:
-        for name, is_mended, n in (("frames changed", False, 1), (f"frames changed and mended, each {step}th" if step > 1 else "frames changed and mended",
-                                                                  True, step)):
+        for name, is_mended, n in (("frames changed", False, 1), (with_sum, True, step)):
             words = [program, "mended" if is_mended else "plain", str(n)]
             changed.append((name, is_mended, n, start(room, name, words)))
     for seed in range(SEED, SEED + seeds) if fuzz else ():

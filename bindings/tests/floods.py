@@ -1,5 +1,5 @@
-"""floods: scripts of `ndpctl run` in which a node is flooded, and the texts that it is to write. Each yields one more row than a table of the node takes. The
-frames are made by frames.py, those that the node sends too. `python3 floods.py` prints how many lines each has."""
+"""floods: scripts of `ndpctl run` in which a node is flooded, and the texts that it is to write. Each yields one more row than a table of the node
+takes. The frames are made by frames.py, those that the node sends too. `python3 floods.py` prints how many lines each has."""
 import ipaddress
 import struct
 
@@ -89,6 +89,27 @@ def of_solicitations(limit):
     return HOST_ARGS, script, wanted
 
 
+def of_stale_ones(limit):
+    """A host hears of as many neighbours as the limit, one each millisecond. One more evicts the first, which is STALE for the longest time. Then an
+    upper layer confirms all of them, and one more is refused. A node that detects duplicates is still answered."""
+    def given(n):
+        message = bytes([134, 0, 0, 0, 64, 0]) + bytes(10) + frames.link_layer(1, source_mac(n))
+        return frames.frame(source(n), "ff02::1", source_mac(n), message)
+
+    def shown(state):
+        return [f"{last} neighbour {source(n)} {source_mac(n)} {state} router" for n in range(2, limit + 2)] + [f"{last} end {limit}"]
+
+    last = 10001 + limit
+    script, wanted = ["10000 at"], started()
+    script += [f"{10000 + n} rx {given(n)}" for n in range(1, limit + 2)] + [f"{last} show neighbours"]
+    wanted += [f"{10000 + n} heard ra" for n in range(1, limit + 2)] + shown("stale")
+    script += [f"{last} confirm {source(n)}" for n in range(2, limit + 2)] + [f"{last} rx {given(limit + 2)}", f"{last} show neighbours"]
+    wanted += [f"{last} refused full neighbours", *shown("reachable")]
+    script.append(f"{last} rx {solicitation(frames.HOST, frames.HOST_MAC, frames.HOST, True)}")
+    wanted += [f"{last} heard ns", f"{last} tx {answer(frames.HOST, frames.HOST_MAC, 'ff02::1', None, 0x20)}"]
+    return HOST_ARGS, script, wanted
+
+
 def of_packets(limit):
     """A host sends at one moment to more addresses on the link than the limit. The last one that has room evicts the router, which is STALE."""
     advertised = frames.advertisement(options=frames.link_layer(1, ROUTER_MAC) + frames.prefix("2001:db8::", 0xC0))
@@ -109,8 +130,8 @@ def of_packets(limit):
 
 
 def of_forwarding(limit):
-    """All but one of the neighbours of a router solicit it, one each millisecond. A packet whose hop and whose source, which a Redirect goes to, are two new
-    neighbours is refused."""
+    """All but one of the neighbours of a router solicit it, one each millisecond. A packet whose hop and whose source, which a Redirect goes to, are
+    two new neighbours is refused."""
     script = ["1000 route 2001:db8::/64 direct", "1000 route 2001:db8:1::/64 fe80::2"]
     wanted = [f"0 tx {solicitation(ROUTER, ROUTER_MAC, ROUTER, True)}", f"1000 assigned {ROUTER}"]
     for n in range(1, limit):
@@ -129,6 +150,7 @@ def floods():
         limits = ["--neighbours", str(neighbours), "--routers", str(routers)]
         for name, (args, script, wanted) in ((f"{routers + 1} default routers", of_routers(routers)), ("65 prefixes", of_prefixes()),
                                              (f"{neighbours + 1} solicitations", of_solicitations(neighbours)),
+                                             (f"{neighbours + 1} neighbours, confirmed and not", of_stale_ones(neighbours)),
                                              (f"{neighbours + 1} packets", of_packets(neighbours)),
                                              (f"a packet in transit after {neighbours - 1} solicitations", of_forwarding(neighbours))):
             yield f"{name}, limits {neighbours} and {routers}", args + limits, "\n".join(script) + "\n", "\n".join(wanted) + "\n"

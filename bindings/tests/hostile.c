@@ -1,11 +1,11 @@
-/* hostile: frames that are cut and changed. Each of the first 24 frames of hostile.hex (standard input) is cut at each length, and has each byte set to
- * each value. For each of these frames a line says what nd_hear says of it to a host and to a router, and what the busy host and the busy router of
- * busy.h report: two hexadecimal digits each. 01 to 14 is the reason why it is dropped, 85 to 89 the type of a message that is heard, f0 another packet
- * or one for the upper layer, f1 one in transit. hostile.py reads the lines.
- *   On the way the program requires: nd_hear writes all its fields and the same ones each time. The node reports the reason that nd_hear says, or, where
- * nd_hear hears something, ND_WHY_NOT_FOR_US or ND_WHY_NOT_FIRST_HOP. A frame that is dropped has one record and leaves all tables as they were. The
- * buffer of nd_poll is untouched beyond the bytes of a record. Behind the last byte of a frame memory cannot be read. A node that received all frames
- * that were dropped, and nothing else, later reports what a node reports that received none.
+/* hostile: frames that are cut and changed. Each of the first 24 frames of hostile.hex (standard input) is cut at each length, and has each byte set
+ * to each value. For each of these frames a line says what nd_hear says of it to a host and to a router, and what the busy host and the busy router
+ * of busy.h report: two hexadecimal digits each. 01 to 14 is the reason why it is dropped, 85 to 89 the type of a message that is heard, f0 another
+ * packet or one for the upper layer, f1 one in transit. hostile.py reads the lines.
+ *   On the way the program requires: nd_hear writes all its fields and the same ones each time. The node reports the reason that nd_hear says, or,
+ * where nd_hear hears something, ND_WHY_NOT_FOR_US or ND_WHY_NOT_FIRST_HOP. A frame that is dropped has one record and leaves all tables as they
+ * were. The buffer of nd_poll is untouched beyond the bytes of a record. Behind the last byte of a frame memory cannot be read. A node that received
+ * all frames that were dropped, and nothing else, later reports what a node reports that received none.
  *   The first argument is `plain`, or `mended`: then the checksum of each frame is made good again, and the payload length of a frame that is cut is
  * what is left. The argument N takes each Nth frame alone. */
 #define _DEFAULT_SOURCE
@@ -56,8 +56,8 @@ static void mend(uint8_t *bytes, size_t length, bool is_cut)
     bytes[57] = (uint8_t)~sum;
 }
 
-/* Writes variant `k` of a frame so that it ends at the page's end, and returns its length: first the frame cut to each length, the whole one too, then
- * each byte with each other value. */
+/* Writes variant `k` of a frame so that it ends at the page's end, and returns its length: first the frame cut to each length, the whole one too,
+ * then each byte with each other value. */
 static size_t vary(const struct frame *frame, size_t k, uint8_t **bytes)
 {
     size_t length = k <= frame->length ? k : frame->length;

@@ -1,5 +1,5 @@
-"""hostile: what `hostile` and `random` are to print, by the rules of rules.py: of the frames of hostile.hex, cut and changed, at the nodes of busy.h; and
-of a sample of random frames."""
+"""hostile: what `hostile` and `random` are to print, by the rules of rules.py: of the frames of hostile.hex, cut and changed, at the nodes of
+busy.h; and of a sample of random frames."""
 import ipaddress
 import os
 from collections import Counter
@@ -65,7 +65,8 @@ def expected_lines(is_mended, step=1):
 
 
 COLUMNS = ("nd_hear, for a host", "nd_hear, for a router", "the host", "the router")
-MESSAGES = {rules.RS: "rs", rules.RA: "ra", rules.NS: "ns", rules.NA: "na", rules.REDIRECT: "redirect", rules.OTHER: "other", rules.IN_TRANSIT: "in transit"}
+MESSAGES = {rules.RS: "rs", rules.RA: "ra", rules.NS: "ns", rules.NA: "na", rules.REDIRECT: "redirect", rules.OTHER: "other",
+            rules.IN_TRANSIT: "in transit"}
 
 
 def counts(lines):

@@ -1,11 +1,12 @@
-/* random: random frames at a node with small limits. The arguments are the role, a number of `enum nd_role`; how many frames; the seed; and N, for each
- * Nth frame to be printed with what nd_hear says of it to a host and to a router, or 0. The frames of hostile.hex (standard input) are changed: other
- * addresses, flags, lifetimes and options, random bytes, another length. Most have a good checksum. Between them time passes and packets are sent.
+/* random: random frames at a node with small limits. The arguments are the role, a number of `enum nd_role`; how many frames; the seed; and N, for
+ * each Nth frame to be printed with what nd_hear says of it to a host and to a router, or 0. The frames of hostile.hex (standard input) are changed:
+ * other addresses, flags, lifetimes and options, random bytes, another length. Most have a good checksum. Between them time passes and packets are
+ * sent.
  *   It requires: no table passes its limit. After each call, with all records taken, the node holds no more memory than nd_node_bytes, three of the
- * longest packets for each neighbour and the room of the queue; during a call, no more than that and twice what it reports. A frame that is dropped or
- * refused has one record and leaves all tables as they were. A reason that nd_hear says is the node's reason. A second node, which receives none of
- * the frames that were dropped or refused, reports the same as the first one of all else; and so does a third one, to which memory is refused at every
- * other call, and calls that return ND_NO_MEMORY are made again. At the end all memory is given back.
+ * longest packets for each neighbour and the room of the queue; during a call, no more than that and twice what it reports. A frame that is dropped
+ * or refused has one record and leaves all tables as they were. A reason that nd_hear says is the node's reason. A second node, which receives none
+ * of the frames that were dropped or refused, reports the same as the first one of all else; and so does a third one, to which memory is refused at
+ * every other call, and calls that return ND_NO_MEMORY are made again. At the end all memory is given back.
  *   The last lines are the counts. */
 #include "heap.h"
 #include "busy.h"

@@ -28,8 +28,8 @@ def in_prefix(address, prefix, bits):
 
 
 def sum_is_good(packet, message):
-    """RFC 4443, 2.3. The 16-bit words add up to a multiple of 65535 exactly if the number that they spell is one, since 65536 is 1 more than that. The sum
-    is positive, since the pseudo-header has 58."""
+    """RFC 4443, 2.3. The 16-bit words add up to a multiple of 65535 exactly if the number that they spell is one, since 65536 is 1 more than that.
+    The sum is positive, since the pseudo-header has 58."""
     text = packet[8:40] + len(message).to_bytes(4, "big") + b"\0\0\0\x3a" + message + bytes(len(message) % 2)
     return int.from_bytes(text, "big") % 65535 == 0
 
@@ -110,8 +110,8 @@ def heard_by_both(frame):
 
 @dataclass
 class Node:
-    """A node with known tables, whose link-local address is assigned. `assigned` and `tentative` are its own addresses. A host has prefixes on the link,
-    redirects and its default routers in their order, all of which are resolved. `in_transit` is what becomes of a packet for another node."""
+    """A node with known tables, whose link-local address is assigned. `assigned` and `tentative` are its own addresses. A host has prefixes on the
+    link, redirects and its default routers in their order, all of which are resolved. `in_transit` is what becomes of a packet for another node."""
     role: int
     assigned: list
     tentative: list = field(default_factory=list)

@@ -1,10 +1,10 @@
-/* scarce: memory that is refused to one event. For each event of a list at a busy node of busy.h (frames from standard input), each request for memory
- * is refused in turn, and then all of them for three calls. It requires: a call that returns ND_NO_MEMORY has reported nothing and leaves all tables as
- * they were, if nothing was due before it. The same call again has the status, the records and the tables of a run in which nothing was refused, then and
- * later. Then all requests are refused, and the events that take no memory are done all the same, without a request, while the queue has room for their
- * records.
- *   A line for each event says how many requests it makes, how many of them were refused with ND_NO_MEMORY, and how many changed nothing (a next hop that
- * was not remembered). */
+/* scarce: memory that is refused to one event. For each event of a list at a busy node of busy.h (frames from standard input), each request for
+ * memory is refused in turn, and then all of them for three calls. It requires: a call that returns ND_NO_MEMORY has reported nothing and leaves all
+ * tables as they were, if nothing was due before it. The same call again has the status, the records and the tables of a run in which nothing was
+ * refused, then and later. Then all requests are refused, and the events that take no memory are done all the same, without a request, while the
+ * queue has room for their records.
+ *   A line for each event says how many requests it makes, how many of them were refused with ND_NO_MEMORY, and how many changed nothing (a next hop
+ * that was not remembered). */
 #include "heap.h"
 #include "busy.h"
 
@@ -302,7 +302,8 @@ static void do_without(const struct event *event, int32_t wanted)
     printf("  %s\n", event->what);
 }
 
-/* Does all events one after the other while each request is refused, and compares with a node that has memory. What is shown takes no memory either. */
+/* Does all events one after the other while each request is refused, and compares with a node that has memory. What is shown takes no memory either.
+ * */
 static void do_all_without(const struct event *events, size_t count)
 {
     nd_node node = ND_NODE_INIT, other = ND_NODE_INIT;

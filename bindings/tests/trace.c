@@ -1,7 +1,7 @@
-/* trace: `ndpctl run` over the library: the same options, lines and texts (docs/FORMATS.md). It is for well-formed scripts: a line that it cannot read
- * ends it with status 2, where a value out of range is found by the library alone. On the way it requires what nd.h says of moments and records. With
- * `--refuse N` the Nth request for memory is refused, none for 0; a call that returns ND_NO_MEMORY is made again, and standard error says how many
- * requests there were. */
+/* trace: `ndpctl run` over the library: the same options, lines and texts (docs/FORMATS.md). It is for well-formed scripts: a line that it cannot
+ * read ends it with status 2, where a value out of range is found by the library alone. On the way it requires what nd.h says of moments and
+ * records. With `--refuse N` the Nth request for memory is refused, none for 0; a call that returns ND_NO_MEMORY is made again, and standard error
+ * says how many requests there were. */
 #include "heap.h"
 #include "tested.h"
 
