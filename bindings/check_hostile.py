@@ -58,7 +58,7 @@ def check_changed(room, name, is_mended, step, process):
         return
     wrong = [f"frame {i}: {line}, not {wanted}" for i, (line, wanted) in enumerate(zip(lines, expected)) if line != wanted]
     are_right = not wrong and len(lines) == len(expected)
-    report_if(f"{name}: {len(lines)} frames, of each the four answers that the rules say", are_right, "\n".join(wrong[:8]))
+    report_if(f"{name}: {len(lines)} frames, of each the answers and fields that the rules say", are_right, "\n".join(wrong[:8]))
     compare(name, hostile.counts(lines))
 
 

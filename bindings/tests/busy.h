@@ -59,6 +59,21 @@ static inline void hear_named(nd_node *node, uint64_t now, const char *name)
     require(nd_receive(node, now, frame->bytes, frame->length) == ND_DONE, name);
 }
 
+/* Returns the CRC-32 of all fields of a structure that nd_hear wrote: it has no padding. */
+static inline uint32_t crc_of(const nd_heard *heard)
+{
+    static uint32_t table[256];
+    uint32_t crc = UINT32_MAX;
+    for (uint32_t i = 0; table[255] == 0 && i < 256; i++) {
+        table[i] = i;
+        for (int bit = 0; bit < 8; bit++)
+            table[i] = table[i] >> 1 ^ (table[i] % 2 != 0 ? UINT32_C(0xedb88320) : 0);
+    }
+    for (size_t i = 0; i < sizeof *heard; i++)
+        crc = crc >> 8 ^ table[(crc ^ ((const uint8_t *)heard)[i]) & 0xff];
+    return ~crc;
+}
+
 /* The limit of default routers of a busy node, 0 for the usual one. */
 static uint32_t busy_routers;
 

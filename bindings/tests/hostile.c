@@ -1,7 +1,8 @@
 /* hostile: frames that are cut and changed. Each of the first 24 frames of hostile.hex (standard input) is cut at each length, and has each byte set
  * to each value. For each of these frames a line says what nd_hear says of it to a host and to a router, and what the busy host and the busy router
  * of busy.h report: two hexadecimal digits each. 01 to 14 is the reason why it is dropped, 85 to 89 the type of a message that is heard, f0 another
- * packet or one for the upper layer, f1 one in transit. hostile.py reads the lines.
+ * packet or one for the upper layer, f1 one in transit. Then come the CRC-32 of all fields that nd_hear writes, for a host and for a router.
+ * hostile.py reads the lines.
  *   On the way the program requires: nd_hear writes all its fields and the same ones each time. The node reports the reason that nd_hear says, or,
  * where nd_hear hears something, ND_WHY_NOT_FOR_US or ND_WHY_NOT_FIRST_HOP. A frame that is dropped has one record and leaves all tables as they
  * were. The buffer of nd_poll is untouched beyond the bytes of a record. Behind the last byte of a frame memory cannot be read. A node that received
@@ -158,6 +159,7 @@ static void sweep(size_t step)
     for (size_t i = 0; i < BASES; i++)
         for (size_t k = 0; k < variants(&named[i].frame); k++, at++) {
             uint8_t *bytes, hearing[2];
+            uint32_t crc[2];
             size_t length;
             nd_heard heard;
             if (at % step != 0)
@@ -165,9 +167,10 @@ static void sweep(size_t step)
             length = vary(&named[i].frame, k, &bytes);
             for (uint32_t role = 0; role < 2; role++) {
                 hearing[role] = hear(bytes, length, role, &heard);
+                crc[role] = crc_of(&heard);
                 answers[role][at] = receive(role, bytes, length, hearing[role], &heard);
             }
-            printf("%02x%02x%02x%02x\n", hearing[0], hearing[1], answers[0][at], answers[1][at]);
+            printf("%02x%02x%02x%02x %08x%08x\n", hearing[0], hearing[1], answers[0][at], answers[1][at], (unsigned)crc[0], (unsigned)crc[1]);
         }
 }
 

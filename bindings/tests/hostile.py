@@ -60,7 +60,7 @@ def expected_lines(is_mended, step=1):
                 frame = mended(frame, at < len(base)) if is_mended else frame
                 hearings = rules.heard_by_both(frame)
                 reports = (node.reports(frame, hearing) for node, hearing in zip(BUSY, hearings))
-                yield "%02x%02x%02x%02x" % (*hearings, *reports)
+                yield "%02x%02x%02x%02x %08x%08x" % (*hearings, *reports, *(rules.crc_of(frame, hearing) for hearing in hearings))
             number += 1
 
 
@@ -84,7 +84,9 @@ def wrong_samples(lines):
     wrong = []
     for line in lines:
         if line.startswith("frame "):
-            _, said, digits = line.split(" ")
-            if said != "%02x%02x" % rules.heard_by_both(bytes.fromhex(digits)):
+            _, said, crc, digits = line.split(" ")
+            frame = bytes.fromhex(digits)
+            hearings = rules.heard_by_both(frame)
+            if said != "%02x%02x" % hearings or crc != "%08x%08x" % tuple(rules.crc_of(frame, hearing) for hearing in hearings):
                 wrong.append(line)
     return wrong

@@ -436,7 +436,7 @@ static void print_sample(const uint8_t *bytes, size_t length)
 {
     nd_heard by_host, by_router;
     require(nd_hear(bytes, length, ND_ROLE_HOST, &by_host) == ND_DONE && nd_hear(bytes, length, ND_ROLE_ROUTER, &by_router) == ND_DONE, "nd_hear");
-    printf("frame %02x%02x ", (unsigned)said(&by_host), (unsigned)said(&by_router));
+    printf("frame %02x%02x %08x%08x ", (unsigned)said(&by_host), (unsigned)said(&by_router), (unsigned)crc_of(&by_host), (unsigned)crc_of(&by_router));
     for (size_t i = 0; i < length; i++)
         printf("%02x", bytes[i]);
     printf("\n");

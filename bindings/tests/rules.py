@@ -1,5 +1,7 @@
 """rules: when a frame is dropped, and why, written anew from RFC 4861, RFC 4443, RFC 2464 and RFC 8200 in the order of docs/FORMATS.md. It shares no
 code with the library. `heard` is what a frame is to a role alone; a `Node` says what a host or a router with known tables reports of it."""
+import struct
+import zlib
 from dataclasses import dataclass, field
 
 REASONS = {1: "FrameShort", 2: "NotIpv6", 3: "HeaderShort", 4: "Version", 5: "PayloadShort", 6: "Code", 7: "Length", 8: "OptionZero", 9: "OptionOver",
@@ -106,6 +108,37 @@ def heard_by_both(frame):
         return OTHER, OTHER
     fault, kind = fault_of(packet, message), message[0]
     return fault or (19 if kind == RS else kind), fault or (19 if kind in (RA, REDIRECT) else kind)
+
+
+# struct nd_heard: the addresses, the numbers, and the bytes.
+HEARD = struct.Struct("=16s16s16s16s9I8B")
+VALID_HEARING, OTHER_HEARING, DROP_HEARING = 1, 2, 3
+DROPPED_CRC = [zlib.crc32(HEARD.pack(*[bytes(16)] * 4, DROP_HEARING, why, *[0] * 15)) for why in range(21)]
+PREFERENCES = (0, 1, 0, 2)
+
+
+def crc_of(frame, hearing):
+    """Returns the CRC-32 of all fields of a `struct nd_heard` for a frame, `hearing` being what it is to the role (include/nd_hear.h)."""
+    if hearing < RS:
+        return DROPPED_CRC[hearing]
+    packet = packet_of(frame)
+    source, destination, message = packet[8:24], packet[24:40], packet[40:]
+    target, redirected, numbers, flags = bytes(16), bytes(16), [0] * 3, [0] * 8
+    if hearing == OTHER:
+        return zlib.crc32(HEARD.pack(source, destination, target, redirected, OTHER_HEARING, 0, 0, packet[6], 0, 0, *numbers, *flags))
+    if hearing in (NS, NA, REDIRECT):
+        target = message[8:24]
+    if hearing == REDIRECT:
+        redirected = message[24:40]
+    if hearing == RA:
+        lifetime, reachable, retrans = struct.unpack(">HII", message[6:16])
+        numbers = [reachable, retrans, lifetime]
+        flags[:4] = message[4], message[5] >> 7, message[5] >> 6 & 1, PREFERENCES[message[5] >> 3 & 3]
+    if hearing == NA:
+        flags[4:7] = message[4] >> 7, message[4] >> 6 & 1, message[4] >> 5 & 1
+    least = LEAST[hearing]
+    return zlib.crc32(HEARD.pack(source, destination, target, redirected, VALID_HEARING, 0, hearing, 58, 54 + least, len(message) - least, *numbers,
+                                 *flags))
 
 
 @dataclass
