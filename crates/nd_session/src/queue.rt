@@ -3,11 +3,14 @@
 ghost use Rattle.std.specs.Prelude.{◌≡◌, ◌-◌, ◌+◌, [], length, drop, reverse, option_copied, slice_get, IfOk};
 
 use nd_out::Out;
-use std::alloc::Global;
+use std::alloc::{AllocError, Global};
 use std::marker::Model;
 
 /// What a node reported, with its moment in milliseconds.
 pub(crate) type Report = (u64, Out<Global>);
+
+/// For how many reports each part of a queue has room from the start (our choice): an event with no more of them takes no memory for them.
+const ROOM: usize = 16;
 
 /// Reports, the oldest first. A node appends to the back. The front is kept in reverse, so that the oldest report is at its end; when it is empty, the
 /// back becomes the front. So what it costs to take a report does not grow with their number.
@@ -28,14 +31,14 @@ impl Model for Queue {
 }
 
 impl Queue {
-    /// Returns an empty queue.
-    pub(crate) fn new(alloc: Global) -> Queue
-        ensures { result ≡ [] }
+    /// Returns an empty queue with room for `ROOM` reports. The error is out of memory.
+    pub(crate) fn new(alloc: Global) -> Result<Queue, AllocError>
+        ensures { IfOk result (λ queue. queue ≡ []) }
     {
-        Queue {
-            front: Vec::new(alloc),
-            back: Vec::new(alloc),
-        }
+        Ok(Queue {
+            front: Vec::with_capacity(alloc, ROOM)?,
+            back: Vec::with_capacity(alloc, ROOM)?,
+        })
     }
 
     /// Returns how many reports there are.

@@ -41,11 +41,9 @@ impl Session {
         ensures stands { IfOk result (λ s. let first = starting start role mac transmits limits (stream_of_source source) in Stands stream_of_source first s.node (beginning first)) }
         ensures empty { IfOk result (λ s. s.queue ≡ []) }
     {
+        let queue = Queue::new(alloc)?;
         match Node::new(alloc, role, mac, start, transmits, limits, source) {
-            Ok(node) => Ok(Session {
-                node,
-                queue: Queue::new(alloc),
-            }),
+            Ok(node) => Ok(Session { node, queue }),
             Err(_) => Err(AllocError),
         }
     }
