@@ -8,7 +8,7 @@ from concurrent.futures import ThreadPoolExecutor
 
 import frames
 import scripts
-from check_programs import BINDINGS, HEAP, HOST, TESTS, difference
+from check_programs import BINDINGS, COUNTING, HOST, TESTS, difference
 from checking import TOP, has, read, report_if, run, skip
 
 OUT = f"{BINDINGS}/out/targets"
@@ -72,14 +72,14 @@ def objects(compiler):
 def check_target(room, target, wanted):
     what, compiler, qemu, archive = target
     include = f"{TOP}/include" if archive else DIST
-    more = [HEAP, archive] if archive else []
+    more = [COUNTING, archive] if archive else []
     room = f"{room}/{what.replace(' ', '_')}"
     os.mkdir(room)
     if not archive:
         made, said = objects(compiler)
         if said:
             return report_if(f"{what}: nd.c is compiled", False, said)
-        more = [made, "-lm"]
+        more = [f"{TESTS}/uncounted.c", made, "-lm"]
     for name, source in (("host", f"{EXAMPLE}/host.c"), ("trace", f"{TESTS}/trace.c"), ("hear", f"{EXAMPLE}/hear.c")):
         said = run([compiler, *STATIC, "-O2", f"-I{include}", source, *more, "-o", f"{room}/{name}"])
         if said.returncode:
@@ -117,7 +117,7 @@ def check_targets(room, archive):
     if not report_if("targets/build.py", made.returncode == 0, made.stdout + made.stderr):
         return None
     trace = f"{room}/trace_here"
-    said = run(["gcc", *STATIC, "-O2", f"-I{TOP}/include", f"{TESTS}/trace.c", HEAP, archive, "-o", trace])
+    said = run(["gcc", *STATIC, "-O2", f"-I{TOP}/include", f"{TESTS}/trace.c", COUNTING, archive, "-o", trace])
     if not report_if("trace for this machine is built", said.returncode == 0, said.stderr):
         return None
     wanted = traced([trace])
