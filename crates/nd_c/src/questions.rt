@@ -109,7 +109,7 @@ pub extern "C" fn nd_prefix_at(
     status
 }
 
-/// Writes an own address, in the order of addresses (RFC 4862, section 5).
+/// Writes one of the node's own addresses, in the order of addresses (RFC 4862, section 5).
 #[unsafe(no_mangle)]
 pub extern "C" fn nd_address_at(
     alloc: Global,

@@ -40,7 +40,7 @@ pub(crate) fn prefix_at(session: &Session, now: u64, index: usize) -> Option<Pre
     }
 }
 
-/// Returns the row of an own address, in the order of addresses (RFC 4862, section 5).
+/// Returns the row of one of the node's own addresses, in the order of addresses (RFC 4862, section 5).
 pub(crate) fn address_at(session: &Session, now: u64, index: usize) -> Option<AddressRow>
     ensures { AddressAt now index session.now result }
 {
