@@ -22,8 +22,8 @@ def main():
     sys.dont_write_bytecode = True
     os.chdir(TOP)
     rt = kit()
-    rt.Crate.allowed = rt.handles_of(TOP)
-    for crate in rt.crates_of(TOP):
+    rt.rtlib.Crate = rt.Crate
+    for crate in rt.rtlib.crates_below(TOP):
         stamp = f"{crate.folder}/out/rlib/stamp"
         is_new = os.path.exists(f"{crate.rlib}/format") and not os.path.exists(stamp)
         if is_new and not crate.is_program and not crate.is_static:
