@@ -1,5 +1,5 @@
-"""scripts: the scripts of `ndpctl run` in this repository with their expected texts: those of the tests of crates/nd_script_tests, whose texts were
-written by hand or by another program, and the stored run of crates/ndpctl_run. Each is a name, arguments, a script and a text. `long` is a script without a text, for two programs side by
+"""scripts: the scripts of `ndpctl run` in this repository with their expected texts: those of the tests of crates/tests_run, whose texts were
+written by hand or by another program, and the stored run of crates/ndpctl_stored_run. Each is a name, arguments, a script and a text. `long` is a script without a text, for two programs side by
 side."""
 import ast
 import os
@@ -9,7 +9,7 @@ import re
 import frames
 
 TOP = os.path.dirname(os.path.dirname(os.path.dirname(os.path.abspath(__file__))))
-TESTS = f"{TOP}/crates/nd_script_tests/src"
+TESTS = f"{TOP}/crates/tests_run/src"
 HOST = ["run", "--role", "host", "--mac", "34:56:78:9a:bc:de", "--draws", "word:0"]
 TEXT = r'"(?:[^"\\]|\\.)*"'
 PARTS = rf"&\[\s*((?:(?:{TEXT}|[A-Z_]+),?\s*)+)\]"
@@ -66,8 +66,8 @@ def of_next_hops():
 
 
 def of_stored_run():
-    crate = f"{TOP}/crates/ndpctl_run"
-    yield "ndpctl_run", read(f"{crate}/args").split(), read(f"{crate}/stdin"), read(f"{crate}/stdout")
+    crate = f"{TOP}/crates/ndpctl_stored_run"
+    yield "ndpctl_stored_run", read(f"{crate}/args").split(), read(f"{crate}/stdin"), read(f"{crate}/stdout")
 
 
 def scripts():

@@ -4,8 +4,8 @@ use Rattle.std.specs.Option.{option_map}
 use Rattle.nd_addr.specs.Number.{number_of}
 use Rattle.nd_addr.specs.Same.{same_addr, same_prefix}
 use Rattle.nd_addr.specs.declared.addr.Addr.{Addr}
-use Rattle.nd_lifetime.specs.Left as lifetimes
-use Rattle.nd_lifetime.specs.Shown.{Shows}
+use Rattle.nd_table.specs.Left as lifetimes
+use Rattle.nd_table.specs.Shown.{Shows}
 use Rattle.nd_neighbour.specs.History as neighbour_rows
 use Rattle.nd_neighbour.specs.Shown as neighbours
 use Rattle.nd_neighbour.specs.View as neighbour_view
@@ -20,8 +20,8 @@ use Rattle.nd_params.specs.Params as parameters
 use Rattle.nd_params.specs.Params.{Values}
 use Rattle.nd_advertiser.specs.Advertising.{advertised_by}
 use Rattle.nd_advertiser.specs.Offers.{offers_of}
-use Rattle.nd_routes.specs.KeptRoutes.{entry_of}
-use Rattle.nd_routes.specs.Routes.{routes}
+use Rattle.nd_forwarding.specs.KeptRoutes.{entry_of}
+use Rattle.nd_forwarding.specs.Routes.{routes}
 use Rattle.nd_nexthop.specs.NextHop.{hop_of}
 use Rattle.nd_nexthop.specs.declared.next_hop.Hop.{Hop}
 use Rattle.nd_chronicle.specs.NextHop.{IsHopOf}

@@ -1,7 +1,7 @@
 -- DNS servers and search names, as C sees them (RFC 8106, section 6.1).
 use Rattle.std.specs.Prelude.{ℕ, List, length}
 use Rattle.nd_addr.specs.declared.addr.Addr.{Addr}
-use Rattle.nd_lifetime.specs.declared.with_lifetime.WithLifetime.{WithLifetime}
+use Rattle.nd_table.specs.declared.with_lifetime.WithLifetime.{WithLifetime}
 use Rattle.nd_search_list.specs.Text.{name_text}
 use Rattle.nd_c_types.specs.NameText.{padded}
 use Rattle.nd_c_types.specs.Numbers.{left_number}

@@ -1,9 +1,9 @@
 -- A static route of a router, from and to C (RFC 4861, section 5.2).
 use Rattle.std.specs.Prelude.{ℕ, ◌==◌, nat_le, if◌then◌else◌, List, Option, Some, None}
 use Rattle.nd_addr.specs.Prefix.{prefix_at}
-use Rattle.nd_routes.specs.declared.kept_routes.KeptRoute.{KeptRoute}
-use Rattle.nd_routes.specs.declared.route.Route.{Route}
-use Rattle.nd_routes.specs.declared.route.Route.TheVariants as routes
+use Rattle.nd_forwarding.specs.declared.kept_routes.KeptRoute.{KeptRoute}
+use Rattle.nd_forwarding.specs.declared.route.Route.{Route}
+use Rattle.nd_forwarding.specs.declared.route.Route.TheVariants as routes
 use Rattle.nd_c_types.specs.Numbers.{no_address}
 use Rattle.nd_c_types.specs.declared.route.RouteRow.{RouteRow}
 

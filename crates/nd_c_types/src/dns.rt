@@ -8,7 +8,7 @@ use crate::name_text::text_of;
 use crate::numbers::left_number;
 use nd_addr::Addr;
 use nd_dns::SearchName;
-use nd_lifetime::WithLifetime;
+use nd_table::WithLifetime;
 use std::alloc::Allocator;
 
 /// A DNS server: `nd_server_row` of the header.

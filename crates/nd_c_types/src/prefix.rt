@@ -5,7 +5,7 @@ ghost use Rattle.nd_c_types.specs.Prefix.{prefix_row};
 
 use crate::numbers::left_number;
 use nd_addr::Prefix;
-use nd_lifetime::WithLifetime;
+use nd_table::WithLifetime;
 
 /// A prefix on the link: `nd_prefix_row` of the header.
 #[repr(C)]

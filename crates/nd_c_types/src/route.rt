@@ -4,7 +4,7 @@ ghost use Rattle.std.specs.Prelude.{◌≡◌, Some};
 ghost use Rattle.nd_c_types.specs.Route.{hop_number, route_in, route_of, route_row, router_bytes};
 
 use nd_addr::{Addr, Prefix};
-use nd_routes::{KeptRoute, Route};
+use nd_forwarding::{KeptRoute, Route};
 
 /// A static route: `nd_route_row` of the header.
 #[repr(C)]

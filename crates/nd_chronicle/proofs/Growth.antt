@@ -5,7 +5,7 @@ use Rattle.std.specs.Prelude.{MatchBool, nat_lt}
 use Rattle.nd_addr.specs.Number.{number_of, addr_at}
 use Rattle.nd_advertiser.specs.Advertising.{advertised_by}
 use Rattle.nd_advertiser.specs.Config.{Settings}
-use Rattle.nd_frames.specs.Frames.{detection_frame}
+use Rattle.nd_compose.specs.Frames.{detection_frame}
 use Rattle.nd_neighbour.specs.Due as neighbours_due
 use Rattle.nd_neighbour.specs.History as neighbours
 use Rattle.nd_neighbour.specs.History.{RowKind, story}

@@ -15,7 +15,7 @@ use Rattle.nd_addr.proofs.ByteLists.{AreSmall, AreSmall-append, AreSmall-from, I
 use Rattle.nd_addr.proofs.Numbered.{addr_back}
 use Rattle.nd_addr.proofs.Numbers.{first_byte}
 use Rattle.nd_decode.specs.declared.prefix_info.PrefixInfo.{PrefixInfo}
-use Rattle.nd_frames.specs.Meaning.{IsUnicast}
+use Rattle.nd_compose.specs.Meaning.{IsUnicast}
 use Rattle.nd_message.specs.Fitting.{FitsPrefix}
 use Rattle.nd_table.specs.History.{Past}
 use Rattle.nd_table.proofs.Pasts.{all_before}

@@ -5,7 +5,7 @@ use Rattle.nd_addr.specs.Number.{addr_at}
 use Rattle.nd_table.specs.History.{Past}
 use Rattle.nd_table.proofs.Pasts.{past_self}
 use Rattle.nd_advertiser.specs.Advertising.{advertised_by}
-use Rattle.nd_frames.specs.Frames.{detection_frame}
+use Rattle.nd_compose.specs.Frames.{detection_frame}
 use Rattle.nd_slaac.specs.Due as addresses_due
 use Rattle.nd_slaac.specs.History as addresses
 use Rattle.nd_chronicle.specs.Start.{Start}

@@ -10,9 +10,9 @@ use Rattle.nd_decode.specs.Message.{Parts}
 use Rattle.nd_decode.specs.declared.body.Body.{Body}
 use Rattle.nd_decode.specs.declared.body.Body.TheVariants as bodies
 use Rattle.nd_validity.specs.Hearing.{Hears, valid}
-use Rattle.nd_frames.specs.Frames.{unspecified, all_nodes, solicited_node}
-use Rattle.nd_frames.specs.Meaning.{IsUnicast, IsDetection, IsDefence}
-use Rattle.nd_frames.proofs.Meant.{detection_heard, defence_heard}
+use Rattle.nd_compose.specs.Frames.{unspecified, all_nodes, solicited_node}
+use Rattle.nd_compose.specs.Meaning.{IsUnicast, IsDetection, IsDefence}
+use Rattle.nd_compose.proofs.Meant.{detection_heard, defence_heard}
 use Rattle.nd_chronicle.specs.Start.{Start}
 use Rattle.nd_chronicle.specs.Happening.{Chronicle, Heard}
 use Rattle.nd_chronicle.specs.Hearing.{hears, is_awake, IsTaken}

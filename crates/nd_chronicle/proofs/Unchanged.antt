@@ -8,10 +8,10 @@ use Rattle.nd_addr.specs.Number.{number_of}
 use Rattle.nd_addr.specs.Prefix.{PrefixValue}
 use Rattle.nd_addr.specs.Same.{same_addr, same_prefix}
 use Rattle.nd_dns.specs.Names.{same_name}
-use Rattle.nd_lifetime.specs.declared.lasting.Lasting.{Lasting}
-use Rattle.nd_lifetime.specs.History as lifetimes
-use Rattle.nd_lifetime.specs.Listing.{Lists}
-use Rattle.nd_lifetime.specs.Shown.{Shows}
+use Rattle.nd_table.specs.declared.lasting.Lasting.{Lasting}
+use Rattle.nd_table.specs.Announcements as lifetimes
+use Rattle.nd_table.specs.Listing.{Lists}
+use Rattle.nd_table.specs.Shown.{Shows}
 use Rattle.nd_neighbour.specs.Due as neighbours_due
 use Rattle.nd_neighbour.specs.History as neighbours
 use Rattle.nd_neighbour.specs.Shown as neighbours_shown

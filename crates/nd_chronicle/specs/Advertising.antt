@@ -2,12 +2,12 @@
 use Rattle.std.specs.Prelude.{ℕ, Bool, true, false, ◌&&◌, if◌then◌else◌, ◌∷◌, Option, Some, None}
 use Rattle.nd_addr.specs.Prefix.{PrefixValue}
 use Rattle.nd_decode.specs.Message.{Parts}
-use Rattle.nd_frames.specs.Frames.{router_advertisement_frame}
+use Rattle.nd_compose.specs.Frames.{router_advertisement_frame}
 use Rattle.nd_advertiser.specs.Advertising.{advertised_by, tells_its_end, wants_draw_of}
 use Rattle.nd_advertiser.specs.Config.{Settings}
 use Rattle.nd_advertiser.specs.Contents.{contents, last_contents_of}
 use Rattle.nd_advertiser.specs.Offers.{is_one_too_many, offers_of, prefixes}
-use Rattle.nd_routes.specs.Routes.{fits, routes}
+use Rattle.nd_forwarding.specs.Routes.{fits, routes}
 use Rattle.nd_chronicle.specs.Start.{Start, link_local}
 use Rattle.nd_chronicle.specs.Happening.{Chronicle, Drew, ForInterval, ForAnswer, Advertised, Planned, Ceased, Sent, Limit, Offers, StaticRoutes}
 use Rattle.nd_chronicle.specs.Histories.{advertising_history, route_history}

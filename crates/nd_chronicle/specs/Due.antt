@@ -17,7 +17,7 @@ use Rattle.nd_advertiser.specs.Advertising.{next_of}
 use Rattle.nd_chronicle.specs.Advertising.{then_advertising}
 use Rattle.nd_chronicle.specs.InForce.{base_reachable_time, next_redraw}
 use Rattle.nd_chronicle.specs.Generator.{stream_left, reachable_drawn}
-use Rattle.nd_frames.specs.Frames.{detection_frame, resolution_frame, probe_frame, router_solicitation_frame}
+use Rattle.nd_compose.specs.Frames.{detection_frame, resolution_frame, probe_frame, router_solicitation_frame}
 use Rattle.nd_chronicle.specs.Packet.{losing}
 
 -- ---- Router Solicitations (RFC 4861, section 6.3.7)

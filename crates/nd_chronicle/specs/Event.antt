@@ -15,8 +15,8 @@ use Rattle.nd_decode.specs.Message.{Parts}
 use Rattle.nd_decode.specs.declared.body.Body.{Body}
 use Rattle.nd_decode.specs.declared.body.Body.TheVariants as bodies
 use Rattle.nd_decode.specs.declared.prefix_info.PrefixInfo.{PrefixInfo}
-use Rattle.nd_lifetime.specs.declared.lasting.Lasting.{Lasting}
-use Rattle.nd_lifetime.specs.Listing.{Lists}
+use Rattle.nd_table.specs.declared.lasting.Lasting.{Lasting}
+use Rattle.nd_table.specs.Listing.{Lists}
 use Rattle.nd_neighbour.specs.Entry.{Node, waiting_in}
 use Rattle.nd_neighbour.specs.History as neighbours
 use Rattle.nd_neighbour.specs.History.{story}
@@ -25,13 +25,13 @@ use Rattle.nd_neighbour.specs.Table as cache
 use Rattle.nd_nexthop.specs.NextHop.{NextHop, direct, via, no_route}
 use Rattle.nd_routers.specs.History.{announcements}
 use Rattle.nd_routers.specs.Routers.{same}
-use Rattle.nd_routes.specs.declared.route.Route.{Route}
+use Rattle.nd_forwarding.specs.declared.route.Route.{Route}
 use Rattle.nd_chronicle.specs.Start.{Start}
 use Rattle.nd_chronicle.specs.Happening.{Chronicle, Heard, Dropped, Up, Neighbour, LeftRouter, ClearedPrefixes, ClearedRedirects, ClearedDns, Configured, Offered, RoutePut, Sent, Lost, Shown, Limit, Refusal, Disabled, NotOurs, TooLong, Routeless, Forgotten}
 use Rattle.nd_chronicle.specs.Histories.{neighbour_history, router_history}
 use Rattle.nd_chronicle.specs.InForce.{hop_limit, link_mtu, reachable_time}
 use Rattle.nd_chronicle.specs.OwnAddress.{is_assigned, is_disabled}
-use Rattle.nd_frames.specs.Frames.{multicast_mac, open_mac}
+use Rattle.nd_compose.specs.Frames.{multicast_mac, open_mac}
 use Rattle.nd_chronicle.specs.Packet.{losing, GoesIfPlaced}
 use Rattle.nd_chronicle.specs.NextHop.{IsHopOf}
 use Rattle.nd_chronicle.specs.Hearing.{Verdict, hears, goes_up, goes_on, drops, IsHeard}

@@ -6,14 +6,14 @@ use Rattle.nd_addr.specs.declared.mac.Mac.{Mac}
 use Rattle.nd_addr.specs.Frame.{written_frame}
 use Rattle.nd_addr.specs.Ip6.{PacketParts}
 use Rattle.nd_addr.specs.Number.{number_of, mac_at}
-use Rattle.nd_frames.specs.Frames.{open_mac}
-use Rattle.nd_frames.specs.Redirect.{redirect_frame}
+use Rattle.nd_compose.specs.Frames.{open_mac}
+use Rattle.nd_compose.specs.Redirect.{redirect_frame}
 use Rattle.nd_neighbour.specs.History.{story}
 use Rattle.nd_neighbour.specs.Story.{mac_of}
 use Rattle.nd_nexthop.specs.NextHop.{NextHop, direct, via, no_route}
-use Rattle.nd_routes.specs.Forward.{Fate, lost_no_route, lost_hop_limit, sent, fate}
-use Rattle.nd_routes.specs.Redirect.{last_redirect, redirect}
-use Rattle.nd_routes.specs.Routes.{routes}
+use Rattle.nd_forwarding.specs.Forward.{Fate, lost_no_route, lost_hop_limit, sent, fate}
+use Rattle.nd_forwarding.specs.Redirect.{last_redirect, redirect}
+use Rattle.nd_forwarding.specs.Routes.{routes}
 use Rattle.nd_chronicle.specs.Start.{Start, link_local}
 use Rattle.nd_chronicle.specs.Happening.{Chronicle, Lost, Routeless, Spent, RedirectMade}
 use Rattle.nd_chronicle.specs.Histories.{neighbour_history, route_history}

@@ -10,8 +10,8 @@ use Rattle.nd_decode.specs.Message.{Parts}
 use Rattle.nd_decode.specs.declared.body.Body.{Body}
 use Rattle.nd_decode.specs.declared.body.Body.TheVariants as bodies
 use Rattle.nd_decode.specs.declared.router_advertisement.RouterAdvertisement.{RouterAdvertisement}
-use Rattle.nd_lifetime.specs.declared.lasting.Lasting.{Lasting}
-use Rattle.nd_lifetime.specs.Listing.{Lists, fits}
+use Rattle.nd_table.specs.declared.lasting.Lasting.{Lasting}
+use Rattle.nd_table.specs.Listing.{Lists, fits}
 use Rattle.nd_neighbour.specs.History.{RowKind}
 use Rattle.nd_routers.specs.History.{announcements}
 use Rattle.nd_routers.specs.PrefixOptions.{max_prefixes, prefixes_in}

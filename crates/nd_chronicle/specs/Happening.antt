@@ -6,7 +6,7 @@ use Rattle.nd_addr.specs.declared.why.Why.{Why}
 use Rattle.nd_decode.specs.Message.{Parts}
 use Rattle.nd_decode.specs.declared.prefix_info.PrefixInfo.{PrefixInfo}
 use Rattle.nd_advertiser.specs.Config.{Settings}
-use Rattle.nd_routes.specs.declared.route.Route.{Route}
+use Rattle.nd_forwarding.specs.declared.route.Route.{Route}
 use Rattle.nd_neighbour.specs.History as neighbours
 use Rattle.nd_slaac.specs.History as addresses
 

@@ -13,7 +13,7 @@ use Rattle.nd_decode.specs.declared.body.Body.{Body}
 use Rattle.nd_decode.specs.declared.body.Body.TheVariants as bodies
 use Rattle.nd_validity.specs.Hearing.{Outcome, valid, other, dropped, Hears}
 use Rattle.nd_nexthop.specs.NextHop.{NextHop, via}
-use Rattle.nd_routes.specs.Forward.{may_be_forwarded}
+use Rattle.nd_forwarding.specs.Forward.{may_be_forwarded}
 use Rattle.nd_chronicle.specs.Start.{Start, link_local}
 use Rattle.nd_chronicle.specs.Happening.{Chronicle}
 use Rattle.nd_chronicle.specs.NextHop.{IsNextHop}

@@ -11,8 +11,8 @@ use Rattle.nd_decode.specs.declared.body.Body.{Body}
 use Rattle.nd_decode.specs.declared.body.Body.TheVariants as bodies
 use Rattle.nd_decode.specs.declared.neighbor_advertisement.NeighborAdvertisement.{NeighborAdvertisement}
 use Rattle.nd_decode.specs.declared.redirect.Redirect.{Redirect}
-use Rattle.nd_lifetime.specs.History as lifetimes
-use Rattle.nd_lifetime.specs.Listing.{then_announced}
+use Rattle.nd_table.specs.Announcements as lifetimes
+use Rattle.nd_table.specs.Listing.{then_announced}
 use Rattle.nd_params.specs.History as parameters
 use Rattle.nd_neighbour.specs.History as neighbours
 use Rattle.nd_routers.specs.History as routers
@@ -22,7 +22,7 @@ use Rattle.nd_dns.specs.Servers.{servers_told}
 use Rattle.nd_dns.specs.Names.{names_told}
 use Rattle.nd_nexthop.specs.History as redirects
 use Rattle.nd_advertiser.specs.History as advertising
-use Rattle.nd_routes.specs.History as routes
+use Rattle.nd_forwarding.specs.History as routes
 use Rattle.nd_chronicle.specs.Start.{Start, link_local_key}
 use Rattle.nd_chronicle.specs.Happening.{ForReachableTime, Drew, Heard, Neighbour, Address, LeftRouter, ClearedPrefixes, ClearedRedirects, ClearedDns, Configured, Offered, Ceased, Advertised, Planned, RoutePut, RedirectMade, Chronicle}
 use Rattle.nd_chronicle.specs.LinkLayerAddress.{first_slla, first_tlla}

@@ -3,7 +3,7 @@ use Rattle.std.specs.Prelude.{ℕ, Bool, true, false, ◌&&◌, ◌∷◌, Optio
 use Rattle.nd_addr.specs.declared.addr.Addr.{Addr}
 use Rattle.nd_addr.specs.Number.{number_of}
 use Rattle.nd_decode.specs.Message.{Parts}
-use Rattle.nd_lifetime.specs.History.{stands}
+use Rattle.nd_table.specs.Announcements.{stands}
 use Rattle.nd_neighbour.specs.History.{RowKind, story}
 use Rattle.nd_neighbour.specs.News.{ends_router}
 use Rattle.nd_routers.specs.History.{announcements}

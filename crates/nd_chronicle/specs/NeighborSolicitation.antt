@@ -11,7 +11,7 @@ use Rattle.nd_chronicle.specs.Start.{Start}
 use Rattle.nd_chronicle.specs.Happening.{Chronicle, Heard, Address, Sent}
 use Rattle.nd_chronicle.specs.Histories.{neighbour_history}
 use Rattle.nd_chronicle.specs.OwnAddress.{is_assigned}
-use Rattle.nd_frames.specs.Frames.{defence_frame, answer_frame}
+use Rattle.nd_compose.specs.Frames.{defence_frame, answer_frame}
 use Rattle.nd_chronicle.specs.Packet.{Goes}
 use Rattle.nd_chronicle.specs.Message.{said, PlaceFor, releasing}
 

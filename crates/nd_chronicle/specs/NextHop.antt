@@ -6,8 +6,8 @@ use Rattle.nd_addr.specs.declared.role.Role.TheVariants.{Host, Router}
 use Rattle.nd_addr.specs.Number.{number_of}
 use Rattle.nd_addr.specs.Prefix.{PrefixValue}
 use Rattle.nd_addr.specs.Same.{same_prefix}
-use Rattle.nd_lifetime.specs.declared.lasting.Lasting.{Lasting}
-use Rattle.nd_lifetime.specs.Listing.{Lists}
+use Rattle.nd_table.specs.declared.lasting.Lasting.{Lasting}
+use Rattle.nd_table.specs.Listing.{Lists}
 use Rattle.nd_neighbour.specs.History.{story}
 use Rattle.nd_neighbour.specs.Story as neighbours
 use Rattle.nd_routers.specs.DefaultRouterSelection.{Failures, place_among}
@@ -17,8 +17,8 @@ use Rattle.nd_routers.specs.Routers.{same}
 use Rattle.nd_nexthop.specs.DefaultRouter.{DefaultRouter}
 use Rattle.nd_nexthop.specs.History.{kept}
 use Rattle.nd_nexthop.specs.NextHop.{NextHop, hop}
-use Rattle.nd_routes.specs.NextHop as routes
-use Rattle.nd_routes.specs.Routes.{routes}
+use Rattle.nd_forwarding.specs.NextHop as routes
+use Rattle.nd_forwarding.specs.Routes.{routes}
 use Rattle.nd_chronicle.specs.Happening.{Chronicle}
 use Rattle.nd_chronicle.specs.Histories.{neighbour_history, router_history, prefix_history, redirect_history, route_history}
 use Rattle.nd_chronicle.specs.OwnAddress.{is_own}

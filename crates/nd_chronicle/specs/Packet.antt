@@ -13,7 +13,7 @@ use Rattle.nd_chronicle.specs.Happening.{Chronicle, Neighbour, Sent, Lost, Loss,
 use Rattle.nd_chronicle.specs.Histories.{neighbour_history}
 use Rattle.nd_chronicle.specs.InForce.{retrans_timer}
 use Rattle.nd_chronicle.specs.Refused.{UnlessFull}
-use Rattle.nd_frames.specs.Frames.{resolution_frame}
+use Rattle.nd_compose.specs.Frames.{resolution_frame}
 
 -- packets are lost, in their order
 abbrev pub losing : ℕ → Loss → List (List ℕ) → Chronicle → Chronicle

@@ -4,7 +4,7 @@ use Rattle.nd_table.specs.History.{Past}
 use Rattle.nd_addr.specs.declared.addr.Addr.{Addr}
 use Rattle.nd_addr.specs.Number.{addr_at, number_of}
 use Rattle.nd_decode.specs.Message.{Parts}
-use Rattle.nd_frames.specs.Frames.{detection_frame}
+use Rattle.nd_compose.specs.Frames.{detection_frame}
 use Rattle.nd_slaac.specs.History.{Row, RowKind, Lifetimes, Formed, Solicited, Assigned}
 use Rattle.nd_slaac.specs.State.{is_assigned, is_tentative}
 use Rattle.nd_chronicle.specs.Start.{Start}

@@ -7,7 +7,7 @@ use Rattle.nd_addr.specs.Number.{number_of, holds}
 use Rattle.nd_decode.specs.Message.{Parts}
 use Rattle.nd_decode.specs.declared.prefix_info.PrefixInfo.{PrefixInfo}
 use Rattle.nd_decode.specs.declared.router_advertisement.RouterAdvertisement.{RouterAdvertisement}
-use Rattle.nd_lifetime.specs.History.{stands}
+use Rattle.nd_table.specs.Announcements.{stands}
 use Rattle.nd_params.specs.Params.{redraws}
 use Rattle.nd_routers.specs.History.{announcements}
 use Rattle.nd_routers.specs.Routers.{same}

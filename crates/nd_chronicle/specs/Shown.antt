@@ -16,10 +16,10 @@ use Rattle.nd_decode.specs.declared.prefix_info.PrefixInfo.{PrefixInfo}
 use Rattle.nd_advertiser.specs.History as advertising
 use Rattle.nd_advertiser.specs.Advertising.{is_on}
 use Rattle.nd_advertiser.specs.Offers.{offers_of}
-use Rattle.nd_routes.specs.Routes.{routes}
-use Rattle.nd_routes.specs.declared.route.Route.{Route}
-use Rattle.nd_routes.specs.declared.route.Route.TheVariants.{Direct, Via}
-use Rattle.nd_lifetime.specs.Shown as lifetimes
+use Rattle.nd_forwarding.specs.Routes.{routes}
+use Rattle.nd_forwarding.specs.declared.route.Route.{Route}
+use Rattle.nd_forwarding.specs.declared.route.Route.TheVariants.{Direct, Via}
+use Rattle.nd_table.specs.Shown as lifetimes
 use Rattle.nd_params.specs.History.{managed_of, other_of}
 use Rattle.nd_neighbour.specs.declared.shown.Reachability.{Reachability}
 use Rattle.nd_neighbour.specs.declared.shown.Reachability.TheVariants.{Incomplete, Reachable, Stale, Delay, Probe}

@@ -3,10 +3,10 @@ use Rattle.std.proofs.Common.{◌≡◌, ◌≤◌, ℕ, ◌+◌, Bool, true, fa
 use Rattle.std.specs.Prelude.{◌&&◌, ◌||◌, not, is_some, nat_lt}
 use Rattle.std.proofs.lemmas.Bool.{leb-true, true≢false}
 use Rattle.nd_addr.specs.Same.{bytes_tell}
-use Rattle.nd_lifetime.specs.declared.lasting.Lasting.{Lasting}
-use Rattle.nd_lifetime.specs.Listing.{announced, behind, end_in, entered, enters, fits, open_at}
-use Rattle.nd_lifetime.proofs.Behind.{entered_more}
-use Rattle.nd_lifetime.proofs.Steps.{announced_length}
+use Rattle.nd_table.specs.declared.lasting.Lasting.{Lasting}
+use Rattle.nd_table.specs.Listing.{announced, behind, end_in, entered, enters, fits, open_at}
+use Rattle.nd_table.proofs.Behind.{entered_more}
+use Rattle.nd_table.proofs.Steps.{announced_length}
 use Rattle.nd_dns.specs.Names.{same_name}
 
 pub one_more : (copied more rest all : List (List ℕ)) (name : List ℕ) (enters : Bool) → copied ++ cond enters (name ∷ rest) rest ≡ all → more ≡ cond enters (copied ++ name ∷ []) copied → more ++ rest ≡ all

@@ -3,10 +3,10 @@ use Rattle.std.specs.Prelude.{ℕ, List}
 use Rattle.nd_addr.specs.declared.addr.Addr.{Addr}
 use Rattle.nd_addr.specs.Same.{same_addr}
 use Rattle.nd_decode.specs.Option.{Said}
-use Rattle.nd_lifetime.specs.declared.lasting.Lasting.{Lasting}
-use Rattle.nd_lifetime.specs.History.{Row}
-use Rattle.nd_lifetime.specs.Listing as lifetimes
-use Rattle.nd_lifetime.specs.Listing.{announced_all, entered}
+use Rattle.nd_table.specs.declared.lasting.Lasting.{Lasting}
+use Rattle.nd_table.specs.Announcements.{Row}
+use Rattle.nd_table.specs.Listing as lifetimes
+use Rattle.nd_table.specs.Listing.{announced_all, entered}
 use Rattle.nd_dns.specs.Servers.{servers_told}
 use Rattle.nd_dns.specs.Names.{same_name, names_told}
 

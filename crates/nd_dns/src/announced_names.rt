@@ -4,7 +4,7 @@ ghost use Rattle.nd_dns.specs.Names.{at_hand};
 
 use crate::search_name::SearchName;
 use nd_decode::{NameRef, Names, OPTION_DNS_SEARCH_LIST, OptionRef, Options};
-use nd_lifetime::Announces;
+use nd_table::Announces;
 use std::alloc::Allocator;
 
 /// The search names that the options of a Router Advertisement tell, with the lifetimes of their options (RFC 8106, section 5.2).

@@ -1,6 +1,6 @@
 use nd_addr::Addr;
 use nd_decode::{OPTION_RECURSIVE_DNS_SERVER, OptionRef, Options, Servers};
-use nd_lifetime::Announces;
+use nd_table::Announces;
 
 /// The DNS servers that the options of a Router Advertisement tell, with the lifetimes of their options (RFC 8106, section 5.1).
 #[derive(Clone, Copy, Debug)]

@@ -1,15 +1,15 @@
 ghost use Rattle.std.specs.Prelude.{◌≡◌, ◌≤◌, ◌∷◌, ℕ, List, [], length, map, IfOk};
 ghost use Rattle.nd_addr.specs.declared.addr.Addr.{Addr};
 ghost use Rattle.nd_addr.specs.Same.{same_addr};
-ghost use Rattle.nd_lifetime.specs.declared.lasting.Lasting.{Lasting};
-ghost use Rattle.nd_lifetime.specs.History.{Row, Cleared, last_moment};
-ghost use Rattle.nd_lifetime.specs.Listing.{open_at};
-ghost use Rattle.nd_lifetime.specs.Left.{lifetimes_left};
-ghost use Rattle.nd_lifetime.specs.Shown.{seen, Shows};
+ghost use Rattle.nd_table.specs.declared.lasting.Lasting.{Lasting};
+ghost use Rattle.nd_table.specs.Announcements.{Row, Cleared, last_moment};
+ghost use Rattle.nd_table.specs.Listing.{open_at};
+ghost use Rattle.nd_table.specs.Left.{lifetimes_left};
+ghost use Rattle.nd_table.specs.Shown.{seen, Shows};
 
 use crate::search_name::SearchName;
 use nd_addr::Addr;
-use nd_lifetime::{Lasting, WithLifetimes};
+use nd_table::{Lasting, WithLifetimes};
 use std::alloc::{AllocError, Allocator};
 use std::marker::Model;
 
@@ -30,7 +30,7 @@ pub struct Dns<A: Allocator> {
 impl<A: Allocator> Model for Dns<A> {
     ghost use Rattle.std.specs.Prelude.{◌≤◌};
     ghost use Rattle.std.specs.Vec.{vec_len, vec_capacity};
-    ghost use Rattle.nd_lifetime.specs.Listing.{Distinct};
+    ghost use Rattle.nd_table.specs.Listing.{Distinct};
     ghost use Rattle.nd_addr.specs.Same.{same_addr};
     ghost use Rattle.nd_dns.specs.Dns.{Table, max_servers, max_names};
     ghost use Rattle.nd_dns.specs.Names.{same_name};

@@ -3,9 +3,9 @@
 ghost use Rattle.std.specs.Prelude.{◌≡◌, ℕ, List};
 ghost use Rattle.nd_addr.specs.declared.addr.Addr.{Addr};
 ghost use Rattle.nd_addr.specs.Same.{same_addr};
-ghost use Rattle.nd_lifetime.specs.declared.lasting.Lasting.{Lasting};
-ghost use Rattle.nd_lifetime.specs.History.{Row};
-ghost use Rattle.nd_lifetime.specs.Listing.{Lists};
+ghost use Rattle.nd_table.specs.declared.lasting.Lasting.{Lasting};
+ghost use Rattle.nd_table.specs.Announcements.{Row};
+ghost use Rattle.nd_table.specs.Listing.{Lists};
 ghost use Rattle.nd_dns.specs.Names.{same_name};
 
 /// What was announced gives one list of servers and one of search names at each moment.

@@ -10,6 +10,6 @@ mod router_advertisement;
 mod search_name;
 
 pub use dns::Dns;
-pub use nd_lifetime::{Limit, TableRefusal, WithLifetime, WithLifetimes};
+pub use nd_table::{Limit, TableRefusal, WithLifetime, WithLifetimes};
 pub use new_names::NewNames;
 pub use search_name::SearchName;

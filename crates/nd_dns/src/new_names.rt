@@ -1,11 +1,11 @@
 ghost use Rattle.std.specs.Prelude.{◌≡◌, ◌<◌, ◌^◌, [], IfOk, IsOk, length, ◌≤◌, true, vec_len, vec_capacity};
-ghost use Rattle.nd_lifetime.specs.Listing.{entered, fits, announced_all};
+ghost use Rattle.nd_table.specs.Listing.{entered, fits, announced_all};
 ghost use Rattle.nd_dns.specs.Names.{same_name, names_to_come};
 
 use crate::announced_names::AnnouncedNames;
 use crate::search_name::SearchName;
 use nd_decode::NameRef;
-use nd_lifetime::{Lasting, announce, enters, enters_behind};
+use nd_table::{Lasting, announce, enters, enters_behind};
 use std::alloc::{AllocError, Allocator};
 use std::collections::VecDeque;
 use std::marker::Model;

@@ -3,9 +3,9 @@ ghost use Rattle.std.specs.Result.{IsErrAnd};
 ghost use Rattle.nd_addr.specs.declared.addr.Addr.{Addr};
 ghost use Rattle.nd_addr.specs.Same.{same_addr};
 ghost use Rattle.nd_decode.specs.Pieces.{options_left};
-ghost use Rattle.nd_lifetime.specs.declared.lasting.Lasting.{Lasting};
-ghost use Rattle.nd_lifetime.specs.History.{Row, last_moment};
-ghost use Rattle.nd_lifetime.specs.Listing.{fits, then_announced, Lists};
+ghost use Rattle.nd_table.specs.declared.lasting.Lasting.{Lasting};
+ghost use Rattle.nd_table.specs.Announcements.{Row, last_moment};
+ghost use Rattle.nd_table.specs.Listing.{fits, then_announced, Lists};
 
 use crate::announced_names::AnnouncedNames;
 use crate::announced_servers::AnnouncedServers;
@@ -13,7 +13,7 @@ use crate::dns::{Dns, MAX_NAMES, MAX_SERVERS};
 use crate::new_names::{NewNames, announce_names, copies};
 use nd_addr::Addr;
 use nd_decode::Options;
-use nd_lifetime::{Lasting, Limit, TableRefusal, announce_all, fits_all};
+use nd_table::{Lasting, Limit, TableRefusal, announce_all, fits_all};
 use std::alloc::{AllocError, Allocator};
 
 impl<A: Allocator> Dns<A> {

@@ -3,7 +3,7 @@ ghost use Rattle.nd_search_list.specs.Name.{IsName};
 ghost use Rattle.nd_search_list.specs.NameRef.{bytes_of, name_of};
 
 use nd_decode::NameRef;
-use nd_lifetime::NamesKey;
+use nd_table::NamesKey;
 use std::alloc::{AllocError, Allocator};
 use std::marker::Model;
 

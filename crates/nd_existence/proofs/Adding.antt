@@ -19,9 +19,9 @@ use Rattle.nd_decode.specs.declared.router_advertisement.RouterAdvertisement.{Ro
 use Rattle.nd_dns.specs.Dns.{max_servers, max_names}
 use Rattle.nd_dns.specs.Names.{same_name, names_told}
 use Rattle.nd_dns.specs.Servers.{servers_told}
-use Rattle.nd_frames.specs.Frames.{answer_frame, multicast_mac, open_mac}
-use Rattle.nd_lifetime.specs.Listing.{fits}
-use Rattle.nd_lifetime.specs.Shown as shown_lifetimes
+use Rattle.nd_compose.specs.Frames.{answer_frame, multicast_mac, open_mac}
+use Rattle.nd_table.specs.Listing.{fits}
+use Rattle.nd_table.specs.Shown as shown_lifetimes
 use Rattle.nd_neighbour.specs.History as neighbours
 use Rattle.nd_neighbour.specs.History.{RowKind, Row, story}
 use Rattle.nd_neighbour.specs.Place.{WouldBeFull}
@@ -34,9 +34,9 @@ use Rattle.nd_routers.specs.History.{announcements, preference_of}
 use Rattle.nd_routers.specs.Shown as shown_routers
 use Rattle.nd_routers.specs.PrefixOptions.{max_prefixes, prefixes_in}
 use Rattle.nd_routers.specs.Routers.{same}
-use Rattle.nd_routes.specs.Forward.{Fate, lost_no_route, lost_hop_limit, sent, fate}
-use Rattle.nd_routes.specs.Redirect.{last_redirect, redirect}
-use Rattle.nd_routes.specs.Routes.{routes}
+use Rattle.nd_forwarding.specs.Forward.{Fate, lost_no_route, lost_hop_limit, sent, fate}
+use Rattle.nd_forwarding.specs.Redirect.{last_redirect, redirect}
+use Rattle.nd_forwarding.specs.Routes.{routes}
 use Rattle.nd_slaac.specs.PrefixOption as own_prefixes
 use Rattle.nd_slaac.specs.Room.{fits_in}
 use Rattle.nd_slaac.specs.Shown as shown_addresses

@@ -3,7 +3,7 @@ use Rattle.std.proofs.Common.{◌≡◌, ℕ, Bool, true, false, eqb, List, [], 
 use Rattle.std.specs.Prelude.{is_some}
 use Rattle.std.proofs.lemmas.Bool.Decides.{nat_tests}
 use Rattle.nd_addr.specs.declared.preference.Preference.{Preference}
-use Rattle.nd_lifetime.specs.History.{end_of, stands}
+use Rattle.nd_table.specs.Announcements.{end_of, stands}
 use Rattle.nd_existence.proofs.Listings.{opened_some}
 use Rattle.nd_routers.specs.History.{RouterRow, Heard, LeftList, Failed, announcements, failure_of}
 use Rattle.nd_routers.specs.DefaultRouterSelection.{number_in, Failures, others}

@@ -14,13 +14,13 @@ use Rattle.nd_addr.proofs.Numbered.{addr_back, sixteen}
 use Rattle.nd_decode.specs.Message.{Parts}
 use Rattle.nd_decode.specs.declared.body.Body.{Body}
 use Rattle.nd_decode.specs.declared.body.Body.TheVariants as bodies
-use Rattle.nd_lifetime.specs.declared.lasting.Lasting.{Lasting}
+use Rattle.nd_table.specs.declared.lasting.Lasting.{Lasting}
 use Rattle.nd_nexthop.specs.History.{kept}
 use Rattle.nd_nexthop.specs.NextHop.{NextHop, direct, via, no_route, hop}
 use Rattle.nd_routers.specs.History.{announcements}
 use Rattle.nd_routers.specs.OnLink.{is_held}
 use Rattle.nd_routers.specs.Routers.{same}
-use Rattle.nd_routes.specs.Forward.{may_be_forwarded}
+use Rattle.nd_forwarding.specs.Forward.{may_be_forwarded}
 use Rattle.nd_slaac.specs.State as states
 use Rattle.nd_validity.specs.Hearing.{Outcome, valid, other, dropped, hearing_of}
 use Rattle.nd_validity.proofs.Deciding.{hears}

@@ -2,13 +2,13 @@
 use Rattle.std.proofs.Common.{◌≡◌, ℕ, Bool, true, false, cond, eqb, List, [], ◌∷◌, ◌++◌, Option, Some, None, refl, sym, ◌∙◌, ap, arith}
 use Rattle.std.specs.Prelude.{map, is_some}
 use Rattle.std.proofs.lemmas.Bool.{cond-true, cond-false, true≢false}
-use Rattle.nd_lifetime.specs.declared.lasting.Lasting.{Lasting}
+use Rattle.nd_table.specs.declared.lasting.Lasting.{Lasting}
 use Rattle.nd_table.specs.Ends.{end_time}
-use Rattle.nd_lifetime.specs.History.{Row, Announced, Ended, Cleared, end_of, is_open, stands, place}
-use Rattle.nd_lifetime.specs.Listing.{open_at, end_in, StandsUntilTold, Lists, renewed, without}
-use Rattle.nd_lifetime.proofs.Finding.{Tells, Has, end_in-renewed, end_in-without, end_in-push}
-use Rattle.nd_lifetime.proofs.Order.{Rises-agree, Rises-renewed, Rises-filter, Rises-push}
-use Rattle.nd_lifetime.proofs.Steps.{place_below, ends, lists_at}
+use Rattle.nd_table.specs.Announcements.{Row, Announced, Ended, Cleared, end_of, is_open, stands, place}
+use Rattle.nd_table.specs.Listing.{open_at, end_in, StandsUntilTold, Lists, renewed, without}
+use Rattle.nd_table.proofs.Finding.{Tells, Has, end_in-renewed, end_in-without, end_in-push}
+use Rattle.nd_table.proofs.Order.{Rises-agree, Rises-renewed, Rises-filter, Rises-push}
+use Rattle.nd_table.proofs.Steps.{place_below, ends, lists_at}
 
 -- where an end is open there is one
 pub opened_some : (o : Option (Option ℕ)) (t : ℕ) → is_open o t ≡ true → is_some o ≡ true

@@ -2,7 +2,7 @@
 use Rattle.std.proofs.Common.{◌≡◌, ℕ, Bool, true, false, ltb, List, [], ◌∷◌, length, Option, Some, None, refl, sym, ◌∙◌, ap, subst, arith, ◌⊎◌, inl, inr}
 use Rattle.std.specs.Prelude.{MatchBool, ◌&&◌, ◌||◌, not, is_some, nat_lt, ◌++◌, if◌then◌else◌, slice_get}
 use Rattle.std.specs.Option.{option_to_list}
-use Rattle.nd_waiting.specs.Waiting.{max_waiting}
+use Rattle.nd_packet.specs.Waiting.{max_waiting}
 use Rattle.std.proofs.lemmas.Bool.Decides.{nat_tests}
 use Rattle.std.proofs.lemmas.Bool.{cond-false, true≢false, cases_Bool}
 use Rattle.nd_neighbour.specs.History as neighbours

@@ -5,9 +5,9 @@ use Rattle.std.proofs.lemmas.Bool.Decides.{nat_tests, eqb_tells}
 use Rattle.nd_advertiser.specs.Advertising.{advertised_by}
 use Rattle.nd_advertiser.specs.Config.{Settings}
 use Rattle.nd_decode.specs.Message.{Parts}
-use Rattle.nd_lifetime.specs.declared.lasting.Lasting.{Lasting}
-use Rattle.nd_lifetime.specs.Listing.{StandsUntilTold, without}
-use Rattle.nd_lifetime.proofs.Steps.{ends}
+use Rattle.nd_table.specs.declared.lasting.Lasting.{Lasting}
+use Rattle.nd_table.specs.Listing.{StandsUntilTold, without}
+use Rattle.nd_table.proofs.Steps.{ends}
 use Rattle.nd_neighbour.specs.Due as neighbours
 use Rattle.nd_neighbour.specs.Entry.{Node}
 use Rattle.nd_neighbour.specs.Table as cache

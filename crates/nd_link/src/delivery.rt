@@ -1,6 +1,6 @@
 ghost use Rattle.std.specs.Prelude.{◌≡◌, ◌≢◌, ◌∷◌, ◌^◌, ◌<◌, ◌≤◌, Err, IfNone, IfOk, IfSome, IsErrOf, IsOk, OnErr, OnOk, vec_capacity, vec_len};
 ghost use Rattle.nd_node.specs.Event.{event_of};
-ghost use Rattle.nd_io.specs.Counts.{one_more};
+ghost use Rattle.nd_lines.specs.Counts.{one_more};
 ghost use Rattle.nd_wire.specs.Wire.{IsFaithfulTo};
 ghost use Rattle.nd_link_log.specs.Log as links;
 ghost use Rattle.nd_link_log.specs.Log.{Log, Refuses};

@@ -1,6 +1,6 @@
 ghost use Rattle.std.specs.Prelude.{◌≡◌, ◌≢◌, ◌≤◌, ◌<◌, ◌-◌, ◌^◌, Err, IsErrOf, IsOk, OnErr, OnOk, false, true, vec_capacity, vec_len};
 ghost use Rattle.nd_addr.specs.Bytes.{IsBytes};
-ghost use Rattle.nd_io.specs.Counts.{one_more};
+ghost use Rattle.nd_lines.specs.Counts.{one_more};
 ghost use Rattle.nd_wire.specs.Wire.{IsFaithful};
 ghost use Rattle.nd_link_log.specs.Log.{Log};
 ghost use Rattle.nd_link_log.specs.Bytes.{IsOfBytes};

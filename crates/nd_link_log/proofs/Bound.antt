@@ -8,8 +8,8 @@ use Rattle.nd_addr.specs.Number.{addr_at}
 use Rattle.nd_addr.proofs.Numbered.{addr_number_back, sixteen}
 use Rattle.nd_table.specs.History.{Past}
 use Rattle.nd_table.proofs.Pasts.{past_then}
-use Rattle.nd_frames.specs.Frames.{defence_frame, detection_frame}
-use Rattle.nd_frames.proofs.Meant.{defence_sent, detection_sent}
+use Rattle.nd_compose.specs.Frames.{defence_frame, detection_frame}
+use Rattle.nd_compose.proofs.Meant.{defence_sent, detection_sent}
 use Rattle.nd_slaac.specs.History.{Assigned, Formed, Solicited, Story}
 use Rattle.nd_slaac.specs.State.{is_known, is_tentative}
 use Rattle.nd_chronicle.specs.Start.{Start}

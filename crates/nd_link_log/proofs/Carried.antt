@@ -7,9 +7,9 @@ use Rattle.nd_addr.specs.Number.{number_of}
 use Rattle.nd_addr.specs.declared.addr.Addr.{Addr}
 use Rattle.nd_table.specs.History.{Past}
 use Rattle.nd_table.proofs.Pasts.{past_self, past_then}
-use Rattle.nd_frames.specs.Frames.{all_nodes, defence_frame, solicited_node, unspecified}
-use Rattle.nd_frames.specs.Meaning.{IsDefence, IsDetection}
-use Rattle.nd_frames.proofs.Meant.{defence_sent}
+use Rattle.nd_compose.specs.Frames.{all_nodes, defence_frame, solicited_node, unspecified}
+use Rattle.nd_compose.specs.Meaning.{IsDefence, IsDetection}
+use Rattle.nd_compose.proofs.Meant.{defence_sent}
 use Rattle.nd_slaac.specs.History.{Conflict}
 use Rattle.nd_slaac.specs.State as states
 use Rattle.nd_chronicle.specs.Start.{Start}

@@ -17,8 +17,8 @@ use Rattle.nd_message.specs.Fitting.{FitsBody}
 use Rattle.nd_message.specs.WellFormed.{MayBeSent}
 use Rattle.nd_message.proofs.Formed.{body_fits}
 use Rattle.nd_table.proofs.Pasts.{past_self}
-use Rattle.nd_frames.specs.Frames.{all_nodes, defence_frame, solicited_node, unspecified}
-use Rattle.nd_frames.specs.Meaning.{IsDefence, IsDetection, IsUnicast}
+use Rattle.nd_compose.specs.Frames.{all_nodes, defence_frame, solicited_node, unspecified}
+use Rattle.nd_compose.specs.Meaning.{IsDefence, IsDetection, IsUnicast}
 use Rattle.nd_slaac.specs.History.{Conflict, Story}
 use Rattle.nd_slaac.specs.State as states
 use Rattle.nd_slaac.proofs.Dues.{tentative_parts}

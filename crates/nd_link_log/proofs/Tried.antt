@@ -5,8 +5,8 @@ use Rattle.nd_addr.specs.Number.{addr_at}
 use Rattle.nd_addr.proofs.Numbered.{sixteen}
 use Rattle.nd_table.specs.History.{Past}
 use Rattle.nd_table.proofs.Pasts.{all_before, past_linear, past_self, past_tail, past_then, past-length}
-use Rattle.nd_frames.specs.Frames.{detection_frame}
-use Rattle.nd_frames.proofs.Meant.{detection_sent}
+use Rattle.nd_compose.specs.Frames.{detection_frame}
+use Rattle.nd_compose.proofs.Meant.{detection_sent}
 use Rattle.nd_slaac.specs.History.{Assigned, Formed, Lifetimes, Solicited}
 use Rattle.nd_slaac.specs.MayCome.{IsHistory}
 use Rattle.nd_slaac.specs.State as states

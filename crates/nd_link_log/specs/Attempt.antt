@@ -3,7 +3,7 @@ use Rattle.std.specs.Prelude.{◌≡◌, ℕ, List, ◌∷◌, Option}
 use Rattle.nd_addr.specs.declared.addr.Addr.{Addr}
 use Rattle.nd_addr.specs.Number.{number_of}
 use Rattle.nd_table.specs.History.{Past}
-use Rattle.nd_frames.specs.Meaning.{IsDefence, IsDetection}
+use Rattle.nd_compose.specs.Meaning.{IsDefence, IsDetection}
 use Rattle.nd_slaac.specs.History.{Assigned, Formed, Lifetimes, Solicited}
 use Rattle.nd_chronicle.specs.Happening.{Address, Chronicle, Sent}
 use Rattle.nd_link_log.specs.Log.{Entry, Log, Adds, chronicle_of}

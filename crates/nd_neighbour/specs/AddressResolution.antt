@@ -1,7 +1,7 @@
 -- The resolution of a neighbour whose link-layer address isn't known (RFC 4861, section 7.2.2).
 use Rattle.std.specs.Prelude.{ℕ, ◌-◌, ◌+◌, Option, Some, None, [], ◌∷◌, List, ◌++◌, ◌*◌, false}
 use Rattle.circular_buffer.specs.Buffer.{keep_last}
-use Rattle.nd_waiting.specs.Waiting.{max_waiting}
+use Rattle.nd_packet.specs.Waiting.{max_waiting}
 use Rattle.nd_neighbour.specs.History.{Asked, Solicited, Story, Waits}
 use Rattle.nd_neighbour.specs.Entry.{Node, Resolving}
 

@@ -5,7 +5,7 @@ use Rattle.nd_table.specs.History.{GainsRowsMakingPlace}
 use Rattle.nd_neighbour.specs.declared.refusal.CacheRefusal.{CacheRefusal}
 use Rattle.nd_neighbour.specs.History.{Row, Asked, Waits, Used, story, Story}
 use Rattle.nd_neighbour.specs.Entry.{Stage, Resolving, Known, Node}
-use Rattle.nd_waiting.specs.Waiting.{max_waiting}
+use Rattle.nd_packet.specs.Waiting.{max_waiting}
 use Rattle.nd_neighbour.specs.AddressResolution.{waiting_of}
 use Rattle.nd_neighbour.specs.UnreachabilityDetection.{delay_first_probe_time}
 use Rattle.nd_neighbour.specs.Story.{is_present, mac_of}

@@ -9,8 +9,8 @@ ghost use Rattle.nd_neighbour.specs.Sending.{used};
 use crate::entry::{Entry, Stage};
 use crate::place::enter;
 use nd_addr::Addr;
+use nd_packet::{Packet, Ring};
 use nd_table::Schedule;
-use nd_waiting::{Packet, Ring};
 use std::alloc::Allocator;
 
 /// How many multicast solicitations a resolution sends, the first included (RFC 4861, section 10).

@@ -4,8 +4,8 @@ ghost use Rattle.nd_table.specs.Keyed.{binary_digits};
 
 use crate::entry::Entry;
 use nd_addr::Addr;
+use nd_packet::Ring;
 use nd_table::{Probes, Schedule, search};
-use nd_waiting::Ring;
 use std::alloc::{AllocError, Allocator};
 use std::marker::Model;
 

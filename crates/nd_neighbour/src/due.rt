@@ -8,8 +8,8 @@ use crate::address_resolution::MAX_MULTICAST_SOLICIT;
 use crate::cache::Cache;
 use crate::entry::{Entry, Stage};
 use nd_addr::{Addr, Mac};
+use nd_packet::Packets;
 use nd_table::{Addressed, Dated, Schedule};
-use nd_waiting::Packets;
 use std::alloc::Allocator;
 
 /// What falls due for a neighbour.

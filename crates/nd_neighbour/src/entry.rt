@@ -4,8 +4,8 @@ ghost use Rattle.nd_addr.specs.Number.{number_of};
 
 use crate::unreachability_detection::Probing;
 use nd_addr::{Addr, Mac};
+use nd_packet::{Packets, Waiting};
 use nd_table::{Addressed, Dated};
-use nd_waiting::{Packets, Waiting};
 use std::alloc::Allocator;
 use std::marker::Model;
 use std::mem;

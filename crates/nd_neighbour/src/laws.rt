@@ -4,7 +4,7 @@ ghost use Rattle.std.specs.Prelude.{◌⊎◌, ◌≡◌, ◌≤◌, ◌↔◌, 
 ghost use Rattle.std.specs.Option.{option_map, option_to_list};
 ghost use Rattle.circular_buffer.specs.Buffer.{keep_last};
 ghost use Rattle.nd_addr.specs.Number.{number_of};
-ghost use Rattle.nd_waiting.specs.Waiting.{max_waiting};
+ghost use Rattle.nd_packet.specs.Waiting.{max_waiting};
 ghost use Rattle.nd_neighbour.specs.declared.news.News.{News};
 ghost use Rattle.nd_neighbour.specs.declared.news.Times.{Times};
 ghost use Rattle.nd_neighbour.specs.News.{mac_given, news_row, released_by};

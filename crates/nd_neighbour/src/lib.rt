@@ -27,8 +27,8 @@ mod unreachability_detection;
 
 pub use cache::{Cache, MAX_NEIGHBOURS};
 pub use due::Due;
+pub use nd_packet::{Packet, Packets};
 pub use nd_table::Probes;
-pub use nd_waiting::{Packet, Packets};
 pub use news::{Flags, News, Times, Touched};
 pub use refusal::CacheRefusal;
 pub use sending::Use;

@@ -12,8 +12,8 @@ use crate::news::Touched;
 use crate::place::{enter, has_place};
 use crate::refusal::CacheRefusal;
 use nd_addr::{Addr, Mac};
+use nd_packet::Packets;
 use nd_table::{Addressed, Dated, Schedule, locate};
-use nd_waiting::Packets;
 use std::alloc::Allocator;
 
 /// Records the link-layer address that a message gives (RFC 4861, sections 6.2.6, 6.3.4, 7.2.3 and 8.3): changes the

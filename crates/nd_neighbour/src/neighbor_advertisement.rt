@@ -9,8 +9,8 @@ ghost use Rattle.nd_neighbour.specs.News.{told_released, told_turned, was_known}
 use crate::entry::{Entry, is_same_mac};
 use crate::news::{Flags, Touched};
 use nd_addr::{Addr, Mac};
+use nd_packet::Packets;
 use nd_table::{Dated, Schedule, find};
-use nd_waiting::Packets;
 use std::alloc::Allocator;
 
 /// Takes a received Neighbor Advertisement (RFC 4861, section 7.2.5). If there is no entry it is discarded, and adds none.

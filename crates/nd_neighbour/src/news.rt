@@ -11,8 +11,8 @@ use crate::link_layer_address::give_or_enter;
 use crate::neighbor_advertisement::advertise;
 use crate::refusal::CacheRefusal;
 use nd_addr::{Addr, Mac};
+use nd_packet::Packets;
 use nd_table::find;
-use nd_waiting::Packets;
 use std::alloc::Allocator;
 
 /// The flags of a Neighbor Advertisement (RFC 4861, section 4.4).

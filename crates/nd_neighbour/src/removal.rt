@@ -1,6 +1,6 @@
 ghost use Rattle.std.specs.Prelude.{IfOk, List, OnErr, OnOk, [], length, vec_capacity, vec_len, ℕ, ◌++◌, ◌+◌, ◌≡◌, ◌≤◌};
 ghost use Rattle.nd_addr.specs.Number.{number_of};
-ghost use Rattle.nd_waiting.specs.Waiting.{max_waiting};
+ghost use Rattle.nd_packet.specs.Waiting.{max_waiting};
 ghost use Rattle.nd_neighbour.specs.Table.{node_in, Rises};
 ghost use Rattle.nd_neighbour.specs.Planned.{IsPlanned};
 ghost use Rattle.nd_neighbour.specs.Removal.{Removes, all_waiting, waiting_at};
@@ -8,8 +8,8 @@ ghost use Rattle.nd_neighbour.specs.Removal.{Removes, all_waiting, waiting_at};
 use crate::cache::Cache;
 use crate::entry::{Entry, Stage};
 use nd_addr::Addr;
+use nd_packet::{Packet, Packets};
 use nd_table::{Dated, Schedule, find};
-use nd_waiting::{Packet, Packets};
 use std::alloc::{AllocError, Allocator};
 
 impl<A: Allocator> Cache<A> {

@@ -3,7 +3,7 @@ ghost use Rattle.nd_neighbour.specs.Table.{max_rings};
 
 use crate::cache::Cache;
 use crate::refusal::CacheRefusal;
-use nd_waiting::Ring;
+use nd_packet::Ring;
 use std::alloc::{AllocError, Allocator};
 
 impl<A: Allocator + Clone> Cache<A> {

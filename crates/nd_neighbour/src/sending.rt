@@ -14,8 +14,8 @@ use crate::refusal::CacheRefusal;
 use crate::rings::take_ring;
 use crate::unreachability_detection::Probing;
 use nd_addr::{Addr, Mac};
+use nd_packet::Packet;
 use nd_table::{Dated, Schedule, locate};
-use nd_waiting::Packet;
 use std::alloc::Allocator;
 
 /// What becomes of a packet for a neighbour.

@@ -16,9 +16,9 @@ use Rattle.nd_decode.specs.declared.prefix_info.PrefixInfo.{PrefixInfo}
 use Rattle.nd_decode.specs.declared.router_advertisement.RouterAdvertisement.{RouterAdvertisement}
 use Rattle.nd_table.specs.Due.{NotBefore}
 use Rattle.nd_table.specs.Ends.{is_before}
-use Rattle.nd_lifetime.specs.History as lifetimes
-use Rattle.nd_lifetime.specs.Listing as lists
-use Rattle.nd_lifetime.specs.Listing.{then_announced}
+use Rattle.nd_table.specs.Announcements as lifetimes
+use Rattle.nd_table.specs.Listing as lists
+use Rattle.nd_table.specs.Listing.{then_announced}
 use Rattle.nd_params.specs.History as parameter_rows
 use Rattle.nd_params.specs.History.{last_draw, redraw_after}
 use Rattle.nd_params.specs.Params as parameters
@@ -58,27 +58,27 @@ use Rattle.nd_chronicle.specs.Message.{releasing, leaving}
 use Rattle.nd_chronicle.specs.RouterAdvertisement.{redrawing, with_delay, forming, naming, then_option, then_options, times_out}
 use Rattle.nd_chronicle.specs.Told.{Told, items_at, items}
 use Rattle.nd_out.specs.declared.out.Out.{Out}
-use Rattle.nd_effects.specs.DefaultRouter.{with_left, with_gone}
-use Rattle.nd_effects.specs.LinkLayerAddress.{PreparesFor, released_frames, HearsOf}
-use Rattle.nd_effects.specs.LinkParameters.{then_parameters, HearsParameters}
-use Rattle.nd_effects.specs.PrefixOptions.{Forms}
+use Rattle.nd_steps.specs.DefaultRouter.{with_left, with_gone}
+use Rattle.nd_steps.specs.LinkLayerAddress.{PreparesFor, released_frames, HearsOf}
+use Rattle.nd_steps.specs.LinkParameters.{then_parameters, HearsParameters}
+use Rattle.nd_steps.specs.PrefixOptions.{Forms}
 use Rattle.nd_nexthop.specs.Memo.{is_asked}
 use Rattle.nd_slaac.specs.Calls.{keys_in}
-use Rattle.nd_effects.specs.Remembered.{AsListed, AsStanding, MayRemember, Recollects, forms_none, last_before_end}
+use Rattle.nd_steps.specs.Remembered.{AsListed, AsStanding, MayRemember, Recollects, forms_none, last_before_end}
 use Rattle.nd_node.proofs.Recalling.{Recalls, own_by}
 use Rattle.nd_node.proofs.Refreshing.{is_known_by, own_refreshed, recalls_refreshed}
-use Rattle.nd_effects.specs.RouterAdvertisement.{left_told}
-use Rattle.nd_effects.specs.RouterSolicitations as soliciting
-use Rattle.nd_effects.specs.RouterSolicitations.{Solicitations, next_solicitation}
-use Rattle.nd_effects.specs.Told.{at_moment, Tells}
-use Rattle.nd_effects.specs.Told as told
-use Rattle.nd_effects.specs.Router as router_only
-use Rattle.nd_effects.specs.Router.{next_advertisement, router_side}
-use Rattle.nd_effects.specs.declared.router_tables.RouterTables.{RouterTables}
-use Rattle.nd_effects.proofs.RouterSide.{side_stands}
-use Rattle.nd_effects.proofs.Quiet.{Quiet}
-use Rattle.nd_effects.proofs.Saying.{OneGoes, OverdueByTable, NoneOverdueStill, Placed, placed_by, none_before_said, releasing_is_quiet, releasing_items, released_kept}
-use Rattle.nd_effects.proofs.Telling.{Tells-then}
+use Rattle.nd_steps.specs.RouterAdvertisement.{left_told}
+use Rattle.nd_steps.specs.RouterSolicitations as soliciting
+use Rattle.nd_steps.specs.RouterSolicitations.{Solicitations, next_solicitation}
+use Rattle.nd_steps.specs.Told.{at_moment, Tells}
+use Rattle.nd_steps.specs.Told as told
+use Rattle.nd_steps.specs.Router as router_only
+use Rattle.nd_steps.specs.Router.{next_advertisement, router_side}
+use Rattle.nd_steps.specs.declared.router_tables.RouterTables.{RouterTables}
+use Rattle.nd_steps.proofs.RouterSide.{side_stands}
+use Rattle.nd_steps.proofs.Quiet.{Quiet}
+use Rattle.nd_steps.proofs.Saying.{OneGoes, OverdueByTable, NoneOverdueStill, Placed, placed_by, none_before_said, releasing_is_quiet, releasing_items, released_kept}
+use Rattle.nd_steps.proofs.Telling.{Tells-then}
 use Rattle.nd_node.specs.declared.node.Node.{Node}
 use Rattle.nd_node.specs.Node.{Stands, next_of}
 use Rattle.nd_node.specs.RouterAdvertisement.{advertised, Advertises, TakesAdvertisement}

@@ -23,7 +23,7 @@ use Rattle.nd_neighbour.specs.Room.{has_room}
 use Rattle.nd_neighbour.specs.Table as neighbours
 use Rattle.nd_neighbour.specs.Table.{node_in}
 use Rattle.nd_params.specs.History.{reachable_of}
-use Rattle.nd_frames.specs.Frames.{answer_frame}
+use Rattle.nd_compose.specs.Frames.{answer_frame}
 use Rattle.nd_chronicle.specs.Start.{Start}
 use Rattle.nd_chronicle.specs.Happening.{Chronicle, Happening, Passed, Heard, Refused, Full, Neighbours, last_moment}
 use Rattle.nd_chronicle.specs.Histories.{neighbour_history, given_or_marked, said_of_neighbour, then_neighbour}
@@ -39,17 +39,17 @@ use Rattle.nd_chronicle.specs.Due.{assigned_at}
 use Rattle.nd_chronicle.specs.Told.{Told, items_at, items}
 use Rattle.nd_out.specs.declared.out.Out.{Out}
 use Rattle.nd_out.specs.Out.{happening}
-use Rattle.nd_effects.specs.LinkLayerAddress.{said_by, HasPlace, HearsOf, released_frames}
-use Rattle.nd_effects.specs.Told.{at_moment, happenings, Tells}
-use Rattle.nd_effects.proofs.Quiet.{Quiet}
-use Rattle.nd_effects.proofs.Saying.{NoneOverdueStill, OneGoes, Others, OverdueByTable, none_before_said, placed_by, released_kept, releasing_is_quiet, releasing_items}
-use Rattle.nd_effects.proofs.Telling.{handed_out, Tells-then, one_told}
+use Rattle.nd_steps.specs.LinkLayerAddress.{said_by, HasPlace, HearsOf, released_frames}
+use Rattle.nd_steps.specs.Told.{at_moment, happenings, Tells}
+use Rattle.nd_steps.proofs.Quiet.{Quiet}
+use Rattle.nd_steps.proofs.Saying.{NoneOverdueStill, OneGoes, Others, OverdueByTable, none_before_said, placed_by, released_kept, releasing_is_quiet, releasing_items}
+use Rattle.nd_steps.proofs.Telling.{handed_out, Tells-then, one_told}
 use Rattle.nd_node.specs.declared.node.Node.{Node}
 use Rattle.nd_node.specs.Node.{Stands, next_of}
 use Rattle.nd_node.specs.Packet.{PacketGoes}
 use Rattle.nd_node.specs.Time.{Leads}
 use Rattle.nd_node.specs.Hearing.{AddsMessage}
-use Rattle.nd_effects.specs.Remembered.{MayRemember}
+use Rattle.nd_steps.specs.Remembered.{MayRemember}
 use Rattle.nd_node.proofs.Beside.{Beside, Same, beside_then, stands_neighbours}
 use Rattle.nd_node.proofs.Detections.{solicitation}
 use Rattle.nd_node.proofs.Quiet.{stands_quiet, refused_is_quiet}

@@ -6,7 +6,7 @@ use Rattle.nd_addr.specs.declared.role.Role.{Role}
 use Rattle.nd_addr.specs.declared.role.Role.TheVariants.{Host, Router}
 use Rattle.nd_addr.specs.Same.{same_prefix}
 use Rattle.nd_table.specs.Due.{NotBefore}
-use Rattle.nd_lifetime.specs.Listing as lists
+use Rattle.nd_table.specs.Listing as lists
 use Rattle.nd_neighbour.specs.Table as neighbours
 use Rattle.nd_slaac.specs.Table as addresses
 use Rattle.nd_slaac.specs.Calls.{formed}
@@ -19,10 +19,10 @@ use Rattle.nd_chronicle.specs.Histories.{parameter_history, address_history}
 use Rattle.nd_chronicle.specs.Due.{is_host}
 use Rattle.nd_chronicle.specs.Generator.{stream_left}
 use Rattle.nd_chronicle.specs.History.{beginning}
-use Rattle.nd_effects.specs.RouterSolicitations.{Solicitations, next_solicitation}
+use Rattle.nd_steps.specs.RouterSolicitations.{Solicitations, next_solicitation}
 use Rattle.nd_node.specs.declared.node.Node.{Node}
 use Rattle.nd_node.specs.Node.{Stands}
-use Rattle.nd_effects.proofs.Remembering.{remembers_nothing}
+use Rattle.nd_steps.proofs.Remembering.{remembers_nothing}
 use Rattle.nd_node.proofs.Turns.{all_later}
 
 abbrev none_sent : Solicitations

@@ -6,9 +6,9 @@ use Rattle.rand_core.specs.Stream.{Stream}
 use Rattle.nd_addr.specs.declared.addr.Addr.{Addr}
 use Rattle.nd_addr.specs.Prefix.{PrefixValue}
 use Rattle.nd_addr.specs.Same.{same_prefix}
-use Rattle.nd_lifetime.specs.declared.lasting.Lasting.{Lasting}
-use Rattle.nd_lifetime.specs.History as lifetimes
-use Rattle.nd_lifetime.specs.Listing as lists
+use Rattle.nd_table.specs.declared.lasting.Lasting.{Lasting}
+use Rattle.nd_table.specs.Announcements as lifetimes
+use Rattle.nd_table.specs.Listing as lists
 use Rattle.nd_dns.specs.Dns as dns
 use Rattle.nd_neighbour.specs.Entry as entries
 use Rattle.nd_neighbour.specs.Entry.{waiting_in}
@@ -31,19 +31,19 @@ use Rattle.nd_chronicle.specs.Event as events
 use Rattle.nd_chronicle.specs.Event.{all_leaving, clearing}
 use Rattle.nd_chronicle.specs.Told.{Told, items_at, items}
 use Rattle.nd_out.specs.declared.out.Out.{Out}
-use Rattle.nd_effects.specs.Told.{happenings}
-use Rattle.nd_effects.specs.Router.{router_side}
-use Rattle.nd_effects.proofs.Quiet.{losing_is_quiet}
-use Rattle.nd_effects.proofs.Telling.{lost_at, lost_items, left_at, numbers}
+use Rattle.nd_steps.specs.Told.{happenings}
+use Rattle.nd_steps.specs.Router.{router_side}
+use Rattle.nd_steps.proofs.Quiet.{losing_is_quiet}
+use Rattle.nd_steps.proofs.Telling.{lost_at, lost_items, left_at, numbers}
 use Rattle.nd_node.specs.declared.node.Node.{Node}
 use Rattle.nd_node.specs.Event.{AddsEvent}
 use Rattle.nd_node.specs.Node.{Stands, next_of}
 use Rattle.nd_nexthop.specs.Memo.{forgotten}
-use Rattle.nd_effects.specs.Remembered.{MayRemember, Remembers}
-use Rattle.nd_effects.proofs.Remembering.{remembers_later, remembers_nothing}
+use Rattle.nd_steps.specs.Remembered.{MayRemember, Remembers}
+use Rattle.nd_steps.proofs.Remembering.{remembers_later, remembers_nothing}
 use Rattle.nd_node.proofs.Recalling.{forgets_all, redirects_stand}
 use Rattle.nd_node.proofs.Beside.{Beside, Same, beside_neighbour, beside_quiet, beside_then, stands_neighbours}
-use Rattle.nd_effects.proofs.RouterSide.{side_stands}
+use Rattle.nd_steps.proofs.RouterSide.{side_stands}
 use Rattle.nd_node.proofs.NextHops.{routers_listed}
 use Rattle.nd_node.proofs.Standing.{Apart, Still, apart_then, stands_at}
 use Rattle.nd_node.proofs.Steps.{passed}

@@ -16,7 +16,7 @@ use Rattle.nd_slaac.specs.State as states
 use Rattle.nd_slaac.specs.Table as addresses
 use Rattle.nd_slaac.specs.Due.{NoneOverdue}
 use Rattle.nd_slaac.specs.Dates.{NoneBefore}
-use Rattle.nd_frames.specs.Frames.{defence_frame}
+use Rattle.nd_compose.specs.Frames.{defence_frame}
 use Rattle.nd_chronicle.specs.Start.{Start}
 use Rattle.nd_chronicle.specs.Happening.{Chronicle, Happening, Passed, Heard, Address, Sent, last_moment}
 use Rattle.nd_chronicle.specs.Histories.{address_history, neighbour_history, then_neighbour, given_or_marked}
@@ -29,9 +29,9 @@ use Rattle.nd_chronicle.specs.Hearing.{hears}
 use Rattle.nd_chronicle.specs.Told.{items_at, items}
 use Rattle.nd_out.specs.declared.out.Out.{Out}
 use Rattle.nd_out.specs.Out.{happening}
-use Rattle.nd_effects.specs.Told.{happenings, Tells}
-use Rattle.nd_effects.proofs.Quiet.{Quiet, sent_is_quiet}
-use Rattle.nd_effects.proofs.Telling.{handed_out}
+use Rattle.nd_steps.specs.Told.{happenings, Tells}
+use Rattle.nd_steps.proofs.Quiet.{Quiet, sent_is_quiet}
+use Rattle.nd_steps.proofs.Telling.{handed_out}
 use Rattle.nd_node.specs.declared.node.Node.{Node}
 use Rattle.nd_node.specs.Node.{Stands, next_of}
 use Rattle.nd_node.specs.Hearing.{AddsMessage}

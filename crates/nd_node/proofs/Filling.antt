@@ -10,12 +10,12 @@ use Rattle.nd_addr.specs.Same.{same_addr, same_prefix, addrs_tell, prefixes_tell
 use Rattle.nd_decode.specs.Option.{Said}
 use Rattle.nd_decode.specs.Message.{Parts}
 use Rattle.nd_decode.specs.declared.router_advertisement.RouterAdvertisement.{RouterAdvertisement}
-use Rattle.nd_lifetime.specs.declared.lasting.Lasting.{Lasting}
-use Rattle.nd_lifetime.specs.History as lifetimes
-use Rattle.nd_lifetime.specs.Listing.{Lists, open_at, fits}
-use Rattle.nd_lifetime.specs.Listing as lists
-use Rattle.nd_lifetime.proofs.Behind.{fits_open}
-use Rattle.nd_lifetime.proofs.Steps.{lists_at}
+use Rattle.nd_table.specs.declared.lasting.Lasting.{Lasting}
+use Rattle.nd_table.specs.Announcements as lifetimes
+use Rattle.nd_table.specs.Listing.{Lists, open_at, fits}
+use Rattle.nd_table.specs.Listing as lists
+use Rattle.nd_table.proofs.Behind.{fits_open}
+use Rattle.nd_table.proofs.Steps.{lists_at}
 use Rattle.nd_routers.specs.History.{RouterRow, announcements}
 use Rattle.nd_routers.specs.Routers as routers
 use Rattle.nd_routers.specs.Routers.{same}

@@ -10,7 +10,7 @@ use Rattle.nd_addr.specs.Bytes.{IsBytes}
 use Rattle.nd_addr.specs.Ip6.{PacketParts, ipv6_header_length, payload_length_of}
 use Rattle.nd_addr.specs.Places.{packet_in, parts_in}
 use Rattle.nd_addr.specs.Number.{addr_at, number_of}
-use Rattle.nd_frames.specs.Frames.{open_mac}
+use Rattle.nd_compose.specs.Frames.{open_mac}
 use Rattle.nd_neighbour.specs.Entry as entries
 use Rattle.nd_neighbour.specs.History as rows
 use Rattle.nd_neighbour.specs.Place.{has_place}
@@ -18,11 +18,11 @@ use Rattle.nd_neighbour.specs.Room.{HasRoom, LeavesRoom, has_first, has_room, ha
 use Rattle.nd_neighbour.specs.Table as neighbours
 use Rattle.nd_neighbour.specs.Table.{node_in}
 use Rattle.nd_nexthop.specs.NextHop.{NextHop}
-use Rattle.nd_routes.specs.Forward.{Fate, lost_no_route, lost_hop_limit, sent, fate}
-use Rattle.nd_routes.specs.History as route_rows
-use Rattle.nd_routes.specs.Redirect.{last_redirect, redirect}
-use Rattle.nd_routes.specs.Routes.{routes}
-use Rattle.nd_routes.specs.Table as route_tables
+use Rattle.nd_forwarding.specs.Forward.{Fate, lost_no_route, lost_hop_limit, sent, fate}
+use Rattle.nd_forwarding.specs.History as route_rows
+use Rattle.nd_forwarding.specs.Redirect.{last_redirect, redirect}
+use Rattle.nd_forwarding.specs.Routes.{routes}
+use Rattle.nd_forwarding.specs.Table as route_tables
 use Rattle.nd_slaac.specs.PrefixOption.{link_local_of}
 use Rattle.nd_chronicle.specs.Start.{Start, link_local}
 use Rattle.nd_chronicle.specs.Happening.{Chronicle, Full, Loss, Lost, Neighbours, Passed, RedirectMade, Refused, Routeless, Spent, last_moment}
@@ -32,10 +32,10 @@ use Rattle.nd_chronicle.specs.Event.{packet_bytes}
 use Rattle.nd_chronicle.specs.Forwarding.{FateAdds, SendsOn, better_hop_frame, frame_as_it_came, key_of}
 use Rattle.nd_chronicle.specs.Packet.{Goes, GoesIfPlaced}
 use Rattle.nd_out.specs.declared.out.Out.{Out}
-use Rattle.nd_effects.specs.Told.{Tells, happenings}
-use Rattle.nd_effects.specs.declared.router_tables.RouterTables.{RouterTables}
-use Rattle.nd_effects.proofs.Telling.{Tells-then}
-use Rattle.nd_effects.proofs.Transit.{as_it_came, payload_fits, sent_on}
+use Rattle.nd_steps.specs.Told.{Tells, happenings}
+use Rattle.nd_steps.specs.declared.router_tables.RouterTables.{RouterTables}
+use Rattle.nd_steps.proofs.Telling.{Tells-then}
+use Rattle.nd_steps.proofs.Transit.{as_it_came, payload_fits, sent_on}
 use Rattle.nd_node.specs.declared.node.Node.{Node}
 use Rattle.nd_node.specs.Forwarding.{AddsForwarded, AddsLostInTransit, AddsOnward, AddsSentOn}
 use Rattle.nd_node.specs.Frame.{AddsAlone}

@@ -9,11 +9,11 @@ use Rattle.nd_addr.specs.Number.{number_of, holds}
 use Rattle.nd_addr.specs.declared.preference.Preference.{Preference}
 use Rattle.nd_addr.specs.declared.role.Role.{Role}
 use Rattle.nd_addr.specs.declared.role.Role.TheVariants.{Host, Router}
-use Rattle.nd_lifetime.specs.declared.lasting.Lasting.{Lasting}
-use Rattle.nd_lifetime.specs.Listing.{Lists, open_at}
-use Rattle.nd_lifetime.proofs.Behind.{open_all}
-use Rattle.nd_lifetime.proofs.Finding.{Has, Has-head, Has-tail}
-use Rattle.nd_lifetime.proofs.Steps.{lists_at}
+use Rattle.nd_table.specs.declared.lasting.Lasting.{Lasting}
+use Rattle.nd_table.specs.Listing.{Lists, open_at}
+use Rattle.nd_table.proofs.Behind.{open_all}
+use Rattle.nd_table.proofs.Finding.{Has, Has-head, Has-tail}
+use Rattle.nd_table.proofs.Steps.{lists_at}
 use Rattle.nd_neighbour.specs.Entry.{Node}
 use Rattle.nd_neighbour.specs.History as neighbour_rows
 use Rattle.nd_neighbour.specs.Story.{is_present, mac_of, node_of}
@@ -34,10 +34,10 @@ use Rattle.nd_nexthop.specs.DefaultRouter.{DefaultRouter}
 use Rattle.nd_nexthop.specs.History.{kept}
 use Rattle.nd_nexthop.specs.NextHop.{NextHop, hop, direct, no_route, unless_redirected, by_router}
 use Rattle.nd_nexthop.specs.DefaultRouter.{chosen_router}
-use Rattle.nd_routes.specs.History as route_rows
-use Rattle.nd_routes.specs.NextHop as by_routes
-use Rattle.nd_routes.specs.Routes.{routes}
-use Rattle.nd_routes.specs.Table as routing
+use Rattle.nd_forwarding.specs.History as route_rows
+use Rattle.nd_forwarding.specs.NextHop as by_routes
+use Rattle.nd_forwarding.specs.Routes.{routes}
+use Rattle.nd_forwarding.specs.Table as routing
 use Rattle.nd_slaac.specs.declared.destination.Counted.TheVariants.{Own}
 use Rattle.nd_slaac.specs.Destination.{counted_in}
 use Rattle.nd_slaac.specs.Table.{address_in}
@@ -48,11 +48,11 @@ use Rattle.nd_chronicle.specs.Happening.{Chronicle, last_moment}
 use Rattle.nd_chronicle.specs.Histories.{neighbour_history, router_history, address_history, redirect_history, route_history}
 use Rattle.nd_chronicle.specs.NextHop.{candidate, IsHopOf, IsNextHop}
 use Rattle.nd_chronicle.specs.OwnAddress.{is_own}
-use Rattle.nd_effects.specs.Router.{next_advertisement}
-use Rattle.nd_effects.specs.RouterSolicitations.{next_solicitation}
-use Rattle.nd_effects.specs.FirstHop.{candidate_in, candidates_in}
-use Rattle.nd_effects.proofs.Remembering.{hop_by_own}
-use Rattle.nd_effects.proofs.Resolved.{resolved_by_history}
+use Rattle.nd_steps.specs.Router.{next_advertisement}
+use Rattle.nd_steps.specs.RouterSolicitations.{next_solicitation}
+use Rattle.nd_steps.specs.FirstHop.{candidate_in, candidates_in}
+use Rattle.nd_steps.proofs.Remembering.{hop_by_own}
+use Rattle.nd_steps.proofs.Resolved.{resolved_by_history}
 use Rattle.nd_nexthop.specs.Choice as choice
 use Rattle.nd_node.proofs.Recalling.{Recalls}
 use Rattle.nd_node.specs.declared.node.Node as nodes

@@ -8,7 +8,7 @@ use Rattle.nd_addr.specs.declared.role.Role.{Role}
 use Rattle.nd_addr.specs.declared.role.Role.TheVariants.{Host, Router}
 use Rattle.nd_addr.specs.Kind.{multicast_mac_of, multicast_prefix}
 use Rattle.nd_addr.specs.Number.{holds, number_of}
-use Rattle.nd_frames.specs.Frames.{multicast_mac, open_mac}
+use Rattle.nd_compose.specs.Frames.{multicast_mac, open_mac}
 use Rattle.nd_neighbour.specs.Place.{WouldBeFull}
 use Rattle.nd_neighbour.specs.Room.{has_room}
 use Rattle.nd_nexthop.specs.NextHop.{NextHop, direct, no_route}
@@ -22,10 +22,10 @@ use Rattle.nd_chronicle.specs.Packet.{GoesIfPlaced}
 use Rattle.nd_chronicle.specs.Refused.{UnlessRefused}
 use Rattle.nd_out.specs.declared.out.Out.{Out}
 use Rattle.nd_out.specs.Out.{happening}
-use Rattle.nd_effects.specs.declared.outgoing_packet.OutgoingPacket.{OutgoingPacket}
-use Rattle.nd_effects.specs.OutgoingPacket.{frame_of}
-use Rattle.nd_effects.specs.Told.{Tells, happenings}
-use Rattle.nd_effects.proofs.Telling.{Tells-then}
+use Rattle.nd_steps.specs.declared.outgoing_packet.OutgoingPacket.{OutgoingPacket}
+use Rattle.nd_steps.specs.OutgoingPacket.{frame_of}
+use Rattle.nd_steps.specs.Told.{Tells, happenings}
+use Rattle.nd_steps.proofs.Telling.{Tells-then}
 use Rattle.nd_node.specs.declared.node.Node.{Node}
 use Rattle.nd_node.specs.Event.{AddsEvent}
 use Rattle.nd_node.specs.Frame.{AddsAlone}

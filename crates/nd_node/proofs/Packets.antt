@@ -17,9 +17,9 @@ use Rattle.nd_neighbour.specs.Due.{NoneBefore, NoneOverdue}
 use Rattle.nd_neighbour.specs.Place.{Prepares, pushing}
 use Rattle.nd_neighbour.specs.Sending as sendings
 use Rattle.nd_neighbour.specs.Sending.{GainsPacket, Sending, Sends, Queues, sending_by, sending_of_story}
-use Rattle.nd_waiting.specs.Waiting.{max_waiting}
+use Rattle.nd_packet.specs.Waiting.{max_waiting}
 use Rattle.nd_slaac.specs.PrefixOption.{link_local_of}
-use Rattle.nd_frames.specs.Frames.{resolution_frame}
+use Rattle.nd_compose.specs.Frames.{resolution_frame}
 use Rattle.nd_chronicle.specs.Start.{Start, link_local}
 use Rattle.nd_chronicle.specs.Happening.{Chronicle, Neighbour, Sent, Lost, Replaced, last_moment}
 use Rattle.nd_chronicle.specs.Histories.{neighbour_history, address_history}
@@ -27,12 +27,12 @@ use Rattle.nd_chronicle.specs.InForce.{retrans_timer}
 use Rattle.nd_chronicle.specs.Packet.{losing, with_pushed, then_packet}
 use Rattle.nd_chronicle.specs.Told.{items_at, items}
 use Rattle.nd_out.specs.declared.out.Out.{Out}
-use Rattle.nd_effects.specs.Remembered.{MayRemember}
-use Rattle.nd_effects.specs.Packet.{told_of_packet}
-use Rattle.nd_effects.specs.Told.{at_moment, happenings}
-use Rattle.nd_effects.proofs.Quiet.{losing_is_quiet}
-use Rattle.nd_effects.proofs.Saying.{NoneOverdueStill, OneGoes, OverdueByTable, pushed_history}
-use Rattle.nd_effects.proofs.Telling.{one}
+use Rattle.nd_steps.specs.Remembered.{MayRemember}
+use Rattle.nd_steps.specs.Packet.{told_of_packet}
+use Rattle.nd_steps.specs.Told.{at_moment, happenings}
+use Rattle.nd_steps.proofs.Quiet.{losing_is_quiet}
+use Rattle.nd_steps.proofs.Saying.{NoneOverdueStill, OneGoes, OverdueByTable, pushed_history}
+use Rattle.nd_steps.proofs.Telling.{one}
 use Rattle.nd_node.specs.declared.node.Node.{Node}
 use Rattle.nd_node.specs.Node.{Stands, next_of}
 use Rattle.nd_node.specs.Packet.{PacketGoes}

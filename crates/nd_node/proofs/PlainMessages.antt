@@ -23,7 +23,7 @@ use Rattle.nd_params.specs.History.{reachable_of}
 use Rattle.nd_routers.specs.Routers as routers
 use Rattle.nd_nexthop.specs.History as redirect_rows
 use Rattle.nd_nexthop.specs.Choice as choice
-use Rattle.nd_routes.specs.History as route_rows
+use Rattle.nd_forwarding.specs.History as route_rows
 use Rattle.nd_slaac.specs.Table as addresses
 use Rattle.nd_chronicle.specs.Start.{Start}
 use Rattle.nd_chronicle.specs.Happening.{Chronicle, Drew, ForAnswer, Heard, Passed, Planned, Refused, Full, Limit, Neighbours, last_moment}
@@ -39,13 +39,13 @@ use Rattle.nd_chronicle.specs.NeighborSolicitation.{is_router}
 use Rattle.nd_chronicle.specs.Told.{items_at, items}
 use Rattle.nd_out.specs.declared.out.Out.{Out}
 use Rattle.nd_out.specs.Out.{happening}
-use Rattle.nd_effects.specs.LinkLayerAddress.{said_by, HearsOf, released_frames}
-use Rattle.nd_effects.specs.Router.{Plans, plans}
-use Rattle.nd_effects.specs.declared.router_tables.RouterTables.{RouterTables}
-use Rattle.nd_effects.specs.Told.{at_moment, happenings, Tells}
-use Rattle.nd_effects.proofs.Quiet.{Quiet}
-use Rattle.nd_effects.proofs.Saying.{NoneOverdueStill, OneGoes, Others, OverdueByTable, none_before_said, placed_by, released_kept, releasing_is_quiet, releasing_items}
-use Rattle.nd_effects.proofs.Telling.{one, above_silent, Tells-then, one_more}
+use Rattle.nd_steps.specs.LinkLayerAddress.{said_by, HearsOf, released_frames}
+use Rattle.nd_steps.specs.Router.{Plans, plans}
+use Rattle.nd_steps.specs.declared.router_tables.RouterTables.{RouterTables}
+use Rattle.nd_steps.specs.Told.{at_moment, happenings, Tells}
+use Rattle.nd_steps.proofs.Quiet.{Quiet}
+use Rattle.nd_steps.proofs.Saying.{NoneOverdueStill, OneGoes, Others, OverdueByTable, none_before_said, placed_by, released_kept, releasing_is_quiet, releasing_items}
+use Rattle.nd_steps.proofs.Telling.{one, above_silent, Tells-then, one_more}
 use Rattle.nd_node.specs.declared.node.Node.{Node}
 use Rattle.nd_node.specs.Hearing.{AddsMessage}
 use Rattle.nd_node.specs.Node.{Stands, next_of}

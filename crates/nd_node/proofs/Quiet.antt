@@ -3,8 +3,8 @@ use Rattle.std.proofs.Common.{◌≡◌, ℕ, ◌∷◌, refl, sym, ◌∙◌}
 use Rattle.rand_core.specs.Stream.{Stream}
 use Rattle.nd_chronicle.specs.Start.{Start}
 use Rattle.nd_chronicle.specs.Happening.{Chronicle, Refusal, Refused, last_moment}
-use Rattle.nd_effects.proofs.Quiet.{Quiet}
-use Rattle.nd_effects.proofs.RouterSide.{side_stands}
+use Rattle.nd_steps.proofs.Quiet.{Quiet}
+use Rattle.nd_steps.proofs.RouterSide.{side_stands}
 use Rattle.nd_node.specs.declared.node.Node.{Node}
 use Rattle.nd_node.specs.Node.{Stands}
 

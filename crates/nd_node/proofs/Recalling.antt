@@ -3,7 +3,7 @@ use Rattle.std.proofs.Common.{◌≡◌, ◌≤◌, ℕ, Bool, true, false, List
 use Rattle.std.specs.Prelude.{◌&&◌, ◌||◌, not, ◌==◌, if◌then◌else◌, is_some, MatchBool}
 use Rattle.std.proofs.lemmas.Bool.{cond-true, cond-false, eqb-true}
 use Rattle.nd_addr.specs.Prefix.{PrefixValue}
-use Rattle.nd_lifetime.specs.declared.lasting.Lasting.{Lasting}
+use Rattle.nd_table.specs.declared.lasting.Lasting.{Lasting}
 use Rattle.nd_neighbour.specs.Entry as neighbour_entries
 use Rattle.nd_neighbour.specs.History as neighbour_rows
 use Rattle.nd_neighbour.specs.Table as neighbours
@@ -22,9 +22,9 @@ use Rattle.nd_nexthop.specs.Choice as choice
 use Rattle.nd_nexthop.specs.Choice.{Table}
 use Rattle.nd_nexthop.specs.History.{RedirectRow}
 use Rattle.nd_nexthop.specs.Memo.{Memory, forgotten}
-use Rattle.nd_effects.specs.FirstHop.{is_resolved}
-use Rattle.nd_effects.specs.Remembered.{AsResolved, Forgets, Keeps, MayRemember, Remembers}
-use Rattle.nd_effects.proofs.Remembering.{StandUntil, remembers_later, remembers_nothing, remembers_same}
+use Rattle.nd_steps.specs.FirstHop.{is_resolved}
+use Rattle.nd_steps.specs.Remembered.{AsResolved, Forgets, Keeps, MayRemember, Remembers}
+use Rattle.nd_steps.proofs.Remembering.{StandUntil, remembers_later, remembers_nothing, remembers_same}
 use Rattle.nd_node.specs.declared.node.Node.{Node}
 
 -- what is remembered, by a node

@@ -6,7 +6,7 @@ use Rattle.nd_addr.specs.Number.{addr_at, number_of}
 use Rattle.nd_addr.specs.declared.mac.Mac.{Mac}
 use Rattle.nd_addr.specs.declared.preference.Preference.{Preference}
 use Rattle.nd_decode.specs.declared.prefix_info.PrefixInfo.{PrefixInfo}
-use Rattle.nd_lifetime.specs.Listing.{open_at}
+use Rattle.nd_table.specs.Listing.{open_at}
 use Rattle.nd_neighbour.specs.History as neighbour_rows
 use Rattle.nd_neighbour.specs.Entry as neighbour_entries
 use Rattle.nd_neighbour.specs.Table as neighbours
@@ -34,9 +34,9 @@ use Rattle.nd_chronicle.specs.Happening.{Chronicle}
 use Rattle.nd_chronicle.specs.Histories.{address_history}
 use Rattle.nd_chronicle.specs.OwnAddress.{story_of}
 use Rattle.nd_chronicle.specs.RouterAdvertisement.{naming, then_option, then_options}
-use Rattle.nd_effects.specs.FirstHop.{candidate_in, candidates_in, is_resolved}
-use Rattle.nd_effects.specs.Remembered.{AsListed, AsStanding, Forgets, Keeps, MayRemember, Recollects, forms_none, last_before_end, linked_by, own_in}
-use Rattle.nd_effects.proofs.Remembering.{StandUntil, candidates_same, hop_by_own, remembers_later, remembers_nothing, stand_until_end}
+use Rattle.nd_steps.specs.FirstHop.{candidate_in, candidates_in, is_resolved}
+use Rattle.nd_steps.specs.Remembered.{AsListed, AsStanding, Forgets, Keeps, MayRemember, Recollects, forms_none, last_before_end, linked_by, own_in}
+use Rattle.nd_steps.proofs.Remembering.{StandUntil, candidates_same, hop_by_own, remembers_later, remembers_nothing, stand_until_end}
 use Rattle.nd_node.specs.declared.node.Node.{Node}
 use Rattle.nd_node.proofs.Recalling.{AsOwn, Recalls, own_row}
 

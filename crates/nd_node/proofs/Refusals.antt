@@ -37,16 +37,16 @@ use Rattle.nd_chronicle.specs.Refused.{UnlessFull, UnlessRefused}
 use Rattle.nd_chronicle.specs.RouterAdvertisement.{forming, naming, redrawing, then_option, then_options, times_out}
 use Rattle.nd_chronicle.proofs.Hops.{one_hop}
 use Rattle.nd_chronicle.proofs.Places.{one_has_place}
-use Rattle.nd_frames.specs.Frames.{open_mac}
+use Rattle.nd_compose.specs.Frames.{open_mac}
 use Rattle.nd_params.specs.Params.{redraws}
 use Rattle.nd_addr.specs.Ip6.{PacketParts}
 use Rattle.nd_decode.specs.Option.{Said}
 use Rattle.nd_decode.specs.declared.neighbor_solicitation.NeighborSolicitation.{NeighborSolicitation}
 use Rattle.nd_decode.specs.declared.router_advertisement.RouterAdvertisement.{RouterAdvertisement}
 use Rattle.nd_validity.specs.Hearing.{valid, Hears, Outcome, other}
-use Rattle.nd_routes.specs.Forward.{Fate, fate}
-use Rattle.nd_routes.specs.Redirect.{last_redirect, redirect}
-use Rattle.nd_routes.specs.Routes.{routes}
+use Rattle.nd_forwarding.specs.Forward.{Fate, fate}
+use Rattle.nd_forwarding.specs.Redirect.{last_redirect, redirect}
+use Rattle.nd_forwarding.specs.Routes.{routes}
 use Rattle.nd_chronicle.specs.Forwarding.{FateAdds, ForwardAdds, Redirects, SendsOn}
 use Rattle.nd_chronicle.specs.Full.{AdvertisementFills, Fills, MessageFills, Placed}
 use Rattle.nd_chronicle.specs.Hearing.{IsMisdirected, IsStrange, IsTaken, Judges, Verdict, IsPacket, IsPacketForUs, IsPassing, IsStrangePacket}

@@ -18,11 +18,11 @@ use Rattle.nd_advertiser.specs.Table as advertising
 use Rattle.nd_advertiser.specs.declared.offers.Full.{Full}
 use Rattle.nd_decode.specs.Message.{Parts}
 use Rattle.nd_decode.specs.declared.prefix_info.PrefixInfo.{PrefixInfo}
-use Rattle.nd_frames.specs.Frames.{router_advertisement_frame}
-use Rattle.nd_routes.specs.declared.route.Route.{Route}
-use Rattle.nd_routes.specs.History as route_rows
-use Rattle.nd_routes.specs.Routes.{fits, routes}
-use Rattle.nd_routes.specs.Table as routing
+use Rattle.nd_compose.specs.Frames.{router_advertisement_frame}
+use Rattle.nd_forwarding.specs.declared.route.Route.{Route}
+use Rattle.nd_forwarding.specs.History as route_rows
+use Rattle.nd_forwarding.specs.Routes.{fits, routes}
+use Rattle.nd_forwarding.specs.Table as routing
 use Rattle.nd_chronicle.specs.Start.{Start, link_local}
 use Rattle.nd_chronicle.specs.Happening as happening
 use Rattle.nd_chronicle.specs.Happening.{Chronicle, Happening, Ceased, Configured, Offered, Passed, RoutePut, Sent, last_moment}
@@ -32,10 +32,10 @@ use Rattle.nd_chronicle.specs.Refused.{AtRouter, UnlessFull}
 use Rattle.nd_chronicle.specs.Event as events
 use Rattle.nd_chronicle.specs.Told.{Told, items_at, items}
 use Rattle.nd_out.specs.declared.out.Out.{Out}
-use Rattle.nd_effects.specs.Told.{advertised_by, at_moment, happenings}
-use Rattle.nd_effects.specs.declared.router_tables.RouterTables.{RouterTables}
-use Rattle.nd_effects.proofs.Quiet.{Quiet, quiet_same, sent_is_quiet}
-use Rattle.nd_effects.proofs.Telling.{one}
+use Rattle.nd_steps.specs.Told.{advertised_by, at_moment, happenings}
+use Rattle.nd_steps.specs.declared.router_tables.RouterTables.{RouterTables}
+use Rattle.nd_steps.proofs.Quiet.{Quiet, quiet_same, sent_is_quiet}
+use Rattle.nd_steps.proofs.Telling.{one}
 use Rattle.nd_node.specs.declared.node.Node.{Node}
 use Rattle.nd_node.specs.Event.{AddsEvent}
 use Rattle.nd_node.specs.Node.{next_of}

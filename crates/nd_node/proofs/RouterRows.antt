@@ -8,18 +8,18 @@ use Rattle.nd_advertiser.specs.History as advertising_rows
 use Rattle.nd_advertiser.specs.Overdue.{IsOf}
 use Rattle.nd_advertiser.specs.Table as advertising
 use Rattle.nd_decode.specs.declared.prefix_info.PrefixInfo.{PrefixInfo}
-use Rattle.nd_routes.specs.declared.route.Route.{Route}
-use Rattle.nd_routes.specs.History as route_rows
-use Rattle.nd_routes.specs.Table as routes
+use Rattle.nd_forwarding.specs.declared.route.Route.{Route}
+use Rattle.nd_forwarding.specs.History as route_rows
+use Rattle.nd_forwarding.specs.Table as routes
 use Rattle.nd_chronicle.specs.Start.{Start}
 use Rattle.nd_chronicle.specs.Happening.{Chronicle, Happening, Ceased, Configured, Drew, ForAnswer, Offered, Planned, RedirectMade, RoutePut, last_moment}
 use Rattle.nd_chronicle.specs.Histories.{parameter_history, neighbour_history, router_history, prefix_history, address_history, server_history, name_history, redirect_history, advertising_history, route_history}
 use Rattle.nd_chronicle.specs.Generator.{stream_left}
 use Rattle.nd_chronicle.specs.Due.{solicited_routers}
-use Rattle.nd_effects.specs.Router as router_only
-use Rattle.nd_effects.specs.Router.{next_advertisement}
-use Rattle.nd_effects.specs.declared.router_tables.RouterTables.{RouterTables}
-use Rattle.nd_effects.proofs.RouterSide.{later_row, stands_row}
+use Rattle.nd_steps.specs.Router as router_only
+use Rattle.nd_steps.specs.Router.{next_advertisement}
+use Rattle.nd_steps.specs.declared.router_tables.RouterTables.{RouterTables}
+use Rattle.nd_steps.proofs.RouterSide.{later_row, stands_row}
 use Rattle.nd_node.specs.declared.node.Node.{Node}
 use Rattle.nd_node.specs.Node.{Stands}
 use Rattle.nd_node.proofs.Turns.{advertisement_before, all_later, addresses_before, neighbours_before, redraw_before, routers_before, solicitation_before}

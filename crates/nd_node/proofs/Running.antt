@@ -9,7 +9,7 @@ use Rattle.nd_chronicle.specs.Happening.{Chronicle}
 use Rattle.nd_chronicle.specs.Event as events
 use Rattle.nd_chronicle.specs.History.{Follows, Runs}
 use Rattle.nd_out.specs.declared.out.Out.{Out}
-use Rattle.nd_effects.proofs.Telling.{Tells-then}
+use Rattle.nd_steps.proofs.Telling.{Tells-then}
 use Rattle.nd_node.specs.declared.node.Node.{Node}
 use Rattle.nd_node.specs.declared.event.Event.{Event}
 use Rattle.nd_node.specs.Event.{event_of, events_of, FollowsBy, RunsBy, RunsInPart}

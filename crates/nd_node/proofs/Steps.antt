@@ -14,11 +14,11 @@ use Rattle.nd_chronicle.specs.Event as events
 use Rattle.nd_chronicle.specs.History.{Walk, over, adds, passes}
 use Rattle.nd_out.specs.declared.out.Out.{Out}
 use Rattle.nd_out.specs.Out.{happening}
-use Rattle.nd_effects.specs.Told.{happenings}
-use Rattle.nd_effects.proofs.Quiet.{Quiet}
-use Rattle.nd_effects.proofs.Remembering.{remembers_later}
-use Rattle.nd_effects.proofs.RouterSide.{side_stands}
-use Rattle.nd_effects.proofs.Telling.{one, above_silent, Tells-then, one_more}
+use Rattle.nd_steps.specs.Told.{happenings}
+use Rattle.nd_steps.proofs.Quiet.{Quiet}
+use Rattle.nd_steps.proofs.Remembering.{remembers_later}
+use Rattle.nd_steps.proofs.RouterSide.{side_stands}
+use Rattle.nd_steps.proofs.Telling.{one, above_silent, Tells-then, one_more}
 use Rattle.nd_node.specs.declared.node.Node.{Node}
 use Rattle.nd_node.specs.Node.{Stands, next_of}
 use Rattle.nd_node.specs.Time.{Leads, Passes}

@@ -14,16 +14,16 @@ use Rattle.nd_slaac.specs.Due as addresses
 use Rattle.nd_chronicle.specs.Start.{Start, link_local}
 use Rattle.nd_chronicle.specs.Advertising.{advertising_by}
 use Rattle.nd_chronicle.specs.Histories.{advertising_history}
-use Rattle.nd_frames.specs.Frames.{router_advertisement_frame}
+use Rattle.nd_compose.specs.Frames.{router_advertisement_frame}
 use Rattle.nd_chronicle.specs.Happening.{Chronicle, Happening, Unreachable, last_moment}
 use Rattle.nd_chronicle.specs.Due.{What, RouterEnds, AddressFalls, NeighbourFalls, RoutersSolicited, RouterAdvertises, Redraws, Due, comes, router_advertisement_date}
 use Rattle.nd_chronicle.specs.History.{Walk, over, adds}
 use Rattle.nd_out.specs.declared.out.Out.{Out}
-use Rattle.nd_effects.specs.Router.{advertised, frame_of, next_advertisement}
-use Rattle.nd_effects.specs.Told.{advertised_by, told_of, at_moment, happenings}
-use Rattle.nd_effects.proofs.RouterSide.{advertisement_date, due_has_settings}
-use Rattle.nd_effects.proofs.Quiet.{losing_is_quiet}
-use Rattle.nd_effects.proofs.Telling.{due_items, Tells-then}
+use Rattle.nd_steps.specs.Router.{advertised, frame_of, next_advertisement}
+use Rattle.nd_steps.specs.Told.{advertised_by, told_of, at_moment, happenings}
+use Rattle.nd_steps.proofs.RouterSide.{advertisement_date, due_has_settings}
+use Rattle.nd_steps.proofs.Quiet.{losing_is_quiet}
+use Rattle.nd_steps.proofs.Telling.{due_items, Tells-then}
 use Rattle.nd_node.specs.declared.node.Node.{Node}
 use Rattle.nd_node.specs.Node.{Stands, NextDue}
 use Rattle.nd_node.specs.Time.{Leads, Comes, Passes, Onward}

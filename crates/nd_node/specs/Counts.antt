@@ -5,7 +5,7 @@ use Rattle.nd_routers.specs.PrefixOptions.{max_prefixes}
 use Rattle.nd_slaac.specs.Room.{max_addresses}
 use Rattle.nd_advertiser.specs.Offers.{max_offers}
 use Rattle.nd_nexthop.specs.History.{max_redirects}
-use Rattle.nd_routes.specs.Routes.{max_routes}
+use Rattle.nd_forwarding.specs.Routes.{max_routes}
 use Rattle.nd_chronicle.specs.Start.{Limits}
 use Rattle.nd_node.specs.declared.counts.Counts.{Counts}
 use Rattle.nd_node.specs.declared.node.Node.{Node}

@@ -2,8 +2,8 @@
 use Rattle.std.specs.Prelude.{◌≡◌, ℕ, Bool, List, ◌∷◌, ◌≤◌, Option}
 use Rattle.rand_core.specs.Stream.{Stream}
 use Rattle.nd_addr.specs.Ip6.{PacketParts}
-use Rattle.nd_routes.specs.Redirect.{last_redirect, redirect}
-use Rattle.nd_routes.specs.Routes.{routes}
+use Rattle.nd_forwarding.specs.Redirect.{last_redirect, redirect}
+use Rattle.nd_forwarding.specs.Routes.{routes}
 use Rattle.nd_addr.specs.declared.addr.Addr.{Addr}
 use Rattle.nd_chronicle.specs.Start.{Start}
 use Rattle.nd_chronicle.specs.Happening.{Chronicle, Loss, Lost, Passed, last_moment}
@@ -11,7 +11,7 @@ use Rattle.nd_chronicle.specs.Histories.{route_history}
 use Rattle.nd_chronicle.specs.OwnAddress.{is_own}
 use Rattle.nd_chronicle.specs.Forwarding.{ForwardAdds, SendsOn, frame_as_it_came}
 use Rattle.nd_out.specs.declared.out.Out.{Out}
-use Rattle.nd_effects.specs.Told.{Tells}
+use Rattle.nd_steps.specs.Told.{Tells}
 use Rattle.nd_node.specs.declared.node.Node.{Node}
 use Rattle.nd_node.specs.Node.{Stands}
 

@@ -5,7 +5,7 @@ use Rattle.nd_addr.specs.Number.{number_of}
 use Rattle.nd_addr.specs.Same.{same_addr, same_prefix}
 use Rattle.nd_decode.specs.Option.{Said}
 use Rattle.nd_decode.specs.declared.router_advertisement.RouterAdvertisement.{RouterAdvertisement}
-use Rattle.nd_lifetime.specs.Listing.{fits}
+use Rattle.nd_table.specs.Listing.{fits}
 use Rattle.nd_routers.specs.PrefixOptions as prefixes
 use Rattle.nd_routers.specs.Routers.{same}
 use Rattle.nd_slaac.specs.PrefixOption as addresses

@@ -4,8 +4,8 @@ use Rattle.rand_core.specs.Stream.{Stream}
 use Rattle.nd_addr.specs.declared.mac.Mac.{Mac}
 use Rattle.nd_addr.specs.declared.role.Role.{Role}
 use Rattle.nd_addr.specs.Same.{same_prefix}
-use Rattle.nd_lifetime.specs.History as lifetimes
-use Rattle.nd_lifetime.specs.Listing as lists
+use Rattle.nd_table.specs.Announcements as lifetimes
+use Rattle.nd_table.specs.Listing as lists
 use Rattle.nd_neighbour.specs.Table as neighbours
 use Rattle.nd_neighbour.specs.Due as neighbour_dates
 use Rattle.nd_slaac.specs.Table as addresses
@@ -21,11 +21,11 @@ use Rattle.nd_chronicle.specs.Happening.{Chronicle, last_moment}
 use Rattle.nd_chronicle.specs.Histories.{parameter_history, neighbour_history, router_history, prefix_history, address_history, server_history, name_history, redirect_history}
 use Rattle.nd_chronicle.specs.Generator.{stream_left}
 use Rattle.nd_chronicle.specs.Due.{Due, max_rtr_solicitations}
-use Rattle.nd_effects.specs.Router as router
-use Rattle.nd_effects.specs.Router.{after_last, next_advertisement}
-use Rattle.nd_effects.specs.RouterSolicitations as solicitations
-use Rattle.nd_effects.specs.RouterSolicitations.{next_solicitation}
-use Rattle.nd_effects.specs.Remembered.{Remembers}
+use Rattle.nd_steps.specs.Router as router
+use Rattle.nd_steps.specs.Router.{after_last, next_advertisement}
+use Rattle.nd_steps.specs.RouterSolicitations as solicitations
+use Rattle.nd_steps.specs.RouterSolicitations.{next_solicitation}
+use Rattle.nd_steps.specs.Remembered.{Remembers}
 use Rattle.nd_node.specs.Moments.{earlier}
 use Rattle.nd_node.specs.declared.node.Node.{Node}
 

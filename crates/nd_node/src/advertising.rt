@@ -12,8 +12,8 @@ ghost use Rattle.nd_node.specs.Memory.{AddsRefusal};
 use crate::node::Node;
 use nd_addr::Role;
 use nd_advertiser::{Config, Offer};
-use nd_effects::{link_local, tell_advertisement};
 use nd_out::{Limit, Out, Refusal};
+use nd_steps::{link_local, tell_advertisement};
 use rand_core::Rng;
 use std::alloc::{AllocError, Allocator};
 

@@ -6,8 +6,8 @@ ghost use Rattle.nd_node.specs.Event.{AddsEvent, clearable_of};
 ghost use Rattle.nd_node.specs.Memory.{TellsNothing};
 
 use crate::node::Node;
-use nd_effects::{tell_packets, tell_routers};
 use nd_out::Out;
+use nd_steps::{tell_packets, tell_routers};
 use rand_core::Rng;
 use std::alloc::{AllocError, Allocator};
 

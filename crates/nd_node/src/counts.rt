@@ -7,7 +7,7 @@ ghost use Rattle.nd_chronicle.specs.Histories.{neighbour_history};
 ghost use Rattle.nd_chronicle.specs.Start.{Start};
 ghost use Rattle.nd_neighbour.specs.History.{story};
 ghost use Rattle.nd_neighbour.specs.Story.{waits_of};
-ghost use Rattle.nd_waiting.specs.Waiting.{max_waiting};
+ghost use Rattle.nd_packet.specs.Waiting.{max_waiting};
 ghost use Rattle.nd_node.specs.Counts.{Counted, WithinLimits};
 
 use crate::node::Node;

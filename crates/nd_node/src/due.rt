@@ -7,16 +7,16 @@ ghost use Rattle.nd_params.specs.History.{Drew};
 ghost use Rattle.nd_slaac.specs.View.{falls_of};
 ghost use Rattle.nd_params.specs.Params.{GainsRows};
 ghost use Rattle.nd_chronicle.specs.Generator.{reachable_drawn};
-ghost use Rattle.nd_effects.specs.RouterSolicitations.{after_address};
+ghost use Rattle.nd_steps.specs.RouterSolicitations.{after_address};
 ghost use Rattle.nd_nexthop.specs.Memo.{forgotten};
 ghost use Rattle.nd_node.specs.Moments.{earlier};
 ghost use Rattle.nd_node.specs.Node.{ends};
 
 use crate::node::Node;
 use nd_addr::Addr;
-use nd_effects::{RouterSolicitations, Turned, note, reachable_drawn};
 use nd_nexthop::Choice;
 use nd_params::Params;
+use nd_steps::{RouterSolicitations, Turned, note, reachable_drawn};
 use nd_table::compare;
 use rand_core::Rng;
 use std::alloc::Allocator;
@@ -25,7 +25,7 @@ impl<R: Rng + Drop, A: Allocator + Clone> Node<R, A> {
     ghost use Rattle.nd_chronicle.specs.Start.{Start};
     ghost use Rattle.nd_chronicle.specs.Happening.{Chronicle};
     ghost use Rattle.nd_chronicle.specs.Due.{Due, comes};
-    ghost use Rattle.nd_effects.specs.Turned.{what_of};
+    ghost use Rattle.nd_steps.specs.Turned.{what_of};
     ghost use Rattle.nd_node.specs.Node.{Stands, NextDue, next_of, turns_left};
 
     /// The moment at which something falls due next.

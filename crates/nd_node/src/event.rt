@@ -14,9 +14,9 @@ use crate::clearing::Clearable;
 use crate::node::Node;
 use nd_addr::Addr;
 use nd_advertiser::{Config, Offer};
-use nd_effects::OutgoingPacket;
+use nd_forwarding::KeptRoute;
 use nd_out::{Out, Refusal};
-use nd_routes::KeptRoute;
+use nd_steps::OutgoingPacket;
 use rand_core::Rng;
 use std::alloc::{AllocError, Allocator};
 

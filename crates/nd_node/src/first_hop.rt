@@ -7,9 +7,9 @@ ghost use Rattle.nd_chronicle.specs.Start.{Start};
 use crate::node::Node;
 use nd_addr::laws::addresses_are_told_by_numbers;
 use nd_addr::{Addr, Role};
-use nd_effects::Tables;
 use nd_nexthop::Hop;
 use nd_slaac::Counted;
+use nd_steps::Tables;
 use rand_core::Rng;
 use std::alloc::Allocator;
 

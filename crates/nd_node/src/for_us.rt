@@ -10,16 +10,16 @@ use crate::node::Node;
 use nd_addr::laws::addresses_are_told_by_numbers;
 use nd_addr::{Addr, Ip6, Role};
 use nd_decode::Body;
-use nd_effects::{is_awake, is_to_nodes, is_to_routers, takes_target};
-use nd_routes::may_be_forwarded;
+use nd_forwarding::may_be_forwarded;
 use nd_slaac::Counted;
+use nd_steps::{is_awake, is_to_nodes, is_to_routers, takes_target};
 use rand_core::Rng;
 use std::alloc::Allocator;
 
 impl<R: Rng + Drop, A: Allocator + Clone> Node<R, A> {
     ghost use Rattle.nd_chronicle.specs.Hearing.{IsOurs, IsForUs, IsInTransit, IsPacketForUs};
     ghost use Rattle.nd_chronicle.specs.OwnAddress.{is_up};
-    ghost use Rattle.nd_effects.specs.ForUs.{counting};
+    ghost use Rattle.nd_steps.specs.ForUs.{counting};
     ghost use Rattle.nd_node.specs.Node.{Stands};
 
     /// Whether a destination is that of all nodes, at a router that of all routers, or an own address that counts, or the solicited-node

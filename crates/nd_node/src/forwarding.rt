@@ -13,18 +13,18 @@ ghost use Rattle.nd_node.specs.Forwarding.{AddsForwarded, AddsLostInTransit, Add
 ghost use Rattle.nd_node.specs.Hearing.{Keeps};
 ghost use Rattle.nd_node.specs.Memory.{AddsRefusal};
 ghost use Rattle.nd_out.specs.Out.{loss_of};
-ghost use Rattle.nd_routes.specs.Redirect.{last_redirect, redirect};
-ghost use Rattle.nd_routes.specs.Routes.{routes};
+ghost use Rattle.nd_forwarding.specs.Redirect.{last_redirect, redirect};
+ghost use Rattle.nd_forwarding.specs.Routes.{routes};
 ghost use Rattle.nd_validity.specs.Hearing.{Hears, other};
 
 use crate::node::Node;
 use nd_addr::{Addr, Ip6Ref};
-use nd_effects::{
+use nd_forwarding::Fate;
+use nd_out::{Limit, Loss, Out, Refusal};
+use nd_slaac::Counted;
+use nd_steps::{
     better_hop_frame, frame_as_it_came, frame_sent_on, link_local, packet_in, ready_for_two,
 };
-use nd_out::{Limit, Loss, Out, Refusal};
-use nd_routes::Fate;
-use nd_slaac::Counted;
 use rand_core::Rng;
 use std::alloc::{AllocError, Allocator};
 

@@ -19,8 +19,8 @@ ghost use Rattle.nd_node.specs.Memory.{AddsNoName, AddsRefusal, AsksForNone};
 
 use crate::node::Node;
 use nd_addr::{Ip6Ref, Why};
-use nd_effects::packet_in;
 use nd_out::Out;
+use nd_steps::packet_in;
 use nd_validity::{Heard, Hearing, hear};
 use rand_core::Rng;
 use std::alloc::{AllocError, Allocator};

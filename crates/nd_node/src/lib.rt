@@ -79,5 +79,5 @@ pub use clearing::Clearable;
 pub use counts::Counts;
 pub use event::{Event, Table};
 pub use limits::Limits;
-pub use nd_effects::{OutgoingPacket, Turned};
+pub use nd_steps::{OutgoingPacket, Turned};
 pub use node::Node;

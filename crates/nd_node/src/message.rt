@@ -16,8 +16,8 @@ ghost use Rattle.nd_node.specs.Memory.{AddsNoName, AddsRefusal};
 use crate::node::Node;
 use nd_addr::{Addr, Why};
 use nd_decode::{Body, Options, Redirect};
-use nd_effects::is_via;
 use nd_out::Out;
+use nd_steps::is_via;
 use rand_core::Rng;
 use std::alloc::{AllocError, Allocator};
 

@@ -9,10 +9,8 @@ ghost use Rattle.nd_node.specs.Hearing.{AddsMessage};
 use crate::node::Node;
 use nd_addr::Addr;
 use nd_decode::{Body, NeighborAdvertisement, Options};
-use nd_effects::{
-    end_router, hear_holder, hear_of_neighbour, news_of, times_in_force, waiting_for,
-};
 use nd_out::Out;
+use nd_steps::{end_router, hear_holder, hear_of_neighbour, news_of, times_in_force, waiting_for};
 use rand_core::Rng;
 use std::alloc::{AllocError, Allocator};
 

@@ -6,7 +6,7 @@ ghost use Rattle.nd_decode.specs.Pieces.{options_left};
 ghost use Rattle.nd_decode.specs.declared.body.Body.TheVariants as bodies;
 ghost use Rattle.nd_neighbour.specs.Table.{node_in};
 ghost use Rattle.nd_chronicle.specs.NeighborSolicitation as solicited;
-ghost use Rattle.nd_effects.specs.LinkLayerAddress.{waiting_for};
+ghost use Rattle.nd_steps.specs.LinkLayerAddress.{waiting_for};
 ghost use Rattle.nd_chronicle.specs.Full.{Fills};
 ghost use Rattle.nd_chronicle.specs.Happening.{Chronicle, Limit as Table, Passed, last_moment};
 ghost use Rattle.nd_chronicle.specs.Start.{Start};
@@ -14,11 +14,11 @@ ghost use Rattle.nd_node.specs.Hearing.{AddsMessage, Keeps};
 
 use crate::node::Node;
 use nd_addr::{Addr, Role};
+use nd_compose::FrameRoom;
 use nd_decode::{Body, NeighborSolicitation, Options};
-use nd_effects::{hear_conflict, hear_of_neighbour, news_of, times_in_force, waiting_for};
-use nd_frames::FrameRoom;
 use nd_neighbour::{Cache, News};
 use nd_out::{Limit, Out, Refusal};
+use nd_steps::{hear_conflict, hear_of_neighbour, news_of, times_in_force, waiting_for};
 use rand_core::Rng;
 use std::alloc::{AllocError, Allocator};
 

@@ -6,14 +6,14 @@ use crate::limits::Limits;
 use crate::room::Room;
 use nd_addr::{Mac, Role};
 use nd_dns::Dns;
-use nd_effects::{
-    MAX_RTR_SOLICITATION_DELAY, RouterSolicitations, RouterTables, drawn_from, reachable_drawn,
-};
 use nd_neighbour::Cache;
 use nd_nexthop::Choice;
 use nd_params::Params;
 use nd_routers::{Prefixes, Routers};
 use nd_slaac::{Addresses, Transmits};
+use nd_steps::{
+    MAX_RTR_SOLICITATION_DELAY, RouterSolicitations, RouterTables, drawn_from, reachable_drawn,
+};
 use rand_core::Rng;
 use std::alloc::Allocator;
 

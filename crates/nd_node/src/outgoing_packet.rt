@@ -7,8 +7,8 @@ ghost use Rattle.nd_chronicle.specs.Event.{EventAdds, PacketAdds, refusal_of_pac
 ghost use Rattle.nd_chronicle.specs.Happening.{Chronicle, Lost, Sent, last_moment};
 ghost use Rattle.nd_chronicle.specs.Packet.{GoesIfPlaced};
 ghost use Rattle.nd_chronicle.specs.Start.{Start};
-ghost use Rattle.nd_effects.specs.OutgoingPacket.{frame_of};
-ghost use Rattle.nd_frames.specs.Frames.{open_mac};
+ghost use Rattle.nd_steps.specs.OutgoingPacket.{frame_of};
+ghost use Rattle.nd_compose.specs.Frames.{open_mac};
 ghost use Rattle.nd_neighbour.specs.Room.{has_room};
 ghost use Rattle.nd_nexthop.specs.NextHop.{hop_of, direct};
 ghost use Rattle.nd_node.specs.Event.{AddsEvent};
@@ -20,12 +20,12 @@ ghost use Rattle.nd_out.specs.Out.{loss_of, refusal_of};
 
 use crate::node::Node;
 use nd_addr::{Addr, Mac};
-use nd_effects::{OutgoingPacket, is_too_long, ready_for};
-use nd_frames::OPEN_MAC;
+use nd_compose::OPEN_MAC;
 use nd_nexthop::Hop;
 use nd_out::{Limit, Loss, Out, Refusal};
+use nd_packet::Packet;
 use nd_slaac::Counted;
-use nd_waiting::Packet;
+use nd_steps::{OutgoingPacket, is_too_long, ready_for};
 use rand_core::Rng;
 use std::alloc::{AllocError, Allocator};
 

@@ -7,11 +7,11 @@ ghost use Rattle.nd_node.specs.Time.{Leads};
 
 use crate::node::Node;
 use nd_addr::Addr;
-use nd_effects::{link_local, note_use, tell_use, times_in_force};
-use nd_frames::FrameRoom;
+use nd_compose::FrameRoom;
 use nd_neighbour::laws::{none_overdue, one_is_pushed_out, room_is_place};
 use nd_out::Out;
-use nd_waiting::Packet;
+use nd_packet::Packet;
+use nd_steps::{link_local, note_use, tell_use, times_in_force};
 use rand_core::Rng;
 use std::alloc::Allocator;
 

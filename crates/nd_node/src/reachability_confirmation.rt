@@ -5,7 +5,7 @@ ghost use Rattle.nd_node.specs.Event.{AddsEvent};
 
 use crate::node::Node;
 use nd_addr::Addr;
-use nd_effects::times_in_force;
+use nd_steps::times_in_force;
 use rand_core::Rng;
 use std::alloc::Allocator;
 

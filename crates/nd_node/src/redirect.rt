@@ -9,8 +9,8 @@ ghost use Rattle.nd_node.specs.Hearing.{AddsMessage};
 use crate::node::Node;
 use nd_addr::Addr;
 use nd_decode::{Body, Options, Redirect};
-use nd_effects::{has_place, hear_of_neighbour, news_of, times_in_force, waiting_for};
 use nd_out::{Limit, Out, Refusal};
+use nd_steps::{has_place, hear_of_neighbour, news_of, times_in_force, waiting_for};
 use rand_core::Rng;
 use std::alloc::{AllocError, Allocator};
 

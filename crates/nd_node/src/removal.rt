@@ -9,8 +9,8 @@ ghost use Rattle.nd_node.specs.Event.{AddsEvent};
 
 use crate::node::Node;
 use nd_addr::Addr;
-use nd_effects::tell_lost;
 use nd_out::{Loss, Out};
+use nd_steps::tell_lost;
 use rand_core::Rng;
 use std::alloc::{AllocError, Allocator};
 

@@ -2,7 +2,7 @@
 
 ghost use Rattle.std.specs.Prelude.{◌≡◌, [], None, IfOk};
 ghost use Rattle.nd_addr.specs.Same.{same_prefix};
-ghost use Rattle.nd_lifetime.specs.Listing as lists;
+ghost use Rattle.nd_table.specs.Listing as lists;
 ghost use Rattle.nd_neighbour.specs.Table as neighbours;
 ghost use Rattle.nd_routers.specs.Routers as routers;
 ghost use Rattle.nd_dns.specs.Dns as dns;
@@ -10,11 +10,11 @@ ghost use Rattle.nd_nexthop.specs.Choice as choice;
 
 use crate::limits::Limits;
 use nd_dns::Dns;
-use nd_effects::RouterTables;
 use nd_neighbour::Cache;
 use nd_nexthop::Choice;
 use nd_routers::{Prefixes, Routers};
 use nd_slaac::AddressRoom;
+use nd_steps::RouterTables;
 use std::alloc::{AllocError, Allocator};
 
 /// The empty tables of a node, reserved before it starts.

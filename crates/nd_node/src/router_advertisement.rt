@@ -8,7 +8,7 @@ ghost use Rattle.nd_chronicle.specs.Histories.{said_of_neighbour};
 ghost use Rattle.nd_chronicle.specs.Full.{Fills};
 ghost use Rattle.nd_chronicle.specs.Happening.{Chronicle, Limit as Table, Passed, last_moment};
 ghost use Rattle.nd_chronicle.specs.Start.{Start};
-ghost use Rattle.nd_effects.specs.LinkLayerAddress.{said_by, HasPlace, waiting_for};
+ghost use Rattle.nd_steps.specs.LinkLayerAddress.{said_by, HasPlace, waiting_for};
 ghost use Rattle.nd_node.specs.RouterAdvertisement.{TakesAdvertisement};
 ghost use Rattle.nd_node.specs.Hearing.{AddsMessage};
 ghost use Rattle.nd_node.specs.Memory.{AddsNoName};
@@ -18,14 +18,14 @@ use crate::node::Node;
 use nd_addr::Addr;
 use nd_decode::{Body, Options, RouterAdvertisement};
 use nd_dns::NewNames;
-use nd_effects::{
+use nd_neighbour::laws::one_is_pushed_out;
+use nd_neighbour::{News, Times};
+use nd_out::{Out, Refusal};
+use nd_steps::{
     Advertisement, has_place, hear_dns, hear_of_neighbour, hear_parameters, hear_prefix_options,
     hear_prefixes, hear_router, keep_until_a_prefix_ends, news_of, none_forms, tell_left,
     waiting_for,
 };
-use nd_neighbour::laws::one_is_pushed_out;
-use nd_neighbour::{News, Times};
-use nd_out::{Out, Refusal};
 use rand_core::Rng;
 use std::alloc::{AllocError, Allocator};
 

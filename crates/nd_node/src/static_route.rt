@@ -11,8 +11,8 @@ ghost use Rattle.nd_node.specs.Memory.{AddsRefusal};
 
 use crate::node::Node;
 use nd_addr::Role;
+use nd_forwarding::KeptRoute;
 use nd_out::{Limit, Out, Refusal};
-use nd_routes::KeptRoute;
 use rand_core::Rng;
 use std::alloc::{AllocError, Allocator};
 

@@ -7,9 +7,9 @@ ghost use Rattle.nd_node.specs.Time.{Leads, Comes, Passes, Onward};
 
 use crate::node::Node;
 use nd_chronicle::laws::idle_time_passes;
-use nd_effects::{MOST_TOLD, link_local, tell};
-use nd_frames::FrameRoom;
+use nd_compose::FrameRoom;
 use nd_out::Out;
+use nd_steps::{MOST_TOLD, link_local, tell};
 use rand_core::Rng;
 use std::alloc::{AllocError, Allocator};
 

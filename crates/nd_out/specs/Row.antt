@@ -1,6 +1,6 @@
 -- The text of a key that has a lifetime.
 use Rattle.std.specs.Prelude.{ℕ, List, ◌++◌, codes}
-use Rattle.nd_lifetime.specs.Shown.{Seen}
+use Rattle.nd_table.specs.Shown.{Seen}
 use Rattle.nd_chronicle.specs.Shown.{left_text}
 
 -- the text of the key, and what is left of its lifetime

@@ -1,6 +1,6 @@
 use nd_addr::{Addr, Why};
 use nd_decode::Body;
-use nd_waiting::Packet;
+use nd_packet::Packet;
 use std::alloc::Allocator;
 
 /// Why a packet was lost.

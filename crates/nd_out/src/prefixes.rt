@@ -1,10 +1,10 @@
 ghost use Rattle.std.specs.Prelude.{◌≡◌, IfOk, map, string_bytes};
-ghost use Rattle.nd_lifetime.specs.Left.{lifetimes_left};
+ghost use Rattle.nd_table.specs.Left.{lifetimes_left};
 ghost use Rattle.nd_chronicle.specs.Shown.{prefix_row};
 
 use crate::row::{Row, add_with_lifetimes};
 use nd_addr::Prefix;
-use nd_lifetime::WithLifetimes;
+use nd_table::WithLifetimes;
 use std::alloc::{AllocError, Allocator};
 
 impl Row for Prefix {

@@ -1,11 +1,11 @@
 ghost use Rattle.std.specs.Prelude.{◌≡◌, ◌++◌, ◌∷◌, [], ℕ, List, Option, IfOk, OnOk, codes, map, string_bytes};
 ghost use Rattle.std.specs.Fmt.{decimal};
-ghost use Rattle.nd_lifetime.specs.Left.{lifetimes_left};
+ghost use Rattle.nd_table.specs.Left.{lifetimes_left};
 ghost use Rattle.nd_chronicle.specs.Shown.{flag_text, left_text};
 ghost use Rattle.nd_out.specs.Row.{lasting_text};
 
 use crate::line::write_number;
-use nd_lifetime::{WithLifetime, WithLifetimes};
+use nd_table::{WithLifetime, WithLifetimes};
 use std::alloc::{AllocError, Allocator};
 
 /// What stands in a row of a table.
@@ -86,7 +86,7 @@ pub(crate) fn add_row<R: Row, A: Allocator + Clone>(
 }
 
 impl<K: Row> Row for WithLifetime<'_, K> {
-    ghost use Rattle.nd_lifetime.specs.Left.{seen_in};
+    ghost use Rattle.nd_table.specs.Left.{seen_in};
     ghost use Rattle.nd_out.specs.Row.{lasting_text};
 
     ghost shown = { λ w. lasting_text K.shown (seen_in w) };

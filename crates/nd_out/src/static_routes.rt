@@ -1,13 +1,13 @@
 //! The static routes of a router, as they are shown.
 
 ghost use Rattle.std.specs.Prelude.{◌≡◌, ◌++◌, IfOk, OnOk, codes, map, string_bytes};
-ghost use Rattle.nd_routes.specs.KeptRoutes.{routes_left};
+ghost use Rattle.nd_forwarding.specs.KeptRoutes.{routes_left};
 ghost use Rattle.nd_chronicle.specs.Shown as shown;
 ghost use Rattle.nd_chronicle.specs.Shown.{route_row, way_of};
 
 use crate::row::{Row, add_row};
 use nd_addr::Role;
-use nd_routes::{KeptRoute, KeptRoutes, Route};
+use nd_forwarding::{KeptRoute, KeptRoutes, Route};
 use std::alloc::{AllocError, Allocator};
 
 /// Writes where a route leads.
@@ -22,7 +22,7 @@ fn write_way<A: Allocator>(text: &mut String<A>, route: Route) -> Result<(), All
 }
 
 impl Row for KeptRoute {
-    ghost use Rattle.nd_routes.specs.KeptRoutes.{entry_of};
+    ghost use Rattle.nd_forwarding.specs.KeptRoutes.{entry_of};
     ghost use Rattle.nd_chronicle.specs.Shown.{route_row};
 
     ghost shown = { λ r. route_row (entry_of r) };

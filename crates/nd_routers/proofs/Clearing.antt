@@ -3,10 +3,10 @@ use Rattle.std.proofs.Common.{◌≡◌, ℕ, false, List, [], ◌∷◌, refl, 
 use Rattle.std.specs.Prelude.{is_some, ◌&&◌}
 use Rattle.std.proofs.lemmas.Bool.Decides.{nat_tests, eqb_tells}
 use Rattle.std.proofs.lemmas.Bool.{true≢false}
-use Rattle.nd_lifetime.specs.declared.lasting.Lasting.{Lasting}
-use Rattle.nd_lifetime.specs.Listing.{without}
-use Rattle.nd_lifetime.proofs.Finding.{without_absent}
-use Rattle.nd_lifetime.proofs.Order.{distinct_of}
+use Rattle.nd_table.specs.declared.lasting.Lasting.{Lasting}
+use Rattle.nd_table.specs.Listing.{without}
+use Rattle.nd_table.proofs.Finding.{without_absent}
+use Rattle.nd_table.proofs.Order.{distinct_of}
 use Rattle.nd_routers.specs.History.{RouterRow, LeftList, failure_of}
 use Rattle.nd_routers.specs.declared.preferred.Preferred.{Preferred}
 use Rattle.nd_routers.specs.Preferences.{without_preference}

@@ -3,9 +3,9 @@ use Rattle.std.proofs.Common.{◌≡◌, ℕ, ◌<◌, ◌≤◌, cond, eqb, Lis
 use Rattle.std.specs.Prelude.{not}
 use Rattle.std.proofs.lemmas.Bool.Decides.{nat_tests}
 use Rattle.std.proofs.lemmas.Bool.{cond_both, eqb-true, eq-eqb, ne_eqb, cond-true, cond-false}
-use Rattle.nd_lifetime.specs.declared.lasting.Lasting.{Lasting}
-use Rattle.nd_lifetime.specs.History.{place}
-use Rattle.nd_lifetime.specs.Listing.{end_in, AllAfter, Rises, without, StandsUntilTold}
+use Rattle.nd_table.specs.declared.lasting.Lasting.{Lasting}
+use Rattle.nd_table.specs.Announcements.{place}
+use Rattle.nd_table.specs.Listing.{end_in, AllAfter, Rises, without, StandsUntilTold}
 use Rattle.nd_routers.specs.History.{RouterRow, announcements}
 use Rattle.nd_routers.specs.Routers.{same, NoneBefore, next_end, key_at, first_due}
 use Rattle.nd_table.specs.Due.{lesser, is_at, least_date}

@@ -4,10 +4,10 @@ use Rattle.std.specs.Prelude.{not, is_some, ◌&&◌, ◌||◌}
 use Rattle.std.proofs.lemmas.Bool.Decides.{nat_tests, eqb_tells}
 use Rattle.std.proofs.lemmas.Bool.{cond_both, true≢false}
 use Rattle.nd_addr.specs.declared.preference.Preference.{Preference}
-use Rattle.nd_lifetime.specs.History.{end_of, stands}
-use Rattle.nd_lifetime.specs.declared.lasting.Lasting.{Lasting}
-use Rattle.nd_lifetime.specs.Listing.{end_in, without, StandsUntilTold}
-use Rattle.nd_lifetime.proofs.Finding.{end_in-without}
+use Rattle.nd_table.specs.Announcements.{end_of, stands}
+use Rattle.nd_table.specs.declared.lasting.Lasting.{Lasting}
+use Rattle.nd_table.specs.Listing.{end_in, without, StandsUntilTold}
+use Rattle.nd_table.proofs.Finding.{end_in-without}
 use Rattle.nd_routers.proofs.Dues.{length-without}
 use Rattle.nd_routers.specs.History.{RouterRow, Heard, LeftList, Failed, announcements, failure_of}
 use Rattle.nd_routers.specs.DefaultRouterSelection.{has_failed, AllLater, InOrder, number_in, Failures, others}

@@ -16,10 +16,10 @@ use Rattle.nd_table.specs.Ends.{end_time}
 use Rattle.nd_table.proofs.Keyed.{key_is}
 use Rattle.nd_table.proofs.Due.{AtMost, AtMost-same, AtMost-some, AtMost-none, least_at_most, least_unique}
 use Rattle.nd_table.proofs.Dates.{least_unique_is, entry_of, kept, first_before, first_is_there, fewer, redated}
-use Rattle.nd_lifetime.specs.declared.lasting.Lasting.{Lasting}
-use Rattle.nd_lifetime.specs.Listing.{end_in, Distinct, renewed, without, told, announced, open_at, fits}
-use Rattle.nd_lifetime.proofs.Finding.{end_in-renewed, end_in-without, end_in-push, absent_of}
-use Rattle.nd_lifetime.proofs.Behind.{open_all, Distinct-filter, Distinct-announced}
+use Rattle.nd_table.specs.declared.lasting.Lasting.{Lasting}
+use Rattle.nd_table.specs.Listing.{end_in, Distinct, renewed, without, told, announced, open_at, fits}
+use Rattle.nd_table.proofs.Finding.{end_in-renewed, end_in-without, end_in-push, absent_of}
+use Rattle.nd_table.proofs.Behind.{open_all, Distinct-filter, Distinct-announced}
 use Rattle.nd_routers.specs.Routers.{same, IsSettled, NoneBefore, next_end, key_at, first_due}
 use Rattle.nd_routers.specs.Planned.{key_of, date_of, IsPlanned}
 use Rattle.nd_routers.proofs.Settled.{open_each}

@@ -4,10 +4,10 @@ use Rattle.std.specs.Prelude.{is_some, filter, not, ◌&&◌}
 use Rattle.std.proofs.lemmas.Bool.{cases_Bool, cond-true, cond-false, eqb-true, eq-eqb}
 use Rattle.std.proofs.lemmas.Bool.Decides.{nat_tests, eqb_tells}
 use Rattle.nd_addr.specs.declared.preference.Preference.{Preference}
-use Rattle.nd_lifetime.specs.declared.lasting.Lasting.{Lasting}
-use Rattle.nd_lifetime.specs.Listing.{announced, end_in, renewed, told, without}
-use Rattle.nd_lifetime.proofs.Behind.{open_all}
-use Rattle.nd_lifetime.proofs.Finding.{Has, Has-head, Has-tail, end_in-filter-none, one_longer}
+use Rattle.nd_table.specs.declared.lasting.Lasting.{Lasting}
+use Rattle.nd_table.specs.Listing.{announced, end_in, renewed, told, without}
+use Rattle.nd_table.proofs.Behind.{open_all}
+use Rattle.nd_table.proofs.Finding.{Has, Has-head, Has-tail, end_in-filter-none, one_longer}
 use Rattle.nd_table.specs.Ends.{end_time}
 use Rattle.nd_routers.specs.declared.preferred.Preferred.{Preferred}
 use Rattle.nd_routers.specs.History.{RouterRow, Heard, preference_of}

@@ -3,9 +3,9 @@ use Rattle.std.proofs.Common.{◌≡◌, ℕ, List, [], ◌∷◌, Option, Some,
 use Rattle.std.specs.Prelude.{◌&&◌}
 use Rattle.std.proofs.lemmas.Bool.Decides.{nat_tests, eqb_tells}
 use Rattle.std.proofs.lemmas.Bool.{and_parts, and_from}
-use Rattle.nd_lifetime.specs.declared.lasting.Lasting.{Lasting}
+use Rattle.nd_table.specs.declared.lasting.Lasting.{Lasting}
 use Rattle.nd_table.specs.Ends.{is_before}
-use Rattle.nd_lifetime.proofs.Steps.{AllOpen}
+use Rattle.nd_table.proofs.Steps.{AllOpen}
 use Rattle.nd_routers.specs.Routers.{same, IsSettled, next_end}
 use Rattle.nd_table.specs.Due.{lesser}
 

@@ -1,8 +1,8 @@
 -- What is shown of the routers, where their preferences are those of the history.
 use Rattle.std.proofs.Common.{◌≡◌, ℕ, Bool, true, false, cond, List, [], ◌∷◌, map, refl, sym, ap, ◌∙◌}
 use Rattle.nd_addr.specs.declared.preference.Preference.{Preference}
-use Rattle.nd_lifetime.specs.declared.lasting.Lasting.{Lasting}
-use Rattle.nd_lifetime.specs.Listing.{open_at}
+use Rattle.nd_table.specs.declared.lasting.Lasting.{Lasting}
+use Rattle.nd_table.specs.Listing.{open_at}
 use Rattle.nd_table.specs.Ends.{is_before}
 use Rattle.nd_routers.specs.Shown.{Seen, seen, seen_beside}
 

@@ -3,10 +3,10 @@ use Rattle.std.proofs.Common.{◌≡◌, ℕ, Bool, true, false, cond, eqb, List
 use Rattle.std.specs.Prelude.{is_some, not}
 use Rattle.std.proofs.lemmas.Bool.Decides.{nat_tests, eqb_tells}
 use Rattle.nd_addr.specs.declared.preference.Preference.{Preference}
-use Rattle.nd_lifetime.specs.declared.lasting.Lasting.{Lasting}
-use Rattle.nd_lifetime.specs.History.{Announced, end_of, is_open, stands}
-use Rattle.nd_lifetime.specs.Listing.{end_in, without, announced, open_at, StandsUntilTold}
-use Rattle.nd_lifetime.proofs.Steps.{gains, ends, open_in, AllOpen-announced, AllOpen-filter, lists_at}
+use Rattle.nd_table.specs.declared.lasting.Lasting.{Lasting}
+use Rattle.nd_table.specs.Announcements.{Announced, end_of, is_open, stands}
+use Rattle.nd_table.specs.Listing.{end_in, without, announced, open_at, StandsUntilTold}
+use Rattle.nd_table.proofs.Steps.{gains, ends, open_in, AllOpen-announced, AllOpen-filter, lists_at}
 use Rattle.nd_routers.specs.History.{RouterRow, Heard, LeftList, Failed, announcements, preference_of}
 use Rattle.nd_routers.specs.Preferences.{preferences_of, with_preference, without_preference}
 use Rattle.nd_routers.specs.declared.preferred.Preferred.{Preferred}

@@ -3,8 +3,8 @@ use Rattle.std.proofs.Common.{◌≡◌, ℕ, ◌<◌, true, false, eqb, List, [
 use Rattle.std.specs.Prelude.{◌||◌}
 use Rattle.std.proofs.lemmas.Bool.Decides.{nat_tests, eqb_tells}
 use Rattle.std.proofs.lemmas.Bool.{true≢false}
-use Rattle.nd_lifetime.proofs.Unique.{one_list}
-use Rattle.nd_lifetime.specs.declared.lasting.Lasting.{Lasting}
+use Rattle.nd_table.proofs.UniqueKeys.{one_list}
+use Rattle.nd_table.specs.declared.lasting.Lasting.{Lasting}
 use Rattle.nd_routers.specs.History.{RouterRow}
 use Rattle.nd_routers.specs.Preferences.{preferences_of}
 use Rattle.nd_routers.specs.DefaultRouterSelection.{has_failed, AllLater, InOrder, Failures}

@@ -1,7 +1,7 @@
 -- The routers that failed, in the order of their last failures.
 use Rattle.std.specs.Prelude.{◌≡◌, ℕ, ◌+◌, ◌<◌, Bool, false, ◌||◌, ◌&&◌, not, ◌==◌, if◌then◌else◌, List, [], ◌∷◌, filter, Option, Some, None, is_some}
 use Rattle.std.specs.Option.{option_map}
-use Rattle.nd_lifetime.specs.History.{end_of}
+use Rattle.nd_table.specs.Announcements.{end_of}
 use Rattle.nd_routers.specs.History.{RouterRow, announcements, failure_of}
 
 -- the key is among them

@@ -1,6 +1,6 @@
 -- What falls due of the routers, asked of what happened: a router leaves when its lifetime ends (RFC 4861, section 6.3.5).
 use Rattle.std.specs.Prelude.{◌≡◌, ℕ, ◌≤◌, List, Option, Some, None}
-use Rattle.nd_lifetime.specs.History.{end_of}
+use Rattle.nd_table.specs.Announcements.{end_of}
 use Rattle.nd_routers.specs.History.{RouterRow, announcements}
 use Rattle.nd_routers.specs.Routers.{same}
 

@@ -2,7 +2,7 @@
 use Rattle.std.specs.Prelude.{ℕ, ◌&&◌, not, ◌==◌, if◌then◌else◌, List, [], ◌∷◌, length, Option, Some, None}
 use Rattle.nd_addr.specs.declared.preference.Preference.{Preference}
 use Rattle.nd_addr.specs.declared.preference.Preference.TheVariants.{Medium}
-use Rattle.nd_lifetime.specs.History.{Row, Announced, Ended, stands}
+use Rattle.nd_table.specs.Announcements.{Row, Announced, Ended, stands}
 
 -- A router announces itself for a lifetime in seconds with a preference, or leaves the list, or can't be reached (RFC 4861, section 6.3.6).
 -- Routers are named by the numbers that their addresses are.

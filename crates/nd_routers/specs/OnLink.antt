@@ -4,7 +4,7 @@ use Rattle.std.specs.List.{list_any}
 use Rattle.nd_addr.specs.Kind.{link_local_subnet}
 use Rattle.nd_addr.specs.Number.{holds}
 use Rattle.nd_addr.specs.Prefix.{PrefixValue}
-use Rattle.nd_lifetime.specs.declared.lasting.Lasting.{Lasting}
+use Rattle.nd_table.specs.declared.lasting.Lasting.{Lasting}
 use Rattle.nd_table.specs.Due.{lesser}
 
 -- the earliest end

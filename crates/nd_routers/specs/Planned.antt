@@ -1,8 +1,8 @@
 -- The dates at which the routers' lifetimes end, kept in their order beside them.
 use Rattle.std.specs.Prelude.{ℕ, List, Option}
 use Rattle.nd_table.specs.Dates.{Planned, AreDates}
-use Rattle.nd_lifetime.specs.declared.lasting.Lasting.{Lasting}
-use Rattle.nd_lifetime.specs.Listing.{Distinct}
+use Rattle.nd_table.specs.declared.lasting.Lasting.{Lasting}
+use Rattle.nd_table.specs.Listing.{Distinct}
 use Rattle.nd_routers.specs.Routers.{same}
 
 abbrev pub key_of : Lasting ℕ → ℕ

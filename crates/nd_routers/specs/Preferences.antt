@@ -2,7 +2,7 @@
 use Rattle.std.specs.Prelude.{ℕ, Bool, not, ◌==◌, if◌then◌else◌, List, [], ◌∷◌, ◌++◌, map, filter}
 use Rattle.nd_addr.specs.declared.preference.Preference.{Preference}
 use Rattle.nd_addr.specs.declared.preference.Preference.TheVariants.{Medium}
-use Rattle.nd_lifetime.specs.declared.lasting.Lasting.{Lasting}
+use Rattle.nd_table.specs.declared.lasting.Lasting.{Lasting}
 use Rattle.nd_routers.specs.declared.preferred.Preferred.{Preferred}
 use Rattle.nd_routers.specs.History.{RouterRow, preference_of}
 

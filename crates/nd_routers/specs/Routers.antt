@@ -2,9 +2,9 @@
 use Rattle.std.specs.Prelude.{◌≡◌, ℕ, Bool, ◌==◌, if◌then◌else◌, IsTrue, List, [], ◌∷◌, Option, Some, None, map}
 use Rattle.nd_table.specs.History as growing
 use Rattle.nd_table.specs.Due.{is_at, least_date, NotBefore}
-use Rattle.nd_lifetime.specs.declared.lasting.Lasting.{Lasting}
+use Rattle.nd_table.specs.declared.lasting.Lasting.{Lasting}
 use Rattle.nd_table.specs.Ends.{is_before}
-use Rattle.nd_lifetime.specs.Listing.{StandsUntilTold}
+use Rattle.nd_table.specs.Listing.{StandsUntilTold}
 use Rattle.nd_routers.specs.declared.preferred.Preferred.{Preferred}
 use Rattle.nd_routers.specs.History.{RouterRow, LeftList, announcements}
 use Rattle.nd_routers.specs.Preferences.{preferences_of}

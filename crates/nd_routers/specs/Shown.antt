@@ -1,8 +1,8 @@
 -- What is shown of the default routers at a moment (RFC 4861, section 5.1; RFC 4191, section 2.2).
 use Rattle.std.specs.Prelude.{◌≡◌, ℕ, if◌then◌else◌, List, [], ◌∷◌, Option, map}
 use Rattle.nd_addr.specs.declared.preference.Preference.{Preference}
-use Rattle.nd_lifetime.specs.declared.lasting.Lasting.{Lasting}
-use Rattle.nd_lifetime.specs.Listing.{Lists}
+use Rattle.nd_table.specs.declared.lasting.Lasting.{Lasting}
+use Rattle.nd_table.specs.Listing.{Lists}
 use Rattle.nd_table.specs.Ends.{is_before, time_left}
 use Rattle.nd_routers.specs.declared.preferred.Preferred.{Preferred}
 use Rattle.nd_routers.specs.History.{RouterRow, announcements, preference_of}

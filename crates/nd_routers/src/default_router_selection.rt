@@ -3,14 +3,13 @@ ghost use Rattle.nd_addr.specs.Number.{number_of};
 ghost use Rattle.nd_routers.specs.DefaultRouterSelection.{others, place_among};
 ghost use Rattle.nd_routers.specs.Preferences.{preference_among};
 ghost use Rattle.std.specs.Option.{option_map};
-ghost use Rattle.nd_lifetime.specs.History.{stands};
+ghost use Rattle.nd_table.specs.Announcements.{stands};
 
 use crate::preferred::preference_among;
 use crate::router::Router;
 use crate::routers::Routers;
 use nd_addr::{Addr, Preference};
-use nd_lifetime::{has, stands};
-use nd_table::compare;
+use nd_table::{compare, has, stands};
 use std::alloc::Allocator;
 
 /// A router of the list.

@@ -3,16 +3,15 @@ ghost use Rattle.std.specs.Option.{option_map};
 ghost use Rattle.nd_addr.specs.Number.{number_of};
 ghost use Rattle.nd_table.specs.Dates.{date_at};
 ghost use Rattle.nd_routers.specs.Planned.{key_of, date_of};
-ghost use Rattle.nd_lifetime.specs.History.{end_of};
-ghost use Rattle.nd_lifetime.specs.Listing.{end_in};
+ghost use Rattle.nd_table.specs.Announcements.{end_of};
+ghost use Rattle.nd_table.specs.Listing.{end_in};
 
 use crate::default_router_selection::forget;
 use crate::preferred::forget_preference;
 use crate::router::Router;
 use crate::routers::Routers;
 use nd_addr::Addr;
-use nd_lifetime::{Lasting, has, remove, stands};
-use nd_table::compare;
+use nd_table::{Lasting, compare, has, remove, stands};
 use std::alloc::Allocator;
 
 impl<A: Allocator> Routers<A> {

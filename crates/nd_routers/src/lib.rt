@@ -16,8 +16,8 @@ mod shown;
 
 pub use default_router_selection::Listed;
 pub use nd_dns::{Dns, NewNames, SearchName};
-pub use nd_lifetime::{Limit, TableRefusal, WithLifetime, WithLifetimes};
 pub use nd_params::{Params, reachable_range};
+pub use nd_table::{Limit, TableRefusal, WithLifetime, WithLifetimes};
 pub use prefixes::Prefixes;
 pub use router::Router;
 pub use router_advertisement::Change;

@@ -1,18 +1,17 @@
 ghost use Rattle.std.specs.Prelude.{◌≡◌, ◌≤◌, ◌-◌, ◌/◌, ◌^◌, List, false, nat_eq};
 ghost use Rattle.std.specs.List.{list_any};
 ghost use Rattle.nd_addr.specs.Number.{holds, number_of};
-ghost use Rattle.nd_lifetime.specs.Listing.{open_at, Lists, Stands};
+ghost use Rattle.nd_table.specs.Listing.{open_at, Lists, Stands};
 ghost use Rattle.nd_addr.specs.Kind.{link_local_subnet};
 ghost use Rattle.nd_routers.specs.OnLink.{least_end};
 ghost use Rattle.nd_addr.specs.Prefix.{PrefixValue};
 ghost use Rattle.nd_addr.specs.Same.{same_prefix};
-ghost use Rattle.nd_lifetime.specs.declared.lasting.Lasting.{Lasting};
-ghost use Rattle.nd_lifetime.specs.History.{Row, last_moment};
+ghost use Rattle.nd_table.specs.declared.lasting.Lasting.{Lasting};
+ghost use Rattle.nd_table.specs.Announcements.{Row, last_moment};
 
 use crate::prefixes::Prefixes;
 use nd_addr::{Addr, Prefix};
-use nd_lifetime::{Lasting, Standing};
-use nd_table::lesser;
+use nd_table::{Lasting, Standing, lesser};
 use std::alloc::Allocator;
 
 impl<A: Allocator> Prefixes<A> {

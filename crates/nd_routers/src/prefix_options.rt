@@ -3,16 +3,16 @@ ghost use Rattle.nd_routers.specs.PrefixOptions.{is_on_link, max_prefixes};
 ghost use Rattle.nd_addr.specs.Prefix.{PrefixValue};
 ghost use Rattle.nd_addr.specs.Same.{same_prefix};
 ghost use Rattle.nd_decode.specs.Pieces.{options_left};
-ghost use Rattle.nd_lifetime.specs.History.{Row, last_moment};
-ghost use Rattle.nd_lifetime.specs.Listing.{fits, announced_all, then_announced, Lists, Stands};
-ghost use Rattle.nd_lifetime.specs.declared.lasting.Lasting.{Lasting as Entry};
+ghost use Rattle.nd_table.specs.Announcements.{Row, last_moment};
+ghost use Rattle.nd_table.specs.Listing.{fits, announced_all, then_announced, Lists, Stands};
+ghost use Rattle.nd_table.specs.declared.lasting.Lasting.{Lasting as Entry};
 ghost use Rattle.nd_routers.specs.PrefixOptions.{prefixes_left};
 ghost use Rattle.nd_routers.specs.Refreshing.{only_refreshes};
 
 use crate::prefixes::{MAX_PREFIXES, Prefixes};
 use nd_addr::Prefix;
 use nd_decode::{OPTION_PREFIX_INFORMATION, OptionRef, Options, PrefixInfo};
-use nd_lifetime::{Announces, Lasting, Limit, TableRefusal, announce_all, fits_all, stands};
+use nd_table::{Announces, Lasting, Limit, TableRefusal, announce_all, fits_all, stands};
 use std::alloc::Allocator;
 
 impl<A: Allocator> Prefixes<A> {

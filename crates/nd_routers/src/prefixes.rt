@@ -1,15 +1,15 @@
 ghost use Rattle.std.specs.Prelude.{◌≡◌, ◌≤◌, ◌∷◌, ℕ, List, [], length, map, IfOk};
 ghost use Rattle.nd_addr.specs.Prefix.{PrefixValue};
 ghost use Rattle.nd_addr.specs.Same.{same_prefix};
-ghost use Rattle.nd_lifetime.specs.declared.lasting.Lasting.{Lasting};
-ghost use Rattle.nd_lifetime.specs.History.{Row, Cleared, last_moment};
-ghost use Rattle.nd_lifetime.specs.Listing.{open_at, Stands};
-ghost use Rattle.nd_lifetime.specs.Left.{lifetimes_left};
-ghost use Rattle.nd_lifetime.specs.Shown.{seen, Shows};
+ghost use Rattle.nd_table.specs.declared.lasting.Lasting.{Lasting};
+ghost use Rattle.nd_table.specs.Announcements.{Row, Cleared, last_moment};
+ghost use Rattle.nd_table.specs.Listing.{open_at, Stands};
+ghost use Rattle.nd_table.specs.Left.{lifetimes_left};
+ghost use Rattle.nd_table.specs.Shown.{seen, Shows};
 ghost use Rattle.nd_routers.specs.PrefixOptions.{max_prefixes};
 
 use nd_addr::Prefix;
-use nd_lifetime::{Lasting, WithLifetimes};
+use nd_table::{Lasting, WithLifetimes};
 use std::alloc::{AllocError, Allocator};
 use std::marker::Model;
 
@@ -27,8 +27,8 @@ impl<A: Allocator> Model for Prefixes<A> {
     ghost use Rattle.std.specs.Vec.{vec_len, vec_capacity};
     ghost use Rattle.nd_addr.specs.Prefix.{PrefixValue};
     ghost use Rattle.nd_routers.specs.PrefixOptions.{max_prefixes};
-    ghost use Rattle.nd_lifetime.specs.declared.lasting.Lasting.{Lasting};
-    ghost use Rattle.nd_lifetime.specs.Listing.{Distinct};
+    ghost use Rattle.nd_table.specs.declared.lasting.Lasting.{Lasting};
+    ghost use Rattle.nd_table.specs.Listing.{Distinct};
     ghost use Rattle.nd_addr.specs.Same.{same_prefix};
 
     ghost Value = { List (Lasting PrefixValue) };

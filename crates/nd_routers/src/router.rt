@@ -2,8 +2,7 @@ ghost use Rattle.std.specs.Prelude.{◌≡◌};
 ghost use Rattle.nd_addr.specs.Number.{number_of};
 
 use nd_addr::Addr;
-use nd_lifetime::NamesKey;
-use nd_table::compare;
+use nd_table::{NamesKey, compare};
 use std::marker::Model;
 
 /// A default router, by its address.

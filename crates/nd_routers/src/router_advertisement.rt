@@ -1,9 +1,9 @@
 ghost use Rattle.std.specs.Prelude.{◌≡◌, ◌≤◌, ◌<◌, ◌^◌, ◌↔◌, ◌∷◌, ℕ, length, List, [], IfOk, IfErr, OnOk, OnErr, IsErr, Some, false, true, not, is_some, ◌==◌};
 ghost use Rattle.nd_routers.specs.RouterAdvertisement.{change_of};
 ghost use Rattle.nd_addr.specs.Number.{number_of};
-ghost use Rattle.nd_lifetime.specs.History.{stands};
-ghost use Rattle.nd_lifetime.specs.Listing.{announced, end_in, fits, Lists};
-ghost use Rattle.nd_lifetime.specs.declared.lasting.Lasting.{Lasting};
+ghost use Rattle.nd_table.specs.Announcements.{stands};
+ghost use Rattle.nd_table.specs.Listing.{announced, end_in, fits, Lists};
+ghost use Rattle.nd_table.specs.declared.lasting.Lasting.{Lasting};
 ghost use Rattle.nd_routers.specs.Preferences.{with_preference};
 ghost use Rattle.nd_routers.specs.Routers.{same};
 
@@ -13,7 +13,7 @@ use crate::preferred::{forget_preference, prefer};
 use crate::router::Router;
 use crate::routers::Routers;
 use nd_addr::{Addr, Preference};
-use nd_lifetime::{Lasting, Limit, TableRefusal, announce, count, has, stands};
+use nd_table::{Lasting, Limit, TableRefusal, announce, count, has, stands};
 use std::alloc::Allocator;
 
 /// What a Router Advertisement does to the list of default routers.

@@ -1,13 +1,12 @@
 ghost use Rattle.std.specs.Prelude.{◌≡◌, ◌≤◌, ℕ, List, [], IfOk, OnOk, OnErr, is_some, length, map};
 ghost use Rattle.nd_addr.specs.Number.{number_of};
-ghost use Rattle.nd_lifetime.specs.History.{stands};
-ghost use Rattle.nd_lifetime.specs.Listing.{end_in, open_at};
+ghost use Rattle.nd_table.specs.Announcements.{stands};
+ghost use Rattle.nd_table.specs.Listing.{end_in, open_at};
 
 use crate::preferred::Preferred;
 use crate::router::Router;
 use nd_addr::Addr;
-use nd_lifetime::{Lasting, stands};
-use nd_table::Schedule;
+use nd_table::{Lasting, Schedule, stands};
 use std::alloc::{AllocError, Allocator};
 use std::marker::Model;
 

@@ -7,8 +7,7 @@ use crate::preferred::Preferred;
 use crate::router::Router;
 use crate::routers::Routers;
 use nd_addr::{Addr, Preference};
-use nd_lifetime::Lasting;
-use nd_table::is_before;
+use nd_table::{Lasting, is_before};
 use std::alloc::Allocator;
 
 /// A default router as it is at a moment (RFC 4861, section 5.1).

@@ -11,3 +11,8 @@ pub mod Any
 pub mod Mapped
 pub mod Pasts
 pub mod Tests
+pub mod Finding
+pub mod Behind
+pub mod Order
+pub mod Steps
+pub mod UniqueKeys

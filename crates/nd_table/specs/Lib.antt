@@ -4,3 +4,7 @@ pub mod Due
 pub mod Ends
 pub mod Dates
 pub mod Blocks
+pub mod Announcements
+pub mod Listing
+pub mod Left
+pub mod Shown

@@ -6,3 +6,6 @@ pub mod Gaps
 pub mod GroupLists
 pub mod AddressTexts
 pub mod RoundTrip
+mod Lanes
+mod Spelled
+mod Passed

@@ -3,3 +3,4 @@ pub mod Text
 pub mod Spelling
 pub mod Parsing
 pub mod Flags
+pub mod HexDigits

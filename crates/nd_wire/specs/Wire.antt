@@ -1,6 +1,6 @@
 -- What carries frames between nodes.
 use Rattle.std.specs.Prelude.{◌≡◌, ◌-◌, ◌^◌, ℕ, suc, zero, min, List, Option, Some, None}
-use Rattle.nd_io.specs.Counts.{one_more}
+use Rattle.nd_lines.specs.Counts.{one_more}
 
 -- each frame arrives at a node as it was sent to it; `arrives` says which bytes may arrive: first the node, then the frame, then the bytes
 abbrev pub IsFaithfulTo : ℕ → (ℕ → List ℕ → List ℕ → Type 0) → Type 0

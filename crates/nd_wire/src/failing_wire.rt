@@ -1,7 +1,7 @@
 //! A wire for tests of what a fault leaves.
 
 ghost use Rattle.std.specs.Prelude.{◌≡◌, ◌≢◌, ◌≤◌, [], Some, length, OnOk, OnErr, IsErr, vec_capacity};
-ghost use Rattle.nd_io.specs.Counts.{one_more};
+ghost use Rattle.nd_lines.specs.Counts.{one_more};
 ghost use Rattle.nd_wire.specs.Wire.{after_call, all_faults};
 
 use crate::wire::{Wire, WireFault};

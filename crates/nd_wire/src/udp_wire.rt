@@ -1,7 +1,7 @@
 //! A wire over sockets of this machine.
 
 ghost use Rattle.std.specs.Prelude.{◌≡◌, ◌≤◌, [], length, OnOk, OnErr, IfOk, IsErr, vec_capacity};
-ghost use Rattle.nd_io.specs.Counts.{one_more};
+ghost use Rattle.nd_lines.specs.Counts.{one_more};
 
 use crate::wire::{Wire, WireFault};
 use std::alloc::Allocator;

@@ -1,7 +1,7 @@
 //! What every wire owes.
 
 ghost use Rattle.std.specs.Prelude.{◌≡◌, ◌≤◌, [], ℕ, List, length, OnOk, OnErr, vec_capacity};
-ghost use Rattle.nd_io.specs.Counts.{one_more};
+ghost use Rattle.nd_lines.specs.Counts.{one_more};
 
 use std::alloc::Allocator;
 

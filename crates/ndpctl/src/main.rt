@@ -1,8 +1,8 @@
 //! `ndpctl`: commands of IPv6 Neighbor Discovery on one link.
 #![tactic(auto)]
 
-use nd_io::input::Reading;
-use nd_tool::tool;
+use nd_lines::input::Reading;
+use ndpctl_tool::tool;
 use std::process::ExitCode;
 
 fn main(rt: HostRuntime) -> ExitCode {

@@ -1,5 +1,5 @@
 use Rattle.std.proofs.Common.{Some, None}
-use Rattle.nd_lifetime.specs.Left.{seen_in, lifetimes_left}
+use Rattle.nd_table.specs.Left.{seen_in, lifetimes_left}
 use Rattle.nd_c.proofs.Nth.{nth_is}
 use Rattle.nd_c.proofs.rows.prefix_at.Goals as goal
 

@@ -1,6 +1,6 @@
 use Rattle.std.proofs.Common.{◌∙◌, Some, None, sym, ap}
 use Rattle.std.specs.Prelude.{slice_get}
-use Rattle.nd_routes.specs.KeptRoutes.{entry_of, routes_left}
+use Rattle.nd_forwarding.specs.KeptRoutes.{entry_of, routes_left}
 use Rattle.nd_c.proofs.Nth.{nth_is}
 use Rattle.nd_c.proofs.rows.route_at.Goals as goal
 

@@ -1,6 +1,6 @@
 use Rattle.std.proofs.Common.{◌≡◌, ◌++◌}
 use Rattle.std.specs.Prelude.{map, string_bytes}
-use Rattle.nd_lifetime.specs.Left.{lifetimes_left}
+use Rattle.nd_table.specs.Left.{lifetimes_left}
 use Rattle.nd_out.specs.Row.{lasting_text}
 use Rattle.nd_out.proofs.row.add_with_lifetimes.Given as goal
 

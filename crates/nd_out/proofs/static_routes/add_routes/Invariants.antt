@@ -1,6 +1,6 @@
 use Rattle.std.proofs.Common.{◌≡◌, ◌++◌}
 use Rattle.std.specs.Prelude.{map, string_bytes}
-use Rattle.nd_routes.specs.KeptRoutes.{routes_left}
+use Rattle.nd_forwarding.specs.KeptRoutes.{routes_left}
 use Rattle.nd_chronicle.specs.Shown.{route_row}
 use Rattle.nd_out.proofs.static_routes.add_routes.Given as goal
 

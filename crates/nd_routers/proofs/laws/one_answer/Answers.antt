@@ -1,6 +1,6 @@
 use Rattle.std.proofs.lemmas.Bool.Decides.{eqb_tells}
 use Rattle.nd_addr.specs.Same.{same_prefix, prefixes_tell}
-use Rattle.nd_lifetime.proofs.Unique.{one_listing}
+use Rattle.nd_table.proofs.UniqueKeys.{one_listing}
 use Rattle.nd_routers.specs.Routers.{same}
 use Rattle.nd_routers.proofs.Unique.{one_failures, one_table}
 use Rattle.nd_routers.proofs.laws.one_answer.Goals as goal

@@ -2,7 +2,7 @@ use Rattle.std.proofs.Common.{◌≡◌, ◌-◌, ◌/◌, ◌^◌}
 use Rattle.std.specs.Prelude.{nat_eq}
 use Rattle.std.specs.List.{list_any}
 use Rattle.nd_addr.specs.Number.{number_of}
-use Rattle.nd_lifetime.specs.Left.{standing_left}
+use Rattle.nd_table.specs.Left.{standing_left}
 use Rattle.nd_routers.proofs.on_link.any_holds.Given as goal
 
 -- one of the rest holds it where one of all does

@@ -1,5 +1,5 @@
 use Rattle.std.proofs.Common.{◌≡◌}
-use Rattle.nd_lifetime.specs.Left.{standing_left}
+use Rattle.nd_table.specs.Left.{standing_left}
 use Rattle.nd_table.specs.Due.{lesser}
 use Rattle.nd_routers.specs.OnLink.{least_end}
 use Rattle.nd_routers.proofs.on_link.least_end.Given as goal

@@ -1,7 +1,7 @@
 use Rattle.std.proofs.Common.{arith}
 use Rattle.std.proofs.lemmas.Bool.Decides.{eqb_tells, nat_tests}
 use Rattle.nd_addr.specs.Number.{number_of}
-use Rattle.nd_lifetime.proofs.Steps.{announced_length}
+use Rattle.nd_table.proofs.Steps.{announced_length}
 use Rattle.nd_routers.specs.Routers.{same}
 use Rattle.nd_routers.proofs.router_advertisement.fits_one.Goals as goal
 

@@ -1,9 +1,9 @@
 use Rattle.std.proofs.Common.{◌≤◌, ◌∙◌, sym, ap, arith, length, List, ℕ}
 use Rattle.nd_addr.specs.Same.{bytes_tell}
 use Rattle.nd_decode.specs.Pieces.{options_left}
-use Rattle.nd_lifetime.specs.Listing.{fits}
-use Rattle.nd_lifetime.proofs.Behind.{fits_open}
-use Rattle.nd_lifetime.proofs.Unique.{one_listing}
+use Rattle.nd_table.specs.Listing.{fits}
+use Rattle.nd_table.proofs.Behind.{fits_open}
+use Rattle.nd_table.proofs.UniqueKeys.{one_listing}
 use Rattle.nd_dns.specs.Dns.{Table}
 use Rattle.nd_dns.specs.Names.{same_name, names_told}
 use Rattle.nd_dns.proofs.Adding.{fits_unentered}

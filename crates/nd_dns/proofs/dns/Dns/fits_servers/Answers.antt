@@ -2,9 +2,9 @@ use Rattle.std.proofs.Common.{◌∙◌, sym, ap, arith, length, List, ℕ}
 use Rattle.nd_addr.specs.declared.addr.Addr.{Addr}
 use Rattle.nd_addr.specs.Same.{same_addr, addrs_tell}
 use Rattle.nd_decode.specs.Pieces.{options_left}
-use Rattle.nd_lifetime.specs.Listing.{fits}
-use Rattle.nd_lifetime.proofs.Behind.{fits_open}
-use Rattle.nd_lifetime.proofs.Unique.{one_listing}
+use Rattle.nd_table.specs.Listing.{fits}
+use Rattle.nd_table.proofs.Behind.{fits_open}
+use Rattle.nd_table.proofs.UniqueKeys.{one_listing}
 use Rattle.nd_dns.specs.Dns.{Table}
 use Rattle.nd_dns.specs.Servers.{servers_told}
 use Rattle.nd_dns.proofs.Few.{few_servers}

@@ -1,6 +1,6 @@
 use Rattle.std.proofs.Common.{ap, ◌∙◌}
 use Rattle.std.proofs.lemmas.Result.{on_err_weaker, on_ok_weaker}
-use Rattle.nd_io.specs.Counts.{one_more}
+use Rattle.nd_lines.specs.Counts.{one_more}
 use Rattle.nd_node.proofs.Running.{on_err_any}
 use Rattle.nd_link.specs.Event.{link_event}
 use Rattle.nd_link.proofs.Answering.{follows_leads, late_leads, passed_so_far, told_nothing, told_so_far}

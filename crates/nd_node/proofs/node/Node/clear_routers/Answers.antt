@@ -1,5 +1,5 @@
 use Rattle.std.proofs.Common.{refl, ◌∙◌, ap}
-use Rattle.nd_effects.proofs.Telling.{numbers}
+use Rattle.nd_steps.proofs.Telling.{numbers}
 use Rattle.nd_node.proofs.ClearedTables.{clears_routers}
 use Rattle.nd_node.proofs.node.Node.clear_routers.Goals as goal
 

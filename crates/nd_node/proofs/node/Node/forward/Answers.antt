@@ -5,7 +5,7 @@ use Rattle.nd_addr.specs.Number.{number_of}
 use Rattle.nd_chronicle.specs.Event.{packet_bytes}
 use Rattle.nd_chronicle.specs.Histories.{address_history, route_history}
 use Rattle.nd_nexthop.specs.NextHop.{direct, via}
-use Rattle.nd_routes.specs.Forward.{lost_no_route, lost_hop_limit, sent}
+use Rattle.nd_forwarding.specs.Forward.{lost_no_route, lost_hop_limit, sent}
 use Rattle.nd_node.proofs.InTransit.{bytes_are, forwarded, goes_on_to, no_route, short_payload, spent}
 use Rattle.nd_chronicle.specs.Happening.{Passed}
 use Rattle.nd_chronicle.specs.OwnAddress.{is_own}

@@ -1,8 +1,8 @@
 use Rattle.std.proofs.Common.{refl}
 use Rattle.nd_addr.specs.Number.{number_of}
 use Rattle.nd_neighbour.specs.View.{sending_of}
-use Rattle.nd_effects.specs.Remembered.{MayRemember}
-use Rattle.nd_effects.proofs.Resolved.{packet_may_remember}
+use Rattle.nd_steps.specs.Remembered.{MayRemember}
+use Rattle.nd_steps.proofs.Resolved.{packet_may_remember}
 use Rattle.nd_node.proofs.Packets.{packet_leads}
 use Rattle.nd_node.proofs.Recalling.{may_redirects}
 use Rattle.nd_node.proofs.node.Node.go.Goals as goal

@@ -2,7 +2,7 @@ use Rattle.std.proofs.Common.{◌≡◌, ◌∙◌, refl, inl}
 use Rattle.nd_addr.specs.Kind.{all_nodes_address, all_routers_address}
 use Rattle.nd_addr.specs.declared.role.Role.TheVariants.{Router}
 use Rattle.nd_chronicle.specs.Histories.{address_history}
-use Rattle.nd_effects.proofs.Ours.{ours}
+use Rattle.nd_steps.proofs.Ours.{ours}
 use Rattle.nd_node.proofs.node.Node.is_ours.Goals as goal
 
 pub returns : goal.returns

@@ -1,13 +1,13 @@
 use Rattle.std.proofs.Common.{◌≡◌, ◌++◌, List, ℕ, map, refl, ap, ◌∙◌}
 use Rattle.nd_addr.specs.Prefix.{PrefixValue}
 use Rattle.nd_addr.specs.declared.role.Role.{Role}
-use Rattle.nd_lifetime.specs.Left.{lifetimes_left}
+use Rattle.nd_table.specs.Left.{lifetimes_left}
 use Rattle.nd_neighbour.specs.Left.{neighbours_left}
 use Rattle.nd_routers.specs.Left.{routers_left}
 use Rattle.nd_slaac.specs.Left.{addresses_left}
 use Rattle.nd_nexthop.specs.Left.{redirects_left}
-use Rattle.nd_routes.specs.KeptRoutes.{routes_left}
-use Rattle.nd_routes.specs.declared.route.Route.{Route}
+use Rattle.nd_forwarding.specs.KeptRoutes.{routes_left}
+use Rattle.nd_forwarding.specs.declared.route.Route.{Route}
 use Rattle.nd_params.specs.Params as parameters
 use Rattle.nd_chronicle.specs.Histories.{parameter_history, advertising_history}
 use Rattle.nd_chronicle.specs.Shown.{NeighbourTable, RouterTable, PrefixTable, AddressTable, DnsTable, RedirectTable, ParameterTable, AdvertiseTable, RouteTable, neighbour_row, router_row, prefix_row, address_row, server_row, search_row, redirect_row, advertise_rows, route_rows}

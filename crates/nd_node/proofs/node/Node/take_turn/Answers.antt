@@ -10,9 +10,9 @@ use Rattle.nd_params.specs.History.{Drew}
 use Rattle.nd_params.specs.Params as parameters
 use Rattle.nd_chronicle.specs.Generator.{reachable_drawn}
 use Rattle.nd_chronicle.specs.Histories.{router_history, address_history, neighbour_history}
-use Rattle.nd_effects.specs.Router.{NotesAddress}
-use Rattle.nd_effects.specs.RouterSolicitations.{after_address}
-use Rattle.nd_effects.proofs.RouterSide.{advertisement_date}
+use Rattle.nd_steps.specs.Router.{NotesAddress}
+use Rattle.nd_steps.specs.RouterSolicitations.{after_address}
+use Rattle.nd_steps.proofs.RouterSide.{advertisement_date}
 use Rattle.nd_node.proofs.Turns.{address_fell, neighbour_fell, redraw_is_due, redrawn, router_advertised, router_ended, routers_solicited, solicitation_date}
 use Rattle.nd_node.proofs.node.Node.take_turn.Goals as goal
 

@@ -1,9 +1,9 @@
 use Rattle.std.proofs.Common.{◌∙◌, sym, ap, arith}
 use Rattle.nd_addr.specs.Same.{same_prefix, prefixes_tell}
 use Rattle.nd_decode.specs.Pieces.{options_left}
-use Rattle.nd_lifetime.specs.Listing.{fits}
-use Rattle.nd_lifetime.proofs.Behind.{fits_open}
-use Rattle.nd_lifetime.proofs.Unique.{one_listing}
+use Rattle.nd_table.specs.Listing.{fits}
+use Rattle.nd_table.proofs.Behind.{fits_open}
+use Rattle.nd_table.proofs.UniqueKeys.{one_listing}
 use Rattle.nd_routers.specs.PrefixOptions.{max_prefixes, prefixes_in}
 use Rattle.nd_routers.proofs.Told.{told_few}
 use Rattle.nd_routers.proofs.prefixes.Prefixes.fits.Goals as goal

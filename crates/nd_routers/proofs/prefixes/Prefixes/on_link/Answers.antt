@@ -4,9 +4,9 @@ use Rattle.std.specs.List.{list_any}
 use Rattle.nd_addr.specs.Number.{holds}
 use Rattle.nd_addr.specs.Prefix.{PrefixValue}
 use Rattle.nd_addr.specs.Same.{same_prefix, prefixes_tell}
-use Rattle.nd_lifetime.specs.declared.lasting.Lasting.{Lasting}
-use Rattle.nd_lifetime.specs.Listing.{open_at}
-use Rattle.nd_lifetime.proofs.Unique.{one_listing}
+use Rattle.nd_table.specs.declared.lasting.Lasting.{Lasting}
+use Rattle.nd_table.specs.Listing.{open_at}
+use Rattle.nd_table.proofs.UniqueKeys.{one_listing}
 use Rattle.nd_routers.proofs.prefixes.Prefixes.on_link.Goals as goal
 
 pub returns-else-is_link_local-clause-by_history : goal.returns-else-is_link_local-clause-by_history

@@ -2,10 +2,10 @@ use Rattle.std.proofs.Common.{◌∙◌, sym, ap, subst, arith, List}
 use Rattle.nd_addr.specs.Prefix.{PrefixValue}
 use Rattle.nd_addr.specs.Same.{same_prefix, prefixes_tell}
 use Rattle.nd_decode.specs.Pieces.{options_left}
-use Rattle.nd_lifetime.specs.declared.lasting.Lasting.{Lasting}
-use Rattle.nd_lifetime.specs.Listing.{Distinct, Stands, announced_all, then_announced}
-use Rattle.nd_lifetime.proofs.Behind.{Distinct-all}
-use Rattle.nd_lifetime.proofs.Steps.{gains_all}
+use Rattle.nd_table.specs.declared.lasting.Lasting.{Lasting}
+use Rattle.nd_table.specs.Listing.{Distinct, Stands, announced_all, then_announced}
+use Rattle.nd_table.proofs.Behind.{Distinct-all}
+use Rattle.nd_table.proofs.Steps.{gains_all}
 use Rattle.nd_routers.specs.PrefixOptions.{prefixes_in}
 use Rattle.nd_routers.proofs.prefixes.Prefixes.take_ra.Goals as goal
 

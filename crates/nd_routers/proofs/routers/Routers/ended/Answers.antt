@@ -3,7 +3,7 @@ use Rattle.std.specs.Prelude.{is_some}
 use Rattle.nd_addr.specs.Number.{number_of}
 use Rattle.nd_table.specs.Dates.{date_at}
 use Rattle.nd_routers.specs.Planned.{key_of, date_of}
-use Rattle.nd_lifetime.specs.Listing.{end_in, without}
+use Rattle.nd_table.specs.Listing.{end_in, without}
 use Rattle.nd_routers.specs.Preferences.{without_preference}
 use Rattle.nd_routers.specs.DefaultRouterSelection.{others}
 use Rattle.nd_routers.specs.Routers.{keys, same}

@@ -1,7 +1,7 @@
 use Rattle.std.proofs.Common.{◌≡◌, ◌∙◌, ◌++◌, ◌∷◌, [], sym, ap, refl, arith}
 use Rattle.std.specs.Prelude.{is_some, length}
 use Rattle.nd_addr.specs.Number.{number_of}
-use Rattle.nd_lifetime.specs.Listing.{end_in}
+use Rattle.nd_table.specs.Listing.{end_in}
 use Rattle.nd_routers.specs.DefaultRouterSelection.{others}
 use Rattle.nd_routers.specs.Routers.{same}
 use Rattle.nd_routers.proofs.Failing.{has_room}

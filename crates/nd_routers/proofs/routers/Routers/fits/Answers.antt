@@ -1,10 +1,10 @@
 use Rattle.std.proofs.Common.{◌∙◌, sym, ap, [], ◌∷◌}
 use Rattle.std.proofs.lemmas.Bool.Decides.{eqb_tells}
 use Rattle.nd_addr.specs.Number.{number_of}
-use Rattle.nd_lifetime.specs.Listing.{fits}
-use Rattle.nd_lifetime.proofs.Behind.{fits_open}
-use Rattle.nd_lifetime.proofs.Steps.{lists_at}
-use Rattle.nd_lifetime.proofs.Unique.{one_listing}
+use Rattle.nd_table.specs.Listing.{fits}
+use Rattle.nd_table.proofs.Behind.{fits_open}
+use Rattle.nd_table.proofs.Steps.{lists_at}
+use Rattle.nd_table.proofs.UniqueKeys.{one_listing}
 use Rattle.nd_routers.specs.History.{announcements}
 use Rattle.nd_routers.specs.Routers.{Table, same}
 use Rattle.nd_routers.proofs.routers.Routers.fits.Goals as goal

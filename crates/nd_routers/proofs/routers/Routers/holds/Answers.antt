@@ -1,7 +1,7 @@
 use Rattle.std.proofs.Common.{◌∙◌, ap}
 use Rattle.std.specs.Prelude.{is_some}
 use Rattle.nd_addr.specs.Number.{number_of}
-use Rattle.nd_lifetime.specs.Listing.{end_in, open_at}
+use Rattle.nd_table.specs.Listing.{end_in, open_at}
 use Rattle.nd_routers.specs.Routers.{same}
 use Rattle.nd_routers.proofs.Steps.{holds_at}
 use Rattle.nd_routers.proofs.routers.Routers.holds.Goals as goal

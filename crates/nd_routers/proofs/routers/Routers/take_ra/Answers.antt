@@ -6,8 +6,8 @@ use Rattle.nd_addr.specs.Number.{number_of}
 use Rattle.nd_table.specs.Dates.{date_at}
 use Rattle.nd_routers.specs.Planned.{key_of, date_of}
 use Rattle.nd_routers.proofs.Planning.{had_date, announced_room, announced_planned, fits_length}
-use Rattle.nd_lifetime.specs.declared.lasting.Lasting.{Lasting}
-use Rattle.nd_lifetime.specs.Listing.{end_in, announced, fits}
+use Rattle.nd_table.specs.declared.lasting.Lasting.{Lasting}
+use Rattle.nd_table.specs.Listing.{end_in, announced, fits}
 use Rattle.nd_routers.specs.History.{Heard}
 use Rattle.nd_routers.specs.Preferences.{with_preference, without_preference}
 use Rattle.nd_routers.specs.DefaultRouterSelection.{others}

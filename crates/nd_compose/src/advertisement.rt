@@ -1,0 +1,59 @@
+ghost use Rattle.std.specs.Prelude.{◌≡◌};
+ghost use Rattle.nd_message.specs.Frame.{message_frame};
+ghost use Rattle.nd_compose.specs.Frames.{advertisement, defence_frame, answer_frame};
+
+use crate::frame_room::{FrameRoom, are_bytes};
+use crate::open_mac::OPEN_MAC;
+use nd_addr::{Addr, Mac};
+use nd_message::{Body, NeighborAdvertisement, Opt};
+use nd_packet::Packet;
+use std::alloc::{Allocator, Global};
+
+impl<A: Allocator> FrameRoom<A> {
+    /// The answer to a solicitation from `::` for an own address: it tells all nodes that the address is held (RFC 4861, section 7.2.4).
+    pub fn defence(self, router: bool, mac: Mac, target: Addr) -> Packet<A>
+        ensures { result ≡ defence_frame router mac target }
+    {
+        self.advertise(
+            Mac::multicast(Addr::ALL_NODES),
+            mac,
+            Addr::ALL_NODES,
+            router,
+            false,
+            target,
+        )
+    }
+
+    /// The answer to a solicitation from an address for an own one (RFC 4861, section 7.2.4). Its Ethernet destination is still open: the
+    /// packet is addressed when it is sent.
+    pub fn answer(self, router: bool, mac: Mac, target: Addr, asker: Addr) -> Packet<A>
+        ensures { result ≡ answer_frame router mac target asker }
+    {
+        self.advertise(OPEN_MAC, mac, asker, router, true, target)
+    }
+
+    /// A Neighbor Advertisement from its target, with the link-layer address of that, which is to override one that is known (RFC 4861,
+    /// section 4.4).
+    #[tactic(auto, using(crate::proofs::Formed::advertisement_formed, crate::proofs::Formed::advertisement_short))]
+    fn advertise(
+        self,
+        to: Mac,
+        mac: Mac,
+        destination: Addr,
+        router: bool,
+        solicited: bool,
+        target: Addr,
+    ) -> Packet<A>
+        ensures { result ≡ message_frame to mac target destination (advertisement router solicited mac target) }
+    {
+        are_bytes(&mac, &target);
+        let body = Body::Na(NeighborAdvertisement {
+            router,
+            solicited,
+            override_flag: true,
+            target,
+        });
+        let options: [Opt<Global>; 1] = [Opt::Tlla(mac)];
+        self.write(to, mac, target, destination, &body, &options)
+    }
+}

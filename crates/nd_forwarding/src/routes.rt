@@ -1,0 +1,147 @@
+ghost use Rattle.std.specs.Prelude.{◌≡◌, ◌≤◌, ◌&&◌, length, true, false, List, [], None, IfOk, OnOk, OnErr, is_ok};
+ghost use Rattle.nd_forwarding.specs.History.{Row, RoutePut};
+ghost use Rattle.nd_forwarding.specs.KeptRoutes.{routes_left};
+ghost use Rattle.indexmap.specs.IndexMap.{insert_entry, spare};
+ghost use Rattle.nd_addr.specs.Number.{holds};
+ghost use Rattle.nd_addr.specs.Same.{same_prefix};
+ghost use Rattle.nd_forwarding.specs.Routes.{exceeds, fits, has_route, max_routes, route_to, routes};
+ghost use Rattle.nd_forwarding.specs.Table.{GainsRow, Stands};
+
+use crate::kept_routes::KeptRoutes;
+use crate::route::Route;
+use indexmap::IndexMap;
+use nd_addr::{Addr, Prefix};
+use std::alloc::{AllocError, Allocator};
+use std::hash::{BuildHasherDefault, FoldHasher};
+use std::marker::Model;
+
+/// How many static routes there may be (our choice).
+const MAX_ROUTES: usize = 64;
+
+/// There are as many static routes as there may be.
+#[derive(Clone, Copy, Debug, PartialEq, Eq)]
+pub struct Full;
+
+/// Routes by their prefixes, in the order in which these came.
+type Entries<A> = IndexMap<Prefix, Route, BuildHasherDefault<FoldHasher>, A>;
+
+/// The static routes of a router, and when it last made a Redirect. Moments are in milliseconds.
+#[derive(Drop)]
+pub struct Routes<A: Allocator> {
+    routes: Entries<A>,
+    pub(crate) redirected: Option<u64>,
+}
+
+impl<A: Allocator> Model for Routes<A> {
+    ghost use Rattle.std.specs.Prelude.{◌≤◌, ◌+◌, length};
+    ghost use Rattle.indexmap.specs.IndexMap.{spare};
+    ghost use Rattle.nd_addr.specs.Number.{holds};
+    ghost use Rattle.nd_forwarding.specs.Routes.{exceeds, max_routes};
+    ghost use Rattle.nd_forwarding.specs.Table.{Table};
+
+    ghost Value = { Table };
+
+    ghost view = { λ r. record { entries = r.routes.entries; redirected = r.redirected } };
+
+    ghost invariant = { λ r. (length r.routes.entries ≤ max_routes) × (max_routes ≤ length r.routes.entries + spare r.routes) };
+}
+
+impl<A: Allocator + Copy> Routes<A> {
+    /// No routes, with room for 64. The error is out of memory.
+    pub fn new(alloc: A) -> Result<Self, AllocError>
+        ensures empty { IfOk result (λ r. r ≡ record { entries = []; redirected = None }) }
+        ensures stands { IfOk result (λ r. Stands r []) }
+    {
+        Ok(Routes {
+            routes: IndexMap::with_capacity(alloc, MAX_ROUTES)?,
+            redirected: None,
+        })
+    }
+}
+
+impl<A: Allocator> Routes<A> {
+    /// Returns how many routes there are, at most 64.
+    pub fn len(&self) -> usize
+        ensures value { result ≡ length self.now.entries }
+        ensures few { result ≤ max_routes }
+    {
+        self.routes.len()
+    }
+
+    /// A route is put: behind the others where its prefix has none, else in the place of the one that it has. Where a new prefix would be the
+    /// 65th, it is `Full`, and nothing has changed. It takes no memory.
+    pub fn put(&mut self, prefix: Prefix, route: Route) -> Result<(), Full>
+        ensures full { is_ok result ≡ fits prefix self.old.entries }
+        ensures by_history { (history : List Row) → Stands self.old history → is_ok result ≡ fits prefix (routes history) }
+        ensures stands { OnOk result (GainsRow self.old self.new (RoutePut prefix route)) }
+        ensures same { OnErr result (self.new ≡ self.old) }
+    {
+        if replace(&mut self.routes, prefix, route) {
+            return Ok(());
+        }
+        if self.routes.len() >= MAX_ROUTES {
+            return Err(Full);
+        }
+        match self.routes.insert(prefix, route) {
+            Ok(_) => Ok(()),
+            Err(_) => unreachable!(),
+        }
+    }
+
+    /// The routes, in the order in which their prefixes came.
+    pub fn rows(&self) -> KeptRoutes<'_>
+        ensures value { routes_left result ≡ self.now.entries }
+        ensures few { length (routes_left result) ≤ max_routes }
+        ensures by_history { (history : List Row) → Stands self.now history → routes_left result ≡ routes history }
+    {
+        KeptRoutes::new(self.routes.iter())
+    }
+
+    /// The route to an address: of those whose prefixes hold it that with the longest prefix.
+    #[tactic(auto, using(crate::proofs::Longest::found_all))]
+    pub fn look(&self, destination: Addr) -> Option<Route>
+        ensures value { result ≡ route_to destination.0 self.now.entries }
+        ensures by_history { (history : List Row) → Stands self.now history → result ≡ route_to destination.0 (routes history) }
+    {
+        let mut longest: Option<(u8, Route)> = None;
+        for (prefix, route) in self.routes.iter() {
+            if is_longer(prefix, destination, longest) {
+                longest = Some((prefix.length(), *route));
+            }
+        }
+        match longest {
+            Some((_, route)) => Some(route),
+            None => None,
+        }
+    }
+}
+
+/// A route takes the place of the one that its prefix has, where it has one.
+fn replace<A: Allocator>(entries: &mut Entries<A>, prefix: Prefix, route: Route) -> bool
+    ensures found { result ≡ has_route prefix entries.old.entries }
+    ensures entries { result ≡ true → entries.new.entries ≡ insert_entry same_prefix entries.old.entries prefix route }
+    ensures len { result ≡ true → length entries.new.entries ≡ length entries.old.entries }
+    ensures room { result ≡ true → spare entries.new ≡ spare entries.old }
+    ensures same { result ≡ false → entries.new ≡ entries.old }
+{
+    match entries.get_index_of(&prefix) {
+        Some(i) => {
+            if let Some(there) = entries.get_index_mut(i) {
+                *there = route;
+            }
+            true
+        }
+        None => false,
+    }
+}
+
+/// Whether a prefix holds an address, and is longer than the one that was found so far, if there is one.
+fn is_longer(prefix: &Prefix, destination: Addr, found: Option<(u8, Route)>) -> bool
+    ensures { result ≡ (holds prefix.now destination.0 && exceeds prefix.now.length found) }
+{
+    prefix.holds(destination)
+        && match found {
+            Some((length, _)) => length < prefix.length(),
+            None => true,
+        }
+}

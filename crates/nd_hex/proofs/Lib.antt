@@ -1,3 +1,0 @@
-mod Lanes
-mod Spelled
-mod Passed

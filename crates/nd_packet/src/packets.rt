@@ -1,0 +1,68 @@
+ghost use Rattle.std.specs.Prelude.{◌≡◌, ◌==◌, ◌≤◌, [], length, drop, slice_get};
+ghost use Rattle.nd_packet.specs.Waiting.{max_waiting};
+
+use crate::packet::Packet;
+use crate::waiting::Waiting;
+use std::alloc::Allocator;
+use std::marker::Model;
+
+/// Packets that waited for an address and are handed out, the oldest first.
+#[derive(Drop)]
+pub struct Packets<A: Allocator> {
+    waiting: Option<Waiting<A>>,
+}
+
+impl<A: Allocator> Model for Packets<A> {
+    ghost use Rattle.std.specs.Prelude.{List, ℕ, [], unwrap_or};
+
+    ghost Value = { List (List ℕ) };
+
+    ghost view = { λ p. unwrap_or p.waiting [] };
+}
+
+impl<A: Allocator> Packets<A> {
+    /// No packets.
+    pub fn none() -> Self
+        ensures { result ≡ [] }
+    {
+        Packets { waiting: None }
+    }
+
+    /// All that waited for one address.
+    pub fn of(waiting: Waiting<A>) -> Self
+        ensures { result ≡ waiting }
+    {
+        Packets {
+            waiting: Some(waiting),
+        }
+    }
+
+    /// Takes the oldest packet out.
+    pub fn take(&mut self) -> Option<Packet<A>>
+        ensures rest { self.new ≡ drop 1 self.old }
+        ensures oldest { result ≡ slice_get self.old 0 }
+    {
+        match &mut self.waiting {
+            Some(waiting) => waiting.take(),
+            None => None,
+        }
+    }
+
+    /// How many there are, at most three.
+    pub fn len(&self) -> usize
+        ensures value { result ≡ length self.now }
+        ensures few { length self.now ≤ max_waiting }
+    {
+        match &self.waiting {
+            Some(waiting) => waiting.len(),
+            None => 0,
+        }
+    }
+
+    /// Whether there is none.
+    pub fn is_empty(&self) -> bool
+        ensures { result ≡ (length self.now == 0) }
+    {
+        self.len() == 0
+    }
+}

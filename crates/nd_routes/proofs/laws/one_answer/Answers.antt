@@ -1,5 +1,0 @@
-use Rattle.nd_routes.proofs.Looks.{look_routes}
-use Rattle.nd_routes.proofs.laws.one_answer.Goals as goal
-
-pub returns-clause-found : goal.returns-clause-found
-returns-clause-found c = look_routes

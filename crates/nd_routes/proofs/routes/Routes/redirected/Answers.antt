@@ -1,6 +1,0 @@
-use Rattle.std.proofs.Common.{refl, ap}
-use Rattle.nd_routes.proofs.Steps.{gains_made}
-use Rattle.nd_routes.proofs.routes.Routes.redirected.Goals as goal
-
-pub returns : goal.returns
-returns g c = record { stands = gains_made c.args.self.now _ c.args.now (ap (λ t. t.entries) c.self.view_is) refl }

@@ -1,9 +1,0 @@
-use Rattle.std.proofs.Common.{rules, ◌≡◌, ◌^◌, Some, sym, ap, arith}
-use Rattle.std.specs.Prelude.{codes}
-use Rattle.nd_script.proofs.NumberWords.{number_by_default}
-use Rattle.nd_script.proofs.number.read_u32_or.Goals as goal
-
-pub returns-then-eq-clause-only : goal.returns-then-eq-clause-only
-returns-then-eq-clause-only c = λ n spelled.
-    let dash : c.args.word.now ≡ codes "-" = search rules in
-    ap (λ m. Some m) (sym (number_by_default c.args.default (2 ^ 32) (omega arith) c.args.word.now n dash spelled))

@@ -1,0 +1,49 @@
+-- Whether there is a place for a neighbour, by what is kept and by what happened.
+use Rattle.std.proofs.Common.{◌≡◌, ℕ, Bool, true, false, List, Option, Some, None, refl, sym, subst}
+use Rattle.std.specs.Prelude.{◌||◌, ◌↔◌, is_some, MatchBool}
+use Rattle.nd_neighbour.specs.declared.news.News.{News}
+use Rattle.nd_neighbour.specs.declared.news.News.TheVariants as news
+use Rattle.nd_neighbour.specs.declared.news.Times.{Times}
+use Rattle.nd_neighbour.specs.Entry.{Node}
+use Rattle.nd_neighbour.specs.History.{Row}
+use Rattle.nd_neighbour.specs.News.{news_row, lets_enter}
+use Rattle.nd_neighbour.specs.Place.{WouldBeFull, NoPlace, has_place}
+use Rattle.nd_neighbour.specs.Room.{has_room}
+use Rattle.nd_neighbour.specs.Table.{Stands, node_in}
+use Rattle.nd_chronicle.specs.Start.{Start}
+use Rattle.nd_chronicle.specs.Happening.{Chronicle}
+use Rattle.nd_chronicle.specs.Histories.{neighbour_history}
+use Rattle.nd_chronicle.specs.Full.{entering, Placed}
+use Rattle.nd_chronicle.specs.Message as message
+use Rattle.nd_steps.specs.LinkLayerAddress.{said_by}
+use Rattle.nd_steps.specs.Place.{PlacedBy}
+
+-- laws of the neighbours
+abbrev pub FullByHistory : Type 0
+FullByHistory = (limit now key : ℕ) (nodes : List Node) (history : List Row) → Stands nodes history → NoPlace limit now key nodes ↔ WouldBeFull limit now key history
+
+abbrev pub RoomIsPlace : Type 0
+RoomIsPlace = (limit now key : ℕ) (second : Option ℕ) (nodes : List Node) → has_room limit now key second nodes ≡ true → NoPlace limit now key nodes → ⊥
+
+-- without room there is no place
+no_place : (limit now key : ℕ) (nodes : List Node) (known : Option Node) (place : Bool) → (is_some known || place) ≡ false → (known ≡ None) × (place ≡ false)
+no_place limit now key nodes None place e = (refl, e)
+no_place limit now key nodes (Some n) place e = let no : ⊥ = cc in absurd no
+
+-- a neighbour that enters has place where it has room
+pub given_placed : FullByHistory → RoomIsPlace → (limit now key : ℕ) (nodes : List Node) (history : List Row) (place : Bool) → Stands nodes history → place ≡ has_room limit now key None nodes
+    → MatchBool place (true ≡ true → WouldBeFull limit now key history → ⊥) ((true ≡ true) × WouldBeFull limit now key history)
+given_placed full room limit now key nodes history true s is = λ e would. room limit now key None nodes (sym is) ((full limit now key nodes history s).1 would)
+given_placed full room limit now key nodes history false s is =
+    (refl, (full limit now key nodes history s).0 (no_place limit now key nodes (node_in key nodes) (has_place limit now nodes) (sym is)))
+
+-- news let a neighbour enter where what they say does
+pub enters : (n : News) (times : Times) → message.lets_enter (news_row n times) ≡ lets_enter n
+enters (news.Given addr mac mark) times = refl
+enters (news.Advert addr flags mac) times = refl
+enters (news.Marked addr router) times = refl
+
+pub placed_with : (start : Start) (c : Chronicle) (now limit : ℕ) (n : News) (times : Times) (place : Bool) → limit ≡ start.limits.neighbours → PlacedBy limit now n (neighbour_history c) place
+    → Placed start c now (entering (Some (said_by times n))) place
+placed_with start c now limit n times place limit_is h =
+    rw (enters n times) (subst (λ (l : ℕ). PlacedBy l now n (neighbour_history c) place) limit_is h)

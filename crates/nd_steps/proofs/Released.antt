@@ -1,0 +1,91 @@
+-- What a message says of a neighbour is taken, and the packets that waited for its link-layer address are sent.
+use Rattle.std.proofs.Common.{◌≡◌, ℕ, Bool, false, List, [], ◌∷◌, ◌++◌, map, Option, Some, None, append-nil, inl, inr, refl, sym, ◌∙◌, ap, subst}
+use Rattle.std.specs.Prelude.{◌⊎◌}
+use Rattle.std.specs.Option.{option_map}
+use Rattle.nd_addr.specs.Frame.{addressed}
+use Rattle.nd_addr.specs.Number.{number_of, mac_at}
+use Rattle.nd_addr.specs.declared.mac.Mac.{Mac}
+use Rattle.nd_neighbour.specs.declared.news.News.{News}
+use Rattle.nd_neighbour.specs.declared.news.Times.{Times}
+use Rattle.nd_neighbour.specs.Entry.{Node}
+use Rattle.nd_neighbour.specs.History.{Row, Story, story}
+use Rattle.nd_neighbour.specs.News.{GainsNews, Tells, news_key, news_row, mac_given, released_by}
+use Rattle.nd_neighbour.specs.Place.{Prepares}
+use Rattle.nd_neighbour.specs.Story.{mac_of}
+use Rattle.nd_neighbour.specs.Table.{Stands}
+use Rattle.nd_chronicle.specs.Happening.{Happening, Sent}
+use Rattle.nd_out.specs.declared.out.Out.{Out}
+use Rattle.nd_steps.specs.LinkLayerAddress.{said_by, sent_if_known, released_frames, HearsOf}
+use Rattle.nd_steps.specs.Told.{at_moment, happenings}
+use Rattle.nd_steps.proofs.Placing.{enters}
+
+-- packets that are sent to an Ethernet address at the moment
+abbrev pub sent_at : ℕ → Mac → List (List ℕ) → List (ℕ × Happening)
+sent_at at mac packets = at_moment at (map (λ packet. Sent (addressed mac packet)) packets)
+
+-- to the address that is known nothing is sent where nothing is released
+none_sent : (known : Option ℕ) → sent_if_known known [] ≡ []
+none_sent None = refl
+none_sent (Some mac) = refl
+
+-- no address is given
+sent_to_none : (known : Option ℕ) (packets : List (List ℕ)) → (packets ≡ []) ⊎ (known ≡ None) → sent_if_known known packets ≡ []
+sent_to_none known packets (inl e) = ap (λ (p : List (List ℕ)). sent_if_known known p) e ∙ none_sent known
+sent_to_none known packets (inr e) = ap (λ (k : Option ℕ). sent_if_known k packets) e
+
+-- this one is given
+sent_to_given : (known : Option ℕ) (packets : List (List ℕ)) (mac : Mac) → mac_at (number_of mac.0) ≡ mac → (packets ≡ []) ⊎ (known ≡ Some (number_of mac.0))
+    → map (λ packet. Sent (addressed mac packet)) packets ≡ sent_if_known known packets
+sent_to_given known packets mac is (inl e) =
+    ap (λ (p : List (List ℕ)). map (λ packet. Sent (addressed mac packet)) p) e ∙ (sym (none_sent known) ∙ ap (λ (p : List (List ℕ)). sent_if_known known p) (sym e))
+sent_to_given known packets mac is (inr e) =
+    ap (λ (m : Mac). map (λ packet. Sent (addressed m packet)) packets) (sym is) ∙ ap (λ (k : Option ℕ). sent_if_known k packets) (sym e)
+
+abbrev known_after : ℕ → News → Times → List Row → Option ℕ
+known_after now n times history = mac_of ((now, news_row n times) ∷ story (news_key n) history)
+
+abbrev number : Mac → ℕ
+number mac = number_of mac.0
+
+by_given : (n : News) (given : Option Mac) (P : Type 0) (known : Option ℕ) → mac_given n ≡ given → P ⊎ (known ≡ option_map number (mac_given n)) → P ⊎ (known ≡ option_map number given)
+by_given n given P known is (inl p) = inl p
+by_given n given P known is (inr e) = inr (e ∙ ap (λ (g : Option Mac). option_map number g) is)
+
+module _ {A : Type 0} (limit now : ℕ) (n : News) (times : Times) (old new : List Node) (x y : List (ℕ × Out A)) (packets : List (List ℕ)) (ends : Bool)
+    (gains : GainsNews limit now n times old new) (tells : Tells now (news_key n) (news_row n times) old packets ends)
+    (law : (s : Story) → (released_by now (news_row n times) s ≡ []) ⊎ (mac_of ((now, news_row n times) ∷ s) ≡ option_map number (mac_given n))) where
+  -- whatever the frames are that are told
+  hears : ((history : List Row) → Stands old history → happenings y ≡ happenings x ++ at_moment now (released_frames now (Some (said_by times n)) history))
+      → HearsOf limit now (Some (said_by times n)) old new x y ends
+  hears told = record {
+    each = λ history h.
+        let g = gains.stands history h in (
+          g.0,
+          subst (λ (b : Bool). Prepares limit now b (news_key n) history g.0) (sym (enters n times)) g.1,
+          g.2,
+          told history h,
+          tells.turned_is history h,
+        );
+  }
+
+  pub hears_given : (mac : Mac) → mac_at (number_of mac.0) ≡ mac → mac_given n ≡ Some mac → happenings y ≡ happenings x ++ sent_at now mac packets
+      → HearsOf limit now (Some (said_by times n)) old new x y ends
+  hears_given mac is given told = hears (λ history h.
+      let released = tells.released history h in
+      let s = story (news_key n) history in
+      told ∙ ap (λ l. happenings x ++ at_moment now l) (ap (λ (p : List (List ℕ)). map (λ packet. Sent (addressed mac packet)) p) released
+      ∙ sent_to_given (known_after now n times history) (released_by now (news_row n times) s) mac is
+      (by_given n (Some mac) _ _ given (law s))))
+
+  pub hears_none : mac_given n ≡ None → y ≡ x → HearsOf limit now (Some (said_by times n)) old new x y ends
+  hears_none given same = hears (λ history h.
+      let s = story (news_key n) history in
+      ap happenings same ∙ (sym (append-nil (happenings x)) ∙ ap (λ l. happenings x ++ at_moment now l)
+      (sym (sent_to_none (known_after now n times history) (released_by now (news_row n times) s)
+      (by_given n None _ _ given (law s))))))
+
+-- nothing is said
+pub hears_nothing : {A : Type 0} (limit now : ℕ) (nodes : List Node) (outs : List (ℕ × Out A)) → HearsOf limit now None nodes nodes outs outs false
+hears_nothing limit now nodes outs = record {
+  each = λ history h. (history, refl, h, sym (append-nil (happenings outs)), refl);
+}

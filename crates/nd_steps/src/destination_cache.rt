@@ -1,0 +1,38 @@
+//! The next hops that a node remembers (RFC 4861, section 5.1, the Destination Cache): when they are forgotten.
+
+ghost use Rattle.std.specs.Prelude.{◌≡◌, ◌&&◌, if◌then◌else◌, []};
+ghost use Rattle.nd_nexthop.specs.Memo.{forgotten, is_asked};
+ghost use Rattle.nd_steps.specs.Remembered.{last_before_end};
+
+use nd_nexthop::Choice;
+use nd_routers::Prefixes;
+use std::alloc::Allocator;
+
+/// Keeps the remembered next hops if `keep`, and else forgets them.
+pub fn keep_if<A: Allocator>(choice: &mut Choice<A>, keep: bool)
+    ensures { choice.new ≡ (if keep then choice.old else record choice.old { memory = forgotten choice.old.memory }) }
+{
+    if !keep {
+        choice.changed();
+    }
+}
+
+/// Sets the last moment at which remembered next hops may be used, in milliseconds: the one before the next prefix on the link ends, since
+/// prefixes end silently. `own`: no own address was formed. Those remembered are forgotten if one was, or if they were no longer in use.
+pub fn keep_until_a_prefix_ends<A: Allocator>(
+    choice: &mut Choice<A>,
+    prefixes: &Prefixes<A>,
+    now: u64,
+    own: bool,
+)
+    ensures redirects { choice.new.redirects ≡ choice.old.redirects }
+    ensures hops { choice.new.memory.hops ≡ (if own && is_asked now choice.old.memory.until then choice.old.memory.hops else []) }
+    ensures until { choice.new.memory.until ≡ last_before_end now prefixes.now }
+{
+    let asked = choice.is_asked(now);
+    keep_if(choice, own && asked);
+    match prefixes.least_end(now) {
+        Some(end) => choice.until(Some(end.saturating_sub(1))),
+        None => choice.until(None),
+    }
+}

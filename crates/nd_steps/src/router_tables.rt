@@ -1,0 +1,168 @@
+ghost use Rattle.std.specs.Prelude.{◌≡◌, ◌≢◌, ◌<◌, ◌^◌, List, [], None, Ok, Some, IfOk, IfSome, is_some, option_map, true, false};
+ghost use Rattle.nd_addr.specs.Number.{number_of};
+ghost use Rattle.nd_advertiser.specs.Calls.{settings_in};
+ghost use Rattle.nd_advertiser.specs.Contents.{contents_of, last_contents_of};
+ghost use Rattle.nd_advertiser.specs.History.{Row};
+ghost use Rattle.nd_advertiser.specs.Overdue.{IsAfter};
+ghost use Rattle.nd_advertiser.specs.Table as advertising;
+ghost use Rattle.nd_compose.specs.Frames.{router_advertisement_frame};
+ghost use Rattle.nd_message.specs.Owned.{whole};
+ghost use Rattle.nd_message.specs.WellFormed.{IsWellFormed};
+ghost use Rattle.nd_slaac.specs.View.{falls_of};
+ghost use Rattle.nd_steps.specs.Router.{Advertises, NotesAddress, Plans, next_advertisement, plans};
+
+use crate::draw::{answer_delay_drawn, interval_drawn};
+use nd_addr::{Addr, Mac, Role};
+use nd_advertiser::Advertiser;
+use nd_compose::router_advertisement_frame;
+use nd_forwarding::Routes;
+use nd_message::Message;
+use nd_packet::Packet;
+use nd_slaac::Due;
+use nd_table::compare;
+use rand_core::Rng;
+use std::alloc::{AllocError, Allocator};
+
+/// What only a router has. At a host both are empty.
+#[derive(Drop)]
+pub struct RouterTables<A: Allocator> {
+    /// What it advertises, and when (RFC 4861, section 6.2).
+    pub advertiser: Advertiser<A>,
+    /// Its static routes, and when it made a Redirect (RFC 4861, sections 5.2 and 8.2).
+    pub routes: Routes<A>,
+}
+
+impl<A: Allocator + Copy> RouterTables<A> {
+    /// An interface that doesn't advertise, and no routes, with room for as many prefixes and routes as there may be. The error is out
+    /// of memory.
+    pub fn new(alloc: A) -> Result<Self, AllocError>
+        ensures advertiser { IfOk result (λ tables. tables.advertiser ≡ record { assigned = None; last = None; advertising = None; offers = [] }) }
+        ensures routes { IfOk result (λ tables. tables.routes ≡ record { entries = []; redirected = None }) }
+    {
+        Ok(RouterTables {
+            advertiser: Advertiser::new(alloc)?,
+            routes: Routes::new(alloc)?,
+        })
+    }
+}
+
+impl<A: Allocator + Clone> RouterTables<A> {
+    /// Returns the Router Advertisement that is due at `now`, in milliseconds, from an interface with these addresses, and none if none is due
+    /// (RFC 4861, section 6.2.3). Returns an error if out of memory, and only where one is due.
+    pub fn advertisement_due(
+        &self,
+        alloc: A,
+        role: Role,
+        now: u64,
+        mac: Mac,
+        own: Addr,
+    ) -> Result<Option<Packet<A>>, AllocError>
+        ensures due { (history : List Row) → advertising.Stands self.now.advertiser history → next_advertisement role self.now ≡ Some now → IfOk result (λ frame. frame ≡ option_map (router_advertisement_frame mac own) (contents_of mac history)) }
+        ensures none { next_advertisement role self.now ≢ Some now → result ≡ Ok None }
+    {
+        if self.next_due(role) != Some(now) {
+            return Ok(None);
+        }
+        let message = self.advertiser.contents(alloc.clone()?, mac)?;
+        framed(alloc, mac, own, message)
+    }
+
+    /// The last Router Advertisement of an interface with these addresses, with a router lifetime of 0, if it advertises (RFC 4861, section
+    /// 6.2.5). The error is out of memory.
+    pub fn last_advertisement(
+        &self,
+        alloc: A,
+        mac: Mac,
+        own: Addr,
+    ) -> Result<Option<Packet<A>>, AllocError>
+        ensures { (history : List Row) → advertising.Stands self.now.advertiser history → IfOk result (λ frame. frame ≡ option_map (router_advertisement_frame mac own) (last_contents_of mac history)) }
+    {
+        let message = self.advertiser.last_contents(alloc.clone()?, mac)?;
+        framed(alloc, mac, own, message)
+    }
+}
+
+/// The frame of a message to all nodes, if there is one. The error is out of memory.
+fn framed<A: Allocator>(
+    alloc: A,
+    mac: Mac,
+    own: Addr,
+    message: Option<Message<A>>,
+) -> Result<Option<Packet<A>>, AllocError>
+    requires { IfSome message (λ m. IsWellFormed (whole m)) }
+    ensures { IfOk result (λ frame. frame ≡ option_map (router_advertisement_frame mac own) (option_map whole message)) }
+{
+    match message {
+        Some(message) => {
+            let frame = router_advertisement_frame(alloc, mac, own, &message)?;
+            Ok(Some(frame))
+        }
+        None => Ok(None),
+    }
+}
+
+impl<A: Allocator> RouterTables<A> {
+    /// When the next advertisement is due, in milliseconds, if one is: a host sends none (RFC 4861, section 6.2.4).
+    pub fn next_due(&self, role: Role) -> Option<u64>
+        ensures value { result ≡ next_advertisement role self.now }
+        ensures settings { is_some result ≡ true → is_some (settings_in self.now.advertiser.advertising) ≡ true }
+        ensures after { IsAfter self.now.advertiser.last result }
+    {
+        if role == Role::Host {
+            return None;
+        }
+        self.advertiser.next_due()
+    }
+
+    /// Whether an advertisement is due at a moment, in milliseconds. It is sent then, and the time until the next one is drawn (RFC 4861,
+    /// section 6.2.4).
+    pub fn turn<R: Rng>(&mut self, role: Role, now: u64, generator: &mut R) -> bool
+        requires { now < 2 ^ 62 }
+        ensures due { result ≡ true → next_advertisement role self.old ≡ Some now }
+        ensures none { result ≡ false → next_advertisement role self.old ≢ Some now }
+        ensures sent { result ≡ true → Advertises now (R.stream generator.old) (R.stream generator.new) self.old self.new }
+        ensures same { result ≡ false → self.new ≡ self.old }
+        ensures left { result ≡ false → R.stream generator.new ≡ R.stream generator.old }
+    {
+        match self.next_due(role) {
+            Some(date) if date == now => {}
+            _ => return false,
+        }
+        match self.advertiser.config() {
+            Some(config) => {
+                let interval = interval_drawn(generator, config);
+                self.advertiser.turn(now, interval);
+                true
+            }
+            None => unreachable!(),
+        }
+    }
+
+    /// What fell due for an own address at a moment, in milliseconds: advertisements are sent from the link-local one (RFC 4861, section
+    /// 4.2).
+    pub fn note_address(&mut self, link_local: Addr, now: u64, due: Due)
+        requires { now < 2 ^ 62 }
+        ensures { NotesAddress (number_of link_local.0) now (falls_of due) self.old self.new }
+    {
+        match due {
+            Due::Assign(addr) => {
+                if compare(addr, link_local).is_eq() {
+                    self.advertiser.assigned(now);
+                }
+            }
+            Due::End(_) | Due::Solicit(_) => {}
+        }
+    }
+
+    /// A Router Solicitation is heard at a moment, in milliseconds. At a router the first since the last advertisement has its answer planned,
+    /// after a delay that is drawn; a host answers none (RFC 4861, section 6.2.6).
+    pub fn hear_solicitation<R: Rng>(&mut self, role: Role, now: u64, generator: &mut R)
+        requires { now < 2 ^ 62 }
+        ensures { Plans now (plans role self.old) (R.stream generator.old) (R.stream generator.new) self.old self.new }
+    {
+        if role == Role::Router && self.advertiser.wants_draw() {
+            let delay = answer_delay_drawn(generator);
+            self.advertiser.heard_rs(now, delay);
+        }
+    }
+}

@@ -1,0 +1,128 @@
+ghost use Rattle.std.specs.Prelude.{◌≡◌, ◌≤◌, ◌<◌, ◌^◌, Some, false, MatchOption, length, map, is_some, vec_len, vec_capacity};
+ghost use Rattle.nd_table.specs.Listing.{end_in, renewed, without, open_at, announced, enters};
+
+use crate::ends::{end_time, is_before};
+use crate::lasting::Lasting;
+use crate::names_key::NamesKey;
+use std::alloc::Allocator;
+
+/// Whether there is an entry of the key.
+pub fn has<K, Q: NamesKey<K>>(entries: &[Lasting<K>], name: &Q) -> bool
+    ensures { result ≡ is_some (end_in Q.same (Q.named name.now) entries.now) }
+{
+    for entry in entries {
+        if name.names(&entry.key) {
+            return true;
+        }
+    }
+    false
+}
+
+fn renew_one<K, Q: NamesKey<K>>(entry: &mut Lasting<K>, name: &Q, end: Option<u64>)
+    ensures { entry.new ≡ renewed Q.same (Q.named name.now) end entry.old }
+{
+    if name.names(&entry.key) {
+        entry.end = end;
+    }
+}
+
+fn renew_each<K, Q: NamesKey<K>>(entries: &mut [Lasting<K>], name: &Q, end: Option<u64>)
+    ensures { entries.new ≡ map (renewed Q.same (Q.named name.now) end) entries.old }
+{
+    for entry in entries.iter_mut() {
+        renew_one(entry, name, end);
+    }
+}
+
+/// The key's entry has this end from now on.
+pub fn renew<K, Q: NamesKey<K>, A: Allocator>(
+    entries: &mut Vec<Lasting<K>, A>,
+    name: &Q,
+    end: Option<u64>,
+)
+    ensures items { entries.new.items ≡ map (renewed Q.same (Q.named name.now) end) entries.old.items }
+    ensures len { vec_len entries.new ≡ vec_len entries.old }
+    ensures capacity { vec_capacity entries.new ≡ vec_capacity entries.old }
+{
+    renew_each(entries, name, end);
+}
+
+/// The key has no entry from now on.
+pub fn remove<K: Drop, Q: NamesKey<K>, A: Allocator>(entries: &mut Vec<Lasting<K>, A>, name: &Q)
+    ensures items { entries.new.items ≡ without Q.same (Q.named name.now) entries.old.items }
+    ensures shorter { vec_len entries.new ≤ vec_len entries.old }
+    ensures capacity { vec_capacity entries.new ≡ vec_capacity entries.old }
+{
+    entries.retain(|entry| !name.names(&entry.key));
+}
+
+/// The keys that have ended by now have no entry from now on.
+pub fn drop_ended<K: Drop, A: Allocator>(entries: &mut Vec<Lasting<K>, A>, now: u64)
+    ensures items { entries.new.items ≡ open_at now entries.old.items }
+    ensures shorter { vec_len entries.new ≤ vec_len entries.old }
+    ensures capacity { vec_capacity entries.new ≡ vec_capacity entries.old }
+{
+    entries.retain(|entry| is_before(now, entry.end));
+}
+
+/// A key is announced for a lifetime in seconds, by a name. There is room for it, and the key itself is given where it enters.
+pub fn announce<K: Drop, Q: NamesKey<K>, A: Allocator>(
+    entries: &mut Vec<Lasting<K>, A>,
+    now: u64,
+    name: &Q,
+    key: Option<K>,
+    lifetime: u32,
+)
+    requires moment { now < 2 ^ 62 }
+    requires named { MatchOption key (enters Q.same now (Q.named name.now) lifetime entries.old.items ≡ false) (λ k. k ≡ Q.named name.now) }
+    requires room { length (announced Q.same now (Q.named name.now) lifetime entries.old.items) ≤ vec_capacity entries.old }
+    ensures items { entries.new.items ≡ announced Q.same now (Q.named name.now) lifetime entries.old.items }
+    ensures capacity { vec_capacity entries.new ≡ vec_capacity entries.old }
+{
+    drop_ended(entries, now);
+    if lifetime == 0 {
+        remove(entries, name);
+        return;
+    }
+    let end = end_time(now, lifetime);
+    if has(entries, name) {
+        renew(entries, name, end);
+        return;
+    }
+    if let Some(key) = key {
+        entries.push_reserved(Lasting { key, end });
+    }
+}
+
+/// Whether an announcement enters the key that it names.
+pub fn enters<K, Q: NamesKey<K>>(entries: &[Lasting<K>], now: u64, name: &Q, lifetime: u32) -> bool
+    ensures { result ≡ enters Q.same now (Q.named name.now) lifetime entries.now }
+{
+    lifetime != 0 && !stands(entries, now, name)
+}
+
+/// Whether the key has an entry that hasn't ended by now.
+pub fn stands<K, Q: NamesKey<K>>(entries: &[Lasting<K>], now: u64, name: &Q) -> bool
+    ensures { result ≡ is_some (end_in Q.same (Q.named name.now) (open_at now entries.now)) }
+{
+    for entry in entries {
+        if is_before(now, entry.end) && name.names(&entry.key) {
+            return true;
+        }
+    }
+    false
+}
+
+/// How many entries haven't ended by now.
+pub fn count<K>(entries: &[Lasting<K>], now: u64) -> usize
+    ensures value { result ≡ length (open_at now entries.now) }
+    ensures within { result ≤ length entries.now }
+{
+    let mut count = 0;
+    for entry in entries {
+        if is_before(now, entry.end) {
+            count += 1;
+        }
+    }
+    count
+}

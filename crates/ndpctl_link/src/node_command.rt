@@ -1,0 +1,60 @@
+//! The words of a script by which a command comes to a node of a link.
+
+ghost use Rattle.std.specs.Prelude.{◌≡◌, ◌≢◌, List, ℕ, None, Some, Ok, IfSome, IfOk, MatchBool};
+ghost use Rattle.std.specs.Option.{IsSomeAnd, option_map};
+ghost use Rattle.nd_chronicle.specs.Event as events;
+ghost use Rattle.nd_chronicle.specs.Event.{Receives};
+ghost use Rattle.nd_node.specs.Event.{event_of};
+ghost use Rattle.ndpctl_run.specs.Command.{IsCommand};
+ghost use Rattle.ndpctl_link.specs.NodeCommand.{IsNodeCommand, IsOwnCommand};
+
+use nd_node::Event;
+use ndpctl_run::{read_command, split_number, split_word};
+use std::alloc::{AllocError, Allocator};
+
+/// Whether a command is `rx`, by which a frame is heard.
+fn is_rx(command: &[u8]) -> bool
+    ensures { MatchBool result ((event : events.Event) → IsOwnCommand command.now event → ⊥)
+        ((event : events.Event) → IsCommand command.now event → (frame : List ℕ) → event ≢ Receives frame) }
+{
+    match split_word(command) {
+        Some((word, _)) => word == b"rx".as_slice(),
+        None => false,
+    }
+}
+
+/// The event that the bytes of a command other than `rx` spell. No other bytes spell any, and such bytes take no memory. The error is out
+/// of memory.
+fn read_own_command<A: Allocator + Clone>(
+    alloc: &A,
+    command: &[u8],
+) -> Result<Option<Event<A>>, AllocError>
+    ensures found { IfOk result (λ read. IfSome read (λ event. IsOwnCommand command.now (event_of event))) }
+    ensures only { (event : events.Event) → IsOwnCommand command.now event → IfOk result (λ read. option_map event_of read ≡ Some event) }
+    ensures malformed { ((event : events.Event) → IsOwnCommand command.now event → ⊥) → result ≡ Ok None }
+{
+    if is_rx(command) {
+        return Ok(None);
+    }
+    read_command(alloc, command)
+}
+
+/// The number of a node, below 2^64, and the event at it that some words spell. No other words spell any, and such words take no memory.
+/// The error is out of memory.
+pub(crate) fn read_node_command<A: Allocator + Clone>(
+    alloc: &A,
+    words: &[u8],
+) -> Result<Option<(u64, Event<A>)>, AllocError>
+    ensures found { IfOk result (λ read. IfSome read (λ comes. IsNodeCommand words.now comes.0 (event_of comes.1))) }
+    ensures only { (node : ℕ) (event : events.Event) → IsNodeCommand words.now node event
+        → IfOk result (λ read. IsSomeAnd read (λ comes. (comes.0 ≡ node) × (event_of comes.1 ≡ event))) }
+    ensures malformed { ((node : ℕ) (event : events.Event) → IsNodeCommand words.now node event → ⊥) → result ≡ Ok None }
+{
+    let Some((node, command)) = split_number(words) else {
+        return Ok(None);
+    };
+    match read_own_command(alloc, command)? {
+        Some(event) => Ok(Some((node, event))),
+        None => Ok(None),
+    }
+}

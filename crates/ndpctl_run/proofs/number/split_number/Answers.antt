@@ -1,0 +1,15 @@
+use Rattle.ndpctl_run.proofs.Partings.{no_parts, parts_at}
+use Rattle.ndpctl_run.proofs.number.split_number.Goals as goal
+
+pub returns-in_err-word-clause-only : goal.returns-in_err-word-clause-only
+returns-in_err-word-clause-only c = λ number rest p. absurd (no_parts c.args.text.now _ _ c.in_err-word.ensures p)
+
+pub returns-in_err-number-clause-only : goal.returns-in_err-number-clause-only
+returns-in_err-number-clause-only c = λ number rest p.
+    let theirs = parts_at c.args.text.now c.in_ok-word.word.now c.in_ok-word.rest.now _ _ c.in_ok-word.ensures p in
+    let r = c.in_err-number.ensures.only number theirs.0.0 theirs.0.1 in cc
+
+pub returns-clause-only : goal.returns-clause-only
+returns-clause-only c = λ number rest p.
+    let theirs = parts_at c.args.text.now c.in_ok-word.word.now c.in_ok-word.rest.now _ _ c.in_ok-word.ensures p in
+    let r = c.in_ok-number.ensures.only number theirs.0.0 theirs.0.1 in ((cc), theirs.1)

@@ -1,0 +1,165 @@
+//! The commands of a script.
+
+ghost use Rattle.std.specs.Prelude.{◌≡◌, Some, None, Ok, IfSome, IfOk};
+ghost use Rattle.std.specs.Option.{option_map};
+ghost use Rattle.nd_chronicle.specs.Event as events;
+ghost use Rattle.nd_node.specs.Event.{event_of};
+ghost use Rattle.ndpctl_run.specs.Command.{command_word, AreArguments, IsCommand, IsWholeCommand};
+
+use crate::address::read_address;
+use crate::bytes::read_bytes;
+use crate::offer::read_offer;
+use crate::packet::read_packet;
+use crate::route::read_route;
+use crate::settings::read_settings;
+use crate::table::{read_clearable, read_table};
+use crate::words::split_word;
+use nd_node::Event;
+use std::alloc::{AllocError, Allocator};
+
+/// The commands that act on something, each by its word: all but `at` and `stop`.
+#[derive(Clone, Copy, Debug, PartialEq, Eq)]
+pub enum Command {
+    /// A frame is heard.
+    Rx,
+    /// A packet of the upper layer is to be sent.
+    Send,
+    /// An upper layer confirms that a neighbour is reached.
+    Confirm,
+    /// A neighbour is to be forgotten.
+    Forget,
+    /// A table is to be cleared.
+    Clear,
+    /// A table is shown.
+    Show,
+    /// A router is to advertise so (RFC 4861, section 6.2.1).
+    Advertise,
+    /// A router is to advertise a prefix, too (RFC 4861, section 6.2.1).
+    Prefix,
+    /// A router is to have a static route.
+    Route,
+}
+
+const COMMANDS: [Command; 9] = [
+    Command::Rx,
+    Command::Send,
+    Command::Confirm,
+    Command::Forget,
+    Command::Clear,
+    Command::Show,
+    Command::Advertise,
+    Command::Prefix,
+    Command::Route,
+];
+
+/// The word that a command begins with.
+fn command_word(command: Command) -> &'static str
+    ensures { result.now ≡ command_word command }
+{
+    match command {
+        Command::Rx => "rx",
+        Command::Send => "send",
+        Command::Confirm => "confirm",
+        Command::Forget => "forget",
+        Command::Clear => "clear",
+        Command::Show => "show",
+        Command::Advertise => "advertise",
+        Command::Prefix => "prefix",
+        Command::Route => "route",
+    }
+}
+
+/// The command that a word begins.
+fn read_command_word(word: &[u8]) -> Option<Command>
+    ensures found { IfSome result (λ command. word.now ≡ command_word command) }
+    ensures only { (command : Command) → word.now ≡ command_word command → result ≡ Some command }
+{
+    for command in COMMANDS {
+        if command_word(command).as_bytes() == word {
+            return Some(command);
+        }
+    }
+    None
+}
+
+/// The event that the words behind a command spell. No other words spell any, and such words take no memory. The error is out of memory.
+fn read_arguments<A: Allocator + Clone>(
+    alloc: &A,
+    command: Command,
+    words: &[u8],
+) -> Result<Option<Event<A>>, AllocError>
+    ensures found { IfOk result (λ read. IfSome read (λ event. AreArguments command words.now (event_of event))) }
+    ensures only { (event : events.Event) → AreArguments command words.now event → IfOk result (λ read. option_map event_of read ≡ Some event) }
+    ensures malformed { ((event : events.Event) → AreArguments command words.now event → ⊥) → result ≡ Ok None }
+{
+    match command {
+        Command::Rx => match read_bytes(alloc, words)? {
+            Some(frame) => Ok(Some(Event::Receives(frame))),
+            None => Ok(None),
+        },
+        Command::Send => match read_packet(alloc, words)? {
+            Some(packet) => Ok(Some(Event::Sends(packet))),
+            None => Ok(None),
+        },
+        Command::Confirm => match read_address(words) {
+            Some(neighbour) => Ok(Some(Event::Confirms(neighbour))),
+            None => Ok(None),
+        },
+        Command::Forget => match read_address(words) {
+            Some(neighbour) => Ok(Some(Event::Forgets(neighbour))),
+            None => Ok(None),
+        },
+        Command::Clear => match read_clearable(words) {
+            Some(table) => Ok(Some(Event::Clears(table))),
+            None => Ok(None),
+        },
+        Command::Show => match read_table(words) {
+            Some(table) => Ok(Some(Event::Shows(table))),
+            None => Ok(None),
+        },
+        Command::Advertise => match read_settings(words) {
+            Some(settings) => Ok(Some(Event::Advertises(settings))),
+            None => Ok(None),
+        },
+        Command::Prefix => match read_offer(words) {
+            Some(offer) => Ok(Some(Event::Offers(offer))),
+            None => Ok(None),
+        },
+        Command::Route => match read_route(words) {
+            Some(route) => Ok(Some(Event::PutsRoute(route))),
+            None => Ok(None),
+        },
+    }
+}
+
+/// The event of a command that acts on nothing, by its word.
+fn read_whole_command<A: Allocator>(word: &[u8]) -> Option<Event<A>>
+    ensures found { IfSome result (λ event. IsWholeCommand word.now (event_of event)) }
+    ensures only { (event : events.Event) → IsWholeCommand word.now event → option_map event_of result ≡ Some event }
+{
+    if word == b"at".as_slice() {
+        return Some(Event::Passes);
+    }
+    if word == b"stop".as_slice() {
+        return Some(Event::Stops);
+    }
+    None
+}
+
+/// The event that the bytes of a command spell. No other bytes spell any, and such bytes take no memory. The error is out of memory.
+pub fn read_command<A: Allocator + Clone>(
+    alloc: &A,
+    bytes: &[u8],
+) -> Result<Option<Event<A>>, AllocError>
+    ensures found { IfOk result (λ read. IfSome read (λ event. IsCommand bytes.now (event_of event))) }
+    ensures only { (event : events.Event) → IsCommand bytes.now event → IfOk result (λ read. option_map event_of read ≡ Some event) }
+    ensures malformed { ((event : events.Event) → IsCommand bytes.now event → ⊥) → result ≡ Ok None }
+{
+    let Some((word, rest)) = split_word(bytes) else {
+        return Ok(read_whole_command(bytes));
+    };
+    let Some(command) = read_command_word(word) else {
+        return Ok(None);
+    };
+    read_arguments(alloc, command, rest)
+}

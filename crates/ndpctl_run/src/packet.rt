@@ -1,0 +1,75 @@
+//! The words of a script that stand for packets of the upper layer.
+
+ghost use Rattle.std.specs.Prelude.{◌≡◌, List, ℕ, None, Ok, IfSome, IfOk};
+ghost use Rattle.std.specs.Option.{IsSomeAnd};
+ghost use Rattle.ndpctl_run.specs.Packet.{IsHeader, IsNextHeaderWord, IsPacket};
+ghost use Rattle.ndpctl_run.specs.Words.{Parts};
+
+use crate::address::split_address;
+use crate::bytes::read_bytes;
+use crate::number::read_byte;
+use crate::words::split_word;
+use nd_addr::Addr;
+use nd_node::OutgoingPacket;
+use std::alloc::{AllocError, Allocator};
+
+/// What a packet's header is to say.
+#[derive(Clone, Copy)]
+struct Header {
+    source: Addr,
+    destination: Addr,
+    next_header: u8,
+}
+
+/// The next header that the first word of a text spells, and what follows its space.
+fn split_next_header(text: &[u8]) -> Option<(u8, &[u8])>
+    ensures found { IfSome result (λ parts. Parts text.now (λ word. IsNextHeaderWord word parts.0) (λ rest. rest ≡ parts.1.now)) }
+    ensures only { (next_header : ℕ) (rest : List ℕ) → Parts text.now (λ word. IsNextHeaderWord word next_header) (λ r. r ≡ rest)
+        → IsSomeAnd result (λ parts. (parts.0 ≡ next_header) × (parts.1.now ≡ rest)) }
+{
+    let (word, rest) = split_word(text)?;
+    let next_header = read_byte(word)?;
+    Some((next_header, rest))
+}
+
+/// The header that the first words of a text spell, and what follows their space.
+fn split_header(text: &[u8]) -> Option<(Header, &[u8])>
+    ensures found { IfSome result (λ parts. IsHeader text.now parts.0.source parts.0.destination parts.0.next_header (λ rest. rest ≡ parts.1.now)) }
+    ensures only { (source destination : Addr) (next_header : ℕ) (rest : List ℕ) → IsHeader text.now source destination next_header (λ r. r ≡ rest)
+        → IsSomeAnd result (λ parts. (parts.0.source ≡ source) × (parts.0.destination ≡ destination) × (parts.0.next_header ≡ next_header) × (parts.1.now ≡ rest)) }
+{
+    let (source, rest) = split_address(text)?;
+    let (destination, rest) = split_address(rest)?;
+    let (next_header, rest) = split_next_header(rest)?;
+    let header = Header {
+        source,
+        destination,
+        next_header,
+    };
+    Some((header, rest))
+}
+
+/// The packet that some words spell: its source, its destination, its next header in decimal digits, and its payload as `read_bytes` reads
+/// it. No other words spell one, and such words take no memory. The error is out of memory.
+pub(crate) fn read_packet<A: Allocator + Clone>(
+    alloc: &A,
+    words: &[u8],
+) -> Result<Option<OutgoingPacket<A>>, AllocError>
+    ensures found { IfOk result (λ read. IfSome read (λ packet. IsPacket words.now packet.source packet.destination packet.next_header packet.payload.items)) }
+    ensures only { (source destination : Addr) (next_header : ℕ) (payload : List ℕ) → IsPacket words.now source destination next_header payload
+        → IfOk result (λ read. IsSomeAnd read (λ packet. (packet.source ≡ source) × (packet.destination ≡ destination) × (packet.next_header ≡ next_header) × (packet.payload.items ≡ payload))) }
+    ensures malformed { ((source destination : Addr) (next_header : ℕ) (payload : List ℕ) → IsPacket words.now source destination next_header payload → ⊥) → result ≡ Ok None }
+{
+    let Some((header, word)) = split_header(words) else {
+        return Ok(None);
+    };
+    match read_bytes(alloc, word)? {
+        Some(payload) => Ok(Some(OutgoingPacket {
+            source: header.source,
+            destination: header.destination,
+            next_header: header.next_header,
+            payload,
+        })),
+        None => Ok(None),
+    }
+}

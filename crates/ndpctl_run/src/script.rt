@@ -1,0 +1,89 @@
+//! A node that answers the lines of a script.
+
+ghost use Rattle.std.specs.Prelude.{◌≡◌, None, Ok, OnOk, IfOk, IfSome, IfNone, ◌^◌, ◌<◌, ℕ, string_bytes, ⊤};
+ghost use Rattle.nd_node.specs.Event.{event_of};
+ghost use Rattle.nd_chronicle.specs.Event as events;
+ghost use Rattle.ndpctl_run.specs.Line.{IsLine};
+ghost use Rattle.ndpctl_run.specs.Script.{Leads};
+ghost use Rattle.ndpctl_run.specs.ScriptLaws.{no_line, long_line};
+ghost use Rattle.ndpctl_run.specs.Answer.{AnswersEvent};
+ghost use Rattle.ndpctl_run.specs.Said.{SaysNothing};
+
+use crate::line::{Line, read_line};
+use nd_lines::answering::{Answering, Unanswered};
+use nd_node::{Event, Node};
+use nd_out::{Out, write_outs};
+use rand_core::Rng;
+use std::alloc::{AllocError, Allocator};
+
+/// A node, and room for what it tells of one line.
+#[derive(Drop)]
+pub(crate) struct Script<R, A: Allocator> {
+    node: Node<R, A>,
+    outs: Vec<(u64, Out<A>), A>,
+}
+
+impl<R: Rng + Drop, A: Allocator + Clone> Script<R, A> {
+    /// Nothing was told yet.
+    pub(crate) fn new(alloc: A, node: Node<R, A>) -> Self
+        ensures { result.node ≡ node }
+    {
+        Script {
+            node,
+            outs: Vec::new(alloc),
+        }
+    }
+
+    /// The line that some bytes spell, with its frame in the node's memory. A malformed one takes none. The error is out of memory.
+    fn read(&self, line: &[u8]) -> Result<Option<Line<A>>, AllocError>
+        ensures found { IfOk result (λ spelled. IfSome spelled (λ read. IsLine line.now read.at (event_of read.event))) }
+        ensures malformed { IfOk result (λ spelled. IfNone spelled ((at : ℕ) (event : events.Event) → IsLine line.now at event → ⊥)) }
+        ensures quiet { ((at : ℕ) (event : events.Event) → IsLine line.now at event → ⊥) → result ≡ Ok None }
+    {
+        read_line(self.outs.allocator(), line)
+    }
+
+    /// An event comes, and its text goes to the end. The error is out of memory.
+    fn event<B: Allocator>(
+        &mut self,
+        at: u64,
+        event: Event<A>,
+        text: &mut String<B>,
+    ) -> Result<(), AllocError>
+        requires { at < 2 ^ 62 }
+        ensures { OnOk result (AnswersEvent R.stream self.old.node self.new.node at (event_of event) (string_bytes text.old) (string_bytes text.new)) }
+    {
+        self.outs.clear();
+        self.node.event(at, &event, &mut self.outs)?;
+        write_outs(text, &self.outs)
+    }
+}
+
+impl<R: Rng + Drop, A: Allocator + Clone> Answering for Script<R, A> {
+    ghost texts = { λ script later. Leads R.stream script.node later.node };
+
+    ghost is_malformed = { SaysNothing IsLine };
+
+    ghost fails = { λ _ _ _ _. ⊤ };
+
+    ghost failed = { λ _. 0 };
+
+    ghost no_lines = { λ script. no_line R.stream script.node };
+
+    ghost too_long = { λ script. long_line R.stream script.node };
+
+    fn answer<B: Allocator>(
+        &mut self,
+        line: &[u8],
+        text: &mut String<B>,
+    ) -> Result<(), Unanswered> {
+        match self.read(line) {
+            Ok(Some(read)) => match self.event(read.at, read.event, text) {
+                Ok(()) => Ok(()),
+                Err(_) => Err(Unanswered::Memory),
+            },
+            Ok(None) => Err(Unanswered::Malformed),
+            Err(_) => Err(Unanswered::Memory),
+        }
+    }
+}

@@ -1,0 +1,11 @@
+//! The program `ndpctl` again, for its stored run of `ndpctl run` with a script of frames and packets.
+#![tactic(auto)]
+
+use nd_lines::input::Reading;
+use ndpctl_tool::tool;
+use std::process::ExitCode;
+
+fn main(rt: HostRuntime) -> ExitCode {
+    let mut reader = Reading::new(rt.reader());
+    ExitCode::from(tool(&rt, &rt, &mut reader))
+}

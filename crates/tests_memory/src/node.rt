@@ -1,0 +1,370 @@
+ghost use Rattle.std.specs.Prelude.{◌<◌, ◌^◌};
+
+use linked_list_allocator::LocalHeap;
+use nd_addr::{Addr, Mac, Preference, Prefix, Role};
+use nd_advertiser::{Config, ConfigFlags};
+use nd_forwarding::{KeptRoute, Route};
+use nd_node::{Clearable, Event, Limits, Node, OutgoingPacket, Table};
+use nd_out::{Out, write_outs};
+use nd_slaac::Transmits;
+use rand_core::SeedableRng;
+use rand_pcg::Pcg32;
+use std::alloc::{AllocError, Global};
+use std::process::Abort;
+use std::test::*;
+
+/// More than a node and all that comes here take.
+pub(crate) const AMPLE: usize = 1 << 22;
+
+/// The blocks that take what is left of a heap, in bytes.
+const LARGE: usize = 8192;
+
+const SMALL: usize = 16;
+
+/// As many large blocks are parted into small ones.
+const LAST: usize = 2;
+
+/// The most tries of an event, each of which has 16 bytes more than the one before. No event of these tests asks for more than a kilobyte.
+const MOST_TRIES: usize = 64;
+
+/// The most blocks of one size.
+const MOST_BLOCKS: usize = 2048;
+
+pub(crate) const MAC: Mac = Mac([0x34, 0x56, 0x78, 0x9a, 0xbc, 0xde]);
+
+pub(crate) const OWN: Addr = Addr([
+    0xfe, 0x80, 0, 0, 0, 0, 0, 0, 0x36, 0x56, 0x78, 0xff, 0xfe, 0x9a, 0xbc, 0xde,
+]);
+
+const ROUTER: Addr = Addr([0xfe, 0x80, 0, 0, 0, 0, 0, 0, 0, 0, 0, 0xff, 0xfe, 0, 0, 1]);
+
+/// Of which nothing was heard.
+pub(crate) const STRANGER: Addr = Addr([0xfe, 0x80, 0, 0, 0, 0, 0, 0, 0, 0, 0, 0, 0, 0, 0, 9]);
+
+/// Which says nothing: the Ethernet type of IPv6, and no packet.
+pub(crate) const EMPTY: [u8; 14] = [0, 0, 0, 0, 0, 0, 0, 0, 0, 0, 0, 0, 0x86, 0xdd];
+
+/// A Router Advertisement of `ROUTER` with its link-layer address, the prefix 2001:db8::/64 on the link for 30 days, and the server
+/// 2001:db8::53 for 1800 s.
+pub(crate) const ADVERTISEMENT: [u8; 134] = [
+    0x33, 0x33, 0, 0, 0, 1, 2, 0, 0, 0, 0, 1, 0x86, 0xdd, 0x60, 0, 0, 0, 0, 0x50, 0x3a, 0xff, 0xfe,
+    0x80, 0, 0, 0, 0, 0, 0, 0, 0, 0, 0xff, 0xfe, 0, 0, 1, 0xff, 2, 0, 0, 0, 0, 0, 0, 0, 0, 0, 0, 0,
+    0, 0, 1, 0x86, 0, 0xab, 0xdf, 0x40, 0, 7, 8, 0, 0, 0, 0, 0, 0, 0, 0, 1, 1, 2, 0, 0, 0, 0, 1, 3,
+    4, 0x40, 0x80, 0, 0x27, 0x8d, 0, 0, 9, 0x3a, 0x80, 0, 0, 0, 0, 0x20, 1, 0x0d, 0xb8, 0, 0, 0, 0,
+    0, 0, 0, 0, 0, 0, 0, 0, 0x19, 3, 0, 0, 0, 0, 7, 8, 0x20, 1, 0x0d, 0xb8, 0, 0, 0, 0, 0, 0, 0, 0,
+    0, 0, 0, 0x53,
+];
+
+/// A Redirect of `ROUTER`: 2001:db8:1::5 by fe80::2, with the link-layer address of that.
+pub(crate) const REDIRECT: [u8; 102] = [
+    0x34, 0x56, 0x78, 0x9a, 0xbc, 0xde, 2, 0, 0, 0, 0, 1, 0x86, 0xdd, 0x60, 0, 0, 0, 0, 0x30, 0x3a,
+    0xff, 0xfe, 0x80, 0, 0, 0, 0, 0, 0, 0, 0, 0, 0xff, 0xfe, 0, 0, 1, 0xfe, 0x80, 0, 0, 0, 0, 0, 0,
+    0x36, 0x56, 0x78, 0xff, 0xfe, 0x9a, 0xbc, 0xde, 0x89, 0, 0xdf, 0x7d, 0, 0, 0, 0, 0xfe, 0x80, 0,
+    0, 0, 0, 0, 0, 0, 0, 0, 0, 0, 0, 0, 2, 0x20, 1, 0x0d, 0xb8, 0, 1, 0, 0, 0, 0, 0, 0, 0, 0, 0, 5,
+    2, 1, 2, 0, 0, 0, 0, 2,
+];
+
+/// A packet of 2001:db8::9 to 2001:db8:1::5, which a router sends on, and tells its sender of a better hop.
+pub(crate) const TRANSIT: [u8; 54] = [
+    0x34, 0x56, 0x78, 0x9a, 0xbc, 0xde, 2, 0, 0, 0, 0, 9, 0x86, 0xdd, 0x60, 0, 0, 0, 0, 0, 0x11,
+    0x40, 0x20, 1, 0x0d, 0xb8, 0, 0, 0, 0, 0, 0, 0, 0, 0, 0, 0, 9, 0x20, 1, 0x0d, 0xb8, 0, 1, 0, 0,
+    0, 0, 0, 0, 0, 0, 0, 5,
+];
+
+/// An event comes. A function of its own, so that no test's proof carries what an event adds.
+pub(crate) fn come<'h>(
+    node: &mut Node<Pcg32, &'h LocalHeap>,
+    now: u64,
+    event: &Event<&'h LocalHeap>,
+    outs: &mut Vec<(u64, Out<&'h LocalHeap>), &'h LocalHeap>,
+) -> Result<(), AllocError>
+    requires { now < 2 ^ 62 }
+{
+    node.event(now, event, outs)
+}
+
+/// A host, at 3 s, up to which all that is due is done.
+pub(crate) fn host<'h>(rt: &impl Abort, heap: &'h LocalHeap) -> Node<Pcg32, &'h LocalHeap> {
+    let generator = Pcg32::seed_from_u64(0);
+    let mut node = Node::new(
+        heap,
+        Role::Host,
+        MAC,
+        0,
+        Transmits::ONE,
+        Limits::usual(),
+        generator,
+    )
+    .expect(rt, "memory");
+    let mut outs = Vec::new(heap);
+    come(&mut node, 3000, &Event::Passes, &mut outs).expect(rt, "memory");
+    node
+}
+
+/// A frame comes.
+pub(crate) fn receives<'h>(
+    heap: &'h LocalHeap,
+    bytes: &[u8],
+) -> Result<Event<&'h LocalHeap>, AllocError> {
+    let mut frame = Vec::new(heap);
+    frame.extend_from_slice(bytes)?;
+    Ok(Event::Receives(frame))
+}
+
+/// A packet without a payload is to be sent.
+pub(crate) fn sends(heap: &LocalHeap, destination: Addr) -> Event<&LocalHeap> {
+    Event::Sends(OutgoingPacket {
+        source: OWN,
+        destination,
+        next_header: 59,
+        payload: Vec::new(heap),
+    })
+}
+
+/// Takes all that is left of a heap, but for the last of it in blocks of 16 bytes: one byte more is refused.
+pub(crate) fn exhaust<'h>(
+    rt: &impl Abort,
+    heap: &'h LocalHeap,
+) -> Vec<Vec<u8, &'h LocalHeap>, &'h LocalHeap> {
+    let mut blocks = Vec::with_capacity(heap, 2 * MOST_BLOCKS).expect(rt, "memory");
+    fill(heap, LARGE, &mut blocks).expect(rt, "memory");
+    for _ in 0..LAST {
+        let _block = blocks.pop();
+    }
+    fill(heap, SMALL, &mut blocks).expect(rt, "memory");
+    assert!(rt; Vec::<u8, &LocalHeap>::with_capacity(heap, 1).is_err());
+    blocks
+}
+
+/// Takes blocks of one size, until there is none any more.
+fn fill<'h>(
+    heap: &'h LocalHeap,
+    size: usize,
+    blocks: &mut Vec<Vec<u8, &'h LocalHeap>, &'h LocalHeap>,
+) -> Result<(), AllocError> {
+    for _ in 0..MOST_BLOCKS {
+        match Vec::with_capacity(heap, size) {
+            Ok(block) => blocks.push(block)?,
+            Err(_) => break,
+        }
+    }
+    Ok(())
+}
+
+/// The rows of all tables of a node.
+fn shown<'h>(
+    rt: &impl Abort,
+    node: &Node<Pcg32, &'h LocalHeap>,
+    heap: &'h LocalHeap,
+) -> String<&'h LocalHeap> {
+    let mut text = String::new(heap);
+    let tables = [
+        Table::Neighbours,
+        Table::Routers,
+        Table::Prefixes,
+        Table::Addresses,
+        Table::Dns,
+        Table::Redirects,
+        Table::Params,
+        Table::Advertise,
+        Table::Routes,
+    ];
+    for table in tables {
+        for row in &node.rows(&heap, 3000, table).expect(rt, "memory") {
+            text.push_str(row.as_str()).expect(rt, "memory");
+            text.push_str("\n").expect(rt, "memory");
+        }
+    }
+    text
+}
+
+/// The events that ask for no memory come, while there is none left.
+fn take_without_memory<'h>(
+    rt: &impl Abort,
+    heap: &'h LocalHeap,
+    node: &mut Node<Pcg32, &'h LocalHeap>,
+    advertisement: &Event<&'h LocalHeap>,
+    empty: &Event<&'h LocalHeap>,
+    outs: &mut Vec<(u64, Out<&'h LocalHeap>), &'h LocalHeap>,
+) {
+    let blocks = exhaust(rt, heap);
+    assert!(rt; node.settle(3000, outs).is_ok());
+    assert!(rt; come(node, 3000, &Event::Passes, outs).is_ok());
+    assert!(rt; come(node, 3000, empty, outs).is_ok());
+    assert!(rt; come(node, 3000, advertisement, outs).is_ok());
+    assert!(rt; come(node, 3000, &Event::Confirms(ROUTER), outs).is_ok());
+    assert!(rt; come(node, 3000, &Event::Forgets(STRANGER), outs).is_ok());
+    assert!(rt; come(node, 3000, &Event::Clears(Clearable::Prefixes), outs).is_ok());
+    assert!(rt; come(node, 3000, &Event::Clears(Clearable::Redirects), outs).is_ok());
+    assert!(rt; come(node, 3000, &Event::Clears(Clearable::Dns), outs).is_ok());
+    assert!(rt; come(node, 2999, &Event::Passes, outs).is_ok());
+    // What a node knows is asked without memory.
+    assert!(rt; node.neighbours(3000).next().is_some());
+    assert!(rt; node.default_routers(3000).next().is_some());
+    assert!(rt; node.addresses(3000).next().is_some());
+    assert!(rt; node.prefixes(3000).next().is_none());
+    assert!(rt; node.servers(3000).next().is_none());
+    assert!(rt; node.search_names(3000).next().is_none());
+    assert!(rt; node.redirects().next().is_none());
+    assert!(rt; node.neighbour(3000, ROUTER).is_some());
+    assert!(rt; !blocks.is_empty());
+}
+
+/// The events that ask for no memory: time that passes, a frame that is dropped, an advertisement that adds nothing, a confirmation, a
+/// neighbour that isn't known and is forgotten, tables that are cleared without a word, and an event that comes too late.
+#[test]
+fn a_host_without_memory_takes_what_asks_for_none(rt: HostRuntime) {
+    let heap = LocalHeap::new(rt.alloc(), AMPLE).expect(&rt, "memory");
+    let mut node = host(&rt, &heap);
+    let advertisement = receives(&heap, &ADVERTISEMENT).expect(&rt, "memory");
+    let empty = receives(&heap, &EMPTY).expect(&rt, "memory");
+    let mut outs = Vec::with_capacity(&heap, 8).expect(&rt, "memory");
+    come(&mut node, 3000, &advertisement, &mut outs).expect(&rt, "memory");
+    take_without_memory(&rt, &heap, &mut node, &advertisement, &empty, &mut outs);
+    let mut text = String::new(&heap);
+    write_outs(&mut text, &outs).expect(&rt, "memory");
+    assert_eq!(rt;
+        text.as_str(),
+        "3000 heard ra\n3000 drop 3 HeaderShort\n3000 heard ra\n2999 refused past 3000\n"
+    );
+    let tables = shown(&rt, &node, &heap);
+    assert_eq!(rt;
+        tables.as_str(),
+        "neighbour fe80::ff:fe00:1 02:00:00:00:00:01 reachable router\nrouter fe80::ff:fe00:1 1800000 medium\naddress fe80::3656:78ff:fe9a:bcde preferred inf inf\nparams hop 64 mtu 1500 reachable 30000 28151 retrans 1000 managed 0 other 0\n"
+    );
+}
+
+/// An event comes while so many blocks of 16 bytes are left.
+fn try_event<'h>(
+    rt: &impl Abort,
+    heap: &'h LocalHeap,
+    node: &mut Node<Pcg32, &'h LocalHeap>,
+    event: &Event<&'h LocalHeap>,
+    now: u64,
+    spare: usize,
+    outs: &mut Vec<(u64, Out<&'h LocalHeap>), &'h LocalHeap>,
+) -> Result<(), AllocError>
+    requires { now < 2 ^ 62 }
+{
+    let mut blocks = exhaust(rt, heap);
+    for _ in 0..spare {
+        let _block = blocks.pop();
+    }
+    come(node, now, event, outs)
+}
+
+/// Each request of an event is the one that is refused in some try, since each try has 16 bytes more than the one before; and each that is
+/// refused leaves all tables as they were, and tells nothing. The tries are few, so the event asks for little memory.
+fn refuse_each<'h>(
+    rt: &impl Abort,
+    heap: &'h LocalHeap,
+    node: &mut Node<Pcg32, &'h LocalHeap>,
+    now: u64,
+    event: &Event<&'h LocalHeap>,
+)
+    requires { now < 2 ^ 62 }
+{
+    let before = shown(rt, node, heap);
+    let mut refused = 0;
+    for spare in 0..MOST_BLOCKS {
+        let mut outs = Vec::new(heap);
+        if try_event(rt, heap, node, event, now, spare, &mut outs).is_ok() {
+            break;
+        }
+        assert!(rt; shown(rt, node, heap).as_str() == before.as_str());
+        assert!(rt; outs.is_empty());
+        refused = spare + 1;
+    }
+    assert!(rt; refused > 0 && refused <= MOST_TRIES);
+}
+
+#[test]
+fn each_request_of_a_hosts_event_is_refused_once(rt: HostRuntime) {
+    let heap = LocalHeap::new(rt.alloc(), AMPLE).expect(&rt, "memory");
+    let mut node = host(&rt, &heap);
+    let events = [
+        sends(&heap, STRANGER),
+        receives(&heap, &ADVERTISEMENT).expect(&rt, "memory"),
+        receives(&heap, &REDIRECT).expect(&rt, "memory"),
+        sends(&heap, Addr::ALL_NODES),
+        Event::Forgets(STRANGER),
+        sends(&heap, STRANGER),
+        Event::Clears(Clearable::Neighbours),
+        Event::Shows(Table::Dns),
+        Event::Clears(Clearable::Routers),
+    ];
+    for event in &events {
+        refuse_each(&rt, &heap, &mut node, 3000, event);
+    }
+}
+
+/// 2001:db8::/64 on the link, and 2001:db8:1::/64 behind fe80::2.
+pub(crate) fn routes() -> Option<[KeptRoute; 2]> {
+    let on_link = Addr([0x20, 1, 0x0d, 0xb8, 0, 0, 0, 0, 0, 0, 0, 0, 0, 0, 0, 0]);
+    let behind = Addr([0x20, 1, 0x0d, 0xb8, 0, 1, 0, 0, 0, 0, 0, 0, 0, 0, 0, 0]);
+    let hop = Addr([0xfe, 0x80, 0, 0, 0, 0, 0, 0, 0, 0, 0, 0, 0, 0, 0, 2]);
+    Some([
+        KeptRoute {
+            prefix: Prefix::new(on_link, 64)?,
+            route: Route::Direct,
+        },
+        KeptRoute {
+            prefix: Prefix::new(behind, 64)?,
+            route: Route::Via(hop),
+        },
+    ])
+}
+
+/// A router that advertises, at 3 s, up to which all that is due is done: its first advertisement was sent.
+fn router<'h>(rt: &impl Abort, heap: &'h LocalHeap) -> Node<Pcg32, &'h LocalHeap> {
+    let generator = Pcg32::seed_from_u64(0);
+    let mut node = Node::new(
+        heap,
+        Role::Router,
+        MAC,
+        0,
+        Transmits::ONE,
+        Limits::usual(),
+        generator,
+    )
+    .expect(rt, "memory");
+    let flags = ConfigFlags {
+        managed: false,
+        other: false,
+        preference: Preference::Medium,
+    };
+    let config = Config::new(200, 600, 1800, 64, flags, 0, 0, 0).expect(rt, "settings");
+    let [on_link, behind] = routes().expect(rt, "routes");
+    let events = [
+        (0, Event::Advertises(config)),
+        (0, Event::PutsRoute(on_link)),
+        (0, Event::PutsRoute(behind)),
+        (3000, Event::Passes),
+    ];
+    let mut outs = Vec::new(heap);
+    for (at, event) in &events {
+        come(&mut node, *at, event, &mut outs).expect(rt, "memory");
+    }
+    node
+}
+
+/// A packet that is sent on, and the Redirect before it; what is shown; an advertisement that falls due, 16 s after the first at most, and
+/// the last one.
+#[test]
+fn each_request_of_a_routers_event_is_refused_once(rt: HostRuntime) {
+    let heap = LocalHeap::new(rt.alloc(), AMPLE).expect(&rt, "memory");
+    let mut node = router(&rt, &heap);
+    let transit = receives(&heap, &TRANSIT).expect(&rt, "memory");
+    refuse_each(&rt, &heap, &mut node, 3000, &transit);
+    refuse_each(&rt, &heap, &mut node, 3000, &Event::Shows(Table::Advertise));
+    refuse_each(&rt, &heap, &mut node, 3000, &Event::Shows(Table::Routes));
+    refuse_each(
+        &rt,
+        &heap,
+        &mut node,
+        3000,
+        &Event::Clears(Clearable::Neighbours),
+    );
+    refuse_each(&rt, &heap, &mut node, 20_000, &Event::Passes);
+    refuse_each(&rt, &heap, &mut node, 20_000, &Event::Stops);
+}

@@ -1,0 +1,214 @@
+//! The words of the command line.
+
+use nd_addr::{Mac, Role};
+use nd_node::Limits;
+use nd_random::Source;
+use nd_slaac::Transmits;
+use ndpctl_args::{Asked, Carrier, Refused, read_words};
+use ndpctl_run::RunOptions;
+use std::process::Abort;
+use std::test::*;
+
+/// What the words after the program's path ask for.
+fn read(rt: &(impl Abort + AllocGlobal), words: &[&str]) -> Result<Asked, Refused> {
+    let mut all = Vec::new(rt.alloc());
+    for word in ["ndpctl"].iter().chain(words) {
+        let owned = (*word).to_string(rt.alloc()).expect(rt, "memory");
+        all.push(owned).expect(rt, "memory");
+    }
+    read_words(rt.alloc(), all.as_slice())
+}
+
+/// `clap` tells of the words, with this status.
+fn is_told(rt: &(impl Abort + AllocGlobal), words: &[&str], status: i32) {
+    match read(rt, words) {
+        Err(Refused::Told(error)) => assert!(rt; error.exit_code() == status),
+        _ => panic!(rt; "not told"),
+    }
+}
+
+/// The words ask for a link whose frames are carried so.
+fn is_link(rt: &(impl Abort + AllocGlobal), words: &[&str], wanted: Carrier) {
+    match read(rt, words) {
+        Ok(Asked::Link(carrier)) => assert!(rt; carrier == wanted),
+        _ => panic!(rt; "no link"),
+    }
+}
+
+#[test]
+fn check_is_read(rt: HostRuntime) {
+    assert!(rt; matches!(read(&rt, &["check"]), Ok(Asked::Check)));
+    is_told(&rt, &["check", "more"], 2);
+}
+
+/// The options of `run` that the words ask for.
+fn options(rt: &(impl Abort + AllocGlobal), words: &[&str]) -> RunOptions<Source> {
+    match read(rt, words) {
+        Ok(Asked::Run(options)) => options,
+        _ => panic!(rt; "no run"),
+    }
+}
+
+#[test]
+fn run_is_read(rt: HostRuntime) {
+    let words = [
+        "run",
+        "--role",
+        "host",
+        "--mac",
+        "34:56:78:9a:bc:de",
+        "--draws",
+        "word:7",
+        "--transmits",
+        "3",
+        "--neighbours",
+        "600",
+        "--routers",
+        "20",
+    ];
+    let read = options(&rt, &words);
+    assert!(rt; read.role == Role::Host);
+    assert!(rt; read.mac == Mac([0x34, 0x56, 0x78, 0x9a, 0xbc, 0xde]));
+    assert!(rt; matches!(read.generator, Source::Constant(7)));
+    assert!(rt; read.transmits.number() == 3);
+    assert!(rt; Some(read.limits) == Limits::new(600, 20));
+}
+
+#[test]
+fn options_have_defaults(rt: HostRuntime) {
+    let read = options(&rt, &["run", "--mac=02:00:00:00:00:01", "--role=router"]);
+    assert!(rt; read.role == Role::Router);
+    assert!(rt; matches!(read.generator, Source::Seeded(_)));
+    assert!(rt; read.transmits == Transmits::ONE);
+    assert!(rt; read.limits == Limits::usual());
+}
+
+#[test]
+fn link_is_read(rt: HostRuntime) {
+    is_link(&rt, &["link"], Carrier::Memory);
+    is_link(&rt, &["link", "--wire", "memory"], Carrier::Memory);
+    is_link(&rt, &["link", "--wire=udp"], Carrier::Udp);
+    is_told(&rt, &["link", "--wire", "radio"], 2);
+    is_told(&rt, &["link", "--role", "host"], 2);
+}
+
+/// Which value is refused.
+fn refused(rt: &(impl Abort + AllocGlobal), words: &[&str]) -> &'static str {
+    match read(rt, words) {
+        Ok(_) => "none",
+        Err(Refused::Told(_)) => "clap",
+        Err(Refused::Mac) => "mac",
+        Err(Refused::Draws) => "draws",
+        Err(Refused::Transmits) => "transmits",
+        Err(Refused::Neighbours) => "neighbours",
+        Err(Refused::Routers) => "routers",
+        Err(Refused::Memory) => "memory",
+    }
+}
+
+/// The first bad value is refused, in the order of the options, whatever the order of the words.
+#[test]
+fn values_are_judged_in_their_order(rt: HostRuntime) {
+    for (mac, draws, transmits, neighbours, routers, wanted) in [
+        ("02:00", "seed:01", "0", "0", "0", "mac"),
+        ("02:00:00:00:00:01", "seed:01", "0", "0", "0", "draws"),
+        ("02:00:00:00:00:01", "seed:1", "0", "0", "0", "transmits"),
+        ("02:00:00:00:00:01", "seed:1", "8", "0", "0", "neighbours"),
+        ("02:00:00:00:00:01", "seed:1", "8", "2048", "0", "routers"),
+        ("02:00:00:00:00:01", "seed:1", "8", "2048", "64", "none"),
+        ("02:00", "seed:1", "8", "2048", "64", "mac"),
+        ("02:00:00:00:00:01", "seed:01", "8", "2048", "64", "draws"),
+    ] {
+        let words = [
+            "run",
+            "--routers",
+            routers,
+            "--neighbours",
+            neighbours,
+            "--transmits",
+            transmits,
+            "--draws",
+            draws,
+            "--mac",
+            mac,
+            "--role",
+            "host",
+        ];
+        assert_eq!(rt; refused(&rt, &words), wanted);
+    }
+}
+
+/// The words of a run with one option more.
+fn run_with<'a>(option: &'a str, value: &'a str) -> [&'a str; 7] {
+    [
+        "run",
+        "--role",
+        "host",
+        "--mac",
+        "02:00:00:00:00:01",
+        option,
+        value,
+    ]
+}
+
+/// Each number is read up to the ends of its range.
+#[test]
+fn numbers_have_ranges(rt: HostRuntime) {
+    for (option, value, transmits, neighbours, routers) in [
+        ("--transmits", "1", 1, 512, 16),
+        ("--transmits", "8", 8, 512, 16),
+        ("--neighbours", "1", 1, 1, 16),
+        ("--neighbours", "2048", 1, 2048, 16),
+        ("--routers", "1", 1, 512, 1),
+        ("--routers", "64", 1, 512, 64),
+    ] {
+        let read = options(&rt, &run_with(option, value));
+        assert!(rt; read.transmits.number() == transmits);
+        assert!(rt; Some(read.limits) == Limits::new(neighbours, routers));
+    }
+}
+
+/// Numbers outside their range, and words that are no numbers: a sign, a leading zero, a space, and numbers that end in one of the range as a
+/// byte, as two bytes or as eight.
+#[test]
+fn other_words_are_no_numbers(rt: HostRuntime) {
+    for (option, greater, wanted) in [
+        ("--transmits", "9", "transmits"),
+        ("--neighbours", "2049", "neighbours"),
+        ("--routers", "65", "routers"),
+    ] {
+        assert_eq!(rt; refused(&rt, &run_with(option, greater)), wanted);
+        for value in [
+            "",
+            "0",
+            "03",
+            "+1",
+            "1 ",
+            "one",
+            "-",
+            "65537",
+            "18446744073709551617",
+        ] {
+            assert_eq!(rt; refused(&rt, &run_with(option, value)), wanted);
+        }
+        // `clap` takes `-1` for an option.
+        assert_eq!(rt; refused(&rt, &run_with(option, "-1")), "clap");
+    }
+}
+
+#[test]
+fn clap_tells_first(rt: HostRuntime) {
+    let no_mac = ["run", "--role", "host", "--draws", "seed:01"];
+    is_told(&rt, &no_mac, 2);
+    let bridge = ["run", "--role", "bridge", "--mac", "02:00:00:00:00:01"];
+    is_told(&rt, &bridge, 2);
+    let twice = ["run", "--role", "host", "--mac", "02:00", "--mac", "02:00"];
+    is_told(&rt, &twice, 2);
+    is_told(&rt, &[], 2);
+}
+
+#[test]
+fn help_is_no_fault(rt: HostRuntime) {
+    is_told(&rt, &["--help"], 0);
+    is_told(&rt, &["run", "--help"], 0);
+}
