@@ -57,16 +57,17 @@ impl<A: Allocator> Block<A> {
         self.dates.len()
     }
 
-    /// Puts in a date that isn't there. There is room for it.
-    pub(crate) fn put(&mut self, date: Date)
+    /// Puts in a date that isn't there, and returns its place. There is room for it.
+    pub(crate) fn put(&mut self, date: Date) -> usize
         requires order { Rises rank self.old }
         requires absent { at_key rank (rank date) self.old ≡ None }
         requires room { length self.old < BLOCK }
-        ensures { self.new ≡ put_date date self.old }
+        ensures dates { self.new ≡ put_date date self.old }
+        ensures within { result < BLOCK }
     {
         let at = self.place(&date);
         match self.dates.insert(at, date) {
-            Ok(()) => {}
+            Ok(()) => at,
             Err(_) => unreachable!(),
         }
     }

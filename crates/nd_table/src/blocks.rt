@@ -72,9 +72,9 @@ impl<A: Allocator> Blocks<A> {
     {
         let at = self.find_from_last(date);
         let block = &mut self.used[at];
-        block.put(date);
+        let place = block.put(date);
         if block.len() == BLOCK {
-            self.split(at);
+            self.split(at, (place + 1).min(BLOCK - 1));
             self.settle_split(at);
         }
     }
@@ -142,8 +142,11 @@ impl<A: Allocator> Blocks<A> {
         }
     }
 
-    /// Splits a full block in halves. The last block gives up its last date alone, so that dates that come in their order fill the blocks.
-    fn split(&mut self, at: usize)
+    /// Splits a full block: it keeps its first `lower` dates. `put` splits it behind the date that came, so that dates that come in their order
+    /// fill the blocks, whatever dates are behind them.
+    fn split(&mut self, at: usize, lower: usize)
+        requires some { 0 < lower }
+        requires fewer { lower < BLOCK }
         requires within { at < length self.old.blocks }
         requires full { length (slice_index_or self.old.blocks at []) ≡ BLOCK }
         requires spare { 0 < self.old.spare }
@@ -158,11 +161,6 @@ impl<A: Allocator> Blocks<A> {
     {
         let Some(mut upper) = self.spare.pop() else {
             unreachable!()
-        };
-        let lower = if at + 1 == self.used.len() {
-            BLOCK - 1
-        } else {
-            BLOCK / 2
         };
         let block = &mut self.used[at];
         block.split_into(lower, &mut upper);
