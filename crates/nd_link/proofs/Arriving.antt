@@ -11,8 +11,8 @@ use Rattle.nd_chronicle.specs.Happening.{Chronicle, Passed}
 use Rattle.nd_chronicle.specs.Told.{items, items_at, node_lines}
 use Rattle.nd_chronicle.proofs.Growth.{event_grows}
 use Rattle.nd_out.specs.declared.out.Out.{Out}
-use Rattle.nd_steps.specs.Told as effects
-use Rattle.nd_steps.specs.Told.{frames_in, happenings}
+use Rattle.nd_steps.specs.Outputs as effects
+use Rattle.nd_steps.specs.Outputs.{frames_in, happenings}
 use Rattle.nd_node.specs.declared.node.Node.{Node}
 use Rattle.nd_node.specs.Event.{AddsEvent}
 use Rattle.nd_node.specs.Node as node

@@ -4,7 +4,7 @@ use Rattle.std.specs.List.{AllByRecursion}
 use Rattle.std.proofs.lemmas.List.Elements.{All-append}
 use Rattle.rand_core.specs.Stream.{Stream}
 use Rattle.nd_addr.specs.Bytes.{IsBytes}
-use Rattle.nd_steps.specs.Told.{frame_sent}
+use Rattle.nd_steps.specs.Outputs.{frame_sent}
 use Rattle.nd_chronicle.specs.Happening.{Sent}
 use Rattle.nd_node.specs.Limits.{usual_limits}
 use Rattle.nd_link_log.specs.Log.{Log, Begins, Adds, Carries, Reaches, Refuses}

@@ -8,8 +8,8 @@ use Rattle.std.specs.List.{flat_map}
 use Rattle.nd_chronicle.specs.Happening.{Chronicle, Happening, Heard, Lost, Sent}
 use Rattle.nd_chronicle.specs.Told.{Told, Words, told_of, items_at, items, line_at, line_of, node_lines}
 use Rattle.nd_out.specs.declared.out.Out.{Out}
-use Rattle.nd_steps.specs.Told as effects
-use Rattle.nd_steps.specs.Told.{frame_sent, frames_in, happenings, sent_in}
+use Rattle.nd_steps.specs.Outputs as effects
+use Rattle.nd_steps.specs.Outputs.{frame_sent, frames_in, happenings, sent_in}
 use Rattle.nd_steps.proofs.Reading.{Tells-frames}
 use Rattle.nd_link_log.specs.Log.{Log, Adds, adding}
 use Rattle.nd_link_log.specs.Told.{lines_of, text}

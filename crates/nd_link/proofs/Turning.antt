@@ -8,8 +8,8 @@ use Rattle.nd_chronicle.specs.Happening.{Chronicle}
 use Rattle.nd_chronicle.specs.Due.{What, Due, comes}
 use Rattle.nd_chronicle.specs.Told.{node_lines}
 use Rattle.nd_chronicle.proofs.Growth.{comes_grows}
-use Rattle.nd_steps.specs.Told as effects
-use Rattle.nd_steps.specs.Told.{frames_in, happenings}
+use Rattle.nd_steps.specs.Outputs as effects
+use Rattle.nd_steps.specs.Outputs.{frames_in, happenings}
 use Rattle.nd_out.specs.declared.out.Out.{Out}
 use Rattle.nd_node.specs.declared.node.Node.{Node}
 use Rattle.nd_node.specs.Node as node

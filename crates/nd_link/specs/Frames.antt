@@ -1,6 +1,6 @@
 -- The frames that were sent on a link, with their senders: the place of each is its number.
 use Rattle.std.specs.Prelude.{◌≡◌, ℕ, List, [], ◌∷◌, ◌++◌, map, slice_get, Some}
-use Rattle.nd_steps.specs.Told.{frame_sent}
+use Rattle.nd_steps.specs.Outputs.{frame_sent}
 use Rattle.nd_link_log.specs.Log.{Log, Adds}
 use Rattle.nd_link.specs.declared.sent_frame.SentFrame.{SentFrame}
 

@@ -2,7 +2,7 @@
 use Rattle.std.specs.Prelude.{◌≡◌, ℕ, List, ◌++◌}
 use Rattle.std.specs.List.{flat_map}
 use Rattle.nd_chronicle.specs.Told.{node_lines}
-use Rattle.nd_steps.specs.Told.{happenings}
+use Rattle.nd_steps.specs.Outputs.{happenings}
 use Rattle.nd_link_log.specs.Log as log
 use Rattle.nd_link_log.specs.Log.{Log, Refuses}
 use Rattle.nd_link_log.specs.Told.{lines_of, text}

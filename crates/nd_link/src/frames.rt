@@ -1,5 +1,5 @@
 ghost use Rattle.std.specs.Prelude.{◌≡◌, ◌++◌, OnOk};
-ghost use Rattle.nd_steps.specs.Told.{frame_sent, frames_in, happenings};
+ghost use Rattle.nd_steps.specs.Outputs.{frame_sent, frames_in, happenings};
 ghost use Rattle.nd_out.specs.Out.{happening};
 ghost use Rattle.nd_link.specs.Frames.{kept_frames, of_sender};
 

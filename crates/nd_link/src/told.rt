@@ -1,7 +1,7 @@
 ghost use Rattle.std.specs.Prelude.{◌≡◌, ◌<◌, IsOk, OnErr, OnOk, vec_capacity, vec_len};
 ghost use Rattle.std.specs.List.{flat_map};
 ghost use Rattle.nd_chronicle.specs.Told.{node_lines};
-ghost use Rattle.nd_steps.specs.Told.{happenings};
+ghost use Rattle.nd_steps.specs.Outputs.{happenings};
 ghost use Rattle.nd_link_log.specs.Log.{Refuses};
 ghost use Rattle.nd_link_log.specs.Told.{lines_of};
 ghost use Rattle.nd_link.specs.Told.{TellsLines, refusal_of};

@@ -58,22 +58,21 @@ use Rattle.nd_chronicle.specs.Message.{releasing, leaving}
 use Rattle.nd_chronicle.specs.RouterAdvertisement.{redrawing, with_delay, forming, naming, then_option, then_options, times_out}
 use Rattle.nd_chronicle.specs.Told.{Told, items_at, items}
 use Rattle.nd_out.specs.declared.out.Out.{Out}
-use Rattle.nd_steps.specs.DefaultRouter.{with_left, with_gone}
-use Rattle.nd_steps.specs.LinkLayerAddress.{PreparesFor, released_frames, HearsOf}
-use Rattle.nd_steps.specs.LinkParameters.{then_parameters, HearsParameters}
-use Rattle.nd_steps.specs.PrefixOptions.{Forms}
+use Rattle.nd_steps.specs.DefaultRouterList.{with_left, with_gone, left_told}
+use Rattle.nd_steps.specs.NeighbourCache.{PreparesFor, released_frames, HearsOf}
+use Rattle.nd_steps.specs.Parameters.{then_parameters, HearsParameters}
+use Rattle.nd_steps.specs.OwnAddresses.{Forms}
 use Rattle.nd_nexthop.specs.Memo.{is_asked}
 use Rattle.nd_slaac.specs.Calls.{keys_in}
-use Rattle.nd_steps.specs.Remembered.{AsListed, AsStanding, MayRemember, Recollects, forms_none, last_before_end}
+use Rattle.nd_steps.specs.DestinationCache.{AsListed, AsStanding, MayRemember, Recollects, forms_none, last_before_end}
 use Rattle.nd_node.proofs.Recalling.{Recalls, own_by}
 use Rattle.nd_node.proofs.Refreshing.{is_known_by, own_refreshed, recalls_refreshed}
-use Rattle.nd_steps.specs.RouterAdvertisement.{left_told}
-use Rattle.nd_steps.specs.RouterSolicitations as soliciting
-use Rattle.nd_steps.specs.RouterSolicitations.{Solicitations, next_solicitation}
-use Rattle.nd_steps.specs.Told.{at_moment, Tells}
-use Rattle.nd_steps.specs.Told as told
-use Rattle.nd_steps.specs.Router as router_only
-use Rattle.nd_steps.specs.Router.{next_advertisement, router_side}
+use Rattle.nd_steps.specs.SolicitRouters as soliciting
+use Rattle.nd_steps.specs.SolicitRouters.{Solicitations, next_solicitation}
+use Rattle.nd_steps.specs.Outputs.{at_moment, Tells}
+use Rattle.nd_steps.specs.Outputs as told
+use Rattle.nd_steps.specs.RouterTables as router_only
+use Rattle.nd_steps.specs.RouterTables.{next_advertisement, router_side}
 use Rattle.nd_steps.specs.declared.router_tables.RouterTables.{RouterTables}
 use Rattle.nd_steps.proofs.RouterSide.{side_stands}
 use Rattle.nd_steps.proofs.Quiet.{Quiet}

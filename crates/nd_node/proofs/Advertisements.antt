@@ -37,10 +37,10 @@ use Rattle.nd_chronicle.specs.OwnAddress.{is_tentative}
 use Rattle.nd_chronicle.specs.Told.{items_at, items}
 use Rattle.nd_out.specs.declared.out.Out.{Out}
 use Rattle.nd_out.specs.Out.{happening}
-use Rattle.nd_steps.specs.DefaultRouter.{with_left, with_gone}
-use Rattle.nd_steps.specs.LinkLayerAddress.{said_by, HasPlace, HearsOf, released_frames}
-use Rattle.nd_steps.specs.NeighborAdvertisement.{Conflicts, Leaves, with_conflict, told_conflict, told_left}
-use Rattle.nd_steps.specs.Told.{at_moment, happenings, Tells}
+use Rattle.nd_steps.specs.DefaultRouterList.{with_left, with_gone, Leaves, told_left}
+use Rattle.nd_steps.specs.NeighbourCache.{said_by, HasPlace, HearsOf, released_frames}
+use Rattle.nd_steps.specs.OwnAddresses.{Conflicts, with_conflict, told_conflict}
+use Rattle.nd_steps.specs.Outputs.{at_moment, happenings, Tells}
 use Rattle.nd_steps.proofs.Quiet.{Quiet}
 use Rattle.nd_steps.proofs.Saying.{NoneOverdueStill, OneGoes, OverdueByTable, none_before_said, releasing_is_quiet, releasing_items}
 use Rattle.nd_steps.proofs.Telling.{one, above_silent, Tells-then, one_more}
@@ -48,7 +48,7 @@ use Rattle.nd_node.specs.declared.node.Node.{Node}
 use Rattle.nd_node.specs.Hearing.{AddsMessage}
 use Rattle.nd_node.specs.Node.{next_of}
 use Rattle.nd_nexthop.specs.Memo.{forgotten}
-use Rattle.nd_steps.specs.Remembered.{MayRemember}
+use Rattle.nd_steps.specs.DestinationCache.{MayRemember}
 use Rattle.nd_node.proofs.Recalling.{Recalls, forgot_redirects, may_redirects, own_same, recalls_advertised, redirects_stand}
 use Rattle.nd_node.proofs.Standing.{Apart, Still, apart_quiet, apart_then, settled_none, stands_at}
 use Rattle.nd_node.proofs.Turns.{addresses_before, neighbours_before}

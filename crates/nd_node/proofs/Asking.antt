@@ -39,8 +39,8 @@ use Rattle.nd_chronicle.specs.Due.{assigned_at}
 use Rattle.nd_chronicle.specs.Told.{Told, items_at, items}
 use Rattle.nd_out.specs.declared.out.Out.{Out}
 use Rattle.nd_out.specs.Out.{happening}
-use Rattle.nd_steps.specs.LinkLayerAddress.{said_by, HasPlace, HearsOf, released_frames}
-use Rattle.nd_steps.specs.Told.{at_moment, happenings, Tells}
+use Rattle.nd_steps.specs.NeighbourCache.{said_by, HasPlace, HearsOf, released_frames}
+use Rattle.nd_steps.specs.Outputs.{at_moment, happenings, Tells}
 use Rattle.nd_steps.proofs.Quiet.{Quiet}
 use Rattle.nd_steps.proofs.Saying.{NoneOverdueStill, OneGoes, Others, OverdueByTable, none_before_said, placed_by, released_kept, releasing_is_quiet, releasing_items}
 use Rattle.nd_steps.proofs.Telling.{handed_out, Tells-then, one_told}
@@ -49,7 +49,7 @@ use Rattle.nd_node.specs.Node.{Stands, next_of}
 use Rattle.nd_node.specs.Packet.{PacketGoes}
 use Rattle.nd_node.specs.Time.{Leads}
 use Rattle.nd_node.specs.Hearing.{AddsMessage}
-use Rattle.nd_steps.specs.Remembered.{MayRemember}
+use Rattle.nd_steps.specs.DestinationCache.{MayRemember}
 use Rattle.nd_node.proofs.Beside.{Beside, Same, beside_then, stands_neighbours}
 use Rattle.nd_node.proofs.Detections.{solicitation}
 use Rattle.nd_node.proofs.Quiet.{stands_quiet, refused_is_quiet}

@@ -19,7 +19,7 @@ use Rattle.nd_chronicle.specs.Histories.{parameter_history, address_history}
 use Rattle.nd_chronicle.specs.Due.{is_host}
 use Rattle.nd_chronicle.specs.Generator.{stream_left}
 use Rattle.nd_chronicle.specs.History.{beginning}
-use Rattle.nd_steps.specs.RouterSolicitations.{Solicitations, next_solicitation}
+use Rattle.nd_steps.specs.SolicitRouters.{Solicitations, next_solicitation}
 use Rattle.nd_node.specs.declared.node.Node.{Node}
 use Rattle.nd_node.specs.Node.{Stands}
 use Rattle.nd_steps.proofs.Remembering.{remembers_nothing}

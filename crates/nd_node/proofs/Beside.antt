@@ -13,14 +13,14 @@ use Rattle.nd_chronicle.specs.Happening.{Chronicle, Neighbour, Sent, last_moment
 use Rattle.nd_chronicle.specs.Histories.{parameter_history, neighbour_history, router_history, prefix_history, address_history, server_history, name_history, redirect_history, then_failed, then_target}
 use Rattle.nd_chronicle.specs.Generator.{stream_left}
 use Rattle.nd_chronicle.specs.Due.{solicited_routers, assigned_at}
-use Rattle.nd_steps.specs.Router.{router_side}
+use Rattle.nd_steps.specs.RouterTables.{router_side}
 use Rattle.nd_steps.proofs.Quiet.{Quiet}
 use Rattle.nd_steps.proofs.RouterSide.{side_stands}
 use Rattle.nd_node.specs.declared.node.Node.{Node}
 use Rattle.nd_node.specs.Node.{Stands, next_of}
 use Rattle.nd_nexthop.specs.Choice.{Table}
 use Rattle.nd_nexthop.specs.Memo.{forgotten}
-use Rattle.nd_steps.specs.Remembered.{MayRemember}
+use Rattle.nd_steps.specs.DestinationCache.{MayRemember}
 use Rattle.nd_node.proofs.Recalling.{Recalls, forgets_all, may_recall, redirects_stand}
 use Rattle.nd_node.proofs.Turns.{all_later, routers_before, addresses_before, neighbours_before, solicitation_before, advertisement_before, redraw_before}
 

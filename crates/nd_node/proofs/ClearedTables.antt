@@ -31,15 +31,15 @@ use Rattle.nd_chronicle.specs.Event as events
 use Rattle.nd_chronicle.specs.Event.{all_leaving, clearing}
 use Rattle.nd_chronicle.specs.Told.{Told, items_at, items}
 use Rattle.nd_out.specs.declared.out.Out.{Out}
-use Rattle.nd_steps.specs.Told.{happenings}
-use Rattle.nd_steps.specs.Router.{router_side}
+use Rattle.nd_steps.specs.Outputs.{happenings}
+use Rattle.nd_steps.specs.RouterTables.{router_side}
 use Rattle.nd_steps.proofs.Quiet.{losing_is_quiet}
 use Rattle.nd_steps.proofs.Telling.{lost_at, lost_items, left_at, numbers}
 use Rattle.nd_node.specs.declared.node.Node.{Node}
 use Rattle.nd_node.specs.Event.{AddsEvent}
 use Rattle.nd_node.specs.Node.{Stands, next_of}
 use Rattle.nd_nexthop.specs.Memo.{forgotten}
-use Rattle.nd_steps.specs.Remembered.{MayRemember, Remembers}
+use Rattle.nd_steps.specs.DestinationCache.{MayRemember, Remembers}
 use Rattle.nd_steps.proofs.Remembering.{remembers_later, remembers_nothing}
 use Rattle.nd_node.proofs.Recalling.{forgets_all, redirects_stand}
 use Rattle.nd_node.proofs.Beside.{Beside, Same, beside_neighbour, beside_quiet, beside_then, stands_neighbours}

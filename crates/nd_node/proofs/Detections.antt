@@ -29,7 +29,7 @@ use Rattle.nd_chronicle.specs.Hearing.{hears}
 use Rattle.nd_chronicle.specs.Told.{items_at, items}
 use Rattle.nd_out.specs.declared.out.Out.{Out}
 use Rattle.nd_out.specs.Out.{happening}
-use Rattle.nd_steps.specs.Told.{happenings, Tells}
+use Rattle.nd_steps.specs.Outputs.{happenings, Tells}
 use Rattle.nd_steps.proofs.Quiet.{Quiet, sent_is_quiet}
 use Rattle.nd_steps.proofs.Telling.{handed_out}
 use Rattle.nd_node.specs.declared.node.Node.{Node}

@@ -32,7 +32,7 @@ use Rattle.nd_chronicle.specs.Event.{packet_bytes}
 use Rattle.nd_chronicle.specs.Forwarding.{FateAdds, SendsOn, better_hop_frame, frame_as_it_came, key_of}
 use Rattle.nd_chronicle.specs.Packet.{Goes, GoesIfPlaced}
 use Rattle.nd_out.specs.declared.out.Out.{Out}
-use Rattle.nd_steps.specs.Told.{Tells, happenings}
+use Rattle.nd_steps.specs.Outputs.{Tells, happenings}
 use Rattle.nd_steps.specs.declared.router_tables.RouterTables.{RouterTables}
 use Rattle.nd_steps.proofs.Telling.{Tells-then}
 use Rattle.nd_steps.proofs.Transit.{as_it_came, payload_fits, sent_on}

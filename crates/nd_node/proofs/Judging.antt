@@ -26,7 +26,7 @@ use Rattle.nd_chronicle.specs.Event as events
 use Rattle.nd_chronicle.specs.Told.{items_at, items}
 use Rattle.nd_out.specs.declared.out.Out.{Out}
 use Rattle.nd_out.specs.Out.{happening}
-use Rattle.nd_steps.specs.Told.{happenings}
+use Rattle.nd_steps.specs.Outputs.{happenings}
 use Rattle.nd_steps.proofs.Quiet.{Quiet}
 use Rattle.nd_steps.proofs.Telling.{above_silent, one_more}
 use Rattle.nd_node.specs.declared.node.Node.{Node}

@@ -23,7 +23,7 @@ use Rattle.nd_chronicle.specs.Start.{Start}
 use Rattle.nd_chronicle.specs.Happening.{Chronicle}
 use Rattle.nd_chronicle.specs.Hearing.{IsForUs, IsInTransit, IsPacketForUs, IsHeard, Judges, IsStrange, IsMisdirected, IsStrangePacket, NotFromFirstHop, drops}
 use Rattle.nd_chronicle.specs.Histories.{given_or_marked}
-use Rattle.nd_steps.specs.LinkLayerAddress.{said_by, waiting_for}
+use Rattle.nd_steps.specs.NeighbourCache.{said_by, waiting_for}
 use Rattle.nd_node.specs.declared.node.Node.{Node}
 use Rattle.nd_node.specs.Memory.{IsNameless, AddsNoName}
 

@@ -48,9 +48,9 @@ use Rattle.nd_chronicle.specs.Happening.{Chronicle, last_moment}
 use Rattle.nd_chronicle.specs.Histories.{neighbour_history, router_history, address_history, redirect_history, route_history}
 use Rattle.nd_chronicle.specs.NextHop.{candidate, IsHopOf, IsNextHop}
 use Rattle.nd_chronicle.specs.OwnAddress.{is_own}
-use Rattle.nd_steps.specs.Router.{next_advertisement}
-use Rattle.nd_steps.specs.RouterSolicitations.{next_solicitation}
-use Rattle.nd_steps.specs.FirstHop.{candidate_in, candidates_in}
+use Rattle.nd_steps.specs.RouterTables.{next_advertisement}
+use Rattle.nd_steps.specs.SolicitRouters.{next_solicitation}
+use Rattle.nd_steps.specs.NextHop.{candidate_in, candidates_in}
 use Rattle.nd_steps.proofs.Remembering.{hop_by_own}
 use Rattle.nd_steps.proofs.Resolved.{resolved_by_history}
 use Rattle.nd_nexthop.specs.Choice as choice

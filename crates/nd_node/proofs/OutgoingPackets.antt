@@ -22,9 +22,9 @@ use Rattle.nd_chronicle.specs.Packet.{GoesIfPlaced}
 use Rattle.nd_chronicle.specs.Refused.{UnlessRefused}
 use Rattle.nd_out.specs.declared.out.Out.{Out}
 use Rattle.nd_out.specs.Out.{happening}
-use Rattle.nd_steps.specs.declared.outgoing_packet.OutgoingPacket.{OutgoingPacket}
-use Rattle.nd_steps.specs.OutgoingPacket.{frame_of}
-use Rattle.nd_steps.specs.Told.{Tells, happenings}
+use Rattle.nd_steps.specs.declared.packets.OutgoingPacket.{OutgoingPacket}
+use Rattle.nd_steps.specs.Packets.{frame_of}
+use Rattle.nd_steps.specs.Outputs.{Tells, happenings}
 use Rattle.nd_steps.proofs.Telling.{Tells-then}
 use Rattle.nd_node.specs.declared.node.Node.{Node}
 use Rattle.nd_node.specs.Event.{AddsEvent}

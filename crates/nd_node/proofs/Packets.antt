@@ -27,9 +27,9 @@ use Rattle.nd_chronicle.specs.InForce.{retrans_timer}
 use Rattle.nd_chronicle.specs.Packet.{losing, with_pushed, then_packet}
 use Rattle.nd_chronicle.specs.Told.{items_at, items}
 use Rattle.nd_out.specs.declared.out.Out.{Out}
-use Rattle.nd_steps.specs.Remembered.{MayRemember}
-use Rattle.nd_steps.specs.Packet.{told_of_packet}
-use Rattle.nd_steps.specs.Told.{at_moment, happenings}
+use Rattle.nd_steps.specs.DestinationCache.{MayRemember}
+use Rattle.nd_steps.specs.NeighbourCache.{told_of_packet}
+use Rattle.nd_steps.specs.Outputs.{at_moment, happenings}
 use Rattle.nd_steps.proofs.Quiet.{losing_is_quiet}
 use Rattle.nd_steps.proofs.Saying.{NoneOverdueStill, OneGoes, OverdueByTable, pushed_history}
 use Rattle.nd_steps.proofs.Telling.{one}

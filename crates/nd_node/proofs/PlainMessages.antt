@@ -39,10 +39,10 @@ use Rattle.nd_chronicle.specs.NeighborSolicitation.{is_router}
 use Rattle.nd_chronicle.specs.Told.{items_at, items}
 use Rattle.nd_out.specs.declared.out.Out.{Out}
 use Rattle.nd_out.specs.Out.{happening}
-use Rattle.nd_steps.specs.LinkLayerAddress.{said_by, HearsOf, released_frames}
-use Rattle.nd_steps.specs.Router.{Plans, plans}
+use Rattle.nd_steps.specs.NeighbourCache.{said_by, HearsOf, released_frames}
+use Rattle.nd_steps.specs.RouterTables.{Plans, plans}
 use Rattle.nd_steps.specs.declared.router_tables.RouterTables.{RouterTables}
-use Rattle.nd_steps.specs.Told.{at_moment, happenings, Tells}
+use Rattle.nd_steps.specs.Outputs.{at_moment, happenings, Tells}
 use Rattle.nd_steps.proofs.Quiet.{Quiet}
 use Rattle.nd_steps.proofs.Saying.{NoneOverdueStill, OneGoes, Others, OverdueByTable, none_before_said, placed_by, released_kept, releasing_is_quiet, releasing_items}
 use Rattle.nd_steps.proofs.Telling.{one, above_silent, Tells-then, one_more}

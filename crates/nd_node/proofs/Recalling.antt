@@ -22,8 +22,8 @@ use Rattle.nd_nexthop.specs.Choice as choice
 use Rattle.nd_nexthop.specs.Choice.{Table}
 use Rattle.nd_nexthop.specs.History.{RedirectRow}
 use Rattle.nd_nexthop.specs.Memo.{Memory, forgotten}
-use Rattle.nd_steps.specs.FirstHop.{is_resolved}
-use Rattle.nd_steps.specs.Remembered.{AsResolved, Forgets, Keeps, MayRemember, Remembers}
+use Rattle.nd_steps.specs.NextHop.{is_resolved}
+use Rattle.nd_steps.specs.DestinationCache.{AsResolved, Forgets, Keeps, MayRemember, Remembers}
 use Rattle.nd_steps.proofs.Remembering.{StandUntil, remembers_later, remembers_nothing, remembers_same}
 use Rattle.nd_node.specs.declared.node.Node.{Node}
 

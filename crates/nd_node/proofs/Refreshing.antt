@@ -34,8 +34,8 @@ use Rattle.nd_chronicle.specs.Happening.{Chronicle}
 use Rattle.nd_chronicle.specs.Histories.{address_history}
 use Rattle.nd_chronicle.specs.OwnAddress.{story_of}
 use Rattle.nd_chronicle.specs.RouterAdvertisement.{naming, then_option, then_options}
-use Rattle.nd_steps.specs.FirstHop.{candidate_in, candidates_in, is_resolved}
-use Rattle.nd_steps.specs.Remembered.{AsListed, AsStanding, Forgets, Keeps, MayRemember, Recollects, forms_none, last_before_end, linked_by, own_in}
+use Rattle.nd_steps.specs.NextHop.{candidate_in, candidates_in, is_resolved}
+use Rattle.nd_steps.specs.DestinationCache.{AsListed, AsStanding, Forgets, Keeps, MayRemember, Recollects, forms_none, last_before_end, linked_by, own_in}
 use Rattle.nd_steps.proofs.Remembering.{StandUntil, candidates_same, hop_by_own, remembers_later, remembers_nothing, stand_until_end}
 use Rattle.nd_node.specs.declared.node.Node.{Node}
 use Rattle.nd_node.proofs.Recalling.{AsOwn, Recalls, own_row}

@@ -32,7 +32,8 @@ use Rattle.nd_chronicle.specs.Refused.{AtRouter, UnlessFull}
 use Rattle.nd_chronicle.specs.Event as events
 use Rattle.nd_chronicle.specs.Told.{Told, items_at, items}
 use Rattle.nd_out.specs.declared.out.Out.{Out}
-use Rattle.nd_steps.specs.Told.{advertised_by, at_moment, happenings}
+use Rattle.nd_steps.specs.DueRows.{advertised_by}
+use Rattle.nd_steps.specs.Outputs.{at_moment, happenings}
 use Rattle.nd_steps.specs.declared.router_tables.RouterTables.{RouterTables}
 use Rattle.nd_steps.proofs.Quiet.{Quiet, quiet_same, sent_is_quiet}
 use Rattle.nd_steps.proofs.Telling.{one}

@@ -16,8 +16,8 @@ use Rattle.nd_chronicle.specs.Happening.{Chronicle, Happening, Ceased, Configure
 use Rattle.nd_chronicle.specs.Histories.{parameter_history, neighbour_history, router_history, prefix_history, address_history, server_history, name_history, redirect_history, advertising_history, route_history}
 use Rattle.nd_chronicle.specs.Generator.{stream_left}
 use Rattle.nd_chronicle.specs.Due.{solicited_routers}
-use Rattle.nd_steps.specs.Router as router_only
-use Rattle.nd_steps.specs.Router.{next_advertisement}
+use Rattle.nd_steps.specs.RouterTables as router_only
+use Rattle.nd_steps.specs.RouterTables.{next_advertisement}
 use Rattle.nd_steps.specs.declared.router_tables.RouterTables.{RouterTables}
 use Rattle.nd_steps.proofs.RouterSide.{later_row, stands_row}
 use Rattle.nd_node.specs.declared.node.Node.{Node}

@@ -14,7 +14,7 @@ use Rattle.nd_chronicle.specs.Event as events
 use Rattle.nd_chronicle.specs.History.{Walk, over, adds, passes}
 use Rattle.nd_out.specs.declared.out.Out.{Out}
 use Rattle.nd_out.specs.Out.{happening}
-use Rattle.nd_steps.specs.Told.{happenings}
+use Rattle.nd_steps.specs.Outputs.{happenings}
 use Rattle.nd_steps.proofs.Quiet.{Quiet}
 use Rattle.nd_steps.proofs.Remembering.{remembers_later}
 use Rattle.nd_steps.proofs.RouterSide.{side_stands}

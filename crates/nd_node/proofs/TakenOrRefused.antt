@@ -20,9 +20,9 @@ use Rattle.nd_chronicle.specs.Told.{Told, items_at, items}
 use Rattle.nd_out.specs.declared.out.Out.{Out}
 use Rattle.nd_out.specs.declared.out.Out.TheVariants as outs
 use Rattle.nd_out.specs.Out.{happening}
-use Rattle.nd_steps.specs.LinkLayerAddress.{said_by}
-use Rattle.nd_steps.specs.Told.{Tells}
-use Rattle.nd_steps.specs.Told as told
+use Rattle.nd_steps.specs.NeighbourCache.{said_by}
+use Rattle.nd_steps.specs.Outputs.{Tells}
+use Rattle.nd_steps.specs.Outputs as told
 use Rattle.nd_steps.proofs.Telling.{above_silent, handed_out, Tells-then}
 use Rattle.nd_node.specs.declared.node.Node.{Node}
 use Rattle.nd_node.specs.Hearing.{AddsMessage}

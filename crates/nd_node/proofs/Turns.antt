@@ -33,16 +33,16 @@ use Rattle.nd_chronicle.specs.Histories.{advertising_history, parameter_history,
 use Rattle.nd_chronicle.specs.InForce.{next_redraw}
 use Rattle.nd_chronicle.specs.Generator.{stream_left, interval_drawn, reachable_drawn}
 use Rattle.nd_chronicle.specs.Due.{RouterEnds, AddressFalls, NeighbourFalls, RoutersSolicited, RouterAdvertises, Redraws, comes, max_rtr_solicitations, router_solicitation_date, rtr_solicitation_interval, is_host, solicited_routers, assigned_at}
-use Rattle.nd_steps.specs.RouterSolicitations as solicitations
-use Rattle.nd_steps.specs.RouterSolicitations.{Solicitations, next_solicitation, after_address}
-use Rattle.nd_steps.specs.Router as router_only
-use Rattle.nd_steps.specs.Router.{Advertises, NotesAddress, next_advertisement}
-use Rattle.nd_steps.specs.LostHop.{Notes, with_failure, with_lost_target}
+use Rattle.nd_steps.specs.SolicitRouters as solicitations
+use Rattle.nd_steps.specs.SolicitRouters.{Solicitations, next_solicitation, after_address}
+use Rattle.nd_steps.specs.RouterTables as router_only
+use Rattle.nd_steps.specs.RouterTables.{Advertises, NotesAddress, next_advertisement}
+use Rattle.nd_steps.specs.DefaultRouterList.{Notes, with_failure, with_lost_target}
 use Rattle.nd_nexthop.specs.Memo.{forgotten}
 use Rattle.nd_neighbour.specs.Story.{mac_of}
 use Rattle.nd_slaac.specs.declared.destination.Counted.TheVariants.{Own}
 use Rattle.nd_slaac.specs.Destination.{counts}
-use Rattle.nd_steps.specs.Remembered.{Remembering}
+use Rattle.nd_steps.specs.DestinationCache.{Remembering}
 use Rattle.nd_steps.proofs.Resolved.{gains_as_resolved}
 use Rattle.nd_node.proofs.Recalling.{Recalls, forgets_all, keeps, own_by, own_row, redirects_stand}
 use Rattle.nd_steps.proofs.RouterSide.{advertisement_date, later_row, side_stands, stands_address, stands_row}

@@ -19,8 +19,9 @@ use Rattle.nd_chronicle.specs.Happening.{Chronicle, Happening, Unreachable, last
 use Rattle.nd_chronicle.specs.Due.{What, RouterEnds, AddressFalls, NeighbourFalls, RoutersSolicited, RouterAdvertises, Redraws, Due, comes, router_advertisement_date}
 use Rattle.nd_chronicle.specs.History.{Walk, over, adds}
 use Rattle.nd_out.specs.declared.out.Out.{Out}
-use Rattle.nd_steps.specs.Router.{advertised, frame_of, next_advertisement}
-use Rattle.nd_steps.specs.Told.{advertised_by, told_of, at_moment, happenings}
+use Rattle.nd_steps.specs.RouterTables.{advertised, frame_of, next_advertisement}
+use Rattle.nd_steps.specs.DueRows.{advertised_by, told_of}
+use Rattle.nd_steps.specs.Outputs.{at_moment, happenings}
 use Rattle.nd_steps.proofs.RouterSide.{advertisement_date, due_has_settings}
 use Rattle.nd_steps.proofs.Quiet.{losing_is_quiet}
 use Rattle.nd_steps.proofs.Telling.{due_items, Tells-then}

@@ -9,7 +9,7 @@ use Rattle.nd_chronicle.specs.Happening.{Chronicle, Happening, Passed, last_mome
 use Rattle.nd_chronicle.specs.Hearing.{IsForUs, Judges, Verdict}
 use Rattle.nd_chronicle.specs.Event.{VerdictAdds}
 use Rattle.nd_out.specs.declared.out.Out.{Out}
-use Rattle.nd_steps.specs.Told.{Tells}
+use Rattle.nd_steps.specs.Outputs.{Tells}
 use Rattle.nd_node.specs.declared.node.Node.{Node}
 use Rattle.nd_node.specs.Node.{Stands}
 

@@ -8,7 +8,7 @@ use Rattle.nd_chronicle.specs.Happening.{Chronicle, Passed, last_moment}
 use Rattle.nd_chronicle.specs.Hearing.{hears, takes_target}
 use Rattle.nd_chronicle.specs.Event.{VerdictAdds}
 use Rattle.nd_out.specs.declared.out.Out.{Out}
-use Rattle.nd_steps.specs.Told.{Tells}
+use Rattle.nd_steps.specs.Outputs.{Tells}
 use Rattle.nd_node.specs.declared.node.Node.{Node}
 use Rattle.nd_node.specs.Node.{Stands}
 

@@ -21,11 +21,11 @@ use Rattle.nd_chronicle.specs.Happening.{Chronicle, last_moment}
 use Rattle.nd_chronicle.specs.Histories.{parameter_history, neighbour_history, router_history, prefix_history, address_history, server_history, name_history, redirect_history}
 use Rattle.nd_chronicle.specs.Generator.{stream_left}
 use Rattle.nd_chronicle.specs.Due.{Due, max_rtr_solicitations}
-use Rattle.nd_steps.specs.Router as router
-use Rattle.nd_steps.specs.Router.{after_last, next_advertisement}
-use Rattle.nd_steps.specs.RouterSolicitations as solicitations
-use Rattle.nd_steps.specs.RouterSolicitations.{next_solicitation}
-use Rattle.nd_steps.specs.Remembered.{Remembers}
+use Rattle.nd_steps.specs.RouterTables as router
+use Rattle.nd_steps.specs.RouterTables.{after_last, next_advertisement}
+use Rattle.nd_steps.specs.SolicitRouters as solicitations
+use Rattle.nd_steps.specs.SolicitRouters.{next_solicitation}
+use Rattle.nd_steps.specs.DestinationCache.{Remembers}
 use Rattle.nd_node.specs.Moments.{earlier}
 use Rattle.nd_node.specs.declared.node.Node.{Node}
 

@@ -7,8 +7,8 @@ use Rattle.nd_chronicle.specs.Happening.{Chronicle, Passed, last_moment}
 use Rattle.nd_chronicle.specs.Event.{PacketAdds}
 use Rattle.nd_chronicle.specs.Packet.{GoesIfPlaced}
 use Rattle.nd_out.specs.declared.out.Out.{Out}
-use Rattle.nd_steps.specs.declared.outgoing_packet.OutgoingPacket.{OutgoingPacket}
-use Rattle.nd_steps.specs.Told.{Tells}
+use Rattle.nd_steps.specs.declared.packets.OutgoingPacket.{OutgoingPacket}
+use Rattle.nd_steps.specs.Outputs.{Tells}
 use Rattle.nd_node.specs.declared.node.Node.{Node}
 use Rattle.nd_node.specs.Node.{Stands}
 

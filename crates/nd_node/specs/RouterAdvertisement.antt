@@ -11,7 +11,7 @@ use Rattle.nd_chronicle.specs.Happening.{Chronicle, Passed, Heard, last_moment}
 use Rattle.nd_chronicle.specs.Message.{said, PlaceFor}
 use Rattle.nd_chronicle.specs.RouterAdvertisement.{then_advertised}
 use Rattle.nd_out.specs.declared.out.Out.{Out}
-use Rattle.nd_steps.specs.Told.{Tells}
+use Rattle.nd_steps.specs.Outputs.{Tells}
 use Rattle.nd_node.specs.declared.node.Node.{Node}
 use Rattle.nd_node.specs.Node.{Stands}
 

@@ -5,7 +5,7 @@ use Rattle.nd_chronicle.specs.Start.{Start}
 use Rattle.nd_chronicle.specs.Happening.{Chronicle, last_moment}
 use Rattle.nd_chronicle.specs.Due.{What, Due, comes}
 use Rattle.nd_chronicle.specs.History.{Walk}
-use Rattle.nd_steps.specs.Told.{Tells}
+use Rattle.nd_steps.specs.Outputs.{Tells}
 use Rattle.nd_node.specs.declared.node.Node.{Node}
 use Rattle.nd_node.specs.Node.{Stands}
 use Rattle.nd_out.specs.declared.out.Out.{Out}

@@ -7,7 +7,7 @@ ghost use Rattle.nd_params.specs.History.{Drew};
 ghost use Rattle.nd_slaac.specs.View.{falls_of};
 ghost use Rattle.nd_params.specs.Params.{GainsRows};
 ghost use Rattle.nd_chronicle.specs.Generator.{reachable_drawn};
-ghost use Rattle.nd_steps.specs.RouterSolicitations.{after_address};
+ghost use Rattle.nd_steps.specs.SolicitRouters.{after_address};
 ghost use Rattle.nd_nexthop.specs.Memo.{forgotten};
 ghost use Rattle.nd_node.specs.Moments.{earlier};
 ghost use Rattle.nd_node.specs.Node.{ends};
@@ -16,7 +16,7 @@ use crate::node::Node;
 use nd_addr::Addr;
 use nd_nexthop::Choice;
 use nd_params::Params;
-use nd_steps::{RouterSolicitations, Turned, note, reachable_drawn};
+use nd_steps::{RouterSolicitations, Turned, note_failure, reachable_drawn};
 use nd_table::compare;
 use rand_core::Rng;
 use std::alloc::Allocator;
@@ -79,7 +79,7 @@ impl<R: Rng + Drop, A: Allocator + Clone> Node<R, A> {
         }
         match self.neighbours.turn(now) {
             Some(due) => {
-                note(&mut self.routers, &mut self.choice, &due);
+                note_failure(&mut self.routers, &mut self.choice, &due);
                 return Turned::Neighbour(due);
             }
             None => {}

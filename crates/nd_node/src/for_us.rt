@@ -19,7 +19,7 @@ use std::alloc::Allocator;
 impl<R: Rng + Drop, A: Allocator + Clone> Node<R, A> {
     ghost use Rattle.nd_chronicle.specs.Hearing.{IsOurs, IsForUs, IsInTransit, IsPacketForUs};
     ghost use Rattle.nd_chronicle.specs.OwnAddress.{is_up};
-    ghost use Rattle.nd_steps.specs.ForUs.{counting};
+    ghost use Rattle.nd_steps.specs.OwnAddresses.{counting};
     ghost use Rattle.nd_node.specs.Node.{Stands};
 
     /// Whether a destination is that of all nodes, at a router that of all routers, or an own address that counts, or the solicited-node

@@ -6,7 +6,7 @@ ghost use Rattle.nd_decode.specs.Pieces.{options_left};
 ghost use Rattle.nd_decode.specs.declared.body.Body.TheVariants as bodies;
 ghost use Rattle.nd_neighbour.specs.Table.{node_in};
 ghost use Rattle.nd_chronicle.specs.NeighborSolicitation as solicited;
-ghost use Rattle.nd_steps.specs.LinkLayerAddress.{waiting_for};
+ghost use Rattle.nd_steps.specs.NeighbourCache.{waiting_for};
 ghost use Rattle.nd_chronicle.specs.Full.{Fills};
 ghost use Rattle.nd_chronicle.specs.Happening.{Chronicle, Limit as Table, Passed, last_moment};
 ghost use Rattle.nd_chronicle.specs.Start.{Start};

@@ -7,7 +7,7 @@ ghost use Rattle.nd_chronicle.specs.Event.{EventAdds, PacketAdds, refusal_of_pac
 ghost use Rattle.nd_chronicle.specs.Happening.{Chronicle, Lost, Sent, last_moment};
 ghost use Rattle.nd_chronicle.specs.Packet.{GoesIfPlaced};
 ghost use Rattle.nd_chronicle.specs.Start.{Start};
-ghost use Rattle.nd_steps.specs.OutgoingPacket.{frame_of};
+ghost use Rattle.nd_steps.specs.Packets.{frame_of};
 ghost use Rattle.nd_compose.specs.Frames.{open_mac};
 ghost use Rattle.nd_neighbour.specs.Room.{has_room};
 ghost use Rattle.nd_nexthop.specs.NextHop.{hop_of, direct};

@@ -8,7 +8,7 @@ ghost use Rattle.nd_chronicle.specs.Histories.{said_of_neighbour};
 ghost use Rattle.nd_chronicle.specs.Full.{Fills};
 ghost use Rattle.nd_chronicle.specs.Happening.{Chronicle, Limit as Table, Passed, last_moment};
 ghost use Rattle.nd_chronicle.specs.Start.{Start};
-ghost use Rattle.nd_steps.specs.LinkLayerAddress.{said_by, HasPlace, waiting_for};
+ghost use Rattle.nd_steps.specs.NeighbourCache.{said_by, HasPlace, waiting_for};
 ghost use Rattle.nd_node.specs.RouterAdvertisement.{TakesAdvertisement};
 ghost use Rattle.nd_node.specs.Hearing.{AddsMessage};
 ghost use Rattle.nd_node.specs.Memory.{AddsNoName};

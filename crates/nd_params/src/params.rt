@@ -1,6 +1,7 @@
 ghost use Rattle.std.specs.Prelude.{◌≡◌, ◌^◌, ◌<◌, ◌∷◌, [], false};
 ghost use Rattle.nd_params.specs.History.{Drew, default_hop_limit, reachable_time, retrans_timer};
 ghost use Rattle.nd_addr.specs.Frame.{ethernet_mtu};
+ghost use Rattle.nd_table.specs.Moment.{IsMoment};
 ghost use Rattle.nd_params.specs.Params.{Values, Stands};
 
 use nd_addr::ETHERNET_MTU;
@@ -45,7 +46,7 @@ impl Model for Params {
 impl Params {
     /// The defaults (RFC 4861, section 10), with a first ReachableTime that was drawn for their base, at a moment, both in milliseconds.
     pub fn new(now: u64, drawn: u64) -> Params
-        requires moment { now < 2 ^ 62 }
+        requires moment { IsMoment now }
         requires span { drawn < 2 ^ 62 }
         ensures value { result ≡ record { hop_limit = default_hop_limit; mtu = ethernet_mtu; base_reachable_time = reachable_time; reachable_time = drawn; retrans_timer = retrans_timer; managed = false; other = false; drawn_at = now } }
         ensures stands { Stands result (Drew now drawn ∷ []) }

@@ -1,4 +1,5 @@
 ghost use Rattle.std.specs.Prelude.{◌≡◌, ◌*◌, ◌/◌, ◌^◌, ◌<◌, ◌+◌, ◌∷◌, List, ℕ};
+ghost use Rattle.nd_table.specs.Moment.{IsMoment};
 ghost use Rattle.nd_params.specs.History.{Row, Drew, next_draw, redraw_after};
 ghost use Rattle.nd_params.specs.Params.{Stands, GainsRows, reachable_range, MayBeDrawn};
 
@@ -19,7 +20,7 @@ impl Params {
 
     /// ReachableTime was drawn again at a moment, both in milliseconds.
     pub fn redrawn(&mut self, now: u64, drawn: u64)
-        requires moment { now < 2 ^ 62 }
+        requires moment { IsMoment now }
         requires span { drawn < 2 ^ 62 }
         ensures value { self.new ≡ record self.old { reachable_time = drawn; drawn_at = now } }
         ensures stands { GainsRows self.old self.new (λ history. Drew now drawn ∷ history) }

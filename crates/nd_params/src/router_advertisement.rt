@@ -2,6 +2,7 @@ ghost use Rattle.std.specs.Prelude.{◌≡◌, ◌^◌, ◌<◌, ◌≤◌, ◌�
 ghost use Rattle.nd_addr.specs.Frame.{ethernet_mtu};
 ghost use Rattle.nd_decode.specs.Option.{Said};
 ghost use Rattle.nd_decode.specs.Pieces.{options_left};
+ghost use Rattle.nd_table.specs.Moment.{IsMoment};
 ghost use Rattle.nd_params.specs.History.{Row, Heard, first_mtu, valid_mtu_or, base_of, then_heard};
 ghost use Rattle.nd_params.specs.Params.{Stands, GainsRows, redraws};
 
@@ -27,7 +28,7 @@ impl Params {
         options: Options<'_>,
         drawn: Option<u64>,
     )
-        requires moment { now < 2 ^ 62 }
+        requires moment { IsMoment now }
         requires span { IfSome drawn (λ value. value < 2 ^ 62) }
         requires drawn { is_some drawn ≡ redraws self.old.base_reachable_time ra.now.reachable_time }
         ensures stands { GainsRows self.old self.new (then_heard now ra.now (options_left options.entry) drawn) }

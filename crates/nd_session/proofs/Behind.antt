@@ -7,7 +7,7 @@ use Rattle.nd_chronicle.specs.Start.{Start}
 use Rattle.nd_chronicle.specs.Happening.{Chronicle, Happening}
 use Rattle.nd_out.specs.declared.out.Out.{Out}
 use Rattle.nd_out.specs.Out.{happening}
-use Rattle.nd_steps.specs.Told.{happenings, Tells}
+use Rattle.nd_steps.specs.Outputs.{happenings, Tells}
 use Rattle.nd_node.specs.declared.node.Node.{Node}
 use Rattle.nd_node.specs.Time.{Leads}
 

@@ -16,8 +16,9 @@ use Rattle.nd_slaac.specs.Table as addresses
 use Rattle.nd_chronicle.specs.Happening.{Address, LeftRouter}
 use Rattle.nd_out.specs.declared.out.Out.{Out}
 use Rattle.nd_out.specs.Out.{happening}
-use Rattle.nd_steps.specs.NeighborAdvertisement.{Conflicts, Leaves}
-use Rattle.nd_steps.specs.Told.{happenings}
+use Rattle.nd_steps.specs.OwnAddresses.{Conflicts}
+use Rattle.nd_steps.specs.DefaultRouterList.{Leaves}
+use Rattle.nd_steps.specs.Outputs.{happenings}
 use Rattle.nd_steps.proofs.Telling.{one_more}
 
 pub conflicts_now : {A : Type 0} (now key : ℕ) (old new : List own.Address) (x y : List (ℕ × Out A)) (out : Out A) (result : Bool) → result ≡ true

@@ -23,7 +23,7 @@ use Rattle.nd_chronicle.specs.InForce.{retrans_timer}
 use Rattle.nd_chronicle.specs.Generator.{stream_left}
 use Rattle.nd_chronicle.specs.OwnAddress.{story_of}
 use Rattle.nd_chronicle.specs.RouterAdvertisement.{with_delay, delay_for, forming, naming, then_option}
-use Rattle.nd_steps.specs.PrefixOptions.{delay_from, Forms}
+use Rattle.nd_steps.specs.OwnAddresses.{delay_from, Forms}
 
 -- what becomes of an option: whether it is taken, its address is known, and its valid lifetime is 0
 abbrev becomes : Bool → Bool → Bool → Taken

@@ -14,7 +14,7 @@ use Rattle.nd_chronicle.specs.Histories.{parameter_history}
 use Rattle.nd_chronicle.specs.InForce.{base_reachable_time}
 use Rattle.nd_chronicle.specs.Generator.{stream_left}
 use Rattle.nd_chronicle.specs.RouterAdvertisement.{redrawing}
-use Rattle.nd_steps.specs.LinkParameters.{redraw_from, HearsParameters}
+use Rattle.nd_steps.specs.Parameters.{redraw_from, HearsParameters}
 
 module _ (old new : Values) (before after : Stream) (now : ℕ) (ra : RouterAdvertisement) (options : List Said) (drawn : Option ℕ)
     (is : (drawn, after) ≡ redraw_from (redraws old.base_reachable_time ra.reachable_time) ra.reachable_time before) (gains : parameters.GainsRows old new (then_heard now ra options drawn)) where

@@ -16,7 +16,7 @@ use Rattle.nd_chronicle.specs.Happening.{Chronicle}
 use Rattle.nd_chronicle.specs.Hearing.{IsCounted, IsOurs, conflicts_with, is_awake}
 use Rattle.nd_chronicle.specs.Histories.{address_history}
 use Rattle.nd_chronicle.specs.OwnAddress.{story_of, is_own, is_assigned}
-use Rattle.nd_steps.specs.ForUs.{counting}
+use Rattle.nd_steps.specs.OwnAddresses.{counting}
 
 counted_from : (counted : Counted) (c : Chronicle) (destination : Addr) → ((number : ℕ) → AreBytes 16 (addr_at number).0) → IsCounted (counting counted c) destination → IsTo counted (address_history c) destination
 counted_from Own c destination bytes i = record { address = addr_at i.key; bytes = bytes i.key; counting = i.counted; to = i.to }

@@ -15,8 +15,7 @@ use Rattle.nd_chronicle.specs.Happening.{Chronicle}
 use Rattle.nd_chronicle.specs.Histories.{neighbour_history}
 use Rattle.nd_chronicle.specs.Full.{entering, Placed}
 use Rattle.nd_chronicle.specs.Message as message
-use Rattle.nd_steps.specs.LinkLayerAddress.{said_by}
-use Rattle.nd_steps.specs.Place.{PlacedBy}
+use Rattle.nd_steps.specs.NeighbourCache.{said_by, PlacedBy}
 
 -- laws of the neighbours
 abbrev pub FullByHistory : Type 0

@@ -6,7 +6,7 @@ use Rattle.nd_chronicle.specs.Histories.{parameter_history, neighbour_history, r
 use Rattle.nd_chronicle.specs.Generator.{stream_left}
 use Rattle.nd_chronicle.specs.Due.{solicited_routers}
 use Rattle.nd_chronicle.specs.Packet.{losing}
-use Rattle.nd_steps.specs.Router.{router_side}
+use Rattle.nd_steps.specs.RouterTables.{router_side}
 
 -- what happened between the two concerns no table, draws nothing, and no time passed
 pub record Quiet (c d : Chronicle) : Type 0 where

@@ -5,7 +5,7 @@ use Rattle.std.specs.List.{flat_map}
 use Rattle.nd_chronicle.specs.Happening.{Chronicle, Happening, Heard, Lost, Sent}
 use Rattle.nd_chronicle.specs.Told.{Told, Frame, Words, told_of, items_at, items, line_at, line_of, lines_of, text}
 use Rattle.nd_out.specs.declared.out.Out.{Out}
-use Rattle.nd_steps.specs.Told.{frame_sent, frames_in, sent_in, Tells}
+use Rattle.nd_steps.specs.Outputs.{frame_sent, frames_in, sent_in, Tells}
 
 -- whatever is read off each item, where that is what is read of each row
 module _ {B : Type 0} (read : ℕ × Told → List B) (of_row : ℕ × Happening → List B) (row_is : (at : ℕ) (what : Happening) → of_row (at, what) ≡ flat_map read (items_at (at, what))) where

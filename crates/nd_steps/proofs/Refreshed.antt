@@ -18,7 +18,7 @@ use Rattle.nd_routers.proofs.Refreshing.{announced_keys, held_by_keys, keys_of, 
 use Rattle.nd_routers.proofs.Settled.{open_each}
 use Rattle.nd_nexthop.specs.Choice.{Table}
 use Rattle.nd_nexthop.specs.Memo.{Memory, forgotten}
-use Rattle.nd_steps.specs.Remembered.{AsListed, AsStanding, Recollects, Refreshes}
+use Rattle.nd_steps.specs.DestinationCache.{AsListed, AsStanding, Recollects, Refreshes}
 
 -- nothing is remembered
 pub nothing : (old new : Table) (Same : Type 0) → new.memory.hops ≡ [] → new.memory.until ≡ old.memory.until → Recollects old new Same

@@ -15,8 +15,8 @@ use Rattle.nd_neighbour.specs.Story.{mac_of}
 use Rattle.nd_neighbour.specs.Table.{Stands}
 use Rattle.nd_chronicle.specs.Happening.{Happening, Sent}
 use Rattle.nd_out.specs.declared.out.Out.{Out}
-use Rattle.nd_steps.specs.LinkLayerAddress.{said_by, sent_if_known, released_frames, HearsOf}
-use Rattle.nd_steps.specs.Told.{at_moment, happenings}
+use Rattle.nd_steps.specs.NeighbourCache.{said_by, sent_if_known, released_frames, HearsOf}
+use Rattle.nd_steps.specs.Outputs.{at_moment, happenings}
 use Rattle.nd_steps.proofs.Placing.{enters}
 
 -- packets that are sent to an Ethernet address at the moment

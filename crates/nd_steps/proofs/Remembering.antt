@@ -27,8 +27,8 @@ use Rattle.nd_nexthop.specs.Memo.{IsHop, forgotten, is_asked}
 use Rattle.nd_nexthop.specs.NextHop.{hop, hop_of, is_own_or_none}
 use Rattle.nd_nexthop.specs.declared.next_hop.Hop.{Hop}
 use Rattle.nd_nexthop.proofs.Recalled as recalled
-use Rattle.nd_steps.specs.FirstHop.{candidate_in, candidates_in, is_resolved}
-use Rattle.nd_steps.specs.Remembered.{AsResolved, MayRemember, Forgets, Keeps, Remembers, last_before_end, linked_by, own_in}
+use Rattle.nd_steps.specs.NextHop.{candidate_in, candidates_in, is_resolved}
+use Rattle.nd_steps.specs.DestinationCache.{AsResolved, MayRemember, Forgets, Keeps, Remembers, last_before_end, linked_by, own_in}
 
 -- ---- time passes
 

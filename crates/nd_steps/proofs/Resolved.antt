@@ -17,8 +17,8 @@ use Rattle.nd_neighbour.specs.Table as neighbours
 use Rattle.nd_neighbour.specs.Table.{node_in}
 use Rattle.nd_nexthop.specs.Choice.{Table}
 use Rattle.nd_nexthop.specs.Memo.{forgotten}
-use Rattle.nd_steps.specs.FirstHop.{is_resolved}
-use Rattle.nd_steps.specs.Remembered.{AsResolved, MayRemember, Forgets, Keeps, begins}
+use Rattle.nd_steps.specs.NextHop.{is_resolved}
+use Rattle.nd_steps.specs.DestinationCache.{AsResolved, MayRemember, Forgets, Keeps, begins}
 
 -- a neighbour whose link-layer address was known was resolved
 pub was_resolved : (found : Option Node) → was_known found ≡ is_resolved found

@@ -18,7 +18,7 @@ use Rattle.nd_chronicle.specs.Happening.{Chronicle, Address}
 use Rattle.nd_chronicle.specs.Histories.{advertising_history, route_history}
 use Rattle.nd_chronicle.specs.Due.{is_host, router_advertisement_date}
 use Rattle.nd_steps.specs.declared.router_tables.RouterTables.{RouterTables}
-use Rattle.nd_steps.specs.Router.{NotesAddress, Stands, next_advertisement, router_side}
+use Rattle.nd_steps.specs.RouterTables.{NotesAddress, Stands, next_advertisement, router_side}
 
 -- where what happened concerns neither, they stand for the same
 pub side_stands : {A : Type 0} (start : Start) (tables : RouterTables A) (c d : Chronicle) → router_side start d ≡ router_side start c → Stands start tables c → Stands start tables d

@@ -19,9 +19,9 @@ use Rattle.nd_chronicle.specs.Due.{solicited_routers}
 use Rattle.nd_chronicle.specs.Message.{lets_enter, PlaceFor, releasing, sending_if_known}
 use Rattle.nd_chronicle.specs.Packet.{with_pushed, sending}
 use Rattle.nd_chronicle.specs.Told.{items_at, items}
-use Rattle.nd_steps.specs.LinkLayerAddress.{PreparesFor, sent_if_known, released_frames}
-use Rattle.nd_steps.specs.Router.{router_side}
-use Rattle.nd_steps.specs.Told.{at_moment}
+use Rattle.nd_steps.specs.NeighbourCache.{PreparesFor, sent_if_known, released_frames}
+use Rattle.nd_steps.specs.RouterTables.{router_side}
+use Rattle.nd_steps.specs.Outputs.{at_moment}
 use Rattle.nd_steps.proofs.Quiet.{Quiet, quiet_same}
 
 -- ---- what makes place

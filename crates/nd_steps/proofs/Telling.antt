@@ -21,8 +21,9 @@ use Rattle.nd_chronicle.specs.Packet.{losing}
 use Rattle.nd_chronicle.specs.Told.{Told, items_at, items}
 use Rattle.nd_out.specs.declared.out.Out.{Out}
 use Rattle.nd_out.specs.Out.{happening}
-use Rattle.nd_steps.specs.Router.{frame_of, advertised}
-use Rattle.nd_steps.specs.Told.{told_of, at_moment, happenings, Tells}
+use Rattle.nd_steps.specs.RouterTables.{frame_of, advertised}
+use Rattle.nd_steps.specs.DueRows.{told_of}
+use Rattle.nd_steps.specs.Outputs.{at_moment, happenings, Tells}
 
 -- one row that is told
 pub one : {A : Type 0} (before row : List A) → before ++ row ≡ before ++ (row ++ [])

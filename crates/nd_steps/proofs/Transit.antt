@@ -26,7 +26,7 @@ use Rattle.nd_chronicle.specs.Start.{Start, link_local}
 use Rattle.nd_chronicle.specs.Happening.{Chronicle}
 use Rattle.nd_chronicle.specs.Histories.{neighbour_history}
 use Rattle.nd_chronicle.specs.Forwarding.{known_mac_of, better_hop_frame, frame_as_it_came, frame_sent_on}
-use Rattle.nd_steps.specs.Forwarding.{mac_in}
+use Rattle.nd_steps.specs.Transit.{mac_in}
 
 -- ---- the length of a payload
 

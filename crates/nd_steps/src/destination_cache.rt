@@ -2,7 +2,7 @@
 
 ghost use Rattle.std.specs.Prelude.{◌≡◌, ◌&&◌, if◌then◌else◌, []};
 ghost use Rattle.nd_nexthop.specs.Memo.{forgotten, is_asked};
-ghost use Rattle.nd_steps.specs.Remembered.{last_before_end};
+ghost use Rattle.nd_steps.specs.DestinationCache.{last_before_end};
 
 use nd_nexthop::Choice;
 use nd_routers::Prefixes;

@@ -1,17 +1,184 @@
-//! The node's own addresses (RFC 4862, section 5): what another node's claim to one does.
+//! The node's own addresses (RFC 4862, section 5): which advertisements form them, what another node's claim to one does, and which frames are
+//! for them.
 
-ghost use Rattle.std.specs.Prelude.{◌≡◌, ℕ, true, false, List, if◌then◌else◌};
-ghost use Rattle.nd_addr.specs.Number.{number_of};
+ghost use Rattle.std.specs.Prelude.{◌≡◌, ◌+◌, ◌≤◌, vec_len, vec_capacity, ◌↔◌, true, ◌<◌, ◌^◌, ◌&&◌, ◌∷◌, List, [], ℕ, false, if◌then◌else◌};
+ghost use Rattle.nd_addr.specs.Number.{number_of, addr_at};
+ghost use Rattle.nd_slaac.specs.PrefixOption.{link_local_of, prefixes_in};
+ghost use Rattle.nd_addr.specs.Kind.{all_nodes_address, all_routers_address};
+ghost use Rattle.nd_addr.specs.declared.role.Role.TheVariants.{Router};
+ghost use Rattle.nd_chronicle.specs.Happening.{Chronicle};
+ghost use Rattle.nd_chronicle.specs.Hearing.{conflicts_with, takes_target, is_awake};
+ghost use Rattle.nd_chronicle.specs.Histories.{address_history};
+ghost use Rattle.nd_chronicle.specs.Start.{Start};
+ghost use Rattle.nd_decode.specs.declared.prefix_info.PrefixInfo.{PrefixInfo};
+ghost use Rattle.nd_decode.specs.Pieces.{options_left};
+ghost use Rattle.nd_slaac.specs.Room.{fits_in};
+ghost use Rattle.nd_slaac.specs.Calls.{keys_in};
+ghost use Rattle.nd_chronicle.specs.RouterAdvertisement.{then_option, then_options};
+ghost use Rattle.nd_steps.specs.DestinationCache.{forms_none};
+ghost use Rattle.nd_steps.specs.OwnAddresses.{delay_from, Forms, Conflicts};
 ghost use Rattle.nd_nexthop.specs.Memo.{forgotten};
 ghost use Rattle.nd_slaac.specs.History.{Row, Conflict, story};
 ghost use Rattle.nd_slaac.specs.State.{is_tentative};
-ghost use Rattle.nd_slaac.specs.Table as own;
+ghost use Rattle.nd_decode.specs.declared.body.Body.TheVariants as bodies;
+ghost use Rattle.nd_slaac.specs.Table as own_addresses;
 
 use crate::destination_cache::keep_if;
-use nd_addr::Addr;
+use crate::draws::{MAX_RTR_SOLICITATION_DELAY, drawn_from};
+use nd_addr::laws::addresses_are_told_by_numbers;
+use nd_addr::{Addr, Role};
+use nd_decode::{Body, OPTION_PREFIX_INFORMATION, OptionRef, Options, PrefixInfo};
 use nd_nexthop::Choice;
-use nd_slaac::Addresses;
+use nd_out::Out;
+use nd_slaac::{Addresses, Counted};
+use rand_core::Rng;
 use std::alloc::Allocator;
+
+/// The link-local address of the node (RFC 4862, section 5.3).
+pub fn link_local<A: Allocator>(addresses: &Addresses<A>) -> Addr
+    ensures { result ≡ addr_at (link_local_of addresses.now.mac) }
+{
+    addresses_are_told_by_numbers();
+    let own = addresses.link_local();
+    let _bytes = own.as_bytes();
+    own
+}
+
+/// Whether a destination is that of all nodes (RFC 4291, section 2.7.1).
+pub fn is_to_nodes(destination: Addr) -> bool
+    ensures { result ≡ true ↔ (destination.0 ≡ all_nodes_address) }
+{
+    destination == Addr::ALL_NODES
+}
+
+/// Whether a destination is that of all routers, at a router (RFC 4291, section 2.7.1).
+pub fn is_to_routers(role: Role, destination: Addr) -> bool
+    ensures { result ≡ true ↔ ((role ≡ Router) × (destination.0 ≡ all_routers_address)) }
+{
+    match role {
+        Role::Router => destination == Addr::ALL_ROUTERS,
+        Role::Host => false,
+    }
+}
+
+/// Whether another node has an address, or tries for it: an advertisement for it, or a solicitation for it from the unspecified address
+/// (RFC 4862, sections 5.4.3 and 5.4.4).
+fn conflicts_with(address: Addr, source: Addr, body: &Body) -> bool
+    ensures { result ≡ conflicts_with address.0 source body.now }
+{
+    match body {
+        Body::Ns(ns) => ns.target == address && source.is_unspecified(),
+        Body::Na(na) => na.target == address,
+        Body::Rs | Body::Ra(_) | Body::Redirect(_) => false,
+    }
+}
+
+/// Whether a solicitation for a target is heard: an assigned address is answered for, and a tentative one may be a duplicate (RFC 4861,
+/// section 7.2.3).
+fn is_own_target<A: Allocator>(addresses: &Addresses<A>, source: Addr, target: Addr) -> bool
+    ensures { (c : Chronicle) → own_addresses.Stands addresses.now.addresses (address_history c) → result ≡ takes_target c source (bodies.Ns (record { target = target })) }
+{
+    if addresses.counts(Counted::Assigned, target) {
+        return true;
+    }
+    addresses.counts(Counted::Own, target) && source.is_unspecified()
+}
+
+/// Whether a message speaks of a target for which it is heard (RFC 4861, section 7.2.3).
+pub fn takes_target<A: Allocator>(addresses: &Addresses<A>, source: Addr, body: &Body) -> bool
+    ensures { (c : Chronicle) → own_addresses.Stands addresses.now.addresses (address_history c) → result ≡ takes_target c source body.now }
+{
+    match body {
+        Body::Ns(ns) => is_own_target(addresses, source, ns.target),
+        Body::Rs | Body::Ra(_) | Body::Na(_) | Body::Redirect(_) => true,
+    }
+}
+
+/// Whether the link-local address is assigned, or what comes makes it a duplicate (our choice: a node has to have a link-local address).
+pub fn is_awake<A: Allocator>(addresses: &Addresses<A>, source: Addr, body: &Body) -> bool
+    ensures { (start : Start) (c : Chronicle) → own_addresses.Stands addresses.now.addresses (address_history c) → addresses.now.mac ≡ start.mac → result ≡ is_awake start c source body.now }
+{
+    addresses_are_told_by_numbers();
+    let own = addresses.link_local();
+    let _bytes = own.as_bytes();
+    if addresses.counts(Counted::Assigned, own) {
+        return true;
+    }
+    addresses.counts(Counted::Own, own) && conflicts_with(own, source, body)
+}
+
+/// How long the first solicitation for an address waits, in milliseconds: that is drawn where one is formed by an advertisement that
+/// went to all (RFC 4862, section 5.4.2).
+fn delay<R: Rng>(generator: &mut R, to_all: bool, forms: bool) -> u32
+    ensures { (result, R.stream generator.new) ≡ delay_from (to_all && forms) (R.stream generator.old) }
+{
+    if !to_all || !forms {
+        return 0;
+    }
+    drawn_from(generator, 0, MAX_RTR_SOLICITATION_DELAY) as u32
+}
+
+/// A prefix option of a Router Advertisement may form an address, for which there is room (RFC 4862, section 5.5.3). Moment and
+/// RetransTimer are in milliseconds.
+fn hear_prefix_option<R: Rng, A: Allocator>(
+    addresses: &mut Addresses<A>,
+    generator: &mut R,
+    now: u64,
+    info: &PrefixInfo,
+    to_all: bool,
+    retrans: u32,
+)
+    requires moment { now < 2 ^ 62 }
+    requires fits { fits_in addresses.old.mac (keys_in addresses.old.addresses) (info.now ∷ []) ≡ true }
+    ensures forms { (start : Start) (c : Chronicle) → Forms start addresses.old (R.stream generator.old) retrans c → Forms start addresses.new (R.stream generator.new) retrans (then_option start now to_all info.now c) }
+    ensures fits { (infos : List PrefixInfo) → fits_in addresses.old.mac (keys_in addresses.old.addresses) (info.now ∷ infos) ≡ true → fits_in addresses.new.mac (keys_in addresses.new.addresses) infos ≡ true }
+{
+    let forms = addresses.would_form(info);
+    let delay = delay(generator, to_all, forms);
+    match addresses.heard_prefix(now, info, delay, retrans) {
+        Ok(_) => {}
+        Err(_) => unreachable!(),
+    }
+}
+
+/// Returns true if none of the prefix options of a Router Advertisement would form an address.
+#[tactic(auto, using(nd_slaac::proofs::OfType::prefixes_from))]
+pub fn none_forms<A: Allocator>(addresses: &Addresses<A>, options: Options<'_>) -> bool
+    ensures { result ≡ forms_none addresses.now.mac (keys_in addresses.now.addresses) (prefixes_in (options_left options.entry)) }
+{
+    let mut rest = options;
+    while let Some(option) = rest.next_of_type(OPTION_PREFIX_INFORMATION) {
+        if let OptionRef::Prefix(info) = option {
+            if addresses.would_form(&info) {
+                return false;
+            }
+        }
+    }
+    true
+}
+
+/// The prefix options of a Router Advertisement may form addresses, in their order, for which there is room (RFC 4862, section 5.5.3).
+/// Moment and RetransTimer, which is the one in force, are in milliseconds.
+#[tactic(auto, using(nd_slaac::proofs::OfType::prefixes_from))]
+pub fn hear_prefix_options<R: Rng, A: Allocator>(
+    addresses: &mut Addresses<A>,
+    generator: &mut R,
+    now: u64,
+    options: Options<'_>,
+    to_all: bool,
+    retrans: u32,
+)
+    requires moment { now < 2 ^ 62 }
+    requires fits { fits_in addresses.old.mac (keys_in addresses.old.addresses) (prefixes_in (options_left options)) ≡ true }
+    ensures forms { (start : Start) (c : Chronicle) → Forms start addresses.old (R.stream generator.old) retrans c → Forms start addresses.new (R.stream generator.new) retrans (then_options start now to_all (prefixes_in (options_left options.entry)) c) }
+{
+    let mut rest = options;
+    while let Some(option) = rest.next_of_type(OPTION_PREFIX_INFORMATION) {
+        if let OptionRef::Prefix(info) = option {
+            hear_prefix_option(addresses, generator, now, &info, to_all, retrans);
+        }
+    }
+}
 
 /// Makes a tentative address a duplicate, since another node has it or tries it (RFC 4862, sections 5.4.3 and 5.4.4), and forgets remembered
 /// next hops then. Returns true if the address was tentative. It takes no memory.
@@ -20,8 +187,8 @@ pub fn hear_conflict<A: Allocator>(
     choice: &mut Choice<A>,
     target: Addr,
 ) -> bool
-    ensures tentative { (history : List Row) → own.Stands addresses.old.addresses history → result ≡ is_tentative (story (number_of target.0) history) }
-    ensures gains { result ≡ true → (at : ℕ) → own.GainsRow addresses.old.addresses addresses.new.addresses (at, number_of target.0, Conflict) }
+    ensures tentative { (history : List Row) → own_addresses.Stands addresses.old.addresses history → result ≡ is_tentative (story (number_of target.0) history) }
+    ensures gains { result ≡ true → (at : ℕ) → own_addresses.GainsRow addresses.old.addresses addresses.new.addresses (at, number_of target.0, Conflict) }
     ensures same { result ≡ false → addresses.new ≡ addresses.old }
     ensures remembers { choice.new ≡ (if result then record choice.old { memory = forgotten choice.old.memory } else choice.old) }
     ensures mac { addresses.new.mac ≡ addresses.old.mac }
@@ -30,4 +197,29 @@ pub fn hear_conflict<A: Allocator>(
     let tentative = addresses.conflict(target);
     keep_if(choice, !tentative);
     tentative
+}
+
+/// Takes that another node has an address, at a moment in milliseconds: a tentative address is a duplicate from now on, and that is reported
+/// (RFC 4862, section 5.4.4). Remembered next hops are forgotten then. Returns true if the address was tentative. It takes no memory: room was
+/// made before.
+pub fn hear_holder<A: Allocator>(
+    addresses: &mut Addresses<A>,
+    choice: &mut Choice<A>,
+    now: u64,
+    target: Addr,
+    outs: &mut Vec<(u64, Out<A>), A>,
+) -> bool
+    requires { vec_len outs.old + 1 ≤ vec_capacity outs.old }
+    ensures conflicts { Conflicts now (number_of target.0) addresses.old.addresses addresses.new.addresses outs.old.items outs.new.items result }
+    ensures remembers { choice.new ≡ (if result then record choice.old { memory = forgotten choice.old.memory } else choice.old) }
+    ensures mac { addresses.new.mac ≡ addresses.old.mac }
+    ensures transmits { addresses.new.transmits ≡ addresses.old.transmits }
+    ensures len { vec_len outs.new ≤ vec_len outs.old + 1 }
+    ensures capacity { vec_capacity outs.new ≡ vec_capacity outs.old }
+{
+    if hear_conflict(addresses, choice, target) {
+        outs.push_reserved((now, Out::Duplicate(target)));
+        return true;
+    }
+    false
 }

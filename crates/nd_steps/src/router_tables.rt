@@ -9,7 +9,7 @@ ghost use Rattle.nd_compose.specs.Frames.{router_advertisement_frame};
 ghost use Rattle.nd_message.specs.Owned.{whole};
 ghost use Rattle.nd_message.specs.WellFormed.{IsWellFormed};
 ghost use Rattle.nd_slaac.specs.View.{falls_of};
-ghost use Rattle.nd_steps.specs.Router.{Advertises, NotesAddress, Plans, next_advertisement, plans};
+ghost use Rattle.nd_steps.specs.RouterTables.{Advertises, NotesAddress, Plans, next_advertisement, plans};
 
 use crate::draw::{answer_delay_drawn, interval_drawn};
 use nd_addr::{Addr, Mac, Role};

@@ -8,3 +8,4 @@ pub mod Announcements
 pub mod Listing
 pub mod Left
 pub mod Shown
+pub mod Moment

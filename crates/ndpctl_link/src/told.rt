@@ -3,7 +3,7 @@
 ghost use Rattle.std.specs.Prelude.{◌≡◌, ◌++◌, OnOk, string_bytes};
 ghost use Rattle.std.specs.List.{flat_map};
 ghost use Rattle.nd_chronicle.specs.Told.{node_lines};
-ghost use Rattle.nd_steps.specs.Told.{happenings};
+ghost use Rattle.nd_steps.specs.Outputs.{happenings};
 ghost use Rattle.nd_link_log.specs.Log.{Refuses};
 ghost use Rattle.nd_link_log.specs.Told.{lines_of, refusal_text};
 ghost use Rattle.nd_link.specs.Told.{refusal_of, told_lines, told_text};

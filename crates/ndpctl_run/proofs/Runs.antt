@@ -16,7 +16,7 @@ use Rattle.nd_chronicle.specs.Told as chronicle
 use Rattle.nd_chronicle.specs.Told.{text}
 use Rattle.nd_out.specs.declared.out.Out.{Out}
 use Rattle.nd_out.specs.Out.{told, happening}
-use Rattle.nd_steps.specs.Told.{happenings}
+use Rattle.nd_steps.specs.Outputs.{happenings}
 use Rattle.nd_steps.proofs.Reading.{Tells-text}
 use Rattle.nd_node.specs.declared.node.Node.{Node}
 use Rattle.nd_node.specs.Event.{FollowsBy}

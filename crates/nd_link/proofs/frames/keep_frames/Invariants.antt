@@ -1,5 +1,5 @@
 use Rattle.std.proofs.Common.{◌≡◌, ◌++◌, drop}
-use Rattle.nd_steps.specs.Told.{frames_in, happenings}
+use Rattle.nd_steps.specs.Outputs.{frames_in, happenings}
 use Rattle.nd_link.specs.Frames.{kept_frames, of_sender}
 use Rattle.nd_link.proofs.frames.keep_frames.Given as goal
 

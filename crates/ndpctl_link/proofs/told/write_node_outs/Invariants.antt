@@ -2,7 +2,7 @@ use Rattle.std.proofs.Common.{◌≡◌, ◌++◌, drop}
 use Rattle.std.specs.Prelude.{string_bytes}
 use Rattle.std.specs.List.{flat_map}
 use Rattle.nd_chronicle.specs.Told.{node_lines}
-use Rattle.nd_steps.specs.Told.{happenings}
+use Rattle.nd_steps.specs.Outputs.{happenings}
 use Rattle.ndpctl_link.proofs.told.write_node_outs.Given as goal
 
 -- what is written, and the lines of what is left

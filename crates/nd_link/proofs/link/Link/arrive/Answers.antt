@@ -1,4 +1,4 @@
-use Rattle.nd_steps.specs.Told.{frames_in, happenings}
+use Rattle.nd_steps.specs.Outputs.{frames_in, happenings}
 use Rattle.nd_link.specs.Frames.{kept_frames, of_sender}
 use Rattle.std.proofs.Common.{◌++◌, ◌∙◌, ap, ◌≡◌, ◌<◌, length, Some, refl, subst, arith}
 use Rattle.std.specs.Prelude.{slice_get}

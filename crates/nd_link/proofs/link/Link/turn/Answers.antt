@@ -1,4 +1,4 @@
-use Rattle.nd_steps.specs.Told.{frames_in, happenings}
+use Rattle.nd_steps.specs.Outputs.{frames_in, happenings}
 use Rattle.nd_link.specs.Frames.{kept_frames, of_sender}
 use Rattle.std.proofs.Common.{◌++◌, ◌∙◌, ap, refl, subst, length}
 use Rattle.std.proofs.lemmas.Option.{slice_get_read}

@@ -2,7 +2,8 @@ use Rattle.std.proofs.Common.{Bool, [], ◌++◌, append-nil, refl, sym, ◌∙�
 use Rattle.nd_addr.specs.declared.mac.Mac.{Mac}
 use Rattle.nd_addr.specs.Number.{addr_at}
 use Rattle.nd_slaac.specs.PrefixOption.{link_local_of}
-use Rattle.nd_steps.specs.Told.{advertised_by, at_moment, happenings}
+use Rattle.nd_steps.specs.DueRows.{advertised_by}
+use Rattle.nd_steps.specs.Outputs.{at_moment, happenings}
 use Rattle.nd_node.proofs.RouterCommands.{ceases, told_end}
 use Rattle.nd_node.proofs.node.Node.cease.Goals as goal
 

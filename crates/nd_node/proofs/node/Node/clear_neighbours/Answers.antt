@@ -1,5 +1,5 @@
 use Rattle.std.proofs.Common.{refl, ap}
-use Rattle.nd_steps.specs.Remembered.{Forgets}
+use Rattle.nd_steps.specs.DestinationCache.{Forgets}
 use Rattle.nd_node.proofs.ClearedTables.{clears_neighbours}
 use Rattle.nd_node.proofs.node.Node.clear_neighbours.Goals as goal
 

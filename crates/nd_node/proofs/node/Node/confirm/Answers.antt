@@ -1,7 +1,7 @@
 use Rattle.std.proofs.Common.{refl}
 use Rattle.nd_addr.specs.Number.{number_of}
 use Rattle.nd_neighbour.specs.History.{Confirmed}
-use Rattle.nd_steps.specs.Remembered.{Keeps}
+use Rattle.nd_steps.specs.DestinationCache.{Keeps}
 use Rattle.nd_steps.proofs.Resolved.{gains_as_resolved}
 use Rattle.nd_node.proofs.Commands.{confirms}
 use Rattle.nd_node.proofs.node.Node.confirm.Goals as goal

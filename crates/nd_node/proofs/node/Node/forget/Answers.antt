@@ -1,5 +1,5 @@
 use Rattle.std.proofs.Common.{refl, ap}
-use Rattle.nd_steps.specs.Remembered.{Forgets}
+use Rattle.nd_steps.specs.DestinationCache.{Forgets}
 use Rattle.nd_node.proofs.Commands.{forgets}
 use Rattle.nd_node.proofs.node.Node.forget.Goals as goal
 

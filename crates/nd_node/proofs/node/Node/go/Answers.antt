@@ -1,7 +1,7 @@
 use Rattle.std.proofs.Common.{refl}
 use Rattle.nd_addr.specs.Number.{number_of}
 use Rattle.nd_neighbour.specs.View.{sending_of}
-use Rattle.nd_steps.specs.Remembered.{MayRemember}
+use Rattle.nd_steps.specs.DestinationCache.{MayRemember}
 use Rattle.nd_steps.proofs.Resolved.{packet_may_remember}
 use Rattle.nd_node.proofs.Packets.{packet_leads}
 use Rattle.nd_node.proofs.Recalling.{may_redirects}

@@ -4,8 +4,8 @@ use Rattle.nd_addr.specs.Number.{number_of}
 use Rattle.nd_decode.specs.Pieces.{options_left}
 use Rattle.nd_neighbour.specs.declared.news.Times.{Times}
 use Rattle.nd_neighbour.specs.Entry as entries
-use Rattle.nd_steps.specs.LinkLayerAddress.{said_by, HearsOf}
-use Rattle.nd_steps.specs.Remembered.{MayRemember}
+use Rattle.nd_steps.specs.NeighbourCache.{said_by, HearsOf}
+use Rattle.nd_steps.specs.DestinationCache.{MayRemember}
 use Rattle.nd_node.proofs.Recalling.{may_redirects}
 use Rattle.nd_node.proofs.Asking.{answered, of_asker, place_for_news, refused}
 use Rattle.nd_node.proofs.Refusals.{asker_full, room_left}

@@ -4,7 +4,7 @@ use Rattle.std.specs.Option.{option_map}
 use Rattle.nd_decode.specs.Pieces.{options_left}
 use Rattle.nd_neighbour.specs.declared.news.Times.{Times}
 use Rattle.nd_chronicle.specs.Full.{entering, Placed}
-use Rattle.nd_steps.specs.LinkLayerAddress.{said_by}
+use Rattle.nd_steps.specs.NeighbourCache.{said_by}
 use Rattle.nd_decode.specs.declared.body.Body.TheVariants as bodies
 use Rattle.nd_node.proofs.Recalling.{forgets, may_nothing, may_redirects, may_until, redirects_stand}
 use Rattle.nd_node.proofs.PlainMessages.{adds_message, message_refused, nothing, plain_redirect, none_full}

@@ -4,7 +4,7 @@ use Rattle.std.specs.Option.{option_map}
 use Rattle.nd_decode.specs.Pieces.{options_left}
 use Rattle.nd_neighbour.specs.declared.news.Times.{Times}
 use Rattle.nd_chronicle.specs.Full.{entering, Placed}
-use Rattle.nd_steps.specs.LinkLayerAddress.{said_by}
+use Rattle.nd_steps.specs.NeighbourCache.{said_by}
 use Rattle.nd_decode.specs.declared.body.Body.TheVariants as bodies
 use Rattle.nd_chronicle.specs.Histories.{neighbour_history}
 use Rattle.nd_node.proofs.Recalling.{may_recall, may_redirects, redirects_stand}

@@ -4,8 +4,8 @@ use Rattle.nd_table.specs.Listing.{open_at}
 use Rattle.nd_nexthop.specs.History.{kept}
 use Rattle.nd_nexthop.specs.NextHop.{hop, hop_of}
 use Rattle.nd_chronicle.specs.Histories.{redirect_history}
-use Rattle.nd_steps.specs.FirstHop.{candidates_in}
-use Rattle.nd_steps.specs.Remembered.{linked_by, own_in}
+use Rattle.nd_steps.specs.NextHop.{candidates_in}
+use Rattle.nd_steps.specs.DestinationCache.{linked_by, own_in}
 use Rattle.nd_steps.proofs.Remembering.{agrees_now, remembers_answer}
 use Rattle.nd_node.proofs.NextHops.{next_hop_is, stands_asked}
 use Rattle.nd_node.proofs.node.Node.next_hop.Goals as goal

@@ -1,7 +1,7 @@
 use Rattle.std.proofs.Common.{ℕ, refl, ◌∙◌, ap}
 use Rattle.std.proofs.lemmas.Result.{on_ok_weaker}
 use Rattle.nd_compose.specs.Frames.{open_mac}
-use Rattle.nd_steps.specs.OutgoingPacket.{frame_of}
+use Rattle.nd_steps.specs.Packets.{frame_of}
 use Rattle.nd_node.proofs.OutgoingPackets.{goes_nowhere}
 use Rattle.nd_node.proofs.node.Node.send_by_hop.Goals as goal
 

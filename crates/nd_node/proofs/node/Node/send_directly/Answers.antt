@@ -1,6 +1,6 @@
 use Rattle.std.proofs.Common.{ℕ, sym, ◌∙◌, ap}
 use Rattle.std.proofs.lemmas.Result.{on_ok_weaker}
-use Rattle.nd_steps.specs.OutgoingPacket.{frame_of}
+use Rattle.nd_steps.specs.Packets.{frame_of}
 use Rattle.nd_node.proofs.OutgoingPackets.{goes_to_all}
 use Rattle.nd_node.proofs.Refusals.{to_destination}
 use Rattle.nd_node.proofs.node.Node.send_directly.Goals as goal

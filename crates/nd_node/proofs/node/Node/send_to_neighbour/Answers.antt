@@ -1,7 +1,7 @@
 use Rattle.std.proofs.Common.{sym, ◌∙◌, ap, ◌≡◌}
 use Rattle.std.proofs.lemmas.Result.{on_ok_weaker}
 use Rattle.nd_compose.specs.Frames.{open_mac}
-use Rattle.nd_steps.specs.OutgoingPacket.{frame_of}
+use Rattle.nd_steps.specs.Packets.{frame_of}
 use Rattle.nd_node.proofs.Refusals.{place_refused, room_left}
 use Rattle.nd_addr.specs.Number.{number_of}
 use Rattle.std.specs.Prelude.{None, true}

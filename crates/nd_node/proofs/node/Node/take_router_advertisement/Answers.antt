@@ -2,7 +2,7 @@ use Rattle.std.proofs.Common.{refl, subst, ◌∙◌}
 use Rattle.std.specs.Prelude.{Option, ℕ}
 use Rattle.nd_neighbour.specs.History.{RowKind}
 use Rattle.nd_decode.specs.Pieces.{options_left}
-use Rattle.nd_steps.specs.LinkLayerAddress.{HearsOf}
+use Rattle.nd_steps.specs.NeighbourCache.{HearsOf}
 use Rattle.nd_node.proofs.Recalling.{may_redirects, redirects_stand}
 use Rattle.nd_node.proofs.Advertised.{takes_advertisement}
 use Rattle.nd_node.proofs.node.Node.take_router_advertisement.Goals as goal

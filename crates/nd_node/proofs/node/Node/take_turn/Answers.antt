@@ -10,8 +10,8 @@ use Rattle.nd_params.specs.History.{Drew}
 use Rattle.nd_params.specs.Params as parameters
 use Rattle.nd_chronicle.specs.Generator.{reachable_drawn}
 use Rattle.nd_chronicle.specs.Histories.{router_history, address_history, neighbour_history}
-use Rattle.nd_steps.specs.Router.{NotesAddress}
-use Rattle.nd_steps.specs.RouterSolicitations.{after_address}
+use Rattle.nd_steps.specs.RouterTables.{NotesAddress}
+use Rattle.nd_steps.specs.SolicitRouters.{after_address}
 use Rattle.nd_steps.proofs.RouterSide.{advertisement_date}
 use Rattle.nd_node.proofs.Turns.{address_fell, neighbour_fell, redraw_is_due, redrawn, router_advertised, router_ended, routers_solicited, solicitation_date}
 use Rattle.nd_node.proofs.node.Node.take_turn.Goals as goal
@@ -42,8 +42,8 @@ returns-in-Some-turn-clause-stands g c = λ start c' s.
 pub returns-in-Some-turn-2-clause-stands : goal.returns-in-Some-turn-2-clause-stands
 returns-in-Some-turn-2-clause-stands g c = λ start c' s.
     neighbour_fell g.R.Rng.stream start c.args.self.now _ c' c.args.now s c.requires.due
-    (record { role = refl; mac = refl; prefixes = refl; dns = refl; address_mac = c.in-None-turn.ensures.mac; address_transmits = c.in-None-turn.ensures.transmits; neighbour_limit = c.in-Some-turn-2.ensures.limit; router_limit = c.note.ensures.limit ∙ c.in-None.ensures.limit; last = refl })
-    (neighbours.falls_of c.in-Some-turn-2.due) _ _ c.in-None.ensures.same refl (c.note.ensures.notes c.args.now) c.note.ensures.entries c.note.ensures.remembers c.in-None-turn.ensures.same c.in-Some-turn-2.ensures.gains c.in-Some-turn-2.ensures.later refl refl refl refl
+    (record { role = refl; mac = refl; prefixes = refl; dns = refl; address_mac = c.in-None-turn.ensures.mac; address_transmits = c.in-None-turn.ensures.transmits; neighbour_limit = c.in-Some-turn-2.ensures.limit; router_limit = c.note_failure.ensures.limit ∙ c.in-None.ensures.limit; last = refl })
+    (neighbours.falls_of c.in-Some-turn-2.due) _ _ c.in-None.ensures.same refl (c.note_failure.ensures.notes c.args.now) c.note_failure.ensures.entries c.note_failure.ensures.remembers c.in-None-turn.ensures.same c.in-Some-turn-2.ensures.gains c.in-Some-turn-2.ensures.later refl refl refl refl
 
 pub returns-then-turn-clause-stands : goal.returns-then-turn-clause-stands
 returns-then-turn-clause-stands g c = λ start c' s.

@@ -3,7 +3,8 @@ use Rattle.nd_addr.specs.declared.mac.Mac.{Mac}
 use Rattle.nd_addr.specs.Number.{addr_at}
 use Rattle.nd_slaac.specs.PrefixOption.{link_local_of}
 use Rattle.nd_steps.specs.Turned.{what_of}
-use Rattle.nd_steps.specs.Told.{advertised_by, happenings, at_moment, told_of}
+use Rattle.nd_steps.specs.DueRows.{advertised_by, told_of}
+use Rattle.nd_steps.specs.Outputs.{happenings, at_moment}
 use Rattle.nd_node.proofs.Walks.{turn_leads}
 use Rattle.nd_node.proofs.node.Node.turn.Goals as goal
 

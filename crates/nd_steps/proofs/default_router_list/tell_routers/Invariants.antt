@@ -1,0 +1,11 @@
+use Rattle.std.proofs.Common.{◌≡◌, ◌+◌, ◌++◌, ◌≤◌, vec_len, vec_capacity, length, drop}
+use Rattle.nd_steps.specs.Outputs.{happenings}
+use Rattle.nd_steps.proofs.Telling.{left_at, numbers}
+use Rattle.nd_steps.proofs.default_router_list.tell_routers.Given as goal
+
+-- what was told and what is left is all that is to be told
+abbrev pub invariant-loop-router : goal.invariant-loop-router
+invariant-loop-router g l = record {
+  room : vec_len l.outs + length (drop l.router-index l.routers) ≤ vec_capacity l.outs;
+  told : happenings l.outs.items ++ left_at l.at (numbers (drop l.router-index l.routers)) ≡ happenings l.fn.outs.items ++ left_at l.at (numbers l.routers);
+}

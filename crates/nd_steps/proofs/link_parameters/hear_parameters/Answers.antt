@@ -1,5 +1,0 @@
-use Rattle.nd_steps.proofs.Measuring.{hears_parameters}
-use Rattle.nd_steps.proofs.link_parameters.hear_parameters.Goals as goal
-
-pub returns : goal.returns
-returns g c = hears_parameters _ _ _ _ _ _ _ _ c.redraw-drawn.ensures.value c.heard_ra.ensures.stands

@@ -1,7 +1,0 @@
-use Rattle.nd_steps.proofs.lost_hop.note.Goals as goal
-
-pub returns-in-Failed-clause-notes : goal.returns-in-Failed-clause-notes
-returns-in-Failed-clause-notes g c = λ at. rw c.in-Failed.is (record {
-  routers = (c.failed.ensures.stands at).stands;
-  redirects = (c.target_gone.ensures.stands at).stands;
-})

@@ -1,0 +1,13 @@
+use Rattle.std.proofs.Common.{◌≡◌, ◌+◌, ◌++◌, ◌≤◌, vec_len, vec_capacity, length}
+use Rattle.std.specs.Vec.Iter.{into_iter_items}
+use Rattle.nd_chronicle.specs.Happening.{Forgotten}
+use Rattle.nd_steps.specs.Outputs.{happenings}
+use Rattle.nd_steps.proofs.Telling.{lost_at}
+use Rattle.nd_steps.proofs.neighbour_cache.tell_packets.Given as goal
+
+-- what was told and what is left is all that is to be told
+abbrev pub invariant-loop-packet : goal.invariant-loop-packet
+invariant-loop-packet g l = record {
+  room : vec_len l.outs + length (into_iter_items l.packet-iterator) ≤ vec_capacity l.outs;
+  told : happenings l.outs.items ++ lost_at l.at Forgotten (into_iter_items l.packet-iterator) ≡ happenings l.fn.outs.items ++ lost_at l.fn.at Forgotten l.fn.packets.items;
+}

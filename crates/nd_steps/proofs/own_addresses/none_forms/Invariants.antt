@@ -1,0 +1,14 @@
+use Rattle.std.proofs.Common.{◌≡◌, length}
+use Rattle.nd_decode.specs.Pieces.{options_left}
+use Rattle.nd_slaac.specs.Calls.{keys_in}
+use Rattle.nd_slaac.specs.PrefixOption.{prefixes_in}
+use Rattle.nd_steps.specs.DestinationCache.{forms_none}
+use Rattle.nd_steps.proofs.own_addresses.none_forms.Given as goal
+
+-- what is left decides
+abbrev pub invariant-loop-option : goal.invariant-loop-option
+invariant-loop-option g l =
+    forms_none l.addresses.mac (keys_in l.addresses.addresses) (prefixes_in (options_left l.rest)) ≡ forms_none l.addresses.mac (keys_in l.addresses.addresses) (prefixes_in (options_left l.initial.rest))
+
+abbrev pub decreases-loop-option : goal.decreases-loop-option
+decreases-loop-option g l = length (options_left l.rest)

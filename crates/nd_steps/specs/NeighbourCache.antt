@@ -1,0 +1,85 @@
+-- What a message says of a neighbour is taken: the neighbours know it, and the packets that waited for the link-layer address that it gives
+-- are sent (RFC 4861, sections 6.2.6, 6.3.4, 7.2.3, 7.2.5 and 8.3).
+use Rattle.std.specs.Prelude.{◌≡◌, ℕ, Bool, true, false, List, [], ◌∷◌, ◌++◌, length, map, Option, Some, None, MatchBool}
+use Rattle.std.specs.Option.{option_to_list}
+use Rattle.nd_addr.specs.Frame.{addressed}
+use Rattle.nd_addr.specs.Number.{mac_at, addr_at}
+use Rattle.nd_neighbour.specs.declared.news.News.{News}
+use Rattle.nd_neighbour.specs.declared.news.Times.{Times}
+use Rattle.nd_neighbour.specs.Entry.{Node}
+use Rattle.nd_neighbour.specs.History.{Row, RowKind, story}
+use Rattle.nd_neighbour.specs.News.{news_key, news_row, lets_enter, released_by, ends_router}
+use Rattle.nd_neighbour.specs.Place.{Prepares, NoPlace, WouldBeFull}
+use Rattle.nd_neighbour.specs.Removal.{waiting_at}
+use Rattle.nd_neighbour.specs.Story.{mac_of}
+use Rattle.nd_neighbour.specs.Table.{Stands, node_in}
+use Rattle.nd_chronicle.specs.Happening.{Happening, Sent, Lost, Replaced}
+use Rattle.nd_chronicle.specs.Histories.{then_neighbour}
+use Rattle.nd_out.specs.declared.out.Out.{Out}
+use Rattle.nd_steps.specs.Outputs.{at_moment, happenings}
+use Rattle.nd_addr.specs.declared.addr.Addr.{Addr}
+use Rattle.nd_addr.specs.declared.mac.Mac.{Mac}
+use Rattle.nd_neighbour.specs.Sending.{Sending, Sends, Queues}
+use Rattle.nd_compose.specs.Frames.{resolution_frame}
+use Rattle.nd_chronicle.specs.Message as message
+
+-- what news say, at the times in force
+abbrev pub said_by : Times → News → ℕ × RowKind
+said_by times news = (news_key news, news_row news times)
+
+-- there is place for the neighbour that enters with them
+abbrev pub HasPlace : ℕ → ℕ → Option News → List Node → Type 0
+HasPlace limit now None nodes = Unit {0}
+HasPlace limit now (Some news) nodes = lets_enter news ≡ true → NoPlace limit now (news_key news) nodes → ⊥
+
+-- how many packets wait for it
+abbrev pub waiting_for : Option News → List Node → ℕ
+waiting_for None nodes = 0
+waiting_for (Some news) nodes = length (waiting_at (node_in (news_key news) nodes))
+
+-- ---- by history
+
+-- what makes place for a neighbour of which something is said
+abbrev pub PreparesFor : ℕ → ℕ → Option (ℕ × RowKind) → List Row → List Row → Type 0
+PreparesFor limit now None history made = made ≡ history
+PreparesFor limit now (Some said) history made = Prepares limit now (message.lets_enter said.1) said.0 history made
+
+-- packets that are sent to an address, if one is known
+abbrev pub sent_if_known : Option ℕ → List (List ℕ) → List Happening
+sent_if_known None packets = []
+sent_if_known (Some mac) packets = map (λ packet. Sent (addressed (mac_at mac) packet)) packets
+
+-- the frames that are sent where something is said of a neighbour
+abbrev pub released_frames : ℕ → Option (ℕ × RowKind) → List Row → List Happening
+released_frames now None history = []
+released_frames now (Some said) history =
+    sent_if_known (mac_of ((now, said.1) ∷ story said.0 history)) (released_by now said.1 (story said.0 history))
+
+-- it takes the mark of a router away
+abbrev pub ends_said : ℕ → Option (ℕ × RowKind) → List Row → Bool
+ends_said now None history = false
+ends_said now (Some said) history = ends_router now said.1 (story said.0 history)
+
+-- Whatever history the neighbours stood for, they stand for it with what is said, and with what makes place before; the packets that it
+-- releases are handed out, and whether it takes the mark of a router away is answered.
+pub record HearsOf {A : Type 0} (limit now : ℕ) (said : Option (ℕ × RowKind)) (old new : List Node) (before after : List (ℕ × Out A)) (ends : Bool) : Type 0 where
+  pub each : (history : List Row) → Stands old history
+      → (made : List Row) × PreparesFor limit now said history made × Stands new (then_neighbour now said made)
+      × (happenings after ≡ happenings before ++ at_moment now (released_frames now said history)) × (ends ≡ ends_said now said history)
+
+-- Whether there is a place for the neighbour of which a message says something (RFC 4861, section 5.3, leaves it open).
+
+-- there is none where the news let it enter and it would be full
+abbrev pub PlacedBy : ℕ → ℕ → News → List Row → Bool → Type 0
+PlacedBy limit now news history place =
+    MatchBool place (lets_enter news ≡ true → WouldBeFull limit now (news_key news) history → ⊥)
+    ((lets_enter news ≡ true) × WouldBeFull limit now (news_key news) history)
+
+-- What is told of a packet to a neighbour (RFC 4861, sections 7.2.2 and 7.3.3).
+
+-- the packet itself, or the solicitation that its resolution begins with, or the one that it replaces: of a node with a link-layer
+-- address and a link-local one
+abbrev pub told_of_packet : Mac → Addr → ℕ → Sending → List Happening
+told_of_packet mac own key (Sends to packet) = Sent (addressed (mac_at to) packet) ∷ []
+told_of_packet mac own key (Queues true replaced) = Sent (resolution_frame mac own (addr_at key)) ∷ []
+told_of_packet mac own key (Queues false replaced) = map (λ packet. Lost Replaced packet) (option_to_list replaced)

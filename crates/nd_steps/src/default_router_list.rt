@@ -1,0 +1,153 @@
+//! The Default Router List (RFC 4861, section 5.1): which routers enter and leave it, and what ends with them.
+
+ghost use Rattle.std.specs.Prelude.{◌≡◌, ◌<◌, ◌^◌, ◌↔◌, ◌&&◌, ◌==◌, ◌∷◌, IsTrue, List, [], true, ◌≤◌, ◌++◌, ℕ, vec_len, vec_capacity, ◌+◌, length, map};
+ghost use Rattle.nd_addr.specs.Number.{number_of};
+ghost use Rattle.nd_table.specs.Announcements.{stands};
+ghost use Rattle.nd_table.specs.Listing.{fits};
+ghost use Rattle.nd_routers.specs.History.{RouterRow, Heard, announcements};
+ghost use Rattle.nd_routers.specs.Routers.{same, IsSettled};
+ghost use Rattle.nd_nexthop.specs.History.{RedirectRow};
+ghost use Rattle.nd_steps.specs.DestinationCache.{AsListed, Recollects, Refreshes, Remembering};
+ghost use Rattle.nd_steps.specs.DefaultRouterList.{with_left, with_gone, left_told, Leaves, Notes};
+ghost use Rattle.nd_addr.specs.declared.addr.Addr.{Addr};
+ghost use Rattle.nd_steps.specs.Outputs.{at_moment, happenings};
+ghost use Rattle.nd_nexthop.specs.Memo.{forgotten};
+ghost use Rattle.nd_neighbour.specs.View.{falls_of};
+ghost use Rattle.nd_chronicle.specs.Happening.{LeftRouter};
+ghost use Rattle.nd_routers.specs.Routers as list;
+ghost use Rattle.nd_nexthop.specs.Choice as redirects;
+
+use crate::destination_cache::keep_if;
+use nd_addr::{Addr, Preference};
+use nd_neighbour::Due;
+use nd_nexthop::Choice;
+use nd_out::Out;
+use nd_routers::Routers;
+use std::alloc::Allocator;
+
+/// Returns true if a Router Advertisement with this lifetime, in seconds, times out a router that is in the list at the moment, in
+/// milliseconds (RFC 4861, section 6.3.4).
+fn times_out<A: Allocator>(routers: &Routers<A>, now: u64, source: Addr, lifetime: u16) -> bool
+    ensures { (history : List RouterRow) → list.Stands routers.now history → result ≡ ((lifetime == 0) && stands same (number_of source.0) (announcements history) now) }
+{
+    lifetime == 0 && routers.holds(now, source)
+}
+
+/// Returns true if a Router Advertisement with this lifetime, in seconds, and this preference only refreshes a router that is in the list at
+/// the moment, in milliseconds: no next hop changes.
+fn only_refreshes<A: Allocator>(
+    routers: &Routers<A>,
+    now: u64,
+    source: Addr,
+    lifetime: u16,
+    preference: Preference,
+) -> bool
+    ensures { IsTrue result ↔ Refreshes now (number_of source.0) lifetime preference routers.now }
+{
+    lifetime != 0 && routers.holds(now, source) && routers.preference(source) == preference
+}
+
+/// Takes a Router Advertisement's sender as a default router, for a lifetime in seconds, with its preference, at a moment in milliseconds.
+/// There is room for it (RFC 4861, section 6.3.4; RFC 4191, section 2.2). Returns true if it timed out a router of the list; the redirects to
+/// that router end (section 6.3.5). Remembered next hops are forgotten, except where the router is only refreshed with the same preference.
+pub fn hear_router<A: Allocator>(
+    routers: &mut Routers<A>,
+    choice: &mut Choice<A>,
+    now: u64,
+    source: Addr,
+    lifetime: u16,
+    preference: Preference,
+) -> bool
+    requires moment { now < 2 ^ 62 }
+    requires settled { IsSettled routers.old.entries now }
+    requires fits { fits same routers.old.limit now ((number_of source.0, lifetime) ∷ []) routers.old.entries ≡ true }
+    ensures times_out { (history : List RouterRow) → list.Stands routers.old history → result ≡ ((lifetime == 0) && stands same (number_of source.0) (announcements history) now) }
+    ensures routers { (history : List RouterRow) → list.Stands routers.old history → list.Stands routers.new (with_left now result (number_of source.0) (Heard now (number_of source.0) lifetime preference ∷ history)) }
+    ensures redirects { (history : List RedirectRow) → redirects.Stands choice.old history → redirects.Stands choice.new (with_gone now result (number_of source.0) history) }
+    ensures recollects { Recollects choice.old choice.new (AsListed choice.old choice.new routers.old routers.new) }
+    ensures settled { IsSettled routers.new.entries now }
+    ensures limit { routers.new.limit ≡ routers.old.limit }
+{
+    let times_out = times_out(routers, now, source, lifetime);
+    let refreshes = only_refreshes(routers, now, source, lifetime, preference);
+    let _ = routers.take_ra(now, source, lifetime, preference);
+    keep_if(choice, refreshes);
+    if !times_out {
+        return false;
+    }
+    routers.ended(source);
+    choice.target_gone(source);
+    true
+}
+
+/// Reports a router that was timed out at a moment, in milliseconds, if it was (RFC 4861, section 6.3.4). It takes no memory: room was made
+/// before.
+pub fn tell_left<A: Allocator>(
+    outs: &mut Vec<(u64, Out<A>), A>,
+    now: u64,
+    source: Addr,
+    times_out: bool,
+)
+    requires { vec_len outs.old < vec_capacity outs.old }
+    ensures { happenings outs.new.items ≡ happenings outs.old.items ++ at_moment now (left_told times_out (number_of source.0)) }
+{
+    if times_out {
+        outs.push_reserved((now, Out::EndedRouter(source)));
+    }
+}
+
+/// Removes a neighbour that is no longer a router from the list of default routers, if that is said at a moment, in milliseconds, and the
+/// neighbour is in the list. The redirects to it end, and that is reported (RFC 4861, section 7.2.5). Returns true if it left the list. It
+/// takes no memory: room was made before.
+pub fn end_router<A: Allocator>(
+    routers: &mut Routers<A>,
+    choice: &mut Choice<A>,
+    now: u64,
+    addr: Addr,
+    ends: bool,
+    outs: &mut Vec<(u64, Out<A>), A>,
+) -> bool
+    requires room { vec_len outs.old + 1 ≤ vec_capacity outs.old }
+    ensures leaves { Leaves now (number_of addr.0) ends routers.old routers.new choice.old choice.new outs.old.items outs.new.items result }
+    ensures settled { (moment : ℕ) → IsSettled routers.old.entries moment → IsSettled routers.new.entries moment }
+    ensures limit { routers.new.limit ≡ routers.old.limit }
+{
+    if !ends {
+        return false;
+    }
+    if !routers.holds(now, addr) {
+        return false;
+    }
+    routers.ended(addr);
+    choice.target_gone(addr);
+    outs.push_reserved((now, Out::EndedRouter(addr)));
+    true
+}
+
+/// Notes what is due for a neighbour. If the neighbour failed, the router that it may be failed too, and the redirects to it end (RFC 4861,
+/// sections 6.3.6 and 7.3.3). If its entry is gone, remembered next hops are forgotten.
+pub fn note_failure<A: Allocator + Clone>(routers: &mut Routers<A>, choice: &mut Choice<A>, due: &Due<A>)
+    ensures notes { (at : ℕ) → Notes at (falls_of due.now) routers.old routers.new choice.old choice.new }
+    ensures remembers { Remembering (falls_of due.now) choice.old choice.new routers.old routers.new }
+    ensures entries { routers.new.entries ≡ routers.old.entries }
+    ensures limit { routers.new.limit ≡ routers.old.limit }
+{
+    match due {
+        Due::Failed(addr, _) => {
+            routers.failed(*addr);
+            choice.target_gone(*addr);
+        }
+        Due::Aged(_) => choice.changed(),
+        Due::Multicast(_) | Due::Unicast(_, _) => {}
+    }
+}
+
+/// Routers leave the list at a moment, in milliseconds, in its order. It takes no memory: the room for it was taken before.
+pub fn tell_routers<A: Allocator>(outs: &mut Vec<(u64, Out<A>), A>, at: u64, routers: &[Addr])
+    requires { vec_len outs.old + length routers.now ≤ vec_capacity outs.old }
+    ensures { happenings outs.new.items ≡ happenings outs.old.items ++ at_moment at (map (λ key. LeftRouter key) (map (λ a. number_of a.0) routers.now)) }
+{
+    for router in routers {
+        outs.push_reserved((at, Out::EndedRouter(*router)));
+    }
+}

@@ -1,0 +1,267 @@
+//! The Neighbor Cache (RFC 4861, section 5.1): what messages and packets do to it, and what the node reports of them.
+
+ghost use Rattle.std.specs.Prelude.{◌≡◌, List, Some, None, true, ◌+◌, ◌<◌, ◌≤◌, length, OnOk, vec_capacity, vec_len, ◌-◌, ◌++◌, ◌^◌, IfSome, if◌then◌else◌, is_some, map};
+ghost use Rattle.std.specs.Option.{option_map};
+ghost use Rattle.nd_neighbour.specs.declared.news.Times.{Times};
+ghost use Rattle.nd_neighbour.specs.History.{Row};
+ghost use Rattle.nd_neighbour.specs.Table.{Stands, node_in};
+ghost use Rattle.nd_chronicle.specs.Start.{Start};
+ghost use Rattle.nd_chronicle.specs.Happening.{Chronicle, Sent, Forgotten, Lost};
+ghost use Rattle.nd_chronicle.specs.Histories.{neighbour_history};
+ghost use Rattle.nd_chronicle.specs.Full.{entering, Placed};
+ghost use Rattle.nd_steps.specs.NeighbourCache.{said_by, HasPlace, waiting_for, HearsOf, PlacedBy, told_of_packet};
+ghost use Rattle.nd_addr.specs.Number.{number_of};
+ghost use Rattle.nd_addr.specs.Frame.{addressed};
+ghost use Rattle.nd_neighbour.specs.News.{lets_enter, news_key};
+ghost use Rattle.nd_neighbour.specs.Removal.{waiting_at};
+ghost use Rattle.nd_packet.specs.Waiting.{max_waiting};
+ghost use Rattle.nd_steps.specs.DestinationCache.{MayRemember, begins};
+ghost use Rattle.nd_steps.specs.Outputs.{at_moment, happenings};
+ghost use Rattle.nd_neighbour.specs.View.{sending_of};
+ghost use Rattle.nd_nexthop.specs.Memo.{forgotten};
+
+use crate::destination_cache::keep_if;
+use nd_addr::laws::addresses_are_told_by_numbers;
+use nd_addr::{Addr, Mac};
+use nd_compose::FrameRoom;
+use nd_neighbour::laws::{full_by_history, room_is_place, released_to_the_given_address};
+use nd_neighbour::{Cache, News, Times, Use};
+use nd_nexthop::Choice;
+use nd_out::{Out, Loss};
+use nd_packet::{Packet, Packets};
+use std::alloc::{Allocator, AllocError};
+
+/// Whether the neighbour that news are of has a place at a moment, in milliseconds, if they let it enter.
+fn has_place_with<A: Allocator>(neighbours: &Cache<A>, now: u64, news: &News) -> bool
+    ensures room { result ≡ true → HasPlace neighbours.now.limit now (Some news.now) neighbours.now.nodes }
+    ensures placed { (history : List Row) → Stands neighbours.now.nodes history → PlacedBy neighbours.now.limit now news.now history result }
+{
+    full_by_history();
+    room_is_place();
+    match news {
+        News::Given { addr, .. } => neighbours.room(now, *addr, None),
+        News::Advert { .. } | News::Marked { .. } => true,
+    }
+}
+
+/// Whether the neighbour that news may be of has a place at a moment, in milliseconds, if they let it enter.
+pub fn has_place<A: Allocator>(neighbours: &Cache<A>, now: u64, news: Option<News>) -> bool
+    ensures room { result ≡ true → HasPlace neighbours.now.limit now news neighbours.now.nodes }
+    ensures placed { (start : Start) (c : Chronicle) (times : Times) → neighbours.now.limit ≡ start.limits.neighbours → Stands neighbours.now.nodes (neighbour_history c) → Placed start c now (entering (option_map (said_by times) news)) result }
+{
+    match news {
+        Some(news) => has_place_with(neighbours, now, &news),
+        None => true,
+    }
+}
+
+/// Makes room for a packet to a neighbour at a moment, in milliseconds: the solicitation of its link-layer address, a place for what is
+/// told, and a ring where the neighbour isn't there. The error is out of memory, and then no more than room has been made.
+pub fn ready_for<A: Allocator + Clone>(
+    neighbours: &mut Cache<A>,
+    now: u64,
+    to: Addr,
+    outs: &mut Vec<(u64, Out<A>), A>,
+) -> Result<FrameRoom<A>, AllocError>
+    ensures place { OnOk result (vec_len outs.new < vec_capacity outs.new) }
+    ensures ring { OnOk result (node_in (number_of to.0) neighbours.old.nodes ≡ None → 0 < neighbours.new.rings) }
+    ensures nodes { neighbours.new.nodes ≡ neighbours.old.nodes }
+    ensures limit { neighbours.new.limit ≡ neighbours.old.limit }
+    ensures same { outs.new.items ≡ outs.old.items }
+{
+    let solicitation = FrameRoom::new(outs.allocator().clone()?)?;
+    outs.reserve(1)?;
+    if neighbours.entry(now, to).is_none() && neighbours.ready(1).is_err() {
+        return Err(AllocError);
+    }
+    Ok(solicitation)
+}
+
+/// Makes room for a packet to one neighbour and then one to a second: the solicitation of the link-layer
+/// address of each, a place for what is told of each, and a ring for each, whoever is there, since the first may push the second out. The error
+/// is out of memory, and then no more than room has been made.
+pub fn ready_for_two<A: Allocator + Clone>(
+    neighbours: &mut Cache<A>,
+    outs: &mut Vec<(u64, Out<A>), A>,
+) -> Result<(FrameRoom<A>, FrameRoom<A>), AllocError>
+    ensures place { OnOk result (vec_len outs.new + 2 ≤ vec_capacity outs.new) }
+    ensures rings { OnOk result (2 ≤ neighbours.new.rings) }
+    ensures nodes { neighbours.new.nodes ≡ neighbours.old.nodes }
+    ensures limit { neighbours.new.limit ≡ neighbours.old.limit }
+    ensures same { outs.new.items ≡ outs.old.items }
+{
+    let first = FrameRoom::new(outs.allocator().clone()?)?;
+    let second = FrameRoom::new(outs.allocator().clone()?)?;
+    outs.reserve(2)?;
+    if neighbours.ready(2).is_err() {
+        return Err(AllocError);
+    }
+    Ok((first, second))
+}
+
+/// The neighbour that news are of.
+fn neighbour_in(news: &News) -> Addr
+    ensures { number_of result.0 ≡ news_key news.now }
+{
+    match news {
+        News::Given { addr, .. } | News::Advert { addr, .. } | News::Marked { addr, .. } => *addr,
+    }
+}
+
+/// How many packets wait for the neighbour that is spoken of: none where nothing is said.
+pub fn waiting_for<A: Allocator>(neighbours: &Cache<A>, news: Option<News>) -> usize
+    ensures value { result ≡ waiting_for news neighbours.now.nodes }
+    ensures few { result ≤ max_waiting }
+{
+    match news {
+        Some(news) => neighbours.waiting_at(neighbour_in(&news)),
+        None => 0,
+    }
+}
+
+/// Packets go to an Ethernet address, the oldest first.
+fn send_each<A: Allocator>(outs: &mut Vec<(u64, Out<A>), A>, at: u64, mac: Mac, packets: Packets<A>)
+    requires { vec_len outs.old + length packets ≤ vec_capacity outs.old }
+    ensures told { happenings outs.new.items ≡ happenings outs.old.items ++ at_moment at (map (λ packet. Sent (addressed mac packet)) packets) }
+    ensures len { vec_len outs.new ≤ vec_len outs.old + length packets }
+    ensures capacity { vec_capacity outs.new ≡ vec_capacity outs.old }
+{
+    let mut rest = packets;
+    while let Some(packet) = rest.take() {
+        outs.push_reserved((at, Out::Frame(packet.addressed(mac))));
+    }
+}
+
+/// Takes what a message says of a neighbour, and sends the packets that waited for the address that it gives. Returns true if it says that a
+/// router is no longer one.
+fn hear_news<A: Allocator>(
+    neighbours: &mut Cache<A>,
+    choice: &mut Choice<A>,
+    now: u64,
+    news: News,
+    times: Times,
+    outs: &mut Vec<(u64, Out<A>), A>,
+) -> bool
+    requires moment { now < 2 ^ 62 }
+    requires span { times.reachable < 2 ^ 62 }
+    requires place { HasPlace neighbours.old.limit now (Some news) neighbours.old.nodes }
+    requires room { vec_len outs.old + waiting_for (Some news) neighbours.old.nodes ≤ vec_capacity outs.old }
+    ensures hears { HearsOf neighbours.old.limit now (Some (said_by times news)) neighbours.old.nodes neighbours.new.nodes outs.old.items outs.new.items result }
+    ensures remembers { MayRemember choice.old choice.new neighbours.old.nodes neighbours.new.nodes }
+    ensures there { lets_enter news ≡ true → is_some (node_in (news_key news) neighbours.new.nodes) ≡ true }
+    ensures len { vec_len outs.new ≤ vec_len outs.old + waiting_for (Some news) neighbours.old.nodes }
+    ensures capacity { vec_capacity outs.new ≡ vec_capacity outs.old }
+    ensures limit { neighbours.new.limit ≡ neighbours.old.limit }
+    ensures rings { neighbours.new.rings ≡ neighbours.old.rings }
+{
+    addresses_are_told_by_numbers();
+    released_to_the_given_address();
+    let mac = news.mac();
+    match neighbours.heard(now, news, times) {
+        Ok(touched) => {
+            keep_if(choice, touched.was_known);
+            let ends_router = touched.ends_router;
+            match mac {
+                Some(mac) => send_each(outs, now, mac, touched.released),
+                None => {}
+            }
+            ends_router
+        }
+        Err(_) => unreachable!(),
+    }
+}
+
+/// Takes what a message says of a neighbour at a moment, if it says anything, with the times in force, and sends the packets that waited for
+/// the address that it gives; moment and times are in milliseconds (RFC 4861, sections 6.2.6, 6.3.4, 7.2.3, 7.2.5 and 8.3). Returns true if it
+/// says that a router is no longer one. Remembered next hops are forgotten where the neighbour's link-layer address wasn't known. It takes no
+/// memory: room was made before.
+pub fn hear_of_neighbour<A: Allocator>(
+    neighbours: &mut Cache<A>,
+    choice: &mut Choice<A>,
+    now: u64,
+    news: Option<News>,
+    times: Times,
+    outs: &mut Vec<(u64, Out<A>), A>,
+) -> bool
+    requires moment { now < 2 ^ 62 }
+    requires span { times.reachable < 2 ^ 62 }
+    requires place { HasPlace neighbours.old.limit now news neighbours.old.nodes }
+    requires room { vec_len outs.old + waiting_for news neighbours.old.nodes ≤ vec_capacity outs.old }
+    ensures hears { HearsOf neighbours.old.limit now (option_map (said_by times) news) neighbours.old.nodes neighbours.new.nodes outs.old.items outs.new.items result }
+    ensures remembers { MayRemember choice.old choice.new neighbours.old.nodes neighbours.new.nodes }
+
+    // A neighbour whose address is given is there then, and where nothing is said none is changed.
+    ensures there { IfSome news (λ n. lets_enter n ≡ true → is_some (node_in (news_key n) neighbours.new.nodes) ≡ true) }
+    ensures unsaid { news ≡ None → neighbours.new.nodes ≡ neighbours.old.nodes }
+
+    // What else there was room for still has it.
+    ensures len { vec_len outs.new ≤ vec_len outs.old + waiting_for news neighbours.old.nodes }
+    ensures capacity { vec_capacity outs.new ≡ vec_capacity outs.old }
+
+    ensures limit { neighbours.new.limit ≡ neighbours.old.limit }
+    ensures rings { neighbours.new.rings ≡ neighbours.old.rings }
+{
+    match news {
+        Some(news) => hear_news(neighbours, choice, now, news, times, outs),
+        None => false,
+    }
+}
+
+/// Forgets remembered next hops if a packet began the resolution of a neighbour: that neighbour is new, and may have evicted another one.
+pub fn note_use<A: Allocator>(choice: &mut Choice<A>, used: &Use<A>)
+    ensures { choice.new ≡ (if begins (sending_of used.now) then record choice.old { memory = forgotten choice.old.memory } else choice.old) }
+{
+    match used {
+        Use::Queued { solicit: true, .. } => choice.changed(),
+        Use::Queued { .. } | Use::Send(_, _) => {}
+    }
+}
+
+/// What became of a packet to a neighbour at a moment, in milliseconds, goes to the end, for a node with a link-layer address and a
+/// link-local one (RFC 4861, sections 7.2.2 and 7.3.3): at most one row. It takes no memory: the room for it was taken before.
+pub fn tell_use<A: Allocator>(
+    outs: &mut Vec<(u64, Out<A>), A>,
+    at: u64,
+    room: FrameRoom<A>,
+    mac: Mac,
+    own: Addr,
+    to: Addr,
+    used: Use<A>,
+)
+    requires { vec_len outs.old < vec_capacity outs.old }
+    ensures told { happenings outs.new.items ≡ happenings outs.old.items ++ at_moment at (told_of_packet mac own (number_of to.0) (sending_of used)) }
+    ensures one { vec_len outs.new ≤ vec_len outs.old + 1 }
+    ensures capacity { vec_capacity outs.new ≡ vec_capacity outs.old }
+{
+    addresses_are_told_by_numbers();
+    match used {
+        Use::Send(destination, packet) => {
+            let _bytes = destination.as_bytes();
+            outs.push_reserved((at, Out::Frame(packet.addressed(destination))));
+        }
+        Use::Queued { solicit: true, .. } => {
+            let _bytes = to.as_bytes();
+            outs.push_reserved((at, Out::Frame(room.resolution(mac, own, to))));
+        }
+        Use::Queued {
+            replaced: Some(oldest),
+            ..
+        } => outs.push_reserved((at, Out::Lost(Loss::Replaced, oldest))),
+        Use::Queued { replaced: None, .. } => {}
+    }
+}
+
+/// Packets that waited for neighbours that are forgotten by a command are lost at a moment, in milliseconds, in their order. It takes no
+/// memory: the room for it was taken before.
+pub fn tell_packets<A: Allocator>(
+    outs: &mut Vec<(u64, Out<A>), A>,
+    at: u64,
+    packets: Vec<Packet<A>, A>,
+)
+    requires { vec_len outs.old + length packets.items ≤ vec_capacity outs.old }
+    ensures { happenings outs.new.items ≡ happenings outs.old.items ++ at_moment at (map (λ packet. Lost Forgotten packet) packets.items) }
+{
+    for packet in packets {
+        outs.push_reserved((at, Out::Lost(Loss::Forgotten, packet)));
+    }
+}

@@ -1,0 +1,52 @@
+//! The parameters of the link (RFC 4861, section 6.3.2).
+
+ghost use Rattle.std.specs.Prelude.{◌≡◌, ◌<◌, ◌^◌, IfSome, is_some};
+ghost use Rattle.nd_decode.specs.Pieces.{options_left};
+ghost use Rattle.nd_params.specs.Params.{redraws};
+ghost use Rattle.nd_steps.specs.Parameters.{redraw_from, HearsParameters};
+
+use crate::draws::reachable_drawn;
+use nd_decode::{Options, RouterAdvertisement};
+use nd_neighbour::Times;
+use nd_params::Params;
+use rand_core::Rng;
+
+/// The times in force for the neighbours, in milliseconds (RFC 4861, section 6.3.2).
+pub fn times_in_force(params: &Params) -> Times
+    ensures retrans { result.retrans ≡ params.now.retrans_timer }
+    ensures reachable { result.reachable ≡ params.now.reachable_time }
+    ensures span { result.reachable < 2 ^ 62 }
+{
+    Times {
+        retrans: params.retrans_timer(),
+        reachable: params.reachable_time(),
+    }
+}
+
+/// ReachableTime for the base that a Router Advertisement tells, in milliseconds, where it changes the base (RFC 4861, section 6.3.4).
+fn redraw<R: Rng>(generator: &mut R, params: &Params, ra: &RouterAdvertisement) -> Option<u64>
+    ensures value { (result, R.stream generator.new) ≡ redraw_from (redraws params.now.base_reachable_time ra.now.reachable_time) ra.now.reachable_time (R.stream generator.old) }
+    ensures below { IfSome result (λ value. value < 2 ^ 62) }
+    ensures drawn { is_some result ≡ redraws params.now.base_reachable_time ra.now.reachable_time }
+{
+    if !params.redraws(ra) {
+        return None;
+    }
+    Some(reachable_drawn(generator, ra.reachable_time))
+}
+
+/// The parameters that a Router Advertisement tells at a moment, in milliseconds. Where it changes BaseReachableTime, ReachableTime is
+/// drawn for the new one (RFC 4861, section 6.3.4).
+pub fn hear_parameters<R: Rng>(
+    params: &mut Params,
+    generator: &mut R,
+    now: u64,
+    ra: &RouterAdvertisement,
+    options: Options<'_>,
+)
+    requires { now < 2 ^ 62 }
+    ensures { HearsParameters params.old params.new (R.stream generator.old) (R.stream generator.new) now ra.now (options_left options.entry) }
+{
+    let drawn = redraw(generator, params, ra);
+    params.heard_ra(now, ra, options, drawn);
+}

@@ -1,0 +1,36 @@
+//! The Prefix List (RFC 4861, section 5.1): the prefixes on the link that Router Advertisements say.
+
+ghost use Rattle.std.specs.Prelude.{◌≡◌, ◌≤◌, ◌<◌, ◌^◌, List, true};
+ghost use Rattle.nd_addr.specs.Prefix.{PrefixValue};
+ghost use Rattle.nd_addr.specs.Same.{same_prefix};
+ghost use Rattle.nd_decode.specs.Pieces.{options_left};
+ghost use Rattle.nd_table.specs.Announcements.{Row, last_moment};
+ghost use Rattle.nd_table.specs.Listing.{fits, then_announced};
+ghost use Rattle.nd_routers.specs.PrefixOptions.{max_prefixes, prefixes_in};
+ghost use Rattle.nd_steps.specs.DestinationCache.{AsStanding, Recollects};
+ghost use Rattle.nd_table.specs.Listing as lists;
+
+use crate::destination_cache::keep_if;
+use nd_decode::Options;
+use nd_nexthop::Choice;
+use nd_routers::Prefixes;
+use std::alloc::Allocator;
+
+/// Takes the prefixes that a Router Advertisement says are on the link, at a moment in milliseconds. There is room for them (RFC 4861, section
+/// 6.3.4). Remembered next hops are forgotten, except where prefixes are only refreshed.
+pub fn hear_prefixes<A: Allocator>(
+    prefixes: &mut Prefixes<A>,
+    choice: &mut Choice<A>,
+    now: u64,
+    options: Options<'_>,
+)
+    requires moment { now < 2 ^ 62 }
+    requires fits { fits same_prefix max_prefixes now (prefixes_in (options_left options)) prefixes.old ≡ true }
+    ensures stands { (history : List (Row PrefixValue)) → last_moment history ≤ now → lists.Stands same_prefix prefixes.old history → lists.Stands same_prefix prefixes.new (then_announced now (prefixes_in (options_left options.entry)) history) }
+    ensures recollects { Recollects choice.old choice.new (AsStanding now prefixes.old prefixes.new) }
+    ensures redirects { choice.new.redirects ≡ choice.old.redirects }
+{
+    let refreshes = prefixes.only_refreshes(now, options);
+    prefixes.take_ra(now, options);
+    keep_if(choice, refreshes);
+}

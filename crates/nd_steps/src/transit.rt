@@ -1,0 +1,113 @@
+//! What a router makes of a packet that is in transit (RFC 8200, section 3; RFC 4861, section 8.2).
+
+ghost use Rattle.std.specs.Prelude.{◌≡◌, ◌≤◌, ◌+◌, ◌-◌, ℕ, IfOk, None, length};
+ghost use Rattle.nd_addr.specs.Frame.{written_frame};
+ghost use Rattle.nd_addr.specs.Ip6.{packet_parts};
+ghost use Rattle.nd_addr.specs.Number.{number_of};
+ghost use Rattle.nd_compose.specs.Frames.{open_mac};
+ghost use Rattle.nd_compose.specs.Redirect.{redirect_frame};
+ghost use Rattle.nd_neighbour.specs.Table.{Stands, node_in};
+ghost use Rattle.nd_chronicle.specs.Start.{Start, link_local};
+ghost use Rattle.nd_chronicle.specs.Happening.{Chronicle};
+ghost use Rattle.nd_chronicle.specs.Histories.{neighbour_history};
+ghost use Rattle.nd_chronicle.specs.Forwarding.{better_hop_frame};
+ghost use Rattle.nd_steps.specs.Transit.{mac_in};
+
+use nd_addr::laws::addresses_are_told_by_numbers;
+use nd_addr::{Addr, Ip6, Ip6Ref, Mac, write_frame};
+use nd_compose::{OPEN_MAC, redirect_frame};
+use nd_message::Redirect;
+use nd_neighbour::Cache;
+use nd_packet::Packet;
+use std::alloc::{AllocError, Allocator};
+
+/// The frame of a packet from an Ethernet address to one that is still open.
+fn frame_from<A: Allocator>(
+    alloc: A,
+    mac: Mac,
+    header: &Ip6,
+    payload: &[u8],
+) -> Result<Packet<A>, AllocError>
+    requires { length payload.now ≤ 65535 }
+    ensures { IfOk result (λ frame. frame ≡ written_frame open_mac mac header.now payload.now) }
+{
+    let _mac = mac.as_bytes();
+    let frame = write_frame(alloc, OPEN_MAC, mac, header, payload)?;
+    match Packet::new(frame) {
+        Some(packet) => Ok(packet),
+        None => unreachable!(),
+    }
+}
+
+/// The frame of a packet in transit as it came, from the node's Ethernet address to one that is still open, as the packet is told of
+/// where it isn't sent on (RFC 2464, section 3). The error is out of memory.
+pub fn frame_as_it_came<A: Allocator>(
+    alloc: A,
+    mac: Mac,
+    packet: &Ip6Ref<'_>,
+) -> Result<Packet<A>, AllocError>
+    requires { length packet.now.payload.now ≤ 65535 }
+    ensures { IfOk result (λ frame. frame ≡ written_frame open_mac mac (packet_parts packet.now).header (packet_parts packet.now).payload) }
+{
+    frame_from(alloc, mac, &packet.header, packet.payload)
+}
+
+/// The frame of a packet in transit as it is sent on, with a hop limit that is lower by one, or 0 where it was 0, from the node's Ethernet
+/// address to one that is still open (RFC 8200, section 3). The error is out of memory.
+pub fn frame_sent_on<A: Allocator>(
+    alloc: A,
+    mac: Mac,
+    packet: &Ip6Ref<'_>,
+) -> Result<Packet<A>, AllocError>
+    requires { length packet.now.payload.now ≤ 65535 }
+    ensures { IfOk result (λ frame. frame ≡ written_frame open_mac mac (record (packet_parts packet.now).header { hop_limit = (packet_parts packet.now).header.hop_limit - 1 }) (packet_parts packet.now).payload) }
+{
+    // Of a packet that is sent on it is 2 at least.
+    let header = Ip6 {
+        hop_limit: packet.header.hop_limit.saturating_sub(1),
+        ..packet.header
+    };
+    frame_from(alloc, mac, &header, packet.payload)
+}
+
+/// The link-layer address of a neighbour at a moment, in milliseconds, if it is known.
+fn known_mac<A: Allocator>(neighbours: &Cache<A>, now: u64, addr: Addr) -> Option<Mac>
+    ensures { result ≡ mac_in (node_in (number_of addr.0) neighbours.now.nodes) }
+{
+    addresses_are_told_by_numbers();
+    let mac = neighbours.entry(now, addr)?.mac?;
+    let _bytes = mac.as_bytes();
+    Some(mac)
+}
+
+/// The Redirect that tells who sent a packet of a better first hop for its destination, from the node's Ethernet address and its own
+/// link-local one, with the link-layer address of that hop, if it is known at the moment, in milliseconds (RFC 4861, section 8.2). It
+/// quotes the bytes of the packet, from its IPv6 header on, as they came. The error is out of memory.
+pub fn better_hop_frame<A: Allocator + Clone>(
+    alloc: &A,
+    mac: Mac,
+    own: Addr,
+    neighbours: &Cache<A>,
+    now: u64,
+    target: Addr,
+    packet: &Ip6Ref<'_>,
+    bytes: &[u8],
+) -> Result<Packet<A>, AllocError>
+    ensures value { IfOk result (λ frame. frame ≡ redirect_frame mac own (packet_parts packet.now).header.source (mac_in (node_in (number_of target.0) neighbours.now.nodes)) target (packet_parts packet.now).header.destination bytes.now) }
+    ensures by_history { IfOk result (λ frame. (start : Start) (moment : ℕ) (c : Chronicle) → Stands neighbours.now.nodes (neighbour_history c) → start.mac ≡ mac → own ≡ link_local start → frame ≡ better_hop_frame start moment target (packet_parts packet.now) bytes.now c) }
+{
+    let target_mac = known_mac(neighbours, now, target);
+    let redirect = Redirect {
+        target,
+        destination: packet.header.destination,
+    };
+    redirect_frame(
+        alloc,
+        mac,
+        own,
+        packet.header.source,
+        target_mac,
+        redirect,
+        bytes,
+    )
+}
