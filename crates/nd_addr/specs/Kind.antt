@@ -1,5 +1,5 @@
 -- Kinds of address, and the addresses that are made of others (RFC 4291).
-use Rattle.std.specs.Prelude.{ℕ, List, [], ◌∷◌, ◌++◌, take, slice_index, replicate, bit_xor}
+use Rattle.std.specs.Prelude.{ℕ, List, [], ◌∷◌, ◌++◌, slice_index, replicate}
 use Rattle.nd_addr.specs.Prefix.{PrefixValue}
 
 -- ff00::/8 (RFC 4291, section 2.7)
@@ -38,12 +38,6 @@ all_routers_address = 0xff ∷ 2 ∷ replicate 13 0 ++ 2 ∷ []
 abbrev pub solicited_node_of : List ℕ → List ℕ
 solicited_node_of address =
     0xff ∷ 2 ∷ 0 ∷ 0 ∷ 0 ∷ 0 ∷ 0 ∷ 0 ∷ 0 ∷ 0 ∷ 0 ∷ 1 ∷ 0xff ∷ slice_index address 13 ∷ slice_index address 14 ∷ slice_index address 15 ∷ []
-
--- the 64 bits of a prefix, and the modified EUI-64 of an Ethernet address (RFC 4291, appendix A): ff fe in its middle, and
--- the universal bit of its first byte inverted
-abbrev pub address_from_mac : List ℕ → List ℕ → List ℕ
-address_from_mac prefix mac =
-    take 8 prefix ++ bit_xor (slice_index mac 0) 2 ∷ slice_index mac 1 ∷ slice_index mac 2 ∷ 0xff ∷ 0xfe ∷ slice_index mac 3 ∷ slice_index mac 4 ∷ slice_index mac 5 ∷ []
 
 -- 33:33, and the last four bytes of a multicast address (RFC 2464, section 7)
 abbrev pub multicast_mac_of : List ℕ → List ℕ

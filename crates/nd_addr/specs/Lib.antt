@@ -13,3 +13,4 @@ pub mod Kind
 pub mod Spelling
 pub mod Room
 pub mod Places
+pub mod InterfaceId

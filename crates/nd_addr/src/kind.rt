@@ -1,7 +1,7 @@
-//! Kinds of address, and addresses that are made of others.
+//! Kinds of address, and the multicast addresses that are made of others.
 
 ghost use Rattle.std.specs.Prelude.{◌≡◌, ◌↔◌, IsTrue, bytes_eq};
-ghost use Rattle.nd_addr.specs.Kind.{multicast_prefix, link_local_prefix, link_local_subnet, unspecified_address, loopback_address, solicited_node_of, address_from_mac, multicast_mac_of};
+ghost use Rattle.nd_addr.specs.Kind.{multicast_prefix, link_local_prefix, link_local_subnet, unspecified_address, loopback_address, solicited_node_of, multicast_mac_of};
 ghost use Rattle.nd_addr.specs.Number.{Holds, holds};
 
 use crate::addr::Addr;
@@ -66,18 +66,6 @@ impl Addr {
     {
         let [.., a, b, c] = self.0;
         Addr([0xff, 2, 0, 0, 0, 0, 0, 0, 0, 0, 0, 1, 0xff, a, b, c])
-    }
-
-    /// The address of an interface: a prefix of 64 bits, and the modified EUI-64 of its Ethernet address
-    /// (RFC 4291, appendix A; RFC 2464, section 4).
-    pub fn from_mac(prefix: &Prefix, mac: Mac) -> Addr
-        requires { prefix.now.length ≡ 64 }
-        ensures { result.0 ≡ address_from_mac prefix.now.address.0 mac.0 }
-    {
-        let mut address = prefix.address();
-        let [a, b, c, d, e, f] = mac.0;
-        address.0[8..].copy_from_slice(&[a ^ 2, b, c, 0xff, 0xfe, d, e, f]);
-        address
     }
 }
 

@@ -6,6 +6,7 @@ mod addr;
 mod bytes;
 mod checksum;
 mod frame;
+mod interface_id;
 mod ip6;
 mod kind;
 pub mod laws;

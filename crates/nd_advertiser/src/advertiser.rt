@@ -1,4 +1,5 @@
 ghost use Rattle.std.specs.Prelude.{◌≡◌, ◌<◌, ◌≤◌, ◌^◌, List, length, Some, true, is_some, None, [], IfOk, OnOk, OnErr, option_map};
+ghost use Rattle.nd_table.specs.Moment.{IsMoment};
 ghost use Rattle.nd_advertiser.specs.Config.{interval_range};
 ghost use Rattle.nd_advertiser.specs.Calls.{has_sent, settings_in, wants_draw, next, prefixes_in};
 ghost use Rattle.nd_advertiser.specs.Overdue.{IsAfter};
@@ -91,7 +92,7 @@ impl<A: Allocator> Advertiser<A> {
     /// It is to advertise with this configuration (RFC 4861, section 6.2.2). Where it does already, only what it advertises changes, and
     /// the range of what is drawn from now on.
     pub fn begin(&mut self, now: u64, config: Config)
-        requires { now < 2 ^ 62 }
+        requires { IsMoment now }
         ensures stands { GainsRow self.old self.new (Advertises now config) }
     {
         match &mut self.advertising {
@@ -102,7 +103,7 @@ impl<A: Allocator> Advertiser<A> {
 
     /// Its link-local address was assigned, from which it advertises (RFC 4861, section 4.2).
     pub fn assigned(&mut self, now: u64)
-        requires { now < 2 ^ 62 }
+        requires { IsMoment now }
         ensures stands { GainsRow self.old self.new (Assigned now) }
         ensures last { self.new.last ≡ self.old.last }
     {
@@ -155,7 +156,7 @@ impl<A: Allocator> Advertiser<A> {
     /// A Router Solicitation is heard that has to be planned for, with the delay that was drawn for it, 0 to 500 ms (RFC 4861, sections
     /// 6.2.6 and 10, MAX_RA_DELAY_TIME).
     pub fn heard_rs(&mut self, now: u64, delay: u32)
-        requires moment { now < 2 ^ 62 }
+        requires moment { IsMoment now }
         requires wants { wants_draw self.old.advertising ≡ true }
         ensures stands { GainsRow self.old self.new (Solicited now delay) }
     {
@@ -179,7 +180,7 @@ impl<A: Allocator> Advertiser<A> {
 
     /// An advertisement that is due is sent, with the time until the next one, which was drawn in `interval` (RFC 4861, section 6.2.4).
     pub fn turn(&mut self, now: u64, interval: u32)
-        requires moment { now < 2 ^ 62 }
+        requires moment { IsMoment now }
         requires due { next self.old.assigned self.old.last self.old.advertising ≡ Some now }
         requires positive { 0 < interval }
         ensures stands { GainsRow self.old self.new (Sent now interval) }
@@ -194,7 +195,7 @@ impl<A: Allocator> Advertiser<A> {
     /// It ceases to advertise (RFC 4861, section 6.2.5). Where it has sent an advertisement since it became an advertising interface, it
     /// answers true: a last one is to be sent now, with a router lifetime of 0.
     pub fn stop(&mut self, now: u64) -> bool
-        requires { now < 2 ^ 62 }
+        requires { IsMoment now }
         ensures value { result ≡ has_sent self.old.advertising }
         ensures by_history { (history : List Row) → Stands self.old history → result ≡ tells_its_end history }
         ensures stands { GainsRow self.old self.new (Ceased now) }

@@ -1,4 +1,5 @@
 ghost use Rattle.std.specs.Prelude.{◌≡◌, ◌<◌, ◌^◌, ◌+◌, Some, not, is_none, is_some, true, ◌==◌, ◌&&◌, IfSome};
+ghost use Rattle.nd_table.specs.Moment.{IsMoment};
 ghost use Rattle.nd_advertiser.specs.Advertising.{answer_date, first_date, interval_after, next_date};
 
 use crate::config::Config;
@@ -65,7 +66,7 @@ impl Advertising {
 
     /// An advertisement is sent, and the time until the next one is drawn (RFC 4861, section 6.2.4).
     pub(crate) fn send(&mut self, now: u64, interval: u32)
-        requires { now < 2 ^ 62 }
+        requires { IsMoment now }
         ensures { Some self.new ≡ advertised now interval (Some self.old) }
     {
         self.planned = Some(now + u64::from(interval_after(self.sent, interval)));
@@ -75,7 +76,7 @@ impl Advertising {
 
     /// A solicitation is planned for, where none is yet (RFC 4861, section 6.2.6).
     pub(crate) fn plan(&mut self, last: Option<u64>, now: u64, delay: u32)
-        requires moment { now < 2 ^ 62 }
+        requires moment { IsMoment now }
         requires last { IfSome last (λ at. at < 2 ^ 62) }
         ensures { Some self.new ≡ planned_for last now delay (Some self.old) }
     {
@@ -117,7 +118,7 @@ fn interval_after(sent: u8, interval: u32) -> u32
 
 /// When a solicitation is answered: after its delay, and a while after the last advertisement (RFC 4861, section 6.2.6).
 fn answer_date(last: Option<u64>, now: u64, delay: u32) -> u64
-    requires moment { now < 2 ^ 62 }
+    requires moment { IsMoment now }
     requires last { IfSome last (λ at. at < 2 ^ 62) }
     ensures { result ≡ answer_date last now delay }
 {

@@ -13,7 +13,7 @@ use Rattle.nd_routers.specs.Shown as routers
 use Rattle.nd_routers.specs.View as router_view
 use Rattle.nd_slaac.specs.Shown as addresses
 use Rattle.nd_slaac.specs.View as address_view
-use Rattle.nd_dns.specs.Names.{same_name}
+use Rattle.nd_dns.specs.AnnouncedNames.{same_name}
 use Rattle.nd_nexthop.specs.History.{redirects}
 use Rattle.nd_nexthop.specs.Left.{redirect_of}
 use Rattle.nd_params.specs.Params as parameters

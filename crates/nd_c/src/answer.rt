@@ -1,6 +1,7 @@
 //! What an event does to the node in a slot, and the status that is returned. The definitions are in `specs/Event.antt` and `specs/Given.antt`.
 
-ghost use Rattle.std.specs.Prelude.{◌≡◌, ◌<◌, ◌^◌, OnOk, OnErr};
+ghost use Rattle.std.specs.Prelude.{◌≡◌, ◌<◌, OnOk, OnErr};
+ghost use Rattle.nd_table.specs.Moment.{IsMoment};
 ghost use Rattle.nd_node.specs.Event.{FollowsBy};
 ghost use Rattle.nd_node.specs.Time.{Onward};
 ghost use Rattle.nd_c.specs.Event.{Answers, Comes, LedBy, answer_of};
@@ -47,7 +48,7 @@ pub(crate) fn answer(alloc: Global, node: &mut Slot, now: u64, given: Given<'_>)
 
 /// Gives an event to a session, at `now` in milliseconds, and returns the status.
 fn comes(alloc: Global, session: &mut Session, now: u64, given: Given<'_>) -> i32
-    requires { now < 2 ^ 62 }
+    requires { IsMoment now }
     ensures { Comes now (event_given given.entry) result session.old session.new }
 {
     if now < session.last_moment() {
@@ -63,7 +64,7 @@ fn comes(alloc: Global, session: &mut Session, now: u64, given: Given<'_>) -> i3
 /// Gives an event to a session, at `now` in milliseconds. The error is out of memory: then a part of what is due may have been done and reported, and
 /// the event has added nothing.
 fn give(alloc: Global, session: &mut Session, now: u64, given: Given<'_>) -> Result<(), AllocError>
-    requires { now < 2 ^ 62 }
+    requires { IsMoment now }
     ensures follows { OnOk result (LedBy session.old session.new (FollowsBy now (event_given given.entry))) }
     ensures onward { OnErr result (LedBy session.old session.new (Onward now)) }
 {

@@ -1,6 +1,7 @@
 //! Next-hop determination as a question (RFC 4861, section 5.2).
 
-ghost use Rattle.std.specs.Prelude.{◌^◌, ◌<◌};
+ghost use Rattle.std.specs.Prelude.{◌<◌};
+ghost use Rattle.nd_table.specs.Moment.{IsMoment};
 ghost use Rattle.nd_c.specs.NextHop.{Hops, HopAnswer};
 
 use crate::questions::write;
@@ -35,7 +36,7 @@ pub extern "C" fn nd_next_hop(
 
 /// Does what is due up to `now`, in milliseconds, and writes the next hop.
 fn find_hop(session: &mut Session, now: u64, destination: Addr, row: &mut NextHopRow) -> i32
-    requires { now < 2 ^ 62 }
+    requires { IsMoment now }
     ensures { Hops now destination result session.old session.new row.old row.new }
 {
     if now < session.last_moment() {

@@ -24,7 +24,7 @@ use Rattle.nd_nexthop.specs.NextHop.{NextHop, direct, via, no_route}
 use Rattle.nd_slaac.specs.Shown as addresses
 use Rattle.nd_slaac.specs.PrefixOption.{prefixes_in}
 use Rattle.nd_slaac.proofs.Unique.{one_fit}
-use Rattle.nd_dns.specs.Names.{same_name}
+use Rattle.nd_dns.specs.AnnouncedNames.{same_name}
 use Rattle.nd_chronicle.specs.Start.{Start}
 use Rattle.nd_chronicle.specs.Happening.{Chronicle, Heard, ClearedRedirects, RedirectMade, Shown, Limit, Refusal, Full, Passed, TooLate, last_moment}
 use Rattle.nd_chronicle.specs.Histories.{neighbour_history, prefix_history, address_history, server_history, name_history, route_history, router_history}
@@ -167,7 +167,7 @@ module _ (start : Start) (c : Chronicle) (now : ℕ) where
         (λ x y. one_packet y.0 d e (subst (λ (next : NextHop). PacketAdds start now next source destination next_header payload c d) (one_hop c now start.role destination x.0 y.0 x.1 y.1) x.2) y.2) h k
 
   one_clear : (table : Clearable) (d e : Chronicle) → ClearAdds start now table c d → ClearAdds start now table c e → d ≡ e
-  one_clear events.ClearNeighbours d e h k = h.2 ∙ ap (λ nodes. clearing start now nodes c) (neighbour_proofs.one_table (neighbour_history c) h.0 k.0 h.1 k.1) ∙ sym k.2
+  one_clear events.ClearNeighbours d e h k = h.2 ∙ ap (λ entries. clearing start now entries c) (neighbour_proofs.one_table (neighbour_history c) h.0 k.0 h.1 k.1) ∙ sym k.2
   one_clear events.ClearRouters d e h k = h.2 ∙ ap (λ es. (now, ClearedRedirects) ∷ all_leaving start now es c) (one_router_list c now h.0 k.0 h.1 k.1) ∙ sym k.2
   one_clear events.ClearPrefixes d e h k = h ∙ sym k
   one_clear events.ClearRedirects d e h k = h ∙ sym k

@@ -24,7 +24,7 @@ use Rattle.nd_decode.specs.declared.router_advertisement.RouterAdvertisement.{Ro
 use Rattle.nd_table.specs.declared.lasting.Lasting.{Lasting}
 use Rattle.nd_params.specs.Params.{redraws}
 use Rattle.nd_neighbour.specs.Due as neighbours_due
-use Rattle.nd_neighbour.specs.Entry.{Node, waiting_in}
+use Rattle.nd_neighbour.specs.Entry.{NeighbourEntry, waiting_in}
 use Rattle.nd_neighbour.specs.History as neighbours
 use Rattle.nd_neighbour.specs.History.{RowKind, story}
 use Rattle.nd_neighbour.specs.News.{released_by}
@@ -152,9 +152,9 @@ module _ (start : Start) (at : ℕ) (Kept : Chronicle → Type 0) (plain : (what
   telling_keeps true None c k = k
   telling_keeps false message c k = k
 
-  clearing_keeps : (nodes : List Node) (c : Chronicle) → Kept c → Kept (clearing start at nodes c)
+  clearing_keeps : (entries : List NeighbourEntry) (c : Chronicle) → Kept c → Kept (clearing start at entries c)
   clearing_keeps [] c k = k
-  clearing_keeps (n ∷ nodes) c k = clearing_keeps nodes _ (losing_keeps _ (waiting_in n.stage) _ (plain _ c refl k))
+  clearing_keeps (n ∷ entries) c k = clearing_keeps entries _ (losing_keeps _ (waiting_in n.stage) _ (plain _ c refl k))
 
   all_leaving_keeps : (entries : List (Lasting ℕ)) (c : Chronicle) → Kept c → Kept (all_leaving start at entries c)
   all_leaving_keeps [] c k = k

@@ -8,7 +8,8 @@ use Rattle.std.proofs.lemmas.Nat.{pow-add, shr-shr, div-mul-add}
 use Rattle.std.proofs.Math.Nat.{mul_assoc, add-mul}
 use Rattle.nd_addr.specs.Bytes.{IsBytes, AreBytes}
 use Rattle.nd_addr.specs.Ip6.{ipv6_header_length, payload_length_of}
-use Rattle.nd_addr.specs.Kind.{multicast_prefix, link_local_prefix, link_local_address, address_from_mac}
+use Rattle.nd_addr.specs.Kind.{multicast_prefix, link_local_prefix, link_local_address}
+use Rattle.nd_addr.specs.InterfaceId.{address_from_mac}
 use Rattle.nd_addr.specs.Number.{number_of, holds}
 use Rattle.nd_addr.specs.Places.{packet_in, payload_in}
 use Rattle.nd_addr.specs.declared.mac.Mac.{Mac}

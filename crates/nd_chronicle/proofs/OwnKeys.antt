@@ -7,7 +7,8 @@ use Rattle.std.proofs.lemmas.List.{length-append, length-take}
 use Rattle.std.proofs.lemmas.List.Elements.{recursion_from_All}
 use Rattle.std.proofs.lemmas.Nat.{xor_lt}
 use Rattle.nd_addr.specs.Bytes.{IsBytes, AreBytes}
-use Rattle.nd_addr.specs.Kind.{multicast_prefix, link_local_address, link_local_prefix, address_from_mac}
+use Rattle.nd_addr.specs.Kind.{multicast_prefix, link_local_address, link_local_prefix}
+use Rattle.nd_addr.specs.InterfaceId.{address_from_mac}
 use Rattle.nd_addr.specs.Number.{number_of, addr_at, holds}
 use Rattle.nd_addr.specs.declared.addr.Addr.{Addr}
 use Rattle.nd_addr.specs.declared.mac.Mac.{Mac}

@@ -23,7 +23,7 @@ use Rattle.nd_table.specs.declared.lasting.Lasting.{Lasting}
 use Rattle.nd_params.specs.Params.{redraws}
 use Rattle.nd_validity.specs.Hearing.{Outcome, Hears}
 use Rattle.nd_neighbour.specs.Due as neighbours_due
-use Rattle.nd_neighbour.specs.Entry.{Node, waiting_in}
+use Rattle.nd_neighbour.specs.Entry.{NeighbourEntry, waiting_in}
 use Rattle.nd_neighbour.specs.History as neighbours
 use Rattle.nd_neighbour.specs.History.{RowKind, story}
 use Rattle.nd_neighbour.specs.News.{released_by}
@@ -117,9 +117,9 @@ module _ (at : ℕ) where
     telling_same true None c = refl
     telling_same false message c = refl
 
-    clearing_same : (nodes : List Node) (c : Chronicle) → Same c (clearing start at nodes c)
+    clearing_same : (entries : List NeighbourEntry) (c : Chronicle) → Same c (clearing start at entries c)
     clearing_same [] c = refl
-    clearing_same (n ∷ nodes) c = clearing_same nodes _ ∙ losing_same _ (waiting_in n.stage) _
+    clearing_same (n ∷ entries) c = clearing_same entries _ ∙ losing_same _ (waiting_in n.stage) _
 
     all_leaving_same : (entries : List (Lasting ℕ)) (c : Chronicle) → Same c (all_leaving start at entries c)
     all_leaving_same [] c = refl

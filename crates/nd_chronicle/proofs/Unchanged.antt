@@ -7,7 +7,7 @@ use Rattle.nd_addr.specs.declared.role.Role.TheVariants.{Host, Router}
 use Rattle.nd_addr.specs.Number.{number_of}
 use Rattle.nd_addr.specs.Prefix.{PrefixValue}
 use Rattle.nd_addr.specs.Same.{same_addr, same_prefix}
-use Rattle.nd_dns.specs.Names.{same_name}
+use Rattle.nd_dns.specs.AnnouncedNames.{same_name}
 use Rattle.nd_table.specs.declared.lasting.Lasting.{Lasting}
 use Rattle.nd_table.specs.Announcements as lifetimes
 use Rattle.nd_table.specs.Listing.{Lists}
@@ -20,7 +20,7 @@ use Rattle.nd_nexthop.specs.DefaultRouter.{DefaultRouter}
 use Rattle.nd_nexthop.specs.History as redirects
 use Rattle.nd_nexthop.specs.NextHop.{NextHop, hop}
 use Rattle.nd_params.specs.History as parameters
-use Rattle.nd_routers.specs.DefaultRouterSelection.{Failures, place_among}
+use Rattle.nd_routers.specs.RouterFailures.{Failures, place_among}
 use Rattle.nd_routers.specs.Due as routers_due
 use Rattle.nd_routers.specs.History as routers
 use Rattle.nd_routers.specs.History.{announcements, preference_of}

@@ -17,7 +17,7 @@ use Rattle.nd_decode.specs.declared.body.Body.TheVariants as bodies
 use Rattle.nd_decode.specs.declared.prefix_info.PrefixInfo.{PrefixInfo}
 use Rattle.nd_table.specs.declared.lasting.Lasting.{Lasting}
 use Rattle.nd_table.specs.Listing.{Lists}
-use Rattle.nd_neighbour.specs.Entry.{Node, waiting_in}
+use Rattle.nd_neighbour.specs.Entry.{NeighbourEntry, waiting_in}
 use Rattle.nd_neighbour.specs.History as neighbours
 use Rattle.nd_neighbour.specs.History.{story}
 use Rattle.nd_neighbour.specs.Story.{waits_of}
@@ -157,9 +157,9 @@ module _ (start : Start) (now : ℕ) where
   forgetting key c = losing now Forgotten (waits_of (story key (neighbour_history c))) ((now, Neighbour key (neighbours.Forgot neighbours.Removed)) ∷ c)
 
   -- the same of all, in the order of their addresses
-  abbrev pub clearing : List Node → Chronicle → Chronicle
+  abbrev pub clearing : List NeighbourEntry → Chronicle → Chronicle
   clearing [] c = c
-  clearing (n ∷ nodes) c = clearing nodes (losing now Forgotten (waiting_in n.stage) ((now, Neighbour n.key (neighbours.Forgot neighbours.Cleared)) ∷ c))
+  clearing (n ∷ entries) c = clearing entries (losing now Forgotten (waiting_in n.stage) ((now, Neighbour n.key (neighbours.Forgot neighbours.Cleared)) ∷ c))
 
   -- the routers leave in the order of their list
   abbrev pub all_leaving : List (Lasting ℕ) → Chronicle → Chronicle
@@ -167,7 +167,7 @@ module _ (start : Start) (now : ℕ) where
   all_leaving (e ∷ entries) c = all_leaving entries ((now, LeftRouter e.key) ∷ c)
 
   abbrev pub ClearAdds : Clearable → Chronicle → Chronicle → Type 0
-  ClearAdds ClearNeighbours c d = (nodes : List Node) × cache.Stands nodes (neighbour_history c) × (d ≡ clearing nodes c)
+  ClearAdds ClearNeighbours c d = (entries : List NeighbourEntry) × cache.Stands nodes (neighbour_history c) × (d ≡ clearing nodes c)
   ClearAdds ClearRouters c d =
       (entries : List (Lasting ℕ)) × Lists same (announcements (router_history c)) now entries × (d ≡ (now, ClearedRedirects) ∷ all_leaving entries c)
   ClearAdds ClearPrefixes c d = d ≡ (now, ClearedPrefixes) ∷ c

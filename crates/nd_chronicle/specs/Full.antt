@@ -14,13 +14,13 @@ use Rattle.nd_table.specs.declared.lasting.Lasting.{Lasting}
 use Rattle.nd_table.specs.Listing.{Lists, fits}
 use Rattle.nd_neighbour.specs.History.{RowKind}
 use Rattle.nd_routers.specs.History.{announcements}
-use Rattle.nd_routers.specs.PrefixOptions.{max_prefixes, prefixes_in}
+use Rattle.nd_routers.specs.OnLinkPrefixes.{max_prefixes, prefixes_in}
 use Rattle.nd_routers.specs.Routers.{same}
 use Rattle.nd_slaac.specs.PrefixOption as addresses
 use Rattle.nd_slaac.specs.Room.{FitsBy}
 use Rattle.nd_dns.specs.Dns.{max_servers, max_names}
-use Rattle.nd_dns.specs.Names.{same_name, names_told}
-use Rattle.nd_dns.specs.Servers.{servers_told}
+use Rattle.nd_dns.specs.AnnouncedNames.{same_name, names_told}
+use Rattle.nd_dns.specs.AnnouncedServers.{servers_told}
 use Rattle.nd_chronicle.specs.Start.{Start}
 use Rattle.nd_chronicle.specs.Happening.{Chronicle, Limit, Neighbours, Routers, Prefixes, Addresses, Servers, Names}
 use Rattle.nd_chronicle.specs.Histories.{router_history, prefix_history, address_history, server_history, name_history}

@@ -1,7 +1,7 @@
 -- What is drawn, by the words of the generator.
 use Rattle.std.specs.Prelude.{ℕ, ◌+◌, ◌-◌, ◌%◌, [], ◌∷◌}
 use Rattle.rand_core.specs.Stream.{Stream, next_u32}
-use Rattle.nd_params.specs.Params.{reachable_range}
+use Rattle.nd_params.specs.ReachableTime.{reachable_range}
 use Rattle.nd_advertiser.specs.Config.{Settings, interval_range}
 use Rattle.nd_chronicle.specs.Start.{Start}
 use Rattle.nd_chronicle.specs.Happening.{Chronicle, Drew}

@@ -16,10 +16,10 @@ use Rattle.nd_table.specs.Listing.{then_announced}
 use Rattle.nd_params.specs.History as parameters
 use Rattle.nd_neighbour.specs.History as neighbours
 use Rattle.nd_routers.specs.History as routers
-use Rattle.nd_routers.specs.PrefixOptions.{prefixes_in}
+use Rattle.nd_routers.specs.OnLinkPrefixes.{prefixes_in}
 use Rattle.nd_slaac.specs.History as addresses
-use Rattle.nd_dns.specs.Servers.{servers_told}
-use Rattle.nd_dns.specs.Names.{names_told}
+use Rattle.nd_dns.specs.AnnouncedServers.{servers_told}
+use Rattle.nd_dns.specs.AnnouncedNames.{names_told}
 use Rattle.nd_nexthop.specs.History as redirects
 use Rattle.nd_advertiser.specs.History as advertising
 use Rattle.nd_forwarding.specs.History as routes

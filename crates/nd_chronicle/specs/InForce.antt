@@ -1,6 +1,7 @@
 -- The parameters that are in force at a place of a chronicle (RFC 4861, section 6.3.2): all times in milliseconds.
 use Rattle.std.specs.Prelude.{ℕ}
-use Rattle.nd_params.specs.History.{hop_limit_of, mtu_of, base_of, reachable_of, retrans_of, next_draw}
+use Rattle.nd_params.specs.History.{hop_limit_of, mtu_of, base_of, retrans_of}
+use Rattle.nd_params.specs.ReachableTime.{reachable_of, next_draw}
 use Rattle.nd_chronicle.specs.Happening.{Chronicle}
 use Rattle.nd_chronicle.specs.Histories.{parameter_history}
 

@@ -10,7 +10,7 @@ use Rattle.nd_table.specs.declared.lasting.Lasting.{Lasting}
 use Rattle.nd_table.specs.Listing.{Lists}
 use Rattle.nd_neighbour.specs.History.{story}
 use Rattle.nd_neighbour.specs.Story as neighbours
-use Rattle.nd_routers.specs.DefaultRouterSelection.{Failures, place_among}
+use Rattle.nd_routers.specs.RouterFailures.{Failures, place_among}
 use Rattle.nd_routers.specs.History.{announcements, preference_of}
 use Rattle.nd_routers.specs.OnLink.{is_held}
 use Rattle.nd_routers.specs.Routers.{same}

@@ -28,7 +28,7 @@ use Rattle.nd_routers.specs.Shown as routers
 use Rattle.nd_slaac.specs.declared.state.State.{State}
 use Rattle.nd_slaac.specs.declared.state.State.TheVariants.{Tentative, Preferred, Deprecated, Duplicate}
 use Rattle.nd_slaac.specs.Shown as addresses
-use Rattle.nd_dns.specs.Names.{same_name}
+use Rattle.nd_dns.specs.AnnouncedNames.{same_name}
 use Rattle.nd_nexthop.specs.History.{redirects}
 use Rattle.nd_chronicle.specs.Start.{Start}
 use Rattle.nd_chronicle.specs.Happening.{Chronicle}

@@ -7,7 +7,7 @@ use Rattle.nd_table.specs.declared.lasting.Lasting.{Lasting}
 use Rattle.nd_table.specs.Listing.{announced, behind, end_in, entered, enters, fits, open_at}
 use Rattle.nd_table.proofs.Behind.{entered_more}
 use Rattle.nd_table.proofs.Steps.{announced_length}
-use Rattle.nd_dns.specs.Names.{same_name}
+use Rattle.nd_dns.specs.AnnouncedNames.{same_name}
 
 pub one_more : (copied more rest all : List (List ℕ)) (name : List ℕ) (enters : Bool) → copied ++ cond enters (name ∷ rest) rest ≡ all → more ≡ cond enters (copied ++ name ∷ []) copied → more ++ rest ≡ all
 one_more copied more rest all name true h is = ap (λ (xs : List (List ℕ)). xs ++ rest) is ∙ (append_assoc copied (name ∷ []) rest ∙ h)

@@ -9,8 +9,8 @@ use Rattle.nd_decode.specs.Option.{Said, slla, tlla, prefix, redirected, mtu, rd
 use Rattle.nd_decode.specs.Options.{SpellsOptions}
 use Rattle.nd_decode.specs.Pieces.{options_in, rest_in}
 use Rattle.nd_decode.proofs.Spelling.{spelled}
-use Rattle.nd_dns.specs.Servers.{servers_of, servers_told}
-use Rattle.nd_dns.specs.Names.{names_of, names_told}
+use Rattle.nd_dns.specs.AnnouncedServers.{servers_of, servers_told}
+use Rattle.nd_dns.specs.AnnouncedNames.{names_of, names_told}
 
 servers_few : (servers : List Addr) → AllByRecursion IsServer servers → length servers ≤ length (flat_map (λ (s : Addr). s.0) servers)
 servers_few [] h = omega arith

@@ -3,8 +3,8 @@ use Rattle.std.proofs.Common.{◌≡◌, eqb, true, false, List, [], ◌∷◌, 
 use Rattle.std.proofs.lemmas.Bool.{cases_Bool}
 use Rattle.nd_decode.specs.Option.{Said, slla, tlla, prefix, redirected, mtu, rdnss, dnssl, other}
 use Rattle.nd_decode.specs.OfType.{from_kind}
-use Rattle.nd_dns.specs.Names.{names_told}
-use Rattle.nd_dns.specs.Servers.{servers_told}
+use Rattle.nd_dns.specs.AnnouncedNames.{names_told}
+use Rattle.nd_dns.specs.AnnouncedServers.{servers_told}
 
 pub names_from : (options : List Said) → names_told options ≡ names_told (from_kind 31 options)
 names_from [] = refl

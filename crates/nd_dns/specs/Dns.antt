@@ -7,8 +7,8 @@ use Rattle.nd_table.specs.declared.lasting.Lasting.{Lasting}
 use Rattle.nd_table.specs.Announcements.{Row}
 use Rattle.nd_table.specs.Listing as lifetimes
 use Rattle.nd_table.specs.Listing.{announced_all, entered}
-use Rattle.nd_dns.specs.Servers.{servers_told}
-use Rattle.nd_dns.specs.Names.{same_name, names_told}
+use Rattle.nd_dns.specs.AnnouncedServers.{servers_told}
+use Rattle.nd_dns.specs.AnnouncedNames.{same_name, names_told}
 
 -- how many servers and how many search names may be known (our choice)
 abbrev pub max_servers : ℕ

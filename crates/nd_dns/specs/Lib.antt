@@ -1,3 +1,3 @@
 pub mod Dns
-pub mod Names
-pub mod Servers
+pub mod AnnouncedNames
+pub mod AnnouncedServers

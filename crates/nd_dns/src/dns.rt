@@ -33,7 +33,7 @@ impl<A: Allocator> Model for Dns<A> {
     ghost use Rattle.nd_table.specs.Listing.{Distinct};
     ghost use Rattle.nd_addr.specs.Same.{same_addr};
     ghost use Rattle.nd_dns.specs.Dns.{Table, max_servers, max_names};
-    ghost use Rattle.nd_dns.specs.Names.{same_name};
+    ghost use Rattle.nd_dns.specs.AnnouncedNames.{same_name};
 
     ghost Value = { Table };
 
@@ -63,7 +63,7 @@ impl<A: Allocator + Clone> Dns<A> {
 
 impl<A: Allocator> Dns<A> {
     ghost use Rattle.nd_dns.specs.Dns.{Stands, max_servers, max_names};
-    ghost use Rattle.nd_dns.specs.Names.{same_name};
+    ghost use Rattle.nd_dns.specs.AnnouncedNames.{same_name};
 
     /// Returns the servers that stand at `now`, with what is left of their lifetimes, both in milliseconds, in the order in which they entered the
     /// list. It takes no memory.

@@ -6,7 +6,7 @@ ghost use Rattle.nd_addr.specs.Same.{same_addr};
 ghost use Rattle.nd_table.specs.declared.lasting.Lasting.{Lasting};
 ghost use Rattle.nd_table.specs.Announcements.{Row};
 ghost use Rattle.nd_table.specs.Listing.{Lists};
-ghost use Rattle.nd_dns.specs.Names.{same_name};
+ghost use Rattle.nd_dns.specs.AnnouncedNames.{same_name};
 
 /// What was announced gives one list of servers and one of search names at each moment.
 pub fn one_answer()

@@ -1,6 +1,7 @@
 ghost use Rattle.std.specs.Prelude.{◌≡◌, ◌<◌, ◌^◌, [], IfOk, IsOk, length, ◌≤◌, true, vec_len, vec_capacity};
 ghost use Rattle.nd_table.specs.Listing.{entered, fits, announced_all};
-ghost use Rattle.nd_dns.specs.Names.{same_name, names_to_come};
+ghost use Rattle.nd_table.specs.Moment.{IsMoment};
+ghost use Rattle.nd_dns.specs.AnnouncedNames.{same_name, names_to_come};
 
 use crate::announced_names::AnnouncedNames;
 use crate::search_name::SearchName;
@@ -98,7 +99,7 @@ pub(crate) fn announce_names<A: Allocator>(
     announced: AnnouncedNames<'_>,
     copies: NewNames<A>,
 )
-    requires moment { now < 2 ^ 62 }
+    requires moment { IsMoment now }
     requires fits { fits same_name limit now (names_to_come announced) entries.old.items ≡ true }
     requires few { vec_len entries.old ≤ limit }
     requires room { limit ≤ vec_capacity entries.old }

@@ -1,4 +1,4 @@
-ghost use Rattle.std.specs.Prelude.{◌≡◌, ◌≤◌, ◌<◌, ◌^◌, ◌↔◌, ℕ, List, [], IfOk, IfErr, OnOk, OnErr, IsErr, IsOk, true, false, ◌&&◌, ◌⊎◌, if◌then◌else◌};
+ghost use Rattle.std.specs.Prelude.{◌≡◌, ◌≤◌, ◌<◌, ◌↔◌, ℕ, List, [], IfOk, IfErr, OnOk, OnErr, IsErr, IsOk, true, false, ◌&&◌, ◌⊎◌, if◌then◌else◌};
 ghost use Rattle.std.specs.Result.{IsErrAnd};
 ghost use Rattle.nd_addr.specs.declared.addr.Addr.{Addr};
 ghost use Rattle.nd_addr.specs.Same.{same_addr};
@@ -6,6 +6,7 @@ ghost use Rattle.nd_decode.specs.Pieces.{options_left};
 ghost use Rattle.nd_table.specs.declared.lasting.Lasting.{Lasting};
 ghost use Rattle.nd_table.specs.Announcements.{Row, last_moment};
 ghost use Rattle.nd_table.specs.Listing.{fits, then_announced, Lists};
+ghost use Rattle.nd_table.specs.Moment.{IsMoment};
 
 use crate::announced_names::AnnouncedNames;
 use crate::announced_servers::AnnouncedServers;
@@ -18,8 +19,8 @@ use std::alloc::{AllocError, Allocator};
 
 impl<A: Allocator> Dns<A> {
     ghost use Rattle.nd_dns.specs.Dns.{max_servers, max_names, Stands, after, new_names};
-    ghost use Rattle.nd_dns.specs.Servers.{servers_told};
-    ghost use Rattle.nd_dns.specs.Names.{same_name, names_told};
+    ghost use Rattle.nd_dns.specs.AnnouncedServers.{servers_told};
+    ghost use Rattle.nd_dns.specs.AnnouncedNames.{same_name, names_told};
 
     /// Returns true if there is room for the servers that the options of a Router Advertisement announce at a moment in milliseconds, taken
     /// in order. It takes no memory.
@@ -52,7 +53,7 @@ impl<A: Allocator> Dns<A> {
         options: Options<'_>,
         names: NewNames<A>,
     ) -> Result<(), TableRefusal>
-        requires moment { now < 2 ^ 62 }
+        requires moment { IsMoment now }
         requires names { names ≡ new_names now (options_left options) self.old }
 
         ensures stands { OnOk result ((servers : List (Row Addr)) (names : List (Row (List ℕ))) → last_moment servers ≤ now → last_moment names ≤ now → Stands self.old servers names
@@ -76,7 +77,7 @@ impl<A: Allocator> Dns<A> {
 
     /// Does what `heard_ra` does, for servers and names that fit. It takes no memory.
     pub fn take_ra(&mut self, now: u64, options: Options<'_>, names: NewNames<A>)
-        requires moment { now < 2 ^ 62 }
+        requires moment { IsMoment now }
         requires fits_servers { fits same_addr max_servers now (servers_told (options_left options)) self.old.servers ≡ true }
         requires fits_names { fits same_name max_names now (names_told (options_left options)) self.old.names ≡ true }
         requires names { names ≡ new_names now (options_left options) self.old }
@@ -94,7 +95,7 @@ impl<A: Allocator> Dns<A> {
 
 impl<A: Allocator + Clone> Dns<A> {
     ghost use Rattle.nd_dns.specs.Dns.{max_names, new_names};
-    ghost use Rattle.nd_dns.specs.Names.{same_name, names_told};
+    ghost use Rattle.nd_dns.specs.AnnouncedNames.{same_name, names_told};
 
     /// Copies the search names that they add, each as often as it enters: the only part of hearing them that takes memory. Returns `Full` if
     /// there is no room for the names that they announce, before anything is copied, and `Memory` when out of memory. Where they add none it

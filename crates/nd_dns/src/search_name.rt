@@ -47,7 +47,7 @@ impl<A: Allocator> SearchName<A> {
 impl<A: Allocator> NamesKey<SearchName<A>> for NameRef<'_> {
     ghost use Rattle.nd_search_list.specs.NameRef.{name_of};
     ghost use Rattle.nd_addr.specs.Same.{bytes_tell};
-    ghost use Rattle.nd_dns.specs.Names.{same_name};
+    ghost use Rattle.nd_dns.specs.AnnouncedNames.{same_name};
 
     ghost named = { name_of };
 

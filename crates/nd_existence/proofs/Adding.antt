@@ -17,8 +17,8 @@ use Rattle.nd_decode.specs.declared.body.Body.{Body}
 use Rattle.nd_decode.specs.declared.body.Body.TheVariants as bodies
 use Rattle.nd_decode.specs.declared.router_advertisement.RouterAdvertisement.{RouterAdvertisement}
 use Rattle.nd_dns.specs.Dns.{max_servers, max_names}
-use Rattle.nd_dns.specs.Names.{same_name, names_told}
-use Rattle.nd_dns.specs.Servers.{servers_told}
+use Rattle.nd_dns.specs.AnnouncedNames.{same_name, names_told}
+use Rattle.nd_dns.specs.AnnouncedServers.{servers_told}
 use Rattle.nd_compose.specs.Frames.{answer_frame, multicast_mac, open_mac}
 use Rattle.nd_table.specs.Listing.{fits}
 use Rattle.nd_table.specs.Shown as shown_lifetimes
@@ -32,7 +32,7 @@ use Rattle.nd_neighbour.proofs.Forgetting as forgetting_proofs
 use Rattle.nd_nexthop.specs.NextHop.{NextHop, direct, via, no_route}
 use Rattle.nd_routers.specs.History.{announcements, preference_of}
 use Rattle.nd_routers.specs.Shown as shown_routers
-use Rattle.nd_routers.specs.PrefixOptions.{max_prefixes, prefixes_in}
+use Rattle.nd_routers.specs.OnLinkPrefixes.{max_prefixes, prefixes_in}
 use Rattle.nd_routers.specs.Routers.{same}
 use Rattle.nd_forwarding.specs.Forward.{Fate, lost_no_route, lost_hop_limit, sent, fate}
 use Rattle.nd_forwarding.specs.Redirect.{last_redirect, redirect}

@@ -12,8 +12,8 @@ use Rattle.nd_neighbour.specs.Room.{HasRoom, has_room}
 use Rattle.nd_neighbour.specs.Sending as sendings
 use Rattle.nd_neighbour.specs.Sending.{sending_by, sending_of_story}
 use Rattle.nd_neighbour.specs.AddressResolution.{waiting_of}
-use Rattle.nd_neighbour.specs.Story.{is_present, mac_of, the_node}
-use Rattle.nd_neighbour.specs.Table.{node_in}
+use Rattle.nd_neighbour.specs.Story.{is_present, mac_of, the_entry}
+use Rattle.nd_neighbour.specs.Table.{entry_in}
 use Rattle.nd_neighbour.proofs.Entering.{stalest_is_longest, stalest_in}
 use Rattle.nd_neighbour.proofs.Second.{room_by_history}
 use Rattle.nd_neighbour.proofs.Unique.{full_by_history}
@@ -34,7 +34,7 @@ module _ (limit now key : ℕ) (h : List Row) where
   full_or_not =
       let ns = nodes_of h in
       let by = full_by_history limit now key ns h (nodes_stand h) in
-      elim (option_cases (node_in key ns)) [
+      elim (option_cases (entry_in key ns)) [
         | inr n ↦ inr (λ full. let none = (by.1 full).0 in let no : Some n.0 ≡ None = sym n.1 ∙ none in absurd (let never : ⊥ = cc in never))
         | inl none ↦ elim (cases_Bool (has_place limit now ns)) [
           | inl has ↦ inr (λ full. absurd (true≢false (sym has ∙ (by.1 full).1)))
@@ -48,7 +48,7 @@ module _ (limit now key : ℕ) (h : List Row) where
       let ns = nodes_of h in
       let s = nodes_stand h in
       let by = full_by_history limit now key ns h s in
-      let none : node_in key ns ≡ None = s.each key ∙ cond-false (is_present (story key h)) (Some (the_node key (story key h))) None absent in
+      let none : entry_in key ns ≡ None = s.each key ∙ cond-false (is_present (story key h)) (Some (the_entry key (story key h))) None absent in
       elim (cases_Bool (ltb (length ns) limit)) [
         | inl few ↦ (None, HadPlace ns s (grind (arith, nat_tests, few)) refl)
         | inr many ↦ elim (option_cases (stalest now ns)) [

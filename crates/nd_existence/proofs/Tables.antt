@@ -2,10 +2,10 @@
 use Rattle.std.proofs.Common.{◌≡◌, ℕ, suc, ◌+◌, ◌≤◌, false, eqb, List, [], ◌∷◌, Some, refl, ap, arith}
 use Rattle.std.proofs.lemmas.Bool.Decides.{nat_tests}
 use Rattle.nd_neighbour.specs.History as neighbours
-use Rattle.nd_neighbour.specs.Entry.{Node}
-use Rattle.nd_neighbour.specs.Story.{node_of}
+use Rattle.nd_neighbour.specs.Entry.{NeighbourEntry}
+use Rattle.nd_neighbour.specs.Story.{entry_of}
 use Rattle.nd_neighbour.specs.Table as cache
-use Rattle.nd_neighbour.proofs.Steps.{node_present}
+use Rattle.nd_neighbour.proofs.Steps.{entry_present}
 use Rattle.nd_slaac.specs.History as addresses
 use Rattle.nd_slaac.specs.Address.{Address, address_of}
 use Rattle.nd_slaac.specs.Table as own
@@ -25,18 +25,18 @@ nothing_of_neighbour k ((at, key, kind) ∷ history) le =
     let other : eqb key k ≡ false = grind (arith, nat_tests, le) in
     rw other (nothing_of_neighbour k history (omega (arith, le)))
 
-node_named : (history : List neighbours.Row) (k : ℕ) (n : Node) → node_of k (neighbours.story k history) ≡ Some n → n.key ≡ k
-node_named history k n is = ap (λ (m : Node). m.key) (node_present k (neighbours.story k history) n is).1
+node_named : (history : List neighbours.Row) (k : ℕ) (n : NeighbourEntry) → entry_of k (neighbours.story k history) ≡ Some n → n.key ≡ k
+node_named history k n is = ap (λ (m : NeighbourEntry). m.key) (entry_present k (neighbours.story k history) n is).1
 
-pub nodes_of : List neighbours.Row → List Node
-nodes_of history = gathered cache.address (λ k. node_of k (neighbours.story k history)) 0 (neighbour_bound history)
+pub nodes_of : List neighbours.Row → List NeighbourEntry
+nodes_of history = gathered cache.address (λ k. entry_of k (neighbours.story k history)) 0 (neighbour_bound history)
 
 pub nodes_stand : (history : List neighbours.Row) → cache.Stands (nodes_of history) history
 unfolding nodes_of
 nodes_stand history = record {
-  each = λ k. gathered_found cache.address (λ j. node_of j (neighbours.story j history)) (node_named history) k 0 (neighbour_bound history) (omega arith)
-      (λ far. ap (node_of k) (nothing_of_neighbour k history (omega (arith, far))));
-  order = gathered_rises cache.address (λ j. node_of j (neighbours.story j history)) (node_named history) 0 (neighbour_bound history);
+  each = λ k. gathered_found cache.address (λ j. entry_of j (neighbours.story j history)) (node_named history) k 0 (neighbour_bound history) (omega arith)
+      (λ far. ap (entry_of k) (nothing_of_neighbour k history (omega (arith, far))));
+  order = gathered_rises cache.address (λ j. entry_of j (neighbours.story j history)) (node_named history) 0 (neighbour_bound history);
 }
 
 -- ---- the own addresses

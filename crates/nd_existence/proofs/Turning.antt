@@ -3,7 +3,7 @@ use Rattle.std.proofs.Common.{◌≡◌, ℕ, cond, List, set, Some, None, refl}
 use Rattle.std.specs.List.{remove}
 use Rattle.nd_table.proofs.Due.{due_has}
 use Rattle.nd_table.proofs.Keyed.{place_found}
-use Rattle.nd_neighbour.specs.Entry.{Node}
+use Rattle.nd_neighbour.specs.Entry.{NeighbourEntry}
 use Rattle.nd_neighbour.specs.Table as cache
 use Rattle.nd_neighbour.specs.Due as neighbours
 use Rattle.nd_slaac.specs.Address.{Address}
@@ -13,8 +13,8 @@ use Rattle.nd_slaac.specs.Dates as dates
 use Rattle.nd_table.specs.Keyed as keyed
 
 -- a neighbour for which something falls due takes a turn
-pub neighbour_turns : (now : ℕ) (ns : List Node) (n : Node) → cache.Rises ns → neighbours.due_in now ns ≡ Some n
-    → (new : List Node) × neighbours.Turns now ns new (neighbours.falls n)
+pub neighbour_turns : (now : ℕ) (ns : List NeighbourEntry) (n : NeighbourEntry) → cache.Rises ns → neighbours.due_in now ns ≡ Some n
+    → (new : List NeighbourEntry) × neighbours.Turns now ns new (neighbours.falls n)
 neighbour_turns now ns n r first =
     let has = due_has cache.address neighbours.date_of now ns n r first in
     let place = place_found cache.address n.key ns n has in (

@@ -9,7 +9,7 @@ use Rattle.nd_table.specs.declared.lasting.Lasting.{Lasting}
 use Rattle.nd_table.specs.Listing.{StandsUntilTold, without}
 use Rattle.nd_table.proofs.Steps.{ends}
 use Rattle.nd_neighbour.specs.Due as neighbours
-use Rattle.nd_neighbour.specs.Entry.{Node}
+use Rattle.nd_neighbour.specs.Entry.{NeighbourEntry}
 use Rattle.nd_neighbour.specs.Table as cache
 use Rattle.nd_neighbour.proofs.Dues.{first_falls, none_falls, turned_gains, turned_fewer}
 use Rattle.nd_routers.specs.History.{announcements}
@@ -125,7 +125,7 @@ module _ (start : Start) (m end : ℕ) (le : m ≤ end) where
       | inr none ↦ advertised c (t, r, a, n, none)
     ]
 
-    neighboured : (left : ℕ) (c : Chronicle) (ns : List Node) → neighbours.turns_left ns < left → cache.Stands ns (neighbour_history c) → BehindAddresses start m c → Leads c
+    neighboured : (left : ℕ) (c : Chronicle) (ns : List NeighbourEntry) → neighbours.turns_left ns < left → cache.Stands ns (neighbour_history c) → BehindAddresses start m c → Leads c
     neighboured zero c ns lt s b = absurd (omega (arith, lt))
     neighboured (suc left) c ns lt s b = elim (option_cases (neighbours.due_in m ns)) [
       | inl none ↦ solicited 3 c (omega arith) b.0 b.1 b.2 (none_falls ns (neighbour_history c) s m none)

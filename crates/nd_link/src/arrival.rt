@@ -1,8 +1,9 @@
-ghost use Rattle.std.specs.Prelude.{◌≡◌, ◌≢◌, ◌^◌, ◌<◌, ◌≤◌, ℕ, List, IsOk, OnErr, OnOk, Option, vec_capacity, vec_len};
+ghost use Rattle.std.specs.Prelude.{◌≡◌, ◌≢◌, ◌<◌, ◌≤◌, ℕ, IsOk, OnErr, OnOk, Option, vec_capacity, vec_len};
+ghost use Rattle.nd_table.specs.Moment.{IsMoment};
 ghost use Rattle.nd_node.specs.Event.{event_of};
 ghost use Rattle.nd_link_log.specs.Log.{Log};
 ghost use Rattle.nd_link_log.specs.Event as links;
-ghost use Rattle.nd_link.specs.Arrival.{Arrives, Happens, IsRefused, reached};
+ghost use Rattle.nd_link.specs.Arrival.{Arrives, IsRefused, reached};
 ghost use Rattle.nd_link.specs.Due.{AreSettled};
 ghost use Rattle.nd_link.specs.Link.{Stands};
 ghost use Rattle.nd_link.specs.Time.{Leads};
@@ -21,7 +22,7 @@ use std::alloc::{AllocError, Allocator};
 impl<W, R: Rng + Drop, A: Allocator + Copy> Link<W, R, A> {
     /// Lets time pass up to `now`, in milliseconds, at all nodes. It takes no memory.
     pub(crate) fn reach(&mut self, now: u64)
-        requires moment { now < 2 ^ 62 }
+        requires moment { IsMoment now }
         requires settled { AreSettled now self.old.nodes.items }
         requires in_time { self.old.last ≤ now }
         ensures reaches { (log : Log) → Stands R.stream self.old log → Stands R.stream self.new (reached now log) }
@@ -41,7 +42,7 @@ impl<W, R: Rng + Drop, A: Allocator + Copy> Link<W, R, A> {
         why: Refusal,
         told: &mut Vec<Told<A>, A>,
     ) -> Result<(), AllocError>
-        requires moment { now < 2 ^ 62 }
+        requires moment { IsMoment now }
         requires settled { AreSettled now self.old.nodes.items }
         requires in_time { self.old.last ≤ now }
         requires not_late { (last : ℕ) → why ≢ Refusal.TooLate last }
@@ -63,7 +64,7 @@ impl<W, R: Rng + Drop, A: Allocator + Copy> Link<W, R, A> {
         event: &Event<A>,
         told: &mut Vec<Told<A>, A>,
     ) -> Result<(), AllocError>
-        requires moment { now < 2 ^ 62 }
+        requires moment { IsMoment now }
         requires settled { AreSettled now self.old.nodes.items }
         requires in_time { self.old.last ≤ now }
         requires there { place < vec_len self.old.nodes }

@@ -1,4 +1,5 @@
-ghost use Rattle.std.specs.Prelude.{◌≡◌, ◌≢◌, ◌∷◌, ◌^◌, ◌<◌, ◌≤◌, Err, IfNone, IfOk, IfSome, IsErrOf, IsOk, OnErr, OnOk, vec_capacity, vec_len};
+ghost use Rattle.std.specs.Prelude.{◌≡◌, ◌≢◌, ◌∷◌, ◌<◌, ◌≤◌, Err, IfNone, IfOk, IfSome, IsErrOf, IsOk, OnErr, OnOk, vec_capacity, vec_len};
+ghost use Rattle.nd_table.specs.Moment.{IsMoment};
 ghost use Rattle.nd_node.specs.Event.{event_of};
 ghost use Rattle.nd_lines.specs.Counts.{one_more};
 ghost use Rattle.nd_wire.specs.Wire.{IsFaithfulTo};
@@ -31,7 +32,7 @@ impl<W, R: Rng + Drop, A: Allocator + Copy> Link<W, R, A> {
         event: &Event<A>,
         told: &mut Vec<Told<A>, A>,
     ) -> Result<(), AllocError>
-        requires moment { now < 2 ^ 62 }
+        requires moment { IsMoment now }
         requires settled { AreSettled now self.old.nodes.items }
         requires in_time { self.old.last ≤ now }
         ensures leads { OnOk result (Leads R.stream self.old self.new told.old.items told.new.items (Happens now (Comes node (event_of event.now)))) }
@@ -57,7 +58,7 @@ impl<W: Wire, R: Rng + Drop, A: Allocator + Copy> Link<W, R, A> {
         number: u64,
         told: &mut Vec<Told<A>, A>,
     ) -> Result<(), LinkFault>
-        requires moment { now < 2 ^ 62 }
+        requires moment { IsMoment now }
         requires settled { AreSettled now self.old.nodes.items }
         requires in_time { self.old.last ≤ now }
         ensures leads { IsFaithfulTo node W.arrives → OnOk result (Leads R.stream self.old self.new told.old.items told.new.items (Happens now (Delivers node number))) }

@@ -1,5 +1,6 @@
-ghost use Rattle.std.specs.Prelude.{◌≡◌, ◌≢◌, ◌≤◌, ◌<◌, ◌-◌, ◌^◌, Err, IsErrOf, IsOk, OnErr, OnOk, false, true, vec_capacity, vec_len};
+ghost use Rattle.std.specs.Prelude.{◌≡◌, ◌≢◌, ◌≤◌, ◌<◌, ◌-◌, Err, IsErrOf, IsOk, OnErr, OnOk, false, true, vec_capacity, vec_len};
 ghost use Rattle.nd_addr.specs.Bytes.{IsBytes};
+ghost use Rattle.nd_table.specs.Moment.{IsMoment};
 ghost use Rattle.nd_lines.specs.Counts.{one_more};
 ghost use Rattle.nd_wire.specs.Wire.{IsFaithful};
 ghost use Rattle.nd_link_log.specs.Log.{Log};
@@ -70,7 +71,7 @@ impl<W: Wire, R: Rng + Drop, A: Allocator + Copy> Link<W, R, A> {
         event: LinkEvent<R, A>,
         told: &mut Vec<Told<A>, A>,
     ) -> Result<(), LinkFault>
-        requires { now < 2 ^ 62 }
+        requires { IsMoment now }
         ensures follows { IsFaithful W.arrives → OnOk result (Leads R.stream self.old self.new told.old.items told.new.items (FollowsBy now (link_event R.stream event))) }
         ensures told { OnErr result (TellsOf R.stream self.old told.old.items told.new.items (Onward now)) }
         ensures passes { IsErrOf result LinkFault.Wire → Leads R.stream self.old self.new told.old.items told.new.items (Passes now) }
@@ -141,7 +142,7 @@ impl<W: Wire, R: Rng + Drop, A: Allocator + Copy> Link<W, R, A> {
         event: LinkEvent<R, A>,
         told: &mut Vec<Told<A>, A>,
     ) -> Result<(), LinkFault>
-        requires { now < 2 ^ 62 }
+        requires { IsMoment now }
         ensures follows { IsFaithful W.arrives → OnOk result (Leads R.stream self.old self.new told.old.items told.new.items (FollowsBy now (link_event R.stream event))) }
         ensures told { OnErr result (TellsOf R.stream self.old told.old.items told.new.items (Onward now)) }
         ensures passes { IsErrOf result LinkFault.Wire → Leads R.stream self.old self.new told.old.items told.new.items (Passes now) }
@@ -166,7 +167,7 @@ impl<W: Wire, R: Rng + Drop, A: Allocator + Copy> Link<W, R, A> {
         event: LinkEvent<R, A>,
         told: &mut Vec<Told<A>, A>,
     ) -> Result<(), LinkFault>
-        requires moment { now < 2 ^ 62 }
+        requires moment { IsMoment now }
         requires settled { AreSettled now self.old.nodes.items }
         requires in_time { self.old.last ≤ now }
         ensures leads { IsFaithful W.arrives → OnOk result (Leads R.stream self.old self.new told.old.items told.new.items (Happens now (link_event R.stream event))) }

@@ -1,6 +1,7 @@
 //! The start of a node on a link.
 
-ghost use Rattle.std.specs.Prelude.{◌≡◌, ◌∷◌, ◌^◌, ◌<◌, ◌≤◌, IsOk, OnErr, OnOk, vec_capacity, vec_len};
+ghost use Rattle.std.specs.Prelude.{◌≡◌, ◌∷◌, ◌<◌, ◌≤◌, IsOk, OnErr, OnOk, vec_capacity, vec_len};
+ghost use Rattle.nd_table.specs.Moment.{IsMoment};
 ghost use Rattle.nd_link_log.specs.Log as links;
 ghost use Rattle.nd_link_log.specs.Log.{Log, Refuses};
 ghost use Rattle.nd_link_log.specs.Event.{Starts};
@@ -29,7 +30,7 @@ impl<W, R: Rng + Drop, A: Allocator + Copy> Link<W, R, A> {
         generator: R,
         told: &mut Vec<Told<A>, A>,
     ) -> Result<(), AllocError>
-        requires moment { now < 2 ^ 62 }
+        requires moment { IsMoment now }
         requires settled { AreSettled now self.old.nodes.items }
         requires in_time { self.old.last ≤ now }
         ensures leads { OnOk result (Leads R.stream self.old self.new told.old.items told.new.items (Happens now (Starts role mac transmits (R.stream generator)))) }

@@ -1,4 +1,5 @@
 ghost use Rattle.std.specs.Prelude.{◌≡◌, ℕ, ◌^◌, ◌<◌, ◌≤◌, Ok, OnOk, OnErr};
+ghost use Rattle.nd_table.specs.Moment.{IsMoment};
 ghost use Rattle.nd_link.specs.Due.{AreSettled, IsFirst};
 ghost use Rattle.nd_link.specs.Time.{Leads, TellsOf, Onward, Passes, Turns, turns_left};
 
@@ -12,7 +13,7 @@ use std::alloc::{AllocError, Allocator};
 impl<W, R: Rng + Drop, A: Allocator + Copy> Link<W, R, A> {
     /// Does all that is due up to a moment, at one node after the other, and tells it. The error is out of memory.
     pub(crate) fn settle(&mut self, now: u64, told: &mut Vec<Told<A>, A>) -> Result<(), AllocError>
-        requires moment { now < 2 ^ 62 }
+        requires moment { IsMoment now }
         requires in_time { self.old.last ≤ now }
         ensures onward { OnOk result (Leads R.stream self.old self.new told.old.items told.new.items (Onward now)) }
         ensures passes { OnOk result (Leads R.stream self.old self.new told.old.items told.new.items (Passes now)) }

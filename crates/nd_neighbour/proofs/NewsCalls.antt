@@ -4,36 +4,36 @@ use Rattle.std.specs.Prelude.{◌&&◌, not, is_some}
 use Rattle.std.proofs.lemmas.Bool.{cond-true, cond-false}
 use Rattle.nd_neighbour.specs.declared.news.Flags.{Flags}
 use Rattle.nd_neighbour.specs.History.{RowKind, Given, Advertised, Marked, Confirmed, Row, Story, story}
-use Rattle.nd_neighbour.specs.Entry.{Node, Stage, Resolving, Known, with_mark, stale_node, known_mac, waiting_in}
+use Rattle.nd_neighbour.specs.Entry.{NeighbourEntry, Stage, Resolving, Known, with_mark, stale_entry, known_mac, waiting_in}
 use Rattle.nd_neighbour.specs.LinkLayerAddress.{given, given_to, mark_or}
-use Rattle.nd_neighbour.specs.ReachabilityConfirmation.{Word, confirmed, confirmed_to}
+use Rattle.nd_neighbour.specs.ReachabilityConfirmation.{Evidence, confirmed, confirmed_to}
 use Rattle.nd_neighbour.specs.NeighborAdvertisement.{advertised, advertised_to, conforming}
 use Rattle.nd_neighbour.specs.AddressResolution.{Resolution, resolution_of, waiting_of}
 use Rattle.nd_neighbour.specs.UnreachabilityDetection.{Use}
-use Rattle.nd_neighbour.specs.Story.{is_present, mac_of, is_router, word_of, use_of, stage_by, the_node, node_of, waits_by, waits_of}
-use Rattle.nd_neighbour.specs.Table.{address, node_in, Stands, GainsRow, Alters, NotThere, There}
+use Rattle.nd_neighbour.specs.Story.{is_present, mac_of, is_router, evidence_of, use_of, stage_by, the_entry, entry_of, waits_by, waits_of}
+use Rattle.nd_neighbour.specs.Table.{address, entry_in, Stands, GainsRow, Alters, NotThere, There}
 use Rattle.nd_neighbour.specs.Place.{Prepares, MakesPlace, Gives, Was, Came}
 use Rattle.nd_neighbour.specs.News.{released_by, ends_router, Tells, told_released, told_turned}
 use Rattle.nd_neighbour.specs.Removal.{waiting_at}
 use Rattle.nd_neighbour.proofs.Stories.{absent_router}
 use Rattle.nd_neighbour.proofs.Changes.{when_given, when_advertised, when_marked, when_confirmed, first_given}
-use Rattle.nd_neighbour.proofs.Steps.{changing, entering, node_present, node_absent}
+use Rattle.nd_neighbour.proofs.Steps.{changing, entering, entry_present, entry_absent}
 use Rattle.nd_table.proofs.Keyed.{key_is}
 use Rattle.nd_neighbour.proofs.Dues.{known_by}
 use Rattle.nd_neighbour.proofs.Entering.{altered_gains, place_made}
 
-pub keys_of : (b : Bool) (m o n : Node) → m.key ≡ n.key → o.key ≡ n.key → (cond b m o).key ≡ n.key
+pub keys_of : (b : Bool) (m o n : NeighbourEntry) → m.key ≡ n.key → o.key ≡ n.key → (cond b m o).key ≡ n.key
 keys_of true m o n h k = h
 keys_of false m o n h k = k
 
-pub given_key : (at mac : ℕ) (mark : Option Bool) (n : Node) (k : Stage) → (given_to k n at mac (mark_or mark n.router)).key ≡ n.key
+pub given_key : (at mac : ℕ) (mark : Option Bool) (n : NeighbourEntry) (k : Stage) → (given_to k n at mac (mark_or mark n.router)).key ≡ n.key
 given_key at mac mark n (Resolving r t ws) = refl
 given_key at mac mark n (Known known c since p) = keys_of (eqb mac known) _ _ n refl refl
 
-conforming_key : (flags : Flags) (at reachable mac : ℕ) (changed : Bool) (n : Node) → (conforming flags at reachable mac changed n).key ≡ n.key
+conforming_key : (flags : Flags) (at reachable mac : ℕ) (changed : Bool) (n : NeighbourEntry) → (conforming flags at reachable mac changed n).key ≡ n.key
 conforming_key flags at reachable mac changed n = keys_of flags.solicited _ _ n refl (keys_of changed _ _ n refl refl)
 
-pub advertised_key : (flags : Flags) (mac : Option ℕ) (at reachable : ℕ) (n : Node) (k : Stage) → (advertised_to k flags mac at reachable n).key ≡ n.key
+pub advertised_key : (flags : Flags) (mac : Option ℕ) (at reachable : ℕ) (n : NeighbourEntry) (k : Stage) → (advertised_to k flags mac at reachable n).key ≡ n.key
 advertised_key flags None at reachable n (Resolving r t ws) = refl
 advertised_key flags (Some mac) at reachable n (Resolving r t ws) = conforming_key flags at reachable mac true n
 advertised_key flags None at reachable n (Known known c since p) = conforming_key flags at reachable known false n
@@ -41,29 +41,29 @@ advertised_key flags (Some mac) at reachable n (Known known c since p) =
     keys_of (eqb mac known) _ _ n (conforming_key flags at reachable known false n)
     (keys_of flags.overrides _ _ n (conforming_key flags at reachable mac true n) (keys_of (c && ltb at since) _ _ n refl refl))
 
-pub confirmed_key : (at reachable : ℕ) (n : Node) (k : Stage) → (confirmed_to k at reachable n).key ≡ n.key
+pub confirmed_key : (at reachable : ℕ) (n : NeighbourEntry) (k : Stage) → (confirmed_to k at reachable n).key ≡ n.key
 confirmed_key at reachable n (Resolving r t ws) = refl
 confirmed_key at reachable n (Known mac c since p) = refl
 
-pub advertised_gains : (key at : ℕ) (flags : Flags) (mac : Option ℕ) (reachable : ℕ) (old new : List Node) → Alters key (λ n. advertised at flags mac reachable n) old new → GainsRow old new (at, key, Advertised flags mac reachable)
+pub advertised_gains : (key at : ℕ) (flags : Flags) (mac : Option ℕ) (reachable : ℕ) (old new : List NeighbourEntry) → Alters key (λ n. advertised at flags mac reachable n) old new → GainsRow old new (at, key, Advertised flags mac reachable)
 advertised_gains key at flags mac reachable old new a =
     altered_gains key at (Advertised flags mac reachable) (λ n. advertised at flags mac reachable n) old new refl
     (λ n. advertised_key flags mac at reachable n n.stage) (λ s p. when_advertised key at s p flags mac reachable) (λ s p. p) a
 
-pub marked_gains : (key at : ℕ) (router : Bool) (old new : List Node) → Alters key (λ n. with_mark router n) old new → GainsRow old new (at, key, Marked router)
+pub marked_gains : (key at : ℕ) (router : Bool) (old new : List NeighbourEntry) → Alters key (λ n. with_mark router n) old new → GainsRow old new (at, key, Marked router)
 marked_gains key at router old new a =
     altered_gains key at (Marked router) (λ n. with_mark router n) old new refl (λ n. refl) (λ s p. when_marked key at s p router) (λ s p. p) a
 
-pub confirmed_gains : (key at reachable : ℕ) (old new : List Node) → Alters key (λ n. confirmed at reachable n) old new → GainsRow old new (at, key, Confirmed reachable)
+pub confirmed_gains : (key at reachable : ℕ) (old new : List NeighbourEntry) → Alters key (λ n. confirmed at reachable n) old new → GainsRow old new (at, key, Confirmed reachable)
 confirmed_gains key at reachable old new a =
     altered_gains key at (Confirmed reachable) (λ n. confirmed at reachable n) old new refl
     (λ n. confirmed_key at reachable n n.stage) (λ s p. when_confirmed key at s p reachable) (λ s p. p) a
 
-altered_there : (key at mac : ℕ) (mark : Option Bool) (old new : List Node) (n : Node) → node_in key old ≡ Some n → Alters key (λ n. given at mac mark n) old new → GainsRow old new (at, key, Given mac mark)
+altered_there : (key at mac : ℕ) (mark : Option Bool) (old new : List NeighbourEntry) (n : NeighbourEntry) → entry_in key old ≡ Some n → Alters key (λ n. given at mac mark n) old new → GainsRow old new (at, key, Given mac mark)
 altered_there key at mac mark old new n found (There i m lt is there new_is) =
     let m_key : m.key ≡ key = key_is address key old m there in
     changing old new key at (Given mac mark) i m (given at mac mark m) refl lt is there (given_key at mac mark m m.stage ∙ m_key) m_key new_is
-    (λ s p known. when_given key at s p mac mark ∙ ap (λ (x : Node). Some (given at mac mark x)) (sym known))
+    (λ s p known. when_given key at s p mac mark ∙ ap (λ (x : NeighbourEntry). Some (given at mac mark x)) (sym known))
 altered_there key at mac mark old new n found (NotThere none new_is) = let e : Some n ≡ None = sym found ∙ none in absurd (cc)
 
 -- nothing has to make place for a neighbour that is there
@@ -76,27 +76,27 @@ pub place_needed : (limit now key : ℕ) (history made : List Row) → is_presen
 place_needed limit now key history made p m = rw p m
 
 -- whatever history old stands for, new stands for it with an address that is given
-pub given_hears : (limit now key mac : ℕ) (mark : Option Bool) (old new : List Node) → Gives limit now key (λ n. given now mac mark n) (stale_node key (mark_or mark false) now mac) old new → (history : List Row) → Stands old history → (made : List Row) × Prepares limit now true key history made × Stands new ((now, key, Given mac mark) ∷ made)
+pub given_hears : (limit now key mac : ℕ) (mark : Option Bool) (old new : List NeighbourEntry) → Gives limit now key (λ n. given now mac mark n) (stale_entry key (mark_or mark false) now mac) old new → (history : List Row) → Stands old history → (made : List Row) × Prepares limit now true key history made × Stands new ((now, key, Given mac mark) ∷ made)
 given_hears limit now key mac mark old new (Was n found a) history s =
-    let known = node_present key (story key history) n (sym (s.each key) ∙ found) in
+    let known = entry_present key (story key history) n (sym (s.each key) ∙ found) in
     let gains : GainsRow old new (now, key, Given mac mark) =
     altered_there key now mac mark old new n found a in
     (history, no_place_needed limit now key true history known.0, gains.stands history s)
 given_hears limit now key mac mark old new (Came mid none places is) history s =
-    let gone = node_absent key (story key history) (sym (s.each key) ∙ none) in
+    let gone = entry_absent key (story key history) (sym (s.each key) ∙ none) in
     let place = place_made limit now key old mid history s none places in
     let gains : GainsRow mid new (now, key, Given mac mark) =
-    entering mid new key now (Given mac mark) (stale_node key (mark_or mark false) now mac) refl place.3 refl is (λ story' absent. first_given key now story' absent mac mark) in
+    entering mid new key now (Given mac mark) (stale_entry key (mark_or mark false) now mac) refl place.3 refl is (λ story' absent. first_given key now story' absent mac mark) in
     (place.0, place_needed limit now key history place.0 gone place.1, gains.stands place.0 place.2)
 
-waiting_by : (mac : Option ℕ) (w : Option Word) (u : Option Use) (r : Option Resolution) (ws : List (List ℕ)) → waiting_in (stage_by mac w u r ws) ≡ waits_by mac ws
+waiting_by : (mac : Option ℕ) (w : Option Evidence) (u : Option Use) (r : Option Resolution) (ws : List (List ℕ)) → waiting_in (stage_by mac w u r ws) ≡ waits_by mac ws
 waiting_by None w u r ws = refl
 waiting_by (Some mac) w u r ws = refl
 
 -- what waits at an entry is what waits by its story
-pub node_waits : (key : ℕ) (s : Story) (n : Node) → is_present s ≡ true → n ≡ the_node key s → waiting_in n.stage ≡ waits_of s
-node_waits key s n p is =
-    ap (λ (m : Node). waiting_in m.stage) is ∙ (waiting_by (mac_of s) (word_of s) (use_of s) (resolution_of s) (waiting_of s)
+pub entry_waits : (key : ℕ) (s : Story) (n : NeighbourEntry) → is_present s ≡ true → n ≡ the_entry key s → waiting_in n.stage ≡ waits_of s
+entry_waits key s n p is =
+    ap (λ (m : NeighbourEntry). waiting_in m.stage) is ∙ (waiting_by (mac_of s) (evidence_of s) (use_of s) (resolution_of s) (waiting_of s)
     ∙ sym (cond-true (is_present s) (waits_by (mac_of s) (waiting_of s)) [] p))
 
 pub none_waits : (s : Story) → is_present s ≡ false → waits_of s ≡ []
@@ -107,41 +107,41 @@ cond_same true x = refl
 cond_same false x = refl
 
 -- what is told of a change is what the history says
-module _ (key at : ℕ) (h : RowKind) (change : Node → Node) (old : List Node) (makes : (s : Story) → is_present s ≡ true → node_of key ((at, h) ∷ s) ≡ Some (change (the_node key s))) where
-  changed_node : (s : Story) → is_present s ≡ true → change (the_node key s) ≡ the_node key ((at, h) ∷ s)
-  changed_node s p = (node_present key ((at, h) ∷ s) (change (the_node key s)) (makes s p)).1
+module _ (key at : ℕ) (h : RowKind) (change : NeighbourEntry → NeighbourEntry) (old : List NeighbourEntry) (makes : (s : Story) → is_present s ≡ true → entry_of key ((at, h) ∷ s) ≡ Some (change (the_entry key s))) where
+  changed_entry : (s : Story) → is_present s ≡ true → change (the_entry key s) ≡ the_entry key ((at, h) ∷ s)
+  changed_entry s p = (entry_present key ((at, h) ∷ s) (change (the_entry key s)) (makes s p)).1
 
-  releases_by : (s : Story) (o : Option Node) → o ≡ node_of key s → told_released change o ≡ released_by at h s
+  releases_by : (s : Story) (o : Option NeighbourEntry) → o ≡ entry_of key s → told_released change o ≡ released_by at h s
   releases_by s None is =
-      sym (ap (λ (l : List (List ℕ)). cond (is_some (mac_of ((at, h) ∷ s))) l []) (none_waits s (node_absent key s (sym is))) ∙ cond_same (is_some (mac_of ((at, h) ∷ s))) [])
+      sym (ap (λ (l : List (List ℕ)). cond (is_some (mac_of ((at, h) ∷ s))) l []) (none_waits s (entry_absent key s (sym is))) ∙ cond_same (is_some (mac_of ((at, h) ∷ s))) [])
   releases_by s (Some n) is =
-      let known = node_present key s n (sym is) in
-      let after : change n ≡ the_node key ((at, h) ∷ s) = ap change known.1 ∙ changed_node s known.0 in
+      let known = entry_present key s n (sym is) in
+      let after : change n ≡ the_entry key ((at, h) ∷ s) = ap change known.1 ∙ changed_entry s known.0 in
       let mac : known_mac (change n).stage ≡ mac_of ((at, h) ∷ s) =
-      ap (λ (m : Node). known_mac m.stage) after ∙ known_by (mac_of ((at, h) ∷ s)) (word_of ((at, h) ∷ s)) (use_of ((at, h) ∷ s)) (resolution_of ((at, h) ∷ s)) (waiting_of ((at, h) ∷ s)) in
+      ap (λ (m : NeighbourEntry). known_mac m.stage) after ∙ known_by (mac_of ((at, h) ∷ s)) (evidence_of ((at, h) ∷ s)) (use_of ((at, h) ∷ s)) (resolution_of ((at, h) ∷ s)) (waiting_of ((at, h) ∷ s)) in
       ap (λ (m : Option ℕ). cond (is_some m) (waiting_in n.stage) []) mac
-      ∙ ap (λ (l : List (List ℕ)). cond (is_some (mac_of ((at, h) ∷ s))) l []) (node_waits key s n known.0 known.1)
+      ∙ ap (λ (l : List (List ℕ)). cond (is_some (mac_of ((at, h) ∷ s))) l []) (entry_waits key s n known.0 known.1)
 
-  turns_by : (s : Story) (o : Option Node) → o ≡ node_of key s → told_turned change o ≡ ends_router at h s
-  turns_by s None is = sym (ap (λ b. b && not (is_router ((at, h) ∷ s))) (absent_router s (node_absent key s (sym is))))
+  turns_by : (s : Story) (o : Option NeighbourEntry) → o ≡ entry_of key s → told_turned change o ≡ ends_router at h s
+  turns_by s None is = sym (ap (λ b. b && not (is_router ((at, h) ∷ s))) (absent_router s (entry_absent key s (sym is))))
   turns_by s (Some n) is =
-      let known = node_present key s n (sym is) in
-      let after : change n ≡ the_node key ((at, h) ∷ s) = ap change known.1 ∙ changed_node s known.0 in
-      ap (λ (m : Node). m.router && not (change n).router) known.1 ∙ ap (λ (m : Node). is_router s && not m.router) after
+      let known = entry_present key s n (sym is) in
+      let after : change n ≡ the_entry key ((at, h) ∷ s) = ap change known.1 ∙ changed_entry s known.0 in
+      ap (λ (m : NeighbourEntry). m.router && not (change n).router) known.1 ∙ ap (λ (m : NeighbourEntry). is_router s && not m.router) after
 
-  pub tells_by : (packets : List (List ℕ)) (turned : Bool) → packets ≡ told_released change (node_in key old) → turned ≡ told_turned change (node_in key old) → Tells at key h old packets turned
+  pub tells_by : (packets : List (List ℕ)) (turned : Bool) → packets ≡ told_released change (entry_in key old) → turned ≡ told_turned change (entry_in key old) → Tells at key h old packets turned
   tells_by packets turned p t = record {
-    released = λ history s. p ∙ releases_by (story key history) (node_in key old) (s.each key);
-    turned_is = λ history s. t ∙ turns_by (story key history) (node_in key old) (s.each key);
+    released = λ history s. p ∙ releases_by (story key history) (entry_in key old) (s.each key);
+    turned_is = λ history s. t ∙ turns_by (story key history) (entry_in key old) (s.each key);
   }
 
-pub given_tells : (key at mac : ℕ) (mark : Option Bool) (old : List Node) (packets : List (List ℕ)) (turned : Bool) → packets ≡ told_released (λ n. given at mac mark n) (node_in key old) → turned ≡ told_turned (λ n. given at mac mark n) (node_in key old) → Tells at key (Given mac mark) old packets turned
+pub given_tells : (key at mac : ℕ) (mark : Option Bool) (old : List NeighbourEntry) (packets : List (List ℕ)) (turned : Bool) → packets ≡ told_released (λ n. given at mac mark n) (entry_in key old) → turned ≡ told_turned (λ n. given at mac mark n) (entry_in key old) → Tells at key (Given mac mark) old packets turned
 given_tells key at mac mark old packets turned = tells_by key at (Given mac mark) (λ n. given at mac mark n) old (λ s p. when_given key at s p mac mark) packets turned
 
-pub advertised_tells : (key at : ℕ) (flags : Flags) (mac : Option ℕ) (reachable : ℕ) (old : List Node) (packets : List (List ℕ)) (turned : Bool) → packets ≡ told_released (λ n. advertised at flags mac reachable n) (node_in key old) → turned ≡ told_turned (λ n. advertised at flags mac reachable n) (node_in key old) → Tells at key (Advertised flags mac reachable) old packets turned
+pub advertised_tells : (key at : ℕ) (flags : Flags) (mac : Option ℕ) (reachable : ℕ) (old : List NeighbourEntry) (packets : List (List ℕ)) (turned : Bool) → packets ≡ told_released (λ n. advertised at flags mac reachable n) (entry_in key old) → turned ≡ told_turned (λ n. advertised at flags mac reachable n) (entry_in key old) → Tells at key (Advertised flags mac reachable) old packets turned
 advertised_tells key at flags mac reachable old packets turned = tells_by key at (Advertised flags mac reachable) (λ n. advertised at flags mac reachable n) old (λ s p. when_advertised key at s p flags mac reachable) packets turned
 
-pub marked_tells : (key at : ℕ) (router : Bool) (old : List Node) (packets : List (List ℕ)) (turned : Bool) → packets ≡ told_released (λ n. with_mark router n) (node_in key old) → turned ≡ told_turned (λ n. with_mark router n) (node_in key old) → Tells at key (Marked router) old packets turned
+pub marked_tells : (key at : ℕ) (router : Bool) (old : List NeighbourEntry) (packets : List (List ℕ)) (turned : Bool) → packets ≡ told_released (λ n. with_mark router n) (entry_in key old) → turned ≡ told_turned (λ n. with_mark router n) (entry_in key old) → Tells at key (Marked router) old packets turned
 marked_tells key at router old packets turned = tells_by key at (Marked router) (λ n. with_mark router n) old (λ s p. when_marked key at s p router) packets turned
 
 few_by : (known : Bool) (waiting packets : List (List ℕ)) → packets ≡ cond known waiting [] → length packets ≤ length waiting
@@ -149,6 +149,6 @@ few_by true waiting packets is = let e = ap length is in omega (arith, e)
 few_by false waiting packets is = let e = ap length is in omega (arith, e)
 
 -- no more is released than waited
-pub few_released : (change : Node → Node) (o : Option Node) (packets : List (List ℕ)) → packets ≡ told_released change o → length packets ≤ length (waiting_at o)
+pub few_released : (change : NeighbourEntry → NeighbourEntry) (o : Option NeighbourEntry) (packets : List (List ℕ)) → packets ≡ told_released change o → length packets ≤ length (waiting_at o)
 few_released change None packets is = let e = ap length is in omega (arith, e)
 few_released change (Some n) packets is = few_by (is_some (known_mac (change n).stage)) (waiting_in n.stage) packets is

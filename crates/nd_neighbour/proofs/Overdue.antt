@@ -6,20 +6,20 @@ use Rattle.nd_table.specs.Due.{NotBefore}
 use Rattle.nd_neighbour.specs.declared.news.Flags.{Flags}
 use Rattle.nd_neighbour.specs.AddressResolution.{Resolution, resolution_due, resolution_of}
 use Rattle.nd_neighbour.specs.Due.{IsDue, NextDue, NoneBefore, NoneOverdue, next_in}
-use Rattle.nd_neighbour.specs.Entry.{Node}
+use Rattle.nd_neighbour.specs.Entry.{NeighbourEntry}
 use Rattle.nd_neighbour.specs.History.{Advertised, Asked, Confirmed, Forgot, Given, Marked, Probed, Row, RowKind, Solicited, Story, Used, Waits, is_end, story}
 use Rattle.nd_neighbour.specs.NeighborAdvertisement.{advert_says, conforms, given_changes, taken}
-use Rattle.nd_neighbour.specs.ReachabilityConfirmation.{Confirms, Disturbs, Word, holds, since}
-use Rattle.nd_neighbour.specs.Story.{due_by, due_of, is_present, mac_of, or_else, says, use_of, word_of}
+use Rattle.nd_neighbour.specs.ReachabilityConfirmation.{Confirms, Disturbs, Evidence, holds, since}
+use Rattle.nd_neighbour.specs.Story.{due_by, due_of, is_present, mac_of, or_else, says, use_of, evidence_of}
 use Rattle.nd_neighbour.specs.Table.{Stands}
 use Rattle.nd_neighbour.specs.UnreachabilityDetection.{Use, goes_on, reach_due}
 use Rattle.nd_neighbour.proofs.Stories.{absent_mac}
 use Rattle.nd_neighbour.proofs.Dues.{next_is_due}
 
 -- what is said at a moment disturbs from then on, or confirms beyond it
-abbrev SaidAt : ℕ → Option Word → Type 0
+abbrev SaidAt : ℕ → Option Evidence → Type 0
 SaidAt now None = Unit {0}
-SaidAt now (Some word) = now ≤ since word
+SaidAt now (Some evidence) = now ≤ since evidence
 
 advert_by : (now reachable : ℕ) (conforming solicited changing held : Bool) → SaidAt now (cond conforming (cond solicited (Some (Confirms now reachable)) (cond changing (Some (Disturbs now)) None)) (cond held (Some (Disturbs now)) None))
 advert_by now reachable true true changing held = omega arith
@@ -30,19 +30,19 @@ advert_by now reachable false solicited changing false = tt
 
 module _ (now : ℕ) where
   -- where something is said, the dates begin anew, and else they stay
-  reach_later : (said w : Option Word) (u v : Option Use) → SaidAt now said → v ≡ u → now ≤ reach_due w u → now ≤ reach_due (or_else said w) (cond (is_some said) None v)
+  reach_later : (said w : Option Evidence) (u v : Option Use) → SaidAt now said → v ≡ u → now ≤ reach_due w u → now ≤ reach_due (or_else said w) (cond (is_some said) None v)
   reach_later None w u v at same le = rw same le
-  reach_later (Some word) w u v at same le = omega arith
+  reach_later (Some evidence) w u v at same le = omega arith
 
-  goes_same : (w : Option Word) (u : Option Use) (mac : ℕ) (mark : Option Bool) → goes_on w u now (Given mac mark) ≡ u
+  goes_same : (w : Option Evidence) (u : Option Use) (mac : ℕ) (mark : Option Bool) → goes_on w u now (Given mac mark) ≡ u
   goes_same w None mac mark = refl
   goes_same w (Some u) mac mark = refl
 
-  advertised_same : (w : Option Word) (u : Option Use) (flags : Flags) (mac : Option ℕ) (reachable : ℕ) → goes_on w u now (Advertised flags mac reachable) ≡ u
+  advertised_same : (w : Option Evidence) (u : Option Use) (flags : Flags) (mac : Option ℕ) (reachable : ℕ) → goes_on w u now (Advertised flags mac reachable) ≡ u
   advertised_same w None flags mac reachable = refl
   advertised_same w (Some u) flags mac reachable = refl
 
-  given_later : (mac : ℕ) (mark : Option Bool) (known : Option ℕ) (w : Option Word) (u : Option Use) (r : Option Resolution) → (is_some known ≡ true → now ≤ due_by known w u r)
+  given_later : (mac : ℕ) (mark : Option Bool) (known : Option ℕ) (w : Option Evidence) (u : Option Use) (r : Option Resolution) → (is_some known ≡ true → now ≤ due_by known w u r)
       → let said = says true known w now (Given mac mark) in now ≤ due_by (Some mac) (or_else said w) (cond (is_some said) None (goes_on w u now (Given mac mark))) r
   given_later mac mark None w u r le = omega arith
   given_later mac mark (Some known) w u r le =
@@ -52,12 +52,12 @@ module _ (now : ℕ) where
       said true = tt
       said false = omega arith
 
-  advertised_later : (flags : Flags) (mac : Option ℕ) (reachable : ℕ) (known : Option ℕ) (w : Option Word) (u : Option Use) (r : Option Resolution) → now ≤ due_by known w u r
+  advertised_later : (flags : Flags) (mac : Option ℕ) (reachable : ℕ) (known : Option ℕ) (w : Option Evidence) (u : Option Use) (r : Option Resolution) → now ≤ due_by known w u r
       → let said = advert_says flags mac reachable known w now in now ≤ due_by (taken flags.overrides mac known) (or_else said w) (cond (is_some said) None (goes_on w u now (Advertised flags mac reachable))) r
   advertised_later flags None reachable None w u r le = le
   advertised_later flags (Some mac) reachable None w u r le = first flags.solicited
     where
-      first : (solicited : Bool) → let said : Option Word = cond solicited (Some (Confirms now reachable)) (Some (Disturbs now)) in now ≤ reach_due (or_else said w) (cond (is_some said) None (goes_on w u now (Advertised flags (Some mac) reachable)))
+      first : (solicited : Bool) → let said : Option Evidence = cond solicited (Some (Confirms now reachable)) (Some (Disturbs now)) in now ≤ reach_due (or_else said w) (cond (is_some said) None (goes_on w u now (Advertised flags (Some mac) reachable)))
       first true = omega arith
       first false = omega arith
   advertised_later flags None reachable (Some known) w u r le =
@@ -65,22 +65,22 @@ module _ (now : ℕ) where
   advertised_later flags (Some mac) reachable (Some known) w u r le =
       reach_later (advert_says flags (Some mac) reachable (Some known) w now) w u _ (advert_by now reachable (conforms flags.overrides (Some mac) (Some known)) flags.solicited (given_changes (Some mac) (Some known)) (holds (Some known) w now)) (advertised_same w u flags (Some mac) reachable) le
 
-  marked_later : (router : Bool) (known : Option ℕ) (w : Option Word) (u : Option Use) (r : Option Resolution) → now ≤ due_by known w u r → now ≤ due_by known w (goes_on w u now (Marked router)) r
+  marked_later : (router : Bool) (known : Option ℕ) (w : Option Evidence) (u : Option Use) (r : Option Resolution) → now ≤ due_by known w u r → now ≤ due_by known w (goes_on w u now (Marked router)) r
   marked_later router None w u r le = le
   marked_later router (Some known) w None r le = le
   marked_later router (Some known) w (Some u) r le = le
 
-  asked_later : (retrans : ℕ) (known : Option ℕ) (w : Option Word) (u : Option Use) (r : Option Resolution) → (is_some known ≡ true → now ≤ due_by known w u r) → now ≤ due_by known w (goes_on w u now (Asked retrans)) (Some (record { at = now; retrans = retrans; more = 0 }))
+  asked_later : (retrans : ℕ) (known : Option ℕ) (w : Option Evidence) (u : Option Use) (r : Option Resolution) → (is_some known ≡ true → now ≤ due_by known w u r) → now ≤ due_by known w (goes_on w u now (Asked retrans)) (Some (record { at = now; retrans = retrans; more = 0 }))
   asked_later retrans None w u r le = omega arith
   asked_later retrans (Some known) w None r le = le refl
   asked_later retrans (Some known) w (Some u) r le = le refl
 
-  waits_later : (packet : List ℕ) (known : Option ℕ) (w : Option Word) (u : Option Use) (r : Option Resolution) → now ≤ due_by known w u r → now ≤ due_by known w (goes_on w u now (Waits packet)) r
+  waits_later : (packet : List ℕ) (known : Option ℕ) (w : Option Evidence) (u : Option Use) (r : Option Resolution) → now ≤ due_by known w u r → now ≤ due_by known w (goes_on w u now (Waits packet)) r
   waits_later packet None w u r le = le
   waits_later packet (Some known) w None r le = le
   waits_later packet (Some known) w (Some u) r le = le
 
-  solicited_later : (known : Option ℕ) (w : Option Word) (u : Option Use) (s : Story) → now ≤ due_by known w u (resolution_of s) → now ≤ due_by known w (goes_on w u now Solicited) (resolution_of ((now, Solicited) ∷ s))
+  solicited_later : (known : Option ℕ) (w : Option Evidence) (u : Option Use) (s : Story) → now ≤ due_by known w u (resolution_of s) → now ≤ due_by known w (goes_on w u now Solicited) (resolution_of ((now, Solicited) ∷ s))
   solicited_later None w u s le = more (resolution_of s) le
     where
       more : (r : Option Resolution) → now ≤ resolution_due r → now ≤ resolution_due (elim r [ None ↦ None | Some x ↦ Some (record { at = x.at; retrans = x.retrans; more = x.more + 1 }) ])
@@ -89,19 +89,19 @@ module _ (now : ℕ) where
   solicited_later (Some known) w None s le = le
   solicited_later (Some known) w (Some u) s le = le
 
-  used_later : (retrans : ℕ) (known : Option ℕ) (w : Option Word) (u : Option Use) (r : Option Resolution) → now ≤ due_by known w u r → now ≤ due_by known w (goes_on w u now (Used retrans)) r
+  used_later : (retrans : ℕ) (known : Option ℕ) (w : Option Evidence) (u : Option Use) (r : Option Resolution) → now ≤ due_by known w u r → now ≤ due_by known w (goes_on w u now (Used retrans)) r
   used_later retrans None w u r le = le
   used_later retrans (Some known) None None r le = le
-  used_later retrans (Some known) (Some word) None r le =
-      cond_both (leb (since word) now) (Some (record { at = now; retrans = retrans; probes = 0 })) None (λ (v : Option Use). now ≤ reach_due (Some word) v) (λ _. omega arith) (λ _. le)
+  used_later retrans (Some known) (Some evidence) None r le =
+      cond_both (leb (since evidence) now) (Some (record { at = now; retrans = retrans; probes = 0 })) None (λ (v : Option Use). now ≤ reach_due (Some evidence) v) (λ _. omega arith) (λ _. le)
   used_later retrans (Some known) w (Some u) r le = le
 
-  probed_later : (known : Option ℕ) (w : Option Word) (u : Option Use) (r : Option Resolution) → now ≤ due_by known w u r → now ≤ due_by known w (goes_on w u now Probed) r
+  probed_later : (known : Option ℕ) (w : Option Evidence) (u : Option Use) (r : Option Resolution) → now ≤ due_by known w u r → now ≤ due_by known w (goes_on w u now Probed) r
   probed_later None w u r le = le
   probed_later (Some known) w None r le = le
   probed_later (Some known) w (Some u) r le = omega arith
 
-  confirmed_later : (reachable : ℕ) (known : Option ℕ) (w : Option Word) (u : Option Use) (r : Option Resolution) → now ≤ due_by known w u r
+  confirmed_later : (reachable : ℕ) (known : Option ℕ) (w : Option Evidence) (u : Option Use) (r : Option Resolution) → now ≤ due_by known w u r
       → let said = says true known w now (Confirmed reachable) in now ≤ due_by known (or_else said w) (cond (is_some said) None (goes_on w u now (Confirmed reachable))) r
   confirmed_later reachable None w u r le = le
   confirmed_later reachable (Some known) w u r le = omega arith
@@ -115,15 +115,15 @@ module _ (now : ℕ) where
 
   -- whatever happens now, what falls due for the neighbour doesn't fall due before now
   story_later : (kind : RowKind) (s : Story) → is_end kind ≡ false → (is_present s ≡ true → now ≤ due_of s) → is_present ((now, kind) ∷ s) ≡ true → now ≤ due_of ((now, kind) ∷ s)
-  story_later (Given mac mark) s e le p = given_later mac mark (mac_of s) (word_of s) (use_of s) (resolution_of s) (λ known. le (mac_present s known))
-  story_later (Advertised flags mac reachable) s e le p = rw p (advertised_later flags mac reachable (mac_of s) (word_of s) (use_of s) (resolution_of s) (le p))
-  story_later (Marked router) s e le p = marked_later router (mac_of s) (word_of s) (use_of s) (resolution_of s) (le p)
-  story_later (Asked retrans) s e le p = asked_later retrans (mac_of s) (word_of s) (use_of s) (resolution_of s) (λ known. le (mac_present s known))
-  story_later Solicited s e le p = solicited_later (mac_of s) (word_of s) (use_of s) s (le p)
-  story_later (Waits packet) s e le p = waits_later packet (mac_of s) (word_of s) (use_of s) (resolution_of s) (le p)
-  story_later (Used retrans) s e le p = used_later retrans (mac_of s) (word_of s) (use_of s) (resolution_of s) (le p)
-  story_later Probed s e le p = probed_later (mac_of s) (word_of s) (use_of s) (resolution_of s) (le p)
-  story_later (Confirmed reachable) s e le p = confirmed_later reachable (mac_of s) (word_of s) (use_of s) (resolution_of s) (le p)
+  story_later (Given mac mark) s e le p = given_later mac mark (mac_of s) (evidence_of s) (use_of s) (resolution_of s) (λ known. le (mac_present s known))
+  story_later (Advertised flags mac reachable) s e le p = rw p (advertised_later flags mac reachable (mac_of s) (evidence_of s) (use_of s) (resolution_of s) (le p))
+  story_later (Marked router) s e le p = marked_later router (mac_of s) (evidence_of s) (use_of s) (resolution_of s) (le p)
+  story_later (Asked retrans) s e le p = asked_later retrans (mac_of s) (evidence_of s) (use_of s) (resolution_of s) (λ known. le (mac_present s known))
+  story_later Solicited s e le p = solicited_later (mac_of s) (evidence_of s) (use_of s) s (le p)
+  story_later (Waits packet) s e le p = waits_later packet (mac_of s) (evidence_of s) (use_of s) (resolution_of s) (le p)
+  story_later (Used retrans) s e le p = used_later retrans (mac_of s) (evidence_of s) (use_of s) (resolution_of s) (le p)
+  story_later Probed s e le p = probed_later (mac_of s) (evidence_of s) (use_of s) (resolution_of s) (le p)
+  story_later (Confirmed reachable) s e le p = confirmed_later reachable (mac_of s) (evidence_of s) (use_of s) (resolution_of s) (le p)
   story_later (Forgot why) s e le p = absurd (true≢false e)
 
 -- what happens now makes nothing fall due in the past
@@ -141,15 +141,15 @@ still_none history now key kind none = record {
         (λ _ due. absurd (true≢false (sym due.0))) (λ e. later moment k e)
 
 -- and the table says so
-pub by_table : (nodes : List Node) (history : List Row) → Stands nodes history → (now : ℕ) → NoneBefore nodes now → NoneOverdue history now
-by_table nodes history s now h = record { none = least (next_in nodes) (next_is_due nodes history s (next_in nodes) refl) h }
+pub by_table : (entries : List NeighbourEntry) (history : List Row) → Stands entries history → (now : ℕ) → NoneBefore entries now → NoneOverdue history now
+by_table entries history s now h = record { none = least (next_in entries) (next_is_due entries history s (next_in entries) refl) h }
   where
     least : (next : Option ℕ) → NextDue history next → NotBefore now next → (moment key : ℕ) → IsDue history moment key → now ≤ moment
     least None due h moment key is = absurd (due moment key is)
     least (Some next) due h moment key is = omega (arith, due.1 moment key is)
 
-pub to_table : (nodes : List Node) (history : List Row) → Stands nodes history → (now : ℕ) → NoneOverdue history now → NoneBefore nodes now
-to_table nodes history s now none = least (next_in nodes) (next_is_due nodes history s (next_in nodes) refl)
+pub to_table : (entries : List NeighbourEntry) (history : List Row) → Stands entries history → (now : ℕ) → NoneOverdue history now → NoneBefore entries now
+to_table entries history s now none = least (next_in entries) (next_is_due entries history s (next_in entries) refl)
   where
     least : (next : Option ℕ) → NextDue history next → NotBefore now next
     least None due = tt

@@ -4,10 +4,10 @@ use Rattle.std.specs.Prelude.{is_some}
 use Rattle.std.proofs.lemmas.Bool.{cond_both, true≢false}
 use Rattle.nd_neighbour.specs.declared.news.Flags.{Flags}
 use Rattle.nd_neighbour.specs.History.{Given, Advertised, Marked, Asked, Solicited, Waits, Used, Probed, Confirmed, Forgot, Story}
-use Rattle.nd_neighbour.specs.ReachabilityConfirmation.{Word}
+use Rattle.nd_neighbour.specs.ReachabilityConfirmation.{Evidence}
 use Rattle.nd_neighbour.specs.NeighborAdvertisement.{taken, advert_says}
 use Rattle.nd_neighbour.specs.AddressResolution.{Resolution, one_more, resolution_of}
-use Rattle.nd_neighbour.specs.Story.{is_present, mac_of, is_router, says, or_else, word_of}
+use Rattle.nd_neighbour.specs.Story.{is_present, mac_of, is_router, says, or_else, evidence_of}
 
 -- an absent neighbour has no address
 pub absent_mac : (s : Story) → is_present s ≡ false → mac_of s ≡ None
@@ -66,29 +66,29 @@ some_either : {X : Type 0} (a b : Option X) → is_some b ≡ true → is_some (
 some_either None b h = h
 some_either (Some x) b h = refl
 
-given_word : (at mac : ℕ) (known : Option ℕ) (w : Option Word) → (is_some known ≡ true → is_some w ≡ true) → is_some (or_else (says true known w at (Given mac None)) w) ≡ true
-given_word at mac None w ih = refl
-given_word at mac (Some known) w ih = some_either _ w (ih refl)
+given_evidence : (at mac : ℕ) (known : Option ℕ) (w : Option Evidence) → (is_some known ≡ true → is_some w ≡ true) → is_some (or_else (says true known w at (Given mac None)) w) ≡ true
+given_evidence at mac None w ih = refl
+given_evidence at mac (Some known) w ih = some_either _ w (ih refl)
 
-advert_word : (at reachable : ℕ) (flags : Flags) (mac known : Option ℕ) (w : Option Word) → (is_some known ≡ true → is_some w ≡ true) → is_some (taken flags.overrides mac known) ≡ true → is_some (or_else (advert_says flags mac reachable known w at) w) ≡ true
-advert_word at reachable flags None None w ih h = absurd (true≢false (sym h))
-advert_word at reachable flags (Some mac) None w ih h = cond_both flags.solicited (Some _) _ (λ o. is_some (or_else o w) ≡ true) (λ _. refl) (λ _. refl)
-advert_word at reachable flags mac (Some known) w ih h = some_either _ w (ih refl)
+advert_evidence : (at reachable : ℕ) (flags : Flags) (mac known : Option ℕ) (w : Option Evidence) → (is_some known ≡ true → is_some w ≡ true) → is_some (taken flags.overrides mac known) ≡ true → is_some (or_else (advert_says flags mac reachable known w at) w) ≡ true
+advert_evidence at reachable flags None None w ih h = absurd (true≢false (sym h))
+advert_evidence at reachable flags (Some mac) None w ih h = cond_both flags.solicited (Some _) _ (λ o. is_some (or_else o w) ≡ true) (λ _. refl) (λ _. refl)
+advert_evidence at reachable flags mac (Some known) w ih h = some_either _ w (ih refl)
 
 -- an address is known only where something was said
-pub known_word : (s : Story) → is_some (mac_of s) ≡ true → is_some (word_of s) ≡ true
-known_word [] h = absurd (true≢false (sym h))
-known_word ((at, Given mac mark) ∷ s) h = given_word at mac (mac_of s) (word_of s) (known_word s)
-known_word ((at, Advertised flags mac reachable) ∷ s) h =
+pub known_evidence : (s : Story) → is_some (mac_of s) ≡ true → is_some (evidence_of s) ≡ true
+known_evidence [] h = absurd (true≢false (sym h))
+known_evidence ((at, Given mac mark) ∷ s) h = given_evidence at mac (mac_of s) (evidence_of s) (known_evidence s)
+known_evidence ((at, Advertised flags mac reachable) ∷ s) h =
     cond_both (is_present s) (taken flags.overrides mac (mac_of s)) None
-    (λ o. is_some o ≡ true → is_some (or_else (cond (is_present s) (advert_says flags mac reachable (mac_of s) (word_of s) at) None) (word_of s)) ≡ true)
-    (λ p k. rw p (advert_word at reachable flags mac (mac_of s) (word_of s) (known_word s) k))
+    (λ o. is_some o ≡ true → is_some (or_else (cond (is_present s) (advert_says flags mac reachable (mac_of s) (evidence_of s) at) None) (evidence_of s)) ≡ true)
+    (λ p k. rw p (advert_evidence at reachable flags mac (mac_of s) (evidence_of s) (known_evidence s) k))
     (λ _ k. absurd (true≢false (sym k))) h
-known_word ((at, Marked router) ∷ s) h = known_word s h
-known_word ((at, Asked retrans) ∷ s) h = known_word s h
-known_word ((at, Solicited) ∷ s) h = known_word s h
-known_word ((at, Waits packet) ∷ s) h = known_word s h
-known_word ((at, Used retrans) ∷ s) h = known_word s h
-known_word ((at, Probed) ∷ s) h = known_word s h
-known_word ((at, Confirmed reachable) ∷ s) h = some_either _ (word_of s) (known_word s h)
-known_word ((at, Forgot why) ∷ s) h = known_word s h
+known_evidence ((at, Marked router) ∷ s) h = known_evidence s h
+known_evidence ((at, Asked retrans) ∷ s) h = known_evidence s h
+known_evidence ((at, Solicited) ∷ s) h = known_evidence s h
+known_evidence ((at, Waits packet) ∷ s) h = known_evidence s h
+known_evidence ((at, Used retrans) ∷ s) h = known_evidence s h
+known_evidence ((at, Probed) ∷ s) h = known_evidence s h
+known_evidence ((at, Confirmed reachable) ∷ s) h = some_either _ (evidence_of s) (known_evidence s h)
+known_evidence ((at, Forgot why) ∷ s) h = known_evidence s h

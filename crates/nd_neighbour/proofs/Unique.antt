@@ -4,16 +4,16 @@ use Rattle.std.specs.Prelude.{is_some, ◌||◌, ◌↔◌}
 use Rattle.std.proofs.lemmas.Bool.Decides.{nat_tests}
 use Rattle.std.proofs.lemmas.Bool.{cond-false, true≢false}
 use Rattle.nd_neighbour.specs.History.{Row, story}
-use Rattle.nd_neighbour.specs.Entry.{Node}
-use Rattle.nd_neighbour.specs.Story.{is_present, the_node}
+use Rattle.nd_neighbour.specs.Entry.{NeighbourEntry}
+use Rattle.nd_neighbour.specs.Story.{is_present, the_entry}
 use Rattle.nd_neighbour.specs.Table.{address, Stands}
 use Rattle.nd_neighbour.specs.Due.{Falls, falling, FirstDue}
 use Rattle.nd_neighbour.specs.Place.{IsStale, IsLongestStale, stalest, NoPlace, WouldBeFull}
-use Rattle.nd_neighbour.proofs.Steps.{node_absent}
+use Rattle.nd_neighbour.proofs.Steps.{entry_absent}
 use Rattle.nd_table.proofs.Unique.{one_list}
 use Rattle.nd_neighbour.proofs.Entering.{none_is_stale, some_stale}
 
-pub one_table : (history : List Row) (a b : List Node) → Stands a history → Stands b history → a ≡ b
+pub one_table : (history : List Row) (a b : List NeighbourEntry) → Stands a history → Stands b history → a ≡ b
 one_table history a b s t = one_list address a b s.order t.order (λ key. s.each key ∙ sym (t.each key))
 
 pub one_due : (history : List Row) (moment : ℕ) (a b : Option Falls) → FirstDue history moment a → FirstDue history moment b → a ≡ b
@@ -31,32 +31,32 @@ one_longest history now a b h k = elim (h.longest b k.stale) [
 ]
 
 -- there is no place by what is kept exactly where there is none by the history
-no_stalest : (limit now : ℕ) (ns : List Node) (b : Bool) (o : Option Node) → (b || is_some o) ≡ false → (b ≡ false) × (o ≡ None)
+no_stalest : (limit now : ℕ) (ns : List NeighbourEntry) (b : Bool) (o : Option NeighbourEntry) → (b || is_some o) ≡ false → (b ≡ false) × (o ≡ None)
 no_stalest limit now ns true o h = absurd (true≢false h)
 no_stalest limit now ns false None h = (refl, refl)
 no_stalest limit now ns false (Some n) h = absurd (true≢false h)
 
-none_left : (nodes : List Node) (history : List Row) → Stands nodes history → (now : ℕ) → ((k : ℕ) → IsStale history now k → ⊥) → (o : Option Node) → stalest now nodes ≡ o → is_some o ≡ false
-none_left nodes history s now none None is = refl
-none_left nodes history s now none (Some n) is = absurd (none n.key (some_stale nodes history s now n is))
+none_left : (entries : List NeighbourEntry) (history : List Row) → Stands entries history → (now : ℕ) → ((k : ℕ) → IsStale history now k → ⊥) → (o : Option NeighbourEntry) → stalest now entries ≡ o → is_some o ≡ false
+none_left entries history s now none None is = refl
+none_left entries history s now none (Some n) is = absurd (none n.key (some_stale entries history s now n is))
 
-pub full_by_history : (limit now key : ℕ) (nodes : List Node) (history : List Row) → Stands nodes history → NoPlace limit now key nodes ↔ WouldBeFull limit now key history
-full_by_history limit now key nodes history s = (
+pub full_by_history : (limit now key : ℕ) (entries : List NeighbourEntry) (history : List Row) → Stands entries history → NoPlace limit now key entries ↔ WouldBeFull limit now key history
+full_by_history limit now key entries history s = (
   (λ no_place.
-      let parts = no_stalest limit now nodes (ltb (length nodes) limit) (stalest now nodes) no_place.1 in
-      let many : limit ≤ length nodes = grind (arith, nat_tests, parts.0) in
+      let parts = no_stalest limit now entries (ltb (length entries) limit) (stalest now entries) no_place.1 in
+      let many : limit ≤ length entries = grind (arith, nat_tests, parts.0) in
       record {
-        absent = node_absent key (story key history) (sym (s.each key) ∙ no_place.0);
-        nodes = nodes;
+        absent = entry_absent key (story key history) (sym (s.each key) ∙ no_place.0);
+        entries = entries;
         those = s;
         many = many;
-        none_stale = none_is_stale nodes history s now parts.1;
+        none_stale = none_is_stale entries history s now parts.1;
       }),
   (λ full.
-      let same : full.nodes ≡ nodes = one_table history full.nodes nodes full.those s in
-      let many : limit ≤ length nodes = subst (λ (l : List Node). limit ≤ length l) same full.many in
-      let few : ltb (length nodes) limit ≡ false = grind (arith, nat_tests, many) in (
-        s.each key ∙ cond-false (is_present (story key history)) (Some (the_node key (story key history))) None full.absent,
-        ap (λ b. b || is_some (stalest now nodes)) few ∙ none_left nodes history s now full.none_stale (stalest now nodes) refl,
+      let same : full.entries ≡ entries = one_table history full.entries entries full.those s in
+      let many : limit ≤ length entries = subst (λ (l : List NeighbourEntry). limit ≤ length l) same full.many in
+      let few : ltb (length entries) limit ≡ false = grind (arith, nat_tests, many) in (
+        s.each key ∙ cond-false (is_present (story key history)) (Some (the_entry key (story key history))) None full.absent,
+        ap (λ b. b || is_some (stalest now entries)) few ∙ none_left entries history s now full.none_stale (stalest now entries) refl,
       )),
 )

@@ -3,7 +3,7 @@ use Rattle.std.specs.Prelude.{ℕ, ◌-◌, ◌+◌, Option, Some, None, [], ◌
 use Rattle.circular_buffer.specs.Buffer.{keep_last}
 use Rattle.nd_packet.specs.Waiting.{max_waiting}
 use Rattle.nd_neighbour.specs.History.{Asked, Solicited, Story, Waits}
-use Rattle.nd_neighbour.specs.Entry.{Node, Resolving}
+use Rattle.nd_neighbour.specs.Entry.{NeighbourEntry, Resolving}
 
 -- MAX_MULTICAST_SOLICIT: how many solicitations a resolution sends, the first included (RFC 4861, section 10)
 abbrev pub max_multicast_solicit : ℕ
@@ -58,6 +58,6 @@ resolution_due None = 0
 resolution_due (Some r) = r.at + (r.more + 1) * r.retrans
 
 -- a resolution begins with a packet that waits
-abbrev pub asked_node : ℕ → ℕ → ℕ → List ℕ → Node
-asked_node key at retrans packet =
+abbrev pub asked_entry : ℕ → ℕ → ℕ → List ℕ → NeighbourEntry
+asked_entry key at retrans packet =
     record { key = key; router = false; due = at + retrans; stage = Resolving retrans 0 (packet ∷ []) }

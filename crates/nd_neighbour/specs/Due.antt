@@ -3,7 +3,7 @@ use Rattle.std.specs.Prelude.{ℕ, List, nat_lt, if◌then◌else◌, [], Some, 
 use Rattle.std.specs.List.{remove}
 use Rattle.nd_table.specs.Due.{least_date, first_at, NotBefore}
 use Rattle.nd_neighbour.specs.History.{Row, story, Story, Solicited, Probed, Forgot, Failed, Aged}
-use Rattle.nd_neighbour.specs.Entry.{Stage, Resolving, Known, Node}
+use Rattle.nd_neighbour.specs.Entry.{Stage, Resolving, Known, NeighbourEntry}
 use Rattle.nd_neighbour.specs.AddressResolution.{max_more, Resolution, more_in, resolution_of, waiting_of}
 use Rattle.nd_neighbour.specs.UnreachabilityDetection.{max_unicast_solicit, Use}
 use Rattle.nd_neighbour.specs.Story.{is_present, due_of, mac_of, use_of}
@@ -64,7 +64,7 @@ falls_to key (Known mac confirmed since None) = Ages key
 falls_to key (Known mac confirmed since (Some probing)) = if nat_lt probing.sent max_unicast_solicit then Unicasts key mac else Fails key []
 
 -- what falls due for the neighbour at its moment
-abbrev pub falls : Node → Falls
+abbrev pub falls : NeighbourEntry → Falls
 falls n = falls_to n.key n.stage
 
 -- it is a solicitation, and the entry stays
@@ -75,7 +75,7 @@ stays (Fails key packets) = false
 stays (Ages key) = false
 
 -- a solicitation that was due is sent: one more was, and the next falls due a RetransTimer later
-abbrev pub solicited_to : Stage → ℕ → Node → Node
+abbrev pub solicited_to : Stage → ℕ → NeighbourEntry → NeighbourEntry
 solicited_to (Resolving retrans sent waiting) at n =
     record { key = n.key; router = n.router; due = at + retrans; stage = Resolving retrans (sent + 1) waiting }
 solicited_to (Known mac confirmed since None) at n = n
@@ -88,24 +88,24 @@ solicited_to (Known mac confirmed since (Some probing)) at n =
     }
 
 -- the same of a neighbour
-abbrev pub solicited : ℕ → Node → Node
+abbrev pub solicited : ℕ → NeighbourEntry → NeighbourEntry
 solicited at n = solicited_to n.stage at n
 
 -- the moment at which something falls due for it
-abbrev pub date_of : Node → Option ℕ
+abbrev pub date_of : NeighbourEntry → Option ℕ
 date_of n = Some n.due
 
 -- the least moment of a list
-abbrev pub next_in : List Node → Option ℕ
-next_in nodes = least_date date_of nodes
+abbrev pub next_in : List NeighbourEntry → Option ℕ
+next_in entries = least_date date_of entries
 
 -- the first of a list for which something falls due at the moment
-abbrev pub due_in : ℕ → List Node → Option Node
-due_in now nodes = first_at date_of now nodes
+abbrev pub due_in : ℕ → List NeighbourEntry → Option NeighbourEntry
+due_in now entries = first_at date_of now entries
 
 -- nothing fell due before the moment
-abbrev pub NoneBefore : List Node → ℕ → Type 0
-NoneBefore nodes now = NotBefore now (next_in nodes)
+abbrev pub NoneBefore : List NeighbourEntry → ℕ → Type 0
+NoneBefore entries now = NotBefore now (next_in entries)
 
 -- how many turns a neighbour can still take, where nothing else happens
 abbrev pub turns_to : Stage → ℕ
@@ -113,16 +113,16 @@ turns_to (Resolving retrans sent waiting) = max_more - sent + 1
 turns_to (Known mac confirmed since None) = 1
 turns_to (Known mac confirmed since (Some probing)) = max_unicast_solicit - probing.sent + 1
 
-abbrev pub turns_left : List Node → ℕ
+abbrev pub turns_left : List NeighbourEntry → ℕ
 turns_left [] = 0
-turns_left (n ∷ nodes) = turns_to n.stage + turns_left nodes
+turns_left (n ∷ entries) = turns_to n.stage + turns_left entries
 
 -- the first neighbour of a list for which something falls due takes a turn: it stays with one more solicitation, or goes
-pub record Turns (now : ℕ) (old new : List Node) (what : Falls) : Type 0 where
+pub record Turns (now : ℕ) (old new : List NeighbourEntry) (what : Falls) : Type 0 where
   pub at : ℕ
-  pub node : Node
+  pub entry : NeighbourEntry
   pub within : at < length old
-  pub is : node ≡ slice_index_or old at node
-  pub first : due_in now old ≡ Some node
-  pub falls_is : what ≡ falls node
-  pub new_is : new ≡ (if stays (falls node) then slice_set old at (solicited now node) else remove old at)
+  pub is : entry ≡ slice_index_or old at entry
+  pub first : due_in now old ≡ Some entry
+  pub falls_is : what ≡ falls entry
+  pub new_is : new ≡ (if stays (falls entry) then slice_set old at (solicited now entry) else remove old at)

@@ -15,7 +15,7 @@ pub data Stage : Type 0 where
   Known : (mac : ℕ) (confirmed : Bool) (since : ℕ) (probing : Option Probing) → Stage
 
 -- a neighbour: its address, its mark, the moment at which something falls due, and the rest
-pub record Node : Type 0 where
+pub record NeighbourEntry : Type 0 where
   pub key : ℕ
   pub router : Bool
   pub due : ℕ
@@ -32,7 +32,7 @@ waiting_in (Resolving retrans sent waiting) = waiting
 waiting_in (Known mac confirmed since probing) = []
 
 -- what is released: where an address is known after the change, all that waited
-abbrev pub released : Node → Node → List (List ℕ)
+abbrev pub released : NeighbourEntry → NeighbourEntry → List (List ℕ)
 released old new = if is_some (known_mac new.stage) then waiting_in old.stage else []
 
 -- the neighbour is reachable at the moment
@@ -41,14 +41,14 @@ is_reachable (Resolving retrans sent waiting) t = false
 is_reachable (Known mac confirmed since probing) t = confirmed && nat_lt t since
 
 -- a message says whether it is a router
-abbrev pub with_mark : Bool → Node → Node
+abbrev pub with_mark : Bool → NeighbourEntry → NeighbourEntry
 with_mark router n = record { key = n.key; router = router; due = n.due; stage = n.stage }
 
 -- the address is known from now on, and nothing says that the neighbour is reachable
-abbrev pub stale_node : ℕ → Bool → ℕ → ℕ → Node
-stale_node key router at mac = record { key = key; router = router; due = at + stale_lifetime; stage = Known mac false at None }
+abbrev pub stale_entry : ℕ → Bool → ℕ → ℕ → NeighbourEntry
+stale_entry key router at mac = record { key = key; router = router; due = at + stale_lifetime; stage = Known mac false at None }
 
 -- the neighbour is reachable until the ReachableTime is over
-abbrev pub reachable_node : ℕ → Bool → ℕ → ℕ → ℕ → Node
-reachable_node key router at mac reachable =
+abbrev pub reachable_entry : ℕ → Bool → ℕ → ℕ → ℕ → NeighbourEntry
+reachable_entry key router at mac reachable =
     record { key = key; router = router; due = at + reachable + stale_lifetime; stage = Known mac true (at + reachable) None }

@@ -8,7 +8,7 @@ use Rattle.nd_neighbour.specs.declared.news.News.{News}
 use Rattle.nd_neighbour.specs.declared.news.News.TheVariants as news
 use Rattle.nd_neighbour.specs.declared.news.Times.{Times}
 use Rattle.nd_neighbour.specs.History.{RowKind, Given, Advertised, Marked, Story, Row, story}
-use Rattle.nd_neighbour.specs.Entry.{Node, known_mac, released}
+use Rattle.nd_neighbour.specs.Entry.{NeighbourEntry, known_mac, released}
 use Rattle.nd_neighbour.specs.Story.{mac_of, waits_of, is_router}
 use Rattle.nd_neighbour.specs.Table.{Stands}
 use Rattle.nd_neighbour.specs.Place.{Prepares}
@@ -38,7 +38,7 @@ lets_enter (news.Advert addr flags mac) = false
 lets_enter (news.Marked addr router) = false
 
 -- whatever history old stands for, new stands for it with the row of the news, and with what makes place before
-abbrev pub GainsNews : ℕ → ℕ → News → Times → List Node → List Node → Type 0
+abbrev pub GainsNews : ℕ → ℕ → News → Times → List NeighbourEntry → List NeighbourEntry → Type 0
 GainsNews limit now n times old new =
     GainsRowsMakingPlace Stands old new (Prepares limit now (lets_enter n) (news_key n)) (λ history made. (now, news_key n, news_row n times) ∷ made)
 
@@ -51,21 +51,21 @@ abbrev pub ends_router : ℕ → RowKind → Story → Bool
 ends_router at kind s = is_router s && not (is_router ((at, kind) ∷ s))
 
 -- what is told of news is what the history says
-pub record Tells (now key : ℕ) (kind : RowKind) (old : List Node) (packets : List (List ℕ)) (turned : Bool) : Type 0 where
+pub record Tells (now key : ℕ) (kind : RowKind) (old : List NeighbourEntry) (packets : List (List ℕ)) (turned : Bool) : Type 0 where
   pub released : (history : List Row) → Stands old history → packets ≡ released_by now kind (story key history)
   pub turned_is : (history : List Row) → Stands old history → turned ≡ ends_router now kind (story key history)
 
 -- what the news release, by what is kept
-abbrev pub told_released : (Node → Node) → Option Node → List (List ℕ)
+abbrev pub told_released : (NeighbourEntry → NeighbourEntry) → Option NeighbourEntry → List (List ℕ)
 told_released change None = []
 told_released change (Some n) = released n (change n)
 
 -- whether the link-layer address was known before
-abbrev pub was_known : Option Node → Bool
+abbrev pub was_known : Option NeighbourEntry → Bool
 was_known None = false
 was_known (Some n) = is_some (known_mac n.stage)
 
 -- and whether they take the mark of a router away
-abbrev pub told_turned : (Node → Node) → Option Node → Bool
+abbrev pub told_turned : (NeighbourEntry → NeighbourEntry) → Option NeighbourEntry → Bool
 told_turned change None = false
 told_turned change (Some n) = n.router && not (change n).router

@@ -3,10 +3,10 @@ use Rattle.std.specs.Prelude.{◌≡◌, ℕ, true, List, ◌<◌, ◌≤◌, �
 use Rattle.std.specs.List.{remove, insert}
 use Rattle.nd_neighbour.specs.declared.shown.Reachability.TheVariants.{Stale}
 use Rattle.nd_neighbour.specs.History.{Row, story, Forgot, PushedOut}
-use Rattle.nd_neighbour.specs.Entry.{Node, Stage, Resolving, Known}
+use Rattle.nd_neighbour.specs.Entry.{NeighbourEntry, Stage, Resolving, Known}
 use Rattle.nd_neighbour.specs.ReachabilityConfirmation.{since_in}
-use Rattle.nd_neighbour.specs.Story.{is_present, word_of}
-use Rattle.nd_neighbour.specs.Table.{Stands, node_in, place_in, Alters}
+use Rattle.nd_neighbour.specs.Story.{is_present, evidence_of}
+use Rattle.nd_neighbour.specs.Table.{Stands, entry_in, place_in, Alters}
 use Rattle.nd_neighbour.specs.Shown.{state_of}
 
 -- the neighbour is present and STALE at the moment
@@ -15,7 +15,7 @@ IsStale history now key = (is_present (story key history) ≡ true) × (state_of
 
 -- since when it isn't known to be reachable
 abbrev pub stale_since : List Row → ℕ → ℕ
-stale_since history key = since_in (word_of (story key history))
+stale_since history key = since_in (evidence_of (story key history))
 
 -- no other one is stale for longer, and none of a lower address for as long
 pub record IsLongestStale (history : List Row) (now key : ℕ) : Type 0 where
@@ -25,8 +25,8 @@ pub record IsLongestStale (history : List Row) (now key : ℕ) : Type 0 where
 -- what a new neighbour adds before it: nothing where there are fewer than the limit, else the end of the one that
 -- is stale for longest
 pub data MakesPlace (limit now : ℕ) (history made : List Row) : Type 0 where
-  HadPlace : (nodes : List Node) → Stands nodes history → length nodes < limit → made ≡ history → MakesPlace limit now history made
-  Pushed : (nodes : List Node) (key : ℕ) → Stands nodes history → limit ≤ length nodes → IsLongestStale history now key → made ≡ (now, key, Forgot PushedOut) ∷ history → MakesPlace limit now history made
+  HadPlace : (entries : List NeighbourEntry) → Stands entries history → length entries < limit → made ≡ history → MakesPlace limit now history made
+  Pushed : (entries : List NeighbourEntry) (key : ℕ) → Stands entries history → limit ≤ length entries → IsLongestStale history now key → made ≡ (now, key, Forgot PushedOut) ∷ history → MakesPlace limit now history made
 
 -- what comes before a row of the neighbour, which may be one that lets it enter
 abbrev pub Prepares : ℕ → ℕ → Bool → ℕ → List Row → List Row → Type 0
@@ -41,9 +41,9 @@ pushing now (Some key) history = (now, key, Forgot PushedOut) ∷ history
 -- a new neighbour has no place: it isn't present, there are as many as there may be, and none is stale
 pub record WouldBeFull (limit now key : ℕ) (history : List Row) : Type 0 where
   pub absent : is_present (story key history) ≡ false
-  pub nodes : List Node
-  pub those : Stands nodes history
-  pub many : limit ≤ length nodes
+  pub entries : List NeighbourEntry
+  pub those : Stands entries history
+  pub many : limit ≤ length entries
   pub none_stale : (k : ℕ) → IsStale history now k → ⊥
 
 -- the same of what is kept
@@ -57,49 +57,49 @@ since_of (Resolving retrans sent waiting) = 0
 since_of (Known mac confirmed since probing) = since
 
 -- the one of two that isn't reachable for longer, at a tie the first
-abbrev pub longer : Option Node → Option Node → Option Node
+abbrev pub longer : Option NeighbourEntry → Option NeighbourEntry → Option NeighbourEntry
 longer None other = other
 longer (Some n) None = Some n
 longer (Some n) (Some m) = if nat_lt (since_of m.stage) (since_of n.stage) then Some m else Some n
 
-abbrev pub if_stale : ℕ → Node → Option Node
+abbrev pub if_stale : ℕ → NeighbourEntry → Option NeighbourEntry
 if_stale now n = if is_stale n.stage now then Some n else None
 
 -- the one of a list that is stale for longest
-abbrev pub stalest : ℕ → List Node → Option Node
+abbrev pub stalest : ℕ → List NeighbourEntry → Option NeighbourEntry
 stalest now [] = None
-stalest now (n ∷ nodes) = longer (if_stale now n) (stalest now nodes)
+stalest now (n ∷ entries) = longer (if_stale now n) (stalest now entries)
 
 -- there is place for one more, or one that makes place
-abbrev pub has_place : ℕ → ℕ → List Node → Bool
-has_place limit now nodes = nat_lt (length nodes) limit || is_some (stalest now nodes)
+abbrev pub has_place : ℕ → ℕ → List NeighbourEntry → Bool
+has_place limit now entries = nat_lt (length entries) limit || is_some (stalest now entries)
 
 -- a new neighbour has no place in the list
-abbrev pub NoPlace : ℕ → ℕ → ℕ → List Node → Type 0
-NoPlace limit now key nodes = (node_in key nodes ≡ None) × (has_place limit now nodes ≡ false)
+abbrev pub NoPlace : ℕ → ℕ → ℕ → List NeighbourEntry → Type 0
+NoPlace limit now key entries = (entry_in key entries ≡ None) × (has_place limit now entries ≡ false)
 
 -- the list with place for one more
-pub data Places (limit now : ℕ) (old new : List Node) : Type 0 where
+pub data Places (limit now : ℕ) (old new : List NeighbourEntry) : Type 0 where
   Enough : length old < limit → new ≡ old → Places limit now old new
-  Went : (at : ℕ) (node : Node) → limit ≤ length old → at < length old → node ≡ slice_index_or old at node → stalest now old ≡ Some node → new ≡ remove old at → Places limit now old new
+  Went : (at : ℕ) (entry : NeighbourEntry) → limit ≤ length old → at < length old → entry ≡ slice_index_or old at entry → stalest now old ≡ Some entry → new ≡ remove old at → Places limit now old new
 
 -- the list with a new one in its place, for which another one may have gone
-pub record Enters (limit now : ℕ) (m : Node) (old new : List Node) : Type 0 where
-  pub mid : List Node
+pub record Enters (limit now : ℕ) (m : NeighbourEntry) (old new : List NeighbourEntry) : Type 0 where
+  pub mid : List NeighbourEntry
   pub places : Places limit now old mid
   pub new_is : new ≡ insert mid (place_in m.key mid) m
 
 -- the neighbour at a place that may be missing
-abbrev pub picked : List Node → Option ℕ → Option Node
-picked nodes None = None
-picked nodes (Some i) = slice_get nodes i
+abbrev pub picked : List NeighbourEntry → Option ℕ → Option NeighbourEntry
+picked entries None = None
+picked entries (Some i) = slice_get entries i
 
 -- the same where it is stale
-abbrev pub picked_stale : ℕ → Option Node → Option Node
+abbrev pub picked_stale : ℕ → Option NeighbourEntry → Option NeighbourEntry
 picked_stale now None = None
 picked_stale now (Some n) = if_stale now n
 
 -- the list with the neighbour changed where it is there, and else with a new one in its place
-pub data Gives (limit now key : ℕ) (change : Node → Node) (m : Node) (old new : List Node) : Type 0 where
-  Was : (node : Node) → node_in key old ≡ Some node → Alters key change old new → Gives limit now key change m old new
-  Came : (mid : List Node) → node_in key old ≡ None → Places limit now old mid → new ≡ insert mid (place_in m.key mid) m → Gives limit now key change m old new
+pub data Gives (limit now key : ℕ) (change : NeighbourEntry → NeighbourEntry) (m : NeighbourEntry) (old new : List NeighbourEntry) : Type 0 where
+  Was : (entry : NeighbourEntry) → entry_in key old ≡ Some entry → Alters key change old new → Gives limit now key change m old new
+  Came : (mid : List NeighbourEntry) → entry_in key old ≡ None → Places limit now old mid → new ≡ insert mid (place_in m.key mid) m → Gives limit now key change m old new

@@ -1,38 +1,38 @@
 -- When a neighbour was confirmed as reachable, and what disturbs that (RFC 4861, sections 7.2.5 and 7.3.1).
 use Rattle.std.specs.Prelude.{ℕ, ◌+◌, nat_lt, Bool, false, Option, Some, true, None}
-use Rattle.nd_neighbour.specs.Entry.{Node, Stage, Resolving, Known, reachable_node}
+use Rattle.nd_neighbour.specs.Entry.{NeighbourEntry, Stage, Resolving, Known, reachable_entry}
 
 -- a confirmation at a moment, which holds for a ReachableTime, or a disturbance at a moment
-pub data Word : Type 0 where
-  Confirms : (at reachable : ℕ) → Word
-  Disturbs : (at : ℕ) → Word
+pub data Evidence : Type 0 where
+  Confirms : (at reachable : ℕ) → Evidence
+  Disturbs : (at : ℕ) → Evidence
 
 -- from when on the neighbour is no longer known to be reachable: the confirmation's end, or the disturbance
-abbrev pub since : Word → ℕ
+abbrev pub since : Evidence → ℕ
 since (Confirms at reachable) = at + reachable
 since (Disturbs at) = at
 
 -- it is reachable at the moment: its address is known, and the last word is a confirmation that still holds
-abbrev pub holds : Option ℕ → Option Word → ℕ → Bool
+abbrev pub holds : Option ℕ → Option Evidence → ℕ → Bool
 holds (Some mac) (Some (Confirms at reachable)) t = nat_lt t (at + reachable)
 holds _ _ t = false
 
 -- the last word is a confirmation
-abbrev pub is_confirmed : Option Word → Bool
+abbrev pub is_confirmed : Option Evidence → Bool
 is_confirmed None = false
 is_confirmed (Some (Confirms at reachable)) = true
 is_confirmed (Some (Disturbs at)) = false
 
 -- from when on it is no longer known to be reachable, by the last word
-abbrev pub since_in : Option Word → ℕ
+abbrev pub since_in : Option Evidence → ℕ
 since_in None = 0
-since_in (Some word) = since word
+since_in (Some evidence) = since evidence
 
 -- what an upper layer's confirmation makes of what is kept: in INCOMPLETE nothing, else it is REACHABLE
-abbrev pub confirmed_to : Stage → ℕ → ℕ → Node → Node
+abbrev pub confirmed_to : Stage → ℕ → ℕ → NeighbourEntry → NeighbourEntry
 confirmed_to (Resolving retrans sent waiting) at reachable n = n
-confirmed_to (Known mac confirmed since probing) at reachable n = reachable_node n.key n.router at mac reachable
+confirmed_to (Known mac confirmed since probing) at reachable n = reachable_entry n.key n.router at mac reachable
 
 -- the same of a neighbour
-abbrev pub confirmed : ℕ → ℕ → Node → Node
+abbrev pub confirmed : ℕ → ℕ → NeighbourEntry → NeighbourEntry
 confirmed at reachable n = confirmed_to n.stage at reachable n

@@ -2,9 +2,9 @@
 use Rattle.std.specs.Prelude.{ℕ, true, List, Option, MatchOption, nat_lt, Bool, ◌&&◌, ◌||◌, not, ◌==◌, length, is_some, ◌+◌, Some, None, if◌then◌else◌, ◌≡◌}
 use Rattle.std.specs.List.{list_any}
 use Rattle.nd_neighbour.specs.History.{Row, story}
-use Rattle.nd_neighbour.specs.Entry.{Node}
+use Rattle.nd_neighbour.specs.Entry.{NeighbourEntry}
 use Rattle.nd_neighbour.specs.Story.{is_present, mac_of}
-use Rattle.nd_neighbour.specs.Table.{node_in}
+use Rattle.nd_neighbour.specs.Table.{entry_in}
 use Rattle.nd_neighbour.specs.Place.{Prepares, WouldBeFull, is_stale, since_of, stalest, has_place, NoPlace}
 use Rattle.nd_neighbour.specs.Sending.{then_packet}
 
@@ -14,41 +14,41 @@ pub record HasRoom (limit now key : ℕ) (second : Option ℕ) (history : List R
   pub both : MatchOption second (Unit {0}) (λ next. (retrans : ℕ) (packet : List ℕ) (made : List Row) → Prepares limit now true key history made → WouldBeFull limit now next (then_packet (is_present (story key history)) (mac_of (story key history)) now key retrans packet made) → ⊥)
 
 -- The same of what is kept. This neighbour is stale after a use of the first:
-abbrev pub stays_stale : ℕ → ℕ → Node → Bool
+abbrev pub stays_stale : ℕ → ℕ → NeighbourEntry → Bool
 stays_stale key now n = is_stale n.stage now && (not (n.key == key) || nat_lt now (since_of n.stage))
 
 -- it is stale, and another one than the one that goes
-abbrev pub stale_beside : ℕ → ℕ → Node → Bool
+abbrev pub stale_beside : ℕ → ℕ → NeighbourEntry → Bool
 stale_beside gone now n = is_stale n.stage now && not (n.key == gone)
 
 -- the second has place where the first is there and is used
-abbrev pub place_beside : ℕ → ℕ → ℕ → ℕ → List Node → Bool
-place_beside limit now key next nodes =
-    is_some (node_in next nodes) || (nat_lt (length nodes) limit || list_any (stays_stale key now) nodes)
+abbrev pub place_beside : ℕ → ℕ → ℕ → ℕ → List NeighbourEntry → Bool
+place_beside limit now key next entries =
+    is_some (entry_in next entries) || (nat_lt (length entries) limit || list_any (stays_stale key now) entries)
 
 -- or where the first enters, and this one goes for it
-abbrev pub place_without : Node → ℕ → ℕ → ℕ → List Node → Bool
-place_without gone now key next nodes =
-    (key == next) || ((not (gone.key == next) && is_some (node_in next nodes)) || list_any (stale_beside gone.key now) nodes)
+abbrev pub place_without : NeighbourEntry → ℕ → ℕ → ℕ → List NeighbourEntry → Bool
+place_without gone now key next entries =
+    (key == next) || ((not (gone.key == next) && is_some (entry_in next entries)) || list_any (stale_beside gone.key now) entries)
 
 -- or where the first enters; the one that is stale for longest goes only where all places are taken
-abbrev pub place_behind : ℕ → ℕ → ℕ → ℕ → List Node → Option Node → Bool
-place_behind limit now key next nodes None = (key == next) || (is_some (node_in next nodes) || nat_lt (length nodes + 1) limit)
-place_behind limit now key next nodes (Some n) = nat_lt (length nodes) limit || place_without n now key next nodes
+abbrev pub place_behind : ℕ → ℕ → ℕ → ℕ → List NeighbourEntry → Option NeighbourEntry → Bool
+place_behind limit now key next entries None = (key == next) || (is_some (entry_in next entries) || nat_lt (length entries + 1) limit)
+place_behind limit now key next entries (Some n) = nat_lt (length entries) limit || place_without n now key next entries
 
 -- the second has place after a use of the first
-abbrev pub has_second : ℕ → ℕ → ℕ → ℕ → List Node → Bool
-has_second limit now key next nodes =
-    if is_some (node_in key nodes) then place_beside limit now key next nodes
-    else place_behind limit now key next nodes (stalest now nodes)
+abbrev pub has_second : ℕ → ℕ → ℕ → ℕ → List NeighbourEntry → Bool
+has_second limit now key next entries =
+    if is_some (entry_in key entries) then place_beside limit now key next entries
+    else place_behind limit now key next entries (stalest now entries)
 
-abbrev pub has_first : ℕ → ℕ → ℕ → List Node → Bool
-has_first limit now key nodes = is_some (node_in key nodes) || has_place limit now nodes
+abbrev pub has_first : ℕ → ℕ → ℕ → List NeighbourEntry → Bool
+has_first limit now key entries = is_some (entry_in key entries) || has_place limit now entries
 
-abbrev pub has_room : ℕ → ℕ → ℕ → Option ℕ → List Node → Bool
-has_room limit now key None nodes = has_first limit now key nodes
-has_room limit now key (Some next) nodes = has_first limit now key nodes && has_second limit now key next nodes
+abbrev pub has_room : ℕ → ℕ → ℕ → Option ℕ → List NeighbourEntry → Bool
+has_room limit now key None entries = has_first limit now key entries
+has_room limit now key (Some next) entries = has_first limit now key entries && has_second limit now key next entries
 
 -- a second one that had room before a use of the first has place after it
-pub record LeavesRoom (limit now key : ℕ) (old new : List Node) : Type 0 where
+pub record LeavesRoom (limit now key : ℕ) (old new : List NeighbourEntry) : Type 0 where
   pub has : (next : ℕ) → has_room limit now key (Some next) old ≡ true → NoPlace limit now next new → ⊥

@@ -4,7 +4,7 @@ use Rattle.circular_buffer.specs.Buffer.{keep_last}
 use Rattle.nd_table.specs.History.{GainsRowsMakingPlace}
 use Rattle.nd_neighbour.specs.declared.refusal.CacheRefusal.{CacheRefusal}
 use Rattle.nd_neighbour.specs.History.{Row, Asked, Waits, Used, story, Story}
-use Rattle.nd_neighbour.specs.Entry.{Stage, Resolving, Known, Node}
+use Rattle.nd_neighbour.specs.Entry.{Stage, Resolving, Known, NeighbourEntry}
 use Rattle.nd_packet.specs.Waiting.{max_waiting}
 use Rattle.nd_neighbour.specs.AddressResolution.{waiting_of}
 use Rattle.nd_neighbour.specs.UnreachabilityDetection.{delay_first_probe_time}
@@ -34,7 +34,7 @@ then_packet true None now key retrans packet history = (now, key, Waits packet) 
 then_packet true (Some mac) now key retrans packet history = (now, key, Used retrans) ∷ history
 
 -- whatever history old stands for, new stands for it with the rows of the packet, and with what makes place before
-abbrev pub GainsPacket : ℕ → ℕ → ℕ → ℕ → List ℕ → List Node → List Node → Type 0
+abbrev pub GainsPacket : ℕ → ℕ → ℕ → ℕ → List ℕ → List NeighbourEntry → List NeighbourEntry → Type 0
 GainsPacket limit now key retrans packet old new =
     GainsRowsMakingPlace Stands old new (Prepares limit now true key)
     (λ history made. then_packet (is_present (story key history)) (mac_of (story key history)) now key retrans packet made)
@@ -46,13 +46,13 @@ sending_to (Resolving retrans sent waiting) packet =
 sending_to (Known mac confirmed since probing) packet = Sends mac packet
 
 -- and of a neighbour that may not be there
-abbrev pub sending_in : Option Node → List ℕ → Sending
+abbrev pub sending_in : Option NeighbourEntry → List ℕ → Sending
 sending_in None packet = Queues true None
 sending_in (Some n) packet = sending_to n.stage packet
 
 -- what a packet makes of what is kept: in INCOMPLETE it waits; in STALE the first one leads to DELAY; in REACHABLE, DELAY
 -- and PROBE nothing changes
-abbrev pub used_to : Stage → ℕ → ℕ → List ℕ → Node → Node
+abbrev pub used_to : Stage → ℕ → ℕ → List ℕ → NeighbourEntry → NeighbourEntry
 used_to (Resolving retrans sent waiting) at new_retrans packet n =
     record { key = n.key; router = n.router; due = n.due; stage = Resolving retrans sent (keep_last max_waiting (waiting ++ packet ∷ [])) }
 used_to (Known mac confirmed since None) at retrans packet n =
@@ -67,7 +67,7 @@ used_to (Known mac confirmed since None) at retrans packet n =
 used_to (Known mac confirmed since (Some probing)) at retrans packet n = n
 
 -- the same of a neighbour
-abbrev pub used : ℕ → ℕ → List ℕ → Node → Node
+abbrev pub used : ℕ → ℕ → List ℕ → NeighbourEntry → NeighbourEntry
 used at retrans packet n = used_to n.stage at retrans packet n
 
 -- why a packet is refused

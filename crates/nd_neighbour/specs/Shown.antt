@@ -5,10 +5,10 @@ use Rattle.nd_neighbour.specs.declared.shown.Reachability.{Reachability}
 use Rattle.nd_neighbour.specs.declared.shown.Reachability.TheVariants.{Stale, Delay, Probe, Incomplete, Reachable}
 use Rattle.nd_neighbour.specs.declared.unreachability_detection.Probing.{Probing}
 use Rattle.nd_neighbour.specs.History.{Story, Row, story}
-use Rattle.nd_neighbour.specs.Entry.{Stage, Resolving, Known, Node, known_mac}
-use Rattle.nd_neighbour.specs.ReachabilityConfirmation.{Word, holds}
+use Rattle.nd_neighbour.specs.Entry.{Stage, Resolving, Known, NeighbourEntry, known_mac}
+use Rattle.nd_neighbour.specs.ReachabilityConfirmation.{Evidence, holds}
 use Rattle.nd_neighbour.specs.UnreachabilityDetection.{delay_first_probe_time, Use}
-use Rattle.nd_neighbour.specs.Story.{mac_of, word_of, use_of, is_present, is_router}
+use Rattle.nd_neighbour.specs.Story.{mac_of, evidence_of, use_of, is_present, is_router}
 
 -- without a use STALE; after the first use DELAY for DELAY_FIRST_PROBE_TIME, and PROBE from then on
 abbrev pub used_state : Option Use → ℕ → Reachability
@@ -16,13 +16,13 @@ used_state None t = Stale
 used_state (Some use') t = if nat_lt t (use'.at + delay_first_probe_time) then Delay else Probe
 
 -- without an address INCOMPLETE, while a confirmation holds REACHABLE
-abbrev pub state_by : Option ℕ → Option Word → Option Use → ℕ → Reachability
-state_by None word use' t = Incomplete
-state_by (Some mac) word use' t = if holds (Some mac) word t then Reachable else used_state use' t
+abbrev pub state_by : Option ℕ → Option Evidence → Option Use → ℕ → Reachability
+state_by None evidence use' t = Incomplete
+state_by (Some mac) evidence use' t = if holds (Some mac) evidence t then Reachable else used_state use' t
 
 -- the state at a moment
 abbrev pub state_of : Story → ℕ → Reachability
-state_of s t = state_by (mac_of s) (word_of s) (use_of s) t
+state_of s t = state_by (mac_of s) (evidence_of s) (use_of s) t
 
 -- a neighbour: its address, its link-layer address, its mark and its state
 pub record Seen : Type 0 where
@@ -47,7 +47,7 @@ state_in (Resolving retrans sent waiting) t = Incomplete
 state_in (Known mac confirmed since probing) t = if confirmed && nat_lt t since then Reachable else probing_state probing t
 
 -- a neighbour at the moment
-abbrev pub seen : ℕ → Node → Seen
+abbrev pub seen : ℕ → NeighbourEntry → Seen
 seen t n = record { key = n.key; mac = known_mac n.stage; router = n.router; state = state_in n.stage t }
 
 -- its address

@@ -2,9 +2,9 @@
 -- confirmation or disturbance, its first use afterwards, and what is kept of it.
 use Rattle.std.specs.Prelude.{Bool, true, false, [], ◌∷◌, ℕ, if◌then◌else◌, Option, Some, None, ◌&&◌, is_some, List}
 use Rattle.nd_neighbour.specs.History.{Given, Asked, Story, Advertised, Marked, RowKind, Confirmed}
-use Rattle.nd_neighbour.specs.Entry.{Stage, Resolving, Known, Node}
+use Rattle.nd_neighbour.specs.Entry.{Stage, Resolving, Known, NeighbourEntry}
 use Rattle.nd_neighbour.specs.LinkLayerAddress.{changes}
-use Rattle.nd_neighbour.specs.ReachabilityConfirmation.{Word, Confirms, Disturbs, is_confirmed, since_in}
+use Rattle.nd_neighbour.specs.ReachabilityConfirmation.{Evidence, Confirms, Disturbs, is_confirmed, since_in}
 use Rattle.nd_neighbour.specs.NeighborAdvertisement.{taken, conforms, advert_says}
 use Rattle.nd_neighbour.specs.AddressResolution.{waiting_of, Resolution, resolution_due, retrans_in, more_in, resolution_of}
 use Rattle.nd_neighbour.specs.UnreachabilityDetection.{Use, goes_on, reach_due, probing_of}
@@ -36,11 +36,11 @@ is_router ((at, _) ∷ s) = is_router s
 
 -- whether something that happens is a confirmation or a disturbance, of a neighbour that is present or not, with
 -- this address and this last word
-abbrev pub says : Bool → Option ℕ → Option Word → ℕ → RowKind → Option Word
-says present known word at (Given mac mark) = if changes mac known then Some (Disturbs at) else None
-says present known word at (Advertised flags mac reachable) = if present then advert_says flags mac reachable known word at else None
-says present known word at (Confirmed reachable) = if is_some known then Some (Confirms at reachable) else None
-says present known word at _ = None
+abbrev pub says : Bool → Option ℕ → Option Evidence → ℕ → RowKind → Option Evidence
+says present known evidence at (Given mac mark) = if changes mac known then Some (Disturbs at) else None
+says present known evidence at (Advertised flags mac reachable) = if present then advert_says flags mac reachable known evidence at else None
+says present known evidence at (Confirmed reachable) = if is_some known then Some (Confirms at reachable) else None
+says present known evidence at _ = None
 
 -- the first where there is one, and else the second
 abbrev pub or_else : {X : Type 0} → Option X → Option X → Option X
@@ -48,15 +48,15 @@ or_else None other = other
 or_else (Some x) other = Some x
 
 -- the last confirmation or disturbance
-abbrev pub word_of : Story → Option Word
-word_of [] = None
-word_of ((at, kind) ∷ s) = or_else (says (is_present s) (mac_of s) (word_of s) at kind) (word_of s)
+abbrev pub evidence_of : Story → Option Evidence
+evidence_of [] = None
+evidence_of ((at, kind) ∷ s) = or_else (says (is_present s) (mac_of s) (evidence_of s) at kind) (evidence_of s)
 
 -- the first use since the last word from which on it isn't reachable, with the probes since then
 abbrev pub use_of : Story → Option Use
 use_of [] = None
 use_of ((at, kind) ∷ s) =
-    if is_some (says (is_present s) (mac_of s) (word_of s) at kind) then None else goes_on (word_of s) (use_of s) at kind
+    if is_some (says (is_present s) (mac_of s) (evidence_of s) at kind) then None else goes_on (evidence_of s) (use_of s) at kind
 
 -- what waits for a neighbour whose address isn't known
 abbrev pub waits_by : Option ℕ → List (List ℕ) → List (List ℕ)
@@ -68,28 +68,28 @@ abbrev pub waits_of : Story → List (List ℕ)
 waits_of s = if is_present s then waits_by (mac_of s) (waiting_of s) else []
 
 -- the moment at which something falls due: of the resolution without an address, of reachability with one
-abbrev pub due_by : Option ℕ → Option Word → Option Use → Option Resolution → ℕ
-due_by None word use' resolution = resolution_due resolution
-due_by (Some mac) word use' resolution = reach_due word use'
+abbrev pub due_by : Option ℕ → Option Evidence → Option Use → Option Resolution → ℕ
+due_by None evidence use' resolution = resolution_due resolution
+due_by (Some mac) evidence use' resolution = reach_due evidence use'
 
 -- what is kept: of the resolution without an address, of reachability with one
-abbrev pub stage_by : Option ℕ → Option Word → Option Use → Option Resolution → List (List ℕ) → Stage
-stage_by None word use' resolution waiting = Resolving (retrans_in resolution) (more_in resolution) waiting
-stage_by (Some mac) word use' resolution waiting = Known mac (is_confirmed word) (since_in word) (probing_of use')
+abbrev pub stage_by : Option ℕ → Option Evidence → Option Use → Option Resolution → List (List ℕ) → Stage
+stage_by None evidence use' resolution waiting = Resolving (retrans_in resolution) (more_in resolution) waiting
+stage_by (Some mac) evidence use' resolution waiting = Known mac (is_confirmed evidence) (since_in evidence) (probing_of use')
 
 -- the moment at which something falls due for a neighbour that is present
 abbrev pub due_of : Story → ℕ
-due_of s = due_by (mac_of s) (word_of s) (use_of s) (resolution_of s)
+due_of s = due_by (mac_of s) (evidence_of s) (use_of s) (resolution_of s)
 
 -- what the story says of a neighbour that is present
-abbrev pub the_node : ℕ → Story → Node
-the_node key s = record {
+abbrev pub the_entry : ℕ → Story → NeighbourEntry
+the_entry key s = record {
   key = key;
   router = is_router s;
   due = due_of s;
-  stage = stage_by (mac_of s) (word_of s) (use_of s) (resolution_of s) (waiting_of s);
+  stage = stage_by (mac_of s) (evidence_of s) (use_of s) (resolution_of s) (waiting_of s);
 }
 
 -- and of one that may not be
-abbrev pub node_of : ℕ → Story → Option Node
-node_of key s = if is_present s then Some (the_node key s) else None
+abbrev pub entry_of : ℕ → Story → Option NeighbourEntry
+entry_of key s = if is_present s then Some (the_entry key s) else None

@@ -1,7 +1,8 @@
-ghost use Rattle.std.specs.Prelude.{None, true, vec_capacity, vec_len, ◌<◌, ◌^◌, ◌≡◌, ◌≤◌};
+ghost use Rattle.std.specs.Prelude.{None, true, vec_capacity, vec_len, ◌<◌, ◌≡◌, ◌≤◌};
 ghost use Rattle.nd_addr.specs.Number.{number_of};
-ghost use Rattle.nd_neighbour.specs.AddressResolution.{asked_node};
-ghost use Rattle.nd_neighbour.specs.Table.{node_in, place_in};
+ghost use Rattle.nd_table.specs.Moment.{IsMoment};
+ghost use Rattle.nd_neighbour.specs.AddressResolution.{asked_entry};
+ghost use Rattle.nd_neighbour.specs.Table.{entry_in, place_in};
 ghost use Rattle.nd_neighbour.specs.Planned.{IsPlanned};
 ghost use Rattle.nd_neighbour.specs.Place.{Gives, has_place};
 ghost use Rattle.nd_neighbour.specs.Sending.{used};
@@ -28,15 +29,15 @@ pub(crate) fn begin<A: Allocator>(
     packet: Packet<A>,
     ring: Ring<A>,
 )
-    requires moment { now < 2 ^ 62 }
-    requires absent { node_in (number_of addr.0) entries.old.items ≡ None }
+    requires moment { IsMoment now }
+    requires absent { entry_in (number_of addr.0) entries.old.items ≡ None }
     requires at { at ≡ place_in (number_of addr.0) entries.old.items }
     requires place { has_place limit now entries.old.items ≡ true }
     requires few { vec_len entries.old ≤ limit }
     requires capacity { limit ≤ vec_capacity entries.old }
     requires planned { IsPlanned entries.old.items dates.old }
     requires roomy { limit ≤ dates.old.room }
-    ensures gives { Gives limit now (number_of addr.0) (λ n. used now retrans packet n) (asked_node (number_of addr.0) now retrans packet) entries.old.items entries.new.items }
+    ensures gives { Gives limit now (number_of addr.0) (λ n. used now retrans packet n) (asked_entry (number_of addr.0) now retrans packet) entries.old.items entries.new.items }
     ensures planned { IsPlanned entries.new.items dates.new }
     ensures room { dates.new.room ≡ dates.old.room }
     ensures few { vec_len entries.new ≤ limit }
@@ -47,7 +48,7 @@ pub(crate) fn begin<A: Allocator>(
 }
 
 impl<A: Allocator> Entry<A> {
-    ghost use Rattle.nd_neighbour.specs.AddressResolution.{asked_node};
+    ghost use Rattle.nd_neighbour.specs.AddressResolution.{asked_entry};
 
     /// An entry whose resolution begins now (INCOMPLETE), with a first packet that waits. The first solicitation is sent
     /// now, the next is due a RetransTimer later (RFC 4861, section 7.2.2).
@@ -58,8 +59,8 @@ impl<A: Allocator> Entry<A> {
         packet: Packet<A>,
         ring: Ring<A>,
     ) -> Self
-        requires { now < 2 ^ 62 }
-        ensures { result ≡ asked_node (number_of addr.0) now retrans packet }
+        requires { IsMoment now }
+        ensures { result ≡ asked_entry (number_of addr.0) now retrans packet }
     {
         Entry {
             addr,

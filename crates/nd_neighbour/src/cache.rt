@@ -35,7 +35,7 @@ impl<A: Allocator> Model for Cache<A> {
 
     ghost Value = { Table };
 
-    ghost view = { λ c. record { limit = c.limit; nodes = c.entries.items; rings = length c.rings.items } };
+    ghost view = { λ c. record { limit = c.limit; entries = c.entries.items; rings = length c.rings.items } };
 
     ghost invariant = { λ c. (vec_len c.entries ≤ c.limit) × (c.limit ≤ vec_capacity c.entries) × (vec_len c.rings ≤ max_rings) × (max_rings ≤ vec_capacity c.rings) × (c.limit ≤ c.dates.room) × IsPlanned c.entries.items c.dates };
 }
@@ -47,8 +47,8 @@ impl<A: Allocator + Clone> Cache<A> {
     pub fn new(alloc: A, limit: usize) -> Result<Self, AllocError>
         requires least { 1 ≤ limit }
         requires most { limit ≤ max_neighbours }
-        ensures empty { IfOk result (λ cache. cache ≡ record { limit = limit; nodes = []; rings = 0 }) }
-        ensures stands { IfOk result (λ cache. Stands cache.nodes []) }
+        ensures empty { IfOk result (λ cache. cache ≡ record { limit = limit; entries = []; rings = 0 }) }
+        ensures stands { IfOk result (λ cache. Stands cache.entries []) }
     {
         let entries = Vec::with_capacity(alloc.clone()?, limit)?;
         let dates = Schedule::new(alloc.clone()?, limit)?;
@@ -65,14 +65,14 @@ impl<A: Allocator + Clone> Cache<A> {
 impl<A: Allocator> Cache<A> {
     ghost use Rattle.nd_neighbour.specs.History.{Row, story};
     ghost use Rattle.nd_neighbour.specs.Story.{is_present};
-    ghost use Rattle.nd_neighbour.specs.Table.{Stands, node_in};
+    ghost use Rattle.nd_neighbour.specs.Table.{Stands, entry_in};
 
     /// Returns true if a neighbour is present. `probes` counts the entries that the search looks at: at most as many as the number of
     /// neighbours has binary digits.
     pub fn find(&self, addr: Addr, probes: &mut Probes) -> bool
-        ensures value { result ≡ is_some (node_in (number_of addr.0) self.now.nodes) }
-        ensures present { (history : List Row) → Stands self.now.nodes history → result ≡ is_present (story (number_of addr.0) history) }
-        ensures looks { probes.new.looks ≤ probes.old.looks + binary_digits (length self.now.nodes) }
+        ensures value { result ≡ is_some (entry_in (number_of addr.0) self.now.entries) }
+        ensures present { (history : List Row) → Stands self.now.entries history → result ≡ is_present (story (number_of addr.0) history) }
+        ensures looks { probes.new.looks ≤ probes.old.looks + binary_digits (length self.now.entries) }
         ensures counts { probes.old.looks ≤ probes.new.looks }
     {
         let number = addr.to_bits();
@@ -81,7 +81,7 @@ impl<A: Allocator> Cache<A> {
 
     /// Returns the number of neighbours, at most as many as the cache has room for.
     pub fn len(&self) -> usize
-        ensures value { result ≡ length self.now.nodes }
+        ensures value { result ≡ length self.now.entries }
         ensures few { result ≤ self.now.limit }
     {
         self.entries.len()

@@ -1,5 +1,6 @@
-ghost use Rattle.std.specs.Prelude.{IfNone, IfSome, List, None, Some, false, if◌then◌else◌, true, vec_capacity, vec_len, ◌<◌, ◌^◌, ◌≡◌, ◌≢◌, ◌≤◌};
+ghost use Rattle.std.specs.Prelude.{IfNone, IfSome, List, None, Some, false, if◌then◌else◌, true, vec_capacity, vec_len, ◌<◌, ◌≡◌, ◌≢◌, ◌≤◌};
 ghost use Rattle.std.specs.Option.{option_map};
+ghost use Rattle.nd_table.specs.Moment.{IsMoment};
 ghost use Rattle.nd_neighbour.specs.Due.{NoneBefore, Turns, due_in};
 ghost use Rattle.nd_neighbour.specs.Planned.{IsPlanned};
 ghost use Rattle.nd_neighbour.specs.View.{falls_of};
@@ -34,8 +35,8 @@ impl<A: Allocator> Cache<A> {
 
     /// Returns the earliest moment at which something is due, in milliseconds, if there is one. It may have passed.
     pub fn next_due(&self) -> Option<u64>
-        ensures value { result ≡ next_in self.now.nodes }
-        ensures due { (history : List Row) → Stands self.now.nodes history → NextDue history result }
+        ensures value { result ≡ next_in self.now.entries }
+        ensures due { (history : List Row) → Stands self.now.entries history → NextDue history result }
     {
         self.dates.next()
     }
@@ -46,19 +47,19 @@ impl<A: Allocator> Cache<A> {
     /// Nothing may have been due before `now`. A late caller passes what `next_due` returns, until that is in the
     /// future.
     pub fn turn(&mut self, now: u64) -> Option<Due<A>>
-        requires moment { now < 2 ^ 62 }
-        requires none_before { NoneBefore self.old.nodes now }
+        requires moment { IsMoment now }
+        requires none_before { NoneBefore self.old.entries now }
 
-        ensures due { (history : List Row) → Stands self.old.nodes history → FirstDue history now (option_map (λ due. falls_of due) result) }
-        ensures gains { IfSome result (λ due. GainsRow self.old.nodes self.new.nodes (due_row now (falls_of due))) }
+        ensures due { (history : List Row) → Stands self.old.entries history → FirstDue history now (option_map (λ due. falls_of due) result) }
+        ensures gains { IfSome result (λ due. GainsRow self.old.entries self.new.entries (due_row now (falls_of due))) }
         ensures same { IfNone result (self.new ≡ self.old) }
         ensures rings { self.new.rings ≡ self.old.rings }
         ensures limit { self.new.limit ≡ self.old.limit }
 
         // Turns at one moment end.
-        ensures fewer { IfSome result (λ _. turns_left self.new.nodes < turns_left self.old.nodes) }
-        ensures none { IfNone result (next_in self.old.nodes ≢ Some now) }
-        ensures later { NoneBefore self.new.nodes now }
+        ensures fewer { IfSome result (λ _. turns_left self.new.entries < turns_left self.old.entries) }
+        ensures none { IfNone result (next_in self.old.entries ≢ Some now) }
+        ensures later { NoneBefore self.new.entries now }
     {
         turn_first(&mut self.entries, &mut self.dates, now)
     }
@@ -70,7 +71,7 @@ pub(crate) fn turn_first<A: Allocator>(
     dates: &mut Schedule<A>,
     now: u64,
 ) -> Option<Due<A>>
-    requires moment { now < 2 ^ 62 }
+    requires moment { IsMoment now }
     requires planned { IsPlanned entries.old.items dates.old }
     requires none_before { NoneBefore entries.old.items now }
     ensures turns { IfSome result (λ due. Turns now entries.old.items entries.new.items (falls_of due)) }
@@ -100,7 +101,7 @@ impl<A: Allocator> Entry<A> {
 
     /// Takes the next step of its solicitations and returns it, if one is left.
     pub(crate) fn solicit(&mut self, now: u64) -> Option<Due<A>>
-        requires { now < 2 ^ 62 }
+        requires { IsMoment now }
         ensures entry { self.new ≡ (if stays (falls self.old) then solicited now self.old else self.old) }
         ensures due { IfSome result (λ due. falls_of due ≡ falls self.old) }
         ensures some { IfSome result (λ _. stays (falls self.old) ≡ true) }

@@ -49,10 +49,10 @@ pub(crate) enum Stage<A: Allocator> {
 
 impl<A: Allocator> Model for Entry<A> {
     ghost use Rattle.nd_addr.specs.Number.{number_of};
-    ghost use Rattle.nd_neighbour.specs.Entry.{Node};
+    ghost use Rattle.nd_neighbour.specs.Entry.{NeighbourEntry};
     ghost use Rattle.nd_neighbour.specs.View.{stage_of};
 
-    ghost Value = { Node };
+    ghost Value = { NeighbourEntry };
 
     ghost view = { λ e. record { key = number_of e.addr.0; router = e.router; due = e.due; stage = stage_of e.stage } };
 }

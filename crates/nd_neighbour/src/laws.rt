@@ -11,7 +11,7 @@ ghost use Rattle.nd_neighbour.specs.News.{mac_given, news_row, released_by};
 ghost use Rattle.nd_neighbour.specs.Story.{mac_of};
 ghost use Rattle.nd_neighbour.specs.History.{Row, RowKind, Story, Waits};
 ghost use Rattle.nd_neighbour.specs.Room.{has_room};
-ghost use Rattle.nd_neighbour.specs.Entry.{Node};
+ghost use Rattle.nd_neighbour.specs.Entry.{NeighbourEntry};
 ghost use Rattle.nd_neighbour.specs.AddressResolution.{waiting_of};
 ghost use Rattle.nd_neighbour.specs.Table.{Stands};
 ghost use Rattle.nd_neighbour.specs.Due.{Falls, FirstDue, NoneBefore, NoneOverdue};
@@ -19,7 +19,7 @@ ghost use Rattle.nd_neighbour.specs.Place.{IsLongestStale, NoPlace, Prepares, Wo
 
 /// The definitions give one table, one thing that falls due first, and one neighbour that makes place.
 pub fn one_answer()
-    ensures table { (history : List Row) (a b : List Node) → Stands a history → Stands b history → a ≡ b }
+    ensures table { (history : List Row) (a b : List NeighbourEntry) → Stands a history → Stands b history → a ≡ b }
     ensures due { (history : List Row) (moment : ℕ) (a b : Option Falls) → FirstDue history moment a → FirstDue history moment b → a ≡ b }
     ensures longest { (history : List Row) (now a b : ℕ) → IsLongestStale history now a → IsLongestStale history now b → a ≡ b }
 {}
@@ -29,7 +29,7 @@ pub fn one_answer()
 /// overdue then.
 pub fn none_overdue()
     ensures still { (history : List Row) (now key : ℕ) (kind : RowKind) → NoneOverdue history now → NoneOverdue ((now, key, kind) ∷ history) now }
-    ensures table { (nodes : List Node) (history : List Row) (now : ℕ) → Stands nodes history → NoneBefore nodes now ↔ NoneOverdue history now }
+    ensures table { (entries : List NeighbourEntry) (history : List Row) (now : ℕ) → Stands entries history → NoneBefore entries now ↔ NoneOverdue history now }
 {}
 
 /// What makes place is the end of one neighbour, or nothing.
@@ -39,12 +39,12 @@ pub fn one_is_pushed_out()
 
 /// Where there is room for a neighbour, and after it for a second one, the first one has place.
 pub fn room_is_place()
-    ensures { (limit now key : ℕ) (second : Option ℕ) (nodes : List Node) → has_room limit now key second nodes ≡ true → NoPlace limit now key nodes → ⊥ }
+    ensures { (limit now key : ℕ) (second : Option ℕ) (entries : List NeighbourEntry) → has_room limit now key second entries ≡ true → NoPlace limit now key entries → ⊥ }
 {}
 
 /// A cache has no place for a new neighbour exactly where what happened leaves none.
 pub fn full_by_history()
-    ensures { (limit now key : ℕ) (nodes : List Node) (history : List Row) → Stands nodes history → NoPlace limit now key nodes ↔ WouldBeFull limit now key history }
+    ensures { (limit now key : ℕ) (entries : List NeighbourEntry) (history : List Row) → Stands entries history → NoPlace limit now key entries ↔ WouldBeFull limit now key history }
 {}
 
 /// At most three packets wait, and no packet is lost, doubled or moved where one more comes: those that waited and the

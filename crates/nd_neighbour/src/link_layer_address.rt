@@ -1,8 +1,9 @@
-ghost use Rattle.std.specs.Prelude.{IfErr, IfOk, IsErr, OnErr, OnOk, false, length, slice_get, vec_capacity, vec_len, ◌<◌, ◌^◌, ◌↔◌, ◌≡◌, ◌≤◌};
+ghost use Rattle.std.specs.Prelude.{IfErr, IfOk, IsErr, OnErr, OnOk, false, length, slice_get, vec_capacity, vec_len, ◌<◌, ◌↔◌, ◌≡◌, ◌≤◌};
 ghost use Rattle.nd_addr.specs.Number.{number_of};
-ghost use Rattle.nd_neighbour.specs.Entry.{stale_node};
+ghost use Rattle.nd_table.specs.Moment.{IsMoment};
+ghost use Rattle.nd_neighbour.specs.Entry.{stale_entry};
 ghost use Rattle.nd_neighbour.specs.LinkLayerAddress.{given, mark_or};
-ghost use Rattle.nd_neighbour.specs.Table.{node_in, Alters};
+ghost use Rattle.nd_neighbour.specs.Table.{entry_in, Alters};
 ghost use Rattle.nd_neighbour.specs.Planned.{IsPlanned};
 ghost use Rattle.nd_neighbour.specs.Place.{Gives, NoPlace};
 ghost use Rattle.nd_neighbour.specs.News.{told_released, told_turned, was_known};
@@ -27,15 +28,15 @@ pub(crate) fn give_or_enter<A: Allocator>(
     mac: Mac,
     mark: Option<bool>,
 ) -> Result<Touched<A>, CacheRefusal>
-    requires moment { now < 2 ^ 62 }
+    requires moment { IsMoment now }
     requires few { vec_len entries.old ≤ limit }
     requires capacity { limit ≤ vec_capacity entries.old }
     requires planned { IsPlanned entries.old.items dates.old }
     requires roomy { limit ≤ dates.old.room }
-    ensures gives { OnOk result (Gives limit now (number_of addr.0) (λ n. given now (number_of mac.0) mark n) (stale_node (number_of addr.0) (mark_or mark false) now (number_of mac.0)) entries.old.items entries.new.items) }
-    ensures released { IfOk result (λ touched. touched.released ≡ told_released (λ n. given now (number_of mac.0) mark n) (node_in (number_of addr.0) entries.old.items)) }
-    ensures was_known { IfOk result (λ touched. touched.was_known ≡ was_known (node_in (number_of addr.0) entries.old.items)) }
-    ensures ends_router { IfOk result (λ touched. touched.ends_router ≡ told_turned (λ n. given now (number_of mac.0) mark n) (node_in (number_of addr.0) entries.old.items)) }
+    ensures gives { OnOk result (Gives limit now (number_of addr.0) (λ n. given now (number_of mac.0) mark n) (stale_entry (number_of addr.0) (mark_or mark false) now (number_of mac.0)) entries.old.items entries.new.items) }
+    ensures released { IfOk result (λ touched. touched.released ≡ told_released (λ n. given now (number_of mac.0) mark n) (entry_in (number_of addr.0) entries.old.items)) }
+    ensures was_known { IfOk result (λ touched. touched.was_known ≡ was_known (entry_in (number_of addr.0) entries.old.items)) }
+    ensures ends_router { IfOk result (λ touched. touched.ends_router ≡ told_turned (λ n. given now (number_of mac.0) mark n) (entry_in (number_of addr.0) entries.old.items)) }
     ensures full { IsErr result ↔ NoPlace limit now (number_of addr.0) entries.old.items }
     ensures err { IfErr result (λ refusal. refusal ≡ CacheRefusal.Full) }
     ensures same { OnErr result (entries.new.items ≡ entries.old.items) }
@@ -66,14 +67,14 @@ pub(crate) fn give<A: Allocator>(
     mac: Mac,
     mark: Option<bool>,
 ) -> Touched<A>
-    requires moment { now < 2 ^ 62 }
+    requires moment { IsMoment now }
     requires within { i < length entries.old.items }
-    requires found { node_in (number_of addr.0) entries.old.items ≡ slice_get entries.old.items i }
+    requires found { entry_in (number_of addr.0) entries.old.items ≡ slice_get entries.old.items i }
     requires planned { IsPlanned entries.old.items dates.old }
     ensures alters { Alters (number_of addr.0) (λ n. given now (number_of mac.0) mark n) entries.old.items entries.new.items }
-    ensures released { result.released ≡ told_released (λ n. given now (number_of mac.0) mark n) (node_in (number_of addr.0) entries.old.items) }
-    ensures was_known { result.was_known ≡ was_known (node_in (number_of addr.0) entries.old.items) }
-    ensures ends_router { result.ends_router ≡ told_turned (λ n. given now (number_of mac.0) mark n) (node_in (number_of addr.0) entries.old.items) }
+    ensures released { result.released ≡ told_released (λ n. given now (number_of mac.0) mark n) (entry_in (number_of addr.0) entries.old.items) }
+    ensures was_known { result.was_known ≡ was_known (entry_in (number_of addr.0) entries.old.items) }
+    ensures ends_router { result.ends_router ≡ told_turned (λ n. given now (number_of mac.0) mark n) (entry_in (number_of addr.0) entries.old.items) }
     ensures planned { IsPlanned entries.new.items dates.new }
     ensures room { dates.new.room ≡ dates.old.room }
     ensures len { vec_len entries.new ≡ vec_len entries.old }
@@ -89,12 +90,12 @@ pub(crate) fn give<A: Allocator>(
 }
 
 impl<A: Allocator> Entry<A> {
-    ghost use Rattle.nd_neighbour.specs.Entry.{released, stale_node};
+    ghost use Rattle.nd_neighbour.specs.Entry.{released, stale_entry};
     ghost use Rattle.nd_neighbour.specs.LinkLayerAddress.{given};
 
     /// Its link-layer address is given (RFC 4861, sections 6.2.6, 6.3.4, 7.2.3 and 8.3).
     pub(crate) fn given(&mut self, now: u64, mac: Mac, mark: Option<bool>) -> Packets<A>
-        requires { now < 2 ^ 62 }
+        requires { IsMoment now }
         ensures entry { self.new ≡ given now (number_of mac.0) mark self.old }
         ensures released { result ≡ released self.old self.new }
     {
@@ -114,8 +115,8 @@ impl<A: Allocator> Entry<A> {
 
     /// An entry whose link-layer address is known and not confirmed (STALE).
     pub(crate) fn stale(addr: Addr, router: bool, now: u64, mac: Mac) -> Self
-        requires { now < 2 ^ 62 }
-        ensures { result ≡ stale_node (number_of addr.0) router now (number_of mac.0) }
+        requires { IsMoment now }
+        ensures { result ≡ stale_entry (number_of addr.0) router now (number_of mac.0) }
     {
         Entry {
             addr,

@@ -1,8 +1,9 @@
 ghost use Rattle.std.specs.Prelude.{[], if◌then◌else◌, vec_capacity, vec_len, ◌<◌, ◌^◌, ◌||◌, ◌≡◌};
 ghost use Rattle.std.specs.Option.{option_map};
 ghost use Rattle.nd_addr.specs.Number.{number_of};
+ghost use Rattle.nd_table.specs.Moment.{IsMoment};
 ghost use Rattle.nd_neighbour.specs.NeighborAdvertisement.{advertised};
-ghost use Rattle.nd_neighbour.specs.Table.{node_in, Alters};
+ghost use Rattle.nd_neighbour.specs.Table.{entry_in, Alters};
 ghost use Rattle.nd_neighbour.specs.Planned.{IsPlanned};
 ghost use Rattle.nd_neighbour.specs.News.{told_released, told_turned, was_known};
 
@@ -23,13 +24,13 @@ pub(crate) fn advertise<A: Allocator>(
     mac: Option<Mac>,
     reachable: u64,
 ) -> Touched<A>
-    requires moment { now < 2 ^ 62 }
+    requires moment { IsMoment now }
     requires span { reachable < 2 ^ 62 }
     requires planned { IsPlanned entries.old.items dates.old }
     ensures alters { Alters (number_of addr.0) (λ n. advertised now flags (option_map (λ m. number_of m.0) mac) reachable n) entries.old.items entries.new.items }
-    ensures released { result.released ≡ told_released (λ n. advertised now flags (option_map (λ m. number_of m.0) mac) reachable n) (node_in (number_of addr.0) entries.old.items) }
-    ensures was_known { result.was_known ≡ was_known (node_in (number_of addr.0) entries.old.items) }
-    ensures ends_router { result.ends_router ≡ told_turned (λ n. advertised now flags (option_map (λ m. number_of m.0) mac) reachable n) (node_in (number_of addr.0) entries.old.items) }
+    ensures released { result.released ≡ told_released (λ n. advertised now flags (option_map (λ m. number_of m.0) mac) reachable n) (entry_in (number_of addr.0) entries.old.items) }
+    ensures was_known { result.was_known ≡ was_known (entry_in (number_of addr.0) entries.old.items) }
+    ensures ends_router { result.ends_router ≡ told_turned (λ n. advertised now flags (option_map (λ m. number_of m.0) mac) reachable n) (entry_in (number_of addr.0) entries.old.items) }
     ensures planned { IsPlanned entries.new.items dates.new }
     ensures room { dates.new.room ≡ dates.old.room }
     ensures len { vec_len entries.new ≡ vec_len entries.old }
@@ -59,7 +60,7 @@ impl<A: Allocator> Entry<A> {
         mac: Option<Mac>,
         reachable: u64,
     ) -> Packets<A>
-        requires moment { now < 2 ^ 62 }
+        requires moment { IsMoment now }
         requires span { reachable < 2 ^ 62 }
         ensures entry { self.new ≡ advertised now flags (option_map (λ mac. number_of mac.0) mac) reachable self.old }
         ensures released { result ≡ released self.old self.new }
@@ -95,7 +96,7 @@ impl<A: Allocator> Entry<A> {
         is_new: bool,
         reachable: u64,
     ) -> Packets<A>
-        requires moment { now < 2 ^ 62 }
+        requires moment { IsMoment now }
         requires span { reachable < 2 ^ 62 }
         ensures entry { self.new ≡ conforming flags now reachable (number_of mac.0) is_new self.old }
         ensures released { result ≡ (if flags.solicited || is_new then waiting_in self.old.stage else []) }

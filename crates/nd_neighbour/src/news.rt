@@ -1,8 +1,9 @@
 ghost use Rattle.std.specs.Prelude.{IfErr, IfOk, IfSome, IsErr, OnErr, OnOk, [], false, is_some, not, true, vec_capacity, vec_len, ◌&&◌, ◌<◌, ◌^◌, ◌↔◌, ◌≡◌, length, ◌≤◌};
 ghost use Rattle.nd_addr.specs.Bytes.{AreBytes};
 ghost use Rattle.nd_addr.specs.Number.{number_of};
+ghost use Rattle.nd_table.specs.Moment.{IsMoment};
 ghost use Rattle.nd_neighbour.specs.Entry.{with_mark};
-ghost use Rattle.nd_neighbour.specs.Table.{node_in, Alters, Rises};
+ghost use Rattle.nd_neighbour.specs.Table.{entry_in, Alters, Rises};
 ghost use Rattle.nd_neighbour.specs.News.{told_released, told_turned, was_known};
 
 use crate::cache::Cache;
@@ -122,7 +123,7 @@ impl<A: Allocator> Touched<A> {
 
 impl<A: Allocator> Cache<A> {
     ghost use Rattle.nd_neighbour.specs.Removal.{waiting_at};
-    ghost use Rattle.nd_neighbour.specs.Table.{node_in};
+    ghost use Rattle.nd_neighbour.specs.Table.{entry_in};
     ghost use Rattle.nd_neighbour.specs.Place.{NoPlace};
     ghost use Rattle.nd_neighbour.specs.News.{GainsNews, Tells, lets_enter, news_key, news_row, was_known};
 
@@ -133,24 +134,24 @@ impl<A: Allocator> Cache<A> {
     /// `Full` comes where an address is given, the neighbour is new, all places are taken and no neighbour is STALE;
     /// nothing has changed then.
     pub fn heard(&mut self, now: u64, news: News, times: Times) -> Result<Touched<A>, CacheRefusal>
-        requires moment { now < 2 ^ 62 }
+        requires moment { IsMoment now }
         requires span { times.reachable < 2 ^ 62 }
 
-        ensures stands { OnOk result (GainsNews self.old.limit now news times self.old.nodes self.new.nodes) }
-        ensures told { IfOk result (λ touched. Tells now (news_key news) (news_row news times) self.old.nodes touched.released touched.ends_router) }
+        ensures stands { OnOk result (GainsNews self.old.limit now news times self.old.entries self.new.entries) }
+        ensures told { IfOk result (λ touched. Tells now (news_key news) (news_row news times) self.old.entries touched.released touched.ends_router) }
 
-        ensures was_known { IfOk result (λ touched. touched.was_known ≡ was_known (node_in (news_key news) self.old.nodes)) }
+        ensures was_known { IfOk result (λ touched. touched.was_known ≡ was_known (entry_in (news_key news) self.old.entries)) }
 
         // No more packets are released than waited for that neighbour.
-        ensures few { IfOk result (λ touched. length touched.released ≤ length (waiting_at (node_in (news_key news) self.old.nodes))) }
+        ensures few { IfOk result (λ touched. length touched.released ≤ length (waiting_at (entry_in (news_key news) self.old.entries))) }
 
         // It is refused exactly where a new neighbour has no place, and only for that.
-        ensures full { IsErr result ↔ ((lets_enter news ≡ true) × NoPlace self.old.limit now (news_key news) self.old.nodes) }
+        ensures full { IsErr result ↔ ((lets_enter news ≡ true) × NoPlace self.old.limit now (news_key news) self.old.entries) }
         ensures err { IfErr result (λ refusal. refusal ≡ CacheRefusal.Full) }
         ensures same { OnErr result (self.new ≡ self.old) }
 
         // A neighbour whose address is given is there, so a use of it isn't refused as full.
-        ensures there { OnOk result (lets_enter news ≡ true → is_some (node_in (news_key news) self.new.nodes) ≡ true) }
+        ensures there { OnOk result (lets_enter news ≡ true → is_some (entry_in (news_key news) self.new.entries) ≡ true) }
 
         ensures limit { self.new.limit ≡ self.old.limit }
         ensures rings { self.new.rings ≡ self.old.rings }
@@ -192,9 +193,9 @@ pub(crate) fn mark<A: Allocator>(
 ) -> Touched<A>
     requires { Rises entries.old.items }
     ensures alters { Alters (number_of addr.0) (λ n. with_mark router n) entries.old.items entries.new.items }
-    ensures released { result.released ≡ told_released (λ n. with_mark router n) (node_in (number_of addr.0) entries.old.items) }
-    ensures was_known { result.was_known ≡ was_known (node_in (number_of addr.0) entries.old.items) }
-    ensures ends_router { result.ends_router ≡ told_turned (λ n. with_mark router n) (node_in (number_of addr.0) entries.old.items) }
+    ensures released { result.released ≡ told_released (λ n. with_mark router n) (entry_in (number_of addr.0) entries.old.items) }
+    ensures was_known { result.was_known ≡ was_known (entry_in (number_of addr.0) entries.old.items) }
+    ensures ends_router { result.ends_router ≡ told_turned (λ n. with_mark router n) (entry_in (number_of addr.0) entries.old.items) }
     ensures len { vec_len entries.new ≡ vec_len entries.old }
     ensures capacity { vec_capacity entries.new ≡ vec_capacity entries.old }
 {

@@ -1,7 +1,7 @@
 ghost use Rattle.std.specs.Prelude.{IfSome, None, length, slice_get, true, vec_capacity, vec_len, ◌<◌, ◌≡◌, ◌≤◌};
 ghost use Rattle.nd_neighbour.specs.Planned.{IsPlanned};
 ghost use Rattle.nd_addr.specs.Number.{number_of};
-ghost use Rattle.nd_neighbour.specs.Table.{node_in, place_in};
+ghost use Rattle.nd_neighbour.specs.Table.{entry_in, place_in};
 ghost use Rattle.nd_neighbour.specs.Place.{Enters, Places, has_place, longer, picked, picked_stale, stalest};
 
 use crate::entry::{Entry, Stage};
@@ -60,7 +60,7 @@ pub(crate) fn make_place<A: Allocator>(
     addr: Addr,
     at: usize,
 ) -> usize
-    requires absent { node_in (number_of addr.0) entries.old.items ≡ None }
+    requires absent { entry_in (number_of addr.0) entries.old.items ≡ None }
     requires at { at ≡ place_in (number_of addr.0) entries.old.items }
     requires planned { IsPlanned entries.old.items dates.old }
     requires few { vec_len entries.old ≤ limit }
@@ -93,7 +93,7 @@ pub(crate) fn enter<A: Allocator>(
     at: usize,
     entry: Entry<A>,
 )
-    requires absent { node_in entry.key entries.old.items ≡ None }
+    requires absent { entry_in entry.key entries.old.items ≡ None }
     requires at { at ≡ place_in entry.key entries.old.items }
     requires place { has_place limit now entries.old.items ≡ true }
     requires few { vec_len entries.old ≤ limit }

@@ -1,5 +1,6 @@
 ghost use Rattle.std.specs.Prelude.{vec_capacity, vec_len, ◌<◌, ◌^◌, ◌≡◌};
 ghost use Rattle.nd_addr.specs.Number.{number_of};
+ghost use Rattle.nd_table.specs.Moment.{IsMoment};
 ghost use Rattle.nd_neighbour.specs.ReachabilityConfirmation.{confirmed};
 ghost use Rattle.nd_neighbour.specs.Planned.{IsPlanned};
 ghost use Rattle.nd_neighbour.specs.Table.{Alters};
@@ -17,9 +18,9 @@ impl<A: Allocator> Cache<A> {
     /// Takes an upper layer's confirmation that a neighbour is reached (RFC 4861, section 7.3.1). It is REACHABLE for
     /// `reachable` milliseconds from `now` on. If it has no entry, or no link-layer address in it, nothing changes.
     pub fn confirmed(&mut self, now: u64, addr: Addr, reachable: u64)
-        requires moment { now < 2 ^ 62 }
+        requires moment { IsMoment now }
         requires span { reachable < 2 ^ 62 }
-        ensures stands { GainsRow self.old.nodes self.new.nodes (now, number_of addr.0, Confirmed reachable) }
+        ensures stands { GainsRow self.old.entries self.new.entries (now, number_of addr.0, Confirmed reachable) }
         ensures limit { self.new.limit ≡ self.old.limit }
         ensures rings { self.new.rings ≡ self.old.rings }
     {
@@ -35,7 +36,7 @@ pub(crate) fn confirm<A: Allocator>(
     addr: Addr,
     reachable: u64,
 )
-    requires moment { now < 2 ^ 62 }
+    requires moment { IsMoment now }
     requires span { reachable < 2 ^ 62 }
     requires planned { IsPlanned entries.old.items dates.old }
     ensures alters { Alters (number_of addr.0) (λ n. confirmed now reachable n) entries.old.items entries.new.items }
@@ -57,7 +58,7 @@ impl<A: Allocator> Entry<A> {
 
     /// An upper layer confirms that it is reached (RFC 4861, sections 7.3.1 and 7.3.3).
     pub(crate) fn confirm(&mut self, now: u64, reachable: u64)
-        requires moment { now < 2 ^ 62 }
+        requires moment { IsMoment now }
         requires span { reachable < 2 ^ 62 }
         ensures { self.new ≡ confirmed now reachable self.old }
     {

@@ -1,7 +1,7 @@
 ghost use Rattle.std.specs.Prelude.{IfOk, List, OnErr, OnOk, [], length, vec_capacity, vec_len, ℕ, ◌++◌, ◌+◌, ◌≡◌, ◌≤◌};
 ghost use Rattle.nd_addr.specs.Number.{number_of};
 ghost use Rattle.nd_packet.specs.Waiting.{max_waiting};
-ghost use Rattle.nd_neighbour.specs.Table.{node_in, Rises};
+ghost use Rattle.nd_neighbour.specs.Table.{entry_in, Rises};
 ghost use Rattle.nd_neighbour.specs.Planned.{IsPlanned};
 ghost use Rattle.nd_neighbour.specs.Removal.{Removes, all_waiting, waiting_at};
 
@@ -15,14 +15,14 @@ use std::alloc::{AllocError, Allocator};
 impl<A: Allocator> Cache<A> {
     ghost use Rattle.nd_neighbour.specs.History.{Forgot, Removed, Row, story};
     ghost use Rattle.nd_neighbour.specs.Story.{waits_of};
-    ghost use Rattle.nd_neighbour.specs.Table.{GainsRow, Stands, node_in};
+    ghost use Rattle.nd_neighbour.specs.Table.{GainsRow, Stands, entry_in};
     ghost use Rattle.nd_neighbour.specs.Removal.{all_waiting, waiting_at};
 
     /// Removes a neighbour, if it is there, and returns the packets that waited for it.
     pub fn forget(&mut self, addr: Addr) -> Packets<A>
-        ensures stands { (at : ℕ) → GainsRow self.old.nodes self.new.nodes (at, number_of addr.0, Forgot Removed) }
-        ensures value { result ≡ waiting_at (node_in (number_of addr.0) self.old.nodes) }
-        ensures packets { (history : List Row) → Stands self.old.nodes history → result ≡ waits_of (story (number_of addr.0) history) }
+        ensures stands { (at : ℕ) → GainsRow self.old.entries self.new.entries (at, number_of addr.0, Forgot Removed) }
+        ensures value { result ≡ waiting_at (entry_in (number_of addr.0) self.old.entries) }
+        ensures packets { (history : List Row) → Stands self.old.entries history → result ≡ waits_of (story (number_of addr.0) history) }
         ensures limit { self.new.limit ≡ self.old.limit }
         ensures rings { self.new.rings ≡ self.old.rings }
     {
@@ -31,8 +31,8 @@ impl<A: Allocator> Cache<A> {
 
     /// Returns the number of packets that wait for a neighbour, at most three: `heard`, `turn` and `forget` return no more of its packets.
     pub fn waiting_at(&self, addr: Addr) -> usize
-        ensures value { result ≡ length (waiting_at (node_in (number_of addr.0) self.now.nodes)) }
-        ensures by_history { (history : List Row) → Stands self.now.nodes history → result ≡ length (waits_of (story (number_of addr.0) history)) }
+        ensures value { result ≡ length (waiting_at (entry_in (number_of addr.0) self.now.entries)) }
+        ensures by_history { (history : List Row) → Stands self.now.entries history → result ≡ length (waits_of (story (number_of addr.0) history)) }
         ensures few { result ≤ max_waiting }
     {
         count_at(&self.entries, addr)
@@ -40,7 +40,7 @@ impl<A: Allocator> Cache<A> {
 
     /// Returns the number of packets that wait.
     pub fn waiting(&self) -> usize
-        ensures { result ≡ length (all_waiting self.now.nodes) }
+        ensures { result ≡ length (all_waiting self.now.entries) }
     {
         count_waiting(&self.entries)
     }
@@ -54,9 +54,9 @@ impl<A: Allocator + Clone> Cache<A> {
     /// Removes all neighbours and returns the packets that waited, in the order of the addresses, the oldest first. Out of
     /// memory: nothing has changed.
     pub fn clear(&mut self) -> Result<Vec<Packet<A>, A>, AllocError>
-        ensures stands { OnOk result ((at : ℕ) (history : List Row) → Stands self.old.nodes history → Stands self.new.nodes (cleared at self.old.nodes history)) }
-        ensures none { OnOk result (self.new.nodes ≡ []) }
-        ensures packets { IfOk result (λ packets. packets.items ≡ all_waiting self.old.nodes) }
+        ensures stands { OnOk result ((at : ℕ) (history : List Row) → Stands self.old.entries history → Stands self.new.entries (cleared at self.old.entries history)) }
+        ensures none { OnOk result (self.new.entries ≡ []) }
+        ensures packets { IfOk result (λ packets. packets.items ≡ all_waiting self.old.entries) }
         ensures same { OnErr result (self.new ≡ self.old) }
         ensures limit { self.new.limit ≡ self.old.limit }
         ensures rings { self.new.rings ≡ self.old.rings }
@@ -75,7 +75,7 @@ pub(crate) fn remove<A: Allocator>(
 ) -> Packets<A>
     requires planned { IsPlanned entries.old.items dates.old }
     ensures removes { Removes (number_of addr.0) entries.old.items entries.new.items }
-    ensures packets { result ≡ waiting_at (node_in (number_of addr.0) entries.old.items) }
+    ensures packets { result ≡ waiting_at (entry_in (number_of addr.0) entries.old.items) }
     ensures planned { IsPlanned entries.new.items dates.new }
     ensures room { dates.new.room ≡ dates.old.room }
     ensures len { vec_len entries.new ≤ vec_len entries.old }
@@ -93,7 +93,7 @@ pub(crate) fn remove<A: Allocator>(
 fn count_at<A: Allocator>(entries: &[Entry<A>], addr: Addr) -> usize
     requires { Rises entries.now }
     ensures few { result ≤ max_waiting }
-    ensures value { result ≡ length (waiting_at (node_in (number_of addr.0) entries.now)) }
+    ensures value { result ≡ length (waiting_at (entry_in (number_of addr.0) entries.now)) }
 {
     match find(entries, addr) {
         Some(i) => entries[i].waiting(),

@@ -16,7 +16,7 @@ impl<A: Allocator + Clone> Cache<A> {
         ensures in_hand { n ≤ self.old.rings → IsOk result }
         ensures kept { self.old.rings ≤ self.new.rings }
         ensures no_more { self.new.rings ≤ max n self.old.rings }
-        ensures nodes { self.new.nodes ≡ self.old.nodes }
+        ensures entries { self.new.entries ≡ self.old.entries }
         ensures limit { self.new.limit ≡ self.old.limit }
     {
         fill(&mut self.rings, n)

@@ -2,7 +2,7 @@ ghost use Rattle.std.specs.Prelude.{List, Some, length, not, slice_get, true, �
 ghost use Rattle.std.specs.List.{list_any};
 ghost use Rattle.std.specs.Option.{option_map};
 ghost use Rattle.nd_addr.specs.Number.{number_of};
-ghost use Rattle.nd_neighbour.specs.Entry.{Node};
+ghost use Rattle.nd_neighbour.specs.Entry.{NeighbourEntry};
 ghost use Rattle.nd_neighbour.specs.Table.{Rises};
 ghost use Rattle.nd_neighbour.specs.Place.{stalest};
 ghost use Rattle.nd_neighbour.specs.Room.{has_room, place_behind, place_beside, place_without, stale_beside, stays_stale};
@@ -22,8 +22,8 @@ impl<A: Allocator> Cache<A> {
     /// Whether a neighbour that may be new has place, and after a use of it a second one: whether neither would be
     /// refused as `Full`. A second one that had room here has place after `used` of the first.
     pub fn room(&self, now: u64, addr: Addr, then: Option<Addr>) -> bool
-        ensures value { result ≡ has_room self.now.limit now (number_of addr.0) (option_map (λ next. number_of next.0) then) self.now.nodes }
-        ensures history { (history : List Row) → Stands self.now.nodes history → result ≡ true ↔ HasRoom self.now.limit now (number_of addr.0) (option_map (λ next. number_of next.0) then) history }
+        ensures value { result ≡ has_room self.now.limit now (number_of addr.0) (option_map (λ next. number_of next.0) then) self.now.entries }
+        ensures history { (history : List Row) → Stands self.now.entries history → result ≡ true ↔ HasRoom self.now.limit now (number_of addr.0) (option_map (λ next. number_of next.0) then) history }
     {
         has_room(&self.entries, self.limit, now, addr, then)
     }
@@ -96,7 +96,7 @@ fn place_without<A: Allocator>(
 ) -> bool
     requires within { i < length entries.now }
     requires order { Rises entries.now }
-    ensures { (gone : Node) → slice_get entries.now i ≡ Some gone → result ≡ place_without gone now (number_of entering.0) (number_of next.0) entries.now }
+    ensures { (gone : NeighbourEntry) → slice_get entries.now i ≡ Some gone → result ≡ place_without gone now (number_of entering.0) (number_of next.0) entries.now }
 {
     let gone = entries[i].addr();
     compare(entering, next).is_eq()

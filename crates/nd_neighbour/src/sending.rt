@@ -1,6 +1,7 @@
-ghost use Rattle.std.specs.Prelude.{IfErr, IfOk, List, None, OnErr, OnOk, Some, if◌then◌else◌, is_some, length, slice_get, vec_capacity, vec_len, ◌-◌, ◌<◌, ◌^◌, ◌↔◌, ◌≡◌};
+ghost use Rattle.std.specs.Prelude.{IfErr, IfOk, List, None, OnErr, OnOk, Some, if◌then◌else◌, is_some, length, slice_get, vec_capacity, vec_len, ◌-◌, ◌<◌, ◌↔◌, ◌≡◌};
 ghost use Rattle.nd_addr.specs.Number.{number_of};
-ghost use Rattle.nd_neighbour.specs.Table.{node_in, Alters};
+ghost use Rattle.nd_table.specs.Moment.{IsMoment};
+ghost use Rattle.nd_neighbour.specs.Table.{entry_in, Alters};
 ghost use Rattle.nd_neighbour.specs.Planned.{IsPlanned};
 ghost use Rattle.nd_neighbour.specs.Sending.{used, sending_in};
 ghost use Rattle.nd_neighbour.specs.View.{sending_of};
@@ -34,7 +35,7 @@ pub enum Use<A: Allocator> {
 
 impl<A: Allocator + Clone> Cache<A> {
     ghost use Rattle.nd_neighbour.specs.History.{Row, story};
-    ghost use Rattle.nd_neighbour.specs.Table.{Stands, node_in};
+    ghost use Rattle.nd_neighbour.specs.Table.{Stands, entry_in};
     ghost use Rattle.nd_neighbour.specs.Place.{NoPlace};
     ghost use Rattle.nd_neighbour.specs.Sending.{GainsPacket, refusal_of, sending_in, sending_of_story};
     ghost use Rattle.nd_neighbour.specs.Room.{LeavesRoom};
@@ -54,25 +55,25 @@ impl<A: Allocator + Clone> Cache<A> {
         packet: Packet<A>,
         times: Times,
     ) -> Result<Use<A>, (CacheRefusal, Packet<A>)>
-        requires { now < 2 ^ 62 }
+        requires { IsMoment now }
 
-        ensures stands { OnOk result (GainsPacket self.old.limit now (number_of addr.0) times.retrans packet self.old.nodes self.new.nodes) }
-        ensures value { IfOk result (λ sent. sending_of sent ≡ sending_in (node_in (number_of addr.0) self.old.nodes) packet) }
-        ensures sending { IfOk result (λ sent. (history : List Row) → Stands self.old.nodes history → sending_of sent ≡ sending_of_story (story (number_of addr.0) history) packet) }
+        ensures stands { OnOk result (GainsPacket self.old.limit now (number_of addr.0) times.retrans packet self.old.entries self.new.entries) }
+        ensures value { IfOk result (λ sent. sending_of sent ≡ sending_in (entry_in (number_of addr.0) self.old.entries) packet) }
+        ensures sending { IfOk result (λ sent. (history : List Row) → Stands self.old.entries history → sending_of sent ≡ sending_of_story (story (number_of addr.0) history) packet) }
 
         // Full comes exactly where a new neighbour has no place, and Memory only where one needs a ring and none is in hand.
-        ensures full { (refusal_of result ≡ Some CacheRefusal.Full) ↔ NoPlace self.old.limit now (number_of addr.0) self.old.nodes }
-        ensures memory { refusal_of result ≡ Some CacheRefusal.Memory → (self.old.rings ≡ 0) × (node_in (number_of addr.0) self.old.nodes ≡ None) }
+        ensures full { (refusal_of result ≡ Some CacheRefusal.Full) ↔ NoPlace self.old.limit now (number_of addr.0) self.old.entries }
+        ensures memory { refusal_of result ≡ Some CacheRefusal.Memory → (self.old.rings ≡ 0) × (entry_in (number_of addr.0) self.old.entries ≡ None) }
         ensures back { IfErr result (λ refused. refused.1 ≡ packet) }
         ensures same { OnErr result (self.new ≡ self.old) }
 
         // Who had room after a use of this one has place.
-        ensures leaves { OnOk result (LeavesRoom self.old.limit now (number_of addr.0) self.old.nodes self.new.nodes) }
+        ensures leaves { OnOk result (LeavesRoom self.old.limit now (number_of addr.0) self.old.entries self.new.entries) }
 
         ensures limit { self.new.limit ≡ self.old.limit }
 
         // Only a new neighbour takes a ring, one of those in hand where there is one.
-        ensures rings { OnOk result (self.new.rings ≡ (if is_some (node_in (number_of addr.0) self.old.nodes) then self.old.rings else self.old.rings - 1)) }
+        ensures rings { OnOk result (self.new.rings ≡ (if is_some (entry_in (number_of addr.0) self.old.entries) then self.old.rings else self.old.rings - 1)) }
     {
         let at = match locate(&self.entries, addr) {
             Ok(i) => {
@@ -123,12 +124,12 @@ pub(crate) fn pass<A: Allocator>(
     retrans: u32,
     packet: Packet<A>,
 ) -> Use<A>
-    requires moment { now < 2 ^ 62 }
+    requires moment { IsMoment now }
     requires planned { IsPlanned entries.old.items dates.old }
     requires within { i < length entries.old.items }
-    requires found { node_in (number_of addr.0) entries.old.items ≡ slice_get entries.old.items i }
+    requires found { entry_in (number_of addr.0) entries.old.items ≡ slice_get entries.old.items i }
     ensures alters { Alters (number_of addr.0) (λ n. used now retrans packet n) entries.old.items entries.new.items }
-    ensures sending { sending_of result ≡ sending_in (node_in (number_of addr.0) entries.old.items) packet }
+    ensures sending { sending_of result ≡ sending_in (entry_in (number_of addr.0) entries.old.items) packet }
     ensures planned { IsPlanned entries.new.items dates.new }
     ensures room { dates.new.room ≡ dates.old.room }
     ensures len { vec_len entries.new ≡ vec_len entries.old }
@@ -147,7 +148,7 @@ impl<A: Allocator> Entry<A> {
 
     /// A packet for it is to be sent (RFC 4861, sections 7.2.2 and 7.3.3).
     pub(crate) fn send(&mut self, now: u64, retrans: u32, packet: Packet<A>) -> Use<A>
-        requires { now < 2 ^ 62 }
+        requires { IsMoment now }
         ensures entry { self.new ≡ used now retrans packet self.old }
         ensures sending { sending_of result ≡ sending_to self.old.stage packet }
     {

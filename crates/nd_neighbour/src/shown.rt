@@ -1,7 +1,7 @@
 ghost use Rattle.std.specs.Prelude.{List, map, ◌≡◌};
 ghost use Rattle.std.specs.Option.{option_map};
 ghost use Rattle.nd_addr.specs.Number.{number_of};
-ghost use Rattle.nd_neighbour.specs.Table.{node_in, Rises};
+ghost use Rattle.nd_neighbour.specs.Table.{entry_in, Rises};
 ghost use Rattle.nd_neighbour.specs.Shown.{seen};
 ghost use Rattle.nd_neighbour.specs.View.{seen_in};
 
@@ -39,14 +39,14 @@ pub enum Reachability {
 
 impl<A: Allocator> Cache<A> {
     ghost use Rattle.nd_neighbour.specs.History.{Row, story};
-    ghost use Rattle.nd_neighbour.specs.Table.{Stands, node_in};
+    ghost use Rattle.nd_neighbour.specs.Table.{Stands, entry_in};
     ghost use Rattle.nd_neighbour.specs.Shown.{seen, seen_of};
     ghost use Rattle.nd_neighbour.specs.View.{seen_in};
 
     /// A neighbour at a moment, if there is an entry for it (RFC 4861, sections 5.1 and 7.3.2).
     pub fn entry(&self, now: u64, addr: Addr) -> Option<Neighbour>
-        ensures value { option_map (λ n. seen_in n) result ≡ option_map (seen now) (node_in (number_of addr.0) self.now.nodes) }
-        ensures seen { (history : List Row) → Stands self.now.nodes history → option_map (λ n. seen_in n) result ≡ seen_of (number_of addr.0) (story (number_of addr.0) history) now }
+        ensures value { option_map (λ n. seen_in n) result ≡ option_map (seen now) (entry_in (number_of addr.0) self.now.entries) }
+        ensures seen { (history : List Row) → Stands self.now.entries history → option_map (λ n. seen_in n) result ≡ seen_of (number_of addr.0) (story (number_of addr.0) history) now }
     {
         show(&self.entries, now, addr)
     }
@@ -61,8 +61,8 @@ impl<A: Allocator> Cache<A> {
     /// Returns all neighbours as they are at `now`, in milliseconds, in the order of their addresses (RFC 4861, sections 5.1 and 7.3.2). It
     /// takes no memory.
     pub fn rows(&self, now: u64) -> Neighbours<'_, A>
-        ensures value { neighbours_left result ≡ map (seen now) self.now.nodes }
-        ensures lists { (history : List Row) → Stands self.now.nodes history → Lists history now (neighbours_left result) }
+        ensures value { neighbours_left result ≡ map (seen now) self.now.entries }
+        ensures lists { (history : List Row) → Stands self.now.entries history → Lists history now (neighbours_left result) }
     {
         Neighbours::new(&self.entries, now)
     }
@@ -111,7 +111,7 @@ impl<A: Allocator> Iterator for Neighbours<'_, A> {
 /// What is shown of an entry that may be there.
 pub(crate) fn show<A: Allocator>(entries: &[Entry<A>], now: u64, addr: Addr) -> Option<Neighbour>
     requires { Rises entries.now }
-    ensures { option_map (λ n. seen_in n) result ≡ option_map (seen now) (node_in (number_of addr.0) entries.now) }
+    ensures { option_map (λ n. seen_in n) result ≡ option_map (seen now) (entry_in (number_of addr.0) entries.now) }
 {
     match find(entries, addr) {
         Some(i) => Some(entries[i].shown(now)),

@@ -1,4 +1,5 @@
-ghost use Rattle.std.specs.Prelude.{IfSome, is_some, nat_lt, ◌+◌, ◌<◌, ◌^◌, ◌≡◌};
+ghost use Rattle.std.specs.Prelude.{IfSome, is_some, nat_lt, ◌+◌, ◌<◌, ◌≡◌};
+ghost use Rattle.nd_table.specs.Moment.{IsMoment};
 ghost use Rattle.nd_neighbour.specs.UnreachabilityDetection.{delay_first_probe_time, max_unicast_solicit};
 
 /// How long after the first use of a STALE entry its first probe is sent, in milliseconds (RFC 4861, section 10).
@@ -23,7 +24,7 @@ impl Probing {
     /// A STALE entry is used: it is in DELAY, and the first probe is due DELAY_FIRST_PROBE_TIME later (RFC 4861,
     /// section 7.3.3).
     pub(crate) fn after_use(now: u64, retrans: u32) -> Self
-        requires { now < 2 ^ 62 }
+        requires { IsMoment now }
         ensures { result ≡ record { from = now + delay_first_probe_time; retrans = retrans; sent = 0 } }
     {
         Probing {

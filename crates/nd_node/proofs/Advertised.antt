@@ -20,7 +20,7 @@ use Rattle.nd_table.specs.Announcements as lifetimes
 use Rattle.nd_table.specs.Listing as lists
 use Rattle.nd_table.specs.Listing.{then_announced}
 use Rattle.nd_params.specs.History as parameter_rows
-use Rattle.nd_params.specs.History.{last_draw, redraw_after}
+use Rattle.nd_params.specs.ReachableTime.{last_draw, redraw_after}
 use Rattle.nd_params.specs.Params as parameters
 use Rattle.nd_params.specs.Params.{redraws}
 use Rattle.nd_neighbour.specs.History as neighbour_rows
@@ -30,7 +30,7 @@ use Rattle.nd_routers.specs.History as router_rows
 use Rattle.nd_routers.specs.History.{announcements}
 use Rattle.nd_routers.specs.Routers as router_list
 use Rattle.nd_routers.specs.Routers.{same}
-use Rattle.nd_routers.specs.PrefixOptions as on_link
+use Rattle.nd_routers.specs.OnLinkPrefixes as on_link
 use Rattle.nd_slaac.specs.History as address_rows
 use Rattle.nd_slaac.specs.History.{Lifetimes}
 use Rattle.nd_slaac.specs.Due as address_due
@@ -40,8 +40,8 @@ use Rattle.nd_slaac.specs.Table as addresses
 use Rattle.nd_slaac.specs.State.{is_known}
 use Rattle.nd_slaac.specs.PrefixOption.{is_taken, named_by, lifetimes_of, prefixes_in}
 use Rattle.nd_dns.specs.Dns as known
-use Rattle.nd_dns.specs.Names.{names_told}
-use Rattle.nd_dns.specs.Servers.{servers_told}
+use Rattle.nd_dns.specs.AnnouncedNames.{names_told}
+use Rattle.nd_dns.specs.AnnouncedServers.{servers_told}
 use Rattle.nd_nexthop.specs.History as redirect_rows
 use Rattle.nd_nexthop.specs.Choice as choice
 use Rattle.nd_chronicle.specs.Start.{Start, link_local_key}
@@ -360,7 +360,7 @@ pub record Takes {R A : Type 0} (stream : R → Stream) (old new : Node R A) (be
   pub solicitations : new.solicitations ≡ record old.solicitations { heard = not (ra.router_lifetime == 0) || old.solicitations.heard }
   pub between : List (ℕ × Out A)
   pub ends : Bool
-  pub neighbours : HearsOf old.neighbours.limit now (given_or_marked (number_of source.0) (first_slla options) (Some true)) old.neighbours.nodes new.neighbours.nodes before between ends
+  pub neighbours : HearsOf old.neighbours.limit now (given_or_marked (number_of source.0) (first_slla options) (Some true)) old.neighbours.entries new.neighbours.entries before between ends
   pub neighbour_limit : new.neighbours.limit ≡ old.neighbours.limit
   pub left_list : Bool
   pub times_out : (history : List router_rows.RouterRow) → router_list.Stands old.routers history → left_list ≡ ((ra.router_lifetime == 0) && lifetimes.stands same (number_of source.0) (announcements history) now)
@@ -370,7 +370,7 @@ pub record Takes {R A : Type 0} (stream : R → Stream) (old new : Node R A) (be
   pub first : choice.Table
   pub second : choice.Table
   pub third : choice.Table
-  pub may : MayRemember old.choice first old.neighbours.nodes new.neighbours.nodes
+  pub may : MayRemember old.choice first old.neighbours.entries new.neighbours.entries
   pub listed : Recollects first second (AsListed first second old.routers new.routers)
   pub linked : Recollects second third (AsStanding now old.prefixes new.prefixes)
   pub redirects_third : third.redirects ≡ second.redirects
@@ -411,7 +411,7 @@ module _ {R A : Type 0} (stream : R → Stream) (old new : Node R A) (before aft
   abbrev c : Chronicle
   c = (now, Passed) ∷ below
 
-  meets : (made : List neighbour_rows.Row) × PreparesFor start.limits.neighbours now of_sender (neighbour_history c) made × cache.Stands new.neighbours.nodes (then_neighbour now of_sender made)
+  meets : (made : List neighbour_rows.Row) × PreparesFor start.limits.neighbours now of_sender (neighbour_history c) made × cache.Stands new.neighbours.entries (then_neighbour now of_sender made)
       × (told.happenings t.between ≡ told.happenings before ++ at_moment now (released_frames now of_sender (neighbour_history c)))
   meets =
       let h = t.neighbours.each (neighbour_history c) s.neighbours in
@@ -553,9 +553,9 @@ module _ {R A : Type 0} (stream : R → Stream) (old new : Node R A) (before aft
       (laws.addresses_overdue start.transmits new.addresses.addresses (address_history all) now forms_all.addresses).1
       (options_add.in_time (subst (λ (h : List address_rows.Row). address_due.NoneOverdue start.transmits h now) (sym addresses_are) ((laws.addresses_overdue start.transmits old.addresses.addresses (address_history c) now s.addresses).0 (addresses_before old now not_past))))
 
-  neighbours_in_time : neighbour_dates.NoneBefore new.neighbours.nodes now
+  neighbours_in_time : neighbour_dates.NoneBefore new.neighbours.entries now
   neighbours_in_time =
-      none_before_said laws.neighbours_overdue laws.neighbours_still laws.one_goes start.limits.neighbours now of_sender old.neighbours.nodes new.neighbours.nodes (neighbour_history c) meets.0 s.neighbours meets.1 meets.2
+      none_before_said laws.neighbours_overdue laws.neighbours_still laws.one_goes start.limits.neighbours now of_sender old.neighbours.entries new.neighbours.entries (neighbour_history c) meets.0 s.neighbours meets.1 meets.2
       (neighbours_before old now not_past)
 
   draws_in_time : now ≤ new.params.drawn_at + redraw_after
@@ -619,7 +619,7 @@ module _ {R A : Type 0} (stream : R → Stream) (old new : Node R A) (before aft
     routers = subst (λ (h : List router_rows.RouterRow). router_list.Stands new.routers h) (sym routers_are) (t.routers (router_history c) s.routers);
     prefixes = subst (λ (h : List (lifetimes.Row PrefixValue)). lists.Stands same_prefix new.prefixes h) (sym prefixes_are) (t.prefixes (prefix_history c) prefixes_came s.prefixes);
     addresses = forms_all.addresses;
-    neighbours = subst (λ (h : List neighbour_rows.Row). cache.Stands new.neighbours.nodes h) (sym neighbours_are) meets.2;
+    neighbours = subst (λ (h : List neighbour_rows.Row). cache.Stands new.neighbours.entries h) (sym neighbours_are) meets.2;
     dns = subst (λ (h : List (lifetimes.Row Addr)). known.Stands new.dns h (name_history all)) (sym servers_are)
         (subst (λ (h : List (lifetimes.Row (List ℕ))). known.Stands new.dns (then_announced now (servers_told options) (server_history c)) h) (sym names_are) (t.dns (server_history c) (name_history c) servers_came names_came s.dns));
     redirects = subst (λ (h : List redirect_rows.RedirectRow). choice.Stands new.choice h) (sym redirects_are) (t.redirects (redirect_history c) s.redirects);

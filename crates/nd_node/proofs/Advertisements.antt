@@ -15,7 +15,7 @@ use Rattle.nd_neighbour.specs.declared.news.Flags.{Flags}
 use Rattle.nd_neighbour.specs.declared.news.News.{News}
 use Rattle.nd_neighbour.specs.declared.news.News.TheVariants as news
 use Rattle.nd_neighbour.specs.declared.news.Times.{Times}
-use Rattle.nd_neighbour.specs.Entry as entries
+use Rattle.nd_neighbour.specs.Entry as neighbour_entries
 use Rattle.nd_neighbour.specs.History as rows
 use Rattle.nd_neighbour.specs.Table as neighbours
 use Rattle.nd_routers.specs.History.{announcements}
@@ -63,14 +63,14 @@ abbrev kind_in : Option (ℕ × rows.RowKind) → Option rows.RowKind
 kind_in None = None
 kind_in (Some said) = Some said.1
 
-pub silent_news : (limit now : ℕ) (nodes : List entries.Node) (news : Option News) (times : Times) (key : ℕ) (flags : Flags) (mac : Option ℕ) (reachable : ℕ)
-    → option_map (said_by times) news ≡ Some (key, rows.Advertised flags mac reachable) → HasPlace limit now news nodes
-silent_news limit now nodes None times key flags mac reachable e = tt
-silent_news limit now nodes (Some (news.Given addr m mark)) times key flags mac reachable e =
+pub silent_news : (limit now : ℕ) (entries : List neighbour_entries.NeighbourEntry) (news : Option News) (times : Times) (key : ℕ) (flags : Flags) (mac : Option ℕ) (reachable : ℕ)
+    → option_map (said_by times) news ≡ Some (key, rows.Advertised flags mac reachable) → HasPlace limit now news entries
+silent_news limit now entries None times key flags mac reachable e = tt
+silent_news limit now entries (Some (news.Given addr m mark)) times key flags mac reachable e =
     let kind : Some (rows.Given (number_of m.0) mark) ≡ Some (rows.Advertised flags mac reachable) = ap kind_in e in
     let never : ⊥ = cc in absurd never
-silent_news limit now nodes (Some (news.Advert addr f m)) times key flags mac reachable e = λ enters. let never : ⊥ = cc in absurd never
-silent_news limit now nodes (Some (news.Marked addr router)) times key flags mac reachable e = λ enters. let never : ⊥ = cc in absurd never
+silent_news limit now entries (Some (news.Advert addr f m)) times key flags mac reachable e = λ enters. let never : ⊥ = cc in absurd never
+silent_news limit now entries (Some (news.Marked addr router)) times key flags mac reachable e = λ enters. let never : ⊥ = cc in absurd never
 
 -- ---- the rows
 
@@ -152,8 +152,8 @@ module _ {R A : Type 0} (stream : R → Stream) (old new : Node R A) (x room y1 
     (news_is : option_map (said_by times) news ≡ said_of_neighbour source (bodies.Na na) options times.reachable) (reachable_is : times.reachable ≡ old.params.reachable_time)
     (reserved : room ≡ x) (told : y1 ≡ room ++ (now, heard) ∷ []) (heard_is : happening heard ≡ Heard source destination (record { body = bodies.Na na; options = [] }))
     (conflicts : Conflicts now (number_of na.target.0) old.addresses.addresses new.addresses.addresses y1 y2 tentative)
-    (hears : HearsOf old.neighbours.limit now (option_map (said_by times) news) old.neighbours.nodes new.neighbours.nodes y2 y3 ends)
-    (first second : choice.Table) (holds : first ≡ (if tentative then record old.choice { memory = forgotten old.choice.memory } else old.choice)) (may : MayRemember first second old.neighbours.nodes new.neighbours.nodes)
+    (hears : HearsOf old.neighbours.limit now (option_map (said_by times) news) old.neighbours.entries new.neighbours.entries y2 y3 ends)
+    (first second : choice.Table) (holds : first ≡ (if tentative then record old.choice { memory = forgotten old.choice.memory } else old.choice)) (may : MayRemember first second old.neighbours.entries new.neighbours.entries)
     (leaves : Leaves now (number_of na.target.0) ends old.routers new.routers second new.choice y3 z left)
     (routers_settled : IsSettled new.routers.entries now) where
   pub adds_advertisement : AddsMessage stream old new x z now source destination (advertisement na options)
@@ -168,9 +168,9 @@ module _ {R A : Type 0} (stream : R → Stream) (old new : Node R A) (x room y1 
         let this : Option (ℕ × rows.RowKind) = Some (key, kind) in
         let this_is : option_map (said_by times) news ≡ this =
         news_is ∙ ap (λ (r : ℕ). said_of_neighbour source (bodies.Na na) options r) (reachable_is ∙ s.params.reachable_time) in
-        let hears' : HearsOf limit now this old.neighbours.nodes new.neighbours.nodes y2 y3 ends =
-        subst (λ (l : ℕ). HearsOf l now this old.neighbours.nodes new.neighbours.nodes y2 y3 ends) s.neighbour_limit
-        (subst (λ (o : Option (ℕ × rows.RowKind)). HearsOf old.neighbours.limit now o old.neighbours.nodes new.neighbours.nodes y2 y3 ends) this_is hears) in
+        let hears' : HearsOf limit now this old.neighbours.entries new.neighbours.entries y2 y3 ends =
+        subst (λ (l : ℕ). HearsOf l now this old.neighbours.entries new.neighbours.entries y2 y3 ends) s.neighbour_limit
+        (subst (λ (o : Option (ℕ × rows.RowKind)). HearsOf old.neighbours.limit now o old.neighbours.entries new.neighbours.entries y2 y3 ends) this_is hears) in
         let h = hears'.each history s.neighbours in
         let cf = conflicts.stands (address_history c) s.addresses in
         let lv = leaves.routers (router_history c) s.routers in
@@ -194,15 +194,15 @@ module _ {R A : Type 0} (stream : R → Stream) (old new : Node R A) (x room y1 
         let addresses_are : address_history d ≡ with_conflict now t key (address_history c) = k3.addresses ∙ (q.addresses ∙ k1.addresses) in
         let neighbours_are : neighbour_history d ≡ (now, key, kind) ∷ history = k3.neighbours ∙ (q.neighbours ∙ k1.neighbours) in
         let routers' = subst (λ r. routers.Stands new.routers r) (sym routers_are) (subst (λ (b : Bool). routers.Stands new.routers (with_left now b key (router_history c))) left_is lv.1) in
-        let redirects' = subst (λ r. choice.Stands new.choice r) (sym redirects_are) (subst (λ (b : Bool). choice.Stands new.choice (with_gone now b key (redirect_history c))) left_is (leaves.redirects (redirect_history c) (redirects_stand old.choice second (redirect_history c) (may_redirects first second old.neighbours.nodes new.neighbours.nodes may ∙ forgot_redirects tentative old.choice first holds) s.redirects))) in
+        let redirects' = subst (λ r. choice.Stands new.choice r) (sym redirects_are) (subst (λ (b : Bool). choice.Stands new.choice (with_gone now b key (redirect_history c))) left_is (leaves.redirects (redirect_history c) (redirects_stand old.choice second (redirect_history c) (may_redirects first second old.neighbours.entries new.neighbours.entries may ∙ forgot_redirects tentative old.choice first holds) s.redirects))) in
         let own' : addresses.Stands new.addresses.addresses (with_conflict now t key (address_history c)) = subst (λ (b : Bool). addresses.Stands new.addresses.addresses (with_conflict now b key (address_history c))) cf.0 cf.1 in
         let addresses' = subst (λ r. addresses.Stands new.addresses.addresses r) (sym addresses_are) own' in
         let made_is : h.0 ≡ history = h.1 in
-        let nodes' : neighbours.Stands new.neighbours.nodes ((now, key, kind) ∷ history) = subst (λ (m : List rows.Row). neighbours.Stands new.neighbours.nodes ((now, key, kind) ∷ m)) made_is h.2 in
-        let neighbours' = subst (λ r. neighbours.Stands new.neighbours.nodes r) (sym neighbours_are) nodes' in
+        let entries' : neighbours.Stands new.neighbours.entries ((now, key, kind) ∷ history) = subst (λ (m : List rows.Row). neighbours.Stands new.neighbours.entries ((now, key, kind) ∷ m)) made_is h.2 in
+        let neighbours' = subst (λ r. neighbours.Stands new.neighbours.entries r) (sym neighbours_are) entries' in
         let none_address = (address_table start.transmits new.addresses.addresses (with_conflict now t key (address_history c)) now own').1
         (conflict_later still_addresses start.transmits now t key (address_history c) ((address_table start.transmits old.addresses.addresses (address_history c) now s.addresses).0 (addresses_before old now not_past))) in
-        let none_neighbour = none_before_said table still one_goes limit now this old.neighbours.nodes new.neighbours.nodes history h.0 s.neighbours h.1 h.2 (neighbours_before old now not_past) in
+        let none_neighbour = none_before_said table still one_goes limit now this old.neighbours.entries new.neighbours.entries history h.0 s.neighbours h.1 h.2 (neighbours_before old now not_past) in
         let recalls : Recalls now new = recalls_advertised old new old.last now (omega (arith, s.last, le)) s.memo same'.prefixes first second tentative left holds may leaves.remembers history s.neighbours
         (λ e. own_same old.addresses.addresses new.addresses.addresses (address_history c) s.addresses (subst (λ (b : Bool). addresses.Stands new.addresses.addresses (with_conflict now b key (address_history c))) e cf.1)) in
         let stands' = stands_at stream start old new c d now same' apart s le not_past (k3.last start.at)

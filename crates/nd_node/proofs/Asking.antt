@@ -15,14 +15,14 @@ use Rattle.nd_decode.specs.declared.neighbor_solicitation.NeighborSolicitation.{
 use Rattle.nd_neighbour.specs.declared.news.News.{News}
 use Rattle.nd_neighbour.specs.declared.news.News.TheVariants as news
 use Rattle.nd_neighbour.specs.declared.news.Times.{Times}
-use Rattle.nd_neighbour.specs.Entry as entries
+use Rattle.nd_neighbour.specs.Entry as neighbour_entries
 use Rattle.nd_neighbour.specs.History as rows
 use Rattle.nd_neighbour.specs.News.{news_key, lets_enter}
 use Rattle.nd_neighbour.specs.Place.{NoPlace, WouldBeFull, has_place}
 use Rattle.nd_neighbour.specs.Room.{has_room}
 use Rattle.nd_neighbour.specs.Table as neighbours
-use Rattle.nd_neighbour.specs.Table.{node_in}
-use Rattle.nd_params.specs.History.{reachable_of}
+use Rattle.nd_neighbour.specs.Table.{entry_in}
+use Rattle.nd_params.specs.ReachableTime.{reachable_of}
 use Rattle.nd_compose.specs.Frames.{answer_frame}
 use Rattle.nd_chronicle.specs.Start.{Start}
 use Rattle.nd_chronicle.specs.Happening.{Chronicle, Happening, Passed, Heard, Refused, Full, Neighbours, last_moment}
@@ -49,6 +49,7 @@ use Rattle.nd_node.specs.Node.{Stands, next_of}
 use Rattle.nd_node.specs.Packet.{PacketGoes}
 use Rattle.nd_node.specs.Time.{Leads}
 use Rattle.nd_node.specs.Hearing.{AddsMessage}
+use Rattle.nd_node.specs.Frame.{AddsAlone}
 use Rattle.nd_steps.specs.DestinationCache.{MayRemember}
 use Rattle.nd_node.proofs.Beside.{Beside, Same, beside_then, stands_neighbours}
 use Rattle.nd_node.proofs.Detections.{solicitation}
@@ -60,12 +61,12 @@ use Rattle.nd_node.proofs.Turns.{neighbours_before}
 
 -- laws of the neighbours
 abbrev pub RoomIsPlace : Type 0
-RoomIsPlace = (limit now key : ℕ) (second : Option ℕ) (nodes : List entries.Node) → has_room limit now key second nodes ≡ true → NoPlace limit now key nodes → ⊥
+RoomIsPlace = (limit now key : ℕ) (second : Option ℕ) (entries : List neighbour_entries.NeighbourEntry) → has_room limit now key second entries ≡ true → NoPlace limit now key entries → ⊥
 
 abbrev pub FullByHistory : Type 0
-FullByHistory = (limit now key : ℕ) (nodes : List entries.Node) (history : List rows.Row) → neighbours.Stands nodes history → NoPlace limit now key nodes ↔ WouldBeFull limit now key history
+FullByHistory = (limit now key : ℕ) (entries : List neighbour_entries.NeighbourEntry) (history : List rows.Row) → neighbours.Stands entries history → NoPlace limit now key entries ↔ WouldBeFull limit now key history
 
-no_room : (found : Option entries.Node) (place : Bool) → (is_some found || place) ≡ false → (found ≡ None) × (place ≡ false)
+no_room : (found : Option neighbour_entries.NeighbourEntry) (place : Bool) → (is_some found || place) ≡ false → (found ≡ None) × (place ≡ false)
 no_room None place e = (refl, e)
 no_room (Some n) place e = let no : ⊥ = cc in absurd no
 
@@ -99,22 +100,22 @@ module _ (times : Times) (source : Addr) (ns : NeighborSolicitation) (options : 
 
 -- a neighbour has no place
 pub would_be_full : {R A : Type 0} (stream : R → Stream) (start : Start) (node : Node R A) (c : Chronicle) (now key : ℕ) → FullByHistory → Stands stream start node c
-    → has_room node.neighbours.limit now key None node.neighbours.nodes ≡ false → WouldBeFull start.limits.neighbours now key (neighbour_history c)
+    → has_room node.neighbours.limit now key None node.neighbours.entries ≡ false → WouldBeFull start.limits.neighbours now key (neighbour_history c)
 would_be_full stream start node c now key law s room =
-    let none : NoPlace node.neighbours.limit now key node.neighbours.nodes = no_room (node_in key node.neighbours.nodes) (has_place node.neighbours.limit now node.neighbours.nodes) room in
-    subst (λ (limit : ℕ). WouldBeFull limit now key (neighbour_history c)) s.neighbour_limit ((law node.neighbours.limit now key node.neighbours.nodes (neighbour_history c) s.neighbours).0 none)
+    let none : NoPlace node.neighbours.limit now key node.neighbours.entries = no_room (entry_in key node.neighbours.entries) (has_place node.neighbours.limit now node.neighbours.entries) room in
+    subst (λ (limit : ℕ). WouldBeFull limit now key (neighbour_history c)) s.neighbour_limit ((law node.neighbours.limit now key node.neighbours.entries (neighbour_history c) s.neighbours).0 none)
 
 -- a neighbour has place
 pub has_place_for : {R A : Type 0} (stream : R → Stream) (start : Start) (node : Node R A) (c : Chronicle) (now key : ℕ) → RoomIsPlace → FullByHistory → Stands stream start node c
-    → has_room node.neighbours.limit now key None node.neighbours.nodes ≡ true → packets.HasPlace start ((now, Passed) ∷ c) now key true true
+    → has_room node.neighbours.limit now key None node.neighbours.entries ≡ true → packets.HasPlace start ((now, Passed) ∷ c) now key true true
 has_place_for stream start node c now key room_is_place full_by_history s has = λ enters would.
-    room_is_place node.neighbours.limit now key None node.neighbours.nodes has
-    ((full_by_history node.neighbours.limit now key node.neighbours.nodes (neighbour_history c) s.neighbours).1 (subst (λ (limit : ℕ). WouldBeFull limit now key (neighbour_history c)) (sym s.neighbour_limit) would))
+    room_is_place node.neighbours.limit now key None node.neighbours.entries has
+    ((full_by_history node.neighbours.limit now key node.neighbours.entries (neighbour_history c) s.neighbours).1 (subst (λ (limit : ℕ). WouldBeFull limit now key (neighbour_history c)) (sym s.neighbour_limit) would))
 
 -- there is place for the news
-pub place_for_news : RoomIsPlace → (limit now key : ℕ) (nodes : List entries.Node) (news : Option News) → IsOfAsker key news → has_room limit now key None nodes ≡ true → HasPlace limit now news nodes
-place_for_news law limit now key nodes None of room = tt
-place_for_news law limit now key nodes (Some n) of room = λ enters full. law limit now key None nodes room (subst (λ (k : ℕ). NoPlace limit now k nodes) of.0 full)
+pub place_for_news : RoomIsPlace → (limit now key : ℕ) (entries : List neighbour_entries.NeighbourEntry) (news : Option News) → IsOfAsker key news → has_room limit now key None entries ≡ true → HasPlace limit now news entries
+place_for_news law limit now key entries None of room = tt
+place_for_news law limit now key entries (Some n) of room = λ enters full. law limit now key None entries room (subst (λ (k : ℕ). NoPlace limit now k entries) of.0 full)
 
 -- ---- the rows
 
@@ -172,22 +173,19 @@ module _ (start : Start) (now : ℕ) (source destination : Addr) (ns : NeighborS
 
 module _ {R A : Type 0} (stream : R → Stream) (old new : Node R A) (x y : List (ℕ × Out A)) (now : ℕ) (source destination : Addr) (ns : NeighborSolicitation) (options : List Said)
     (from : bytes_eq source.0 unspecified_address ≡ false) (settled : now < next_of old) where
-  pub refused : FullByHistory → has_room old.neighbours.limit now (number_of source.0) None old.neighbours.nodes ≡ false → new ≡ record old { last = now }
-      → (out : Out A) → happening out ≡ Refused (Full Neighbours) → y ≡ x ++ (now, out) ∷ [] → AddsMessage stream old new x y now source destination (solicitation ns options)
-  refused law room is out out_is told = record {
+  pub refused : FullByHistory → has_room old.neighbours.limit now (number_of source.0) None old.neighbours.entries ≡ false
+      → AddsAlone stream old new x y now (Refused (Full Neighbours)) → AddsMessage stream old new x y now source destination (solicitation ns options)
+  refused law room adds = record {
     each = λ start c s le takes.
+        let a = adds.each start c s le in
         let key : ℕ = number_of source.0 in
         let later : Chronicle = (now, Passed) ∷ c in
         let d : Chronicle = (now, Refused (Full Neighbours)) ∷ later in
         let would : WouldBeFull start.limits.neighbours now key (neighbour_history c) = would_be_full stream start old c now key law s room in (
           d,
           adds_refusal start now source destination ns options later d from (refl, would) refl,
-          stands_quiet stream start new later d (refused_is_quiet now (Full Neighbours) later (λ a. refl)) (passed stream start old new c now s le settled is),
-          record {
-            newer = (now, Refused (Full Neighbours)) ∷ [];
-            told = ap (λ t. t ++ items_at (now, Refused (Full Neighbours))) (append-nil (items c)) ∙ ap (λ l. items c ++ l) (sym (append-nil (items_at (now, Refused (Full Neighbours)))));
-            outs = one_told x y now out (Refused (Full Neighbours)) told out_is;
-          },
+          a.0,
+          a.1,
         );
   }
 
@@ -196,9 +194,9 @@ module _ {R A : Type 0} (stream : R → Stream) (old new : Node R A) (x y : List
 module _ {R A : Type 0} (stream : R → Stream) (old mid : Node R A) (x room y z : List (ℕ × Out A)) (now : ℕ) (source destination : Addr) (ns : NeighborSolicitation) (options : List Said)
     (settled : now < next_of old) (times : Times) (news : Option News) (ends : Bool) (heard : Out A)
     (still : NoneOverdueStill) (table : OverdueByTable) (one_goes : OneGoes)
-    (same : Same (record old { last = now }) mid) (addresses_same : mid.addresses ≡ old.addresses) (may : MayRemember old.choice mid.choice old.neighbours.nodes mid.neighbours.nodes)
+    (same : Same (record old { last = now }) mid) (addresses_same : mid.addresses ≡ old.addresses) (may : MayRemember old.choice mid.choice old.neighbours.entries mid.neighbours.entries)
     (news_is : option_map (said_by times) news ≡ said_of_neighbour source (bodies.Ns ns) options times.reachable) (reachable_is : times.reachable ≡ old.params.reachable_time)
-    (hears : HearsOf old.neighbours.limit now (option_map (said_by times) news) old.neighbours.nodes mid.neighbours.nodes y z ends)
+    (hears : HearsOf old.neighbours.limit now (option_map (said_by times) news) old.neighbours.entries mid.neighbours.entries y z ends)
     (reserved : room ≡ x) (told : y ≡ room ++ (now, heard) ∷ []) (heard_is : happening heard ≡ Heard source destination (record { body = bodies.Ns ns; options = [] })) where
   -- the node stands for what the solicitation says, behind what makes place for it
   pub record Taken (start : Start) (c : Chronicle) : Type 0 where
@@ -217,9 +215,9 @@ module _ {R A : Type 0} (stream : R → Stream) (old mid : Node R A) (x room y z
       let this : Option (ℕ × rows.RowKind) = said later source message in
       let this_is : option_map (said_by times) news ≡ this =
       news_is ∙ ap (λ (r : ℕ). said_of_neighbour source (bodies.Ns ns) options r) (reachable_is ∙ s.params.reachable_time) in
-      let hears' : HearsOf limit now this old.neighbours.nodes mid.neighbours.nodes y z ends =
-      subst (λ (l : ℕ). HearsOf l now this old.neighbours.nodes mid.neighbours.nodes y z ends) s.neighbour_limit
-      (subst (λ (o : Option (ℕ × rows.RowKind)). HearsOf old.neighbours.limit now o old.neighbours.nodes mid.neighbours.nodes y z ends) this_is hears) in
+      let hears' : HearsOf limit now this old.neighbours.entries mid.neighbours.entries y z ends =
+      subst (λ (l : ℕ). HearsOf l now this old.neighbours.entries mid.neighbours.entries y z ends) s.neighbour_limit
+      (subst (λ (o : Option (ℕ × rows.RowKind)). HearsOf old.neighbours.limit now o old.neighbours.entries mid.neighbours.entries y z ends) this_is hears) in
       let h = hears'.each history s.neighbours in
       let made : List rows.Row = h.0 in
       let p = placed_by start later now this made one_goes (λ a. refl) h.1 in
@@ -230,8 +228,8 @@ module _ {R A : Type 0} (stream : R → Stream) (old mid : Node R A) (x room y z
       let said_is : neighbour_history before ≡ then_neighbour now this made =
       ap (λ (r : ℕ). then_neighbour now (said_of_neighbour source (bodies.Ns ns) options r) (neighbour_history p.placed)) (ap (λ h. reachable_of h) p.others.parameters)
       ∙ ap (λ (l : List rows.Row). then_neighbour now this l) p.history in
-      let n : neighbours.Stands mid.neighbours.nodes (neighbour_history before) = subst (λ (l : List rows.Row). neighbours.Stands mid.neighbours.nodes l) (sym said_is) h.2 in
-      let none = none_before_said table still one_goes limit now this old.neighbours.nodes mid.neighbours.nodes history made s.neighbours h.1 h.2 (neighbours_before old now not_past) in
+      let n : neighbours.Stands mid.neighbours.entries (neighbour_history before) = subst (λ (l : List rows.Row). neighbours.Stands mid.neighbours.entries l) (sym said_is) h.2 in
+      let none = none_before_said table still one_goes limit now this old.neighbours.entries mid.neighbours.entries history made s.neighbours h.1 h.2 (neighbours_before old now not_past) in
       let stands_base : Stands stream start base later = passed stream start old base c now s le settled refl in
       let b : Beside later before = beside_then later p.placed before (others_beside later p.placed p.others) (heard_beside now source destination ns options p.placed) in
       let stands_before : Stands stream start mid before =
@@ -253,7 +251,7 @@ module _ {R A : Type 0} (stream : R → Stream) (old mid : Node R A) (x room y z
 
   -- and then the answer goes to the asker
   pub answered : (new : Node R A) (w : List (ℕ × Out A)) (from : bytes_eq source.0 unspecified_address ≡ false) → RoomIsPlace → FullByHistory
-      → has_room old.neighbours.limit now (number_of source.0) None old.neighbours.nodes ≡ true
+      → has_room old.neighbours.limit now (number_of source.0) None old.neighbours.entries ≡ true
       → (router : Bool) → router ≡ is_router old.role → (packet : List ℕ) → packet ≡ answer_frame router old.mac ns.target source
       → Leads stream mid new z w (PacketGoes now (number_of source.0) packet)
       → AddsMessage stream old new x w now source destination (solicitation ns options)

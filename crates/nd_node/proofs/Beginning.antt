@@ -48,7 +48,7 @@ pub record Starts {R A : Type 0} (stream : R → Stream) (start : Start) (node :
   pub retrans : ℕ
   pub formed : node.addresses.addresses ≡ formed (link_local_key start) start.at delay retrans None ∷ []
   pub routers : node.routers ≡ record { limit = start.limits.routers; entries = []; preferences = []; failed = [] }
-  pub neighbours : node.neighbours ≡ record { limit = start.limits.neighbours; nodes = []; rings = 0 }
+  pub neighbours : node.neighbours ≡ record { limit = start.limits.neighbours; entries = []; rings = 0 }
   pub solicitations : node.solicitations ≡ none_sent
   pub no_prefixes : node.prefixes ≡ []
   pub choice : node.choice ≡ record { redirects = []; memory = record { hops = []; until = None } }
@@ -57,7 +57,7 @@ pub record Starts {R A : Type 0} (stream : R → Stream) (start : Start) (node :
 
 pub stands_beginning : {R A : Type 0} (stream : R → Stream) (start : Start) (node : Node R A) → Starts stream start node
     → parameters.Stands node.params (parameter_history (beginning start)) → routers.Stands node.routers [] → lists.Stands same_prefix node.prefixes []
-    → addresses.Stands node.addresses.addresses (address_history (beginning start)) → neighbours.Stands node.neighbours.nodes [] → dns.Stands node.dns [] [] → choice.Stands node.choice []
+    → addresses.Stands node.addresses.addresses (address_history (beginning start)) → neighbours.Stands node.neighbours.entries [] → dns.Stands node.dns [] [] → choice.Stands node.choice []
     → stream node.generator ≡ stream_left start (beginning start) → Stands stream start node (beginning start)
 stands_beginning stream start node v params routers' prefixes addresses' neighbours' dns' redirects generator = record {
   role = v.role;
@@ -84,6 +84,6 @@ stands_beginning stream start node v params routers' prefixes addresses' neighbo
   prefixes_by_then = omega arith;
   servers_by_then = omega arith;
   names_by_then = omega arith;
-  memo = rw (v.no_prefixes, v.choice) (remembers_nothing node.last _ node.addresses.addresses [] node.neighbours.nodes node.routers refl (λ moment after asked. refl));
+  memo = rw (v.no_prefixes, v.choice) (remembers_nothing node.last _ node.addresses.addresses [] node.neighbours.entries node.routers refl (λ moment after asked. refl));
   in_time = all_later node start.at (rw v.routers tt) (rw v.formed (omega arith)) (rw v.neighbours tt) (rw v.solicitations (none_is_due node.role start.at)) (rw v.advertiser (none_advertised node.role start.at)) (omega (arith, v.drawn_at));
 }

@@ -125,7 +125,7 @@ module _ {R A : Type 0} (stream : R → Stream) (start : Start) (old new : Node 
 
   -- the neighbours and the own addresses stand for their rows, and none is due in the past
   pub stands_beside : addresses.Stands new.addresses.addresses (address_history d) → address_dates.NoneBefore new.addresses.addresses now
-      → neighbours.Stands new.neighbours.nodes (neighbour_history d) → neighbour_dates.NoneBefore new.neighbours.nodes now
+      → neighbours.Stands new.neighbours.entries (neighbour_history d) → neighbour_dates.NoneBefore new.neighbours.entries now
       → Recalls now new → Stands stream start new d
   stands_beside addresses' later_address neighbours' later_neighbour recalls = record {
     role = same.role ∙ s.role;
@@ -159,7 +159,7 @@ module _ {R A : Type 0} (stream : R → Stream) (start : Start) (old new : Node 
 
   -- rows of neighbours alone
   pub stands_neighbours : new.addresses ≡ old.addresses → address_history d ≡ address_history c
-      → neighbours.Stands new.neighbours.nodes (neighbour_history d) → neighbour_dates.NoneBefore new.neighbours.nodes now → MayRemember old.choice new.choice old.neighbours.nodes new.neighbours.nodes → Stands stream start new d
+      → neighbours.Stands new.neighbours.entries (neighbour_history d) → neighbour_dates.NoneBefore new.neighbours.entries now → MayRemember old.choice new.choice old.neighbours.entries new.neighbours.entries → Stands stream start new d
   stands_neighbours is own neighbours' later may =
       stands_beside (rw (is, own) s.addresses) (rw is (addresses_before old now not_past)) neighbours' later
       (may_recall old new old.last now (omega (arith, s.last, at)) s.memo same.prefixes may same.routers (rw is (λ key. refl)) (neighbour_history c) s.neighbours)

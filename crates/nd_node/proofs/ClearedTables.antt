@@ -10,7 +10,7 @@ use Rattle.nd_table.specs.declared.lasting.Lasting.{Lasting}
 use Rattle.nd_table.specs.Announcements as lifetimes
 use Rattle.nd_table.specs.Listing as lists
 use Rattle.nd_dns.specs.Dns as dns
-use Rattle.nd_neighbour.specs.Entry as entries
+use Rattle.nd_neighbour.specs.Entry as neighbour_entries
 use Rattle.nd_neighbour.specs.Entry.{waiting_in}
 use Rattle.nd_neighbour.specs.History as rows
 use Rattle.nd_neighbour.specs.Removal.{all_waiting, cleared}
@@ -70,7 +70,7 @@ module _ {R A : Type 0} (stream : R → Stream) (start : Start) (old : Node R A)
   silent_stands : lists.Stands same_prefix ps (prefix_history ((now, what) ∷ later)) → dns.Stands ds (server_history ((now, what) ∷ later)) (name_history ((now, what) ∷ later))
       → choice.Stands rs (redirect_history ((now, what) ∷ later)) → lifetimes.last_moment (prefix_history ((now, what) ∷ later)) ≤ now
       → lifetimes.last_moment (server_history ((now, what) ∷ later)) ≤ now → lifetimes.last_moment (name_history ((now, what) ∷ later)) ≤ now
-      → Remembers now rs old.addresses.addresses ps old.neighbours.nodes old.routers → Stands stream start (record old { last = now; prefixes = ps; dns = ds; choice = rs }) ((now, what) ∷ later)
+      → Remembers now rs old.addresses.addresses ps old.neighbours.entries old.routers → Stands stream start (record old { last = now; prefixes = ps; dns = ds; choice = rs }) ((now, what) ∷ later)
   silent_stands prefixes' dns' redirects' prefixes_by servers_by names_by remembers = record {
     role = s.role;
     mac = s.mac;
@@ -120,7 +120,7 @@ module _ {R A : Type 0} (stream : R → Stream) (old new : Node R A) (outs : Lis
           refl,
           rw is (silent_stands stream start old c now ClearedPrefixes (cleared_prefixes now) s settled ps old.dns rs
               (stands now (prefix_history c)) s.dns (redirects_stand old.choice rs (redirect_history c) (ap (λ (t : choice.Table). t.redirects) forgot) s.redirects) (omega arith) (omega (arith, s.servers_by_then, le)) (omega (arith, s.names_by_then, le))
-              (rw (none, forgot) (remembers_nothing now _ old.addresses.addresses [] old.neighbours.nodes old.routers refl (λ moment after asked. refl)))),
+              (rw (none, forgot) (remembers_nothing now _ old.addresses.addresses [] old.neighbours.entries old.routers refl (λ moment after asked. refl)))),
           record { newer = []; told = append-nil (items later'); outs = sym (append-nil (happenings outs)) },
         );
   }
@@ -150,7 +150,7 @@ module _ {R A : Type 0} (stream : R → Stream) (old new : Node R A) (outs : Lis
           refl,
           rw is (silent_stands stream start old c now ClearedDns (cleared_dns now) s settled old.prefixes ds old.choice
               s.prefixes (stands now (server_history c) (name_history c)) s.redirects (omega (arith, s.prefixes_by_then, le)) (omega arith) (omega arith)
-              (remembers_later old.last now old.choice old.addresses.addresses old.prefixes old.neighbours.nodes old.routers (omega (arith, s.last, le)) s.memo)),
+              (remembers_later old.last now old.choice old.addresses.addresses old.prefixes old.neighbours.entries old.routers (omega (arith, s.last, le)) s.memo)),
           record { newer = []; told = append-nil (items later'); outs = sym (append-nil (happenings outs)) },
         );
   }
@@ -164,68 +164,68 @@ lost_both at (x ∷ xs) ys = ap (λ l. (at, Lost Forgotten x) ∷ l) (lost_both 
 
 module _ (start : Start) (now : ℕ) where
   -- one of them goes, and what waits for it is lost
-  abbrev going : entries.Node → Chronicle → Chronicle
+  abbrev going : neighbour_entries.NeighbourEntry → Chronicle → Chronicle
   going n c = losing now Forgotten (waiting_in n.stage) ((now, Neighbour n.key (rows.Forgot rows.Cleared)) ∷ c)
 
-  abbrev forgotten_items : List entries.Node → List (ℕ × Told)
-  forgotten_items nodes = flat_map items_at (lost_at now Forgotten (all_waiting nodes))
+  abbrev forgotten_items : List neighbour_entries.NeighbourEntry → List (ℕ × Told)
+  forgotten_items entries = flat_map items_at (lost_at now Forgotten (all_waiting entries))
 
-  clearing_beside : (nodes : List entries.Node) (c : Chronicle) → Beside c (clearing start now nodes c)
+  clearing_beside : (entries : List neighbour_entries.NeighbourEntry) (c : Chronicle) → Beside c (clearing start now entries c)
   clearing_beside [] c = record { parameters = refl; routers = refl; prefixes = refl; servers = refl; names = refl; redirects = refl; assigned = λ key. refl; solicited = refl; router = λ start'. refl; stream = λ start'. refl }
-  clearing_beside (n ∷ nodes) c =
+  clearing_beside (n ∷ entries) c =
       let row : Chronicle = (now, Neighbour n.key (rows.Forgot rows.Cleared)) ∷ c in
       let gone = beside_then c row (going n c) (beside_neighbour now n.key (rows.Forgot rows.Cleared) c (λ h. refl) (λ h. refl))
       (beside_quiet row (going n c) (losing_is_quiet now Forgotten (waiting_in n.stage) row (λ at. refl))) in
-      beside_then c (going n c) (clearing start now nodes (going n c)) gone (clearing_beside nodes (going n c))
+      beside_then c (going n c) (clearing start now entries (going n c)) gone (clearing_beside entries (going n c))
 
-  clearing_history : (nodes : List entries.Node) (c : Chronicle) → neighbour_history (clearing start now nodes c) ≡ cleared now nodes (neighbour_history c)
+  clearing_history : (entries : List neighbour_entries.NeighbourEntry) (c : Chronicle) → neighbour_history (clearing start now entries c) ≡ cleared now entries (neighbour_history c)
   clearing_history [] c = refl
-  clearing_history (n ∷ nodes) c =
+  clearing_history (n ∷ entries) c =
       let row : Chronicle = (now, Neighbour n.key (rows.Forgot rows.Cleared)) ∷ c in
-      clearing_history nodes (going n c) ∙ ap (λ h. cleared now nodes h) (losing_is_quiet now Forgotten (waiting_in n.stage) row (λ at. refl)).neighbours
+      clearing_history entries (going n c) ∙ ap (λ h. cleared now entries h) (losing_is_quiet now Forgotten (waiting_in n.stage) row (λ at. refl)).neighbours
 
-  clearing_addresses : (nodes : List entries.Node) (c : Chronicle) → address_history (clearing start now nodes c) ≡ address_history c
+  clearing_addresses : (entries : List neighbour_entries.NeighbourEntry) (c : Chronicle) → address_history (clearing start now entries c) ≡ address_history c
   clearing_addresses [] c = refl
-  clearing_addresses (n ∷ nodes) c =
+  clearing_addresses (n ∷ entries) c =
       let row : Chronicle = (now, Neighbour n.key (rows.Forgot rows.Cleared)) ∷ c in
-      clearing_addresses nodes (going n c) ∙ (losing_is_quiet now Forgotten (waiting_in n.stage) row (λ at. refl)).addresses
+      clearing_addresses entries (going n c) ∙ (losing_is_quiet now Forgotten (waiting_in n.stage) row (λ at. refl)).addresses
 
-  clearing_last : (nodes : List entries.Node) (c : Chronicle) (at : ℕ) → last_moment at c ≡ now → last_moment at (clearing start now nodes c) ≡ now
+  clearing_last : (entries : List neighbour_entries.NeighbourEntry) (c : Chronicle) (at : ℕ) → last_moment at c ≡ now → last_moment at (clearing start now entries c) ≡ now
   clearing_last [] c at is = is
-  clearing_last (n ∷ nodes) c at is =
+  clearing_last (n ∷ entries) c at is =
       let row : Chronicle = (now, Neighbour n.key (rows.Forgot rows.Cleared)) ∷ c in
-      clearing_last nodes (going n c) at ((losing_is_quiet now Forgotten (waiting_in n.stage) row (λ at'. refl)).last at)
+      clearing_last entries (going n c) at ((losing_is_quiet now Forgotten (waiting_in n.stage) row (λ at'. refl)).last at)
 
-  clearing_items : (nodes : List entries.Node) (c : Chronicle) → items (clearing start now nodes c) ≡ items c ++ forgotten_items nodes
+  clearing_items : (entries : List neighbour_entries.NeighbourEntry) (c : Chronicle) → items (clearing start now entries c) ≡ items c ++ forgotten_items entries
   clearing_items [] c = sym (append-nil (items c))
-  clearing_items (n ∷ nodes) c =
+  clearing_items (n ∷ entries) c =
       let row : Chronicle = (now, Neighbour n.key (rows.Forgot rows.Cleared)) ∷ c in
       let these : List (ℕ × Told) = flat_map items_at (lost_at now Forgotten (waiting_in n.stage)) in
       let first : items (going n c) ≡ items c ++ these = lost_items now Forgotten (waiting_in n.stage) row ∙ ap (λ (t : List (ℕ × Told)). t ++ these) (append-nil (items c)) in
-      let both : forgotten_items (n ∷ nodes) ≡ these ++ forgotten_items nodes =
-      ap (λ l. flat_map items_at l) (lost_both now (waiting_in n.stage) (all_waiting nodes)) ∙ flat_map-append items_at (lost_at now Forgotten (waiting_in n.stage)) (lost_at now Forgotten (all_waiting nodes)) in
-      clearing_items nodes (going n c) ∙ (ap (λ (t : List (ℕ × Told)). t ++ forgotten_items nodes) first ∙ (append_assoc (items c) these (forgotten_items nodes) ∙ ap (λ (t : List (ℕ × Told)). items c ++ t) (sym both)))
+      let both : forgotten_items (n ∷ entries) ≡ these ++ forgotten_items entries =
+      ap (λ l. flat_map items_at l) (lost_both now (waiting_in n.stage) (all_waiting entries)) ∙ flat_map-append items_at (lost_at now Forgotten (waiting_in n.stage)) (lost_at now Forgotten (all_waiting entries)) in
+      clearing_items entries (going n c) ∙ (ap (λ (t : List (ℕ × Told)). t ++ forgotten_items entries) first ∙ (append_assoc (items c) these (forgotten_items entries) ∙ ap (λ (t : List (ℕ × Told)). items c ++ t) (sym both)))
 
 module _ {R A : Type 0} (stream : R → Stream) (old new : Node R A) (x room y : List (ℕ × Out A)) (now : ℕ) (settled : now < next_of old)
-    (same : Same (record old { last = now }) new) (is : new.addresses ≡ old.addresses) (may : MayRemember old.choice new.choice old.neighbours.nodes new.neighbours.nodes) where
-  pub clears_neighbours : ((at : ℕ) (history : List rows.Row) → neighbours.Stands old.neighbours.nodes history → neighbours.Stands new.neighbours.nodes (cleared at old.neighbours.nodes history))
-      → new.neighbours.nodes ≡ [] → (packets : List (List ℕ)) → packets ≡ all_waiting old.neighbours.nodes → room ≡ x → happenings y ≡ happenings room ++ lost_at now Forgotten packets
+    (same : Same (record old { last = now }) new) (is : new.addresses ≡ old.addresses) (may : MayRemember old.choice new.choice old.neighbours.entries new.neighbours.entries) where
+  pub clears_neighbours : ((at : ℕ) (history : List rows.Row) → neighbours.Stands old.neighbours.entries history → neighbours.Stands new.neighbours.entries (cleared at old.neighbours.entries history))
+      → new.neighbours.entries ≡ [] → (packets : List (List ℕ)) → packets ≡ all_waiting old.neighbours.entries → room ≡ x → happenings y ≡ happenings room ++ lost_at now Forgotten packets
       → AddsEvent stream old new x y now (events.Clears events.ClearNeighbours)
   clears_neighbours stands none packets packets_are reserved told = record {
     each = λ start c s le.
-        let nodes : List entries.Node = old.neighbours.nodes in
+        let entries : List neighbour_entries.NeighbourEntry = old.neighbours.entries in
         let later' : Chronicle = (now, Passed) ∷ c in
-        let d : Chronicle = clearing start now nodes later' in
+        let d : Chronicle = clearing start now entries later' in
         let base : Node R A = record old { last = now } in
-        let history_is : neighbour_history d ≡ cleared now nodes (neighbour_history c) = clearing_history start now nodes later' in
-        let neighbours' = subst (λ (h : List rows.Row). neighbours.Stands new.neighbours.nodes h) (sym history_is) (stands now (neighbour_history c) s.neighbours) in (
+        let history_is : neighbour_history d ≡ cleared now entries (neighbour_history c) = clearing_history start now entries later' in
+        let neighbours' = subst (λ (h : List rows.Row). neighbours.Stands new.neighbours.entries h) (sym history_is) (stands now (neighbour_history c) s.neighbours) in (
           d,
-          (nodes, s.neighbours, refl),
-          stands_neighbours stream start base new later' d now same (clearing_beside start now nodes later') (passed stream start old base c now s le settled refl) refl
-              (clearing_last start now nodes later' start.at refl) is (clearing_addresses start now nodes later') neighbours' (rw none tt) may,
+          (entries, s.neighbours, refl),
+          stands_neighbours stream start base new later' d now same (clearing_beside start now entries later') (passed stream start old base c now s le settled refl) refl
+              (clearing_last start now entries later' start.at refl) is (clearing_addresses start now entries later') neighbours' (rw none tt) may,
           record {
-            newer = lost_at now Forgotten (all_waiting nodes);
-            told = clearing_items start now nodes later' ∙ ap (λ (t : List (ℕ × Told)). t ++ forgotten_items start now nodes) (append-nil (items c));
+            newer = lost_at now Forgotten (all_waiting entries);
+            told = clearing_items start now entries later' ∙ ap (λ (t : List (ℕ × Told)). t ++ forgotten_items start now entries) (append-nil (items c));
             outs = told ∙ (ap (λ (r : List (ℕ × Out A)). happenings r ++ lost_at now Forgotten packets) reserved
                 ∙ ap (λ (p : List (List ℕ)). happenings x ++ lost_at now Forgotten p) packets_are);
           },

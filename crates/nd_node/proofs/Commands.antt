@@ -32,12 +32,12 @@ use Rattle.nd_node.proofs.Steps.{passed}
 use Rattle.nd_node.proofs.Turns.{neighbours_before}
 
 module _ {R A : Type 0} (stream : R → Stream) (old new : Node R A) (now : ℕ) (neighbour : Addr) (settled : now < next_of old) (still : NoneOverdueStill) (table : OverdueByTable)
-    (same : Same (record old { last = now }) new) (is : new.addresses ≡ old.addresses) (may : MayRemember old.choice new.choice old.neighbours.nodes new.neighbours.nodes) where
+    (same : Same (record old { last = now }) new) (is : new.addresses ≡ old.addresses) (may : MayRemember old.choice new.choice old.neighbours.entries new.neighbours.entries) where
   -- the neighbour has one more row, which is no failure
   row_stands : (kind : rows.RowKind) → ((history : List RouterRow) → then_failed now (number_of neighbour.0) kind history ≡ history)
       → ((history : List RedirectRow) → then_target now (number_of neighbour.0) kind history ≡ history)
       → (start : Start) (c : Chronicle) → Stands stream start old c → last_moment start.at c ≤ now
-      → neighbours.Stands new.neighbours.nodes ((now, number_of neighbour.0, kind) ∷ neighbour_history c)
+      → neighbours.Stands new.neighbours.entries ((now, number_of neighbour.0, kind) ∷ neighbour_history c)
       → Stands stream start new ((now, Neighbour (number_of neighbour.0) kind) ∷ (now, Passed) ∷ c)
   row_stands kind routers' redirects' start c s le stands' =
       let key : ℕ = number_of neighbour.0 in
@@ -45,22 +45,22 @@ module _ {R A : Type 0} (stream : R → Stream) (old new : Node R A) (now : ℕ)
       let base : Node R A = record old { last = now } in
       let later : Chronicle = (now, Passed) ∷ c in
       let not_past : now ≤ next_of old = omega (arith, settled) in
-      let before = (table old.neighbours.nodes history now s.neighbours).0 (neighbours_before old now not_past) in
-      let none = (table new.neighbours.nodes ((now, key, kind) ∷ history) now stands').1 (still history now key kind before) in
+      let before = (table old.neighbours.entries history now s.neighbours).0 (neighbours_before old now not_past) in
+      let none = (table new.neighbours.entries ((now, key, kind) ∷ history) now stands').1 (still history now key kind before) in
       stands_neighbours stream start base new later ((now, Neighbour key kind) ∷ later) now same (beside_neighbour now key kind later routers' redirects')
       (passed stream start old base c now s le settled refl) refl refl is refl stands' none may
 
   -- it is confirmed, at the ReachableTime in force
   pub confirms : (reachable : ℕ) → reachable ≡ old.params.reachable_time
-      → neighbours.GainsRow old.neighbours.nodes new.neighbours.nodes (now, number_of neighbour.0, rows.Confirmed reachable)
+      → neighbours.GainsRow old.neighbours.entries new.neighbours.entries (now, number_of neighbour.0, rows.Confirmed reachable)
       → (outs : List (ℕ × Out A)) → AddsEvent stream old new outs outs now (events.Confirms neighbour)
   confirms reachable reachable_is gains outs = record {
     each = λ start c s le.
         let key : ℕ = number_of neighbour.0 in
         let kind : rows.RowKind = rows.Confirmed (reachable_time c) in
         let later : Chronicle = (now, Passed) ∷ c in
-        let stands' : neighbours.Stands new.neighbours.nodes ((now, key, kind) ∷ neighbour_history c) =
-        subst (λ (r : ℕ). neighbours.Stands new.neighbours.nodes ((now, key, rows.Confirmed r) ∷ neighbour_history c)) (reachable_is ∙ s.params.reachable_time)
+        let stands' : neighbours.Stands new.neighbours.entries ((now, key, kind) ∷ neighbour_history c) =
+        subst (λ (r : ℕ). neighbours.Stands new.neighbours.entries ((now, key, rows.Confirmed r) ∷ neighbour_history c)) (reachable_is ∙ s.params.reachable_time)
         (gains.stands (neighbour_history c) s.neighbours) in (
           (now, Neighbour key kind) ∷ later,
           refl,
@@ -70,8 +70,8 @@ module _ {R A : Type 0} (stream : R → Stream) (old new : Node R A) (now : ℕ)
   }
 
   -- it is forgotten, and what waited for it is lost
-  pub forgets : (x room y : List (ℕ × Out A)) (packets : List (List ℕ)) → neighbours.GainsRow old.neighbours.nodes new.neighbours.nodes (now, number_of neighbour.0, rows.Forgot rows.Removed)
-      → ((history : List rows.Row) → neighbours.Stands old.neighbours.nodes history → packets ≡ waits_of (story (number_of neighbour.0) history))
+  pub forgets : (x room y : List (ℕ × Out A)) (packets : List (List ℕ)) → neighbours.GainsRow old.neighbours.entries new.neighbours.entries (now, number_of neighbour.0, rows.Forgot rows.Removed)
+      → ((history : List rows.Row) → neighbours.Stands old.neighbours.entries history → packets ≡ waits_of (story (number_of neighbour.0) history))
       → room ≡ x → happenings y ≡ happenings room ++ lost_at now Forgotten packets → AddsEvent stream old new x y now (events.Forgets neighbour)
   forgets x room y packets gains packets_are reserved told = record {
     each = λ start c s le.

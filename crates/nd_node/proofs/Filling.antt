@@ -19,7 +19,7 @@ use Rattle.nd_table.proofs.Steps.{lists_at}
 use Rattle.nd_routers.specs.History.{RouterRow, announcements}
 use Rattle.nd_routers.specs.Routers as routers
 use Rattle.nd_routers.specs.Routers.{same}
-use Rattle.nd_routers.specs.PrefixOptions as on_link
+use Rattle.nd_routers.specs.OnLinkPrefixes as on_link
 use Rattle.nd_slaac.specs.History.{Row}
 use Rattle.nd_slaac.specs.Table as addresses
 use Rattle.nd_slaac.specs.PrefixOption.{prefixes_in}
@@ -27,8 +27,8 @@ use Rattle.nd_slaac.specs.Calls.{keys_in}
 use Rattle.nd_slaac.specs.Room.{fits_in}
 use Rattle.nd_dns.specs.Dns as dns
 use Rattle.nd_dns.specs.Dns.{max_servers, max_names}
-use Rattle.nd_dns.specs.Names.{same_name, names_told}
-use Rattle.nd_dns.specs.Servers.{servers_told}
+use Rattle.nd_dns.specs.AnnouncedNames.{same_name, names_told}
+use Rattle.nd_dns.specs.AnnouncedServers.{servers_told}
 use Rattle.nd_chronicle.specs.Start.{Start}
 use Rattle.nd_chronicle.specs.Happening as happenings
 use Rattle.nd_chronicle.specs.Happening.{Chronicle, last_moment}

@@ -11,12 +11,12 @@ use Rattle.nd_addr.specs.Ip6.{PacketParts, ipv6_header_length, payload_length_of
 use Rattle.nd_addr.specs.Places.{packet_in, parts_in}
 use Rattle.nd_addr.specs.Number.{addr_at, number_of}
 use Rattle.nd_compose.specs.Frames.{open_mac}
-use Rattle.nd_neighbour.specs.Entry as entries
+use Rattle.nd_neighbour.specs.Entry as neighbour_entries
 use Rattle.nd_neighbour.specs.History as rows
 use Rattle.nd_neighbour.specs.Place.{has_place}
 use Rattle.nd_neighbour.specs.Room.{HasRoom, LeavesRoom, has_first, has_room, has_second}
 use Rattle.nd_neighbour.specs.Table as neighbours
-use Rattle.nd_neighbour.specs.Table.{node_in}
+use Rattle.nd_neighbour.specs.Table.{entry_in}
 use Rattle.nd_nexthop.specs.NextHop.{NextHop}
 use Rattle.nd_forwarding.specs.Forward.{Fate, lost_no_route, lost_hop_limit, sent, fate}
 use Rattle.nd_forwarding.specs.History as route_rows
@@ -35,7 +35,7 @@ use Rattle.nd_out.specs.declared.out.Out.{Out}
 use Rattle.nd_steps.specs.Outputs.{Tells, happenings}
 use Rattle.nd_steps.specs.declared.router_tables.RouterTables.{RouterTables}
 use Rattle.nd_steps.proofs.Telling.{Tells-then}
-use Rattle.nd_steps.proofs.Transit.{as_it_came, payload_fits, sent_on}
+use Rattle.nd_steps.proofs.InTransit.{as_it_came, payload_fits, sent_on}
 use Rattle.nd_node.specs.declared.node.Node.{Node}
 use Rattle.nd_node.specs.Forwarding.{AddsForwarded, AddsLostInTransit, AddsOnward, AddsSentOn}
 use Rattle.nd_node.specs.Frame.{AddsAlone}
@@ -50,18 +50,18 @@ use Rattle.nd_node.proofs.Steps.{passed}
 
 -- ---- room for two
 
-placed_by : (found : Option entries.Node) (place : Bool) → ((found ≡ None) × (place ≡ false) → ⊥) → (is_some found || place) ≡ true
+placed_by : (found : Option neighbour_entries.NeighbourEntry) (place : Bool) → ((found ≡ None) × (place ≡ false) → ⊥) → (is_some found || place) ≡ true
 placed_by (Some n) place never = refl
 placed_by None true never = refl
 placed_by None false never = absurd (never (refl, refl))
 
 -- a second neighbour that had room before a packet to the first has place after it
-pub place_left : (limit now key next : ℕ) (old new : List entries.Node) → LeavesRoom limit now key old new → has_room limit now key (Some next) old ≡ true → has_room limit now next None new ≡ true
-place_left limit now key next old new leaves room = placed_by (node_in next new) (has_place limit now new) (λ none. leaves.has next room none)
+pub place_left : (limit now key next : ℕ) (old new : List neighbour_entries.NeighbourEntry) → LeavesRoom limit now key old new → has_room limit now key (Some next) old ≡ true → has_room limit now next None new ≡ true
+place_left limit now key next old new leaves room = placed_by (entry_in next new) (has_place limit now new) (λ none. leaves.has next room none)
 
 -- and the first one has place
-pub first_placed : (limit now key next : ℕ) (nodes : List entries.Node) → has_room limit now key (Some next) nodes ≡ true → has_room limit now key None nodes ≡ true
-first_placed limit now key next nodes room = first_so (has_first limit now key nodes) (has_second limit now key next nodes) room
+pub first_placed : (limit now key next : ℕ) (entries : List neighbour_entries.NeighbourEntry) → has_room limit now key (Some next) entries ≡ true → has_room limit now key None entries ≡ true
+first_placed limit now key next entries room = first_so (has_first limit now key entries) (has_second limit now key next entries) room
 
 -- and of two rings one is left for it
 pub one_left : (found : Bool) (before after : ℕ) → 2 ≤ before → after ≡ (if found then before else before - 1) → 0 < after
@@ -71,7 +71,7 @@ one_left false before after two is = omega (arith, two, is)
 -- what the room for two says of what happened
 abbrev pub SaysRoom : {R A : Type 0} → Node R A → ℕ → ℕ → ℕ → Bool → Type 0
 SaysRoom node now first second room =
-    (history : List rows.Row) → neighbours.Stands node.neighbours.nodes history → room ≡ true ↔ HasRoom node.neighbours.limit now first (Some second) history
+    (history : List rows.Row) → neighbours.Stands node.neighbours.entries history → room ≡ true ↔ HasRoom node.neighbours.limit now first (Some second) history
 
 -- ---- it is lost, or sent alone
 
@@ -123,7 +123,7 @@ module _ {R A : Type 0} (stream : R → Stream) (old mid made sent new : Node R 
       → (tables : RouterTables A) → made ≡ record mid { router = tables } → tables.advertiser ≡ mid.router.advertiser
       → route_tables.GainsRow mid.router.routes tables.routes (route_rows.RedirectMade now)
       → own ≡ addr_at (link_local_of old.addresses.mac)
-      → ((start : Start) (moment : ℕ) (c : Chronicle) → neighbours.Stands old.neighbours.nodes (neighbour_history c) → start.mac ≡ old.mac → own ≡ link_local start
+      → ((start : Start) (moment : ℕ) (c : Chronicle) → neighbours.Stands old.neighbours.entries (neighbour_history c) → start.mac ≡ old.mac → own ≡ link_local start
       → redirecting ≡ better_hop_frame start moment target packet bytes c)
       → frame ≡ written_frame open_mac old.mac (record packet.header { hop_limit = packet.header.hop_limit - 1 }) packet.payload
       → Leads stream made sent w v (PacketGoes now (number_of packet.header.source.0) redirecting) → Leads stream sent new v y (PacketGoes now key frame)

@@ -112,18 +112,18 @@ stays_keeps stream old new k = record {
     routers = rw k.routers s.routers;
     prefixes = rw k.prefixes s.prefixes;
     addresses = rw k.addresses s.addresses;
-    neighbours = rw k.nodes s.neighbours;
+    neighbours = rw k.entries s.neighbours;
     dns = rw k.dns s.dns;
     redirects = rw k.choice s.redirects;
     solicitations = rw k.solicitations s.solicitations;
     router = rw k.router s.router;
     generator = ap stream k.generator ∙ s.generator;
     last = k.last ∙ s.last;
-    memo = rw (k.last, k.choice, k.addresses, k.prefixes, k.nodes, k.routers) s.memo;
+    memo = rw (k.last, k.choice, k.addresses, k.prefixes, k.entries, k.routers) s.memo;
     prefixes_by_then = s.prefixes_by_then;
     servers_by_then = s.servers_by_then;
     names_by_then = s.names_by_then;
-    in_time = rw (k.role, k.params, k.routers, k.addresses, k.nodes, k.solicitations, k.router) s.in_time;
+    in_time = rw (k.role, k.params, k.routers, k.addresses, k.entries, k.solicitations, k.router) s.in_time;
   };
 }
 

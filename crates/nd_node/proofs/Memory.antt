@@ -10,11 +10,11 @@ use Rattle.nd_decode.specs.declared.router_advertisement.RouterAdvertisement.{Ro
 use Rattle.nd_validity.specs.Hearing.{Outcome, Hears, valid}
 use Rattle.nd_neighbour.specs.declared.news.News.{News}
 use Rattle.nd_neighbour.specs.declared.news.Times.{Times}
-use Rattle.nd_neighbour.specs.Entry as entries
+use Rattle.nd_neighbour.specs.Entry as neighbour_entries
 use Rattle.nd_neighbour.specs.History as rows
 use Rattle.nd_neighbour.specs.News.{news_key}
 use Rattle.nd_neighbour.specs.Removal.{waiting_at}
-use Rattle.nd_neighbour.specs.Table.{node_in}
+use Rattle.nd_neighbour.specs.Table.{entry_in}
 use Rattle.nd_addr.specs.declared.role.Role.{Role}
 use Rattle.nd_addr.specs.declared.why.Why.{Why}
 use Rattle.nd_addr.specs.Ip6.{PacketParts}
@@ -37,11 +37,11 @@ of_sender times key None n e =
     let pair : said_by times n ≡ (key, rows.Marked true) = cc in
     ap (λ (p : ℕ × rows.RowKind). p.0) pair
 
-pub waits_for_sender : (times : Times) (key : ℕ) (mac : Option Mac) (news : Option News) (nodes : List entries.Node) → option_map (said_by times) news ≡ given_or_marked key mac (Some true)
-    → waiting_for news nodes ≡ length (waiting_at (node_in key nodes))
-waits_for_sender times key (Some mac) None nodes e = let no : ⊥ = cc in absurd no
-waits_for_sender times key None None nodes e = let no : ⊥ = cc in absurd no
-waits_for_sender times key mac (Some n) nodes e = ap (λ (k : ℕ). length (waiting_at (node_in k nodes))) (of_sender times key mac n e)
+pub waits_for_sender : (times : Times) (key : ℕ) (mac : Option Mac) (news : Option News) (entries : List neighbour_entries.NeighbourEntry) → option_map (said_by times) news ≡ given_or_marked key mac (Some true)
+    → waiting_for news entries ≡ length (waiting_at (entry_in key entries))
+waits_for_sender times key (Some mac) None entries e = let no : ⊥ = cc in absurd no
+waits_for_sender times key None None entries e = let no : ⊥ = cc in absurd no
+waits_for_sender times key mac (Some n) entries e = ap (λ (k : ℕ). length (waiting_at (entry_in k entries))) (of_sender times key mac n e)
 
 -- ---- what is dropped
 

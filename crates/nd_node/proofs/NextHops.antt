@@ -14,17 +14,17 @@ use Rattle.nd_table.specs.Listing.{Lists, open_at}
 use Rattle.nd_table.proofs.Behind.{open_all}
 use Rattle.nd_table.proofs.Finding.{Has, Has-head, Has-tail}
 use Rattle.nd_table.proofs.Steps.{lists_at}
-use Rattle.nd_neighbour.specs.Entry.{Node}
+use Rattle.nd_neighbour.specs.Entry.{NeighbourEntry}
 use Rattle.nd_neighbour.specs.History as neighbour_rows
-use Rattle.nd_neighbour.specs.Story.{is_present, mac_of, node_of}
+use Rattle.nd_neighbour.specs.Story.{is_present, mac_of, entry_of}
 use Rattle.nd_neighbour.specs.Table as neighbours
 use Rattle.nd_neighbour.specs.Due as neighbour_dates
 use Rattle.nd_slaac.specs.Dates as address_dates
-use Rattle.nd_params.specs.History.{redraw_after}
+use Rattle.nd_params.specs.ReachableTime.{redraw_after}
 use Rattle.nd_routers.specs.History.{announcements, preference_of}
 use Rattle.nd_routers.specs.Preferences.{preference_among}
 use Rattle.nd_routers.specs.OnLink.{is_held}
-use Rattle.nd_routers.specs.DefaultRouterSelection.{place_among}
+use Rattle.nd_routers.specs.RouterFailures.{place_among}
 use Rattle.nd_routers.specs.Routers as routers
 use Rattle.nd_routers.specs.Routers.{same}
 use Rattle.nd_routers.proofs.Preferring.{found_among}
@@ -55,13 +55,13 @@ use Rattle.nd_steps.proofs.Remembering.{hop_by_own}
 use Rattle.nd_steps.proofs.Resolved.{resolved_by_history}
 use Rattle.nd_nexthop.specs.Choice as choice
 use Rattle.nd_node.proofs.Recalling.{Recalls}
-use Rattle.nd_node.specs.declared.node.Node as nodes
+use Rattle.nd_node.specs.declared.node.NeighbourEntry as entries
 use Rattle.nd_node.specs.Moments.{earlier}
-use Rattle.nd_node.specs.Node.{Stands, next_of}
+use Rattle.nd_node.specs.NeighbourEntry.{Stands, next_of}
 
 -- ---- a router in any state other than INCOMPLETE
 
-candidates_are : (c : Chronicle) (kept : List Node) (table : routers.Table) (entries : List (Lasting ℕ)) → neighbours.Stands kept (neighbour_history c)
+candidates_are : (c : Chronicle) (kept : List NeighbourEntry) (table : routers.Table) (entries : List (Lasting ℕ)) → neighbours.Stands kept (neighbour_history c)
     → ((key : ℕ) → Has same eqb_tells entries key → preference_among key table.preferences ≡ preference_of key (router_history c))
     → map (λ key. candidate_in kept table key) (routers.keys entries) ≡ map (λ (e : Lasting ℕ). candidate c table.failed e.key) entries
 candidates_are c kept table [] s preferred = refl
@@ -76,11 +76,11 @@ before_next None rest now lt = refl
 before_next (Some end) rest now lt = lt-ltb now end (omega (arith, lt))
 
 -- no router's lifetime has ended at a node at which nothing is due
-pub settled_routers : {R A : Type 0} (node : nodes.Node R A) (now : ℕ) → now < next_of node → routers.IsSettled node.routers.entries now
+pub settled_routers : {R A : Type 0} (node : entries.NeighbourEntry R A) (now : ℕ) → now < next_of node → routers.IsSettled node.routers.entries now
 settled_routers node now settled =
-    before_next (routers.next_end node.routers.entries) (earlier (address_dates.next_in node.addresses.addresses) (earlier (neighbour_dates.next_in node.neighbours.nodes) (earlier (next_solicitation node.role node.solicitations) (earlier (next_advertisement node.role node.router) (node.params.drawn_at + redraw_after))))) now settled
+    before_next (routers.next_end node.routers.entries) (earlier (address_dates.next_in node.addresses.addresses) (earlier (neighbour_dates.next_in node.neighbours.entries) (earlier (next_solicitation node.role node.solicitations) (earlier (next_advertisement node.role node.router) (node.params.drawn_at + redraw_after))))) now settled
 
-module _ {R A : Type 0} (stream : R → Stream) (start : Start) (node : nodes.Node R A) (c : Chronicle) (now : ℕ) (s : Stands stream start node c) (le : last_moment start.at c ≤ now) (settled : now < next_of node) where
+module _ {R A : Type 0} (stream : R → Stream) (start : Start) (node : entries.NeighbourEntry R A) (c : Chronicle) (now : ℕ) (s : Stands stream start node c) (le : last_moment start.at c ≤ now) (settled : now < next_of node) where
   open_routers : open_at now node.routers.entries ≡ node.routers.entries
   open_routers = open_all same eqb_tells node.routers.entries now (open_each node.routers.entries now (settled_routers node now settled))
 
@@ -89,21 +89,21 @@ module _ {R A : Type 0} (stream : R → Stream) (start : Start) (node : nodes.No
   routers_listed = rw (sym open_routers) (lists_at same eqb_tells node.routers.entries (announcements (router_history c)) now s.routers.routers)
 
   pub next_hop_is : (destination : Addr) (next : NextHop)
-      → next ≡ hop (λ (a : List ℕ). counted_in Own (address_in (number_of a) node.addresses.addresses)) (λ (a : List ℕ). is_held a (open_at now node.prefixes)) (candidates_in node.neighbours.nodes node.routers) (kept (number_of destination.0) (redirect_history c)) destination.0
+      → next ≡ hop (λ (a : List ℕ). counted_in Own (address_in (number_of a) node.addresses.addresses)) (λ (a : List ℕ). is_held a (open_at now node.prefixes)) (candidates_in node.neighbours.entries node.routers) (kept (number_of destination.0) (redirect_history c)) destination.0
       → IsNextHop c now destination next
   next_hop_is destination next is = record {
     prefixes = open_at now node.prefixes;
     standing = s.prefixes.lists now (omega (arith, s.prefixes_by_then, le));
-    routers = candidates_in node.neighbours.nodes node.routers;
+    routers = candidates_in node.neighbours.entries node.routers;
     those = record {
       entries = node.routers.entries;
       listed = routers_listed;
       failed = node.routers.failed;
       failures = s.routers.failures;
-      routers_are = candidates_are c node.neighbours.nodes node.routers node.routers.entries s.neighbours
+      routers_are = candidates_are c node.neighbours.entries node.routers node.routers.entries s.neighbours
           (λ key h. ap (λ ps. preference_among key ps) s.routers.preferred ∙ found_among (λ k. preference_of k (router_history c)) key node.routers.entries h);
     };
-    next_is = is ∙ hop_by_own (λ (a : List ℕ). counted_in Own (address_in (number_of a) node.addresses.addresses)) (is_own c) (λ (a : List ℕ). is_held a (open_at now node.prefixes)) (candidates_in node.neighbours.nodes node.routers) (kept (number_of destination.0) (redirect_history c)) destination.0
+    next_is = is ∙ hop_by_own (λ (a : List ℕ). counted_in Own (address_in (number_of a) node.addresses.addresses)) (is_own c) (λ (a : List ℕ). is_held a (open_at now node.prefixes)) (candidates_in node.neighbours.entries node.routers) (kept (number_of destination.0) (redirect_history c)) destination.0
         (counted_by_history Own (number_of destination.0) node.addresses.addresses (address_history c) s.addresses);
   }
 
@@ -113,7 +113,7 @@ pub hop_of_host : (role start_role : Role) → role ≡ start_role → role ≡ 
 hop_of_host role start_role is host c now destination next h = subst (λ (r : Role). IsHopOf r c now destination next) (sym host ∙ is) h
 
 -- a router's goes by its routes
-pub hop_of_router : {R A : Type 0} (stream : R → Stream) (start : Start) (node : nodes.Node R A) (c : Chronicle) (now : ℕ) → Stands stream start node c → node.role ≡ Router → (destination : Addr) (own : Bool) (next : NextHop)
+pub hop_of_router : {R A : Type 0} (stream : R → Stream) (start : Start) (node : entries.NeighbourEntry R A) (c : Chronicle) (now : ℕ) → Stands stream start node c → node.role ≡ Router → (destination : Addr) (own : Bool) (next : NextHop)
     → own ≡ counted_in Own (address_in (number_of destination.0) node.addresses.addresses)
     → ((is : List ℕ → Bool) → is destination.0 ≡ own → (history : List route_rows.Row) → routing.Stands node.router.routes history → next ≡ by_routes.hop is (routes history) destination.0)
     → IsHopOf start.role c now destination next
@@ -123,7 +123,7 @@ hop_of_router stream start node c now s router destination own next own_is by_hi
 -- ---- the next hop is remembered
 
 -- a node whose choice was asked stands for the same
-pub stands_asked : {R A : Type 0} (stream : R → Stream) (start : Start) (node : nodes.Node R A) (c : Chronicle) (asked : choice.Table) → Stands stream start node c → choice.Stands asked (redirect_history c)
+pub stands_asked : {R A : Type 0} (stream : R → Stream) (start : Start) (node : entries.NeighbourEntry R A) (c : Chronicle) (asked : choice.Table) → Stands stream start node c → choice.Stands asked (redirect_history c)
     → Recalls node.last (record node { choice = asked }) → Stands stream start (record node { choice = asked }) c
 stands_asked stream start node c asked s redirects recalls = record {
   role = s.role;

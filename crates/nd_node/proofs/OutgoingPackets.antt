@@ -87,7 +87,7 @@ module _ {R A : Type 0} (stream : R → Stream) (old new : Node R A) (x y : List
 
 module _ {R A : Type 0} (stream : R → Stream) (old new : Node R A) (x y : List (ℕ × Out A)) (now key : ℕ) (packet : List ℕ) (settled : now < next_of old) where
   -- it has no place
-  pub refused_full : FullByHistory → has_room old.neighbours.limit now key None old.neighbours.nodes ≡ false → AddsAlone stream old new x y now (Refused (Full Neighbours))
+  pub refused_full : FullByHistory → has_room old.neighbours.limit now key None old.neighbours.entries ≡ false → AddsAlone stream old new x y now (Refused (Full Neighbours))
       → AddsToNeighbour stream old new x y now key packet
   refused_full law room adds = record {
     each = λ start c s le.
@@ -102,7 +102,7 @@ module _ {R A : Type 0} (stream : R → Stream) (old new : Node R A) (x y : List
 
   -- it has place
   pub goes_to : (mid : Node R A) (room : List (ℕ × Out A)) → Keeps (record old { last = now }) mid → room ≡ x → RoomIsPlace → FullByHistory
-      → has_room old.neighbours.limit now key None old.neighbours.nodes ≡ true → Leads stream mid new room y (PacketGoes now key packet)
+      → has_room old.neighbours.limit now key None old.neighbours.entries ≡ true → Leads stream mid new room y (PacketGoes now key packet)
       → AddsToNeighbour stream old new x y now key packet
   goes_to mid room keeps same room_is_place full_by_history has goes = record {
     each = λ start c s le.

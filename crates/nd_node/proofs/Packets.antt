@@ -90,12 +90,12 @@ replaced_by waiting packet = if nat_lt (length waiting) max_waiting then None el
 module _ {R A : Type 0} (stream : R → Stream) (start : Start) (old new : Node R A) (c placed : Chronicle) (now : ℕ) (still : NoneOverdueStill) (table : OverdueByTable)
     (same : Same old new) (is : new.addresses ≡ old.addresses) (s : Stands stream start old c) (at : last_moment start.at c ≡ now)
     (b : Beside c placed) (own : address_history placed ≡ address_history c) (none : NoneOverdue (neighbour_history placed) now)
-    (may : MayRemember old.choice new.choice old.neighbours.nodes new.neighbours.nodes) where
-  later : (history : List rows.Row) → neighbours.Stands new.neighbours.nodes history → NoneOverdue history now → NoneBefore new.neighbours.nodes now
-  later history n o = (table new.neighbours.nodes history now n).1 o
+    (may : MayRemember old.choice new.choice old.neighbours.entries new.neighbours.entries) where
+  later : (history : List rows.Row) → neighbours.Stands new.neighbours.entries history → NoneOverdue history now → NoneBefore new.neighbours.entries now
+  later history n o = (table new.neighbours.entries history now n).1 o
 
   packet_stands : (present : Bool) (known : Option ℕ) (waiting : List (List ℕ)) (key retrans : ℕ) (packet : List ℕ)
-      → neighbours.Stands new.neighbours.nodes (sendings.then_packet present known now key retrans packet (neighbour_history placed))
+      → neighbours.Stands new.neighbours.entries (sendings.then_packet present known now key retrans packet (neighbour_history placed))
       → Stands stream start new (then_packet start now key retrans packet (sending_by present known waiting packet) placed)
   packet_stands false known waiting key retrans packet n =
       let asked : Chronicle = (now, Neighbour key (rows.Asked retrans)) ∷ placed in
@@ -114,7 +114,7 @@ module _ {R A : Type 0} (stream : R → Stream) (start : Start) (old new : Node 
       let q = losing_is_quiet now Replaced oldest waits (λ a. refl) in
       let b1 = beside_then c placed waits b (beside_neighbour now key (rows.Waits packet) placed (λ h. refl) (λ h. refl)) in
       let b2 = beside_then c waits lost b1 (beside_quiet waits lost q) in
-      let n' = subst (λ (h : List rows.Row). neighbours.Stands new.neighbours.nodes h) (sym q.neighbours) n in
+      let n' = subst (λ (h : List rows.Row). neighbours.Stands new.neighbours.entries h) (sym q.neighbours) n in
       let o = subst (λ (h : List rows.Row). NoneOverdue h now) (sym q.neighbours) (still _ now key (rows.Waits packet) none) in
       stands_neighbours stream start old new c lost now same b2 s at (q.last start.at) is (q.addresses ∙ own) n' (later _ n' o) may
   packet_stands true (Some mac) waiting key retrans packet n =
@@ -128,12 +128,12 @@ module _ {R A : Type 0} (stream : R → Stream) (start : Start) (old new : Node 
 -- ---- the packet
 
 module _ {R A : Type 0} (stream : R → Stream) (old new : Node R A) (x y : List (ℕ × Out A)) (now key retrans : ℕ) (packet : List ℕ) (still : NoneOverdueStill) (table : OverdueByTable) (one_is_pushed : OneGoes)
-    (last : old.last ≡ now) (same : Same old new) (is : new.addresses ≡ old.addresses) (may : MayRemember old.choice new.choice old.neighbours.nodes new.neighbours.nodes) where
+    (last : old.last ≡ now) (same : Same old new) (is : new.addresses ≡ old.addresses) (may : MayRemember old.choice new.choice old.neighbours.entries new.neighbours.entries) where
   -- the packet goes, and is told
   pub packet_leads : retrans ≡ old.params.retrans_timer
-      → GainsPacket old.neighbours.limit now key retrans packet old.neighbours.nodes new.neighbours.nodes
+      → GainsPacket old.neighbours.limit now key retrans packet old.neighbours.entries new.neighbours.entries
       → (mac : Mac) → mac ≡ old.mac → (own : Addr) → own ≡ addr_at (link_local_of old.addresses.mac)
-      → (sending : Sending) → ((history : List rows.Row) → neighbours.Stands old.neighbours.nodes history → sending ≡ sending_of_story (story key history) packet)
+      → (sending : Sending) → ((history : List rows.Row) → neighbours.Stands old.neighbours.entries history → sending ≡ sending_of_story (story key history) packet)
       → happenings y ≡ happenings x ++ at_moment now (told_of_packet mac own key sending)
       → Leads stream old new x y (PacketGoes now key packet)
   packet_leads retrans_is gains mac mac_is own own_is sending sending_is told = record {
@@ -149,10 +149,10 @@ module _ {R A : Type 0} (stream : R → Stream) (old new : Node R A) (x y : List
         let timer : ℕ = retrans_timer c in
         let in_force : retrans ≡ timer = retrans_is ∙ s.params.retrans_timer in
         let made_is : h.0 ≡ neighbour_history placed = up.1 ∙ sym (pushed_history now up.0 c) in
-        let n : neighbours.Stands new.neighbours.nodes (sendings.then_packet (is_present this) (mac_of this) now key timer packet (neighbour_history placed)) =
-        subst (λ (r : ℕ). neighbours.Stands new.neighbours.nodes (sendings.then_packet (is_present this) (mac_of this) now key r packet (neighbour_history placed))) in_force
-        (subst (λ (made : List rows.Row). neighbours.Stands new.neighbours.nodes (sendings.then_packet (is_present this) (mac_of this) now key retrans packet made)) made_is h.2) in
-        let before : NoneOverdue history now = (table old.neighbours.nodes history now s.neighbours).0 (neighbours_before old now not_past) in
+        let n : neighbours.Stands new.neighbours.entries (sendings.then_packet (is_present this) (mac_of this) now key timer packet (neighbour_history placed)) =
+        subst (λ (r : ℕ). neighbours.Stands new.neighbours.entries (sendings.then_packet (is_present this) (mac_of this) now key r packet (neighbour_history placed))) in_force
+        (subst (λ (made : List rows.Row). neighbours.Stands new.neighbours.entries (sendings.then_packet (is_present this) (mac_of this) now key retrans packet made)) made_is h.2) in
+        let before : NoneOverdue history now = (table old.neighbours.entries history now s.neighbours).0 (neighbours_before old now not_past) in
         let none : NoneOverdue (neighbour_history placed) now =
         subst (λ (l : List rows.Row). NoneOverdue l now) (sym (pushed_history now up.0 c)) (pushed_later still now up.0 history before) in
         let place : Prepares start.limits.neighbours now true key history (pushing now up.0 history) =

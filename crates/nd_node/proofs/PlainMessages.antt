@@ -19,7 +19,7 @@ use Rattle.nd_neighbour.specs.declared.news.News.{News}
 use Rattle.nd_neighbour.specs.declared.news.Times.{Times}
 use Rattle.nd_neighbour.specs.History as rows
 use Rattle.nd_neighbour.specs.Table as neighbours
-use Rattle.nd_params.specs.History.{reachable_of}
+use Rattle.nd_params.specs.ReachableTime.{reachable_of}
 use Rattle.nd_routers.specs.Routers as routers
 use Rattle.nd_nexthop.specs.History as redirect_rows
 use Rattle.nd_nexthop.specs.Choice as choice
@@ -49,6 +49,7 @@ use Rattle.nd_steps.proofs.Telling.{one, above_silent, Tells-then, one_more}
 use Rattle.nd_node.specs.declared.node.Node.{Node}
 use Rattle.nd_node.specs.Hearing.{AddsMessage}
 use Rattle.nd_node.specs.Node.{Stands, next_of}
+use Rattle.nd_node.specs.Frame.{AddsAlone}
 use Rattle.nd_node.proofs.Quiet.{stands_quiet, refused_is_quiet}
 use Rattle.nd_node.proofs.RouterRows.{DrawsDelay, PlansAnswer, aside, aside_same, aside_then, stands_advertising, stands_aside}
 use Rattle.nd_node.proofs.Recalling.{Recalls}
@@ -163,24 +164,20 @@ module _ {R A : Type 0} (stream : R → Stream) (old : Node R A) (now : ℕ) (so
   said_is start c s = news_is ∙ ap (λ (t : ℕ). said_of_neighbour source body options t) (reachable_is ∙ s.params.reachable_time)
 
   -- its target has no place
-  pub message_refused : (new : Node R A) (x y : List (ℕ × Out A)) (out : Out A)
+  pub message_refused : (new : Node R A) (x y : List (ℕ × Out A))
       → ((start : Start) (c : Chronicle) → Stands stream start old c → Placed start c now (entering (option_map (said_by times) news)) false)
-      → new ≡ record old { last = now } → happening out ≡ Refused (Full Neighbours) → y ≡ x ++ (now, out) ∷ []
+      → AddsAlone stream old new x y now (Refused (Full Neighbours))
       → AddsMessage stream old new x y now source destination (message_of body options)
-  message_refused new x y out placed is out_is told = record {
+  message_refused new x y placed adds = record {
     each = λ start c s le takes.
         let later : Chronicle = (now, Passed) ∷ c in
-        let stands' = passed stream start old new c now s le settled is in
+        let a = adds.each start c s le in
         let placed' : Placed start later now (entering (said later source (message_of body options))) false =
         subst (λ (o : Option (ℕ × rows.RowKind)). Placed start later now (entering o) false) (said_is start c s) (placed_later start c now (option_map (said_by times) news) false (placed start c s)) in (
           (now, Refused (Full Neighbours)) ∷ later,
           (Some Neighbours, plain.fills start later (Some Neighbours) (record { neighbours = false; placed = rw (plain.needs_is later) placed'; first = refl }), refl),
-          stands_quiet stream start new later ((now, Refused (Full Neighbours)) ∷ later) (refused_is_quiet now (Full Neighbours) later (λ at. refl)) stands',
-          record {
-            newer = (now, Refused (Full Neighbours)) ∷ [];
-            told = above_silent (items c) (items_at (now, Refused (Full Neighbours)));
-            outs = one_more x y now out told ∙ ap (λ w. happenings x ++ (now, w) ∷ []) out_is;
-          },
+          a.0,
+          a.1,
         );
   }
 
@@ -203,7 +200,7 @@ module _ {R A : Type 0} (stream : R → Stream) (old : Node R A) (now : ℕ) (so
       (placed : (start : Start) (c : Chronicle) → Stands stream start old c → Placed start c now (entering (option_map (said_by times) news)) true)
       (reserved : room ≡ x) (told : y ≡ room ++ (now, heard) ∷ []) (heard_is : happening heard ≡ Heard source destination (record { body = body; options = [] }))
       (redirects : (history : List redirect_rows.RedirectRow) → choice.Stands old.choice history → choice.Stands new.choice (then_redirect now body history))
-      (hears : HearsOf old.neighbours.limit now (option_map (said_by times) news) old.neighbours.nodes new.neighbours.nodes y z ends)
+      (hears : HearsOf old.neighbours.limit now (option_map (said_by times) news) old.neighbours.entries new.neighbours.entries y z ends)
       (follows : (start : Start) (before d : Chronicle) → advertising_history start d ≡ advertising_history start before → last_moment start.at d ≡ now → Stands stream start new d → Stands stream start final (behind start before d))
       (silent : (start : Start) (before d : Chronicle) → items (behind start before d) ≡ items d) where
     pub adds_message : AddsMessage stream old final x z now source destination (message_of body options)
@@ -215,9 +212,9 @@ module _ {R A : Type 0} (stream : R → Stream) (old : Node R A) (now : ℕ) (so
           let limit : ℕ = start.limits.neighbours in
           let this : Option (ℕ × rows.RowKind) = said later source message in
           let this_is : option_map (said_by times) news ≡ this = said_is start c s in
-          let hears' : HearsOf limit now this old.neighbours.nodes new.neighbours.nodes y z ends =
-          subst (λ (l : ℕ). HearsOf l now this old.neighbours.nodes new.neighbours.nodes y z ends) s.neighbour_limit
-          (subst (λ (o : Option (ℕ × rows.RowKind)). HearsOf old.neighbours.limit now o old.neighbours.nodes new.neighbours.nodes y z ends) this_is hears) in
+          let hears' : HearsOf limit now this old.neighbours.entries new.neighbours.entries y z ends =
+          subst (λ (l : ℕ). HearsOf l now this old.neighbours.entries new.neighbours.entries y z ends) s.neighbour_limit
+          (subst (λ (o : Option (ℕ × rows.RowKind)). HearsOf old.neighbours.limit now o old.neighbours.entries new.neighbours.entries y z ends) this_is hears) in
           let h = hears'.each history s.neighbours in
           let made : List rows.Row = h.0 in
           let p = placed_by start later now this made one_goes (λ a. refl) h.1 in
@@ -228,8 +225,8 @@ module _ {R A : Type 0} (stream : R → Stream) (old : Node R A) (now : ℕ) (so
           let said_now : neighbour_history before ≡ then_neighbour now this made =
           ap (λ (t : ℕ). then_neighbour now (said_of_neighbour source body options t) (neighbour_history p.placed)) (ap (λ l. reachable_of l) p.others.parameters)
           ∙ ap (λ (l : List rows.Row). then_neighbour now this l) p.history in
-          let neighbours' : neighbours.Stands new.neighbours.nodes (neighbour_history before) = subst (λ (l : List rows.Row). neighbours.Stands new.neighbours.nodes l) (sym said_now) h.2 in
-          let none = none_before_said table still one_goes limit now this old.neighbours.nodes new.neighbours.nodes history made s.neighbours h.1 h.2 (neighbours_before old now not_past) in
+          let neighbours' : neighbours.Stands new.neighbours.entries (neighbour_history before) = subst (λ (l : List rows.Row). neighbours.Stands new.neighbours.entries l) (sym said_now) h.2 in
+          let none = none_before_said table still one_goes limit now this old.neighbours.entries new.neighbours.entries history made s.neighbours h.1 h.2 (neighbours_before old now not_past) in
           let apart : Apart c before = apart_then c later before (apart_passed now c) (apart_then later p.placed before (apart_others p.others) (plain.apart p.placed)) in
           let redirects' : choice.Stands new.choice (redirect_history before) =
           subst (λ l. choice.Stands new.choice (then_redirect now body l)) (sym p.others.redirects) (redirects (redirect_history c) s.redirects) in

@@ -7,7 +7,7 @@ use Rattle.nd_table.specs.declared.lasting.Lasting.{Lasting}
 use Rattle.nd_neighbour.specs.Entry as neighbour_entries
 use Rattle.nd_neighbour.specs.History as neighbour_rows
 use Rattle.nd_neighbour.specs.Table as neighbours
-use Rattle.nd_neighbour.specs.Table.{node_in}
+use Rattle.nd_neighbour.specs.Table.{entry_in}
 use Rattle.nd_routers.specs.Routers as routers
 use Rattle.nd_slaac.specs.Address.{Address}
 use Rattle.nd_slaac.specs.History as address_rows
@@ -29,7 +29,7 @@ use Rattle.nd_node.specs.declared.node.Node.{Node}
 
 -- what is remembered, by a node
 abbrev pub Recalls : {R A : Type 0} → ℕ → Node R A → Type 0
-Recalls at node = Remembers at node.choice node.addresses.addresses node.prefixes node.neighbours.nodes node.routers
+Recalls at node = Remembers at node.choice node.addresses.addresses node.prefixes node.neighbours.entries node.routers
 
 -- no own address has come or gone
 abbrev pub AsOwn : List Address → List Address → Type 0
@@ -39,29 +39,29 @@ module _ {R A : Type 0} (old new : Node R A) (at now : ℕ) (le : at ≤ now) (r
   -- nothing is remembered any more
   pub forgets : new.choice.memory.hops ≡ [] → new.choice.memory.until ≡ old.choice.memory.until → Recalls now new
   forgets none until =
-      remembers_nothing now new.choice new.addresses.addresses new.prefixes new.neighbours.nodes new.routers none
+      remembers_nothing now new.choice new.addresses.addresses new.prefixes new.neighbours.entries new.routers none
       (subst (λ (ps : List (Lasting PrefixValue)). StandUntil now new.choice.memory.until ps) (sym prefixes)
-      (subst (λ (u : Option ℕ). StandUntil now u old.prefixes) (sym until) (remembers_later at now old.choice old.addresses.addresses old.prefixes old.neighbours.nodes old.routers le r).until))
+      (subst (λ (u : Option ℕ). StandUntil now u old.prefixes) (sym until) (remembers_later at now old.choice old.addresses.addresses old.prefixes old.neighbours.entries old.routers le r).until))
 
   pub forgets_all : new.choice.memory ≡ forgotten old.choice.memory → Recalls now new
   forgets_all is = forgets (ap (λ (m : Memory). m.hops) is) (ap (λ (m : Memory). m.until) is)
 
   -- or the same as before
   pub keeps : new.choice ≡ old.choice → new.routers ≡ old.routers → AsOwn old.addresses.addresses new.addresses.addresses
-      → ((key : ℕ) → is_resolved (node_in key new.neighbours.nodes) ≡ is_resolved (node_in key old.neighbours.nodes)) → Recalls now new
+      → ((key : ℕ) → is_resolved (entry_in key new.neighbours.entries) ≡ is_resolved (entry_in key old.neighbours.entries)) → Recalls now new
   keeps choice_is routers_are own resolved =
       rw (choice_is, prefixes, routers_are)
-      (remembers_same now old.choice old.addresses.addresses new.addresses.addresses old.prefixes old.neighbours.nodes new.neighbours.nodes old.routers own resolved
-      (remembers_later at now old.choice old.addresses.addresses old.prefixes old.neighbours.nodes old.routers le r))
+      (remembers_same now old.choice old.addresses.addresses new.addresses.addresses old.prefixes old.neighbours.entries new.neighbours.entries old.routers own resolved
+      (remembers_later at now old.choice old.addresses.addresses old.prefixes old.neighbours.entries old.routers le r))
 
-  pub may_recall : MayRemember old.choice new.choice old.neighbours.nodes new.neighbours.nodes → new.routers ≡ old.routers → AsOwn old.addresses.addresses new.addresses.addresses
-      → (history : List neighbour_rows.Row) → neighbours.Stands old.neighbours.nodes history → Recalls now new
+  pub may_recall : MayRemember old.choice new.choice old.neighbours.entries new.neighbours.entries → new.routers ≡ old.routers → AsOwn old.addresses.addresses new.addresses.addresses
+      → (history : List neighbour_rows.Row) → neighbours.Stands old.neighbours.entries history → Recalls now new
   may_recall (Forgets is) routers_are own history s = forgets_all (ap (λ (t : Table). t.memory) is)
   may_recall (Keeps is known) routers_are own history s = keeps is routers_are own (known history s)
 
 -- ---- the redirects
 
-pub may_redirects : (a b : Table) (old new : List neighbour_entries.Node) → MayRemember a b old new → b.redirects ≡ a.redirects
+pub may_redirects : (a b : Table) (old new : List neighbour_entries.NeighbourEntry) → MayRemember a b old new → b.redirects ≡ a.redirects
 may_redirects a b old new (Forgets is) = ap (λ (t : Table). t.redirects) is
 may_redirects a b old new (Keeps is known) = ap (λ (t : Table). t.redirects) is
 
@@ -106,11 +106,11 @@ own_row at key kind history goes_on known conflict k = by (key == k) refl
 
 -- ---- one change behind the other
 
-pub may_until : (a b : Table) (old new : List neighbour_entries.Node) → MayRemember a b old new → b.memory.until ≡ a.memory.until
+pub may_until : (a b : Table) (old new : List neighbour_entries.NeighbourEntry) → MayRemember a b old new → b.memory.until ≡ a.memory.until
 may_until a b old new (Forgets is) = ap (λ (t : Table). t.memory.until) is
 may_until a b old new (Keeps is known) = ap (λ (t : Table). t.memory.until) is
 
-pub may_nothing : (a b : Table) (old new : List neighbour_entries.Node) → MayRemember a b old new → a.memory.hops ≡ [] → b.memory.hops ≡ []
+pub may_nothing : (a b : Table) (old new : List neighbour_entries.NeighbourEntry) → MayRemember a b old new → a.memory.hops ≡ [] → b.memory.hops ≡ []
 may_nothing a b old new (Forgets is) none = ap (λ (t : Table). t.memory.hops) is
 may_nothing a b old new (Keeps is known) none = ap (λ (t : Table). t.memory.hops) is ∙ none
 
@@ -125,12 +125,12 @@ forgot_redirects false a c is = ap (λ (t : Table). t.redirects) is
 -- a holder of an own address, news of a neighbour, and a router that may leave
 module _ {R A : Type 0} (old new : Node R A) (at now : ℕ) (le : at ≤ now) (r : Recalls at old) (prefixes : new.prefixes ≡ old.prefixes)
     (first second : Table) (tentative left : Bool) (holds : first ≡ (if tentative then record old.choice { memory = forgotten old.choice.memory } else old.choice))
-    (may : MayRemember first second old.neighbours.nodes new.neighbours.nodes) (leaves : MatchBool left (new.choice.memory ≡ forgotten second.memory) ((new.choice ≡ second) × (new.routers ≡ old.routers)))
-    (nodes : List neighbour_rows.Row) (stands : neighbours.Stands old.neighbours.nodes nodes) (own : tentative ≡ false → AsOwn old.addresses.addresses new.addresses.addresses) where
+    (may : MayRemember first second old.neighbours.entries new.neighbours.entries) (leaves : MatchBool left (new.choice.memory ≡ forgotten second.memory) ((new.choice ≡ second) × (new.routers ≡ old.routers)))
+    (entries : List neighbour_rows.Row) (stands : neighbours.Stands old.neighbours.entries entries) (own : tentative ≡ false → AsOwn old.addresses.addresses new.addresses.addresses) where
   until_second : second.memory.until ≡ old.choice.memory.until
-  until_second = may_until first second old.neighbours.nodes new.neighbours.nodes may ∙ forgot_or tentative old.choice first holds
+  until_second = may_until first second old.neighbours.entries new.neighbours.entries may ∙ forgot_or tentative old.choice first holds
 
-  by_choice : new.choice ≡ second → new.routers ≡ old.routers → (t : Bool) → tentative ≡ t → MayRemember first second old.neighbours.nodes new.neighbours.nodes → Recalls now new
+  by_choice : new.choice ≡ second → new.routers ≡ old.routers → (t : Bool) → tentative ≡ t → MayRemember first second old.neighbours.entries new.neighbours.entries → Recalls now new
   by_choice is routers_are t e (Forgets f) =
       forgets old new at now le r prefixes (ap (λ (c : Table). c.memory.hops) (is ∙ f)) (ap (λ (c : Table). c.memory.until) is ∙ until_second)
   by_choice is routers_are true e (Keeps k known) =
@@ -138,7 +138,7 @@ module _ {R A : Type 0} (old new : Node R A) (at now : ℕ) (le : at ≤ now) (r
       forgets old new at now le r prefixes (ap (λ (c : Table). c.memory.hops) (is ∙ (k ∙ nothing))) (ap (λ (c : Table). c.memory.until) is ∙ until_second)
   by_choice is routers_are false e (Keeps k known) =
       let same : first ≡ old.choice = holds ∙ cond-false tentative _ old.choice e in
-      keeps old new at now le r prefixes (is ∙ (k ∙ same)) routers_are (own e) (known nodes stands)
+      keeps old new at now le r prefixes (is ∙ (k ∙ same)) routers_are (own e) (known entries stands)
 
   by_left : (l : Bool) → MatchBool l (new.choice.memory ≡ forgotten second.memory) ((new.choice ≡ second) × (new.routers ≡ old.routers)) → Recalls now new
   by_left true is = forgets old new at now le r prefixes (ap (λ (m : Memory). m.hops) is) (ap (λ (m : Memory). m.until) is ∙ until_second)

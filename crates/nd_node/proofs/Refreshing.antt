@@ -10,8 +10,8 @@ use Rattle.nd_table.specs.Listing.{open_at}
 use Rattle.nd_neighbour.specs.History as neighbour_rows
 use Rattle.nd_neighbour.specs.Entry as neighbour_entries
 use Rattle.nd_neighbour.specs.Table as neighbours
-use Rattle.nd_neighbour.specs.Table.{node_in}
-use Rattle.nd_routers.specs.DefaultRouterSelection.{place_among}
+use Rattle.nd_neighbour.specs.Table.{entry_in}
+use Rattle.nd_routers.specs.RouterFailures.{place_among}
 use Rattle.nd_routers.specs.Preferences.{preference_among}
 use Rattle.nd_routers.specs.Routers as routers
 use Rattle.nd_slaac.specs.Address.{Address, address_of}
@@ -123,16 +123,16 @@ own_refreshed start now to_all c d mac list infos mac_is known same none =
 
 -- ---- what is remembered
 
-listed_same : (nodes : List neighbour_entries.Node) (old new : routers.Table) → routers.keys new.entries ≡ routers.keys old.entries → ((key : ℕ) → preference_among key new.preferences ≡ preference_among key old.preferences)
-    → new.failed ≡ old.failed → candidates_in nodes new ≡ candidates_in nodes old
-listed_same nodes old new keys preferences failed = by (routers.keys new.entries) ∙ ap (λ (ks : List ℕ). map (λ key. candidate_in nodes old key) ks) keys
+listed_same : (entries : List neighbour_entries.NeighbourEntry) (old new : routers.Table) → routers.keys new.entries ≡ routers.keys old.entries → ((key : ℕ) → preference_among key new.preferences ≡ preference_among key old.preferences)
+    → new.failed ≡ old.failed → candidates_in entries new ≡ candidates_in entries old
+listed_same entries old new keys preferences failed = by (routers.keys new.entries) ∙ ap (λ (ks : List ℕ). map (λ key. candidate_in entries old key) ks) keys
   where
-    by : (ks : List ℕ) → map (λ key. candidate_in nodes new key) ks ≡ map (λ key. candidate_in nodes old key) ks
+    by : (ks : List ℕ) → map (λ key. candidate_in entries new key) ks ≡ map (λ key. candidate_in entries old key) ks
     by [] = refl
     by (key ∷ ks) =
-        ap (λ (p : Preference). record { key = key; usable = is_resolved (node_in key nodes); preference = p; failed = place_among key new.failed } ∷ map (λ k. candidate_in nodes new k) ks) (preferences key)
-        ∙ (ap (λ (f : List ℕ). record { key = key; usable = is_resolved (node_in key nodes); preference = preference_among key old.preferences; failed = place_among key f } ∷ map (λ k. candidate_in nodes new k) ks) failed
-        ∙ ap (λ (l : List DefaultRouter). candidate_in nodes old key ∷ l) (by ks))
+        ap (λ (p : Preference). record { key = key; usable = is_resolved (entry_in key entries); preference = p; failed = place_among key new.failed } ∷ map (λ k. candidate_in entries new k) ks) (preferences key)
+        ∙ (ap (λ (f : List ℕ). record { key = key; usable = is_resolved (entry_in key entries); preference = preference_among key old.preferences; failed = place_among key f } ∷ map (λ k. candidate_in entries new k) ks) failed
+        ∙ ap (λ (l : List DefaultRouter). candidate_in entries old key ∷ l) (by ks))
 
 -- a next hop asks only whether the destination itself is on the link
 hop_by_link : (own linked other : List ℕ → Bool) (candidates : List DefaultRouter) (redirect : Option ℕ) (address : List ℕ) → linked address ≡ other address
@@ -140,40 +140,40 @@ hop_by_link : (own linked other : List ℕ → Bool) (candidates : List DefaultR
 hop_by_link own linked other candidates redirect address is = rw is refl
 
 module _ {R A : Type 0} (old new : Node R A) (at now : ℕ) (le : at ≤ now) (r : Recalls at old) (first second third : Table) (own : Bool)
-    (may : MayRemember old.choice first old.neighbours.nodes new.neighbours.nodes) (listed : Recollects first second (AsListed first second old.routers new.routers))
+    (may : MayRemember old.choice first old.neighbours.entries new.neighbours.entries) (listed : Recollects first second (AsListed first second old.routers new.routers))
     (linked : Recollects second third (AsStanding now old.prefixes new.prefixes)) (redirects : third.redirects ≡ second.redirects) (redirects_then : new.choice.redirects ≡ third.redirects)
     (hops : new.choice.memory.hops ≡ (if own && is_asked now third.memory.until then third.memory.hops else [])) (until : new.choice.memory.until ≡ last_before_end now new.prefixes)
-    (nodes : List neighbour_rows.Row) (stands : neighbours.Stands old.neighbours.nodes nodes) (as_own : own ≡ true → AsOwn old.addresses.addresses new.addresses.addresses) where
+    (entries : List neighbour_rows.Row) (stands : neighbours.Stands old.neighbours.entries entries) (as_own : own ≡ true → AsOwn old.addresses.addresses new.addresses.addresses) where
   stand_until : StandUntil now new.choice.memory.until new.prefixes
   stand_until = subst (λ (u : Option ℕ). StandUntil now u new.prefixes) (sym until) (stand_until_end now new.prefixes)
 
   none : new.choice.memory.hops ≡ [] → Recalls now new
-  none is = remembers_nothing now new.choice new.addresses.addresses new.prefixes new.neighbours.nodes new.routers is stand_until
+  none is = remembers_nothing now new.choice new.addresses.addresses new.prefixes new.neighbours.entries new.routers is stand_until
 
   all : is_asked now old.choice.memory.until ≡ true → new.choice.memory.hops ≡ old.choice.memory.hops → new.choice.redirects ≡ old.choice.redirects → AsOwn old.addresses.addresses new.addresses.addresses
-      → ((key : ℕ) → is_resolved (node_in key new.neighbours.nodes) ≡ is_resolved (node_in key old.neighbours.nodes)) → AsListed first second old.routers new.routers → AsStanding now old.prefixes new.prefixes → Recalls now new
+      → ((key : ℕ) → is_resolved (entry_in key new.neighbours.entries) ≡ is_resolved (entry_in key old.neighbours.entries)) → AsListed first second old.routers new.routers → AsStanding now old.prefixes new.prefixes → Recalls now new
   all asked same_hops same_redirects owns resolved lists standing = record {
     until = stand_until;
     agrees = λ asked_then e there.
-        let before = remembers_later at now old.choice old.addresses.addresses old.prefixes old.neighbours.nodes old.routers le r in
+        let before = remembers_later at now old.choice old.addresses.addresses old.prefixes old.neighbours.entries old.routers le r in
         let was = before.agrees asked e (subst (λ (l : List (ℕ × Hop)). Contains l e) same_hops there) in
         let address = (addr_at e.0).0 in
         let kept = target_in e.0 old.choice.redirects in
-        let candidates : candidates_in new.neighbours.nodes new.routers ≡ candidates_in old.neighbours.nodes old.routers =
-        listed_same new.neighbours.nodes old.routers new.routers lists.keys lists.preferences lists.failed ∙ candidates_same old.neighbours.nodes new.neighbours.nodes old.routers resolved in
+        let candidates : candidates_in new.neighbours.entries new.routers ≡ candidates_in old.neighbours.entries old.routers =
+        listed_same new.neighbours.entries old.routers new.routers lists.keys lists.preferences lists.failed ∙ candidates_same old.neighbours.entries new.neighbours.entries old.routers resolved in
         was
-        ∙ (hop_by_own (own_in old.addresses.addresses) (own_in new.addresses.addresses) (linked_by (open_at now old.prefixes)) (candidates_in old.neighbours.nodes old.routers) kept address (sym (owns (number_of address)))
-        ∙ (hop_by_link (own_in new.addresses.addresses) (linked_by (open_at now old.prefixes)) (linked_by (open_at now new.prefixes)) (candidates_in old.neighbours.nodes old.routers) kept address (sym (standing address))
+        ∙ (hop_by_own (own_in old.addresses.addresses) (own_in new.addresses.addresses) (linked_by (open_at now old.prefixes)) (candidates_in old.neighbours.entries old.routers) kept address (sym (owns (number_of address)))
+        ∙ (hop_by_link (own_in new.addresses.addresses) (linked_by (open_at now old.prefixes)) (linked_by (open_at now new.prefixes)) (candidates_in old.neighbours.entries old.routers) kept address (sym (standing address))
         ∙ (ap (λ (l : List DefaultRouter). hop (own_in new.addresses.addresses) (linked_by (open_at now new.prefixes)) l kept address) (sym candidates)
-        ∙ ap (λ (rs : List (ℕ × Option ℕ)). hop (own_in new.addresses.addresses) (linked_by (open_at now new.prefixes)) (candidates_in new.neighbours.nodes new.routers) (target_in e.0 rs) address) (sym same_redirects))));
+        ∙ ap (λ (rs : List (ℕ × Option ℕ)). hop (own_in new.addresses.addresses) (linked_by (open_at now new.prefixes)) (candidates_in new.neighbours.entries new.routers) (target_in e.0 rs) address) (sym same_redirects))));
   }
 
   by_may : is_asked now third.memory.until ≡ true → own ≡ true → new.choice.memory.hops ≡ first.memory.hops → AsListed first second old.routers new.routers → AsStanding now old.prefixes new.prefixes
-      → MayRemember old.choice first old.neighbours.nodes new.neighbours.nodes → Recalls now new
+      → MayRemember old.choice first old.neighbours.entries new.neighbours.entries → Recalls now new
   by_may asked mine is lists standing (Forgets f) = none (is ∙ ap (λ (t : Table). t.memory.hops) f)
   by_may asked mine is lists standing (Keeps k known) =
       all (subst (λ (u : Option ℕ). is_asked now u ≡ true) (linked.until ∙ (listed.until ∙ ap (λ (t : Table). t.memory.until) k)) asked)
-      (is ∙ ap (λ (t : Table). t.memory.hops) k) (redirects_then ∙ (redirects ∙ (lists.redirects ∙ ap (λ (t : Table). t.redirects) k))) (as_own mine) (known nodes stands) lists standing
+      (is ∙ ap (λ (t : Table). t.memory.hops) k) (redirects_then ∙ (redirects ∙ (lists.redirects ∙ ap (λ (t : Table). t.redirects) k))) (as_own mine) (known entries stands) lists standing
 
   by_listed : is_asked now third.memory.until ≡ true → own ≡ true → new.choice.memory.hops ≡ second.memory.hops → AsStanding now old.prefixes new.prefixes
       → (second.memory.hops ≡ []) ⊎ ((second.memory.hops ≡ first.memory.hops) × AsListed first second old.routers new.routers) → Recalls now new

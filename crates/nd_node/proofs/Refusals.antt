@@ -54,7 +54,7 @@ use Rattle.nd_node.proofs.InTransit.{SaysRoom}
 use Rattle.nd_node.proofs.TakenOrRefused.{fills_later}
 use Rattle.nd_chronicle.proofs.Events.{one_full}
 use Rattle.nd_node.specs.RouterAdvertisement.{advertised}
-use Rattle.nd_neighbour.specs.Entry as entries
+use Rattle.nd_neighbour.specs.Entry as neighbour_entries
 use Rattle.nd_neighbour.specs.Entry.{waiting_in}
 use Rattle.nd_node.specs.declared.node.Node.{Node}
 use Rattle.nd_node.specs.Memory.{AddsRefusal}
@@ -178,7 +178,7 @@ module _ (start : Start) (now key : ℕ) (packet : List ℕ) where
 
 -- so a node has no room for it
 module _ {R A : Type 0} (stream : R → Stream) (start : Start) (node : Node R A) (c : Chronicle) (now key : ℕ) (room_is_place : RoomIsPlace) (full_by_history : FullByHistory) (s : Stands stream start node c) where
-  pub room_left : has_room node.neighbours.limit now key None node.neighbours.nodes ≡ true → HasPlace start ((now, Passed) ∷ c) now key true false → ⊥
+  pub room_left : has_room node.neighbours.limit now key None node.neighbours.entries ≡ true → HasPlace start ((now, Passed) ∷ c) now key true false → ⊥
   room_left has full =
       let same : true ≡ false = one_has_place start ((now, Passed) ∷ c) now key true true false (has_place_for stream start node c now key room_is_place full_by_history s has) full in
       let never : ⊥ = cc in
@@ -308,11 +308,11 @@ judged_frame start c now frame role said same only adds =
 -- ---- a command
 
 module _ (start : Start) (now : ℕ) where
-  clearing_adds : (nodes : List entries.Node) (c : Chronicle) → is_refusal c ≡ false → is_refusal (clearing start now nodes c) ≡ false
+  clearing_adds : (entries : List neighbour_entries.NeighbourEntry) (c : Chronicle) → is_refusal c ≡ false → is_refusal (clearing start now entries c) ≡ false
   clearing_adds [] c h = h
-  clearing_adds (n ∷ nodes) c h =
+  clearing_adds (n ∷ entries) c h =
       let gone : Chronicle = (now, Neighbour n.key (rows.Forgot rows.Cleared)) ∷ c in
-      clearing_adds nodes (losing now Forgotten (waiting_in n.stage) gone) (losing_adds now Forgotten (waiting_in n.stage) gone refl)
+      clearing_adds entries (losing now Forgotten (waiting_in n.stage) gone) (losing_adds now Forgotten (waiting_in n.stage) gone refl)
 
 module _ (start : Start) (now : ℕ) (c : Chronicle) where
   -- a neighbour is forgotten

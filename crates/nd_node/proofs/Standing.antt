@@ -84,7 +84,7 @@ module _ {R A : Type 0} (stream : R → Stream) (start : Start) (old new : Node 
     (same : Still old new now) (b : Apart c d) (s : Stands stream start old c) (came : last_moment start.at c ≤ now) (not_past : now ≤ next_of old) (end : last_moment start.at d ≡ now) where
   pub stands_at : routers.Stands new.routers (router_history d) → routers.NoneBefore new.routers.entries now
       → addresses.Stands new.addresses.addresses (address_history d) → address_dates.NoneBefore new.addresses.addresses now
-      → neighbours.Stands new.neighbours.nodes (neighbour_history d) → neighbour_dates.NoneBefore new.neighbours.nodes now
+      → neighbours.Stands new.neighbours.entries (neighbour_history d) → neighbour_dates.NoneBefore new.neighbours.entries now
       → choice.Stands new.choice (redirect_history d) → Recalls now new → Stands stream start new d
   stands_at routers' later_router addresses' later_address neighbours' later_neighbour redirects' recalls = record {
     role = same.role ∙ s.role;

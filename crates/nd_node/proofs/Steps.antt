@@ -52,7 +52,7 @@ passed stream start old new c now s le settled is = rw is (record {
   prefixes_by_then = omega (arith, s.prefixes_by_then, le);
   servers_by_then = omega (arith, s.servers_by_then, le);
   names_by_then = omega (arith, s.names_by_then, le);
-  memo = remembers_later old.last now old.choice old.addresses.addresses old.prefixes old.neighbours.nodes old.routers (omega (arith, s.last, le)) s.memo;
+  memo = remembers_later old.last now old.choice old.addresses.addresses old.prefixes old.neighbours.entries old.routers (omega (arith, s.last, le)) s.memo;
   in_time = omega (arith, settled);
 })
 

@@ -28,6 +28,7 @@ use Rattle.nd_node.specs.declared.node.Node.{Node}
 use Rattle.nd_node.specs.Hearing.{AddsMessage}
 use Rattle.nd_node.specs.Node.{Stands, next_of}
 use Rattle.nd_node.specs.RouterAdvertisement.{advertised, TakesAdvertisement}
+use Rattle.nd_node.specs.Frame.{AddsAlone}
 use Rattle.nd_node.proofs.Quiet.{stands_quiet, refused_is_quiet}
 use Rattle.nd_node.proofs.Steps.{passed}
 
@@ -64,23 +65,24 @@ module _ {R A : Type 0} (stream : R → Stream) (now : ℕ) (source destination 
   -- whether its sender has a place
   pub sender_placed : (node : Node R A) (news : Option News) (place : Bool)
       → ((times : Times) → option_map (said_by times) news ≡ said_of_neighbour source (bodies.Ra ra) options times.reachable)
-      → ((start : Start) (c : Chronicle) (times : Times) → node.neighbours.limit ≡ start.limits.neighbours → cache.Stands node.neighbours.nodes (neighbour_history c) → Placed start c now (entering (option_map (said_by times) news)) place)
+      → ((start : Start) (c : Chronicle) (times : Times) → node.neighbours.limit ≡ start.limits.neighbours → cache.Stands node.neighbours.entries (neighbour_history c) → Placed start c now (entering (option_map (said_by times) news)) place)
       → (start : Start) (c : Chronicle) → Stands stream start node c → Placed start c now (needs c source (advertised ra options) (bodies.Ra ra)) place
   sender_placed node news place is placed start c s =
       let times : Times = record { retrans = 0; reachable = 0 } in
       subst (λ (said : Option (ℕ × RowKind)). Placed start c now (entering said) place) (is times) (placed start c times s.neighbour_limit s.neighbours)
 
   -- it is refused, since a table has no room
-  pub refuses : (old new : Node R A) (x y : List (ℕ × Out A)) (limit : happenings.Limit) (out : Out A) → happening out ≡ Refused (Full limit)
+  pub refuses : (old new : Node R A) (x y : List (ℕ × Out A)) (limit : happenings.Limit)
       → ((start : Start) (c : Chronicle) → Stands stream start old c → last_moment start.at c ≤ now → AdvertisementFills start c now source ra (advertised ra options) (Some limit))
-      → now < next_of old → new ≡ record old { last = now } → y ≡ x ++ (now, out) ∷ [] → AddsMessage stream old new x y now source destination (advertised ra options)
-  refuses old new x y limit out out_is fills settled is told_is = record {
-    each = λ start c s le target. (
-      (now, Refused (Full limit)) ∷ (now, Passed) ∷ c,
-      (Some limit, fills_later now source ra options start c (Some limit) (fills start c s le), refl),
-      stands_quiet stream start new _ _ (refused_is_quiet now (Full limit) _ (λ at. refl)) (passed stream start old new c now s le settled is),
-      tells_one c now (Refused (Full limit)) (Refused (Full limit)) x y out out_is refl told_is,
-    );
+      → AddsAlone stream old new x y now (Refused (Full limit)) → AddsMessage stream old new x y now source destination (advertised ra options)
+  refuses old new x y limit fills adds = record {
+    each = λ start c s le target.
+        let a = adds.each start c s le in (
+          (now, Refused (Full limit)) ∷ (now, Passed) ∷ c,
+          (Some limit, fills_later now source ra options start c (Some limit) (fills start c s le), refl),
+          a.0,
+          a.1,
+        );
   }
 
   -- it is taken, since each has room

@@ -16,7 +16,7 @@ use Rattle.nd_routers.specs.History as router_rows
 use Rattle.nd_routers.specs.Due as routers_due
 use Rattle.nd_routers.specs.Routers as routers
 use Rattle.nd_params.specs.History as parameter_rows
-use Rattle.nd_params.specs.History.{redraw_after}
+use Rattle.nd_params.specs.ReachableTime.{redraw_after}
 use Rattle.nd_params.specs.Params as parameters
 use Rattle.nd_nexthop.specs.History as redirect_rows
 use Rattle.nd_advertiser.proofs.ByRows.{settings_are}
@@ -57,31 +57,31 @@ use Rattle.nd_node.proofs.Quiet.{stands_quiet}
 
 module _ {R A : Type 0} (node : Node R A) (now : ℕ) where
   -- nothing is due at a node before the moment
-  pub all_later : routers.NoneBefore node.routers.entries now → address_dates.NoneBefore node.addresses.addresses now → neighbours_due.NoneBefore node.neighbours.nodes now
+  pub all_later : routers.NoneBefore node.routers.entries now → address_dates.NoneBefore node.addresses.addresses now → neighbours_due.NoneBefore node.neighbours.entries now
       → NotBefore now (next_solicitation node.role node.solicitations) → NotBefore now (next_advertisement node.role node.router) → now ≤ node.params.drawn_at + redraw_after → now ≤ next_of node
   all_later r a n s v d =
-      none_before now (routers.next_end node.routers.entries) (address_dates.next_in node.addresses.addresses) (neighbours_due.next_in node.neighbours.nodes)
+      none_before now (routers.next_end node.routers.entries) (address_dates.next_in node.addresses.addresses) (neighbours_due.next_in node.neighbours.entries)
       (next_solicitation node.role node.solicitations) (next_advertisement node.role node.router) (node.params.drawn_at + redraw_after) r a n s v d
 
 -- the dates of a node at which something is due, or of which nothing was due before
 module _ {R A : Type 0} (node : Node R A) (now : ℕ) (h : now ≤ next_of node) where
   pub routers_before : routers.NoneBefore node.routers.entries now
-  routers_before = before_routers now (routers.next_end node.routers.entries) (address_dates.next_in node.addresses.addresses) (neighbours_due.next_in node.neighbours.nodes) (next_solicitation node.role node.solicitations) (next_advertisement node.role node.router) (node.params.drawn_at + redraw_after) h
+  routers_before = before_routers now (routers.next_end node.routers.entries) (address_dates.next_in node.addresses.addresses) (neighbours_due.next_in node.neighbours.entries) (next_solicitation node.role node.solicitations) (next_advertisement node.role node.router) (node.params.drawn_at + redraw_after) h
 
   pub addresses_before : address_dates.NoneBefore node.addresses.addresses now
-  addresses_before = before_addresses now (routers.next_end node.routers.entries) (address_dates.next_in node.addresses.addresses) (neighbours_due.next_in node.neighbours.nodes) (next_solicitation node.role node.solicitations) (next_advertisement node.role node.router) (node.params.drawn_at + redraw_after) h
+  addresses_before = before_addresses now (routers.next_end node.routers.entries) (address_dates.next_in node.addresses.addresses) (neighbours_due.next_in node.neighbours.entries) (next_solicitation node.role node.solicitations) (next_advertisement node.role node.router) (node.params.drawn_at + redraw_after) h
 
-  pub neighbours_before : neighbours_due.NoneBefore node.neighbours.nodes now
-  neighbours_before = before_neighbours now (routers.next_end node.routers.entries) (address_dates.next_in node.addresses.addresses) (neighbours_due.next_in node.neighbours.nodes) (next_solicitation node.role node.solicitations) (next_advertisement node.role node.router) (node.params.drawn_at + redraw_after) h
+  pub neighbours_before : neighbours_due.NoneBefore node.neighbours.entries now
+  neighbours_before = before_neighbours now (routers.next_end node.routers.entries) (address_dates.next_in node.addresses.addresses) (neighbours_due.next_in node.neighbours.entries) (next_solicitation node.role node.solicitations) (next_advertisement node.role node.router) (node.params.drawn_at + redraw_after) h
 
   pub solicitation_before : NotBefore now (next_solicitation node.role node.solicitations)
-  solicitation_before = before_solicitation now (routers.next_end node.routers.entries) (address_dates.next_in node.addresses.addresses) (neighbours_due.next_in node.neighbours.nodes) (next_solicitation node.role node.solicitations) (next_advertisement node.role node.router) (node.params.drawn_at + redraw_after) h
+  solicitation_before = before_solicitation now (routers.next_end node.routers.entries) (address_dates.next_in node.addresses.addresses) (neighbours_due.next_in node.neighbours.entries) (next_solicitation node.role node.solicitations) (next_advertisement node.role node.router) (node.params.drawn_at + redraw_after) h
 
   pub advertisement_before : NotBefore now (next_advertisement node.role node.router)
-  advertisement_before = before_advertisement now (routers.next_end node.routers.entries) (address_dates.next_in node.addresses.addresses) (neighbours_due.next_in node.neighbours.nodes) (next_solicitation node.role node.solicitations) (next_advertisement node.role node.router) (node.params.drawn_at + redraw_after) h
+  advertisement_before = before_advertisement now (routers.next_end node.routers.entries) (address_dates.next_in node.addresses.addresses) (neighbours_due.next_in node.neighbours.entries) (next_solicitation node.role node.solicitations) (next_advertisement node.role node.router) (node.params.drawn_at + redraw_after) h
 
   pub redraw_before : now ≤ node.params.drawn_at + redraw_after
-  redraw_before = before_redraw now (routers.next_end node.routers.entries) (address_dates.next_in node.addresses.addresses) (neighbours_due.next_in node.neighbours.nodes) (next_solicitation node.role node.solicitations) (next_advertisement node.role node.router) (node.params.drawn_at + redraw_after) h
+  redraw_before = before_redraw now (routers.next_end node.routers.entries) (address_dates.next_in node.addresses.addresses) (neighbours_due.next_in node.neighbours.entries) (next_solicitation node.role node.solicitations) (next_advertisement node.role node.router) (node.params.drawn_at + redraw_after) h
 
 -- ---- Router Solicitations
 
@@ -154,7 +154,7 @@ module _ {R A : Type 0} (stream : R → Stream) (start : Start) (old new : Node 
   -- the tables stand for one more row that tells nothing of prefixes, servers and names
   then_row : (d : Chronicle) → last_moment start.at d ≡ now → prefix_history d ≡ prefix_history c → server_history d ≡ server_history c → name_history d ≡ name_history c
       → parameters.Stands new.params (parameter_history d) → routers.Stands new.routers (router_history d) → addresses.Stands new.addresses.addresses (address_history d)
-      → neighbours.Stands new.neighbours.nodes (neighbour_history d) → choice.Stands new.choice (redirect_history d) → solicitations.Stands start new.solicitations d → router_only.Stands start new.router d
+      → neighbours.Stands new.neighbours.entries (neighbour_history d) → choice.Stands new.choice (redirect_history d) → solicitations.Stands start new.solicitations d → router_only.Stands start new.router d
       → stream new.generator ≡ stream_left start d → Recalls now new → now ≤ next_of new → Stands stream start new d
   then_row d at p v n params routers' addresses' neighbours' redirects' solicitations' router' generator' recalls later = record {
     role = turns.role ∙ s.role;
@@ -253,7 +253,7 @@ module _ {R A : Type 0} (stream : R → Stream) (start : Start) (old new : Node 
   -- a row of a neighbour
   neighbour_row : (key : ℕ) (kind : neighbour_rows.RowKind) (mid : routers.Table) → mid.entries ≡ old.routers.entries → new.routers.entries ≡ mid.entries
       → routers.Stands new.routers (then_failed now key kind (router_history c)) → choice.Stands new.choice (then_target now key kind (redirect_history c))
-      → neighbours.GainsRow old.neighbours.nodes new.neighbours.nodes (now, key, kind) → neighbours_due.NoneBefore new.neighbours.nodes now
+      → neighbours.GainsRow old.neighbours.entries new.neighbours.entries (now, key, kind) → neighbours_due.NoneBefore new.neighbours.entries now
       → Recalls now new → new.addresses ≡ old.addresses → new.params ≡ old.params → new.solicitations ≡ old.solicitations → new.router ≡ old.router → stream new.generator ≡ stream old.generator
       → Stands stream start new ((now, Neighbour key kind) ∷ c)
   neighbour_row key kind mid mid_is entries routers' redirects' gains later recalls addresses' params' solicitations' side generator =
@@ -272,7 +272,7 @@ module _ {R A : Type 0} (stream : R → Stream) (start : Start) (old new : Node 
 
   -- a neighbour is asked once more, or is gone
   pub neighbour_fell : (falls : neighbours_due.Falls) (mid : routers.Table) (kept : choice.Table) → mid ≡ old.routers → kept ≡ old.choice → Notes now falls mid new.routers kept new.choice → new.routers.entries ≡ mid.entries → Remembering falls kept new.choice mid new.routers
-      → new.addresses ≡ old.addresses → neighbours.GainsRow old.neighbours.nodes new.neighbours.nodes (neighbours_due.due_row now falls) → neighbours_due.NoneBefore new.neighbours.nodes now
+      → new.addresses ≡ old.addresses → neighbours.GainsRow old.neighbours.entries new.neighbours.entries (neighbours_due.due_row now falls) → neighbours_due.NoneBefore new.neighbours.entries now
       → new.params ≡ old.params → new.solicitations ≡ old.solicitations → new.router ≡ old.router → stream new.generator ≡ stream old.generator
       → Stands stream start new (comes start now (NeighbourFalls falls) c)
   neighbour_fell falls mid kept mid_is kept_is notes entries remembers addresses' gains later params' solicitations' side generator = by_kind falls gains remembers (notes.routers (router_history c) (rw mid_is s.routers)) (notes.redirects (redirect_history c) (rw kept_is s.redirects))
@@ -281,12 +281,12 @@ module _ {R A : Type 0} (stream : R → Stream) (start : Start) (old new : Node 
       forgot is = forgets_all old new old.last now last_le s.memo turns.prefixes (is ∙ ap (λ (t : choice.Table). forgotten t.memory) kept_is)
 
       asked : (key : ℕ) (kind : neighbour_rows.RowKind) → neighbour_rows.is_end kind ≡ false → ((st : neighbour_rows.Story) → mac_of ((now, kind) ∷ st) ≡ mac_of st)
-          → neighbours.GainsRow old.neighbours.nodes new.neighbours.nodes (now, key, kind) → (new.choice ≡ kept) × (new.routers ≡ mid) → Recalls now new
+          → neighbours.GainsRow old.neighbours.entries new.neighbours.entries (now, key, kind) → (new.choice ≡ kept) × (new.routers ≡ mid) → Recalls now new
       asked key kind goes_on same g m =
           keeps old new old.last now last_le s.memo turns.prefixes (m.0 ∙ kept_is) (m.1 ∙ mid_is) (rw addresses' (λ k. refl))
-          (gains_as_resolved now key kind old.neighbours.nodes new.neighbours.nodes goes_on same g (neighbour_history c) s.neighbours)
+          (gains_as_resolved now key kind old.neighbours.entries new.neighbours.entries goes_on same g (neighbour_history c) s.neighbours)
 
-      by_kind : (falls : neighbours_due.Falls) → neighbours.GainsRow old.neighbours.nodes new.neighbours.nodes (neighbours_due.due_row now falls) → Remembering falls kept new.choice mid new.routers
+      by_kind : (falls : neighbours_due.Falls) → neighbours.GainsRow old.neighbours.entries new.neighbours.entries (neighbours_due.due_row now falls) → Remembering falls kept new.choice mid new.routers
           → routers.Stands new.routers (with_failure now falls (router_history c)) → choice.Stands new.choice (with_lost_target now falls (redirect_history c))
           → Stands stream start new (comes start now (NeighbourFalls falls) c)
       by_kind (neighbours_due.Multicasts key) g m r t =
@@ -370,15 +370,15 @@ module _ {R A : Type 0} (stream : R → Stream) (start : Start) (old new : Node 
 
 module _ {R A : Type 0} (stream : R → Stream) (start : Start) (old : Node R A) (c : Chronicle) (now : ℕ) (s : Stands stream start old c) (is : now ≡ next_of old) where
   -- where nothing else is due now, the redraw is
-  pub redraw_is_due : (routers.next_end old.routers.entries ≡ Some now → ⊥) → (address_dates.next_in old.addresses.addresses ≡ Some now → ⊥) → (neighbours_due.next_in old.neighbours.nodes ≡ Some now → ⊥)
+  pub redraw_is_due : (routers.next_end old.routers.entries ≡ Some now → ⊥) → (address_dates.next_in old.addresses.addresses ≡ Some now → ⊥) → (neighbours_due.next_in old.neighbours.entries ≡ Some now → ⊥)
       → (next_solicitation old.role old.solicitations ≡ Some now → ⊥) → (next_advertisement old.role old.router ≡ Some now → ⊥) → next_redraw c ≡ now
   redraw_is_due hr ha hn hs hv =
-      let at = at_redraw now (routers.next_end old.routers.entries) (address_dates.next_in old.addresses.addresses) (neighbours_due.next_in old.neighbours.nodes) (next_solicitation old.role old.solicitations) (next_advertisement old.role old.router) (old.params.drawn_at + redraw_after) is hr ha hn hs hv in
+      let at = at_redraw now (routers.next_end old.routers.entries) (address_dates.next_in old.addresses.addresses) (neighbours_due.next_in old.neighbours.entries) (next_solicitation old.role old.solicitations) (next_advertisement old.role old.router) (old.params.drawn_at + redraw_after) is hr ha hn hs hv in
       omega (arith, at, s.params.drawn_at)
 
 -- before the earliest of the dates nothing is due
 pub next_due_at : {R A : Type 0} (stream : R → Stream) (start : Start) (node : Node R A) (c : Chronicle) → Stands stream start node c
-    → (r a n : Option ℕ) → r ≡ routers.next_end node.routers.entries → a ≡ address_dates.next_in node.addresses.addresses → n ≡ neighbours_due.next_in node.neighbours.nodes
+    → (r a n : Option ℕ) → r ≡ routers.next_end node.routers.entries → a ≡ address_dates.next_in node.addresses.addresses → n ≡ neighbours_due.next_in node.neighbours.entries
     → routers_due.NextDue (router_history c) r → addresses_due.NextDue node.addresses.transmits (address_history c) a → neighbours_due.NextDue (neighbour_history c) n
     → (next : ℕ) → next ≡ next_of node → NextDue start c next
 next_due_at stream start node c s r a n r_is a_is n_is r_due a_due n_due next is = record {

@@ -1,7 +1,7 @@
 -- How many rows the tables of a node have, and how many they may have.
 use Rattle.std.specs.Prelude.{◌≡◌, ◌≤◌, length}
 use Rattle.nd_dns.specs.Dns.{max_servers, max_names}
-use Rattle.nd_routers.specs.PrefixOptions.{max_prefixes}
+use Rattle.nd_routers.specs.OnLinkPrefixes.{max_prefixes}
 use Rattle.nd_slaac.specs.Room.{max_addresses}
 use Rattle.nd_advertiser.specs.Offers.{max_offers}
 use Rattle.nd_nexthop.specs.History.{max_redirects}
@@ -12,7 +12,7 @@ use Rattle.nd_node.specs.declared.node.Node.{Node}
 
 -- they are those of the tables
 pub record Counted {R A : Type 0} (node : Node R A) (counts : Counts) : Type 0 where
-  pub neighbours : counts.neighbours ≡ length node.neighbours.nodes
+  pub neighbours : counts.neighbours ≡ length node.neighbours.entries
   pub routers : counts.routers ≡ length node.routers.entries
   pub prefixes : counts.prefixes ≡ length node.prefixes
   pub addresses : counts.addresses ≡ length node.addresses.addresses

@@ -6,14 +6,14 @@ use Rattle.nd_addr.specs.Same.{same_addr, same_prefix}
 use Rattle.nd_decode.specs.Option.{Said}
 use Rattle.nd_decode.specs.declared.router_advertisement.RouterAdvertisement.{RouterAdvertisement}
 use Rattle.nd_table.specs.Listing.{fits}
-use Rattle.nd_routers.specs.PrefixOptions as prefixes
+use Rattle.nd_routers.specs.OnLinkPrefixes as prefixes
 use Rattle.nd_routers.specs.Routers.{same}
 use Rattle.nd_slaac.specs.PrefixOption as addresses
 use Rattle.nd_slaac.specs.Room.{fits_in}
 use Rattle.nd_slaac.specs.Calls.{keys_in}
 use Rattle.nd_dns.specs.Dns.{max_servers, max_names}
-use Rattle.nd_dns.specs.Names.{same_name, names_told}
-use Rattle.nd_dns.specs.Servers.{servers_told}
+use Rattle.nd_dns.specs.AnnouncedNames.{same_name, names_told}
+use Rattle.nd_dns.specs.AnnouncedServers.{servers_told}
 use Rattle.nd_node.specs.declared.node.Node.{Node}
 
 -- its sender has a place among the neighbours, and each other table has room

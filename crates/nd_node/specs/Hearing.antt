@@ -28,7 +28,7 @@ pub record Keeps {R A : Type 0} (old new : Node R A) : Type 0 where
   pub routers : new.routers ≡ old.routers
   pub prefixes : new.prefixes ≡ old.prefixes
   pub addresses : new.addresses ≡ old.addresses
-  pub nodes : new.neighbours.nodes ≡ old.neighbours.nodes
+  pub entries : new.neighbours.entries ≡ old.neighbours.entries
   pub limit : new.neighbours.limit ≡ old.neighbours.limit
   pub dns : new.dns ≡ old.dns
   pub choice : new.choice ≡ old.choice

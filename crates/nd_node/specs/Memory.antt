@@ -9,7 +9,7 @@ use Rattle.nd_decode.specs.declared.router_advertisement.RouterAdvertisement.{Ro
 use Rattle.nd_validity.specs.Hearing.{Hears, valid}
 use Rattle.nd_dns.specs.Dns.{new_names}
 use Rattle.nd_neighbour.specs.Removal.{waiting_at}
-use Rattle.nd_neighbour.specs.Table.{node_in}
+use Rattle.nd_neighbour.specs.Table.{entry_in}
 use Rattle.nd_chronicle.specs.Start.{Start}
 use Rattle.nd_chronicle.specs.Happening.{Chronicle, Passed, Refusal, Refused}
 use Rattle.nd_chronicle.specs.Hearing.{IsHeard, drops}
@@ -25,7 +25,7 @@ pub record IsDropped (start : Start) (c : Chronicle) (now : ℕ) (frame : List �
 -- an advertisement that adds no search name: there are places for itself, a router that leaves, and the packets that wait for its sender
 pub record AddsNoName {R A : Type 0} (node : Node R A) (now : ℕ) (source : Addr) (options : List Said) (places : ℕ) : Type 0 where
   pub names : new_names now options node.dns ≡ []
-  pub told : length (waiting_at (node_in (number_of source.0) node.neighbours.nodes)) + 2 ≤ places
+  pub told : length (waiting_at (entry_in (number_of source.0) node.neighbours.entries)) + 2 ≤ places
 
 -- the frame is such an advertisement
 pub record IsNameless {R A : Type 0} (node : Node R A) (now : ℕ) (frame : List ℕ) (places : ℕ) : Type 0 where
@@ -48,7 +48,7 @@ abbrev pub AsksForNone : {R A : Type 0} → Start → Chronicle → Node R A →
 AsksForNone start c node now places events.Passes = Unit {0}
 AsksForNone start c node now places (events.Receives frame) = IsDropped start c now frame places ⊎ IsNameless node now frame places
 AsksForNone start c node now places (events.Confirms neighbour) = Unit {0}
-AsksForNone start c node now places (events.Forgets neighbour) = length (waiting_at (node_in (number_of neighbour.0) node.neighbours.nodes)) ≤ places
+AsksForNone start c node now places (events.Forgets neighbour) = length (waiting_at (entry_in (number_of neighbour.0) node.neighbours.entries)) ≤ places
 AsksForNone start c node now places (events.Clears table) = TellsNothing table
 AsksForNone start c node now places _ = ⊥
 

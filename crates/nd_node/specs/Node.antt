@@ -13,7 +13,7 @@ use Rattle.nd_slaac.specs.Dates as address_dates
 use Rattle.nd_slaac.specs.Due.{Falls, Ends}
 use Rattle.nd_routers.specs.Routers as routers
 use Rattle.nd_params.specs.Params as parameters
-use Rattle.nd_params.specs.History.{redraw_after}
+use Rattle.nd_params.specs.ReachableTime.{redraw_after}
 use Rattle.nd_dns.specs.Dns as dns
 use Rattle.nd_nexthop.specs.Choice as choice
 use Rattle.nd_chronicle.specs.Start.{Start, Limits}
@@ -44,7 +44,7 @@ earliest routers addresses neighbours solicitation advertisement redraw =
 -- the moment at which something falls due next
 abbrev pub next_of : {R A : Type 0} → Node R A → ℕ
 next_of node =
-    earliest (routers.next_end node.routers.entries) (address_dates.next_in node.addresses.addresses) (neighbour_dates.next_in node.neighbours.nodes)
+    earliest (routers.next_end node.routers.entries) (address_dates.next_in node.addresses.addresses) (neighbour_dates.next_in node.neighbours.entries)
     (next_solicitation node.role node.solicitations) (next_advertisement node.role node.router) (node.params.drawn_at + redraw_after)
 
 -- Each table of the node stands for what the chronicle tells it, the generator is that of the start after as many words as were drawn,
@@ -60,7 +60,7 @@ pub record Stands {R A : Type 0} (stream : R → Stream) (start : Start) (node :
   pub routers : routers.Stands node.routers (router_history c)
   pub prefixes : lists.Stands same_prefix node.prefixes (prefix_history c)
   pub addresses : addresses.Stands node.addresses.addresses (address_history c)
-  pub neighbours : neighbours.Stands node.neighbours.nodes (neighbour_history c)
+  pub neighbours : neighbours.Stands node.neighbours.entries (neighbour_history c)
   pub dns : dns.Stands node.dns (server_history c) (name_history c)
   pub redirects : choice.Stands node.choice (redirect_history c)
   pub solicitations : solicitations.Stands start node.solicitations c
@@ -70,7 +70,7 @@ pub record Stands {R A : Type 0} (stream : R → Stream) (start : Start) (node :
   pub prefixes_by_then : lifetimes.last_moment (prefix_history c) ≤ last_moment start.at c
   pub servers_by_then : lifetimes.last_moment (server_history c) ≤ last_moment start.at c
   pub names_by_then : lifetimes.last_moment (name_history c) ≤ last_moment start.at c
-  pub memo : Remembers node.last node.choice node.addresses.addresses node.prefixes node.neighbours.nodes node.routers
+  pub memo : Remembers node.last node.choice node.addresses.addresses node.prefixes node.neighbours.entries node.routers
   pub in_time : last_moment start.at c ≤ next_of node
 
 -- Nothing is due before the moment, which isn't past.
@@ -86,5 +86,5 @@ ends _ = false
 -- how many turns are left up to a moment, where nothing else happens, and the time since the last redraw and the last advertisement
 abbrev pub turns_left : {R A : Type 0} → ℕ → Node R A → ℕ
 turns_left end node =
-    length node.routers.entries + address_dates.turns_left node.addresses.transmits node.addresses.addresses + neighbour_dates.turns_left node.neighbours.nodes
+    length node.routers.entries + address_dates.turns_left node.addresses.transmits node.addresses.addresses + neighbour_dates.turns_left node.neighbours.entries
     + (max_rtr_solicitations - node.solicitations.sent) + (end + redraw_after - node.params.drawn_at) + (end + 1 - after_last node.router.advertiser.last)

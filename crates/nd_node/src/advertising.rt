@@ -1,6 +1,7 @@
 //! What a router is told to advertise (RFC 4861, section 6.2).
 
-ghost use Rattle.std.specs.Prelude.{◌≡◌, ◌<◌, ◌^◌, OnErr, OnOk, ◌≤◌, IsOk, vec_capacity, vec_len};
+ghost use Rattle.std.specs.Prelude.{◌≡◌, ◌<◌, OnErr, OnOk, ◌≤◌, IsOk, vec_capacity, vec_len};
+ghost use Rattle.nd_table.specs.Moment.{IsMoment};
 ghost use Rattle.nd_chronicle.specs.Event as events;
 ghost use Rattle.nd_chronicle.specs.Event.{EventAdds};
 ghost use Rattle.nd_chronicle.specs.Happening.{Chronicle, last_moment};
@@ -28,7 +29,7 @@ impl<R: Rng + Drop, A: Allocator + Clone> Node<R, A> {
         config: Config,
         outs: &mut Vec<(u64, Out<A>), A>,
     ) -> Result<(), AllocError>
-        requires moment { now < 2 ^ 62 }
+        requires moment { IsMoment now }
         requires settled { now < next_of self.old }
         ensures adds { OnOk result (AddsEvent R.stream self.old self.new outs.old.items outs.new.items now (events.Advertises config)) }
         ensures stays { OnErr result (Stays R.stream self.old self.new) }
@@ -78,7 +79,7 @@ impl<R: Rng + Drop, A: Allocator + Clone> Node<R, A> {
         now: u64,
         outs: &mut Vec<(u64, Out<A>), A>,
     ) -> Result<(), AllocError>
-        requires moment { now < 2 ^ 62 }
+        requires moment { IsMoment now }
         requires settled { now < next_of self.old }
         ensures adds { OnOk result (AddsEvent R.stream self.old self.new outs.old.items outs.new.items now events.Stops) }
         ensures stays { OnErr result (Stays R.stream self.old self.new) }

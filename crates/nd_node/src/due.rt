@@ -1,8 +1,9 @@
 //! What falls due at a node, and when.
 
-ghost use Rattle.std.specs.Prelude.{◌≡◌, ℕ, if◌then◌else◌, ◌^◌, ◌<◌, ◌≤◌, ◌↔◌, ◌∷◌, IsTrue, Some};
+ghost use Rattle.std.specs.Prelude.{◌≡◌, ℕ, if◌then◌else◌, ◌<◌, ◌≤◌, ◌↔◌, ◌∷◌, IsTrue, Some};
 ghost use Rattle.rand_core.specs.Stream.{next_u32};
 ghost use Rattle.nd_addr.specs.Number.{number_of};
+ghost use Rattle.nd_table.specs.Moment.{IsMoment};
 ghost use Rattle.nd_params.specs.History.{Drew};
 ghost use Rattle.nd_slaac.specs.View.{falls_of};
 ghost use Rattle.nd_params.specs.Params.{GainsRows};
@@ -52,7 +53,7 @@ impl<R: Rng + Drop, A: Allocator + Clone> Node<R, A> {
     /// detections, the neighbours, Router Solicitations, Router Advertisements, a redraw of ReachableTime, each in the order of addresses. It
     /// takes no memory.
     pub(crate) fn take_turn(&mut self, now: u64) -> Turned<A>
-        requires moment { now < 2 ^ 62 }
+        requires moment { IsMoment now }
         requires due { now ≡ next_of self.old }
         ensures due { (start : Start) (c : Chronicle) → Stands R.stream start self.old c → Due start c now (Some (what_of result)) }
         ensures stands { (start : Start) (c : Chronicle) → Stands R.stream start self.old c → Stands R.stream start self.new (comes start now (what_of result) c) }
@@ -112,7 +113,7 @@ fn note_address(
     now: u64,
     due: nd_slaac::Due,
 )
-    requires { now < 2 ^ 62 }
+    requires { IsMoment now }
     ensures { solicitations.new ≡ after_address (number_of link_local.0) now (falls_of due) solicitations.old }
 {
     match due {
@@ -127,7 +128,7 @@ fn note_address(
 
 /// ReachableTime is drawn again for the base in force (RFC 4861, section 6.3.4).
 fn redraw<R: Rng>(params: &mut Params, generator: &mut R, now: u64)
-    requires { now < 2 ^ 62 }
+    requires { IsMoment now }
     ensures stands { GainsRows params.old params.new (λ history. Drew now (reachable_drawn params.old.base_reachable_time (R.stream generator.old)) ∷ history) }
     ensures drawn_at { params.new.drawn_at ≡ now }
     ensures left { R.stream generator.new ≡ (next_u32 (R.stream generator.old)).1 }

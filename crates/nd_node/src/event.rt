@@ -1,6 +1,7 @@
 //! Events: what a node receives from outside, and what it does then.
 
-ghost use Rattle.std.specs.Prelude.{◌≡◌, ◌^◌, ◌-◌, ◌<◌, ◌≤◌, IsOk, OnOk, OnErr, vec_len, vec_capacity};
+ghost use Rattle.std.specs.Prelude.{◌≡◌, ◌-◌, ◌<◌, ◌≤◌, IsOk, OnOk, OnErr, vec_len, vec_capacity};
+ghost use Rattle.nd_table.specs.Moment.{IsMoment};
 ghost use Rattle.nd_chronicle.specs.Event as events;
 ghost use Rattle.nd_chronicle.specs.Event.{EventAdds};
 ghost use Rattle.nd_chronicle.specs.Happening.{Chronicle, last_moment};
@@ -83,7 +84,7 @@ impl<R: Rng + Drop, A: Allocator + Clone> Node<R, A> {
         event: &Event<A>,
         outs: &mut Vec<(u64, Out<A>), A>,
     ) -> Result<(), AllocError>
-        requires { now < 2 ^ 62 }
+        requires { IsMoment now }
         ensures follows { OnOk result (Leads R.stream self.old self.new outs.old.items outs.new.items (FollowsBy now (event_of event.now))) }
         ensures onward { OnErr result (Leads R.stream self.old self.new outs.old.items outs.new.items (Onward now)) }
 
@@ -111,7 +112,7 @@ impl<R: Rng + Drop, A: Allocator + Clone> Node<R, A> {
         frame: &[u8],
         outs: &mut Vec<(u64, Out<A>), A>,
     ) -> Result<(), AllocError>
-        requires { now < 2 ^ 62 }
+        requires { IsMoment now }
         ensures follows { OnOk result (Leads R.stream self.old self.new outs.old.items outs.new.items (FollowsBy now (events.Receives frame.now))) }
         ensures onward { OnErr result (Leads R.stream self.old self.new outs.old.items outs.new.items (Onward now)) }
     {
@@ -163,7 +164,7 @@ impl<R: Rng + Drop, A: Allocator + Clone> Node<R, A> {
         event: &Event<A>,
         outs: &mut Vec<(u64, Out<A>), A>,
     ) -> Result<(), AllocError>
-        requires moment { now < 2 ^ 62 }
+        requires moment { IsMoment now }
         requires settled { now < next_of self.old }
         ensures adds { OnOk result (AddsEvent R.stream self.old self.new outs.old.items outs.new.items now (event_of event.now)) }
         ensures past { now < self.old.last → OnOk result (Leads R.stream self.old self.new outs.old.items outs.new.items (FollowsBy now (event_of event.now))) }

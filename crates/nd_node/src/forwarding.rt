@@ -1,8 +1,9 @@
 //! A packet in transit, which a router sends on (RFC 8200, section 3; RFC 4861, section 8.2).
 
-ghost use Rattle.std.specs.Prelude.{◌≡◌, ◌<◌, ◌≤◌, ◌^◌, ℕ, List, None, IsOk, OnErr, OnOk, Some, length, vec_capacity, vec_len};
+ghost use Rattle.std.specs.Prelude.{◌≡◌, ◌<◌, ◌≤◌, ℕ, List, None, IsOk, OnErr, OnOk, Some, length, vec_capacity, vec_len};
 ghost use Rattle.nd_addr.specs.Ip6.{packet_parts};
 ghost use Rattle.nd_addr.specs.Number.{number_of};
+ghost use Rattle.nd_table.specs.Moment.{IsMoment};
 ghost use Rattle.nd_chronicle.specs.Event.{packet_bytes};
 ghost use Rattle.nd_chronicle.specs.Forwarding.{ForwardAdds, SendsOn};
 ghost use Rattle.nd_chronicle.specs.Happening.{Chronicle};
@@ -40,7 +41,7 @@ impl<R: Rng + Drop, A: Allocator + Clone> Node<R, A> {
         packet: &Ip6Ref<'_>,
         outs: &mut Vec<(u64, Out<A>), A>,
     ) -> Result<(), AllocError>
-        requires moment { now < 2 ^ 62 }
+        requires moment { IsMoment now }
         requires settled { now < next_of self.old }
         requires by_frame { Hears frame.now self.old.role (other (packet_parts packet.now)) }
         ensures adds { OnOk result (AddsForwarded R.stream self.old self.new outs.old.items outs.new.items now (packet_parts packet.now) (packet_bytes frame.now)) }
@@ -90,7 +91,7 @@ impl<R: Rng + Drop, A: Allocator + Clone> Node<R, A> {
         bytes: &[u8],
         outs: &mut Vec<(u64, Out<A>), A>,
     ) -> Result<(), AllocError>
-        requires moment { now < 2 ^ 62 }
+        requires moment { IsMoment now }
         requires settled { now < next_of self.old }
         requires short { length packet.now.payload.now ≤ 65535 }
         ensures adds { OnOk result (AddsOnward R.stream self.old self.new outs.old.items outs.new.items now (number_of hop.0) own (packet_parts packet.now) bytes.now) }
@@ -123,7 +124,7 @@ impl<R: Rng + Drop, A: Allocator + Clone> Node<R, A> {
         bytes: &[u8],
         outs: &mut Vec<(u64, Out<A>), A>,
     ) -> Result<(), AllocError>
-        requires moment { now < 2 ^ 62 }
+        requires moment { IsMoment now }
         requires settled { now < next_of self.old }
         requires short { length packet.now.payload.now ≤ 65535 }
         ensures adds { OnOk result (AddsSentOn R.stream self.old self.new outs.old.items outs.new.items now (number_of hop.0) (Some target) (packet_parts packet.now) bytes.now) }

@@ -1,6 +1,6 @@
 //! A frame that comes.
 
-ghost use Rattle.std.specs.Prelude.{◌≡◌, ◌∷◌, ◌-◌, ◌<◌, ◌≤◌, ◌^◌, ℕ, List, IsOk, OnOk, OnErr, vec_len, vec_capacity};
+ghost use Rattle.std.specs.Prelude.{◌≡◌, ◌∷◌, ◌-◌, ◌<◌, ◌≤◌, ℕ, List, IsOk, OnOk, OnErr, vec_len, vec_capacity};
 ghost use Rattle.nd_addr.specs.Ip6.{packet_parts};
 ghost use Rattle.nd_decode.specs.Message.{parts};
 ghost use Rattle.nd_decode.specs.Pieces.{options_left};
@@ -8,6 +8,7 @@ ghost use Rattle.nd_decode.specs.declared.body.Body.TheVariants as bodies;
 ghost use Rattle.nd_decode.specs.declared.router_advertisement.RouterAdvertisement.{RouterAdvertisement};
 ghost use Rattle.nd_validity.specs.Hearing.{Hears, other, valid};
 ghost use Rattle.nd_addr.specs.declared.why.Why.{Why};
+ghost use Rattle.nd_table.specs.Moment.{IsMoment};
 ghost use Rattle.nd_chronicle.specs.Start.{Start};
 ghost use Rattle.nd_chronicle.specs.Happening.{Chronicle, Passed, last_moment};
 ghost use Rattle.nd_chronicle.specs.Hearing.{Judges, Verdict, drops};
@@ -37,7 +38,7 @@ impl<R: Rng + Drop, A: Allocator + Clone> Node<R, A> {
         packet: Ip6Ref<'_>,
         outs: &mut Vec<(u64, Out<A>), A>,
     ) -> Result<(), AllocError>
-        requires moment { now < 2 ^ 62 }
+        requires moment { IsMoment now }
         requires settled { now < next_of self.old }
         requires by_frame { Hears frame.now self.old.role (other (packet_parts packet)) }
         ensures adds { OnOk result (AddsEvent R.stream self.old self.new outs.old.items outs.new.items now (events.Receives frame.now)) }
@@ -66,7 +67,7 @@ impl<R: Rng + Drop, A: Allocator + Clone> Node<R, A> {
         heard: &Heard<'_>,
         outs: &mut Vec<(u64, Out<A>), A>,
     ) -> Result<(), AllocError>
-        requires moment { now < 2 ^ 62 }
+        requires moment { IsMoment now }
         requires settled { now < next_of self.old }
         ensures adds { OnOk result ((frame : List ℕ) → Hears frame self.old.role (valid heard.now.source heard.now.destination (parts heard.now.message)) → AddsEvent R.stream self.old self.new outs.old.items outs.new.items now (events.Receives frame)) }
         ensures stays { OnErr result (Stays R.stream self.old self.new) }
@@ -100,7 +101,7 @@ impl<R: Rng + Drop, A: Allocator + Clone> Node<R, A> {
         frame: &[u8],
         outs: &mut Vec<(u64, Out<A>), A>,
     ) -> Result<(), AllocError>
-        requires moment { now < 2 ^ 62 }
+        requires moment { IsMoment now }
         requires settled { now < next_of self.old }
         ensures adds { OnOk result (AddsEvent R.stream self.old self.new outs.old.items outs.new.items now (events.Receives frame.now)) }
         ensures stays { OnErr result (Stays R.stream self.old self.new) }

@@ -1,25 +1,50 @@
 //! A valid message that is for this node.
 
-ghost use Rattle.std.specs.Prelude.{◌≡◌, ◌∷◌, ◌-◌, ◌<◌, ◌≤◌, ◌^◌, ℕ, List, Some, IsOk, OnOk, OnErr, vec_len, vec_capacity};
+ghost use Rattle.std.specs.Prelude.{◌≡◌, ◌+◌, ◌++◌, [], ◌∷◌, ◌-◌, ◌<◌, ◌≤◌, ℕ, List, IsOk, OnOk, OnErr, vec_len, vec_capacity};
 ghost use Rattle.nd_decode.specs.Pieces.{options_left};
 ghost use Rattle.nd_decode.specs.declared.body.Body.TheVariants as bodies;
 ghost use Rattle.nd_decode.specs.declared.router_advertisement.RouterAdvertisement.{RouterAdvertisement};
+ghost use Rattle.nd_table.specs.Moment.{IsMoment};
 ghost use Rattle.nd_chronicle.specs.Start.{Start};
 ghost use Rattle.nd_validity.specs.Hearing.{valid};
 ghost use Rattle.nd_chronicle.specs.Event.{VerdictAdds};
-ghost use Rattle.nd_chronicle.specs.Full.{Fills};
-ghost use Rattle.nd_chronicle.specs.Happening.{Chronicle, Dropped, Limit as Table, Passed, last_moment};
+ghost use Rattle.nd_chronicle.specs.Happening.{Chronicle, Dropped, Passed, last_moment};
 ghost use Rattle.nd_chronicle.specs.Hearing.{Judges, NotFromFirstHop, Verdict};
+ghost use Rattle.nd_out.specs.declared.out.Out.TheVariants as reports;
 ghost use Rattle.nd_node.specs.Frame.{AddsAlone, AddsJudged, Stays};
 ghost use Rattle.nd_node.specs.Memory.{AddsNoName, AddsRefusal};
 
 use crate::node::Node;
 use nd_addr::{Addr, Why};
-use nd_decode::{Body, Options, Redirect};
+use nd_decode::{Body, Options};
 use nd_out::Out;
-use nd_steps::is_via;
 use rand_core::Rng;
 use std::alloc::{AllocError, Allocator};
+
+/// How many rows a message adds at most, besides those of the packets that it releases: itself, a duplicate address or an answer, and a router
+/// that leaves the list.
+pub(crate) const MOST_ROWS: usize = 3;
+
+/// Reports a valid message that is for this node, at `now` in milliseconds, into room that was made before.
+pub(crate) fn push_heard<A: Allocator>(
+    outs: &mut Vec<(u64, Out<A>), A>,
+    now: u64,
+    source: Addr,
+    destination: Addr,
+    body: Body,
+)
+    requires { vec_len outs.old < vec_capacity outs.old }
+    ensures items { outs.new.items ≡ outs.old.items ++ (now, reports.Heard source destination body) ∷ [] }
+    ensures len { vec_len outs.new ≡ vec_len outs.old + 1 }
+    ensures capacity { vec_capacity outs.new ≡ vec_capacity outs.old }
+{
+    let heard = Out::Heard {
+        source,
+        destination,
+        body,
+    };
+    outs.push_reserved((now, heard));
+}
 
 impl<R: Rng + Drop, A: Allocator + Clone> Node<R, A> {
     ghost use Rattle.nd_node.specs.Node.{Stands, next_of};
@@ -45,32 +70,6 @@ impl<R: Rng + Drop, A: Allocator + Clone> Node<R, A> {
         Ok(())
     }
 
-    /// A Redirect that is for this node is heard, if it comes from the current first hop of its destination (RFC 4861, section 8.1). It
-    /// is asked of the tables as they are before the Redirect changes them.
-    fn judge_redirect(
-        &mut self,
-        now: u64,
-        source: Addr,
-        destination: Addr,
-        redirect: &Redirect,
-        options: Options<'_>,
-        outs: &mut Vec<(u64, Out<A>), A>,
-    ) -> Result<(), AllocError>
-        requires moment { now < 2 ^ 62 }
-        requires settled { now < next_of self.old }
-        ensures adds { OnOk result (AddsJudged R.stream self.old self.new outs.old.items outs.new.items now source destination (record { body = bodies.Redirect redirect.now; options = options_left options.entry })) }
-        ensures stays { OnErr result (Stays R.stream self.old self.new) }
-        ensures told { OnErr result (outs.new.items ≡ outs.old.items) }
-        ensures full { (limit : Table) (start : Start) (c : Chronicle) → Stands R.stream start self.old c → last_moment start.at c ≤ now → Fills start ((now, Passed) ∷ c) now source (record { body = bodies.Redirect redirect.now; options = options_left options.entry }) (bodies.Redirect redirect.now) (Some limit) → vec_len outs.old < vec_capacity outs.old → IsOk result }
-        ensures misdirected { (start : Start) (c : Chronicle) → Stands R.stream start self.old c → last_moment start.at c ≤ now → NotFromFirstHop ((now, Passed) ∷ c) now source (bodies.Redirect redirect.now) → vec_len outs.old < vec_capacity outs.old → IsOk result }
-    {
-        let hop = self.next_hop(now, redirect.destination);
-        if !is_via(hop, source) {
-            return self.drop_frame(now, Why::NotFirstHop, outs);
-        }
-        self.hear_redirect(now, source, destination, redirect, options, outs)
-    }
-
     /// A valid message that is for this node is heard at a moment, in milliseconds (RFC 4861, sections 6.2.6, 6.3.4, 7.2.3, 7.2.5 and
     /// 8.3). The error is out of memory, and then nothing has happened.
     pub(crate) fn hear_message(
@@ -82,7 +81,7 @@ impl<R: Rng + Drop, A: Allocator + Clone> Node<R, A> {
         options: Options<'_>,
         outs: &mut Vec<(u64, Out<A>), A>,
     ) -> Result<(), AllocError>
-        requires moment { now < 2 ^ 62 }
+        requires moment { IsMoment now }
         requires settled { now < next_of self.old }
         ensures adds { OnOk result (AddsJudged R.stream self.old self.new outs.old.items outs.new.items now source destination (record { body = body.now; options = options_left options.entry })) }
         ensures stays { OnErr result (Stays R.stream self.old self.new) }

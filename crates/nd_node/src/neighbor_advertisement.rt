@@ -1,22 +1,21 @@
-ghost use Rattle.std.specs.Prelude.{◌≡◌, ◌∷◌, ◌<◌, ◌≤◌, ◌^◌, Some, IsOk, OnOk, OnErr, vec_capacity, vec_len};
+ghost use Rattle.std.specs.Prelude.{◌≡◌, ◌∷◌, ◌<◌, ◌≤◌, Some, IsOk, OnOk, OnErr, vec_capacity, vec_len};
 ghost use Rattle.nd_decode.specs.Pieces.{options_left};
 ghost use Rattle.nd_decode.specs.declared.body.Body.TheVariants as bodies;
+ghost use Rattle.nd_table.specs.Moment.{IsMoment};
 ghost use Rattle.nd_chronicle.specs.Full.{Fills};
 ghost use Rattle.nd_chronicle.specs.Happening.{Chronicle, Limit as Table, Passed, last_moment};
 ghost use Rattle.nd_chronicle.specs.Start.{Start};
 ghost use Rattle.nd_node.specs.Hearing.{AddsMessage};
 
+use crate::message::{MOST_ROWS, push_heard};
 use crate::node::Node;
 use nd_addr::Addr;
 use nd_decode::{Body, NeighborAdvertisement, Options};
 use nd_out::Out;
-use nd_steps::{end_router, hear_holder, hear_of_neighbour, news_of, times_in_force, waiting_for};
+use nd_packet::MAX_WAITING;
+use nd_steps::{end_router, hear_holder, hear_of_neighbour, news_of, times_in_force};
 use rand_core::Rng;
 use std::alloc::{AllocError, Allocator};
-
-/// How many places an advertisement takes beside those of the packets that it releases: one for what is heard, one for a duplicate
-/// address, and one for a router that leaves the list.
-const MOST_ADVERTISED: usize = 3;
 
 impl<R: Rng + Drop, A: Allocator + Clone> Node<R, A> {
     ghost use Rattle.nd_node.specs.Node.{Stands, next_of};
@@ -33,7 +32,7 @@ impl<R: Rng + Drop, A: Allocator + Clone> Node<R, A> {
         options: Options<'_>,
         outs: &mut Vec<(u64, Out<A>), A>,
     ) -> Result<(), AllocError>
-        requires moment { now < 2 ^ 62 }
+        requires moment { IsMoment now }
         requires settled { now < next_of self.old }
         ensures adds { OnOk result (AddsMessage R.stream self.old self.new outs.old.items outs.new.items now source destination (record { body = bodies.Na na.now; options = options_left options.entry })) }
         ensures keeps { OnErr result (self.new ≡ self.old) }
@@ -45,18 +44,12 @@ impl<R: Rng + Drop, A: Allocator + Clone> Node<R, A> {
         nd_slaac::laws::none_overdue();
         let body = Body::Na(*na);
         let news = news_of(source, &body, options);
-        let waiting = waiting_for(&self.neighbours, news);
-        outs.reserve(waiting + MOST_ADVERTISED)?;
+        outs.reserve(MAX_WAITING + MOST_ROWS)?;
         self.last = now;
-        outs.push_reserved((
-            now,
-            Out::Heard {
-                source,
-                destination,
-                body,
-            },
-        ));
+        push_heard(outs, now, source, destination, body);
+        // RFC 4862, section 5.4.4: an advertisement for a tentative address: it is not unique.
         hear_holder(&mut self.addresses, &mut self.choice, now, na.target, outs);
+        // RFC 4861, section 7.2.5: the entry of the target, and the packets that waited for its link-layer address.
         let times = times_in_force(&self.params);
         let ends = hear_of_neighbour(
             &mut self.neighbours,
@@ -66,6 +59,8 @@ impl<R: Rng + Drop, A: Allocator + Clone> Node<R, A> {
             times,
             outs,
         );
+        // Section 7.2.5: "In those cases where the IsRouter flag changes from TRUE to FALSE as a result of this update, the node MUST remove that
+        // router from the Default Router List".
         end_router(
             &mut self.routers,
             &mut self.choice,

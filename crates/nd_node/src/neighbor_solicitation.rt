@@ -1,29 +1,29 @@
-ghost use Rattle.std.specs.Prelude.{◌≡◌, ◌∷◌, ◌+◌, ◌<◌, ◌≤◌, ◌^◌, List, None, Some, IsOk, OnOk, OnErr, bytes_eq, false, true, vec_len, vec_capacity};
+ghost use Rattle.std.specs.Prelude.{◌≡◌, ◌∷◌, ◌+◌, ◌<◌, ◌≤◌, List, None, Some, IsOk, OnOk, OnErr, bytes_eq, false, true, vec_len, vec_capacity};
 ghost use Rattle.nd_addr.specs.Kind.{unspecified_address};
 ghost use Rattle.nd_addr.specs.Number.{number_of};
 ghost use Rattle.nd_decode.specs.Option.{Said};
 ghost use Rattle.nd_decode.specs.Pieces.{options_left};
 ghost use Rattle.nd_decode.specs.declared.body.Body.TheVariants as bodies;
-ghost use Rattle.nd_neighbour.specs.Table.{node_in};
+ghost use Rattle.nd_table.specs.Moment.{IsMoment};
+ghost use Rattle.nd_packet.specs.Waiting.{max_waiting};
+ghost use Rattle.nd_neighbour.specs.Table.{entry_in};
 ghost use Rattle.nd_chronicle.specs.NeighborSolicitation as solicited;
-ghost use Rattle.nd_steps.specs.NeighbourCache.{waiting_for};
 ghost use Rattle.nd_chronicle.specs.Full.{Fills};
 ghost use Rattle.nd_chronicle.specs.Happening.{Chronicle, Limit as Table, Passed, last_moment};
 ghost use Rattle.nd_chronicle.specs.Start.{Start};
 ghost use Rattle.nd_node.specs.Hearing.{AddsMessage, Keeps};
 
+use crate::message::{MOST_ROWS, push_heard};
 use crate::node::Node;
 use nd_addr::{Addr, Role};
 use nd_compose::FrameRoom;
 use nd_decode::{Body, NeighborSolicitation, Options};
 use nd_neighbour::{Cache, News};
 use nd_out::{Limit, Out, Refusal};
-use nd_steps::{hear_conflict, hear_of_neighbour, news_of, times_in_force, waiting_for};
+use nd_packet::MAX_WAITING;
+use nd_steps::{hear_conflict, hear_of_neighbour, news_of, times_in_force};
 use rand_core::Rng;
 use std::alloc::{AllocError, Allocator};
-
-/// How many places an answer takes beside those of the packets that wait for the asker: one for what is heard, and one for itself.
-const MOST_ANSWERED: usize = 2;
 
 /// Room for the frames of an answer, taken before anything changes.
 #[derive(Drop)]
@@ -49,7 +49,7 @@ impl<R: Rng + Drop, A: Allocator + Clone> Node<R, A> {
         options: Options<'_>,
         outs: &mut Vec<(u64, Out<A>), A>,
     ) -> Result<(), AllocError>
-        requires moment { now < 2 ^ 62 }
+        requires moment { IsMoment now }
         requires settled { now < next_of self.old }
         ensures adds { OnOk result (AddsMessage R.stream self.old self.new outs.old.items outs.new.items now source destination (record { body = bodies.Ns ns.now; options = options_left options.entry })) }
         ensures keeps { OnErr result (Keeps self.old self.new) }
@@ -73,7 +73,7 @@ impl<R: Rng + Drop, A: Allocator + Clone> Node<R, A> {
         ns: &NeighborSolicitation,
         outs: &mut Vec<(u64, Out<A>), A>,
     ) -> Result<(), AllocError>
-        requires moment { now < 2 ^ 62 }
+        requires moment { IsMoment now }
         requires settled { now < next_of self.old }
         requires unspecified { bytes_eq source.0 unspecified_address ≡ true }
         ensures adds { OnOk result ((options : List Said) → AddsMessage R.stream self.old self.new outs.old.items outs.new.items now source destination (record { body = bodies.Ns ns.now; options = options })) }
@@ -83,21 +83,16 @@ impl<R: Rng + Drop, A: Allocator + Clone> Node<R, A> {
     {
         nd_slaac::laws::none_overdue();
         let room = FrameRoom::new(outs.allocator().clone()?)?;
-        outs.reserve(MOST_ANSWERED)?;
+        outs.reserve(MOST_ROWS)?;
         self.last = now;
         let body = Body::Ns(*ns);
-        outs.push_reserved((
-            now,
-            Out::Heard {
-                source,
-                destination,
-                body,
-            },
-        ));
+        push_heard(outs, now, source, destination, body);
+        // RFC 4862, section 5.4.3: the target is tentative: another node tries it, too.
         if hear_conflict(&mut self.addresses, &mut self.choice, ns.target) {
             outs.push_reserved((now, Out::Duplicate(ns.target)));
             return Ok(());
         }
+        // RFC 4861, section 7.2.4: all nodes are told that the address is held.
         let router = is_router(self.role);
         let defence = room.defence(router, self.mac, ns.target);
         outs.push_reserved((now, Out::Frame(defence)));
@@ -116,7 +111,7 @@ impl<R: Rng + Drop, A: Allocator + Clone> Node<R, A> {
         options: Options<'_>,
         outs: &mut Vec<(u64, Out<A>), A>,
     ) -> Result<(), AllocError>
-        requires moment { now < 2 ^ 62 }
+        requires moment { IsMoment now }
         requires settled { now < next_of self.old }
         requires specified { bytes_eq source.0 unspecified_address ≡ false }
         ensures adds { OnOk result (AddsMessage R.stream self.old self.new outs.old.items outs.new.items now source destination (record { body = bodies.Ns ns.now; options = options_left options.entry })) }
@@ -129,24 +124,15 @@ impl<R: Rng + Drop, A: Allocator + Clone> Node<R, A> {
         nd_neighbour::laws::room_is_place();
         nd_neighbour::laws::full_by_history();
         if !self.neighbours.room(now, source, None) {
-            let full = Out::Refused(Refusal::Full(Limit::Neighbours));
-            outs.push((now, full))?;
-            self.last = now;
-            return Ok(());
+            return self.refuse(now, Refusal::Full(Limit::Neighbours), outs);
         }
         let body = Body::Ns(*ns);
         let news = news_of(source, &body, options);
         let room = make_room(&mut self.neighbours, now, source, news, outs)?;
         self.last = now;
-        outs.push_reserved((
-            now,
-            Out::Heard {
-                source,
-                destination,
-                body,
-            },
-        ));
+        push_heard(outs, now, source, destination, body);
         let times = times_in_force(&self.params);
+        // RFC 4861, section 7.2.3: the asker's link-layer address.
         hear_of_neighbour(
             &mut self.neighbours,
             &mut self.choice,
@@ -155,6 +141,7 @@ impl<R: Rng + Drop, A: Allocator + Clone> Node<R, A> {
             times,
             outs,
         );
+        // Section 7.2.4: a solicited advertisement to the asker, which goes as any packet to a neighbour.
         let router = is_router(self.role);
         let answer = room.answer.answer(router, self.mac, ns.target, source);
         self.go(now, source, answer, room.solicitation, outs);
@@ -171,16 +158,15 @@ fn make_room<A: Allocator + Clone>(
     news: Option<News>,
     outs: &mut Vec<(u64, Out<A>), A>,
 ) -> Result<AnswerRoom<A>, AllocError>
-    ensures places { OnOk result (vec_len outs.new + waiting_for news neighbours.old.nodes + 2 ≤ vec_capacity outs.new) }
-    ensures ring { OnOk result (news ≡ None → node_in (number_of asker.0) neighbours.old.nodes ≡ None → 0 < neighbours.new.rings) }
-    ensures nodes { neighbours.new.nodes ≡ neighbours.old.nodes }
+    ensures places { OnOk result (vec_len outs.new + max_waiting + 2 ≤ vec_capacity outs.new) }
+    ensures ring { OnOk result (news ≡ None → entry_in (number_of asker.0) neighbours.old.entries ≡ None → 0 < neighbours.new.rings) }
+    ensures entries { neighbours.new.entries ≡ neighbours.old.entries }
     ensures limit { neighbours.new.limit ≡ neighbours.old.limit }
     ensures same { outs.new.items ≡ outs.old.items }
 {
-    let waiting = waiting_for(neighbours, news);
     let answer = FrameRoom::new(outs.allocator().clone()?)?;
     let solicitation = FrameRoom::new(outs.allocator().clone()?)?;
-    outs.reserve(waiting + MOST_ANSWERED)?;
+    outs.reserve(MAX_WAITING + MOST_ROWS)?;
     let unknown = news.is_none() && neighbours.entry(now, asker).is_none();
     if unknown && neighbours.ready(1).is_err() {
         return Err(AllocError);

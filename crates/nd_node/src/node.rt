@@ -1,6 +1,7 @@
 //! A node: its tables, and its start.
 
-ghost use Rattle.std.specs.Prelude.{◌≡◌, ◌^◌, ◌<◌, IfOk, IfErr};
+ghost use Rattle.std.specs.Prelude.{◌≡◌, ◌<◌, IfOk, IfErr};
+ghost use Rattle.nd_table.specs.Moment.{IsMoment};
 
 use crate::limits::Limits;
 use crate::room::Room;
@@ -56,7 +57,7 @@ impl<R: Rng + Drop, A: Allocator + Copy> Node<R, A> {
         limits: Limits,
         mut generator: R,
     ) -> Result<Self, R>
-        requires { start < 2 ^ 62 }
+        requires { IsMoment start }
         ensures stands { IfOk result (λ node. let first = starting start role mac transmits limits (R.stream generator) in Stands R.stream first node (beginning first)) }
         ensures kept { IfErr result (λ rest. R.stream rest ≡ R.stream generator) }
     {

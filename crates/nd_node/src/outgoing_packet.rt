@@ -1,7 +1,8 @@
 //! A packet of the upper layer that is to be sent (RFC 4861, section 5.2).
 
-ghost use Rattle.std.specs.Prelude.{◌≡◌, ◌<◌, ◌≤◌, ◌^◌, length, ℕ, List, None, IsOk, OnErr, OnOk, false, true, option_map, vec_capacity, vec_len};
+ghost use Rattle.std.specs.Prelude.{◌≡◌, ◌<◌, ◌≤◌, length, ℕ, List, None, IsOk, OnErr, OnOk, false, true, option_map, vec_capacity, vec_len};
 ghost use Rattle.nd_addr.specs.Number.{number_of};
+ghost use Rattle.nd_table.specs.Moment.{IsMoment};
 ghost use Rattle.nd_chronicle.specs.Event as events;
 ghost use Rattle.nd_chronicle.specs.Event.{EventAdds, PacketAdds, refusal_of_packet};
 ghost use Rattle.nd_chronicle.specs.Happening.{Chronicle, Lost, Sent, last_moment};
@@ -96,7 +97,7 @@ impl<R: Rng + Drop, A: Allocator + Clone> Node<R, A> {
         outs: &mut Vec<(u64, Out<A>), A>,
     ) -> Result<(), AllocError>
         requires settled { now < next_of self.old }
-        requires full { has_room self.old.neighbours.limit now (number_of to.0) None self.old.neighbours.nodes ≡ false }
+        requires full { has_room self.old.neighbours.limit now (number_of to.0) None self.old.neighbours.entries ≡ false }
         ensures adds { OnOk result ((packet : List ℕ) → AddsToNeighbour R.stream self.old self.new outs.old.items outs.new.items now (number_of to.0) packet) }
         ensures keeps { OnErr result (Keeps self.old self.new) }
         ensures told { OnErr result (outs.new.items ≡ outs.old.items) }
@@ -115,9 +116,9 @@ impl<R: Rng + Drop, A: Allocator + Clone> Node<R, A> {
         packet: Packet<A>,
         outs: &mut Vec<(u64, Out<A>), A>,
     ) -> Result<(), AllocError>
-        requires moment { now < 2 ^ 62 }
+        requires moment { IsMoment now }
         requires settled { now < next_of self.old }
-        requires room { has_room self.old.neighbours.limit now (number_of to.0) None self.old.neighbours.nodes ≡ true }
+        requires room { has_room self.old.neighbours.limit now (number_of to.0) None self.old.neighbours.entries ≡ true }
         ensures adds { OnOk result (AddsToNeighbour R.stream self.old self.new outs.old.items outs.new.items now (number_of to.0) packet) }
         ensures keeps { OnErr result (Keeps self.old self.new) }
         ensures told { OnErr result (outs.new.items ≡ outs.old.items) }
@@ -139,7 +140,7 @@ impl<R: Rng + Drop, A: Allocator + Clone> Node<R, A> {
         outgoing: &OutgoingPacket<A>,
         outs: &mut Vec<(u64, Out<A>), A>,
     ) -> Result<(), AllocError>
-        requires moment { now < 2 ^ 62 }
+        requires moment { IsMoment now }
         requires settled { now < next_of self.old }
         requires short { length outgoing.now.payload.items ≤ 65535 }
         ensures adds { OnOk result (AddsToNeighbour R.stream self.old self.new outs.old.items outs.new.items now (number_of to.0) (frame_of open_mac self.old.mac self.old.params.hop_limit outgoing.now)) }
@@ -166,7 +167,7 @@ impl<R: Rng + Drop, A: Allocator + Clone> Node<R, A> {
         outgoing: &OutgoingPacket<A>,
         outs: &mut Vec<(u64, Out<A>), A>,
     ) -> Result<(), AllocError>
-        requires moment { now < 2 ^ 62 }
+        requires moment { IsMoment now }
         requires settled { now < next_of self.old }
         requires short { length outgoing.now.payload.items ≤ 65535 }
         ensures adds { OnOk result (AddsPacket R.stream self.old self.new outs.old.items outs.new.items now direct outgoing.now) }
@@ -194,7 +195,7 @@ impl<R: Rng + Drop, A: Allocator + Clone> Node<R, A> {
         outgoing: &OutgoingPacket<A>,
         outs: &mut Vec<(u64, Out<A>), A>,
     ) -> Result<(), AllocError>
-        requires moment { now < 2 ^ 62 }
+        requires moment { IsMoment now }
         requires settled { now < next_of self.old }
         requires short { length outgoing.now.payload.items ≤ 65535 }
         ensures adds { OnOk result (AddsPacket R.stream self.old self.new outs.old.items outs.new.items now (hop_of hop) outgoing.now) }
@@ -222,7 +223,7 @@ impl<R: Rng + Drop, A: Allocator + Clone> Node<R, A> {
         outgoing: &OutgoingPacket<A>,
         outs: &mut Vec<(u64, Out<A>), A>,
     ) -> Result<(), AllocError>
-        requires moment { now < 2 ^ 62 }
+        requires moment { IsMoment now }
         requires settled { now < next_of self.old }
         ensures adds { OnOk result (AddsEvent R.stream self.old self.new outs.old.items outs.new.items now (events.Sends outgoing.now.source outgoing.now.destination outgoing.now.next_header outgoing.now.payload.items)) }
         ensures stays { OnErr result (Stays R.stream self.old self.new) }

@@ -1,7 +1,8 @@
-ghost use Rattle.std.specs.Prelude.{◌≡◌, ◌+◌, ◌-◌, ◌<◌, ◌≤◌, ◌^◌, None, if◌then◌else◌, is_some, true, vec_len, vec_capacity};
+ghost use Rattle.std.specs.Prelude.{◌≡◌, ◌+◌, ◌-◌, ◌<◌, ◌≤◌, None, if◌then◌else◌, is_some, true, vec_len, vec_capacity};
 ghost use Rattle.nd_addr.specs.Number.{number_of};
+ghost use Rattle.nd_table.specs.Moment.{IsMoment};
 ghost use Rattle.nd_neighbour.specs.Room.{LeavesRoom, has_room};
-ghost use Rattle.nd_neighbour.specs.Table.{node_in};
+ghost use Rattle.nd_neighbour.specs.Table.{entry_in};
 ghost use Rattle.nd_node.specs.Packet.{PacketGoes};
 ghost use Rattle.nd_node.specs.Time.{Leads};
 
@@ -27,17 +28,17 @@ impl<R: Rng + Drop, A: Allocator + Clone> Node<R, A> {
         solicitation: FrameRoom<A>,
         outs: &mut Vec<(u64, Out<A>), A>,
     )
-        requires moment { now < 2 ^ 62 }
+        requires moment { IsMoment now }
         requires last { self.old.last ≡ now }
-        requires place { has_room self.old.neighbours.limit now (number_of to.0) None self.old.neighbours.nodes ≡ true }
-        requires ring { node_in (number_of to.0) self.old.neighbours.nodes ≡ None → 0 < self.old.neighbours.rings }
+        requires place { has_room self.old.neighbours.limit now (number_of to.0) None self.old.neighbours.entries ≡ true }
+        requires ring { entry_in (number_of to.0) self.old.neighbours.entries ≡ None → 0 < self.old.neighbours.rings }
         requires room { vec_len outs.old < vec_capacity outs.old }
         ensures leads { Leads R.stream self.old self.new outs.old.items outs.new.items (PacketGoes now (number_of to.0) packet) }
 
         // What a second packet behind this one needs.
-        ensures leaves { LeavesRoom self.old.neighbours.limit now (number_of to.0) self.old.neighbours.nodes self.new.neighbours.nodes }
+        ensures leaves { LeavesRoom self.old.neighbours.limit now (number_of to.0) self.old.neighbours.entries self.new.neighbours.entries }
         ensures limit { self.new.neighbours.limit ≡ self.old.neighbours.limit }
-        ensures rings { self.new.neighbours.rings ≡ (if is_some (node_in (number_of to.0) self.old.neighbours.nodes) then self.old.neighbours.rings else self.old.neighbours.rings - 1) }
+        ensures rings { self.new.neighbours.rings ≡ (if is_some (entry_in (number_of to.0) self.old.neighbours.entries) then self.old.neighbours.rings else self.old.neighbours.rings - 1) }
         ensures places { vec_len outs.new ≤ vec_len outs.old + 1 }
         ensures capacity { vec_capacity outs.new ≡ vec_capacity outs.old }
         ensures last { self.new.last ≡ self.old.last }

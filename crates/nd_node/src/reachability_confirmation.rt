@@ -1,4 +1,5 @@
-ghost use Rattle.std.specs.Prelude.{◌<◌, ◌^◌, ℕ, List};
+ghost use Rattle.std.specs.Prelude.{◌<◌, ℕ, List};
+ghost use Rattle.nd_table.specs.Moment.{IsMoment};
 ghost use Rattle.nd_chronicle.specs.Event as events;
 ghost use Rattle.nd_out.specs.declared.out.Out as told;
 ghost use Rattle.nd_node.specs.Event.{AddsEvent};
@@ -15,7 +16,7 @@ impl<R: Rng + Drop, A: Allocator + Clone> Node<R, A> {
     /// An upper layer confirms at a moment, in milliseconds, that a neighbour is reached (RFC 4861, section 7.3.1). It takes no memory,
     /// and nothing is told.
     pub(crate) fn confirm(&mut self, now: u64, neighbour: Addr)
-        requires moment { now < 2 ^ 62 }
+        requires moment { IsMoment now }
         requires settled { now < next_of self.old }
         ensures { (outs : List (ℕ × told.Out A)) → AddsEvent R.stream self.old self.new outs outs now (events.Confirms neighbour) }
     {

@@ -1,29 +1,32 @@
-ghost use Rattle.std.specs.Prelude.{◌≡◌, ◌∷◌, ◌<◌, ◌≤◌, ◌^◌, Some, IsOk, OnOk, OnErr, vec_capacity, vec_len};
+//! A Redirect is received (RFC 4861, sections 8.1 and 8.3).
+
+ghost use Rattle.std.specs.Prelude.{◌≡◌, ◌∷◌, ◌<◌, ◌≤◌, Some, IsOk, OnOk, OnErr, vec_capacity, vec_len};
 ghost use Rattle.nd_decode.specs.Pieces.{options_left};
 ghost use Rattle.nd_decode.specs.declared.body.Body.TheVariants as bodies;
+ghost use Rattle.nd_table.specs.Moment.{IsMoment};
 ghost use Rattle.nd_chronicle.specs.Full.{Fills};
 ghost use Rattle.nd_chronicle.specs.Happening.{Chronicle, Limit as Table, Passed, last_moment};
 ghost use Rattle.nd_chronicle.specs.Start.{Start};
+ghost use Rattle.nd_chronicle.specs.Hearing.{NotFromFirstHop};
+ghost use Rattle.nd_node.specs.Frame.{AddsJudged, Stays};
 ghost use Rattle.nd_node.specs.Hearing.{AddsMessage};
 
+use crate::message::{MOST_ROWS, push_heard};
 use crate::node::Node;
-use nd_addr::Addr;
+use nd_addr::{Addr, Why};
 use nd_decode::{Body, Options, Redirect};
 use nd_out::{Limit, Out, Refusal};
-use nd_steps::{has_place, hear_of_neighbour, news_of, times_in_force, waiting_for};
+use nd_packet::MAX_WAITING;
+use nd_steps::{has_place, hear_of_neighbour, is_via, news_of, times_in_force};
 use rand_core::Rng;
 use std::alloc::{AllocError, Allocator};
-
-/// How many places a Redirect takes beside those of the packets that it releases: one for what is heard.
-const MOST_REDIRECTED: usize = 1;
 
 impl<R: Rng + Drop, A: Allocator + Clone> Node<R, A> {
     ghost use Rattle.nd_node.specs.Node.{Stands, next_of};
 
-    /// A Redirect from the first hop of its destination is heard at a moment, in milliseconds: its target is the next hop of its
-    /// destination from now on, and what it says of the target is taken (RFC 4861, section 8.3). It is refused where the target has no
-    /// place among the neighbours. The error is out of memory, and then nothing has changed.
-    pub(crate) fn hear_redirect(
+    /// A Redirect that is for this node is heard, if it comes from the current first hop of its destination (RFC 4861, section 8.1). It
+    /// is asked of the tables as they are before the Redirect changes them.
+    pub(crate) fn judge_redirect(
         &mut self,
         now: u64,
         source: Addr,
@@ -32,7 +35,34 @@ impl<R: Rng + Drop, A: Allocator + Clone> Node<R, A> {
         options: Options<'_>,
         outs: &mut Vec<(u64, Out<A>), A>,
     ) -> Result<(), AllocError>
-        requires moment { now < 2 ^ 62 }
+        requires moment { IsMoment now }
+        requires settled { now < next_of self.old }
+        ensures adds { OnOk result (AddsJudged R.stream self.old self.new outs.old.items outs.new.items now source destination (record { body = bodies.Redirect redirect.now; options = options_left options.entry })) }
+        ensures stays { OnErr result (Stays R.stream self.old self.new) }
+        ensures told { OnErr result (outs.new.items ≡ outs.old.items) }
+        ensures full { (limit : Table) (start : Start) (c : Chronicle) → Stands R.stream start self.old c → last_moment start.at c ≤ now → Fills start ((now, Passed) ∷ c) now source (record { body = bodies.Redirect redirect.now; options = options_left options.entry }) (bodies.Redirect redirect.now) (Some limit) → vec_len outs.old < vec_capacity outs.old → IsOk result }
+        ensures misdirected { (start : Start) (c : Chronicle) → Stands R.stream start self.old c → last_moment start.at c ≤ now → NotFromFirstHop ((now, Passed) ∷ c) now source (bodies.Redirect redirect.now) → vec_len outs.old < vec_capacity outs.old → IsOk result }
+    {
+        let hop = self.next_hop(now, redirect.destination);
+        if !is_via(hop, source) {
+            return self.drop_frame(now, Why::NotFirstHop, outs);
+        }
+        self.hear_redirect(now, source, destination, redirect, options, outs)
+    }
+
+    /// A Redirect from the first hop of its destination is heard at a moment, in milliseconds: its target is the next hop of its
+    /// destination from now on, and what it says of the target is taken (RFC 4861, section 8.3). It is refused where the target has no
+    /// place among the neighbours. The error is out of memory, and then nothing has changed.
+    fn hear_redirect(
+        &mut self,
+        now: u64,
+        source: Addr,
+        destination: Addr,
+        redirect: &Redirect,
+        options: Options<'_>,
+        outs: &mut Vec<(u64, Out<A>), A>,
+    ) -> Result<(), AllocError>
+        requires moment { IsMoment now }
         requires settled { now < next_of self.old }
         ensures adds { OnOk result (AddsMessage R.stream self.old self.new outs.old.items outs.new.items now source destination (record { body = bodies.Redirect redirect.now; options = options_left options.entry })) }
         ensures keeps { OnErr result (self.new ≡ self.old) }
@@ -44,25 +74,16 @@ impl<R: Rng + Drop, A: Allocator + Clone> Node<R, A> {
         let body = Body::Redirect(*redirect);
         let news = news_of(source, &body, options);
         if !has_place(&self.neighbours, now, news) {
-            let full = Out::Refused(Refusal::Full(Limit::Neighbours));
-            outs.push((now, full))?;
-            self.last = now;
-            return Ok(());
+            return self.refuse(now, Refusal::Full(Limit::Neighbours), outs);
         }
-        let waiting = waiting_for(&self.neighbours, news);
-        outs.reserve(waiting + MOST_REDIRECTED)?;
+        outs.reserve(MAX_WAITING + MOST_ROWS)?;
+        // Section 8.3: the Destination Cache: "so that subsequent traffic will go to the specified target".
         self.choice
             .redirected(redirect.destination, redirect.target)?;
         self.last = now;
-        outs.push_reserved((
-            now,
-            Out::Heard {
-                source,
-                destination,
-                body,
-            },
-        ));
+        push_heard(outs, now, source, destination, body);
         let times = times_in_force(&self.params);
+        // Section 8.3: the target's link-layer address, and that it is a router if it is not the destination.
         hear_of_neighbour(
             &mut self.neighbours,
             &mut self.choice,

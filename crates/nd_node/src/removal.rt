@@ -4,7 +4,7 @@ ghost use Rattle.std.specs.Prelude.{◌≡◌, ◌-◌, ◌<◌, ◌≤◌, IsOk
 ghost use Rattle.nd_addr.specs.Number.{number_of};
 ghost use Rattle.nd_chronicle.specs.Event as events;
 ghost use Rattle.nd_neighbour.specs.Removal.{waiting_at};
-ghost use Rattle.nd_neighbour.specs.Table.{node_in};
+ghost use Rattle.nd_neighbour.specs.Table.{entry_in};
 ghost use Rattle.nd_node.specs.Event.{AddsEvent};
 
 use crate::node::Node;
@@ -31,7 +31,7 @@ impl<R: Rng + Drop, A: Allocator + Clone> Node<R, A> {
         ensures told { OnErr result (outs.new.items ≡ outs.old.items) }
 
         // Where there are places for the packets that wait, nothing refuses.
-        ensures quiet { length (waiting_at (node_in (number_of neighbour.0) self.old.neighbours.nodes)) ≤ vec_capacity outs.old - vec_len outs.old → IsOk result }
+        ensures quiet { length (waiting_at (entry_in (number_of neighbour.0) self.old.neighbours.entries)) ≤ vec_capacity outs.old - vec_len outs.old → IsOk result }
     {
         nd_neighbour::laws::none_overdue();
         let waiting = self.neighbours.waiting_at(neighbour);

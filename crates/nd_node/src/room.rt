@@ -36,8 +36,8 @@ impl<A: Allocator + Copy> Room<A> {
         ensures router_history { IfOk result (λ room. routers.Stands room.routers []) }
         ensures no_prefixes { IfOk result (λ room. room.prefixes ≡ []) }
         ensures prefixes { IfOk result (λ room. lists.Stands same_prefix room.prefixes []) }
-        ensures neighbours { IfOk result (λ room. room.neighbours ≡ record { limit = limits.neighbours; nodes = []; rings = 0 }) }
-        ensures neighbour_history { IfOk result (λ room. neighbours.Stands room.neighbours.nodes []) }
+        ensures neighbours { IfOk result (λ room. room.neighbours ≡ record { limit = limits.neighbours; entries = []; rings = 0 }) }
+        ensures neighbour_history { IfOk result (λ room. neighbours.Stands room.neighbours.entries []) }
         ensures dns { IfOk result (λ room. dns.Stands room.dns [] []) }
         ensures choice { IfOk result (λ room. room.choice ≡ record { redirects = []; memory = record { hops = []; until = None } }) }
         ensures redirects { IfOk result (λ room. choice.Stands room.choice []) }

@@ -1,7 +1,10 @@
-ghost use Rattle.std.specs.Prelude.{◌≡◌, ◌∷◌, ◌≤◌, ◌<◌, ◌^◌, ◌+◌, ◌-◌, ◌&&◌, if◌then◌else◌, [], true, Some, IsOk, OnOk, OnErr, vec_len, vec_capacity};
+//! A Router Advertisement is received (RFC 4861, section 6.3.4; RFC 4862, section 5.5.3; RFC 8106, section 6.1).
+
+ghost use Rattle.std.specs.Prelude.{◌≡◌, ◌∷◌, ◌≤◌, ◌<◌, ◌+◌, ◌-◌, true, Some, IsOk, OnOk, OnErr, vec_len, vec_capacity};
 ghost use Rattle.std.specs.Option.{option_map};
 ghost use Rattle.nd_decode.specs.Pieces.{options_left};
 ghost use Rattle.nd_decode.specs.declared.body.Body.TheVariants as bodies;
+ghost use Rattle.nd_table.specs.Moment.{IsMoment};
 ghost use Rattle.nd_dns.specs.Dns.{new_names};
 ghost use Rattle.nd_neighbour.specs.declared.news.Times.{Times};
 ghost use Rattle.nd_chronicle.specs.Histories.{said_of_neighbour};
@@ -14,6 +17,7 @@ ghost use Rattle.nd_node.specs.Hearing.{AddsMessage};
 ghost use Rattle.nd_node.specs.Memory.{AddsNoName};
 ghost use Rattle.nd_node.specs.Fullness.{HasRoom};
 
+use crate::message::push_heard;
 use crate::node::Node;
 use nd_addr::Addr;
 use nd_decode::{Body, Options, RouterAdvertisement};
@@ -22,15 +26,27 @@ use nd_neighbour::laws::one_is_pushed_out;
 use nd_neighbour::{News, Times};
 use nd_out::{Out, Refusal};
 use nd_steps::{
-    Advertisement, has_place, hear_dns, hear_of_neighbour, hear_parameters, hear_prefix_options,
-    hear_prefixes, hear_router, keep_until_a_prefix_ends, news_of, none_forms, tell_left,
-    waiting_for,
+    has_place, hear_dns, hear_of_neighbour, hear_parameters, hear_prefix_options, hear_prefixes,
+    hear_router, keep_until_a_prefix_ends, news_of, none_forms, tell_left, waiting_for,
 };
 use rand_core::Rng;
 use std::alloc::{AllocError, Allocator};
 
 /// How much a Router Advertisement tells at most beside the frames that are sent: itself, and a router that is timed out.
 const BESIDE_FRAMES: usize = 2;
+
+/// A valid Router Advertisement, with the addresses of its packet (RFC 4861, section 4.2).
+#[derive(Clone, Copy)]
+struct Advertisement<'a> {
+    /// The router that sends it.
+    source: Addr,
+    /// All nodes, or one that solicited it.
+    destination: Addr,
+    /// What stands before its options.
+    ra: RouterAdvertisement,
+    /// Its options.
+    options: Options<'a>,
+}
 
 impl<R: Rng + Drop, A: Allocator + Clone> Node<R, A> {
     ghost use Rattle.nd_node.specs.Node.{Stands, next_of};
@@ -45,13 +61,13 @@ impl<R: Rng + Drop, A: Allocator + Clone> Node<R, A> {
         names: NewNames<A>,
         outs: &mut Vec<(u64, Out<A>), A>,
     )
-        requires moment { now < 2 ^ 62 }
+        requires moment { IsMoment now }
         requires settled { now < next_of self.old }
         requires room { HasRoom self.old now heard.now.source heard.now.ra (options_left heard.now.options) true }
-        requires place { HasPlace self.old.neighbours.limit now news self.old.neighbours.nodes }
+        requires place { HasPlace self.old.neighbours.limit now news self.old.neighbours.entries }
         requires news { (times : Times) → option_map (said_by times) news ≡ said_of_neighbour heard.now.source (bodies.Ra heard.now.ra) (options_left heard.now.options) times.reachable }
         requires names { names ≡ new_names now (options_left heard.now.options) self.old.dns }
-        requires space { vec_len outs.old + waiting_for news self.old.neighbours.nodes + 1 ≤ vec_capacity outs.old }
+        requires space { vec_len outs.old + waiting_for news self.old.neighbours.entries + 1 ≤ vec_capacity outs.old }
         ensures { TakesAdvertisement R.stream self.old self.new outs.old.items outs.new.items now heard.now.source heard.now.destination heard.now.ra (options_left heard.now.options) }
     {
         one_is_pushed_out();
@@ -59,6 +75,8 @@ impl<R: Rng + Drop, A: Allocator + Clone> Node<R, A> {
         nd_slaac::laws::none_overdue();
         self.last = now;
         let own = none_forms(&self.addresses, heard.options);
+        // RFC 4861, section 6.3.4: "If the received Cur Hop Limit value is non-zero, the host SHOULD set its CurHopLimit variable to the received
+        // value", and so for Reachable Time, Retrans Timer and the MTU option.
         hear_parameters(
             &mut self.params,
             &mut self.generator,
@@ -66,12 +84,15 @@ impl<R: Rng + Drop, A: Allocator + Clone> Node<R, A> {
             &heard.ra,
             heard.options,
         );
+        // Section 6.3.7: a host that has heard a router solicits no more.
         self.solicitations.heard_router(heard.ra.router_lifetime);
         let retrans = self.params.retrans_timer();
         let times = Times {
             retrans,
             reachable: self.params.reachable_time(),
         };
+        // Section 6.3.4: "If the advertisement contains a Source Link-Layer Address option, the link-layer address SHOULD be recorded in the
+        // Neighbor Cache entry for the router [..] and the IsRouter flag in the Neighbor Cache entry MUST be set to TRUE."
         hear_of_neighbour(
             &mut self.neighbours,
             &mut self.choice,
@@ -80,6 +101,8 @@ impl<R: Rng + Drop, A: Allocator + Clone> Node<R, A> {
             times,
             outs,
         );
+        // Section 6.3.4, Router Lifetime: a router enters the list or is refreshed, and "if [..] the Router Lifetime value is zero, immediately
+        // time-out the entry". RFC 4191, section 2.2: its preference.
         let times_out = hear_router(
             &mut self.routers,
             &mut self.choice,
@@ -89,7 +112,9 @@ impl<R: Rng + Drop, A: Allocator + Clone> Node<R, A> {
             heard.ra.preference,
         );
         tell_left(outs, now, heard.source, times_out);
+        // Section 6.3.4, "each Prefix Information option with the on-link flag set".
         hear_prefixes(&mut self.prefixes, &mut self.choice, now, heard.options);
+        // RFC 4862, section 5.5.3: the options with the autonomous flag form addresses, or renew them.
         hear_prefix_options(
             &mut self.addresses,
             &mut self.generator,
@@ -98,6 +123,7 @@ impl<R: Rng + Drop, A: Allocator + Clone> Node<R, A> {
             heard.destination.is_multicast(),
             retrans,
         );
+        // RFC 8106, sections 5 and 6: servers and search names.
         hear_dns(&mut self.dns, now, heard.options, names);
         keep_until_a_prefix_ends(&mut self.choice, &self.prefixes, now, own);
     }
@@ -114,7 +140,7 @@ impl<R: Rng + Drop, A: Allocator + Clone> Node<R, A> {
         options: Options<'_>,
         outs: &mut Vec<(u64, Out<A>), A>,
     ) -> Result<(), AllocError>
-        requires moment { now < 2 ^ 62 }
+        requires moment { IsMoment now }
         requires settled { now < next_of self.old }
         ensures adds { OnOk result (AddsMessage R.stream self.old self.new outs.old.items outs.new.items now source destination (record { body = bodies.Ra ra.now; options = options_left options.entry })) }
         ensures keeps { OnErr result (self.new ≡ self.old) }
@@ -127,11 +153,7 @@ impl<R: Rng + Drop, A: Allocator + Clone> Node<R, A> {
         let news = news_of(source, &Body::Ra(*ra), options);
         let place = has_place(&self.neighbours, now, news);
         match self.first_full(now, source, ra, options, place) {
-            Some(limit) => {
-                outs.push((now, Out::Refused(Refusal::Full(limit))))?;
-                self.last = now;
-                return Ok(());
-            }
+            Some(limit) => return self.refuse(now, Refusal::Full(limit), outs),
             None => {}
         }
         let names = self.dns.new_names(now, options)?;
@@ -143,7 +165,7 @@ impl<R: Rng + Drop, A: Allocator + Clone> Node<R, A> {
             ra: *ra,
             options,
         };
-        outs.push_reserved((now, heard.told()));
+        push_heard(outs, now, source, destination, Body::Ra(*ra));
         self.take_router_advertisement(now, &heard, news, names, outs);
         Ok(())
     }

@@ -1,21 +1,21 @@
-ghost use Rattle.std.specs.Prelude.{◌≡◌, ◌∷◌, ◌<◌, ◌≤◌, ◌^◌, Some, IsOk, OnOk, OnErr, vec_capacity, vec_len};
+ghost use Rattle.std.specs.Prelude.{◌≡◌, ◌∷◌, ◌<◌, ◌≤◌, Some, IsOk, OnOk, OnErr, vec_capacity, vec_len};
 ghost use Rattle.nd_decode.specs.Pieces.{options_left};
 ghost use Rattle.nd_decode.specs.declared.body.Body.TheVariants as bodies;
+ghost use Rattle.nd_table.specs.Moment.{IsMoment};
 ghost use Rattle.nd_chronicle.specs.Full.{Fills};
 ghost use Rattle.nd_chronicle.specs.Happening.{Chronicle, Limit as Table, Passed, last_moment};
 ghost use Rattle.nd_chronicle.specs.Start.{Start};
 ghost use Rattle.nd_node.specs.Hearing.{AddsMessage};
 
+use crate::message::{MOST_ROWS, push_heard};
 use crate::node::Node;
 use nd_addr::Addr;
 use nd_decode::{Body, Options};
 use nd_out::{Limit, Out, Refusal};
-use nd_steps::{has_place, hear_of_neighbour, news_of, times_in_force, waiting_for};
+use nd_packet::MAX_WAITING;
+use nd_steps::{has_place, hear_of_neighbour, news_of, times_in_force};
 use rand_core::Rng;
 use std::alloc::{AllocError, Allocator};
-
-/// How many places a solicitation takes beside those of the packets that it releases: one for what is heard.
-const MOST_SOLICITED: usize = 1;
 
 impl<R: Rng + Drop, A: Allocator + Clone> Node<R, A> {
     ghost use Rattle.nd_node.specs.Node.{Stands, next_of};
@@ -31,7 +31,7 @@ impl<R: Rng + Drop, A: Allocator + Clone> Node<R, A> {
         options: Options<'_>,
         outs: &mut Vec<(u64, Out<A>), A>,
     ) -> Result<(), AllocError>
-        requires moment { now < 2 ^ 62 }
+        requires moment { IsMoment now }
         requires settled { now < next_of self.old }
         ensures adds { OnOk result (AddsMessage R.stream self.old self.new outs.old.items outs.new.items now source destination (record { body = bodies.Rs; options = options_left options.entry })) }
         ensures keeps { OnErr result (self.new ≡ self.old) }
@@ -43,23 +43,13 @@ impl<R: Rng + Drop, A: Allocator + Clone> Node<R, A> {
         let body = Body::Rs;
         let news = news_of(source, &body, options);
         if !has_place(&self.neighbours, now, news) {
-            let full = Out::Refused(Refusal::Full(Limit::Neighbours));
-            outs.push((now, full))?;
-            self.last = now;
-            return Ok(());
+            return self.refuse(now, Refusal::Full(Limit::Neighbours), outs);
         }
-        let waiting = waiting_for(&self.neighbours, news);
-        outs.reserve(waiting + MOST_SOLICITED)?;
+        outs.reserve(MAX_WAITING + MOST_ROWS)?;
         self.last = now;
-        outs.push_reserved((
-            now,
-            Out::Heard {
-                source,
-                destination,
-                body,
-            },
-        ));
+        push_heard(outs, now, source, destination, body);
         let times = times_in_force(&self.params);
+        // Section 6.2.6: the sender's link-layer address, "the Neighbor Cache entry's IsRouter flag MUST be set to FALSE".
         hear_of_neighbour(
             &mut self.neighbours,
             &mut self.choice,
@@ -68,6 +58,7 @@ impl<R: Rng + Drop, A: Allocator + Clone> Node<R, A> {
             times,
             outs,
         );
+        // Section 6.2.6: "A router MAY choose to unicast the response [..] but the usual case is to multicast the response".
         self.router
             .hear_solicitation(self.role, now, &mut self.generator);
         Ok(())

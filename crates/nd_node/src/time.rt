@@ -1,6 +1,7 @@
 //! Time that passes at a node.
 
-ghost use Rattle.std.specs.Prelude.{◌≡◌, ◌∷◌, ℕ, ◌^◌, ◌<◌, ◌≤◌, Ok, OnOk, OnErr};
+ghost use Rattle.std.specs.Prelude.{◌≡◌, ◌∷◌, ℕ, ◌<◌, ◌≤◌, Ok, OnOk, OnErr};
+ghost use Rattle.nd_table.specs.Moment.{IsMoment};
 ghost use Rattle.nd_chronicle.specs.Happening.{Chronicle, Passed, last_moment};
 ghost use Rattle.nd_chronicle.specs.Start.{Start};
 ghost use Rattle.nd_node.specs.Time.{Leads, Comes, Passes, Onward};
@@ -20,7 +21,7 @@ impl<R: Rng + Drop, A: Allocator + Clone> Node<R, A> {
     /// their detections, the neighbours, Router Solicitations, Router Advertisements, a redraw of ReachableTime, each in the order of
     /// addresses. The error is out of memory, and then nothing has changed.
     pub fn turn(&mut self, now: u64, outs: &mut Vec<(u64, Out<A>), A>) -> Result<(), AllocError>
-        requires moment { now < 2 ^ 62 }
+        requires moment { IsMoment now }
         requires due { now ≡ next_of self.old }
         ensures leads { OnOk result (Leads R.stream self.old self.new outs.old.items outs.new.items (Comes now)) }
         ensures fewer { OnOk result ((end : ℕ) → now ≤ end → turns_left end self.new < turns_left end self.old) }
@@ -41,7 +42,7 @@ impl<R: Rng + Drop, A: Allocator + Clone> Node<R, A> {
 
     /// Does all that is due up to a moment, and tells it. The error is out of memory, and then the rest can be done later.
     pub fn settle(&mut self, now: u64, outs: &mut Vec<(u64, Out<A>), A>) -> Result<(), AllocError>
-        requires { now < 2 ^ 62 }
+        requires { IsMoment now }
         ensures onward { Leads R.stream self.old self.new outs.old.items outs.new.items (Onward now) }
         ensures passes { OnOk result (Leads R.stream self.old self.new outs.old.items outs.new.items (Passes now)) }
         ensures settled { OnOk result (now < next_of self.new) }

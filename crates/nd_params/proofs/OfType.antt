@@ -3,7 +3,7 @@ use Rattle.std.proofs.Common.{◌≡◌, eqb, true, false, List, [], ◌∷◌, 
 use Rattle.std.proofs.lemmas.Bool.{cases_Bool}
 use Rattle.nd_decode.specs.Option.{Said, slla, tlla, prefix, redirected, mtu, rdnss, dnssl, other}
 use Rattle.nd_decode.specs.OfType.{from_kind}
-use Rattle.nd_params.specs.History.{first_mtu}
+use Rattle.nd_params.specs.RouterAdvertisement.{first_mtu}
 
 pub first_mtu_from : (options : List Said) → first_mtu options ≡ first_mtu (from_kind 5 options)
 first_mtu_from [] = refl

@@ -1,2 +1,4 @@
+pub mod RouterAdvertisement
 pub mod History
+pub mod ReachableTime
 pub mod Params

@@ -1,7 +1,8 @@
 -- What the parameters of a link are to the Router Advertisements that were heard.
-use Rattle.std.specs.Prelude.{◌≡◌, ℕ, ◌*◌, ◌/◌, ◌≤◌, Bool, ◌&&◌, not, ◌==◌, List}
+use Rattle.std.specs.Prelude.{◌≡◌, ℕ, Bool, ◌&&◌, not, ◌==◌, List}
 use Rattle.nd_table.specs.History as growing
-use Rattle.nd_params.specs.History.{Row, hop_limit_of, mtu_of, base_of, retrans_of, managed_of, other_of, reachable_of, last_draw}
+use Rattle.nd_params.specs.History.{Row, hop_limit_of, mtu_of, base_of, retrans_of, managed_of, other_of}
+use Rattle.nd_params.specs.ReachableTime.{reachable_of, last_draw}
 
 -- the numbers that are kept: times in milliseconds
 pub record Values : Type 0 where
@@ -32,12 +33,3 @@ GainsRows = growing.GainsRows Stands
 -- a base that is told, and is another one
 abbrev pub redraws : ℕ → ℕ → Bool
 redraws base told = not (told == 0) && not (told == base)
-
--- the least and the greatest ReachableTime that may be drawn for a base, all in milliseconds: half of it and one and a half of it
--- (RFC 4861, section 6.3.2), both rounded down
-abbrev pub reachable_range : ℕ → ℕ × ℕ
-reachable_range base = (base / 2, 3 * base / 2)
-
--- a value that may be drawn for a base
-abbrev pub MayBeDrawn : ℕ → ℕ → Type 0
-MayBeDrawn base value = ((reachable_range base).0 ≤ value) × (value ≤ (reachable_range base).1)

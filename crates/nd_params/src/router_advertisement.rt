@@ -3,7 +3,8 @@ ghost use Rattle.nd_addr.specs.Frame.{ethernet_mtu};
 ghost use Rattle.nd_decode.specs.Option.{Said};
 ghost use Rattle.nd_decode.specs.Pieces.{options_left};
 ghost use Rattle.nd_table.specs.Moment.{IsMoment};
-ghost use Rattle.nd_params.specs.History.{Row, Heard, first_mtu, valid_mtu_or, base_of, then_heard};
+ghost use Rattle.nd_params.specs.History.{Row, Heard, base_of, then_heard};
+ghost use Rattle.nd_params.specs.RouterAdvertisement.{first_mtu, valid_mtu_or};
 ghost use Rattle.nd_params.specs.Params.{Stands, GainsRows, redraws};
 
 use crate::params::Params;

@@ -6,11 +6,11 @@ use Rattle.std.proofs.lemmas.Bool.{true≢false}
 use Rattle.nd_table.specs.declared.lasting.Lasting.{Lasting}
 use Rattle.nd_table.specs.Listing.{without}
 use Rattle.nd_table.proofs.Finding.{without_absent}
-use Rattle.nd_table.proofs.Order.{distinct_of}
+use Rattle.nd_table.proofs.LastingOrder.{distinct_of}
 use Rattle.nd_routers.specs.History.{RouterRow, LeftList, failure_of}
 use Rattle.nd_routers.specs.declared.preferred.Preferred.{Preferred}
 use Rattle.nd_routers.specs.Preferences.{without_preference}
-use Rattle.nd_routers.specs.DefaultRouterSelection.{has_failed, others}
+use Rattle.nd_routers.specs.RouterFailures.{has_failed, others}
 use Rattle.nd_routers.specs.Routers.{Table, same, Stands, then_left, keys}
 use Rattle.nd_routers.proofs.Failing.{head_has}
 use Rattle.nd_routers.proofs.Steps.{gains_left}

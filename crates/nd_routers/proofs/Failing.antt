@@ -10,7 +10,7 @@ use Rattle.nd_table.specs.Listing.{end_in, without, StandsUntilTold}
 use Rattle.nd_table.proofs.Finding.{end_in-without}
 use Rattle.nd_routers.proofs.Dues.{length-without}
 use Rattle.nd_routers.specs.History.{RouterRow, Heard, LeftList, Failed, announcements, failure_of}
-use Rattle.nd_routers.specs.DefaultRouterSelection.{has_failed, AllLater, InOrder, number_in, Failures, others}
+use Rattle.nd_routers.specs.RouterFailures.{has_failed, AllLater, InOrder, number_in, Failures, others}
 use Rattle.nd_routers.specs.Routers.{same}
 
 pub has_failed-others : (k key : ℕ) (ks : List ℕ) → has_failed k (others key ks) ≡ (not (eqb key k) && has_failed k ks)

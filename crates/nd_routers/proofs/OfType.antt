@@ -3,7 +3,7 @@ use Rattle.std.proofs.Common.{◌≡◌, eqb, List, [], ◌∷◌, refl, inl, in
 use Rattle.std.proofs.lemmas.Bool.{cases_Bool}
 use Rattle.nd_decode.specs.Option.{Said, slla, tlla, prefix, redirected, mtu, rdnss, dnssl, other}
 use Rattle.nd_decode.specs.OfType.{from_kind}
-use Rattle.nd_routers.specs.PrefixOptions.{prefixes_in}
+use Rattle.nd_routers.specs.OnLinkPrefixes.{prefixes_in}
 
 pub prefixes_from : (options : List Said) → prefixes_in options ≡ prefixes_in (from_kind 3 options)
 prefixes_from [] = refl

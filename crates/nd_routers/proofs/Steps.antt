@@ -11,7 +11,7 @@ use Rattle.nd_routers.specs.History.{RouterRow, Heard, LeftList, Failed, announc
 use Rattle.nd_routers.specs.Preferences.{preferences_of, with_preference, without_preference}
 use Rattle.nd_routers.specs.declared.preferred.Preferred.{Preferred}
 use Rattle.nd_routers.specs.RouterAdvertisement.{change_of}
-use Rattle.nd_routers.specs.DefaultRouterSelection.{Failures, others}
+use Rattle.nd_routers.specs.RouterFailures.{Failures, others}
 use Rattle.nd_routers.specs.Routers.{Table, same, Stands, GainsRow, IsSettled}
 use Rattle.nd_routers.proofs.Failing.{leaves, fails_again, fails_unlisted, is_removed, is_heard}
 use Rattle.nd_routers.proofs.Preferring.{paired_without, preferences_removed, preferences_told}

@@ -5,7 +5,7 @@ use Rattle.std.proofs.lemmas.Bool.{cond_both}
 use Rattle.nd_addr.specs.Prefix.{PrefixValue}
 use Rattle.nd_decode.specs.Option.{Said, option_of}
 use Rattle.nd_decode.specs.Pieces.{options_from, options_in, begins_whole, piece_length}
-use Rattle.nd_routers.specs.PrefixOptions.{on_link_of, prefixes_in}
+use Rattle.nd_routers.specs.OnLinkPrefixes.{on_link_of, prefixes_in}
 
 at_most_one : (o : Option (PrefixValue × ℕ)) (ps : List (PrefixValue × ℕ)) (n : ℕ) → length ps ≤ n → length (option_to_list o ++ ps) ≤ suc n
 at_most_one None ps n h = omega (arith, h)

@@ -7,7 +7,7 @@ use Rattle.nd_table.proofs.UniqueKeys.{one_list}
 use Rattle.nd_table.specs.declared.lasting.Lasting.{Lasting}
 use Rattle.nd_routers.specs.History.{RouterRow}
 use Rattle.nd_routers.specs.Preferences.{preferences_of}
-use Rattle.nd_routers.specs.DefaultRouterSelection.{has_failed, AllLater, InOrder, Failures}
+use Rattle.nd_routers.specs.RouterFailures.{has_failed, AllLater, InOrder, Failures}
 use Rattle.nd_routers.specs.Routers.{Table, same, Stands}
 use Rattle.nd_routers.proofs.Failing.{head_has, not_first}
 

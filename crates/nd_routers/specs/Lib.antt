@@ -1,9 +1,9 @@
-pub mod DefaultRouterSelection
+pub mod RouterFailures
 pub mod Due
 pub mod History
 pub mod Preferences
 pub mod OnLink
-pub mod PrefixOptions
+pub mod OnLinkPrefixes
 pub mod Refreshing
 pub mod RouterAdvertisement
 pub mod Routers

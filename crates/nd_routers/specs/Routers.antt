@@ -8,7 +8,7 @@ use Rattle.nd_table.specs.Listing.{StandsUntilTold}
 use Rattle.nd_routers.specs.declared.preferred.Preferred.{Preferred}
 use Rattle.nd_routers.specs.History.{RouterRow, LeftList, announcements}
 use Rattle.nd_routers.specs.Preferences.{preferences_of}
-use Rattle.nd_routers.specs.DefaultRouterSelection.{Failures}
+use Rattle.nd_routers.specs.RouterFailures.{Failures}
 
 -- the most that a table of routers may have room for (our choice)
 abbrev pub max_routers : ℕ

@@ -6,9 +6,9 @@ ghost use Rattle.nd_routers.specs.Planned.{key_of, date_of};
 ghost use Rattle.nd_table.specs.Announcements.{end_of};
 ghost use Rattle.nd_table.specs.Listing.{end_in};
 
-use crate::default_router_selection::forget;
 use crate::preferred::forget_preference;
 use crate::router::Router;
+use crate::router_failures::forget;
 use crate::routers::Routers;
 use nd_addr::Addr;
 use nd_table::{Lasting, compare, has, remove, stands};

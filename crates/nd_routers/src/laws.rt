@@ -8,7 +8,7 @@ ghost use Rattle.nd_addr.specs.Prefix.{PrefixValue};
 ghost use Rattle.nd_addr.specs.Same.{same_prefix};
 ghost use Rattle.nd_routers.specs.History.{RouterRow};
 ghost use Rattle.nd_routers.specs.Routers.{Table, same, Stands};
-ghost use Rattle.nd_routers.specs.DefaultRouterSelection.{Failures};
+ghost use Rattle.nd_routers.specs.RouterFailures.{Failures};
 ghost use Rattle.nd_routers.specs.Due.{FirstDue};
 
 /// What happened gives one list of routers and one of prefixes at each moment, one table of routers whatever its limit, one order of

@@ -2,24 +2,24 @@
 //! and search names (RFC 8106) are given on.
 #![tactic(auto)]
 
-mod default_router_selection;
 mod due;
 pub mod laws;
 mod on_link;
+mod on_link_prefixes;
 mod preferred;
-mod prefix_options;
 mod prefixes;
 mod router;
 mod router_advertisement;
+mod router_failures;
 mod routers;
 mod shown;
 
-pub use default_router_selection::Listed;
 pub use nd_dns::{Dns, NewNames, SearchName};
 pub use nd_params::{Params, reachable_range};
 pub use nd_table::{Limit, TableRefusal, WithLifetime, WithLifetimes};
 pub use prefixes::Prefixes;
 pub use router::Router;
 pub use router_advertisement::Change;
+pub use router_failures::Listed;
 pub use routers::{MAX_ROUTERS, Routers};
 pub use shown::{DefaultRouter, DefaultRouters};

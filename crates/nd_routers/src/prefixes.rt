@@ -6,7 +6,7 @@ ghost use Rattle.nd_table.specs.Announcements.{Row, Cleared, last_moment};
 ghost use Rattle.nd_table.specs.Listing.{open_at, Stands};
 ghost use Rattle.nd_table.specs.Left.{lifetimes_left};
 ghost use Rattle.nd_table.specs.Shown.{seen, Shows};
-ghost use Rattle.nd_routers.specs.PrefixOptions.{max_prefixes};
+ghost use Rattle.nd_routers.specs.OnLinkPrefixes.{max_prefixes};
 
 use nd_addr::Prefix;
 use nd_table::{Lasting, WithLifetimes};
@@ -26,7 +26,7 @@ impl<A: Allocator> Model for Prefixes<A> {
     ghost use Rattle.std.specs.Prelude.{◌≤◌, List};
     ghost use Rattle.std.specs.Vec.{vec_len, vec_capacity};
     ghost use Rattle.nd_addr.specs.Prefix.{PrefixValue};
-    ghost use Rattle.nd_routers.specs.PrefixOptions.{max_prefixes};
+    ghost use Rattle.nd_routers.specs.OnLinkPrefixes.{max_prefixes};
     ghost use Rattle.nd_table.specs.declared.lasting.Lasting.{Lasting};
     ghost use Rattle.nd_table.specs.Listing.{Distinct};
     ghost use Rattle.nd_addr.specs.Same.{same_prefix};

@@ -1,16 +1,17 @@
-ghost use Rattle.std.specs.Prelude.{◌≡◌, ◌≤◌, ◌<◌, ◌^◌, ◌↔◌, ◌∷◌, ℕ, length, List, [], IfOk, IfErr, OnOk, OnErr, IsErr, Some, false, true, not, is_some, ◌==◌};
+ghost use Rattle.std.specs.Prelude.{◌≡◌, ◌≤◌, ◌<◌, ◌↔◌, ◌∷◌, ℕ, length, List, [], IfOk, IfErr, OnOk, OnErr, IsErr, Some, false, true, not, is_some, ◌==◌};
 ghost use Rattle.nd_routers.specs.RouterAdvertisement.{change_of};
 ghost use Rattle.nd_addr.specs.Number.{number_of};
 ghost use Rattle.nd_table.specs.Announcements.{stands};
 ghost use Rattle.nd_table.specs.Listing.{announced, end_in, fits, Lists};
 ghost use Rattle.nd_table.specs.declared.lasting.Lasting.{Lasting};
+ghost use Rattle.nd_table.specs.Moment.{IsMoment};
 ghost use Rattle.nd_routers.specs.Preferences.{with_preference};
 ghost use Rattle.nd_routers.specs.Routers.{same};
 
-use crate::default_router_selection::forget;
 use crate::due::end_of;
 use crate::preferred::{forget_preference, prefer};
 use crate::router::Router;
+use crate::router_failures::forget;
 use crate::routers::Routers;
 use nd_addr::{Addr, Preference};
 use nd_table::{Lasting, Limit, TableRefusal, announce, count, has, stands};
@@ -56,7 +57,7 @@ impl<A: Allocator> Routers<A> {
         lifetime: u16,
         preference: Preference,
     ) -> Result<Change, TableRefusal>
-        requires moment { now < 2 ^ 62 }
+        requires moment { IsMoment now }
         requires settled { IsSettled self.old.entries now }
 
         ensures stands { OnOk result (GainsRow self.old self.new (Heard now (number_of source.0) lifetime preference)) }
@@ -87,7 +88,7 @@ impl<A: Allocator> Routers<A> {
         lifetime: u16,
         preference: Preference,
     ) -> Change
-        requires moment { now < 2 ^ 62 }
+        requires moment { IsMoment now }
         requires settled { IsSettled self.old.entries now }
         requires fits { fits same self.old.limit now ((number_of source.0, lifetime) ∷ []) self.old.entries ≡ true }
 

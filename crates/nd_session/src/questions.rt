@@ -16,7 +16,7 @@ ghost use Rattle.nd_slaac.specs.Shown as addresses;
 ghost use Rattle.nd_routers.specs.Left.{routers_left};
 ghost use Rattle.nd_routers.specs.Shown as routers;
 ghost use Rattle.nd_params.specs.Params as parameters;
-ghost use Rattle.nd_dns.specs.Names.{same_name};
+ghost use Rattle.nd_dns.specs.AnnouncedNames.{same_name};
 ghost use Rattle.nd_nexthop.specs.History.{redirects};
 ghost use Rattle.nd_nexthop.specs.Left.{redirects_left};
 ghost use Rattle.nd_nexthop.specs.NextHop.{hop_of};

@@ -1,6 +1,7 @@
 //! A session: its start, its events, and its queue.
 
-ghost use Rattle.std.specs.Prelude.{◌≡◌, ◌-◌, ◌^◌, ◌<◌, ◌∷◌, [], ℕ, List, IfOk, OnOk, OnErr, Option, None, Some, drop, length, option_copied, slice_get};
+ghost use Rattle.std.specs.Prelude.{◌≡◌, ◌-◌, ◌<◌, [], IfOk, OnOk, OnErr, Option, drop, length, option_copied, slice_get};
+ghost use Rattle.nd_table.specs.Moment.{IsMoment};
 ghost use Rattle.nd_chronicle.specs.Event as events;
 ghost use Rattle.nd_chronicle.specs.History.{beginning};
 ghost use Rattle.nd_node.specs.Event.{event_of, FollowsBy};
@@ -37,7 +38,7 @@ impl Session {
         limits: Limits,
         source: Source,
     ) -> Result<Session, AllocError>
-        requires { start < 2 ^ 62 }
+        requires { IsMoment start }
         ensures stands { IfOk result (λ s. let first = starting start role mac transmits limits (stream_of_source source) in Stands stream_of_source first s.node (beginning first)) }
         ensures empty { IfOk result (λ s. s.queue ≡ []) }
     {
@@ -60,7 +61,7 @@ impl Session {
     ///
     /// The error is out of memory: then a part of what is due may have been done and reported, and the event has added nothing.
     pub fn event(&mut self, now: u64, event: &Event<Global>) -> Result<(), AllocError>
-        requires { now < 2 ^ 62 }
+        requires { IsMoment now }
         ensures follows { OnOk result (Leads stream_of_source self.old.node self.new.node self.old.queue self.new.queue (FollowsBy now (event_of event.now))) }
         ensures onward { OnErr result (Leads stream_of_source self.old.node self.new.node self.old.queue self.new.queue (Onward now)) }
     {
@@ -70,7 +71,7 @@ impl Session {
     /// Does all that is due up to `now`, in milliseconds, its own millisecond included. The error is out of memory: then a part of it may have
     /// been done and reported.
     pub fn settle(&mut self, now: u64) -> Result<(), AllocError>
-        requires { now < 2 ^ 62 }
+        requires { IsMoment now }
         ensures passes { OnOk result (Leads stream_of_source self.old.node self.new.node self.old.queue self.new.queue (Passes now)) }
         ensures settled { OnOk result (now < next_of self.new.node) }
         ensures onward { OnErr result (Leads stream_of_source self.old.node self.new.node self.old.queue self.new.queue (Onward now)) }
@@ -81,7 +82,7 @@ impl Session {
     /// Receives a frame, from its Ethernet destination on (RFC 2464, section 3), at `now`, in milliseconds. The frame stays the caller's and is
     /// not copied. Fails as `event` does.
     pub fn receive(&mut self, now: u64, frame: &[u8]) -> Result<(), AllocError>
-        requires { now < 2 ^ 62 }
+        requires { IsMoment now }
         ensures follows { OnOk result (Leads stream_of_source self.old.node self.new.node self.old.queue self.new.queue (FollowsBy now (events.Receives frame.now))) }
         ensures onward { OnErr result (Leads stream_of_source self.old.node self.new.node self.old.queue self.new.queue (Onward now)) }
     {
@@ -98,7 +99,7 @@ impl Session {
         next_header: u8,
         payload: &[u8],
     ) -> Result<(), AllocError>
-        requires { now < 2 ^ 62 }
+        requires { IsMoment now }
         ensures follows { OnOk result (Leads stream_of_source self.old.node self.new.node self.old.queue self.new.queue (FollowsBy now (events.Sends source destination next_header payload.now))) }
         ensures onward { OnErr result (Leads stream_of_source self.old.node self.new.node self.old.queue self.new.queue (Onward now)) }
     {

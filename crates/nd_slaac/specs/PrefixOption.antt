@@ -2,7 +2,8 @@
 use Rattle.std.specs.Prelude.{ℕ, ◌==◌, nat_le, Bool, ◌&&◌, not, List, [], ◌∷◌}
 use Rattle.nd_addr.specs.declared.mac.Mac.{Mac}
 use Rattle.nd_addr.specs.Number.{number_of, holds}
-use Rattle.nd_addr.specs.Kind.{multicast_prefix, link_local_prefix, link_local_subnet, address_from_mac}
+use Rattle.nd_addr.specs.Kind.{multicast_prefix, link_local_prefix, link_local_subnet}
+use Rattle.nd_addr.specs.InterfaceId.{address_from_mac}
 use Rattle.nd_decode.specs.declared.prefix_info.PrefixInfo.{PrefixInfo}
 use Rattle.nd_decode.specs.Option.{Said, prefix}
 use Rattle.nd_slaac.specs.History.{Lifetimes}

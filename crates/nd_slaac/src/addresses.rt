@@ -1,4 +1,5 @@
-ghost use Rattle.std.specs.Prelude.{◌≡◌, ◌≤◌, ◌<◌, ◌^◌, [], ◌∷◌, None, length, vec_capacity};
+ghost use Rattle.std.specs.Prelude.{◌≡◌, ◌≤◌, ◌<◌, [], ◌∷◌, None, length, vec_capacity};
+ghost use Rattle.nd_table.specs.Moment.{IsMoment};
 ghost use Rattle.nd_slaac.specs.Room.{max_addresses};
 
 use crate::due::NextStep;
@@ -86,7 +87,7 @@ impl<A: Allocator> Addresses<A> {
         delay: u32,
         retrans: u32,
     ) -> Self
-        requires { now < 2 ^ 62 }
+        requires { IsMoment now }
         ensures first { result ≡ record { mac = mac; transmits = transmits; addresses = formed (link_local_of mac) now delay retrans None ∷ [] } }
         ensures stands { Stands result.addresses ((now, link_local_of mac, Formed delay retrans None) ∷ []) }
     {

@@ -1,5 +1,6 @@
-ghost use Rattle.std.specs.Prelude.{◌≡◌, ◌≢◌, ◌<◌, ◌^◌, List, IfSome, IfNone, Some, None, ◌≤◌, vec_len, vec_capacity};
+ghost use Rattle.std.specs.Prelude.{◌≡◌, ◌≢◌, ◌<◌, List, IfSome, IfNone, Some, None, ◌≤◌, vec_len, vec_capacity};
 ghost use Rattle.std.specs.Option.{option_map};
+ghost use Rattle.nd_table.specs.Moment.{IsMoment};
 ghost use Rattle.nd_slaac.specs.Dates.{Turns, Rests, NoneBefore};
 ghost use Rattle.nd_slaac.specs.Planned.{IsPlanned};
 ghost use Rattle.nd_slaac.specs.Room.{max_addresses};
@@ -46,7 +47,7 @@ impl<A: Allocator> Addresses<A> {
     ///
     /// Nothing may have been due before `now`. A late caller passes what `next_due` returns, until that is in the future.
     pub fn turn(&mut self, now: u64) -> Option<Due>
-        requires moment { now < 2 ^ 62 }
+        requires moment { IsMoment now }
         requires none_before { NoneBefore self.old.addresses now }
 
         ensures due { (history : List Row) → Stands self.old.addresses history → FirstDue self.old.transmits history now (option_map (λ due. falls_of due) result) }
@@ -108,7 +109,7 @@ pub(crate) fn turn_first<A: Allocator>(
     transmits: Transmits,
     now: u64,
 ) -> Option<Due>
-    requires moment { now < 2 ^ 62 }
+    requires moment { IsMoment now }
     requires few { vec_len entries.old ≤ max_addresses }
     requires planned { IsPlanned entries.old.items ends.old steps.old }
     requires none_before { NoneBefore entries.old.items now }

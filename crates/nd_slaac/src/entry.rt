@@ -1,5 +1,6 @@
-ghost use Rattle.std.specs.Prelude.{◌≡◌, ◌<◌, ◌^◌, true, None, Some};
+ghost use Rattle.std.specs.Prelude.{◌≡◌, ◌<◌, true, None, Some};
 ghost use Rattle.nd_addr.specs.Number.{number_of};
+ghost use Rattle.nd_table.specs.Moment.{IsMoment};
 
 use crate::due::Due;
 use crate::shown::OwnAddress;
@@ -52,7 +53,7 @@ impl Entry {
 
     /// The link-local address, which has no ends (RFC 4862, section 5.3).
     pub(crate) fn link_local(addr: Addr, now: u64, delay: u32, retrans: u32) -> Self
-        requires { now < 2 ^ 62 }
+        requires { IsMoment now }
         ensures { result ≡ formed (number_of addr.0) now delay retrans None }
     {
         Entry {
@@ -65,7 +66,7 @@ impl Entry {
 
     /// An address of a prefix that is announced (RFC 4862, section 5.5.3 d).
     pub(crate) fn formed(addr: Addr, now: u64, info: &PrefixInfo, delay: u32, retrans: u32) -> Self
-        requires { now < 2 ^ 62 }
+        requires { IsMoment now }
         ensures { result ≡ formed (number_of addr.0) now delay retrans (Some (lifetimes_of info.now)) }
     {
         Entry {
@@ -109,7 +110,7 @@ impl Entry {
 
     /// Its prefix is announced again (RFC 4862, section 5.5.3 e).
     pub(crate) fn announce(&mut self, now: u64, info: &PrefixInfo)
-        requires { now < 2 ^ 62 }
+        requires { IsMoment now }
         ensures { self.new ≡ announced now (lifetimes_of info.now) self.old }
     {
         self.preferred_end = end_time(now, info.preferred_lifetime);
@@ -125,7 +126,7 @@ impl Entry {
 
     /// Takes the next step of its detection and returns it: a further solicitation, up to `transmits` of them, or the assignment.
     pub(crate) fn step(&mut self, transmits: Transmits, now: u64) -> Due
-        requires moment { now < 2 ^ 62 }
+        requires moment { IsMoment now }
         requires detecting { is_detecting self.old.stage ≡ true }
         ensures entry { self.new ≡ stepped transmits now self.old }
         ensures due { falls_of result ≡ falls_by transmits self.old.key self.old.stage }

@@ -1,10 +1,11 @@
-ghost use Rattle.std.specs.Prelude.{◌≡◌, true, ◌+◌, ◌<◌, ◌^◌, ◌∷◌, List, IsOk, IfSome, None, is_some, length, ◌≤◌, vec_len, vec_capacity, Ok};
+ghost use Rattle.std.specs.Prelude.{◌≡◌, true, ◌+◌, ◌<◌, ◌∷◌, List, IsOk, IfSome, None, is_some, length, ◌≤◌, vec_len, vec_capacity, Ok};
 ghost use Rattle.nd_addr.specs.Number.{number_of};
 ghost use Rattle.nd_slaac.specs.PrefixOption.{is_taken, named_by, lifetimes_of};
 ghost use Rattle.nd_decode.specs.declared.prefix_info.PrefixInfo.{PrefixInfo};
 ghost use Rattle.nd_slaac.specs.Room.{max_addresses};
 ghost use Rattle.std.specs.List.{insert};
 ghost use Rattle.nd_table.specs.Keyed.{place_of};
+ghost use Rattle.nd_table.specs.Moment.{IsMoment};
 ghost use Rattle.nd_slaac.specs.Table.{address_in, key_of};
 ghost use Rattle.nd_slaac.specs.Planned.{IsPlanned};
 ghost use Rattle.nd_slaac.specs.Calls.{taken_by, Changes};
@@ -52,7 +53,7 @@ impl<A: Allocator> Addresses<A> {
         delay: u32,
         retrans: u32,
     ) -> Result<Taken, Full>
-        requires moment { now < 2 ^ 62 }
+        requires moment { IsMoment now }
 
         ensures value { result ≡ taken_of info.now (is_some (address_in (named_by self.old.mac info.now) self.old.addresses)) (length self.old.addresses) }
         ensures story { (history : List Row) → Stands self.old.addresses history → result ≡ taken_of info.now (is_known (story (named_by self.old.mac info.now) history)) (length self.old.addresses) }
@@ -118,7 +119,7 @@ pub(crate) fn take<A: Allocator>(
     delay: u32,
     retrans: u32,
 ) -> Result<Taken, Full>
-    requires moment { now < 2 ^ 62 }
+    requires moment { IsMoment now }
     requires planned { IsPlanned entries.old.items ends.old steps.old }
     requires few { vec_len entries.old ≤ max_addresses }
     requires capacity { max_addresses ≤ vec_capacity entries.old }

@@ -1,4 +1,5 @@
-ghost use Rattle.std.specs.Prelude.{◌≡◌, ◌<◌, ◌^◌, ◌+◌};
+ghost use Rattle.std.specs.Prelude.{◌≡◌, ◌+◌};
+ghost use Rattle.nd_table.specs.Moment.{IsMoment};
 
 /// Where the duplicate address detection of an address stands (RFC 4862, section 5.4).
 #[derive(Clone, Copy, Debug, PartialEq, Eq)]
@@ -21,7 +22,7 @@ pub(crate) enum Stage {
 impl Stage {
     /// A detection begins. Its first solicitation waits for a delay.
     pub(crate) fn begin(now: u64, delay: u32, retrans: u32) -> Self
-        requires { now < 2 ^ 62 }
+        requires { IsMoment now }
         ensures { result ≡ Stage.Detecting 0 (now + delay) retrans }
     {
         Stage::Detecting {

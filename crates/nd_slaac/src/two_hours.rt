@@ -1,4 +1,5 @@
-ghost use Rattle.std.specs.Prelude.{◌≡◌, ◌<◌, ◌^◌};
+ghost use Rattle.std.specs.Prelude.{◌≡◌, ◌<◌};
+ghost use Rattle.nd_table.specs.Moment.{IsMoment};
 ghost use Rattle.nd_slaac.specs.TwoHours.{within_two_hours, renewed};
 
 use nd_table::end_time;
@@ -8,7 +9,7 @@ const TWO_HOURS: u32 = 7200;
 
 /// The end that is there, or two hours from now where that is earlier.
 fn within_two_hours(now: u64, end: Option<u64>) -> u64
-    requires { now < 2 ^ 62 }
+    requires { IsMoment now }
     ensures { result ≡ within_two_hours now end }
 {
     let limit = now + 1000 * u64::from(TWO_HOURS);
@@ -21,7 +22,7 @@ fn within_two_hours(now: u64, end: Option<u64>) -> u64
 /// The end of an address's valid lifetime, in milliseconds, after its prefix is announced again with a valid lifetime
 /// in seconds (RFC 4862, section 5.5.3 e). `None` is no end; so is a lifetime of all ones.
 pub fn renewed(now: u64, end: Option<u64>, valid: u32) -> Option<u64>
-    requires { now < 2 ^ 62 }
+    requires { IsMoment now }
     ensures { result ≡ renewed now end valid }
 {
     if valid > TWO_HOURS {

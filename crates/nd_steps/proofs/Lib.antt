@@ -12,5 +12,5 @@ pub mod Forming
 pub mod Measuring
 pub mod Advertisements
 pub mod RouterSide
-pub mod Transit
+pub mod InTransit
 pub mod OfType

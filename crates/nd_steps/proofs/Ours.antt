@@ -42,10 +42,10 @@ pub ours : (start : Start) (c : Chronicle) (counted : Counted) (destination : Ad
     → ((address : Addr) → AreBytes 16 address.0 → addr_at (number_of address.0) ≡ address) → ((number : ℕ) → AreBytes 16 (addr_at number).0)
     → result ≡ true ↔ IsTo counted (address_history c) destination → (destination.0 ≡ all_nodes_address → ⊥) → ((start.role ≡ Router) × (destination.0 ≡ all_routers_address) → ⊥)
     → result ≡ true ↔ IsOurs start (counting counted c) destination
-ours start c counted destination result told bytes to nodes routers = (λ e. inr (inr (counted_to counted c destination told (to.0 e))), back)
+ours start c counted destination result told bytes to entries routers = (λ e. inr (inr (counted_to counted c destination told (to.0 e))), back)
   where
     back : IsOurs start (counting counted c) destination → result ≡ true
-    back (inl e) = absurd (nodes e)
+    back (inl e) = absurd (entries e)
     back (inr (inl e)) = absurd (routers e)
     back (inr (inr i)) = to.1 (counted_from counted c destination bytes i)
 

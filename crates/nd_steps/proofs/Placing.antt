@@ -4,12 +4,12 @@ use Rattle.std.specs.Prelude.{◌||◌, ◌↔◌, is_some, MatchBool}
 use Rattle.nd_neighbour.specs.declared.news.News.{News}
 use Rattle.nd_neighbour.specs.declared.news.News.TheVariants as news
 use Rattle.nd_neighbour.specs.declared.news.Times.{Times}
-use Rattle.nd_neighbour.specs.Entry.{Node}
+use Rattle.nd_neighbour.specs.Entry.{NeighbourEntry}
 use Rattle.nd_neighbour.specs.History.{Row}
 use Rattle.nd_neighbour.specs.News.{news_row, lets_enter}
 use Rattle.nd_neighbour.specs.Place.{WouldBeFull, NoPlace, has_place}
 use Rattle.nd_neighbour.specs.Room.{has_room}
-use Rattle.nd_neighbour.specs.Table.{Stands, node_in}
+use Rattle.nd_neighbour.specs.Table.{Stands, entry_in}
 use Rattle.nd_chronicle.specs.Start.{Start}
 use Rattle.nd_chronicle.specs.Happening.{Chronicle}
 use Rattle.nd_chronicle.specs.Histories.{neighbour_history}
@@ -19,22 +19,22 @@ use Rattle.nd_steps.specs.NeighbourCache.{said_by, PlacedBy}
 
 -- laws of the neighbours
 abbrev pub FullByHistory : Type 0
-FullByHistory = (limit now key : ℕ) (nodes : List Node) (history : List Row) → Stands nodes history → NoPlace limit now key nodes ↔ WouldBeFull limit now key history
+FullByHistory = (limit now key : ℕ) (entries : List NeighbourEntry) (history : List Row) → Stands entries history → NoPlace limit now key entries ↔ WouldBeFull limit now key history
 
 abbrev pub RoomIsPlace : Type 0
-RoomIsPlace = (limit now key : ℕ) (second : Option ℕ) (nodes : List Node) → has_room limit now key second nodes ≡ true → NoPlace limit now key nodes → ⊥
+RoomIsPlace = (limit now key : ℕ) (second : Option ℕ) (entries : List NeighbourEntry) → has_room limit now key second entries ≡ true → NoPlace limit now key entries → ⊥
 
 -- without room there is no place
-no_place : (limit now key : ℕ) (nodes : List Node) (known : Option Node) (place : Bool) → (is_some known || place) ≡ false → (known ≡ None) × (place ≡ false)
-no_place limit now key nodes None place e = (refl, e)
-no_place limit now key nodes (Some n) place e = let no : ⊥ = cc in absurd no
+no_place : (limit now key : ℕ) (entries : List NeighbourEntry) (known : Option NeighbourEntry) (place : Bool) → (is_some known || place) ≡ false → (known ≡ None) × (place ≡ false)
+no_place limit now key entries None place e = (refl, e)
+no_place limit now key entries (Some n) place e = let no : ⊥ = cc in absurd no
 
 -- a neighbour that enters has place where it has room
-pub given_placed : FullByHistory → RoomIsPlace → (limit now key : ℕ) (nodes : List Node) (history : List Row) (place : Bool) → Stands nodes history → place ≡ has_room limit now key None nodes
+pub given_placed : FullByHistory → RoomIsPlace → (limit now key : ℕ) (entries : List NeighbourEntry) (history : List Row) (place : Bool) → Stands entries history → place ≡ has_room limit now key None entries
     → MatchBool place (true ≡ true → WouldBeFull limit now key history → ⊥) ((true ≡ true) × WouldBeFull limit now key history)
-given_placed full room limit now key nodes history true s is = λ e would. room limit now key None nodes (sym is) ((full limit now key nodes history s).1 would)
-given_placed full room limit now key nodes history false s is =
-    (refl, (full limit now key nodes history s).0 (no_place limit now key nodes (node_in key nodes) (has_place limit now nodes) (sym is)))
+given_placed full room limit now key entries history true s is = λ e would. room limit now key None entries (sym is) ((full limit now key entries history s).1 would)
+given_placed full room limit now key entries history false s is =
+    (refl, (full limit now key entries history s).0 (no_place limit now key entries (entry_in key entries) (has_place limit now entries) (sym is)))
 
 -- news let a neighbour enter where what they say does
 pub enters : (n : News) (times : Times) → message.lets_enter (news_row n times) ≡ lets_enter n

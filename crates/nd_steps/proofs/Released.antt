@@ -7,7 +7,7 @@ use Rattle.nd_addr.specs.Number.{number_of, mac_at}
 use Rattle.nd_addr.specs.declared.mac.Mac.{Mac}
 use Rattle.nd_neighbour.specs.declared.news.News.{News}
 use Rattle.nd_neighbour.specs.declared.news.Times.{Times}
-use Rattle.nd_neighbour.specs.Entry.{Node}
+use Rattle.nd_neighbour.specs.Entry.{NeighbourEntry}
 use Rattle.nd_neighbour.specs.History.{Row, Story, story}
 use Rattle.nd_neighbour.specs.News.{GainsNews, Tells, news_key, news_row, mac_given, released_by}
 use Rattle.nd_neighbour.specs.Place.{Prepares}
@@ -51,7 +51,7 @@ by_given : (n : News) (given : Option Mac) (P : Type 0) (known : Option ℕ) →
 by_given n given P known is (inl p) = inl p
 by_given n given P known is (inr e) = inr (e ∙ ap (λ (g : Option Mac). option_map number g) is)
 
-module _ {A : Type 0} (limit now : ℕ) (n : News) (times : Times) (old new : List Node) (x y : List (ℕ × Out A)) (packets : List (List ℕ)) (ends : Bool)
+module _ {A : Type 0} (limit now : ℕ) (n : News) (times : Times) (old new : List NeighbourEntry) (x y : List (ℕ × Out A)) (packets : List (List ℕ)) (ends : Bool)
     (gains : GainsNews limit now n times old new) (tells : Tells now (news_key n) (news_row n times) old packets ends)
     (law : (s : Story) → (released_by now (news_row n times) s ≡ []) ⊎ (mac_of ((now, news_row n times) ∷ s) ≡ option_map number (mac_given n))) where
   -- whatever the frames are that are told
@@ -85,7 +85,7 @@ module _ {A : Type 0} (limit now : ℕ) (n : News) (times : Times) (old new : Li
       (by_given n None _ _ given (law s))))))
 
 -- nothing is said
-pub hears_nothing : {A : Type 0} (limit now : ℕ) (nodes : List Node) (outs : List (ℕ × Out A)) → HearsOf limit now None nodes nodes outs outs false
-hears_nothing limit now nodes outs = record {
+pub hears_nothing : {A : Type 0} (limit now : ℕ) (entries : List NeighbourEntry) (outs : List (ℕ × Out A)) → HearsOf limit now None entries entries outs outs false
+hears_nothing limit now entries outs = record {
   each = λ history h. (history, refl, h, sym (append-nil (happenings outs)), refl);
 }

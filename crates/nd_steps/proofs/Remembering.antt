@@ -9,10 +9,10 @@ use Rattle.nd_addr.specs.Number.{addr_at, number_of}
 use Rattle.nd_addr.specs.Prefix.{PrefixValue}
 use Rattle.nd_table.specs.declared.lasting.Lasting.{Lasting}
 use Rattle.nd_table.specs.Listing.{open_at}
-use Rattle.nd_neighbour.specs.Entry.{Node}
-use Rattle.nd_neighbour.specs.Table.{node_in}
+use Rattle.nd_neighbour.specs.Entry.{NeighbourEntry}
+use Rattle.nd_neighbour.specs.Table.{entry_in}
 use Rattle.nd_routers.specs.OnLink.{is_held, least_end}
-use Rattle.nd_routers.specs.DefaultRouterSelection.{place_among}
+use Rattle.nd_routers.specs.RouterFailures.{place_among}
 use Rattle.nd_routers.specs.Preferences.{preference_among}
 use Rattle.nd_routers.specs.Routers as routers
 use Rattle.nd_slaac.specs.Address.{Address}
@@ -37,13 +37,13 @@ asked_before at now None le asked = refl
 asked_before at now (Some u) le asked = grind (arith, nat_tests, le, asked)
 
 -- what is remembered at a moment is remembered later
-pub remembers_later : (at now : ℕ) (choice : Table) (addresses : List Address) (prefixes : List (Lasting PrefixValue)) (nodes : List Node) (table : routers.Table)
-    → at ≤ now → Remembers at choice addresses prefixes nodes table → Remembers now choice addresses prefixes nodes table
-remembers_later at now choice addresses prefixes nodes table le r = record {
+pub remembers_later : (at now : ℕ) (choice : Table) (addresses : List Address) (prefixes : List (Lasting PrefixValue)) (entries : List NeighbourEntry) (table : routers.Table)
+    → at ≤ now → Remembers at choice addresses prefixes entries table → Remembers now choice addresses prefixes entries table
+remembers_later at now choice addresses prefixes entries table le r = record {
   until = λ moment after asked.
       r.until moment (omega (arith, le, after)) asked ∙ sym (r.until now le (asked_before now moment choice.memory.until after asked));
   agrees = λ asked.
-      subst (λ (standing : List (Lasting PrefixValue)). Agrees at (own_in addresses) (linked_by standing) (candidates_in nodes table) choice) (sym (r.until now le asked)) r.agrees
+      subst (λ (standing : List (Lasting PrefixValue)). Agrees at (own_in addresses) (linked_by standing) (candidates_in entries table) choice) (sym (r.until now le asked)) r.agrees
       (asked_before at now choice.memory.until le asked);
 }
 
@@ -56,16 +56,16 @@ nothing_there e A hops none there = let at : Contains [] e = subst (λ (l : List
 abbrev pub StandUntil : ℕ → Option ℕ → List (Lasting PrefixValue) → Type 0
 StandUntil at until prefixes = (moment : ℕ) → at ≤ moment → is_asked moment until ≡ true → open_at moment prefixes ≡ open_at at prefixes
 
-pub remembers_nothing : (at : ℕ) (choice : Table) (addresses : List Address) (prefixes : List (Lasting PrefixValue)) (nodes : List Node) (table : routers.Table)
-    → choice.memory.hops ≡ [] → StandUntil at choice.memory.until prefixes → Remembers at choice addresses prefixes nodes table
-remembers_nothing at choice addresses prefixes nodes table none until = record {
+pub remembers_nothing : (at : ℕ) (choice : Table) (addresses : List Address) (prefixes : List (Lasting PrefixValue)) (entries : List NeighbourEntry) (table : routers.Table)
+    → choice.memory.hops ≡ [] → StandUntil at choice.memory.until prefixes → Remembers at choice addresses prefixes entries table
+remembers_nothing at choice addresses prefixes entries table none until = record {
   until = until;
-  agrees = λ asked e there. nothing_there e (IsHop (own_in addresses) (linked_by (open_at at prefixes)) (candidates_in nodes table) (λ key. target_in key choice.redirects) e) choice.memory.hops none there;
+  agrees = λ asked e there. nothing_there e (IsHop (own_in addresses) (linked_by (open_at at prefixes)) (candidates_in entries table) (λ key. target_in key choice.redirects) e) choice.memory.hops none there;
 }
 
 -- ---- where the tables are the same to the next hops
 
-pub candidates_same : (old new : List Node) (table : routers.Table) → ((key : ℕ) → is_resolved (node_in key new) ≡ is_resolved (node_in key old)) → candidates_in new table ≡ candidates_in old table
+pub candidates_same : (old new : List NeighbourEntry) (table : routers.Table) → ((key : ℕ) → is_resolved (entry_in key new) ≡ is_resolved (entry_in key old)) → candidates_in new table ≡ candidates_in old table
 candidates_same old new table same = by (routers.keys table.entries)
   where
     by : (keys : List ℕ) → map (λ key. candidate_in new table key) keys ≡ map (λ key. candidate_in old table key) keys
@@ -79,8 +79,8 @@ pub hop_by_own : (own other linked : List ℕ → Bool) (candidates : List Defau
     → hop own linked candidates redirect address ≡ hop other linked candidates redirect address
 hop_by_own own other linked candidates redirect address is = rw is refl
 
-pub remembers_same : (at : ℕ) (choice : Table) (old_addresses new_addresses : List Address) (prefixes : List (Lasting PrefixValue)) (old new : List Node) (table : routers.Table)
-    → ((key : ℕ) → counted_in Own (address_in key new_addresses) ≡ counted_in Own (address_in key old_addresses)) → ((key : ℕ) → is_resolved (node_in key new) ≡ is_resolved (node_in key old))
+pub remembers_same : (at : ℕ) (choice : Table) (old_addresses new_addresses : List Address) (prefixes : List (Lasting PrefixValue)) (old new : List NeighbourEntry) (table : routers.Table)
+    → ((key : ℕ) → counted_in Own (address_in key new_addresses) ≡ counted_in Own (address_in key old_addresses)) → ((key : ℕ) → is_resolved (entry_in key new) ≡ is_resolved (entry_in key old))
     → Remembers at choice old_addresses prefixes old table → Remembers at choice new_addresses prefixes new table
 remembers_same at choice old_addresses new_addresses prefixes old new table own resolved r = record {
   until = r.until;
@@ -95,27 +95,27 @@ remembers_same at choice old_addresses new_addresses prefixes old new table own 
 -- ---- a next hop is asked for
 
 -- at a moment from the last one on what is remembered agrees with the tables
-pub agrees_now : (at now : ℕ) (choice : Table) (addresses : List Address) (prefixes : List (Lasting PrefixValue)) (nodes : List Node) (table : routers.Table)
-    → at ≤ now → Remembers at choice addresses prefixes nodes table → Agrees now (own_in addresses) (linked_by (open_at now prefixes)) (candidates_in nodes table) choice
-agrees_now at now choice addresses prefixes nodes table le r = (remembers_later at now choice addresses prefixes nodes table le r).agrees
+pub agrees_now : (at now : ℕ) (choice : Table) (addresses : List Address) (prefixes : List (Lasting PrefixValue)) (entries : List NeighbourEntry) (table : routers.Table)
+    → at ≤ now → Remembers at choice addresses prefixes entries table → Agrees now (own_in addresses) (linked_by (open_at now prefixes)) (candidates_in entries table) choice
+agrees_now at now choice addresses prefixes entries table le r = (remembers_later at now choice addresses prefixes entries table le r).agrees
 
 -- with the answer
-pub remembers_answer : (at now : ℕ) (old new : Table) (addresses : List Address) (prefixes : List (Lasting PrefixValue)) (nodes : List Node) (table : routers.Table) (destination : Addr) (h : Hop)
-    → at ≤ now → Remembers at old addresses prefixes nodes table → new.redirects ≡ old.redirects → new.memory.until ≡ old.memory.until → addr_at (number_of destination.0) ≡ destination
-    → hop_of h ≡ hop (own_in addresses) (linked_by (open_at now prefixes)) (candidates_in nodes table) (target_in (number_of destination.0) old.redirects) destination.0
-    → ((e : ℕ × Hop) → Contains new.memory.hops e → recalled.Remembers now (number_of destination.0) h old.memory e) → Remembers at new addresses prefixes nodes table
-remembers_answer at now old new addresses prefixes nodes table destination h le r redirects until same is more = record {
+pub remembers_answer : (at now : ℕ) (old new : Table) (addresses : List Address) (prefixes : List (Lasting PrefixValue)) (entries : List NeighbourEntry) (table : routers.Table) (destination : Addr) (h : Hop)
+    → at ≤ now → Remembers at old addresses prefixes entries table → new.redirects ≡ old.redirects → new.memory.until ≡ old.memory.until → addr_at (number_of destination.0) ≡ destination
+    → hop_of h ≡ hop (own_in addresses) (linked_by (open_at now prefixes)) (candidates_in entries table) (target_in (number_of destination.0) old.redirects) destination.0
+    → ((e : ℕ × Hop) → Contains new.memory.hops e → recalled.Remembers now (number_of destination.0) h old.memory e) → Remembers at new addresses prefixes entries table
+remembers_answer at now old new addresses prefixes entries table destination h le r redirects until same is more = record {
   until = λ moment after asked. r.until moment after (subst (λ u. is_asked moment u ≡ true) until asked);
   agrees = λ asked e there. rw redirects (by (subst (λ u. is_asked at u ≡ true) until asked) e (more e there));
 }
   where
     by : is_asked at old.memory.until ≡ true → (e : ℕ × Hop) → recalled.Remembers now (number_of destination.0) h old.memory e
-        → IsHop (own_in addresses) (linked_by (open_at at prefixes)) (candidates_in nodes table) (λ key. target_in key old.redirects) e
+        → IsHop (own_in addresses) (linked_by (open_at at prefixes)) (candidates_in entries table) (λ key. target_in key old.redirects) e
     by asked e (inl was) = r.agrees asked e was
     by asked e (inr this) =
         rw this.1 (is
-        ∙ (ap (λ (standing : List (Lasting PrefixValue)). hop (own_in addresses) (linked_by standing) (candidates_in nodes table) (target_in (number_of destination.0) old.redirects) destination.0) (r.until now le this.0)
-        ∙ sym (ap (λ (a : Addr). hop (own_in addresses) (linked_by (open_at at prefixes)) (candidates_in nodes table) (target_in (number_of destination.0) old.redirects) a.0) same)))
+        ∙ (ap (λ (standing : List (Lasting PrefixValue)). hop (own_in addresses) (linked_by standing) (candidates_in entries table) (target_in (number_of destination.0) old.redirects) destination.0) (r.until now le this.0)
+        ∙ sym (ap (λ (a : Addr). hop (own_in addresses) (linked_by (open_at at prefixes)) (candidates_in entries table) (target_in (number_of destination.0) old.redirects) a.0) same)))
 
 -- ---- up to the earliest end of a prefix
 

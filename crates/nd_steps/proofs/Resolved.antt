@@ -6,22 +6,22 @@ use Rattle.nd_neighbour.specs.declared.news.Flags.{Flags}
 use Rattle.nd_neighbour.specs.declared.news.News.{News}
 use Rattle.nd_neighbour.specs.declared.news.News.TheVariants as news
 use Rattle.nd_neighbour.specs.declared.news.Times.{Times}
-use Rattle.nd_neighbour.specs.Entry.{Node, Stage, Known, Resolving}
+use Rattle.nd_neighbour.specs.Entry.{NeighbourEntry, Stage, Known, Resolving}
 use Rattle.nd_neighbour.specs.History as rows
 use Rattle.nd_neighbour.specs.History.{is_end, story}
 use Rattle.nd_neighbour.specs.NeighborAdvertisement.{taken}
 use Rattle.nd_neighbour.specs.News.{GainsNews, lets_enter, news_key, news_row, was_known}
 use Rattle.nd_neighbour.specs.Sending.{GainsPacket, Sending, sending_in, sending_to, then_packet}
-use Rattle.nd_neighbour.specs.Story.{is_present, mac_of, node_of}
+use Rattle.nd_neighbour.specs.Story.{is_present, mac_of, entry_of}
 use Rattle.nd_neighbour.specs.Table as neighbours
-use Rattle.nd_neighbour.specs.Table.{node_in}
+use Rattle.nd_neighbour.specs.Table.{entry_in}
 use Rattle.nd_nexthop.specs.Choice.{Table}
 use Rattle.nd_nexthop.specs.Memo.{forgotten}
 use Rattle.nd_steps.specs.NextHop.{is_resolved}
 use Rattle.nd_steps.specs.DestinationCache.{AsResolved, MayRemember, Forgets, Keeps, begins}
 
 -- a neighbour whose link-layer address was known was resolved
-pub was_resolved : (found : Option Node) → was_known found ≡ is_resolved found
+pub was_resolved : (found : Option NeighbourEntry) → was_known found ≡ is_resolved found
 was_resolved None = refl
 was_resolved (Some n) = refl
 
@@ -40,13 +40,13 @@ absent_unknown ((at, rows.Probed) ∷ s) h = absent_unknown s h
 absent_unknown ((at, rows.Confirmed reachable) ∷ s) h = absent_unknown s h
 absent_unknown ((at, rows.Forgot cause) ∷ s) h = absent_unknown s h
 
-resolved_story : (key : ℕ) (s : rows.Story) (present : Bool) → is_present s ≡ present → (known : Option ℕ) → mac_of s ≡ known → is_resolved (node_of key s) ≡ is_some (mac_of s)
+resolved_story : (key : ℕ) (s : rows.Story) (present : Bool) → is_present s ≡ present → (known : Option ℕ) → mac_of s ≡ known → is_resolved (entry_of key s) ≡ is_some (mac_of s)
 resolved_story key s false h known k = rw (h, absent_unknown s h) refl
 resolved_story key s true h None k = rw (h, k) refl
 resolved_story key s true h (Some mac) k = rw (h, k) refl
 
 -- a neighbour is resolved where its link-layer address is known
-pub resolved_by_history : (key : ℕ) (kept : List Node) (history : List rows.Row) → neighbours.Stands kept history → is_resolved (node_in key kept) ≡ is_some (mac_of (story key history))
+pub resolved_by_history : (key : ℕ) (kept : List NeighbourEntry) (history : List rows.Row) → neighbours.Stands kept history → is_resolved (entry_in key kept) ≡ is_some (mac_of (story key history))
 resolved_by_history key kept history s =
     let st = story key history in
     ap is_resolved (s.each key) ∙ resolved_story key st (is_present st) refl (mac_of st) refl
@@ -55,7 +55,7 @@ resolved_by_history key kept history s =
 abbrev pub AsKnown : List rows.Row → List rows.Row → Type 0
 AsKnown history after = (key : ℕ) → is_some (mac_of (story key after)) ≡ is_some (mac_of (story key history))
 
-pub resolved_as : (old new : List Node) (history after : List rows.Row) → neighbours.Stands old history → neighbours.Stands new after → AsKnown history after → (key : ℕ) → is_resolved (node_in key new) ≡ is_resolved (node_in key old)
+pub resolved_as : (old new : List NeighbourEntry) (history after : List rows.Row) → neighbours.Stands old history → neighbours.Stands new after → AsKnown history after → (key : ℕ) → is_resolved (entry_in key new) ≡ is_resolved (entry_in key old)
 resolved_as old new history after s t same key = resolved_by_history key new after t ∙ (same key ∙ sym (resolved_by_history key old history s))
 
 -- a row that leaves its own neighbour's address known or unknown leaves each one's
@@ -100,7 +100,7 @@ no_place_made false true A history made h p = p
 no_place_made enters false A history made h p = let never : ⊥ = cc in absurd never
 
 -- news of a neighbour that is resolved leave each as it is
-pub news_as_resolved : (limit now : ℕ) (n : News) (times : Times) (old new : List Node) → is_resolved (node_in (news_key n) old) ≡ true → GainsNews limit now n times old new → AsResolved old new
+pub news_as_resolved : (limit now : ℕ) (n : News) (times : Times) (old new : List NeighbourEntry) → is_resolved (entry_in (news_key n) old) ≡ true → GainsNews limit now n times old new → AsResolved old new
 news_as_resolved limit now n times old new resolved gains = λ history s key.
     let this = story (news_key n) history in
     let known : is_some (mac_of this) ≡ true = sym (resolved_by_history (news_key n) old history s) ∙ resolved in
@@ -111,7 +111,7 @@ news_as_resolved limit now n times old new resolved gains = λ history s key.
     resolved_as old new history after s t (row_as_known now (news_key n) (news_row n times) history (goes_on n times) (still_known now n times this known ∙ sym known)) key
 
 -- what is remembered then: it is kept where the neighbour was resolved
-pub news_may_remember : (known : Bool) (old_choice new_choice : Table) (limit now : ℕ) (n : News) (times : Times) (old new : List Node) → known ≡ is_resolved (node_in (news_key n) old)
+pub news_may_remember : (known : Bool) (old_choice new_choice : Table) (limit now : ℕ) (n : News) (times : Times) (old new : List NeighbourEntry) → known ≡ is_resolved (entry_in (news_key n) old)
     → new_choice ≡ (if known then old_choice else record old_choice { memory = forgotten old_choice.memory }) → GainsNews limit now n times old new → MayRemember old_choice new_choice old new
 news_may_remember true old_choice new_choice limit now n times old new is choice_is gains = Keeps choice_is (news_as_resolved limit now n times old new (sym is) gains)
 news_may_remember false old_choice new_choice limit now n times old new is choice_is gains = Forgets choice_is
@@ -119,24 +119,24 @@ news_may_remember false old_choice new_choice limit now n times old new is choic
 -- ---- one more row, or a packet
 
 -- a row of any kind that leaves its neighbour's address as it is
-pub gains_as_resolved : (at key : ℕ) (kind : rows.RowKind) (old new : List Node) → is_end kind ≡ false → ((s : rows.Story) → mac_of ((at, kind) ∷ s) ≡ mac_of s)
+pub gains_as_resolved : (at key : ℕ) (kind : rows.RowKind) (old new : List NeighbourEntry) → is_end kind ≡ false → ((s : rows.Story) → mac_of ((at, kind) ∷ s) ≡ mac_of s)
     → neighbours.GainsRow old new (at, key, kind) → AsResolved old new
 gains_as_resolved at key kind old new goes_on same gains = λ history s k.
     resolved_as old new history ((at, key, kind) ∷ history) s (gains.stands history s) (row_as_known at key kind history goes_on (ap is_some (same (story key history)))) k
 
-present_in : (key : ℕ) (s : rows.Story) (n : Node) → node_of key s ≡ Some n → is_present s ≡ true
+present_in : (key : ℕ) (s : rows.Story) (n : NeighbourEntry) → entry_of key s ≡ Some n → is_present s ≡ true
 present_in key s n is = by (is_present s) refl
   where
     by : (b : Bool) → is_present s ≡ b → b ≡ true
     by true e = refl
-    by false e = let none : node_of key s ≡ None = cond-false (is_present s) _ None e in let never : ⊥ = cc in absurd never
+    by false e = let none : entry_of key s ≡ None = cond-false (is_present s) _ None e in let never : ⊥ = cc in absurd never
 
 -- a packet to a neighbour that is there
 packet_as_known : (known : Option ℕ) (at key retrans : ℕ) (packet : List ℕ) (history : List rows.Row) → AsKnown history (then_packet true known at key retrans packet history)
 packet_as_known None at key retrans packet history = row_as_known at key (rows.Waits packet) history refl refl
 packet_as_known (Some mac) at key retrans packet history = row_as_known at key (rows.Used retrans) history refl refl
 
-pub packet_as_resolved : (limit at key retrans : ℕ) (packet : List ℕ) (old new : List Node) (n : Node) → node_in key old ≡ Some n → GainsPacket limit at key retrans packet old new → AsResolved old new
+pub packet_as_resolved : (limit at key retrans : ℕ) (packet : List ℕ) (old new : List NeighbourEntry) (n : NeighbourEntry) → entry_in key old ≡ Some n → GainsPacket limit at key retrans packet old new → AsResolved old new
 packet_as_resolved limit at key retrans packet old new n there gains = λ history s k.
     let this = story key history in
     let present : is_present this ≡ true = present_in key this n (sym (s.each key) ∙ there) in
@@ -148,18 +148,18 @@ packet_as_resolved limit at key retrans packet old new n there gains = λ histor
     resolved_as old new history (then_packet true (mac_of this) at key retrans packet history) s t (packet_as_known (mac_of this) at key retrans packet history) k
 
 -- nothing is remembered where a resolution begins
-pub packet_may_remember : (old_choice new_choice : Table) (limit at key retrans : ℕ) (packet : List ℕ) (old new : List Node) (sending : Sending) → sending ≡ sending_in (node_in key old) packet
+pub packet_may_remember : (old_choice new_choice : Table) (limit at key retrans : ℕ) (packet : List ℕ) (old new : List NeighbourEntry) (sending : Sending) → sending ≡ sending_in (entry_in key old) packet
     → new_choice ≡ (if begins sending then record old_choice { memory = forgotten old_choice.memory } else old_choice) → GainsPacket limit at key retrans packet old new → MayRemember old_choice new_choice old new
-packet_may_remember old_choice new_choice limit at key retrans packet old new sending is choice_is gains = by (node_in key old) refl
+packet_may_remember old_choice new_choice limit at key retrans packet old new sending is choice_is gains = by (entry_in key old) refl
   where
-    by_stage : (n : Node) → node_in key old ≡ Some n → (st : Stage) → n.stage ≡ st → MayRemember old_choice new_choice old new
+    by_stage : (n : NeighbourEntry) → entry_in key old ≡ Some n → (st : Stage) → n.stage ≡ st → MayRemember old_choice new_choice old new
     by_stage n there (Resolving r sent waiting) e =
-        let sent_is : sending ≡ sending_to (Resolving r sent waiting) packet = is ∙ (ap (λ (o : Option Node). sending_in o packet) there ∙ ap (λ (x : Stage). sending_to x packet) e) in
+        let sent_is : sending ≡ sending_to (Resolving r sent waiting) packet = is ∙ (ap (λ (o : Option NeighbourEntry). sending_in o packet) there ∙ ap (λ (x : Stage). sending_to x packet) e) in
         Keeps (choice_is ∙ ap (λ (x : Sending). if begins x then record old_choice { memory = forgotten old_choice.memory } else old_choice) sent_is) (packet_as_resolved limit at key retrans packet old new n there gains)
     by_stage n there (Known mac confirmed since probing) e =
-        let sent_is : sending ≡ sending_to (Known mac confirmed since probing) packet = is ∙ (ap (λ (o : Option Node). sending_in o packet) there ∙ ap (λ (x : Stage). sending_to x packet) e) in
+        let sent_is : sending ≡ sending_to (Known mac confirmed since probing) packet = is ∙ (ap (λ (o : Option NeighbourEntry). sending_in o packet) there ∙ ap (λ (x : Stage). sending_to x packet) e) in
         Keeps (choice_is ∙ ap (λ (x : Sending). if begins x then record old_choice { memory = forgotten old_choice.memory } else old_choice) sent_is) (packet_as_resolved limit at key retrans packet old new n there gains)
 
-    by : (o : Option Node) → node_in key old ≡ o → MayRemember old_choice new_choice old new
-    by None e = Forgets (choice_is ∙ ap (λ (x : Sending). if begins x then record old_choice { memory = forgotten old_choice.memory } else old_choice) (is ∙ ap (λ (o : Option Node). sending_in o packet) e))
+    by : (o : Option NeighbourEntry) → entry_in key old ≡ o → MayRemember old_choice new_choice old new
+    by None e = Forgets (choice_is ∙ ap (λ (x : Sending). if begins x then record old_choice { memory = forgotten old_choice.memory } else old_choice) (is ∙ ap (λ (o : Option NeighbourEntry). sending_in o packet) e))
     by (Some n) e = by_stage n e n.stage refl

@@ -4,7 +4,7 @@ use Rattle.std.specs.Prelude.{◌&&◌, ◌==◌, not, MatchBool, if◌then◌el
 use Rattle.std.specs.List.{flat_map}
 use Rattle.nd_addr.specs.Frame.{addressed}
 use Rattle.nd_addr.specs.Number.{mac_at}
-use Rattle.nd_neighbour.specs.Entry.{Node}
+use Rattle.nd_neighbour.specs.Entry.{NeighbourEntry}
 use Rattle.nd_neighbour.specs.History.{Row, RowKind, story, Forgot, PushedOut}
 use Rattle.nd_neighbour.specs.Due as dates
 use Rattle.nd_neighbour.specs.News.{released_by}
@@ -41,8 +41,8 @@ module _ (limit now key : ℕ) (enters : Bool) (history made : List Row) where
       by true e = let same : k ≡ key = grind (arith, e) in absurd (no_and_yes (is_present (story key history)) (subst (λ (x : ℕ). is_present (story x history) ≡ true) same present) enters absent)
 
   kept_by : (b : Bool) → (enters && not (is_present (story key history))) ≡ b → MatchBool b (MakesPlace limit now history made) (made ≡ history) → story key made ≡ story key history
-  kept_by true absent (HadPlace nodes those few is) = ap (λ (h : List Row). story key h) is
-  kept_by true absent (Pushed nodes k those many longest is) = ap (λ (h : List Row). story key h) is ∙ gone_is_other k longest.stale.0 absent
+  kept_by true absent (HadPlace entries those few is) = ap (λ (h : List Row). story key h) is
+  kept_by true absent (Pushed entries k those many longest is) = ap (λ (h : List Row). story key h) is ∙ gone_is_other k longest.stale.0 absent
   kept_by false absent is = ap (λ (h : List Row). story key h) is
 
   -- the story of a neighbour is the same behind what makes place for it
@@ -139,7 +139,7 @@ placed_by start c now (Some said) made law is place =
 
 -- laws of the neighbours
 abbrev pub OverdueByTable : Type 0
-OverdueByTable = (nodes : List Node) (history : List Row) (now : ℕ) → Stands nodes history → dates.NoneBefore nodes now ↔ dates.NoneOverdue history now
+OverdueByTable = (entries : List NeighbourEntry) (history : List Row) (now : ℕ) → Stands entries history → dates.NoneBefore entries now ↔ dates.NoneOverdue history now
 
 abbrev pub NoneOverdueStill : Type 0
 NoneOverdueStill = (history : List Row) (now key : ℕ) (kind : RowKind) → dates.NoneOverdue history now → dates.NoneOverdue ((now, key, kind) ∷ history) now
@@ -159,7 +159,7 @@ made_later still law limit now (Some said) history made place h =
     let p = law limit now said.0 (lets_enter said.1) history made place in
     rw p.1 (pushed_later still now p.0 history h)
 
-pub none_before_said : OverdueByTable → NoneOverdueStill → OneGoes → (limit now : ℕ) (said : Option (ℕ × RowKind)) (old new : List Node) (history made : List Row)
+pub none_before_said : OverdueByTable → NoneOverdueStill → OneGoes → (limit now : ℕ) (said : Option (ℕ × RowKind)) (old new : List NeighbourEntry) (history made : List Row)
     → Stands old history → PreparesFor limit now said history made → Stands new (then_neighbour now said made) → dates.NoneBefore old now → dates.NoneBefore new now
 none_before_said table still law limit now said old new history made before place after h =
     (table new (then_neighbour now said made) now after).1 (said_later still now said made (made_later still law limit now said history made place ((table old history now before).0 h)))

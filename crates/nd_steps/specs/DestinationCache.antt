@@ -6,10 +6,10 @@ use Rattle.nd_addr.specs.Prefix.{PrefixValue}
 use Rattle.nd_addr.specs.declared.preference.Preference.{Preference}
 use Rattle.nd_table.specs.declared.lasting.Lasting.{Lasting}
 use Rattle.nd_table.specs.Listing.{end_in, open_at}
-use Rattle.nd_neighbour.specs.Entry.{Node}
+use Rattle.nd_neighbour.specs.Entry.{NeighbourEntry}
 use Rattle.nd_neighbour.specs.History.{Row}
 use Rattle.nd_neighbour.specs.Sending.{Sending, Sends, Queues}
-use Rattle.nd_neighbour.specs.Table.{node_in}
+use Rattle.nd_neighbour.specs.Table.{entry_in}
 use Rattle.nd_routers.specs.OnLink.{is_held, least_end}
 use Rattle.nd_routers.specs.Preferences.{preference_among}
 use Rattle.nd_addr.specs.declared.mac.Mac.{Mac}
@@ -35,20 +35,20 @@ abbrev pub linked_by : List (Lasting PrefixValue) → List ℕ → Bool
 linked_by standing address = is_held address standing
 
 -- What a choice remembers is what these tables say, at this moment and as long as it may be used: no prefix that stands now ends before.
-pub record Remembers (at : ℕ) (choice : Table) (addresses : List Address) (prefixes : List (Lasting PrefixValue)) (nodes : List Node) (table : routers.Table) : Type 0 where
+pub record Remembers (at : ℕ) (choice : Table) (addresses : List Address) (prefixes : List (Lasting PrefixValue)) (entries : List NeighbourEntry) (table : routers.Table) : Type 0 where
   pub until : (moment : ℕ) → at ≤ moment → is_asked moment choice.memory.until ≡ true → open_at moment prefixes ≡ open_at at prefixes
-  pub agrees : Agrees at (own_in addresses) (linked_by (open_at at prefixes)) (candidates_in nodes table) choice
+  pub agrees : Agrees at (own_in addresses) (linked_by (open_at at prefixes)) (candidates_in entries table) choice
 
 -- the last moment before a prefix that stands now ends
 abbrev pub last_before_end : ℕ → List (Lasting PrefixValue) → Option ℕ
 last_before_end now prefixes = option_map (λ end. end - 1) (least_end (open_at now prefixes))
 
 -- the same neighbours are resolved, for each history that the entries represent
-abbrev pub AsResolved : List Node → List Node → Type 0
-AsResolved old new = (history : List Row) → neighbours.Stands old history → (key : ℕ) → is_resolved (node_in key new) ≡ is_resolved (node_in key old)
+abbrev pub AsResolved : List NeighbourEntry → List NeighbourEntry → Type 0
+AsResolved old new = (history : List Row) → neighbours.Stands old history → (key : ℕ) → is_resolved (entry_in key new) ≡ is_resolved (entry_in key old)
 
 -- The remembered next hops are forgotten; or they are kept, and the same neighbours are resolved.
-pub data MayRemember (old_choice new_choice : Table) (old new : List Node) : Type 0 where
+pub data MayRemember (old_choice new_choice : Table) (old new : List NeighbourEntry) : Type 0 where
   Forgets : new_choice ≡ record old_choice { memory = forgotten old_choice.memory } → MayRemember old_choice new_choice old new
   Keeps : new_choice ≡ old_choice → AsResolved old new → MayRemember old_choice new_choice old new
 

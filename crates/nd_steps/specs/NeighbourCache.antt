@@ -1,18 +1,19 @@
--- What a message says of a neighbour is taken: the neighbours know it, and the packets that waited for the link-layer address that it gives
--- are sent (RFC 4861, sections 6.2.6, 6.3.4, 7.2.3, 7.2.5 and 8.3).
-use Rattle.std.specs.Prelude.{◌≡◌, ℕ, Bool, true, false, List, [], ◌∷◌, ◌++◌, length, map, Option, Some, None, MatchBool}
+-- What happens to the Neighbor Cache (RFC 4861, section 5.1), and what the node reports of it. A message says something of a neighbour: the
+-- cache takes it, and the packets that waited for the link-layer address that it gives are sent (sections 6.2.6, 6.3.4, 7.2.3, 7.2.5 and 8.3).
+use Rattle.std.specs.Prelude.{◌≡◌, ◌+◌, ◌≤◌, ◌⊎◌, ℕ, Bool, true, false, List, [], ◌∷◌, ◌++◌, length, map, Option, Some, None, MatchBool}
 use Rattle.std.specs.Option.{option_to_list}
 use Rattle.nd_addr.specs.Frame.{addressed}
 use Rattle.nd_addr.specs.Number.{mac_at, addr_at}
+use Rattle.nd_packet.specs.Waiting.{max_waiting}
 use Rattle.nd_neighbour.specs.declared.news.News.{News}
 use Rattle.nd_neighbour.specs.declared.news.Times.{Times}
-use Rattle.nd_neighbour.specs.Entry.{Node}
+use Rattle.nd_neighbour.specs.Entry.{NeighbourEntry}
 use Rattle.nd_neighbour.specs.History.{Row, RowKind, story}
 use Rattle.nd_neighbour.specs.News.{news_key, news_row, lets_enter, released_by, ends_router}
 use Rattle.nd_neighbour.specs.Place.{Prepares, NoPlace, WouldBeFull}
 use Rattle.nd_neighbour.specs.Removal.{waiting_at}
 use Rattle.nd_neighbour.specs.Story.{mac_of}
-use Rattle.nd_neighbour.specs.Table.{Stands, node_in}
+use Rattle.nd_neighbour.specs.Table.{Stands, entry_in}
 use Rattle.nd_chronicle.specs.Happening.{Happening, Sent, Lost, Replaced}
 use Rattle.nd_chronicle.specs.Histories.{then_neighbour}
 use Rattle.nd_out.specs.declared.out.Out.{Out}
@@ -28,14 +29,18 @@ abbrev pub said_by : Times → News → ℕ × RowKind
 said_by times news = (news_key news, news_row news times)
 
 -- there is place for the neighbour that enters with them
-abbrev pub HasPlace : ℕ → ℕ → Option News → List Node → Type 0
-HasPlace limit now None nodes = Unit {0}
-HasPlace limit now (Some news) nodes = lets_enter news ≡ true → NoPlace limit now (news_key news) nodes → ⊥
+abbrev pub HasPlace : ℕ → ℕ → Option News → List NeighbourEntry → Type 0
+HasPlace limit now None entries = Unit {0}
+HasPlace limit now (Some news) entries = lets_enter news ≡ true → NoPlace limit now (news_key news) entries → ⊥
 
 -- how many packets wait for it
-abbrev pub waiting_for : Option News → List Node → ℕ
-waiting_for None nodes = 0
-waiting_for (Some news) nodes = length (waiting_at (node_in (news_key news) nodes))
+abbrev pub waiting_for : Option News → List NeighbourEntry → ℕ
+waiting_for None entries = 0
+waiting_for (Some news) entries = length (waiting_at (entry_in (news_key news) entries))
+
+-- there is room for the packets that it releases: for as many as wait for it, or for as many as may wait
+abbrev pub HasRoomFor : ℕ → ℕ → Option News → List NeighbourEntry → Type 0
+HasRoomFor count room news entries = (count + waiting_for news entries ≤ room) ⊎ (count + max_waiting ≤ room)
 
 -- ---- by history
 
@@ -62,12 +67,12 @@ ends_said now (Some said) history = ends_router now said.1 (story said.0 history
 
 -- Whatever history the neighbours stood for, they stand for it with what is said, and with what makes place before; the packets that it
 -- releases are handed out, and whether it takes the mark of a router away is answered.
-pub record HearsOf {A : Type 0} (limit now : ℕ) (said : Option (ℕ × RowKind)) (old new : List Node) (before after : List (ℕ × Out A)) (ends : Bool) : Type 0 where
+pub record HearsOf {A : Type 0} (limit now : ℕ) (said : Option (ℕ × RowKind)) (old new : List NeighbourEntry) (before after : List (ℕ × Out A)) (ends : Bool) : Type 0 where
   pub each : (history : List Row) → Stands old history
       → (made : List Row) × PreparesFor limit now said history made × Stands new (then_neighbour now said made)
       × (happenings after ≡ happenings before ++ at_moment now (released_frames now said history)) × (ends ≡ ends_said now said history)
 
--- Whether there is a place for the neighbour of which a message says something (RFC 4861, section 5.3, leaves it open).
+-- ---- room for a new neighbour (RFC 4861, section 5.3, leaves it open)
 
 -- there is none where the news let it enter and it would be full
 abbrev pub PlacedBy : ℕ → ℕ → News → List Row → Bool → Type 0
@@ -75,7 +80,7 @@ PlacedBy limit now news history place =
     MatchBool place (lets_enter news ≡ true → WouldBeFull limit now (news_key news) history → ⊥)
     ((lets_enter news ≡ true) × WouldBeFull limit now (news_key news) history)
 
--- What is told of a packet to a neighbour (RFC 4861, sections 7.2.2 and 7.3.3).
+-- ---- a packet to a neighbour (RFC 4861, sections 7.2.2 and 7.3.3)
 
 -- the packet itself, or the solicitation that its resolution begins with, or the one that it replaces: of a node with a link-layer
 -- address and a link-local one

@@ -1,6 +1,6 @@
 //! The Default Router List (RFC 4861, section 5.1): which routers enter and leave it, and what ends with them.
 
-ghost use Rattle.std.specs.Prelude.{◌≡◌, ◌<◌, ◌^◌, ◌↔◌, ◌&&◌, ◌==◌, ◌∷◌, IsTrue, List, [], true, ◌≤◌, ◌++◌, ℕ, vec_len, vec_capacity, ◌+◌, length, map};
+ghost use Rattle.std.specs.Prelude.{◌≡◌, ◌<◌, ◌↔◌, ◌&&◌, ◌==◌, ◌∷◌, IsTrue, List, [], true, ◌≤◌, ◌++◌, ℕ, vec_len, vec_capacity, ◌+◌, length, map};
 ghost use Rattle.nd_addr.specs.Number.{number_of};
 ghost use Rattle.nd_table.specs.Announcements.{stands};
 ghost use Rattle.nd_table.specs.Listing.{fits};
@@ -10,6 +10,7 @@ ghost use Rattle.nd_nexthop.specs.History.{RedirectRow};
 ghost use Rattle.nd_steps.specs.DestinationCache.{AsListed, Recollects, Refreshes, Remembering};
 ghost use Rattle.nd_steps.specs.DefaultRouterList.{with_left, with_gone, left_told, Leaves, Notes};
 ghost use Rattle.nd_addr.specs.declared.addr.Addr.{Addr};
+ghost use Rattle.nd_table.specs.Moment.{IsMoment};
 ghost use Rattle.nd_steps.specs.Outputs.{at_moment, happenings};
 ghost use Rattle.nd_nexthop.specs.Memo.{forgotten};
 ghost use Rattle.nd_neighbour.specs.View.{falls_of};
@@ -58,7 +59,7 @@ pub fn hear_router<A: Allocator>(
     lifetime: u16,
     preference: Preference,
 ) -> bool
-    requires moment { now < 2 ^ 62 }
+    requires moment { IsMoment now }
     requires settled { IsSettled routers.old.entries now }
     requires fits { fits same routers.old.limit now ((number_of source.0, lifetime) ∷ []) routers.old.entries ≡ true }
     ensures times_out { (history : List RouterRow) → list.Stands routers.old history → result ≡ ((lifetime == 0) && stands same (number_of source.0) (announcements history) now) }
@@ -126,7 +127,11 @@ pub fn end_router<A: Allocator>(
 
 /// Notes what is due for a neighbour. If the neighbour failed, the router that it may be failed too, and the redirects to it end (RFC 4861,
 /// sections 6.3.6 and 7.3.3). If its entry is gone, remembered next hops are forgotten.
-pub fn note_failure<A: Allocator + Clone>(routers: &mut Routers<A>, choice: &mut Choice<A>, due: &Due<A>)
+pub fn note_failure<A: Allocator + Clone>(
+    routers: &mut Routers<A>,
+    choice: &mut Choice<A>,
+    due: &Due<A>,
+)
     ensures notes { (at : ℕ) → Notes at (falls_of due.now) routers.old routers.new choice.old choice.new }
     ensures remembers { Remembering (falls_of due.now) choice.old choice.new routers.old routers.new }
     ensures entries { routers.new.entries ≡ routers.old.entries }

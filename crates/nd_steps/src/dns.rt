@@ -1,14 +1,15 @@
 //! The DNS servers and search names (RFC 8106, section 6.1).
 
-ghost use Rattle.std.specs.Prelude.{◌≡◌, ◌≤◌, ◌<◌, ◌^◌, ℕ, List, true};
+ghost use Rattle.std.specs.Prelude.{◌≡◌, ◌≤◌, ◌<◌, ℕ, List, true};
 ghost use Rattle.nd_addr.specs.declared.addr.Addr.{Addr};
 ghost use Rattle.nd_addr.specs.Same.{same_addr};
 ghost use Rattle.nd_decode.specs.Pieces.{options_left};
 ghost use Rattle.nd_table.specs.Announcements.{Row, last_moment};
 ghost use Rattle.nd_table.specs.Listing.{fits, then_announced};
+ghost use Rattle.nd_table.specs.Moment.{IsMoment};
 ghost use Rattle.nd_dns.specs.Dns.{max_servers, max_names, new_names};
-ghost use Rattle.nd_dns.specs.Names.{same_name, names_told};
-ghost use Rattle.nd_dns.specs.Servers.{servers_told};
+ghost use Rattle.nd_dns.specs.AnnouncedNames.{same_name, names_told};
+ghost use Rattle.nd_dns.specs.AnnouncedServers.{servers_told};
 ghost use Rattle.nd_dns.specs.Dns as known;
 
 use nd_addr::Addr;
@@ -19,7 +20,7 @@ use std::alloc::Allocator;
 /// Takes the DNS servers and search names of a Router Advertisement, at a moment in milliseconds, with copies of the names that it adds. There
 /// is room for them (RFC 8106, section 6.1).
 pub fn hear_dns<A: Allocator>(dns: &mut Dns<A>, now: u64, options: Options<'_>, names: NewNames<A>)
-    requires moment { now < 2 ^ 62 }
+    requires moment { IsMoment now }
     requires names { names ≡ new_names now (options_left options) dns.old }
     requires fits_servers { fits same_addr max_servers now (servers_told (options_left options)) dns.old.servers ≡ true }
     requires fits_names { fits same_name max_names now (names_told (options_left options)) dns.old.names ≡ true }

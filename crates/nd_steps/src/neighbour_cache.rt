@@ -4,14 +4,15 @@ ghost use Rattle.std.specs.Prelude.{◌≡◌, List, Some, None, true, ◌+◌, 
 ghost use Rattle.std.specs.Option.{option_map};
 ghost use Rattle.nd_neighbour.specs.declared.news.Times.{Times};
 ghost use Rattle.nd_neighbour.specs.History.{Row};
-ghost use Rattle.nd_neighbour.specs.Table.{Stands, node_in};
+ghost use Rattle.nd_neighbour.specs.Table.{Stands, entry_in};
 ghost use Rattle.nd_chronicle.specs.Start.{Start};
 ghost use Rattle.nd_chronicle.specs.Happening.{Chronicle, Sent, Forgotten, Lost};
 ghost use Rattle.nd_chronicle.specs.Histories.{neighbour_history};
 ghost use Rattle.nd_chronicle.specs.Full.{entering, Placed};
-ghost use Rattle.nd_steps.specs.NeighbourCache.{said_by, HasPlace, waiting_for, HearsOf, PlacedBy, told_of_packet};
+ghost use Rattle.nd_steps.specs.NeighbourCache.{said_by, HasPlace, HasRoomFor, waiting_for, HearsOf, PlacedBy, told_of_packet};
 ghost use Rattle.nd_addr.specs.Number.{number_of};
 ghost use Rattle.nd_addr.specs.Frame.{addressed};
+ghost use Rattle.nd_table.specs.Moment.{IsMoment};
 ghost use Rattle.nd_neighbour.specs.News.{lets_enter, news_key};
 ghost use Rattle.nd_neighbour.specs.Removal.{waiting_at};
 ghost use Rattle.nd_packet.specs.Waiting.{max_waiting};
@@ -24,17 +25,17 @@ use crate::destination_cache::keep_if;
 use nd_addr::laws::addresses_are_told_by_numbers;
 use nd_addr::{Addr, Mac};
 use nd_compose::FrameRoom;
-use nd_neighbour::laws::{full_by_history, room_is_place, released_to_the_given_address};
+use nd_neighbour::laws::{full_by_history, released_to_the_given_address, room_is_place};
 use nd_neighbour::{Cache, News, Times, Use};
 use nd_nexthop::Choice;
-use nd_out::{Out, Loss};
+use nd_out::{Loss, Out};
 use nd_packet::{Packet, Packets};
-use std::alloc::{Allocator, AllocError};
+use std::alloc::{AllocError, Allocator};
 
 /// Whether the neighbour that news are of has a place at a moment, in milliseconds, if they let it enter.
 fn has_place_with<A: Allocator>(neighbours: &Cache<A>, now: u64, news: &News) -> bool
-    ensures room { result ≡ true → HasPlace neighbours.now.limit now (Some news.now) neighbours.now.nodes }
-    ensures placed { (history : List Row) → Stands neighbours.now.nodes history → PlacedBy neighbours.now.limit now news.now history result }
+    ensures room { result ≡ true → HasPlace neighbours.now.limit now (Some news.now) neighbours.now.entries }
+    ensures placed { (history : List Row) → Stands neighbours.now.entries history → PlacedBy neighbours.now.limit now news.now history result }
 {
     full_by_history();
     room_is_place();
@@ -46,8 +47,8 @@ fn has_place_with<A: Allocator>(neighbours: &Cache<A>, now: u64, news: &News) ->
 
 /// Whether the neighbour that news may be of has a place at a moment, in milliseconds, if they let it enter.
 pub fn has_place<A: Allocator>(neighbours: &Cache<A>, now: u64, news: Option<News>) -> bool
-    ensures room { result ≡ true → HasPlace neighbours.now.limit now news neighbours.now.nodes }
-    ensures placed { (start : Start) (c : Chronicle) (times : Times) → neighbours.now.limit ≡ start.limits.neighbours → Stands neighbours.now.nodes (neighbour_history c) → Placed start c now (entering (option_map (said_by times) news)) result }
+    ensures room { result ≡ true → HasPlace neighbours.now.limit now news neighbours.now.entries }
+    ensures placed { (start : Start) (c : Chronicle) (times : Times) → neighbours.now.limit ≡ start.limits.neighbours → Stands neighbours.now.entries (neighbour_history c) → Placed start c now (entering (option_map (said_by times) news)) result }
 {
     match news {
         Some(news) => has_place_with(neighbours, now, &news),
@@ -64,8 +65,8 @@ pub fn ready_for<A: Allocator + Clone>(
     outs: &mut Vec<(u64, Out<A>), A>,
 ) -> Result<FrameRoom<A>, AllocError>
     ensures place { OnOk result (vec_len outs.new < vec_capacity outs.new) }
-    ensures ring { OnOk result (node_in (number_of to.0) neighbours.old.nodes ≡ None → 0 < neighbours.new.rings) }
-    ensures nodes { neighbours.new.nodes ≡ neighbours.old.nodes }
+    ensures ring { OnOk result (entry_in (number_of to.0) neighbours.old.entries ≡ None → 0 < neighbours.new.rings) }
+    ensures entries { neighbours.new.entries ≡ neighbours.old.entries }
     ensures limit { neighbours.new.limit ≡ neighbours.old.limit }
     ensures same { outs.new.items ≡ outs.old.items }
 {
@@ -86,7 +87,7 @@ pub fn ready_for_two<A: Allocator + Clone>(
 ) -> Result<(FrameRoom<A>, FrameRoom<A>), AllocError>
     ensures place { OnOk result (vec_len outs.new + 2 ≤ vec_capacity outs.new) }
     ensures rings { OnOk result (2 ≤ neighbours.new.rings) }
-    ensures nodes { neighbours.new.nodes ≡ neighbours.old.nodes }
+    ensures entries { neighbours.new.entries ≡ neighbours.old.entries }
     ensures limit { neighbours.new.limit ≡ neighbours.old.limit }
     ensures same { outs.new.items ≡ outs.old.items }
 {
@@ -110,7 +111,7 @@ fn neighbour_in(news: &News) -> Addr
 
 /// How many packets wait for the neighbour that is spoken of: none where nothing is said.
 pub fn waiting_for<A: Allocator>(neighbours: &Cache<A>, news: Option<News>) -> usize
-    ensures value { result ≡ waiting_for news neighbours.now.nodes }
+    ensures value { result ≡ waiting_for news neighbours.now.entries }
     ensures few { result ≤ max_waiting }
 {
     match news {
@@ -142,14 +143,15 @@ fn hear_news<A: Allocator>(
     times: Times,
     outs: &mut Vec<(u64, Out<A>), A>,
 ) -> bool
-    requires moment { now < 2 ^ 62 }
+    requires moment { IsMoment now }
     requires span { times.reachable < 2 ^ 62 }
-    requires place { HasPlace neighbours.old.limit now (Some news) neighbours.old.nodes }
-    requires room { vec_len outs.old + waiting_for (Some news) neighbours.old.nodes ≤ vec_capacity outs.old }
-    ensures hears { HearsOf neighbours.old.limit now (Some (said_by times news)) neighbours.old.nodes neighbours.new.nodes outs.old.items outs.new.items result }
-    ensures remembers { MayRemember choice.old choice.new neighbours.old.nodes neighbours.new.nodes }
-    ensures there { lets_enter news ≡ true → is_some (node_in (news_key news) neighbours.new.nodes) ≡ true }
-    ensures len { vec_len outs.new ≤ vec_len outs.old + waiting_for (Some news) neighbours.old.nodes }
+    requires place { HasPlace neighbours.old.limit now (Some news) neighbours.old.entries }
+    requires room { HasRoomFor (vec_len outs.old) (vec_capacity outs.old) (Some news) neighbours.old.entries }
+    ensures hears { HearsOf neighbours.old.limit now (Some (said_by times news)) neighbours.old.entries neighbours.new.entries outs.old.items outs.new.items result }
+    ensures remembers { MayRemember choice.old choice.new neighbours.old.entries neighbours.new.entries }
+    ensures there { lets_enter news ≡ true → is_some (entry_in (news_key news) neighbours.new.entries) ≡ true }
+    ensures len { vec_len outs.new ≤ vec_len outs.old + waiting_for (Some news) neighbours.old.entries }
+    ensures most { vec_len outs.new ≤ vec_len outs.old + max_waiting }
     ensures capacity { vec_capacity outs.new ≡ vec_capacity outs.old }
     ensures limit { neighbours.new.limit ≡ neighbours.old.limit }
     ensures rings { neighbours.new.rings ≡ neighbours.old.rings }
@@ -160,6 +162,7 @@ fn hear_news<A: Allocator>(
     match neighbours.heard(now, news, times) {
         Ok(touched) => {
             keep_if(choice, touched.was_known);
+            let _few = touched.released.len();
             let ends_router = touched.ends_router;
             match mac {
                 Some(mac) => send_each(outs, now, mac, touched.released),
@@ -183,19 +186,20 @@ pub fn hear_of_neighbour<A: Allocator>(
     times: Times,
     outs: &mut Vec<(u64, Out<A>), A>,
 ) -> bool
-    requires moment { now < 2 ^ 62 }
+    requires moment { IsMoment now }
     requires span { times.reachable < 2 ^ 62 }
-    requires place { HasPlace neighbours.old.limit now news neighbours.old.nodes }
-    requires room { vec_len outs.old + waiting_for news neighbours.old.nodes ≤ vec_capacity outs.old }
-    ensures hears { HearsOf neighbours.old.limit now (option_map (said_by times) news) neighbours.old.nodes neighbours.new.nodes outs.old.items outs.new.items result }
-    ensures remembers { MayRemember choice.old choice.new neighbours.old.nodes neighbours.new.nodes }
+    requires place { HasPlace neighbours.old.limit now news neighbours.old.entries }
+    requires room { HasRoomFor (vec_len outs.old) (vec_capacity outs.old) news neighbours.old.entries }
+    ensures hears { HearsOf neighbours.old.limit now (option_map (said_by times) news) neighbours.old.entries neighbours.new.entries outs.old.items outs.new.items result }
+    ensures remembers { MayRemember choice.old choice.new neighbours.old.entries neighbours.new.entries }
 
     // A neighbour whose address is given is there then, and where nothing is said none is changed.
-    ensures there { IfSome news (λ n. lets_enter n ≡ true → is_some (node_in (news_key n) neighbours.new.nodes) ≡ true) }
-    ensures unsaid { news ≡ None → neighbours.new.nodes ≡ neighbours.old.nodes }
+    ensures there { IfSome news (λ n. lets_enter n ≡ true → is_some (entry_in (news_key n) neighbours.new.entries) ≡ true) }
+    ensures unsaid { news ≡ None → neighbours.new.entries ≡ neighbours.old.entries }
 
     // What else there was room for still has it.
-    ensures len { vec_len outs.new ≤ vec_len outs.old + waiting_for news neighbours.old.nodes }
+    ensures len { vec_len outs.new ≤ vec_len outs.old + waiting_for news neighbours.old.entries }
+    ensures most { vec_len outs.new ≤ vec_len outs.old + max_waiting }
     ensures capacity { vec_capacity outs.new ≡ vec_capacity outs.old }
 
     ensures limit { neighbours.new.limit ≡ neighbours.old.limit }

@@ -9,7 +9,10 @@ ghost use Rattle.nd_chronicle.specs.LinkLayerAddress.{first_slla, first_tlla};
 ghost use Rattle.nd_steps.specs.NeighbourCache.{said_by};
 
 use nd_addr::{Addr, Mac};
-use nd_decode::{Body, OPTION_SOURCE_LINK_LAYER_ADDRESS, OPTION_TARGET_LINK_LAYER_ADDRESS, OptionRef, Options, Redirect};
+use nd_decode::{
+    Body, OPTION_SOURCE_LINK_LAYER_ADDRESS, OPTION_TARGET_LINK_LAYER_ADDRESS, OptionRef, Options,
+    Redirect,
+};
 use nd_neighbour::{Flags, News, Times};
 
 /// The first Source Link-Layer Address (RFC 4861, section 4.6.1).

@@ -2,13 +2,13 @@
 
 ghost use Rattle.std.specs.Prelude.{◌≡◌, ◌↔◌, true};
 ghost use Rattle.nd_addr.specs.Number.{number_of};
-ghost use Rattle.nd_neighbour.specs.Table.{node_in};
+ghost use Rattle.nd_neighbour.specs.Table.{entry_in};
 ghost use Rattle.nd_steps.specs.NextHop.{is_resolved};
 ghost use Rattle.nd_nexthop.specs.NextHop.{hop_of, via};
 
 use nd_addr::Addr;
 use nd_neighbour::Cache;
-use nd_nexthop::{Candidate, View, Hop};
+use nd_nexthop::{Candidate, Hop, View};
 use nd_routers::{Prefixes, Routers};
 use nd_slaac::{Addresses, Counted};
 use nd_table::compare;
@@ -16,7 +16,7 @@ use std::alloc::Allocator;
 
 /// Whether a neighbour is in any state other than INCOMPLETE.
 fn is_resolved<A: Allocator>(neighbours: &Cache<A>, now: u64, addr: Addr) -> bool
-    ensures { result ≡ is_resolved (node_in (number_of addr.0) neighbours.now.nodes) }
+    ensures { result ≡ is_resolved (entry_in (number_of addr.0) neighbours.now.entries) }
 {
     match neighbours.entry(now, addr) {
         Some(neighbour) => neighbour.mac.is_some(),
@@ -52,7 +52,7 @@ impl<A: Allocator> View for Tables<'_, A> {
 
     ghost linked = { λ t address. is_held address (open_at t.now t.prefixes.now) };
 
-    ghost candidates = { λ t. candidates_in t.neighbours.now.nodes t.routers.now };
+    ghost candidates = { λ t. candidates_in t.neighbours.now.entries t.routers.now };
 
     fn is_own(&self, addr: Addr) -> bool {
         self.addresses.counts(Counted::Own, addr)

@@ -1,7 +1,7 @@
 //! The node's own addresses (RFC 4862, section 5): which advertisements form them, what another node's claim to one does, and which frames are
 //! for them.
 
-ghost use Rattle.std.specs.Prelude.{◌≡◌, ◌+◌, ◌≤◌, vec_len, vec_capacity, ◌↔◌, true, ◌<◌, ◌^◌, ◌&&◌, ◌∷◌, List, [], ℕ, false, if◌then◌else◌};
+ghost use Rattle.std.specs.Prelude.{◌≡◌, ◌+◌, ◌≤◌, vec_len, vec_capacity, ◌↔◌, true, ◌<◌, ◌&&◌, ◌∷◌, List, [], ℕ, false, if◌then◌else◌};
 ghost use Rattle.nd_addr.specs.Number.{number_of, addr_at};
 ghost use Rattle.nd_slaac.specs.PrefixOption.{link_local_of, prefixes_in};
 ghost use Rattle.nd_addr.specs.Kind.{all_nodes_address, all_routers_address};
@@ -21,6 +21,7 @@ ghost use Rattle.nd_nexthop.specs.Memo.{forgotten};
 ghost use Rattle.nd_slaac.specs.History.{Row, Conflict, story};
 ghost use Rattle.nd_slaac.specs.State.{is_tentative};
 ghost use Rattle.nd_decode.specs.declared.body.Body.TheVariants as bodies;
+ghost use Rattle.nd_table.specs.Moment.{IsMoment};
 ghost use Rattle.nd_slaac.specs.Table as own_addresses;
 
 use crate::destination_cache::keep_if;
@@ -128,7 +129,7 @@ fn hear_prefix_option<R: Rng, A: Allocator>(
     to_all: bool,
     retrans: u32,
 )
-    requires moment { now < 2 ^ 62 }
+    requires moment { IsMoment now }
     requires fits { fits_in addresses.old.mac (keys_in addresses.old.addresses) (info.now ∷ []) ≡ true }
     ensures forms { (start : Start) (c : Chronicle) → Forms start addresses.old (R.stream generator.old) retrans c → Forms start addresses.new (R.stream generator.new) retrans (then_option start now to_all info.now c) }
     ensures fits { (infos : List PrefixInfo) → fits_in addresses.old.mac (keys_in addresses.old.addresses) (info.now ∷ infos) ≡ true → fits_in addresses.new.mac (keys_in addresses.new.addresses) infos ≡ true }
@@ -168,7 +169,7 @@ pub fn hear_prefix_options<R: Rng, A: Allocator>(
     to_all: bool,
     retrans: u32,
 )
-    requires moment { now < 2 ^ 62 }
+    requires moment { IsMoment now }
     requires fits { fits_in addresses.old.mac (keys_in addresses.old.addresses) (prefixes_in (options_left options)) ≡ true }
     ensures forms { (start : Start) (c : Chronicle) → Forms start addresses.old (R.stream generator.old) retrans c → Forms start addresses.new (R.stream generator.new) retrans (then_options start now to_all (prefixes_in (options_left options.entry)) c) }
 {

@@ -6,7 +6,7 @@ ghost use Rattle.nd_addr.specs.Places.{packet_in};
 ghost use Rattle.nd_addr.specs.Frame.{ethernet_mtu};
 ghost use Rattle.nd_steps.specs.Packets.{frame_of};
 
-use nd_addr::{ETHERNET_HEADER_LENGTH, HEADERS_LENGTH, Addr, Ip6, Mac, write_frame};
+use nd_addr::{Addr, ETHERNET_HEADER_LENGTH, HEADERS_LENGTH, Ip6, Mac, write_frame};
 use nd_packet::Packet;
 use std::alloc::{AllocError, Allocator};
 

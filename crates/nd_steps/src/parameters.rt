@@ -2,6 +2,7 @@
 
 ghost use Rattle.std.specs.Prelude.{◌≡◌, ◌<◌, ◌^◌, IfSome, is_some};
 ghost use Rattle.nd_decode.specs.Pieces.{options_left};
+ghost use Rattle.nd_table.specs.Moment.{IsMoment};
 ghost use Rattle.nd_params.specs.Params.{redraws};
 ghost use Rattle.nd_steps.specs.Parameters.{redraw_from, HearsParameters};
 
@@ -44,7 +45,7 @@ pub fn hear_parameters<R: Rng>(
     ra: &RouterAdvertisement,
     options: Options<'_>,
 )
-    requires { now < 2 ^ 62 }
+    requires { IsMoment now }
     ensures { HearsParameters params.old params.new (R.stream generator.old) (R.stream generator.new) now ra.now (options_left options.entry) }
 {
     let drawn = redraw(generator, params, ra);

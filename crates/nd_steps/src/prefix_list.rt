@@ -1,14 +1,15 @@
 //! The Prefix List (RFC 4861, section 5.1): the prefixes on the link that Router Advertisements say.
 
-ghost use Rattle.std.specs.Prelude.{◌≡◌, ◌≤◌, ◌<◌, ◌^◌, List, true};
+ghost use Rattle.std.specs.Prelude.{◌≡◌, ◌≤◌, ◌<◌, List, true};
 ghost use Rattle.nd_addr.specs.Prefix.{PrefixValue};
 ghost use Rattle.nd_addr.specs.Same.{same_prefix};
 ghost use Rattle.nd_decode.specs.Pieces.{options_left};
 ghost use Rattle.nd_table.specs.Announcements.{Row, last_moment};
 ghost use Rattle.nd_table.specs.Listing.{fits, then_announced};
-ghost use Rattle.nd_routers.specs.PrefixOptions.{max_prefixes, prefixes_in};
+ghost use Rattle.nd_routers.specs.OnLinkPrefixes.{max_prefixes, prefixes_in};
 ghost use Rattle.nd_steps.specs.DestinationCache.{AsStanding, Recollects};
 ghost use Rattle.nd_table.specs.Listing as lists;
+ghost use Rattle.nd_table.specs.Moment.{IsMoment};
 
 use crate::destination_cache::keep_if;
 use nd_decode::Options;
@@ -24,7 +25,7 @@ pub fn hear_prefixes<A: Allocator>(
     now: u64,
     options: Options<'_>,
 )
-    requires moment { now < 2 ^ 62 }
+    requires moment { IsMoment now }
     requires fits { fits same_prefix max_prefixes now (prefixes_in (options_left options)) prefixes.old ≡ true }
     ensures stands { (history : List (Row PrefixValue)) → last_moment history ≤ now → lists.Stands same_prefix prefixes.old history → lists.Stands same_prefix prefixes.new (then_announced now (prefixes_in (options_left options.entry)) history) }
     ensures recollects { Recollects choice.old choice.new (AsStanding now prefixes.old prefixes.new) }

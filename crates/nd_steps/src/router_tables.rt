@@ -1,5 +1,6 @@
-ghost use Rattle.std.specs.Prelude.{◌≡◌, ◌≢◌, ◌<◌, ◌^◌, List, [], None, Ok, Some, IfOk, IfSome, is_some, option_map, true, false};
+ghost use Rattle.std.specs.Prelude.{◌≡◌, ◌≢◌, ◌<◌, List, [], None, Ok, Some, IfOk, IfSome, is_some, option_map, true, false};
 ghost use Rattle.nd_addr.specs.Number.{number_of};
+ghost use Rattle.nd_table.specs.Moment.{IsMoment};
 ghost use Rattle.nd_advertiser.specs.Calls.{settings_in};
 ghost use Rattle.nd_advertiser.specs.Contents.{contents_of, last_contents_of};
 ghost use Rattle.nd_advertiser.specs.History.{Row};
@@ -117,7 +118,7 @@ impl<A: Allocator> RouterTables<A> {
     /// Whether an advertisement is due at a moment, in milliseconds. It is sent then, and the time until the next one is drawn (RFC 4861,
     /// section 6.2.4).
     pub fn turn<R: Rng>(&mut self, role: Role, now: u64, generator: &mut R) -> bool
-        requires { now < 2 ^ 62 }
+        requires { IsMoment now }
         ensures due { result ≡ true → next_advertisement role self.old ≡ Some now }
         ensures none { result ≡ false → next_advertisement role self.old ≢ Some now }
         ensures sent { result ≡ true → Advertises now (R.stream generator.old) (R.stream generator.new) self.old self.new }
@@ -141,7 +142,7 @@ impl<A: Allocator> RouterTables<A> {
     /// What fell due for an own address at a moment, in milliseconds: advertisements are sent from the link-local one (RFC 4861, section
     /// 4.2).
     pub fn note_address(&mut self, link_local: Addr, now: u64, due: Due)
-        requires { now < 2 ^ 62 }
+        requires { IsMoment now }
         ensures { NotesAddress (number_of link_local.0) now (falls_of due) self.old self.new }
     {
         match due {
@@ -157,7 +158,7 @@ impl<A: Allocator> RouterTables<A> {
     /// A Router Solicitation is heard at a moment, in milliseconds. At a router the first since the last advertisement has its answer planned,
     /// after a delay that is drawn; a host answers none (RFC 4861, section 6.2.6).
     pub fn hear_solicitation<R: Rng>(&mut self, role: Role, now: u64, generator: &mut R)
-        requires { now < 2 ^ 62 }
+        requires { IsMoment now }
         ensures { Plans now (plans role self.old) (R.stream generator.old) (R.stream generator.new) self.old self.new }
     {
         if role == Role::Router && self.advertiser.wants_draw() {

@@ -1,6 +1,7 @@
 //! The Router Solicitations of a host (RFC 4861, section 6.3.7).
 
 ghost use Rattle.std.specs.Prelude.{◌≡◌, ◌≢◌, ◌+◌, ◌<◌, ◌==◌, ◌||◌, ◌^◌, not, Some, true, false};
+ghost use Rattle.nd_table.specs.Moment.{IsMoment};
 ghost use Rattle.nd_steps.specs.SolicitRouters.{next_solicitation};
 ghost use Rattle.nd_chronicle.specs.Due.{max_rtr_solicitations};
 
@@ -70,7 +71,7 @@ impl RouterSolicitations {
 
     /// The link-local address is assigned at a moment, in milliseconds.
     pub fn assigned(&mut self, now: u64)
-        requires { now < 2 ^ 62 }
+        requires { IsMoment now }
         ensures { self.new ≡ record self.old { assigned = Some now } }
     {
         self.assigned = Some(now);

@@ -6,7 +6,7 @@ ghost use Rattle.nd_addr.specs.Ip6.{packet_parts};
 ghost use Rattle.nd_addr.specs.Number.{number_of};
 ghost use Rattle.nd_compose.specs.Frames.{open_mac};
 ghost use Rattle.nd_compose.specs.Redirect.{redirect_frame};
-ghost use Rattle.nd_neighbour.specs.Table.{Stands, node_in};
+ghost use Rattle.nd_neighbour.specs.Table.{Stands, entry_in};
 ghost use Rattle.nd_chronicle.specs.Start.{Start, link_local};
 ghost use Rattle.nd_chronicle.specs.Happening.{Chronicle};
 ghost use Rattle.nd_chronicle.specs.Histories.{neighbour_history};
@@ -72,7 +72,7 @@ pub fn frame_sent_on<A: Allocator>(
 
 /// The link-layer address of a neighbour at a moment, in milliseconds, if it is known.
 fn known_mac<A: Allocator>(neighbours: &Cache<A>, now: u64, addr: Addr) -> Option<Mac>
-    ensures { result ≡ mac_in (node_in (number_of addr.0) neighbours.now.nodes) }
+    ensures { result ≡ mac_in (entry_in (number_of addr.0) neighbours.now.entries) }
 {
     addresses_are_told_by_numbers();
     let mac = neighbours.entry(now, addr)?.mac?;
@@ -93,8 +93,8 @@ pub fn better_hop_frame<A: Allocator + Clone>(
     packet: &Ip6Ref<'_>,
     bytes: &[u8],
 ) -> Result<Packet<A>, AllocError>
-    ensures value { IfOk result (λ frame. frame ≡ redirect_frame mac own (packet_parts packet.now).header.source (mac_in (node_in (number_of target.0) neighbours.now.nodes)) target (packet_parts packet.now).header.destination bytes.now) }
-    ensures by_history { IfOk result (λ frame. (start : Start) (moment : ℕ) (c : Chronicle) → Stands neighbours.now.nodes (neighbour_history c) → start.mac ≡ mac → own ≡ link_local start → frame ≡ better_hop_frame start moment target (packet_parts packet.now) bytes.now c) }
+    ensures value { IfOk result (λ frame. frame ≡ redirect_frame mac own (packet_parts packet.now).header.source (mac_in (entry_in (number_of target.0) neighbours.now.entries)) target (packet_parts packet.now).header.destination bytes.now) }
+    ensures by_history { IfOk result (λ frame. (start : Start) (moment : ℕ) (c : Chronicle) → Stands neighbours.now.entries (neighbour_history c) → start.mac ≡ mac → own ≡ link_local start → frame ≡ better_hop_frame start moment target (packet_parts packet.now) bytes.now c) }
 {
     let target_mac = known_mac(neighbours, now, target);
     let redirect = Redirect {

@@ -13,6 +13,6 @@ pub mod Pasts
 pub mod Tests
 pub mod Finding
 pub mod Behind
-pub mod Order
+pub mod LastingOrder
 pub mod Steps
 pub mod UniqueKeys

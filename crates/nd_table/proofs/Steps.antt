@@ -8,7 +8,7 @@ use Rattle.nd_table.specs.Ends.{end_time, is_before}
 use Rattle.nd_table.specs.Announcements.{Row, Announced, Ended, Cleared, last_moment, end_after, end_of, is_open, stands, place}
 use Rattle.nd_table.specs.Listing.{open_at, end_in, StandsUntilTold, Stands, Lists, renewed, without, told, announced, announced_all, then_announced}
 use Rattle.nd_table.proofs.Finding.{Tells, Has, end_in-renewed, end_in-without, end_in-push, end_in-open, absent_of, as_long, one_longer}
-use Rattle.nd_table.proofs.Order.{Rises-agree, Rises-renewed, Rises-filter, Rises-push, distinct_of}
+use Rattle.nd_table.proofs.LastingOrder.{Rises-agree, Rises-renewed, Rises-filter, Rises-push, distinct_of}
 
 open_some : (o : Option (Option ℕ)) (t : ℕ) → is_open o t ≡ true → is_some o ≡ true
 open_some None t h = absurd (true≢false (sym h))

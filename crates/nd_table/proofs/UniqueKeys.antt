@@ -7,7 +7,7 @@ use Rattle.nd_table.specs.Announcements.{Row}
 use Rattle.nd_table.specs.Listing.{end_in, AllAfter, Rises, Lists}
 use Rattle.nd_table.specs.Shown.{Seen, seen, Shows}
 use Rattle.nd_table.proofs.Finding.{Tells}
-use Rattle.nd_table.proofs.Order.{AllAfter-has}
+use Rattle.nd_table.proofs.LastingOrder.{AllAfter-has}
 
 module _ {K : Type 0} (same : K → K → Bool) (tells : Tells same) where
   abbrev SameEnds : List (Lasting K) → List (Lasting K) → Type 0

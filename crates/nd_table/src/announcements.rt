@@ -1,5 +1,6 @@
 ghost use Rattle.std.specs.Prelude.{◌≡◌, ◌≤◌, ◌<◌, ◌^◌, true, false, is_some, if◌then◌else◌, not, ◌&&◌, ◌==◌, ◌+◌, ◌-◌, length, take, vec_len, vec_capacity};
 ghost use Rattle.nd_table.specs.Listing.{end_in, fits, behind, announced_all, Distinct, count_after};
+ghost use Rattle.nd_table.specs.Moment.{IsMoment};
 
 use crate::announces::Announces;
 use crate::lasting::Lasting;
@@ -119,7 +120,7 @@ pub fn announce_all<K: NamesKey<K> + Copy + Drop, I: Announces<K, K> + Drop, A: 
     now: u64,
     announced: I,
 )
-    requires moment { now < 2 ^ 62 }
+    requires moment { IsMoment now }
     requires itself { (k : K) → K.named k ≡ k }
     requires fits { fits K.same limit now (I.told announced) entries.old.items ≡ true }
     requires few { vec_len entries.old ≤ limit }

@@ -1,7 +1,8 @@
 //! The ends of lifetimes. The definitions are in `specs/Ends.antt`.
 
-ghost use Rattle.std.specs.Prelude.{◌≡◌, ◌<◌, ◌^◌};
+ghost use Rattle.std.specs.Prelude.{◌≡◌, ◌<◌};
 ghost use Rattle.nd_table.specs.Ends.{end_time, is_before, time_left};
+ghost use Rattle.nd_table.specs.Moment.{IsMoment};
 
 /// A lifetime without an end, in seconds (RFC 4861, section 4.6.2).
 const INFINITY: u32 = 0xffff_ffff;
@@ -9,7 +10,7 @@ const INFINITY: u32 = 0xffff_ffff;
 /// Returns the end of a lifetime in seconds that begins at `now`; moments are in milliseconds. A lifetime of all ones has no end (RFC 4861,
 /// section 4.6.2).
 pub fn end_time(now: u64, lifetime: u32) -> Option<u64>
-    requires { now < 2 ^ 62 }
+    requires { IsMoment now }
     ensures { result ≡ end_time now lifetime }
 {
     if lifetime == INFINITY {

@@ -1,5 +1,6 @@
-ghost use Rattle.std.specs.Prelude.{◌≡◌, ◌≤◌, ◌<◌, ◌^◌, Some, false, MatchOption, length, map, is_some, vec_len, vec_capacity};
+ghost use Rattle.std.specs.Prelude.{◌≡◌, ◌≤◌, ◌<◌, Some, false, MatchOption, length, map, is_some, vec_len, vec_capacity};
 ghost use Rattle.nd_table.specs.Listing.{end_in, renewed, without, open_at, announced, enters};
+ghost use Rattle.nd_table.specs.Moment.{IsMoment};
 
 use crate::ends::{end_time, is_before};
 use crate::lasting::Lasting;
@@ -73,7 +74,7 @@ pub fn announce<K: Drop, Q: NamesKey<K>, A: Allocator>(
     key: Option<K>,
     lifetime: u32,
 )
-    requires moment { now < 2 ^ 62 }
+    requires moment { IsMoment now }
     requires named { MatchOption key (enters Q.same now (Q.named name.now) lifetime entries.old.items ≡ false) (λ k. k ≡ Q.named name.now) }
     requires room { length (announced Q.same now (Q.named name.now) lifetime entries.old.items) ≤ vec_capacity entries.old }
     ensures items { entries.new.items ≡ announced Q.same now (Q.named name.now) lifetime entries.old.items }

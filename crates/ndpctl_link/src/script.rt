@@ -1,6 +1,7 @@
 //! A link that answers lines.
 
-ghost use Rattle.std.specs.Prelude.{◌≡◌, ◌≢◌, ◌++◌, [], None, Ok, Err, OnOk, OnErr, IsErrOf, IfOk, IfSome, IfNone, ◌^◌, ◌<◌, ℕ, List, string_bytes};
+ghost use Rattle.std.specs.Prelude.{◌≡◌, ◌≢◌, [], None, Ok, Err, OnOk, IsErrOf, IfOk, IfSome, IfNone, ◌<◌, ℕ, string_bytes};
+ghost use Rattle.nd_table.specs.Moment.{IsMoment};
 ghost use Rattle.nd_lines.specs.Counts.{one_more};
 ghost use Rattle.ndpctl_run.specs.Said.{SaysNothing};
 ghost use Rattle.nd_random.specs.Source.{stream_of_source};
@@ -54,7 +55,7 @@ impl<W: Wire, A: Allocator + Copy> LinkScript<W, A> {
         event: LinkEvent<Source, A>,
         text: &mut String<B>,
     ) -> Result<(), LinkFault>
-        requires { at < 2 ^ 62 }
+        requires { IsMoment at }
         ensures answered { OnOk result (AnswersEvent W.arrives stream_of_source self.old.link self.new.link at (link_event stream_of_source event) (string_bytes text.old) (string_bytes text.new)) }
         ensures passes { IsErrOf result LinkFault.Wire → Passes stream_of_source self.old.link self.new.link at }
         ensures wire_failed { IsErrOf result LinkFault.Wire → W.failed self.new.link.wire ≡ one_more (W.failed self.old.link.wire) }

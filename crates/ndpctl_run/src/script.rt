@@ -1,6 +1,7 @@
 //! A node that answers the lines of a script.
 
-ghost use Rattle.std.specs.Prelude.{◌≡◌, None, Ok, OnOk, IfOk, IfSome, IfNone, ◌^◌, ◌<◌, ℕ, string_bytes, ⊤};
+ghost use Rattle.std.specs.Prelude.{◌≡◌, None, Ok, OnOk, IfOk, IfSome, IfNone, ◌<◌, ℕ, string_bytes, ⊤};
+ghost use Rattle.nd_table.specs.Moment.{IsMoment};
 ghost use Rattle.nd_node.specs.Event.{event_of};
 ghost use Rattle.nd_chronicle.specs.Event as events;
 ghost use Rattle.ndpctl_run.specs.Line.{IsLine};
@@ -50,7 +51,7 @@ impl<R: Rng + Drop, A: Allocator + Clone> Script<R, A> {
         event: Event<A>,
         text: &mut String<B>,
     ) -> Result<(), AllocError>
-        requires { at < 2 ^ 62 }
+        requires { IsMoment at }
         ensures { OnOk result (AnswersEvent R.stream self.old.node self.new.node at (event_of event) (string_bytes text.old) (string_bytes text.new)) }
     {
         self.outs.clear();

@@ -3,7 +3,7 @@ use Rattle.std.specs.Prelude.{nat_le}
 use Rattle.std.proofs.lemmas.Bool.{and_parts, leb-true}
 use Rattle.nd_search_list.specs.NameRef.{name_of}
 use Rattle.nd_table.specs.Listing.{fits, announced, announced_all, entered, enters}
-use Rattle.nd_dns.specs.Names.{same_name, names_to_come}
+use Rattle.nd_dns.specs.AnnouncedNames.{same_name, names_to_come}
 use Rattle.nd_dns.proofs.new_names.announce_names.Goals as goal
 use Rattle.nd_dns.proofs.new_names.announce_names.Goals.{then-enters, else-enters}
 

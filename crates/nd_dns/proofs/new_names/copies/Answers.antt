@@ -3,7 +3,7 @@ use Rattle.nd_addr.specs.Same.{bytes_tell}
 use Rattle.nd_search_list.specs.NameRef.{name_of}
 use Rattle.nd_table.specs.Listing.{entered, behind}
 use Rattle.nd_table.proofs.Behind.{entered_open, next_is}
-use Rattle.nd_dns.specs.Names.{same_name, names_to_come}
+use Rattle.nd_dns.specs.AnnouncedNames.{same_name, names_to_come}
 use Rattle.nd_dns.proofs.Adding.{one_more, some_enters, with_next}
 use Rattle.nd_dns.proofs.new_names.copies.Goals as goal
 use Rattle.nd_dns.proofs.new_names.copies.Goals.{then-enters_behind+in_ok-add, else-enters_behind}

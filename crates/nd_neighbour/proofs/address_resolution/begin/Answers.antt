@@ -1,6 +1,6 @@
 use Rattle.std.proofs.Common.{◌∙◌, ap}
 use Rattle.std.specs.List.{insert}
-use Rattle.nd_neighbour.specs.Entry.{Node}
+use Rattle.nd_neighbour.specs.Entry.{NeighbourEntry}
 use Rattle.nd_neighbour.specs.Table.{place_in}
 use Rattle.nd_neighbour.specs.Place.{Came}
 use Rattle.nd_neighbour.proofs.address_resolution.begin.Goals as goal
@@ -8,4 +8,4 @@ use Rattle.nd_neighbour.proofs.address_resolution.begin.Goals as goal
 pub returns-clause-gives : goal.returns-clause-gives
 returns-clause-gives g c =
     let enters = c.enter.ensures.enters in
-    Came enters.mid c.requires.absent enters.places (enters.new_is ∙ ap (λ (x : Node). insert enters.mid (place_in x.key enters.mid) x) c.asked-entry.ensures)
+    Came enters.mid c.requires.absent enters.places (enters.new_is ∙ ap (λ (x : NeighbourEntry). insert enters.mid (place_in x.key enters.mid) x) c.asked-entry.ensures)

@@ -5,4 +5,4 @@ pub returns-clause-still : goal.returns-clause-still
 returns-clause-still c = still_none
 
 pub returns-clause-table : goal.returns-clause-table
-returns-clause-table c nodes history now s = (by_table nodes history s now, to_table nodes history s now)
+returns-clause-table c entries history now s = (by_table entries history s now, to_table entries history s now)

@@ -1,6 +1,6 @@
 use Rattle.std.proofs.Common.{◌∙◌, ap}
 use Rattle.nd_addr.specs.Number.{number_of}
-use Rattle.nd_neighbour.specs.Entry.{stale_node}
+use Rattle.nd_neighbour.specs.Entry.{stale_entry}
 use Rattle.nd_neighbour.proofs.Finds.{was_there, not_full, came_in}
 use Rattle.nd_neighbour.proofs.link_layer_address.give_or_enter.Goals as goal
 
@@ -15,5 +15,5 @@ returns-in-Ok-clause-full g c =
 pub returns-clause-gives : goal.returns-clause-gives
 returns-clause-gives g c =
     came_in c.args.limit c.args.now (number_of c.args.addr.0) _ _ c.deref.ensures.value c.in-Err.ensures.absent _ _ _ _ _
-    (c.stale-entry.ensures ∙ ap (λ b. stale_node (number_of c.args.addr.0) b c.args.now (number_of c.args.mac.0)) c.unwrap_or.ensures)
+    (c.stale-entry.ensures ∙ ap (λ b. stale_entry (number_of c.args.addr.0) b c.args.now (number_of c.args.mac.0)) c.unwrap_or.ensures)
     c.enter.ensures.enters.places c.enter.ensures.enters.new_is

@@ -2,7 +2,7 @@ use Rattle.std.proofs.Common.{◌<◌, ◌∙◌, length, ap, sym, arith}
 use Rattle.nd_addr.specs.Number.{number_of}
 use Rattle.nd_table.proofs.Keyed.{place_of-le}
 use Rattle.nd_table.proofs.Stays.{no_date}
-use Rattle.nd_neighbour.specs.Table.{address, node_in}
+use Rattle.nd_neighbour.specs.Table.{address, entry_in}
 use Rattle.nd_neighbour.specs.Due.{date_of}
 use Rattle.nd_neighbour.proofs.Planning.{absent_then, came_planned, came_room}
 use Rattle.nd_neighbour.proofs.place.enter.Goals as goal
@@ -20,7 +20,7 @@ pub change-requires-clause-was : goal.change-requires-clause-was
 change-requires-clause-was g c =
     let mid = c.make_place-at.new.entries.items in
     let key = number_of c.addr-addr.result.0 in
-    let absent = absent_then c.args.limit c.args.now key c.args.entries.now.items mid c.requires.planned.order (ap (λ k. node_in k c.args.entries.now.items) c.addr-addr.ensures ∙ c.requires.absent) c.make_place-at.ensures.places in
+    let absent = absent_then c.args.limit c.args.now key c.args.entries.now.items mid c.requires.planned.order (ap (λ k. entry_in k c.args.entries.now.items) c.addr-addr.ensures ∙ c.requires.absent) c.make_place-at.ensures.places in
     no_date address key mid date_of c.make_place-at.new.dates.dates absent c.make_place-at.ensures.planned.dates
 
 pub change-requires-clause-room : goal.change-requires-clause-room

@@ -1,7 +1,7 @@
 use Rattle.std.proofs.Common.{◌≡◌, ◌<◌, ◌∙◌, sym, subst, List, length, arith}
 use Rattle.std.specs.Prelude.{slice_get}
 use Rattle.nd_addr.specs.Number.{number_of}
-use Rattle.nd_neighbour.specs.Entry.{Node}
+use Rattle.nd_neighbour.specs.Entry.{NeighbourEntry}
 use Rattle.nd_neighbour.specs.Place.{stalest}
 use Rattle.nd_neighbour.proofs.Planning.{goes_date, removed_planned, place_before, place_behind, no_room}
 use Rattle.nd_neighbour.proofs.Places.{went_out}
@@ -13,7 +13,7 @@ change-requires-clause-was g c =
     let old = c.args.entries.now.items in
     let i = c.in-Some.i in
     let n = c.remove-gone.result in
-    let within : i < length old = subst (λ (l : List Node). i < length l) c.deref.ensures.value c.in-Some.ensures.within in
+    let within : i < length old = subst (λ (l : List NeighbourEntry). i < length l) c.deref.ensures.value c.in-Some.ensures.within in
     goes_date (number_of c.addr.result.0) i old old n c.args.dates.now c.args.dates.now c.requires.planned within c.remove-gone.ensures.value (sym c.addr.ensures) c.date.result c.date.ensures
 
 pub change-requires-clause-room : goal.change-requires-clause-room
@@ -23,8 +23,8 @@ pub returns-clause-places : goal.returns-clause-places
 returns-clause-places g c =
     let old = c.args.entries.now.items in
     let i = c.in-Some.i in
-    let within : i < length old = subst (λ (l : List Node). i < length l) c.deref.ensures.value c.in-Some.ensures.within in
-    let first : slice_get old i ≡ stalest c.args.now old = subst (λ (l : List Node). slice_get l i ≡ stalest c.args.now l) c.deref.ensures.value c.in-Some.ensures.stalest in
+    let within : i < length old = subst (λ (l : List NeighbourEntry). i < length l) c.deref.ensures.value c.in-Some.ensures.within in
+    let first : slice_get old i ≡ stalest c.args.now old = subst (λ (l : List NeighbourEntry). slice_get l i ≡ stalest c.args.now l) c.deref.ensures.value c.in-Some.ensures.stalest in
     went_out c.args.limit c.args.now old _ i c.remove-gone.result (omega (arith, c.args.entries.now.ok.0)) within c.remove-gone.ensures.value first c.remove-gone.ensures.items
 
 pub returns-clause-planned : goal.returns-clause-planned
@@ -32,7 +32,7 @@ returns-clause-planned g c =
     let old = c.args.entries.now.items in
     let i = c.in-Some.i in
     let n = c.remove-gone.result in
-    let within : i < length old = subst (λ (l : List Node). i < length l) c.deref.ensures.value c.in-Some.ensures.within in
+    let within : i < length old = subst (λ (l : List NeighbourEntry). i < length l) c.deref.ensures.value c.in-Some.ensures.within in
     removed_planned (number_of c.addr.result.0) i old c.remove-gone.new.self.items n c.args.dates.now c.change.new.self c.requires.planned within c.remove-gone.ensures.value (sym c.addr.ensures) c.remove-gone.ensures.items c.change.ensures.dates c.change.ensures.room
 
 pub returns-clause-at : goal.returns-clause-at
@@ -41,7 +41,7 @@ returns-clause-at g c =
     let old = c.args.entries.now.items in
     let i = c.in-Some.i in
     let n = c.remove-gone.result in
-    let within : i < length old = subst (λ (l : List Node). i < length l) c.deref.ensures.value c.in-Some.ensures.within in
+    let within : i < length old = subst (λ (l : List NeighbourEntry). i < length l) c.deref.ensures.value c.in-Some.ensures.within in
     elim (c.if-i-at.branch) [
       | then-i-at w ↦ w.place-is ∙ place_before key i old c.remove-gone.new.self.items n c.requires.planned.order within c.remove-gone.ensures.value c.requires.absent c.remove-gone.ensures.items c.args.at c.requires.at w.if-i-at.true
       | else-i-at w ↦ w.place-is ∙ place_behind key i old c.remove-gone.new.self.items n c.requires.planned.order within c.remove-gone.ensures.value c.requires.absent c.remove-gone.ensures.items c.args.at c.requires.at w.if-i-at.false

@@ -2,8 +2,8 @@ use Rattle.std.proofs.Common.{◌<◌, ◌≡◌, List, length, subst}
 use Rattle.std.specs.Prelude.{slice_get}
 use Rattle.nd_addr.specs.Number.{number_of}
 use Rattle.nd_table.proofs.Keyed.{key_is}
-use Rattle.nd_neighbour.specs.Entry.{Node}
-use Rattle.nd_neighbour.specs.Table.{address, node_in}
+use Rattle.nd_neighbour.specs.Entry.{NeighbourEntry}
+use Rattle.nd_neighbour.specs.Table.{address, entry_in}
 use Rattle.nd_neighbour.proofs.Planning.{goes_date, removed_planned, no_room}
 use Rattle.nd_neighbour.proofs.Finds.{taken_out, taken_waits, found_is}
 use Rattle.nd_neighbour.proofs.removal.remove.Goals as goal
@@ -22,8 +22,8 @@ change-requires-clause-was g c =
     let old = c.args.entries.now.items in
     let i = c.in-Some.i in
     let n = c.remove-entry.result in
-    let within : i < length old = subst (λ (l : List Node). i < length l) c.deref.ensures.value c.in-Some.ensures.within in
-    let found : node_in key old ≡ slice_get old i = subst (λ (l : List Node). node_in key l ≡ slice_get l i) c.deref.ensures.value c.in-Some.ensures.found in
+    let within : i < length old = subst (λ (l : List NeighbourEntry). i < length l) c.deref.ensures.value c.in-Some.ensures.within in
+    let found : entry_in key old ≡ slice_get old i = subst (λ (l : List NeighbourEntry). entry_in key l ≡ slice_get l i) c.deref.ensures.value c.in-Some.ensures.found in
     goes_date key i old old n c.args.dates.now c.args.dates.now c.requires.planned within c.remove-entry.ensures.value
     (key_is address key old n (found_is key old i n within c.remove-entry.ensures.value found)) c.date.result c.date.ensures
 
@@ -36,7 +36,7 @@ returns-clause-planned g c =
     let old = c.args.entries.now.items in
     let i = c.in-Some.i in
     let n = c.remove-entry.result in
-    let within : i < length old = subst (λ (l : List Node). i < length l) c.deref.ensures.value c.in-Some.ensures.within in
-    let found : node_in key old ≡ slice_get old i = subst (λ (l : List Node). node_in key l ≡ slice_get l i) c.deref.ensures.value c.in-Some.ensures.found in
+    let within : i < length old = subst (λ (l : List NeighbourEntry). i < length l) c.deref.ensures.value c.in-Some.ensures.within in
+    let found : entry_in key old ≡ slice_get old i = subst (λ (l : List NeighbourEntry). entry_in key l ≡ slice_get l i) c.deref.ensures.value c.in-Some.ensures.found in
     removed_planned key i old c.remove-entry.new.self.items n c.args.dates.now c.change.new.self c.requires.planned within c.remove-entry.ensures.value
     (key_is address key old n (found_is key old i n within c.remove-entry.ensures.value found)) c.remove-entry.ensures.items c.change.ensures.dates c.change.ensures.room

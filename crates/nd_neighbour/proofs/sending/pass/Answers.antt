@@ -1,6 +1,6 @@
 use Rattle.std.proofs.Common.{◌∙◌, sym, ap, refl, Option}
 use Rattle.nd_addr.specs.Number.{number_of}
-use Rattle.nd_neighbour.specs.Entry.{Node}
+use Rattle.nd_neighbour.specs.Entry.{NeighbourEntry}
 use Rattle.nd_neighbour.specs.Sending.{used, sending_in}
 use Rattle.nd_neighbour.proofs.PacketCalls.{used_key}
 use Rattle.nd_neighbour.proofs.Finds.{alters, there}
@@ -13,7 +13,7 @@ returns-clause-alters g c =
 
 pub returns-clause-sending : goal.returns-clause-sending
 returns-clause-sending g c =
-    c.send-sent.ensures.sending ∙ sym (ap (λ (o : Option Node). sending_in o c.args.packet)
+    c.send-sent.ensures.sending ∙ sym (ap (λ (o : Option NeighbourEntry). sending_in o c.args.packet)
     (there (number_of c.args.addr.0) (λ n. used c.args.now c.args.retrans c.args.packet n) c.args.entries.now.items c.args.entries.now.items c.args.i c.index_mut-entry.result.now c.send-sent.new.self refl c.requires.within c.requires.found c.index_mut-entry.ensures.value c.send-sent.ensures.entry))
 
 pub change-requires-clause-was : goal.change-requires-clause-was

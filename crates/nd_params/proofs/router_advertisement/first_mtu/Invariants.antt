@@ -1,6 +1,6 @@
 use Rattle.std.proofs.Common.{◌≡◌, length}
 use Rattle.nd_decode.specs.Pieces.{options_left}
-use Rattle.nd_params.specs.History.{first_mtu}
+use Rattle.nd_params.specs.RouterAdvertisement.{first_mtu}
 use Rattle.nd_params.proofs.router_advertisement.first_mtu.Given as goal
 
 -- the first of the rest is the first of all

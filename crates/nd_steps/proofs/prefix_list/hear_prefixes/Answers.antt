@@ -1,5 +1,5 @@
 use Rattle.nd_decode.specs.Pieces.{options_left}
-use Rattle.nd_routers.specs.PrefixOptions.{prefixes_in}
+use Rattle.nd_routers.specs.OnLinkPrefixes.{prefixes_in}
 use Rattle.nd_steps.proofs.Refreshed.{kept_redirects, linked}
 use Rattle.nd_steps.proofs.prefix_list.hear_prefixes.Goals as goal
 

@@ -6,7 +6,7 @@ use Rattle.nd_table.specs.Listing.{fits}
 use Rattle.nd_table.proofs.Behind.{fits_open}
 use Rattle.nd_table.proofs.UniqueKeys.{one_listing}
 use Rattle.nd_dns.specs.Dns.{Table}
-use Rattle.nd_dns.specs.Servers.{servers_told}
+use Rattle.nd_dns.specs.AnnouncedServers.{servers_told}
 use Rattle.nd_dns.proofs.Few.{few_servers}
 use Rattle.nd_dns.proofs.dns.Dns.fits_servers.Goals as goal
 

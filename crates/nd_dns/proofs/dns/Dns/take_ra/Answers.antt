@@ -7,8 +7,8 @@ use Rattle.nd_table.specs.Listing.{Distinct, Stands, announced_all, then_announc
 use Rattle.nd_table.proofs.Behind.{Distinct-all}
 use Rattle.nd_table.proofs.Steps.{gains_all}
 use Rattle.nd_dns.specs.Dns.{Table}
-use Rattle.nd_dns.specs.Servers.{servers_told, servers_to_come}
-use Rattle.nd_dns.specs.Names.{same_name, names_told, names_to_come}
+use Rattle.nd_dns.specs.AnnouncedServers.{servers_told, servers_to_come}
+use Rattle.nd_dns.specs.AnnouncedNames.{same_name, names_told, names_to_come}
 use Rattle.nd_dns.proofs.dns.Dns.take_ra.Goals as goal
 
 pub invariant_of-self : goal.invariant_of-self

@@ -9,5 +9,5 @@ pub returns-clause-stands : goal.returns-clause-stands
 returns-clause-stands g c =
     let key = number_of c.args.addr.0 in
     let new = c.confirm.new.entries.items in
-    confirmed_gains key c.args.now c.args.reachable c.args.self.now.nodes new
-    (subst (λ (t : Table). Alters key (λ n. confirmed c.args.now c.args.reachable n) t.nodes new) c.self.view_is c.confirm.ensures.alters)
+    confirmed_gains key c.args.now c.args.reachable c.args.self.now.entries new
+    (subst (λ (t : Table). Alters key (λ n. confirmed c.args.now c.args.reachable n) t.entries new) c.self.view_is c.confirm.ensures.alters)

@@ -3,10 +3,10 @@ use Rattle.std.specs.Prelude.{OnOk, IfOk}
 use Rattle.std.specs.Option.{option_map}
 use Rattle.std.proofs.lemmas.Result.{on_ok_weaker, IfOk-weaker}
 use Rattle.nd_addr.specs.Number.{number_of}
-use Rattle.nd_neighbour.specs.Entry.{Node, with_mark, stale_node}
+use Rattle.nd_neighbour.specs.Entry.{NeighbourEntry, with_mark, stale_entry}
 use Rattle.nd_neighbour.specs.LinkLayerAddress.{given, mark_or}
 use Rattle.nd_neighbour.specs.NeighborAdvertisement.{advertised}
-use Rattle.nd_neighbour.specs.Table.{Table, node_in, Alters}
+use Rattle.nd_neighbour.specs.Table.{Table, entry_in, Alters}
 use Rattle.nd_neighbour.specs.Place.{Gives}
 use Rattle.nd_neighbour.specs.News.{told_released, told_turned, was_known}
 use Rattle.nd_neighbour.proofs.Results.{if_ok_both}
@@ -21,80 +21,80 @@ returns-in-Given-clause-stands g c =
     let mac = number_of c.in-Given.mac.0 in
     let mark = c.in-Given.mark in
     let new = c.give_or_enter.new.entries.items in
-    rw c.in-Given.is (on_ok_weaker c.give_or_enter.result (λ gives. record { stands = given_hears c.args.self.now.limit c.args.now key mac mark c.args.self.now.nodes new gives })
-    (subst (λ (t : Table). OnOk c.give_or_enter.result (Gives t.limit c.args.now key (λ n. given c.args.now mac mark n) (stale_node key (mark_or mark false) c.args.now mac) t.nodes new)) c.self.view_is c.give_or_enter.ensures.gives))
+    rw c.in-Given.is (on_ok_weaker c.give_or_enter.result (λ gives. record { stands = given_hears c.args.self.now.limit c.args.now key mac mark c.args.self.now.entries new gives })
+    (subst (λ (t : Table). OnOk c.give_or_enter.result (Gives t.limit c.args.now key (λ n. given c.args.now mac mark n) (stale_entry key (mark_or mark false) c.args.now mac) t.entries new)) c.self.view_is c.give_or_enter.ensures.gives))
 
 pub returns-in-Given-clause-told : goal.returns-in-Given-clause-told
 returns-in-Given-clause-told g c =
     let key = number_of c.in-Given.addr.0 in
     let mac = number_of c.in-Given.mac.0 in
     let mark = c.in-Given.mark in
-    rw c.in-Given.is (if_ok_both c.give_or_enter.result _ _ _ (λ t p q. given_tells key c.args.now mac mark c.args.self.now.nodes t.released t.ends_router p q)
-    (subst (λ (t : Table). IfOk c.give_or_enter.result (λ touched. touched.released ≡ told_released (λ n. given c.args.now mac mark n) (node_in key t.nodes))) c.self.view_is c.give_or_enter.ensures.released)
-    (subst (λ (t : Table). IfOk c.give_or_enter.result (λ touched. touched.ends_router ≡ told_turned (λ n. given c.args.now mac mark n) (node_in key t.nodes))) c.self.view_is c.give_or_enter.ensures.ends_router))
+    rw c.in-Given.is (if_ok_both c.give_or_enter.result _ _ _ (λ t p q. given_tells key c.args.now mac mark c.args.self.now.entries t.released t.ends_router p q)
+    (subst (λ (t : Table). IfOk c.give_or_enter.result (λ touched. touched.released ≡ told_released (λ n. given c.args.now mac mark n) (entry_in key t.entries))) c.self.view_is c.give_or_enter.ensures.released)
+    (subst (λ (t : Table). IfOk c.give_or_enter.result (λ touched. touched.ends_router ≡ told_turned (λ n. given c.args.now mac mark n) (entry_in key t.entries))) c.self.view_is c.give_or_enter.ensures.ends_router))
 
 pub returns-in-Advert-clause-stands : goal.returns-in-Advert-clause-stands
 returns-in-Advert-clause-stands g c =
     let key = number_of c.in-Advert.addr.0 in
     let mac = option_map (λ m. number_of m.0) c.in-Advert.mac in
     let new = c.advertise.new.entries.items in
-    let gains = advertised_gains key c.args.now c.in-Advert.flags mac c.args.times.reachable c.args.self.now.nodes new
-    (subst (λ (t : Table). Alters key (λ n. advertised c.args.now c.in-Advert.flags mac c.args.times.reachable n) t.nodes new) c.self.view_is c.advertise.ensures.alters) in
+    let gains = advertised_gains key c.args.now c.in-Advert.flags mac c.args.times.reachable c.args.self.now.entries new
+    (subst (λ (t : Table). Alters key (λ n. advertised c.args.now c.in-Advert.flags mac c.args.times.reachable n) t.entries new) c.self.view_is c.advertise.ensures.alters) in
     rw c.in-Advert.is (record { stands = λ history s. (history, refl, gains.stands history s) })
 
 pub returns-in-Advert-clause-told : goal.returns-in-Advert-clause-told
 returns-in-Advert-clause-told g c =
     let key = number_of c.in-Advert.addr.0 in
     let mac = option_map (λ m. number_of m.0) c.in-Advert.mac in
-    rw c.in-Advert.is (advertised_tells key c.args.now c.in-Advert.flags mac c.args.times.reachable c.args.self.now.nodes c.advertise.result.released c.advertise.result.ends_router
-    (subst (λ (t : Table). c.advertise.result.released ≡ told_released (λ n. advertised c.args.now c.in-Advert.flags mac c.args.times.reachable n) (node_in key t.nodes)) c.self.view_is c.advertise.ensures.released)
-    (subst (λ (t : Table). c.advertise.result.ends_router ≡ told_turned (λ n. advertised c.args.now c.in-Advert.flags mac c.args.times.reachable n) (node_in key t.nodes)) c.self.view_is c.advertise.ensures.ends_router))
+    rw c.in-Advert.is (advertised_tells key c.args.now c.in-Advert.flags mac c.args.times.reachable c.args.self.now.entries c.advertise.result.released c.advertise.result.ends_router
+    (subst (λ (t : Table). c.advertise.result.released ≡ told_released (λ n. advertised c.args.now c.in-Advert.flags mac c.args.times.reachable n) (entry_in key t.entries)) c.self.view_is c.advertise.ensures.released)
+    (subst (λ (t : Table). c.advertise.result.ends_router ≡ told_turned (λ n. advertised c.args.now c.in-Advert.flags mac c.args.times.reachable n) (entry_in key t.entries)) c.self.view_is c.advertise.ensures.ends_router))
 
 pub returns-in-Marked-clause-stands : goal.returns-in-Marked-clause-stands
 returns-in-Marked-clause-stands g c =
     let key = number_of c.in-Marked.addr.0 in
     let new = c.mark.new.entries.items in
-    let gains = marked_gains key c.args.now c.in-Marked.router c.args.self.now.nodes new
-    (subst (λ (t : Table). Alters key (λ n. with_mark c.in-Marked.router n) t.nodes new) c.self.view_is c.mark.ensures.alters) in
+    let gains = marked_gains key c.args.now c.in-Marked.router c.args.self.now.entries new
+    (subst (λ (t : Table). Alters key (λ n. with_mark c.in-Marked.router n) t.entries new) c.self.view_is c.mark.ensures.alters) in
     rw c.in-Marked.is (record { stands = λ history s. (history, refl, gains.stands history s) })
 
 pub returns-in-Marked-clause-told : goal.returns-in-Marked-clause-told
 returns-in-Marked-clause-told g c =
     let key = number_of c.in-Marked.addr.0 in
-    rw c.in-Marked.is (marked_tells key c.args.now c.in-Marked.router c.args.self.now.nodes c.mark.result.released c.mark.result.ends_router
-    (subst (λ (t : Table). c.mark.result.released ≡ told_released (λ n. with_mark c.in-Marked.router n) (node_in key t.nodes)) c.self.view_is c.mark.ensures.released)
-    (subst (λ (t : Table). c.mark.result.ends_router ≡ told_turned (λ n. with_mark c.in-Marked.router n) (node_in key t.nodes)) c.self.view_is c.mark.ensures.ends_router))
+    rw c.in-Marked.is (marked_tells key c.args.now c.in-Marked.router c.args.self.now.entries c.mark.result.released c.mark.result.ends_router
+    (subst (λ (t : Table). c.mark.result.released ≡ told_released (λ n. with_mark c.in-Marked.router n) (entry_in key t.entries)) c.self.view_is c.mark.ensures.released)
+    (subst (λ (t : Table). c.mark.result.ends_router ≡ told_turned (λ n. with_mark c.in-Marked.router n) (entry_in key t.entries)) c.self.view_is c.mark.ensures.ends_router))
 
 pub returns-in-Given-clause-there : goal.returns-in-Given-clause-there
 returns-in-Given-clause-there g c =
     let key = number_of c.in-Given.addr.0 in
     let mac = number_of c.in-Given.mac.0 in
     let mark = c.in-Given.mark in
-    let change : Node → Node = λ n. given c.args.now mac mark n in
+    let change : NeighbourEntry → NeighbourEntry = λ n. given c.args.now mac mark n in
     let new = c.give_or_enter.new.entries.items in
-    rw c.in-Given.is (on_ok_weaker c.give_or_enter.result (λ gives _. gives_there c.args.self.now.limit c.args.now key change (stale_node key (mark_or mark false) c.args.now mac) c.args.self.now.nodes new (λ n. given_key c.args.now mac mark n n.stage) refl gives)
-    (subst (λ (t : Table). OnOk c.give_or_enter.result (Gives t.limit c.args.now key change (stale_node key (mark_or mark false) c.args.now mac) t.nodes new)) c.self.view_is c.give_or_enter.ensures.gives))
+    rw c.in-Given.is (on_ok_weaker c.give_or_enter.result (λ gives _. gives_there c.args.self.now.limit c.args.now key change (stale_entry key (mark_or mark false) c.args.now mac) c.args.self.now.entries new (λ n. given_key c.args.now mac mark n n.stage) refl gives)
+    (subst (λ (t : Table). OnOk c.give_or_enter.result (Gives t.limit c.args.now key change (stale_entry key (mark_or mark false) c.args.now mac) t.entries new)) c.self.view_is c.give_or_enter.ensures.gives))
 
 pub returns-in-Given-clause-few : goal.returns-in-Given-clause-few
 returns-in-Given-clause-few g c =
     let key = number_of c.in-Given.addr.0 in
-    let change : Node → Node = λ n. given c.args.now (number_of c.in-Given.mac.0) c.in-Given.mark n in
-    rw c.in-Given.is (IfOk-weaker c.give_or_enter.result _ _ (λ t p. few_released change (node_in key c.args.self.now.nodes) t.released p)
-    (subst (λ (t : Table). IfOk c.give_or_enter.result (λ touched. touched.released ≡ told_released change (node_in key t.nodes))) c.self.view_is c.give_or_enter.ensures.released))
+    let change : NeighbourEntry → NeighbourEntry = λ n. given c.args.now (number_of c.in-Given.mac.0) c.in-Given.mark n in
+    rw c.in-Given.is (IfOk-weaker c.give_or_enter.result _ _ (λ t p. few_released change (entry_in key c.args.self.now.entries) t.released p)
+    (subst (λ (t : Table). IfOk c.give_or_enter.result (λ touched. touched.released ≡ told_released change (entry_in key t.entries))) c.self.view_is c.give_or_enter.ensures.released))
 
 pub returns-in-Advert-clause-few : goal.returns-in-Advert-clause-few
 returns-in-Advert-clause-few g c =
     let key = number_of c.in-Advert.addr.0 in
-    let change : Node → Node = λ n. advertised c.args.now c.in-Advert.flags (option_map (λ m. number_of m.0) c.in-Advert.mac) c.args.times.reachable n in
-    rw c.in-Advert.is (few_released change (node_in key c.args.self.now.nodes) c.advertise.result.released
-    (subst (λ (t : Table). c.advertise.result.released ≡ told_released change (node_in key t.nodes)) c.self.view_is c.advertise.ensures.released))
+    let change : NeighbourEntry → NeighbourEntry = λ n. advertised c.args.now c.in-Advert.flags (option_map (λ m. number_of m.0) c.in-Advert.mac) c.args.times.reachable n in
+    rw c.in-Advert.is (few_released change (entry_in key c.args.self.now.entries) c.advertise.result.released
+    (subst (λ (t : Table). c.advertise.result.released ≡ told_released change (entry_in key t.entries)) c.self.view_is c.advertise.ensures.released))
 
 pub returns-in-Marked-clause-few : goal.returns-in-Marked-clause-few
 returns-in-Marked-clause-few g c =
     let key = number_of c.in-Marked.addr.0 in
-    let change : Node → Node = λ n. with_mark c.in-Marked.router n in
-    rw c.in-Marked.is (few_released change (node_in key c.args.self.now.nodes) c.mark.result.released
-    (subst (λ (t : Table). c.mark.result.released ≡ told_released change (node_in key t.nodes)) c.self.view_is c.mark.ensures.released))
+    let change : NeighbourEntry → NeighbourEntry = λ n. with_mark c.in-Marked.router n in
+    rw c.in-Marked.is (few_released change (entry_in key c.args.self.now.entries) c.mark.result.released
+    (subst (λ (t : Table). c.mark.result.released ≡ told_released change (entry_in key t.entries)) c.self.view_is c.mark.ensures.released))
 
 pub invariant_of-self-in-Marked : goal.invariant_of-self-in-Marked
 invariant_of-self-in-Marked g c =
@@ -109,12 +109,12 @@ invariant_of-self-in-Marked g c =
 
 pub returns-in-Given-clause-was_known : goal.returns-in-Given-clause-was_known
 returns-in-Given-clause-was_known g c =
-    rw c.in-Given.is (subst (λ (t : Table). IfOk c.give_or_enter.result (λ touched. touched.was_known ≡ was_known (node_in (number_of c.in-Given.addr.0) t.nodes))) c.self.view_is c.give_or_enter.ensures.was_known)
+    rw c.in-Given.is (subst (λ (t : Table). IfOk c.give_or_enter.result (λ touched. touched.was_known ≡ was_known (entry_in (number_of c.in-Given.addr.0) t.entries))) c.self.view_is c.give_or_enter.ensures.was_known)
 
 pub returns-in-Advert-clause-was_known : goal.returns-in-Advert-clause-was_known
 returns-in-Advert-clause-was_known g c =
-    rw c.in-Advert.is (subst (λ (t : Table). c.advertise.result.was_known ≡ was_known (node_in (number_of c.in-Advert.addr.0) t.nodes)) c.self.view_is c.advertise.ensures.was_known)
+    rw c.in-Advert.is (subst (λ (t : Table). c.advertise.result.was_known ≡ was_known (entry_in (number_of c.in-Advert.addr.0) t.entries)) c.self.view_is c.advertise.ensures.was_known)
 
 pub returns-in-Marked-clause-was_known : goal.returns-in-Marked-clause-was_known
 returns-in-Marked-clause-was_known g c =
-    rw c.in-Marked.is (subst (λ (t : Table). c.mark.result.was_known ≡ was_known (node_in (number_of c.in-Marked.addr.0) t.nodes)) c.self.view_is c.mark.ensures.was_known)
+    rw c.in-Marked.is (subst (λ (t : Table). c.mark.result.was_known ≡ was_known (entry_in (number_of c.in-Marked.addr.0) t.entries)) c.self.view_is c.mark.ensures.was_known)

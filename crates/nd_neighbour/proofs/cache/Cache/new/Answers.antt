@@ -1,13 +1,13 @@
 use Rattle.std.proofs.Common.{◌≡◌, List, [], ap, sym, subst, arith, rules}
 use Rattle.nd_table.specs.Dates.{Planned, has}
-use Rattle.nd_neighbour.specs.Entry.{Node}
+use Rattle.nd_neighbour.specs.Entry.{NeighbourEntry}
 use Rattle.nd_neighbour.specs.Planned.{IsPlanned}
 use Rattle.nd_neighbour.specs.Table.{Stands}
 use Rattle.nd_neighbour.proofs.cache.Cache.new.Goals as goal
 
 -- an empty cache has no dates, and stands for no history
-none_planned : (nodes : List Node) (planned : Planned) → nodes ≡ [] → planned.dates ≡ [] → IsPlanned nodes planned
-none_planned nodes planned none empty = subst (λ (l : List Node). IsPlanned l planned) (sym none) (record {
+none_planned : (entries : List NeighbourEntry) (planned : Planned) → entries ≡ [] → planned.dates ≡ [] → IsPlanned entries planned
+none_planned entries planned none empty = subst (λ (l : List NeighbourEntry). IsPlanned l planned) (sym none) (record {
   order = tt;
   dates = record { each = λ moment k. ap (has moment k) empty };
   room = omega arith;
@@ -27,4 +27,4 @@ invariant_of-result g c = (
 )
 
 pub returns-clause-stands : goal.returns-clause-stands
-returns-clause-stands g c = subst (λ (l : List Node). Stands l []) (sym c.in_ok-entries.ensures.items) none_stand
+returns-clause-stands g c = subst (λ (l : List NeighbourEntry). Stands l []) (sym c.in_ok-entries.ensures.items) none_stand

@@ -2,7 +2,7 @@ use Rattle.std.proofs.Common.{◌≡◌, ◌∙◌, sym, ap, subst, Bool, true, 
 use Rattle.std.specs.Prelude.{◌↔◌}
 use Rattle.std.specs.Option.{option_map}
 use Rattle.nd_addr.specs.Number.{number_of}
-use Rattle.nd_neighbour.specs.Entry.{Node}
+use Rattle.nd_neighbour.specs.Entry.{NeighbourEntry}
 use Rattle.nd_neighbour.specs.Table.{Table}
 use Rattle.nd_neighbour.specs.Room.{HasRoom, has_room}
 use Rattle.nd_neighbour.proofs.Second.{room_by_history}
@@ -13,7 +13,7 @@ returns-clause-history g c = λ history s.
     let key = number_of c.args.addr.0 in
     let then' = option_map (λ next. number_of next.0) c.args.then in
     let table = c.args.self.now in
-    let is : c.has_room.result ≡ has_room table.limit c.args.now key then' table.nodes = c.has_room.ensures
-    ∙ (ap (λ (l : List Node). has_room c.self.inside.limit c.args.now key then' l) c.deref.ensures.value
-    ∙ ap (λ (t : Table). has_room t.limit c.args.now key then' t.nodes) c.self.view_is) in
-    subst (λ (b : Bool). (b ≡ true) ↔ HasRoom table.limit c.args.now key then' history) (sym is) (room_by_history table.limit c.args.now key table.nodes history s then')
+    let is : c.has_room.result ≡ has_room table.limit c.args.now key then' table.entries = c.has_room.ensures
+    ∙ (ap (λ (l : List NeighbourEntry). has_room c.self.inside.limit c.args.now key then' l) c.deref.ensures.value
+    ∙ ap (λ (t : Table). has_room t.limit c.args.now key then' t.entries) c.self.view_is) in
+    subst (λ (b : Bool). (b ≡ true) ↔ HasRoom table.limit c.args.now key then' history) (sym is) (room_by_history table.limit c.args.now key table.entries history s then')

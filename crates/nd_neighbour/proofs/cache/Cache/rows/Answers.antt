@@ -8,5 +8,5 @@ use Rattle.nd_neighbour.proofs.cache.Cache.rows.Goals as goal
 pub returns-clause-lists : goal.returns-clause-lists
 returns-clause-lists g c = λ history s.
     let now = c.args.now in
-    lists_all now c.args.self.now.nodes history (neighbours_left c.new.result)
-    (c.new.ensures ∙ (ap (map (seen now)) c.deref.ensures.value ∙ ap (λ (t : Table). map (seen now) t.nodes) c.self.view_is)) s
+    lists_all now c.args.self.now.entries history (neighbours_left c.new.result)
+    (c.new.ensures ∙ (ap (map (seen now)) c.deref.ensures.value ∙ ap (λ (t : Table). map (seen now) t.entries) c.self.view_is)) s

@@ -2,9 +2,9 @@ use Rattle.std.specs.Prelude.{is_some}
 use Rattle.std.proofs.lemmas.Bool.{cond-true}
 use Rattle.std.proofs.Common.{◌≡◌, ◌-◌, ◌∙◌, sym, ap, subst, Option, None}
 use Rattle.nd_addr.specs.Number.{number_of}
-use Rattle.nd_neighbour.specs.Entry.{Node}
-use Rattle.nd_neighbour.specs.AddressResolution.{asked_node}
-use Rattle.nd_neighbour.specs.Table.{Table, node_in, Alters}
+use Rattle.nd_neighbour.specs.Entry.{NeighbourEntry}
+use Rattle.nd_neighbour.specs.AddressResolution.{asked_entry}
+use Rattle.nd_neighbour.specs.Table.{Table, entry_in, Alters}
 use Rattle.nd_neighbour.specs.Place.{Gives}
 use Rattle.nd_neighbour.specs.Sending.{used, sending_in}
 use Rattle.nd_neighbour.specs.View.{sending_of}
@@ -16,76 +16,76 @@ use Rattle.nd_neighbour.proofs.cache.Cache.used.Goals as goal
 pub returns-in-Ok-clause-stands : goal.returns-in-Ok-clause-stands
 returns-in-Ok-clause-stands g c =
     let key = number_of c.args.addr.0 in
-    let old = c.args.self.now.nodes in
+    let old = c.args.self.now.entries in
     let new = c.pass.new.entries.items in
-    let change : Node → Node = λ n. used c.args.now c.args.times.retrans c.args.packet n in
+    let change : NeighbourEntry → NeighbourEntry = λ n. used c.args.now c.args.times.retrans c.args.packet n in
     takes_packet key c.args.now c.args.times.retrans c.args.packet c.args.self.now.limit old new
-    (was_there c.args.self.now.limit c.args.now key old c.deref.result.now c.in-Ok.i (c.deref.ensures.value ∙ ap (λ (t : Table). t.nodes) c.self.view_is) c.in-Ok.ensures.within c.in-Ok.ensures.found
-    change (asked_node key c.args.now c.args.times.retrans c.args.packet) new (subst (λ (t : Table). Alters key change t.nodes new) c.self.view_is c.pass.ensures.alters))
+    (was_there c.args.self.now.limit c.args.now key old c.deref.result.now c.in-Ok.i (c.deref.ensures.value ∙ ap (λ (t : Table). t.entries) c.self.view_is) c.in-Ok.ensures.within c.in-Ok.ensures.found
+    change (asked_entry key c.args.now c.args.times.retrans c.args.packet) new (subst (λ (t : Table). Alters key change t.entries new) c.self.view_is c.pass.ensures.alters))
 
 pub returns-in-Ok-clause-value : goal.returns-in-Ok-clause-value
 returns-in-Ok-clause-value g c =
-    subst (λ (t : Table). sending_of c.pass.result ≡ sending_in (node_in (number_of c.args.addr.0) t.nodes) c.args.packet) c.self.view_is c.pass.ensures.sending
+    subst (λ (t : Table). sending_of c.pass.result ≡ sending_in (entry_in (number_of c.args.addr.0) t.entries) c.args.packet) c.self.view_is c.pass.ensures.sending
 
 pub returns-in-Ok-clause-sending : goal.returns-in-Ok-clause-sending
 returns-in-Ok-clause-sending g c = λ history s.
     let key = number_of c.args.addr.0 in
-    subst (λ (t : Table). sending_of c.pass.result ≡ sending_in (node_in key t.nodes) c.args.packet) c.self.view_is c.pass.ensures.sending
-    ∙ sending_by_history key c.args.packet c.args.self.now.nodes history s
+    subst (λ (t : Table). sending_of c.pass.result ≡ sending_in (entry_in key t.entries) c.args.packet) c.self.view_is c.pass.ensures.sending
+    ∙ sending_by_history key c.args.packet c.args.self.now.entries history s
 
 pub returns-in-Err-take_ring-clause-memory : goal.returns-in-Err-take_ring-clause-memory
 returns-in-Err-take_ring-clause-memory g c = λ _.
     let key = number_of c.args.addr.0 in
-    let old = c.args.self.now.nodes in (
+    let old = c.args.self.now.entries in (
       sym (ap (λ (t : Table). t.rings) c.self.view_is) ∙ no_rings _ c.in-Err-take_ring.ensures.in_hand,
-      not_there c.args.self.now.limit c.args.now key old c.deref.result.now (c.deref.ensures.value ∙ ap (λ (t : Table). t.nodes) c.self.view_is) c.in-Err.ensures.absent,
+      not_there c.args.self.now.limit c.args.now key old c.deref.result.now (c.deref.ensures.value ∙ ap (λ (t : Table). t.entries) c.self.view_is) c.in-Err.ensures.absent,
     )
 
 pub returns-clause-stands : goal.returns-clause-stands
 returns-clause-stands g c =
     let key = number_of c.args.addr.0 in
     let new = c.begin.new.entries.items in
-    takes_packet key c.args.now c.args.times.retrans c.args.packet c.args.self.now.limit c.args.self.now.nodes new
-    (subst (λ (t : Table). Gives t.limit c.args.now key (λ n. used c.args.now c.args.times.retrans c.args.packet n) (asked_node key c.args.now c.args.times.retrans c.args.packet) t.nodes new) c.self.view_is c.begin.ensures.gives)
+    takes_packet key c.args.now c.args.times.retrans c.args.packet c.args.self.now.limit c.args.self.now.entries new
+    (subst (λ (t : Table). Gives t.limit c.args.now key (λ n. used c.args.now c.args.times.retrans c.args.packet n) (asked_entry key c.args.now c.args.times.retrans c.args.packet) t.entries new) c.self.view_is c.begin.ensures.gives)
 
 pub returns-clause-value : goal.returns-clause-value
 returns-clause-value g c =
     let key = number_of c.args.addr.0 in
-    let old = c.args.self.now.nodes in
-    let none : node_in key old ≡ None = not_there c.args.self.now.limit c.args.now key old c.deref.result.now (c.deref.ensures.value ∙ ap (λ (t : Table). t.nodes) c.self.view_is) c.in-Err.ensures.absent in
-    sym (ap (λ (o : Option Node). sending_in o c.args.packet) none)
+    let old = c.args.self.now.entries in
+    let none : entry_in key old ≡ None = not_there c.args.self.now.limit c.args.now key old c.deref.result.now (c.deref.ensures.value ∙ ap (λ (t : Table). t.entries) c.self.view_is) c.in-Err.ensures.absent in
+    sym (ap (λ (o : Option NeighbourEntry). sending_in o c.args.packet) none)
 
 pub returns-clause-sending : goal.returns-clause-sending
 returns-clause-sending g c = λ history s.
     let key = number_of c.args.addr.0 in
-    let old = c.args.self.now.nodes in
-    let none : node_in key old ≡ None = not_there c.args.self.now.limit c.args.now key old c.deref.result.now (c.deref.ensures.value ∙ ap (λ (t : Table). t.nodes) c.self.view_is) c.in-Err.ensures.absent in
-    sym (ap (λ (o : Option Node). sending_in o c.args.packet) none) ∙ sending_by_history key c.args.packet old history s
+    let old = c.args.self.now.entries in
+    let none : entry_in key old ≡ None = not_there c.args.self.now.limit c.args.now key old c.deref.result.now (c.deref.ensures.value ∙ ap (λ (t : Table). t.entries) c.self.view_is) c.in-Err.ensures.absent in
+    sym (ap (λ (o : Option NeighbourEntry). sending_in o c.args.packet) none) ∙ sending_by_history key c.args.packet old history s
 
 pub returns-in-Ok-clause-leaves : goal.returns-in-Ok-clause-leaves
 returns-in-Ok-clause-leaves g c =
     let key = number_of c.args.addr.0 in
-    let old = c.args.self.now.nodes in
+    let old = c.args.self.now.entries in
     let new = c.pass.new.entries.items in
-    let change : Node → Node = λ n. used c.args.now c.args.times.retrans c.args.packet n in
+    let change : NeighbourEntry → NeighbourEntry = λ n. used c.args.now c.args.times.retrans c.args.packet n in
     leaves_room c.args.self.now.limit c.args.now key c.args.times.retrans c.args.packet old new
-    (was_there c.args.self.now.limit c.args.now key old c.deref.result.now c.in-Ok.i (c.deref.ensures.value ∙ ap (λ (t : Table). t.nodes) c.self.view_is) c.in-Ok.ensures.within c.in-Ok.ensures.found
-    change (asked_node key c.args.now c.args.times.retrans c.args.packet) new (subst (λ (t : Table). Alters key change t.nodes new) c.self.view_is c.pass.ensures.alters))
+    (was_there c.args.self.now.limit c.args.now key old c.deref.result.now c.in-Ok.i (c.deref.ensures.value ∙ ap (λ (t : Table). t.entries) c.self.view_is) c.in-Ok.ensures.within c.in-Ok.ensures.found
+    change (asked_entry key c.args.now c.args.times.retrans c.args.packet) new (subst (λ (t : Table). Alters key change t.entries new) c.self.view_is c.pass.ensures.alters))
 
 pub returns-clause-leaves : goal.returns-clause-leaves
 returns-clause-leaves g c =
     let key = number_of c.args.addr.0 in
     let new = c.begin.new.entries.items in
-    leaves_room c.args.self.now.limit c.args.now key c.args.times.retrans c.args.packet c.args.self.now.nodes new
-    (subst (λ (t : Table). Gives t.limit c.args.now key (λ n. used c.args.now c.args.times.retrans c.args.packet n) (asked_node key c.args.now c.args.times.retrans c.args.packet) t.nodes new) c.self.view_is c.begin.ensures.gives)
+    leaves_room c.args.self.now.limit c.args.now key c.args.times.retrans c.args.packet c.args.self.now.entries new
+    (subst (λ (t : Table). Gives t.limit c.args.now key (λ n. used c.args.now c.args.times.retrans c.args.packet n) (asked_entry key c.args.now c.args.times.retrans c.args.packet) t.entries new) c.self.view_is c.begin.ensures.gives)
 
 pub returns-in-Ok-clause-full : goal.returns-in-Ok-clause-full
 returns-in-Ok-clause-full g c = (
   (λ e. absurd (cc)),
-  λ np. absurd (has_place_there c.args.self.now.limit c.args.now (number_of c.args.addr.0) c.args.self.now.nodes c.deref.result.now c.in-Ok.i (c.deref.ensures.value ∙ ap (λ (t : Table). t.nodes) c.self.view_is) c.in-Ok.ensures.within c.in-Ok.ensures.found np),
+  λ np. absurd (has_place_there c.args.self.now.limit c.args.now (number_of c.args.addr.0) c.args.self.now.entries c.deref.result.now c.in-Ok.i (c.deref.ensures.value ∙ ap (λ (t : Table). t.entries) c.self.view_is) c.in-Ok.ensures.within c.in-Ok.ensures.found np),
 )
 
 pub returns-in-Ok-clause-rings : goal.returns-in-Ok-clause-rings
 returns-in-Ok-clause-rings g c =
-    let held = holding c.args.self.now.limit c.args.now (number_of c.args.addr.0) c.args.self.now.nodes c.deref.result.now c.in-Ok.i (c.deref.ensures.value ∙ ap (λ (t : Table). t.nodes) c.self.view_is) c.in-Ok.ensures.within c.in-Ok.ensures.found in
-    ap (λ (t : Table). t.rings) c.self.view_is ∙ sym (cond-true (is_some (node_in (number_of c.args.addr.0) c.args.self.now.nodes)) c.args.self.now.rings (c.args.self.now.rings - 1) held)
+    let held = holding c.args.self.now.limit c.args.now (number_of c.args.addr.0) c.args.self.now.entries c.deref.result.now c.in-Ok.i (c.deref.ensures.value ∙ ap (λ (t : Table). t.entries) c.self.view_is) c.in-Ok.ensures.within c.in-Ok.ensures.found in
+    ap (λ (t : Table). t.rings) c.self.view_is ∙ sym (cond-true (is_some (entry_in (number_of c.args.addr.0) c.args.self.now.entries)) c.args.self.now.rings (c.args.self.now.rings - 1) held)

@@ -1,6 +1,6 @@
 use Rattle.std.proofs.Common.{◌∙◌, ap, length}
 use Rattle.nd_addr.specs.Number.{number_of}
-use Rattle.nd_neighbour.specs.Table.{Table, node_in}
+use Rattle.nd_neighbour.specs.Table.{Table, entry_in}
 use Rattle.nd_neighbour.specs.Removal.{waiting_at}
 use Rattle.nd_neighbour.proofs.Forgetting.{waits_by_history}
 use Rattle.nd_neighbour.proofs.cache.Cache.waiting_at.Goals as goal
@@ -8,11 +8,11 @@ use Rattle.nd_neighbour.proofs.cache.Cache.waiting_at.Goals as goal
 pub returns-clause-value : goal.returns-clause-value
 returns-clause-value g c =
     let key = number_of c.args.addr.0 in
-    c.count_at.ensures.value ∙ ap (λ xs. length (waiting_at (node_in key xs))) (c.deref.ensures.value ∙ ap (λ (t : Table). t.nodes) c.self.view_is)
+    c.count_at.ensures.value ∙ ap (λ xs. length (waiting_at (entry_in key xs))) (c.deref.ensures.value ∙ ap (λ (t : Table). t.entries) c.self.view_is)
 
 pub returns-clause-by_history : goal.returns-clause-by_history
 returns-clause-by_history g c history s =
     let key = number_of c.args.addr.0 in
     c.count_at.ensures.value
-    ∙ (ap (λ xs. length (waiting_at (node_in key xs))) (c.deref.ensures.value ∙ ap (λ (t : Table). t.nodes) c.self.view_is)
-    ∙ ap length (waits_by_history key c.args.self.now.nodes history s))
+    ∙ (ap (λ xs. length (waiting_at (entry_in key xs))) (c.deref.ensures.value ∙ ap (λ (t : Table). t.entries) c.self.view_is)
+    ∙ ap length (waits_by_history key c.args.self.now.entries history s))

@@ -1,9 +1,10 @@
 use Rattle.std.proofs.Common.{ℕ, List, refl, sym, subst, ◌∙◌, ◌≡◌}
+use Rattle.std.proofs.lemmas.Result.{on_ok_weaker}
 use Rattle.std.specs.Option.{option_map}
 use Rattle.nd_addr.specs.Number.{number_of}
 use Rattle.nd_decode.specs.Pieces.{options_left}
 use Rattle.nd_neighbour.specs.declared.news.Times.{Times}
-use Rattle.nd_neighbour.specs.Entry as entries
+use Rattle.nd_neighbour.specs.Entry as neighbour_entries
 use Rattle.nd_steps.specs.NeighbourCache.{said_by, HearsOf}
 use Rattle.nd_steps.specs.DestinationCache.{MayRemember}
 use Rattle.nd_node.proofs.Recalling.{may_redirects}
@@ -15,35 +16,35 @@ use Rattle.nd_node.proofs.node.Node.hear_asker.Goals as goal
 
 pub returns-then-not-room-clause-adds : goal.returns-then-not-room-clause-adds
 returns-then-not-room-clause-adds g c =
-    refused g.R.Rng.stream c.args.self.now _ c.args.outs.now.items c.push.new.self.items c.args.now c.args.source c.args.destination c.args.ns.now (options_left c.args.options) c.requires.specified c.requires.settled
-    c.full_by_history.ensures (sym c.if-not-room.ensures.value) refl _ refl c.in_ok-push.ensures.items
+    on_ok_weaker c.refuse.result (refused g.R.Rng.stream c.args.self.now c.refuse.new.self c.args.outs.now.items c.refuse.new.outs.items c.args.now c.args.source c.args.destination c.args.ns.now (options_left c.args.options) c.requires.specified c.requires.settled
+    c.full_by_history.ensures (sym c.if-not-room.ensures.value)) c.refuse.ensures.adds
 
 pub hear_of_neighbour-requires-clause-place : goal.hear_of_neighbour-requires-clause-place
 hear_of_neighbour-requires-clause-place g c =
     let times : Times = c.times_in_force-times.result in
     let of = of_asker times c.args.source c.args.ns.now (options_left c.args.options) c.news_of-news.result (c.news_of-news.ensures times) in
-    rw (c.make_room.ensures.limit, c.make_room.ensures.nodes) (place_for_news c.room_is_place.ensures c.args.self.now.neighbours.limit c.args.now (number_of c.args.source.0) c.args.self.now.neighbours.nodes c.news_of-news.result of (sym c.if-not-room.ensures.value))
+    rw (c.make_room.ensures.limit, c.make_room.ensures.entries) (place_for_news c.room_is_place.ensures c.args.self.now.neighbours.limit c.args.now (number_of c.args.source.0) c.args.self.now.neighbours.entries c.news_of-news.result of (sym c.if-not-room.ensures.value))
 
 pub returns-clause-adds : goal.returns-clause-adds
 returns-clause-adds g c =
     let times : Times = c.times_in_force-times.result in
     let heard = c.hear_of_neighbour in
-    let before = c.push_reserved.new.self.items in
+    let before = c.push_heard.new.outs.items in
     let after = heard.new.outs.items in
     answered g.R.Rng.stream c.args.self.now (record c.args.self.now { last = c.args.now; neighbours = heard.new.neighbours; choice = heard.new.choice }) c.args.outs.now.items c.make_room.new.outs.items before after
     c.args.now c.args.source c.args.destination c.args.ns.now (options_left c.args.options) c.requires.settled times c.news_of-news.result heard.result _
     c.none_overdue.ensures.still c.none_overdue.ensures.table c.one_is_pushed_out.ensures
-    (record { role = refl; mac = refl; generator = refl; last = refl; params = refl; routers = refl; prefixes = refl; dns = refl; redirects = may_redirects c.args.self.now.choice heard.new.choice c.make_room.new.neighbours.nodes heard.new.neighbours.nodes heard.ensures.remembers; solicitations = refl; router = refl; address_mac = refl; address_transmits = refl; neighbour_limit = heard.ensures.limit ∙ c.make_room.ensures.limit })
-    refl (subst (λ (nodes : List entries.Node). MayRemember c.args.self.now.choice heard.new.choice nodes heard.new.neighbours.nodes) c.make_room.ensures.nodes heard.ensures.remembers)
+    (record { role = refl; mac = refl; generator = refl; last = refl; params = refl; routers = refl; prefixes = refl; dns = refl; redirects = may_redirects c.args.self.now.choice heard.new.choice c.make_room.new.neighbours.entries heard.new.neighbours.entries heard.ensures.remembers; solicitations = refl; router = refl; address_mac = refl; address_transmits = refl; neighbour_limit = heard.ensures.limit ∙ c.make_room.ensures.limit })
+    refl (subst (λ (entries : List neighbour_entries.NeighbourEntry). MayRemember c.args.self.now.choice heard.new.choice entries heard.new.neighbours.entries) c.make_room.ensures.entries heard.ensures.remembers)
     (c.news_of-news.ensures times) c.times_in_force-times.ensures.reachable
-    (subst (λ (limit : ℕ). HearsOf limit c.args.now (option_map (said_by times) c.news_of-news.result) c.args.self.now.neighbours.nodes heard.new.neighbours.nodes before after heard.result) c.make_room.ensures.limit
-    (subst (λ (nodes : List entries.Node). HearsOf c.make_room.new.neighbours.limit c.args.now (option_map (said_by times) c.news_of-news.result) nodes heard.new.neighbours.nodes before after heard.result) c.make_room.ensures.nodes heard.ensures.hears))
-    c.make_room.ensures.same c.push_reserved.ensures.items refl
+    (subst (λ (limit : ℕ). HearsOf limit c.args.now (option_map (said_by times) c.news_of-news.result) c.args.self.now.neighbours.entries heard.new.neighbours.entries before after heard.result) c.make_room.ensures.limit
+    (subst (λ (entries : List neighbour_entries.NeighbourEntry). HearsOf c.make_room.new.neighbours.limit c.args.now (option_map (said_by times) c.news_of-news.result) entries heard.new.neighbours.entries before after heard.result) c.make_room.ensures.entries heard.ensures.hears))
+    c.make_room.ensures.same c.push_heard.ensures.items refl
     c.go.new.self c.go.new.outs.items c.requires.specified c.room_is_place.ensures c.full_by_history.ensures (sym c.if-not-room.ensures.value)
     c.is_router-router.result c.is_router-router.ensures _ c.answer-answer.ensures c.go.ensures.leads
 
 pub returns-in_err-room-clause-full : goal.returns-in_err-room-clause-full
 returns-in_err-room-clause-full g c = λ limit start c' s le fills place.
-    let has : has_room c.args.self.now.neighbours.limit c.args.now (number_of c.args.source.0) None c.args.self.now.neighbours.nodes ≡ true = sym c.if-not-room.ensures.value in
+    let has : has_room c.args.self.now.neighbours.limit c.args.now (number_of c.args.source.0) None c.args.self.now.neighbours.entries ≡ true = sym c.if-not-room.ensures.value in
     absurd (room_left g.R.Rng.stream start c.args.self.now c' c.args.now (number_of c.args.source.0) c.room_is_place.ensures c.full_by_history.ensures s has
     (asker_full start c.args.now c.args.source (options_left c.args.options) _ limit c.args.ns.now c.requires.specified fills))

@@ -1,4 +1,5 @@
 use Rattle.std.proofs.Common.{refl, ap, subst, arith, ◌∷◌}
+use Rattle.std.proofs.lemmas.Result.{on_ok_weaker}
 use Rattle.std.specs.Prelude.{Option}
 use Rattle.std.specs.Option.{option_map}
 use Rattle.nd_addr.specs.Number.{number_of}
@@ -17,10 +18,9 @@ pub returns-in-Some-clause-adds : goal.returns-in-Some-clause-adds
 returns-in-Some-clause-adds g c =
     let stream = g.R.Rng.stream in
     let options = options_left c.args.options in
-    refuses stream c.args.now c.args.source c.args.destination c.args.ra.now options c.args.self.now _ c.args.outs.now.items c.push.new.self.items (limit_of c.in-Some.limit) _ refl
+    on_ok_weaker c.refuse.result (refuses stream c.args.now c.args.source c.args.destination c.args.ra.now options c.args.self.now c.refuse.new.self c.args.outs.now.items c.refuse.new.outs.items (limit_of c.in-Some.limit)
     (λ start c' s le. subst (λ (limit : Option Limit). AdvertisementFills start c' c.args.now c.args.source c.args.ra.now (advertised c.args.ra.now options) limit) (ap (option_map limit_of) c.in-Some.is)
-    (c.first_full.ensures.fills start c' s le (sender_placed stream c.args.now c.args.source c.args.destination c.args.ra.now options c.args.self.now c.news_of-news.result c.has_place-place.result c.news_of-news.ensures c.has_place-place.ensures.placed start c' s)))
-    c.requires.settled refl c.in_ok-push-in-Some.ensures.items
+    (c.first_full.ensures.fills start c' s le (sender_placed stream c.args.now c.args.source c.args.destination c.args.ra.now options c.args.self.now c.news_of-news.result c.has_place-place.result c.news_of-news.ensures c.has_place-place.ensures.placed start c' s)))) c.refuse.ensures.adds
 
 pub take_router_advertisement-requires-clause-place : goal.take_router_advertisement-requires-clause-place
 take_router_advertisement-requires-clause-place g c = c.has_place-place.ensures.room (c.first_full.ensures.room c.in-None.is).neighbours
@@ -29,16 +29,16 @@ pub returns-clause-adds : goal.returns-clause-adds
 returns-clause-adds g c =
     let stream = g.R.Rng.stream in
     let options = options_left c.args.options in
-    takes stream c.args.now c.args.source c.args.destination c.args.ra.now options c.args.self.now _ c.args.outs.now.items c.reserve.new.self.items c.push_reserved.new.self.items c.take_router_advertisement.new.outs.items c.told.result c.told.ensures
+    takes stream c.args.now c.args.source c.args.destination c.args.ra.now options c.args.self.now _ c.args.outs.now.items c.reserve.new.self.items c.push_heard.new.outs.items c.take_router_advertisement.new.outs.items _ refl
     (λ start c' s le. subst (λ (limit : Option Limit). AdvertisementFills start c' c.args.now c.args.source c.args.ra.now (advertised c.args.ra.now options) limit) (ap (option_map limit_of) c.in-None.is)
     (c.first_full.ensures.fills start c' s le (sender_placed stream c.args.now c.args.source c.args.destination c.args.ra.now options c.args.self.now c.news_of-news.result c.has_place-place.result c.news_of-news.ensures c.has_place-place.ensures.placed start c' s)))
-    c.in_ok-reserve.ensures.items c.push_reserved.ensures.items
+    c.in_ok-reserve.ensures.items c.push_heard.ensures.items
     c.take_router_advertisement.ensures
 
 pub returns-in_err-reserve-clause-quiet : goal.returns-in_err-reserve-clause-quiet
 returns-in_err-reserve-clause-quiet g c = λ adds.
     let options = options_left c.args.options in
-    let waits = waits_for_sender (record { retrans = 0; reachable = 0 }) (number_of c.args.source.0) (first_slla options) c.news_of-news.result c.args.self.now.neighbours.nodes (c.news_of-news.ensures (record { retrans = 0; reachable = 0 })) in
+    let waits = waits_for_sender (record { retrans = 0; reachable = 0 }) (number_of c.args.source.0) (first_slla options) c.news_of-news.result c.args.self.now.neighbours.entries (c.news_of-news.ensures (record { retrans = 0; reachable = 0 })) in
     absurd (omega (arith, adds.told, waits, c.waiting_for-waiting.ensures.value, c.in_err-reserve.ensures.full))
 
 pub returns-in_err-names-clause-quiet : goal.returns-in_err-names-clause-quiet

@@ -1,13 +1,13 @@
 use Rattle.std.proofs.Common.{ℕ, ◌≡◌, ◌≤◌, refl, sym, subst, arith}
 use Rattle.nd_addr.specs.Ip6.{packet_parts}
 use Rattle.nd_addr.specs.Number.{number_of}
-use Rattle.nd_neighbour.specs.Entry.{Node as Neighbour}
+use Rattle.nd_neighbour.specs.Entry.{NeighbourEntry}
 use Rattle.nd_neighbour.specs.Room.{has_room}
 use Rattle.std.specs.Prelude.{List, Some, true}
 use Rattle.std.proofs.lemmas.Result.{on_ok_weaker}
 use Rattle.nd_node.proofs.InTransit.{both_go, both_refused, first_placed, one_left, place_left}
 use Rattle.nd_node.proofs.Refusals.{both_left}
-use Rattle.nd_node.proofs.node.Node.redirect_and_send.Goals as goal
+use Rattle.nd_node.proofs.node.NeighbourEntry.redirect_and_send.Goals as goal
 
 pub returns-then-not-room-clause-adds : goal.returns-then-not-room-clause-adds
 returns-then-not-room-clause-adds g c =
@@ -20,14 +20,14 @@ go-requires-clause-ring g c = λ none.
 
 pub go-requires-clause-place : goal.go-requires-clause-place
 go-requires-clause-place g c =
-    rw (c.ready_for_two.ensures.limit, c.ready_for_two.ensures.nodes)
-    (first_placed c.args.self.now.neighbours.limit c.args.now (number_of c.args.packet.now.header.source.0) (number_of c.args.hop.0) c.args.self.now.neighbours.nodes (sym c.if-not-room.ensures.value))
+    rw (c.ready_for_two.ensures.limit, c.ready_for_two.ensures.entries)
+    (first_placed c.args.self.now.neighbours.limit c.args.now (number_of c.args.packet.now.header.source.0) (number_of c.args.hop.0) c.args.self.now.neighbours.entries (sym c.if-not-room.ensures.value))
 
 pub go-requires-2-clause-place : goal.go-requires-2-clause-place
 go-requires-2-clause-place g c =
-    rw c.go.ensures.limit (place_left c.ready_for_two.new.neighbours.limit c.args.now (number_of c.args.packet.now.header.source.0) (number_of c.args.hop.0) c.ready_for_two.new.neighbours.nodes c.go.new.self.neighbours.nodes c.go.ensures.leaves
-    (subst (λ (limit : ℕ). has_room limit c.args.now (number_of c.args.packet.now.header.source.0) (Some (number_of c.args.hop.0)) c.ready_for_two.new.neighbours.nodes ≡ true) (sym (c.ready_for_two.ensures.limit))
-    (subst (λ (nodes : List Neighbour). has_room c.args.self.now.neighbours.limit c.args.now (number_of c.args.packet.now.header.source.0) (Some (number_of c.args.hop.0)) nodes ≡ true) (sym (c.ready_for_two.ensures.nodes))
+    rw c.go.ensures.limit (place_left c.ready_for_two.new.neighbours.limit c.args.now (number_of c.args.packet.now.header.source.0) (number_of c.args.hop.0) c.ready_for_two.new.neighbours.entries c.go.new.self.neighbours.entries c.go.ensures.leaves
+    (subst (λ (limit : ℕ). has_room limit c.args.now (number_of c.args.packet.now.header.source.0) (Some (number_of c.args.hop.0)) c.ready_for_two.new.neighbours.entries ≡ true) (sym (c.ready_for_two.ensures.limit))
+    (subst (λ (entries : List NeighbourEntry). has_room c.args.self.now.neighbours.limit c.args.now (number_of c.args.packet.now.header.source.0) (Some (number_of c.args.hop.0)) entries ≡ true) (sym (c.ready_for_two.ensures.entries))
     (sym c.if-not-room.ensures.value))))
 
 pub go-requires-2-clause-ring : goal.go-requires-2-clause-ring
@@ -42,7 +42,7 @@ returns-clause-adds g c =
     c.go.new.self c.go-2.new.self c.args.outs.now.items c.ready_for_two.new.outs.items c.go.new.outs.items c.go-2.new.outs.items c.args.now (number_of c.args.hop.0) c.args.target c.link_local-own.result
     (packet_parts c.args.packet.now) c.args.bytes.now c.in_ok-redirect.redirect c.in_ok-frame.frame c.requires.settled
     c.room.result c.room.ensures.history c.if-not-room.false
-    (record { role = refl; mac = refl; generator = refl; last = refl; params = refl; routers = refl; prefixes = refl; addresses = refl; nodes = c.ready_for_two.ensures.nodes; limit = c.ready_for_two.ensures.limit; dns = refl; choice = refl; solicitations = refl; router = refl })
+    (record { role = refl; mac = refl; generator = refl; last = refl; params = refl; routers = refl; prefixes = refl; addresses = refl; entries = c.ready_for_two.ensures.entries; limit = c.ready_for_two.ensures.limit; dns = refl; choice = refl; solicitations = refl; router = refl })
     c.ready_for_two.ensures.same
     (record c.args.self.now.router { routes = c.redirected.new.self }) refl refl c.redirected.ensures.stands
     c.link_local-own.ensures c.in_ok-redirect.ensures.by_history c.in_ok-frame.ensures c.go.ensures.leads c.go-2.ensures.leads

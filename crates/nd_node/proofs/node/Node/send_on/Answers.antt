@@ -32,19 +32,19 @@ returns-in-Some-clause-adds g c =
 pub returns-in_err-clone-in-None-clause-refused : goal.returns-in_err-clone-in-None-clause-refused
 returns-in_err-clone-in-None-clause-refused g c = λ came start c' s mine adds place.
     let one = onward_refused start c.args.now (packet_parts c.args.packet.now) came c' None (number_of c.args.hop.0) (c.in-None.ensures.by_history (is_own c') mine (route_history c') s.router.routes) adds in
-    let has : has_room c.args.self.now.neighbours.limit c.args.now (number_of c.args.hop.0) None c.args.self.now.neighbours.nodes ≡ true = sym c.if-not-room.ensures.value in
+    let has : has_room c.args.self.now.neighbours.limit c.args.now (number_of c.args.hop.0) None c.args.self.now.neighbours.entries ≡ true = sym c.if-not-room.ensures.value in
     absurd (room_left g.R.Rng.stream start c.args.self.now c' c.args.now (number_of c.args.hop.0) c.room_is_place.ensures c.full_by_history.ensures s has (place_refused start c.args.now (number_of c.args.hop.0) _ c' one))
 
 pub returns-in_err-frame-in-None-clause-refused : goal.returns-in_err-frame-in-None-clause-refused
 returns-in_err-frame-in-None-clause-refused g c = λ came start c' s mine adds place.
     let one = onward_refused start c.args.now (packet_parts c.args.packet.now) came c' None (number_of c.args.hop.0) (c.in-None.ensures.by_history (is_own c') mine (route_history c') s.router.routes) adds in
-    let has : has_room c.args.self.now.neighbours.limit c.args.now (number_of c.args.hop.0) None c.args.self.now.neighbours.nodes ≡ true = sym c.if-not-room.ensures.value in
+    let has : has_room c.args.self.now.neighbours.limit c.args.now (number_of c.args.hop.0) None c.args.self.now.neighbours.entries ≡ true = sym c.if-not-room.ensures.value in
     absurd (room_left g.R.Rng.stream start c.args.self.now c' c.args.now (number_of c.args.hop.0) c.room_is_place.ensures c.full_by_history.ensures s has (place_refused start c.args.now (number_of c.args.hop.0) _ c' one))
 
 pub returns-in_ok-frame-in-None-clause-refused : goal.returns-in_ok-frame-in-None-clause-refused
 returns-in_ok-frame-in-None-clause-refused g c = λ came start c' s mine adds place.
     let one = onward_refused start c.args.now (packet_parts c.args.packet.now) came c' None (number_of c.args.hop.0) (c.in-None.ensures.by_history (is_own c') mine (route_history c') s.router.routes) adds in
-    let has : has_room c.args.self.now.neighbours.limit c.args.now (number_of c.args.hop.0) None c.args.self.now.neighbours.nodes ≡ true = sym c.if-not-room.ensures.value in
+    let has : has_room c.args.self.now.neighbours.limit c.args.now (number_of c.args.hop.0) None c.args.self.now.neighbours.entries ≡ true = sym c.if-not-room.ensures.value in
     absurd (room_left g.R.Rng.stream start c.args.self.now c' c.args.now (number_of c.args.hop.0) c.room_is_place.ensures c.full_by_history.ensures s has (place_refused start c.args.now (number_of c.args.hop.0) _ c' one))
 
 pub returns-in-Some-clause-refused : goal.returns-in-Some-clause-refused

@@ -13,15 +13,15 @@ returns-then-not-room-clause-adds g c = on_ok_weaker c.refuse_neighbour.result (
 
 pub returns-in_err-alloc-clause-refused : goal.returns-in_err-alloc-clause-refused
 returns-in_err-alloc-clause-refused g c = λ packet start c' s adds place.
-    let has : has_room c.args.self.now.neighbours.limit c.args.now (number_of c.args.to.0) None c.args.self.now.neighbours.nodes ≡ true = sym c.if-not-room.ensures.value in
+    let has : has_room c.args.self.now.neighbours.limit c.args.now (number_of c.args.to.0) None c.args.self.now.neighbours.entries ≡ true = sym c.if-not-room.ensures.value in
     absurd (room_left g.R.Rng.stream start c.args.self.now c' c.args.now (number_of c.args.to.0) c.room_is_place.ensures c.full_by_history.ensures s has (place_refused start c.args.now (number_of c.args.to.0) packet c' adds))
 
 pub returns-in_err-packet-clause-refused : goal.returns-in_err-packet-clause-refused
 returns-in_err-packet-clause-refused g c = λ packet start c' s adds place.
-    let has : has_room c.args.self.now.neighbours.limit c.args.now (number_of c.args.to.0) None c.args.self.now.neighbours.nodes ≡ true = sym c.if-not-room.ensures.value in
+    let has : has_room c.args.self.now.neighbours.limit c.args.now (number_of c.args.to.0) None c.args.self.now.neighbours.entries ≡ true = sym c.if-not-room.ensures.value in
     absurd (room_left g.R.Rng.stream start c.args.self.now c' c.args.now (number_of c.args.to.0) c.room_is_place.ensures c.full_by_history.ensures s has (place_refused start c.args.now (number_of c.args.to.0) packet c' adds))
 
 pub returns-clause-refused : goal.returns-clause-refused
 returns-clause-refused g c = λ packet start c' s adds place.
-    let has : has_room c.args.self.now.neighbours.limit c.args.now (number_of c.args.to.0) None c.args.self.now.neighbours.nodes ≡ true = sym c.if-not-room.ensures.value in
+    let has : has_room c.args.self.now.neighbours.limit c.args.now (number_of c.args.to.0) None c.args.self.now.neighbours.entries ≡ true = sym c.if-not-room.ensures.value in
     absurd (room_left g.R.Rng.stream start c.args.self.now c' c.args.now (number_of c.args.to.0) c.room_is_place.ensures c.full_by_history.ensures s has (place_refused start c.args.now (number_of c.args.to.0) packet c' adds))

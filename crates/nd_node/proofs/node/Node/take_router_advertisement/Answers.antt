@@ -28,14 +28,14 @@ returns g c =
       solicitations = c.heard_router.ensures;
       between = _;
       ends = _;
-      neighbours = subst (λ (said : Option (ℕ × RowKind)). HearsOf c.args.self.now.neighbours.limit c.args.now said c.args.self.now.neighbours.nodes c.hear_of_neighbour.new.neighbours.nodes c.args.outs.now.items c.hear_of_neighbour.new.outs.items c.hear_of_neighbour.result) (c.requires.news _) c.hear_of_neighbour.ensures.hears;
+      neighbours = subst (λ (said : Option (ℕ × RowKind)). HearsOf c.args.self.now.neighbours.limit c.args.now said c.args.self.now.neighbours.entries c.hear_of_neighbour.new.neighbours.entries c.args.outs.now.items c.hear_of_neighbour.new.outs.items c.hear_of_neighbour.result) (c.requires.news _) c.hear_of_neighbour.ensures.hears;
       neighbour_limit = c.hear_of_neighbour.ensures.limit;
       left_list = _;
       times_out = c.hear_router-times_out.ensures.times_out;
       routers = c.hear_router-times_out.ensures.routers;
       redirects = λ history s.
           redirects_stand c.hear_router-times_out.new.choice c.keep_until_a_prefix_ends.new.choice _ (c.keep_until_a_prefix_ends.ensures.redirects ∙ c.hear_prefixes.ensures.redirects) (c.hear_router-times_out.ensures.redirects history
-          (redirects_stand c.args.self.now.choice c.hear_of_neighbour.new.choice history (may_redirects c.args.self.now.choice c.hear_of_neighbour.new.choice c.args.self.now.neighbours.nodes c.hear_of_neighbour.new.neighbours.nodes c.hear_of_neighbour.ensures.remembers) s));
+          (redirects_stand c.args.self.now.choice c.hear_of_neighbour.new.choice history (may_redirects c.args.self.now.choice c.hear_of_neighbour.new.choice c.args.self.now.neighbours.entries c.hear_of_neighbour.new.neighbours.entries c.hear_of_neighbour.ensures.remembers) s));
       first = c.hear_of_neighbour.new.choice;
       second = c.hear_router-times_out.new.choice;
       third = c.hear_prefixes.new.choice;

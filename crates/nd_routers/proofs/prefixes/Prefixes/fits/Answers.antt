@@ -4,7 +4,7 @@ use Rattle.nd_decode.specs.Pieces.{options_left}
 use Rattle.nd_table.specs.Listing.{fits}
 use Rattle.nd_table.proofs.Behind.{fits_open}
 use Rattle.nd_table.proofs.UniqueKeys.{one_listing}
-use Rattle.nd_routers.specs.PrefixOptions.{max_prefixes, prefixes_in}
+use Rattle.nd_routers.specs.OnLinkPrefixes.{max_prefixes, prefixes_in}
 use Rattle.nd_routers.proofs.Told.{told_few}
 use Rattle.nd_routers.proofs.prefixes.Prefixes.fits.Goals as goal
 

@@ -6,7 +6,7 @@ use Rattle.nd_table.specs.declared.lasting.Lasting.{Lasting}
 use Rattle.nd_table.specs.Listing.{Distinct, Stands, announced_all, then_announced}
 use Rattle.nd_table.proofs.Behind.{Distinct-all}
 use Rattle.nd_table.proofs.Steps.{gains_all}
-use Rattle.nd_routers.specs.PrefixOptions.{prefixes_in}
+use Rattle.nd_routers.specs.OnLinkPrefixes.{prefixes_in}
 use Rattle.nd_routers.proofs.prefixes.Prefixes.take_ra.Goals as goal
 
 pub invariant_of-self : goal.invariant_of-self

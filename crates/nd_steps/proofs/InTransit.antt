@@ -14,11 +14,11 @@ use Rattle.nd_addr.proofs.ByteLists.{IsBytes-drop}
 use Rattle.nd_compose.specs.Frames.{open_mac}
 use Rattle.nd_compose.specs.Redirect.{redirect_frame}
 use Rattle.nd_neighbour.specs.declared.shown.Neighbour.{Neighbour}
-use Rattle.nd_neighbour.specs.Entry.{Node}
+use Rattle.nd_neighbour.specs.Entry.{NeighbourEntry}
 use Rattle.nd_neighbour.specs.History.{Story, story}
 use Rattle.nd_neighbour.specs.Shown.{seen}
-use Rattle.nd_neighbour.specs.Story.{is_present, mac_of, the_node}
-use Rattle.nd_neighbour.specs.Table.{Stands, node_in}
+use Rattle.nd_neighbour.specs.Story.{is_present, mac_of, the_entry}
+use Rattle.nd_neighbour.specs.Table.{Stands, entry_in}
 use Rattle.nd_neighbour.specs.View.{seen_in}
 use Rattle.nd_neighbour.proofs.Stories.{absent_mac}
 use Rattle.nd_neighbour.proofs.Dues.{known_by}
@@ -47,31 +47,31 @@ mac_shown None = None
 mac_shown (Some n) = option_map (λ mac. number_of mac.0) n.mac
 
 -- it is the one that is kept
-pub kept_mac : (now : ℕ) (shown : Option Neighbour) (kept : Option Node) → option_map (λ n. seen_in n) shown ≡ option_map (seen now) kept → option_map mac_at (mac_shown shown) ≡ mac_in kept
+pub kept_mac : (now : ℕ) (shown : Option Neighbour) (kept : Option NeighbourEntry) → option_map (λ n. seen_in n) shown ≡ option_map (seen now) kept → option_map mac_at (mac_shown shown) ≡ mac_in kept
 kept_mac now None None e = refl
 kept_mac now None (Some k) e = let no : ⊥ = cc in absurd no
 kept_mac now (Some n) None e = let no : ⊥ = cc in absurd no
 kept_mac now (Some n) (Some k) e = let same : seen_in n ≡ seen now k = cc in ap (λ s. option_map mac_at s.mac) same
 
-node_mac : (key : ℕ) (s : Story) (present : Bool) → is_present s ≡ present → mac_in (if present then Some (the_node key s) else None) ≡ option_map mac_at (mac_of s)
+node_mac : (key : ℕ) (s : Story) (present : Bool) → is_present s ≡ present → mac_in (if present then Some (the_entry key s) else None) ≡ option_map mac_at (mac_of s)
 node_mac key s true p = ap (option_map mac_at) (known_by (mac_of s) _ _ _ _)
 node_mac key s false p = rw (absent_mac s p) refl
 
 -- and the one that is known by what happened
-pub mac_by_history : (nodes : List Node) (c : Chronicle) (a : Addr) → Stands nodes (neighbour_history c) → mac_in (node_in (number_of a.0) nodes) ≡ known_mac_of c a
-mac_by_history nodes c a s =
+pub mac_by_history : (entries : List NeighbourEntry) (c : Chronicle) (a : Addr) → Stands entries (neighbour_history c) → mac_in (entry_in (number_of a.0) entries) ≡ known_mac_of c a
+mac_by_history entries c a s =
     let key = number_of a.0 in
     ap mac_in (s.each key) ∙ node_mac key (story key (neighbour_history c)) (is_present (story key (neighbour_history c))) refl
 
 -- ---- the Redirect
 
-pub better_hop : (start : Start) (moment : ℕ) (c : Chronicle) (nodes : List Node) (mac : Mac) (own target : Addr) (known : Option Mac) (packet : PacketParts) (bytes frame : List ℕ)
-    → known ≡ mac_in (node_in (number_of target.0) nodes) → frame ≡ redirect_frame mac own packet.header.source known target packet.header.destination bytes
-    → Stands nodes (neighbour_history c) → start.mac ≡ mac → own ≡ link_local start → frame ≡ better_hop_frame start moment target packet bytes c
-better_hop start moment c nodes mac own target known packet bytes frame known_is is s mac_is own_is =
+pub better_hop : (start : Start) (moment : ℕ) (c : Chronicle) (entries : List NeighbourEntry) (mac : Mac) (own target : Addr) (known : Option Mac) (packet : PacketParts) (bytes frame : List ℕ)
+    → known ≡ mac_in (entry_in (number_of target.0) entries) → frame ≡ redirect_frame mac own packet.header.source known target packet.header.destination bytes
+    → Stands entries (neighbour_history c) → start.mac ≡ mac → own ≡ link_local start → frame ≡ better_hop_frame start moment target packet bytes c
+better_hop start moment c entries mac own target known packet bytes frame known_is is s mac_is own_is =
     is ∙ (ap (λ (m : Mac). redirect_frame m own packet.header.source known target packet.header.destination bytes) (sym mac_is)
     ∙ (ap (λ (a : Addr). redirect_frame start.mac a packet.header.source known target packet.header.destination bytes) own_is
-    ∙ ap (λ (k : Option Mac). redirect_frame start.mac (link_local start) packet.header.source k target packet.header.destination bytes) (known_is ∙ mac_by_history nodes c target s)))
+    ∙ ap (λ (k : Option Mac). redirect_frame start.mac (link_local start) packet.header.source k target packet.header.destination bytes) (known_is ∙ mac_by_history entries c target s)))
 
 -- ---- the packet
 

@@ -1,8 +1,8 @@
 use Rattle.std.proofs.Common.{◌≡◌, length}
 use Rattle.nd_addr.specs.Same.{same_prefix}
-use Rattle.nd_routers.specs.PrefixOptions.{prefixes_left}
+use Rattle.nd_routers.specs.OnLinkPrefixes.{prefixes_left}
 use Rattle.nd_routers.specs.Refreshing.{only_refreshes}
-use Rattle.nd_routers.proofs.prefix_options.only_refreshes.Given as goal
+use Rattle.nd_routers.proofs.on_link_prefixes.only_refreshes.Given as goal
 
 -- what is left decides
 abbrev pub invariant-loop-prefix : goal.invariant-loop-prefix

@@ -1,8 +1,8 @@
 use Rattle.std.proofs.Common.{◌≡◌, ◌+◌, drop}
 use Rattle.std.specs.Option.{option_map}
 use Rattle.nd_addr.specs.Number.{number_of}
-use Rattle.nd_routers.specs.DefaultRouterSelection.{place_among}
-use Rattle.nd_routers.proofs.default_router_selection.place.Given as goal
+use Rattle.nd_routers.specs.RouterFailures.{place_among}
+use Rattle.nd_routers.proofs.router_failures.place.Given as goal
 
 -- the place among the rest, behind those so far, is the place among all
 abbrev pub invariant-loop-router : goal.invariant-loop-router

@@ -1,12 +1,13 @@
-ghost use Rattle.std.specs.Prelude.{◌≡◌, ◌≤◌, ◌<◌, ◌^◌, ◌↔◌, List, IfErr, OnOk, OnErr, IsErr, true, false};
-ghost use Rattle.nd_routers.specs.PrefixOptions.{is_on_link, max_prefixes};
+ghost use Rattle.std.specs.Prelude.{◌≡◌, ◌≤◌, ◌<◌, ◌↔◌, List, IfErr, OnOk, OnErr, IsErr, true, false};
+ghost use Rattle.nd_routers.specs.OnLinkPrefixes.{is_on_link, max_prefixes};
 ghost use Rattle.nd_addr.specs.Prefix.{PrefixValue};
 ghost use Rattle.nd_addr.specs.Same.{same_prefix};
 ghost use Rattle.nd_decode.specs.Pieces.{options_left};
 ghost use Rattle.nd_table.specs.Announcements.{Row, last_moment};
 ghost use Rattle.nd_table.specs.Listing.{fits, announced_all, then_announced, Lists, Stands};
 ghost use Rattle.nd_table.specs.declared.lasting.Lasting.{Lasting as Entry};
-ghost use Rattle.nd_routers.specs.PrefixOptions.{prefixes_left};
+ghost use Rattle.nd_table.specs.Moment.{IsMoment};
+ghost use Rattle.nd_routers.specs.OnLinkPrefixes.{prefixes_left};
 ghost use Rattle.nd_routers.specs.Refreshing.{only_refreshes};
 
 use crate::prefixes::{MAX_PREFIXES, Prefixes};
@@ -16,7 +17,7 @@ use nd_table::{Announces, Lasting, Limit, TableRefusal, announce_all, fits_all, 
 use std::alloc::Allocator;
 
 impl<A: Allocator> Prefixes<A> {
-    ghost use Rattle.nd_routers.specs.PrefixOptions.{prefixes_in};
+    ghost use Rattle.nd_routers.specs.OnLinkPrefixes.{prefixes_in};
 
     /// Returns true if there is room for the prefixes that the options of a Router Advertisement announce at a moment in milliseconds, taken
     /// in order: then `heard_ra` isn't refused. It takes no memory.
@@ -40,7 +41,7 @@ impl<A: Allocator> Prefixes<A> {
     /// on the link enters or is refreshed, and a valid lifetime of 0 removes it. `Full` comes where the prefixes are too many at some
     /// point. It takes no memory.
     pub fn heard_ra(&mut self, now: u64, options: Options<'_>) -> Result<(), TableRefusal>
-        requires moment { now < 2 ^ 62 }
+        requires moment { IsMoment now }
 
         ensures stands { OnOk result ((history : List (Row PrefixValue)) → last_moment history ≤ now → Stands same_prefix self.old history
             → Stands same_prefix self.new (then_announced now (prefixes_in (options_left options.entry)) history)) }
@@ -60,7 +61,7 @@ impl<A: Allocator> Prefixes<A> {
 
     /// Does what `heard_ra` does, for options that fit. It takes no memory.
     pub fn take_ra(&mut self, now: u64, options: Options<'_>)
-        requires moment { now < 2 ^ 62 }
+        requires moment { IsMoment now }
         requires fits { fits same_prefix max_prefixes now (prefixes_in (options_left options)) self.old ≡ true }
 
         ensures stands { (history : List (Row PrefixValue)) → last_moment history ≤ now → Stands same_prefix self.old history
@@ -92,7 +93,7 @@ pub(crate) struct OnLink<'a> {
 }
 
 impl Announces<Prefix, Prefix> for OnLink<'_> {
-    ghost use Rattle.nd_routers.specs.PrefixOptions.{prefixes_left};
+    ghost use Rattle.nd_routers.specs.OnLinkPrefixes.{prefixes_left};
 
     ghost told = { prefixes_left };
 

@@ -1,6 +1,6 @@
 use Rattle.std.proofs.Common.{rules}
 use Rattle.std.proofs.lemmas.Fn.{filter_same}
-use Rattle.nd_routers.proofs.default_router_selection.forget.Goals as goal
+use Rattle.nd_routers.proofs.router_failures.forget.Goals as goal
 
 pub returns-clause-items : goal.returns-clause-items
 returns-clause-items g c = filter_same _ _ _ (λ x b f' k. search rules) _ _ c.retain.ensures.filtered

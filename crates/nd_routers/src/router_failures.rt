@@ -1,6 +1,6 @@
 ghost use Rattle.std.specs.Prelude.{◌≡◌, ◌≤◌, ◌<◌, vec_len, vec_capacity, ℕ, List, IfSome, Some, slice_get};
 ghost use Rattle.nd_addr.specs.Number.{number_of};
-ghost use Rattle.nd_routers.specs.DefaultRouterSelection.{others, place_among};
+ghost use Rattle.nd_routers.specs.RouterFailures.{others, place_among};
 ghost use Rattle.nd_routers.specs.Preferences.{preference_among};
 ghost use Rattle.std.specs.Option.{option_map};
 ghost use Rattle.nd_table.specs.Announcements.{stands};
@@ -25,7 +25,7 @@ pub struct Listed {
 impl<A: Allocator> Routers<A> {
     ghost use Rattle.nd_routers.specs.History.{RouterRow, Failed};
     ghost use Rattle.nd_routers.specs.Routers.{Stands, GainsRow, keys};
-    ghost use Rattle.nd_routers.specs.DefaultRouterSelection.{place_among, FailsAt};
+    ghost use Rattle.nd_routers.specs.RouterFailures.{place_among, FailsAt};
 
     /// A router can't be reached: its failure is noted, if it is in the list, so that it is chosen last (RFC 4861, section 6.3.6). It
     /// takes no memory.

@@ -1,7 +1,7 @@
 use Rattle.std.proofs.Common.{◌≡◌, length}
 use Rattle.nd_decode.specs.Pieces.{options_left}
-use Rattle.nd_routers.specs.PrefixOptions.{prefixes_left}
-use Rattle.nd_routers.proofs.prefix_options.OnLinkAnnouncesPrefixPrefix.next_told.Given as goal
+use Rattle.nd_routers.specs.OnLinkPrefixes.{prefixes_left}
+use Rattle.nd_routers.proofs.on_link_prefixes.OnLinkAnnouncesPrefixPrefix.next_told.Given as goal
 
 -- what is left is the same at each step
 abbrev pub invariant-loop-option : goal.invariant-loop-option
