@@ -15,7 +15,7 @@ pub const NEXT_HEADER_ICMPV6: u8 = 58;
 pub const LEAST_MTU: u32 = 1280;
 
 /// How many bytes an IPv6 header has, which is where the payload begins (RFC 8200, section 3).
-pub(crate) const IPV6_HEADER_LENGTH: usize = 40;
+pub const IPV6_HEADER_LENGTH: usize = 40;
 
 /// The version of IPv6, in the first four bits (RFC 8200, section 3).
 const VERSION: u32 = 6;
@@ -27,9 +27,11 @@ const NEXT_HEADER_AT: usize = 6;
 
 const HOP_LIMIT_AT: usize = 7;
 
-const SOURCE_AT: usize = 8;
+/// Where the source is in the header.
+pub const IPV6_SOURCE_AT: usize = 8;
 
-const DESTINATION_AT: usize = 24;
+/// Where the destination is in the header.
+pub const IPV6_DESTINATION_AT: usize = 24;
 
 /// An IPv6 header (RFC 8200, section 3) without its version, which is 6, and its payload's length.
 #[derive(Clone, Copy, Debug, PartialEq, Eq)]
@@ -79,8 +81,8 @@ impl Ip6 {
             flow_label: first % (1 << 20),
             next_header: bytes[NEXT_HEADER_AT],
             hop_limit: bytes[HOP_LIMIT_AT],
-            source: Addr::at(bytes, SOURCE_AT),
-            destination: Addr::at(bytes, DESTINATION_AT),
+            source: Addr::at(bytes, IPV6_SOURCE_AT),
+            destination: Addr::at(bytes, IPV6_DESTINATION_AT),
         };
         Ok(Ip6Ref {
             header,

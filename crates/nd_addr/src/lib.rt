@@ -27,7 +27,10 @@ pub use frame::{
     ETHERNET_HEADER_LENGTH, ETHERNET_IPV6, ETHERNET_MTU, Frame, FrameRef, HEADERS_LENGTH,
     put_headers, write_frame,
 };
-pub use ip6::{Ip6, Ip6Ref, LEAST_MTU, NEXT_HEADER_ICMPV6};
+pub use ip6::{
+    IPV6_DESTINATION_AT, IPV6_HEADER_LENGTH, IPV6_SOURCE_AT, Ip6, Ip6Ref, LEAST_MTU,
+    NEXT_HEADER_ICMPV6,
+};
 pub use mac::Mac;
 pub use parse::TextFault;
 pub use preference::Preference;

@@ -13,7 +13,8 @@ use Rattle.nd_advertiser.specs.Offer.{offer_fault}
 use Rattle.nd_forwarding.specs.declared.kept_routes.KeptRoute.{KeptRoute}
 use Rattle.nd_forwarding.specs.declared.route.Route.{Route}
 use Rattle.nd_forwarding.specs.declared.route.Route.TheVariants as routes
-use Rattle.nd_c_types.specs.Numbers.{flag_number, flag_in, is_flag, preference_number, preference_in, is_preference}
+use Rattle.nd_heard.specs.Heard.{preference_number}
+use Rattle.nd_c_types.specs.Numbers.{flag_number, flag_in, is_flag, preference_in, is_preference}
 use Rattle.nd_c_types.specs.Offer as offers
 use Rattle.nd_c_types.specs.Route.{hop_number, route_of, route_row, router_bytes}
 use Rattle.nd_c_types.specs.Advertising as advertisings

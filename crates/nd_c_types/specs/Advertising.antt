@@ -2,7 +2,8 @@
 use Rattle.std.specs.Prelude.{◌==◌, ◌&&◌, nat_le, Bool, if◌then◌else◌, Option, None}
 use Rattle.std.specs.Result.{result_ok}
 use Rattle.nd_advertiser.specs.Config.{Settings, config_fault, unless}
-use Rattle.nd_c_types.specs.Numbers.{flag_number, flag_in, is_flag, preference_number, preference_in, is_preference}
+use Rattle.nd_heard.specs.Heard.{preference_number}
+use Rattle.nd_c_types.specs.Numbers.{flag_number, flag_in, is_flag, preference_in, is_preference}
 use Rattle.nd_c_types.specs.declared.advertising.Advertising.{Advertising}
 
 abbrev pub advertising_of : Settings → Advertising

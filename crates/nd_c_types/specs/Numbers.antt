@@ -25,12 +25,6 @@ abbrev pub left_number : Option ℕ → ℕ
 left_number None = 2 ^ 64 - 1
 left_number (Some left) = left
 
--- the preferences by their numbers
-abbrev pub preference_number : Preference → ℕ
-preference_number Medium = 0
-preference_number High = 1
-preference_number Low = 2
-
 -- the number is one of a preference
 abbrev pub is_preference : ℕ → Bool
 is_preference number = nat_le number 2

@@ -3,8 +3,9 @@
 ghost use Rattle.std.specs.Prelude.{◌≡◌, Some};
 ghost use Rattle.nd_c_types.specs.Advertising.{advertising_of, config_of, fits, is_well_formed};
 
-use crate::numbers::{preference_in, preference_number};
+use crate::numbers::preference_in;
 use nd_advertiser::{Config, ConfigFlags};
+use nd_heard::preference_number;
 
 /// What a router advertises of itself and of its link: `nd_advertising` of the header.
 #[repr(C)]

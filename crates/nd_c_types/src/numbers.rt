@@ -1,7 +1,7 @@
 //! Values that are numbers in several structures. Their definitions are in `specs/Numbers.antt`.
 
 ghost use Rattle.std.specs.Prelude.{◌≡◌, ◌==◌};
-ghost use Rattle.nd_c_types.specs.Numbers.{left_number, preference_number, preference_in};
+ghost use Rattle.nd_c_types.specs.Numbers.{left_number, preference_in};
 
 use nd_addr::Preference;
 
@@ -12,17 +12,6 @@ pub(crate) fn left_number(left: Option<u64>) -> u64
     match left {
         Some(left) => left,
         None => u64::MAX,
-    }
-}
-
-/// Returns the number of a preference.
-pub(crate) fn preference_number(preference: Preference) -> u8
-    ensures { result ≡ preference_number preference }
-{
-    match preference {
-        Preference::Medium => 0,
-        Preference::High => 1,
-        Preference::Low => 2,
     }
 }
 

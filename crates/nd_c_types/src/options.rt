@@ -6,6 +6,9 @@ ghost use Rattle.nd_c_types.specs.Options.{are_draws, draws_in, is_well_formed, 
 
 use crate::role::role_of;
 use nd_addr::{Mac, Role};
+use nd_neighbour::MAX_NEIGHBOURS;
+use nd_node::{USUAL_NEIGHBOURS, USUAL_ROUTERS};
+use nd_routers::MAX_ROUTERS;
 use nd_slaac::Transmits;
 
 /// How many bytes the structure has.
@@ -14,18 +17,15 @@ const SIZE: u32 = 64;
 /// The limit that moments are below, in milliseconds.
 pub const MOMENT_LIMIT: u64 = 1 << 62;
 
-/// The greatest numbers of solicitations, neighbours and default routers, and the numbers for which 0 stands.
+/// The greatest numbers of solicitations, neighbours and default routers.
 const MOST_TRANSMITS: u8 = 8;
 
-const MOST_NEIGHBOURS: u32 = 2048;
+const MOST_NEIGHBOURS: u32 = MAX_NEIGHBOURS as u32;
 
-const MOST_ROUTERS: u32 = 64;
+const MOST_ROUTERS: u32 = MAX_ROUTERS as u32;
 
+/// The number of solicitations for which 0 stands.
 const USUAL_TRANSMITS: u8 = 1;
-
-const USUAL_NEIGHBOURS: u16 = 512;
-
-const USUAL_ROUTERS: u8 = 16;
 
 /// What a node is opened with: `nd_options` of the header.
 #[repr(C)]

@@ -3,7 +3,8 @@
 ghost use Rattle.std.specs.Prelude.{◌≡◌};
 ghost use Rattle.nd_c_types.specs.Router.{router_row};
 
-use crate::numbers::{left_number, preference_number};
+use crate::numbers::left_number;
+use nd_heard::preference_number;
 use nd_routers::DefaultRouter;
 
 /// A default router: `nd_router_row` of the header.

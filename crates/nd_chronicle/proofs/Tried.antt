@@ -5,6 +5,7 @@ use Rattle.std.proofs.lemmas.Bool.Decides.{nat_tests}
 use Rattle.std.specs.Prelude.{MatchBool, nat_lt, ◌==◌}
 use Rattle.nd_decode.specs.declared.prefix_info.PrefixInfo.{PrefixInfo}
 use Rattle.nd_params.specs.History as parameters
+use Rattle.nd_params.specs.RouterAdvertisement.{nonzero_or}
 use Rattle.nd_slaac.specs.Due as addresses_due
 use Rattle.nd_slaac.specs.Due.{Falls, Ends, Solicits, Assigns, IsDue, NoneOverdue, key_in, happens, due_row}
 use Rattle.nd_slaac.specs.History as addresses
@@ -27,7 +28,7 @@ use Rattle.nd_chronicle.proofs.OwnRows.{Brings, Nothing, Conflicts, Announces, B
 
 -- ---- RetransTimer is above 0
 
-told_or : (told before : ℕ) → 0 < before → 0 < parameters.nonzero_or told before
+told_or : (told before : ℕ) → 0 < before → 0 < nonzero_or told before
 told_or told before p = grind (arith, nat_tests)
 
 retrans_positive : (history : List parameters.Row) → 0 < parameters.retrans_of history

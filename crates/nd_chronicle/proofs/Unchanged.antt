@@ -20,6 +20,7 @@ use Rattle.nd_nexthop.specs.DefaultRouter.{DefaultRouter}
 use Rattle.nd_nexthop.specs.History as redirects
 use Rattle.nd_nexthop.specs.NextHop.{NextHop, hop}
 use Rattle.nd_params.specs.History as parameters
+use Rattle.nd_params.specs.ReachableTime.{next_draw}
 use Rattle.nd_routers.specs.RouterFailures.{Failures, place_among}
 use Rattle.nd_routers.specs.Due as routers_due
 use Rattle.nd_routers.specs.History as routers
@@ -116,9 +117,9 @@ module _ (start : Start) (c d : Chronicle) (s : Same start c d) where
     due_by (Some RoutersSolicited) h = (no_router h.0, no_address h.1, no_neighbour h.2, sym solicitation_date ∙ h.3)
     due_by (Some RouterAdvertises) h = (no_router h.0, no_address h.1, no_neighbour h.2, no_solicitation h.3, sym advertisement_date ∙ h.4)
     due_by (Some Redraws) h =
-        (no_router h.0, no_address h.1, no_neighbour h.2, no_solicitation h.3, no_advertisement h.4, subst (λ (x : List parameters.Row). parameters.next_draw x ≡ moment) s.parameters h.5)
+        (no_router h.0, no_address h.1, no_neighbour h.2, no_solicitation h.3, no_advertisement h.4, subst (λ (x : List parameters.Row). next_draw x ≡ moment) s.parameters h.5)
     due_by None h =
-        (no_router h.0, no_address h.1, no_neighbour h.2, no_solicitation h.3, no_advertisement h.4, subst (λ (x : List parameters.Row). parameters.next_draw x ≢ moment) s.parameters h.5)
+        (no_router h.0, no_address h.1, no_neighbour h.2, no_solicitation h.3, no_advertisement h.4, subst (λ (x : List parameters.Row). next_draw x ≢ moment) s.parameters h.5)
 
   -- ---- next hops
 

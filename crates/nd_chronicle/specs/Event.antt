@@ -167,7 +167,7 @@ module _ (start : Start) (now : ℕ) where
   all_leaving (e ∷ entries) c = all_leaving entries ((now, LeftRouter e.key) ∷ c)
 
   abbrev pub ClearAdds : Clearable → Chronicle → Chronicle → Type 0
-  ClearAdds ClearNeighbours c d = (entries : List NeighbourEntry) × cache.Stands nodes (neighbour_history c) × (d ≡ clearing nodes c)
+  ClearAdds ClearNeighbours c d = (entries : List NeighbourEntry) × cache.Stands entries (neighbour_history c) × (d ≡ clearing entries c)
   ClearAdds ClearRouters c d =
       (entries : List (Lasting ℕ)) × Lists same (announcements (router_history c)) now entries × (d ≡ (now, ClearedRedirects) ∷ all_leaving entries c)
   ClearAdds ClearPrefixes c d = d ≡ (now, ClearedPrefixes) ∷ c

@@ -14,6 +14,7 @@ use Rattle.nd_decode.specs.declared.redirect.Redirect.{Redirect}
 use Rattle.nd_table.specs.Announcements as lifetimes
 use Rattle.nd_table.specs.Listing.{then_announced}
 use Rattle.nd_params.specs.History as parameters
+use Rattle.nd_params.specs.ReachableTime.{reachable_of}
 use Rattle.nd_neighbour.specs.History as neighbours
 use Rattle.nd_routers.specs.History as routers
 use Rattle.nd_routers.specs.OnLinkPrefixes.{prefixes_in}
@@ -76,7 +77,7 @@ then_neighbour at (Some said) history = (at, said.0, said.1) ∷ history
 abbrev pub neighbour_history : Chronicle → List neighbours.Row
 neighbour_history [] = []
 neighbour_history ((at, Heard source destination message) ∷ c) =
-    then_neighbour at (said_of_neighbour source message.body message.options (parameters.reachable_of (parameter_history c))) (neighbour_history c)
+    then_neighbour at (said_of_neighbour source message.body message.options (reachable_of (parameter_history c))) (neighbour_history c)
 neighbour_history ((at, Neighbour key kind) ∷ c) = (at, key, kind) ∷ neighbour_history c
 neighbour_history ((at, _) ∷ c) = neighbour_history c
 

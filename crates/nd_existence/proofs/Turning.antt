@@ -21,7 +21,7 @@ neighbour_turns now ns n r first =
       cond (neighbours.stays (neighbours.falls n)) (set ns place.0 (neighbours.solicited now n)) (remove ns place.0),
       record {
         at = place.0;
-        node = n;
+        entry = n;
         within = place.1;
         is = place.2;
         first = first;

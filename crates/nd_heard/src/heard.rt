@@ -150,7 +150,7 @@ impl Heard {
 }
 
 /// Returns the number of a preference in the header.
-fn preference_number(preference: Preference) -> u8
+pub fn preference_number(preference: Preference) -> u8
     ensures { result ≡ preference_number preference }
 {
     match preference {

@@ -8,7 +8,7 @@ ghost use Rattle.nd_heard.specs.Heard.{heard_of, role_of};
 
 mod heard;
 
-pub use heard::Heard;
+pub use heard::{Heard, preference_number};
 use nd_addr::Role;
 use nd_validity::hear;
 

@@ -78,6 +78,6 @@ mod time;
 pub use clearing::Clearable;
 pub use counts::Counts;
 pub use event::{Event, Table};
-pub use limits::Limits;
+pub use limits::{Limits, USUAL_NEIGHBOURS, USUAL_ROUTERS};
 pub use nd_steps::{OutgoingPacket, Turned};
 pub use node::Node;

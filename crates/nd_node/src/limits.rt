@@ -11,10 +11,10 @@ use nd_routers::MAX_ROUTERS;
 use std::marker::Model;
 
 /// The usual limit on neighbours (our choice).
-const USUAL_NEIGHBOURS: u16 = 512;
+pub const USUAL_NEIGHBOURS: u16 = 512;
 
 /// The usual limit on default routers (our choice).
-const USUAL_ROUTERS: u8 = 16;
+pub const USUAL_ROUTERS: u8 = 16;
 
 /// The most neighbours, 1 to 2048, and the most default routers, 1 to 64, that a node keeps. RFC 4861, sections 5.3 and 6.3.4, sets no limit;
 /// the ranges are our choice.

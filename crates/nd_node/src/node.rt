@@ -9,7 +9,7 @@ use nd_addr::{Mac, Role};
 use nd_dns::Dns;
 use nd_neighbour::Cache;
 use nd_nexthop::Choice;
-use nd_params::Params;
+use nd_params::{Params, REACHABLE_TIME};
 use nd_routers::{Prefixes, Routers};
 use nd_slaac::{Addresses, Transmits};
 use nd_steps::{
@@ -17,9 +17,6 @@ use nd_steps::{
 };
 use rand_core::Rng;
 use std::alloc::Allocator;
-
-/// BaseReachableTime until a router tells one, in milliseconds (RFC 4861, section 10, REACHABLE_TIME).
-const REACHABLE_TIME: u32 = 30_000;
 
 /// A host or a router on its link. Each moment that a call takes or answers is in milliseconds, from a beginning that is the caller's.
 #[derive(Drop)]

@@ -5,13 +5,8 @@ ghost use Rattle.nd_chronicle.specs.Told.{loss_text, way_text};
 ghost use Rattle.nd_out.specs.Out.{loss_of};
 
 use crate::out::Loss;
-use nd_addr::{Addr, ETHERNET_HEADER_LENGTH};
+use nd_addr::{Addr, ETHERNET_HEADER_LENGTH, IPV6_DESTINATION_AT, IPV6_SOURCE_AT};
 use std::alloc::{AllocError, Allocator};
-
-/// Where the source and the destination stand in a packet (RFC 8200, section 3).
-const SOURCE_AT: usize = 8;
-
-const DESTINATION_AT: usize = 24;
 
 /// The word for why a packet was lost.
 pub(crate) fn loss_word(why: Loss) -> &'static str
@@ -63,7 +58,7 @@ pub(crate) fn write_way<A: Allocator>(text: &mut String<A>, frame: &[u8]) -> Res
     ensures { OnOk result (string_bytes text.new ≡ string_bytes text.old ++ way_text frame.now) }
 {
     let packet = &frame[ETHERNET_HEADER_LENGTH..];
-    write_address_at(text, packet, SOURCE_AT)?;
+    write_address_at(text, packet, IPV6_SOURCE_AT)?;
     text.push_str(" ")?;
-    write_address_at(text, packet, DESTINATION_AT)
+    write_address_at(text, packet, IPV6_DESTINATION_AT)
 }

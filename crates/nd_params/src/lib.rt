@@ -7,5 +7,5 @@ mod reachable_time;
 mod router_advertisement;
 mod values;
 
-pub use params::Params;
+pub use params::{Params, REACHABLE_TIME};
 pub use reachable_time::reachable_range;

@@ -11,7 +11,7 @@ use std::marker::Model;
 const DEFAULT_HOP_LIMIT: u8 = 64;
 
 /// BaseReachableTime until a router tells one, in milliseconds (RFC 4861, section 10).
-const REACHABLE_TIME: u32 = 30_000;
+pub const REACHABLE_TIME: u32 = 30_000;
 
 /// RetransTimer until a router tells one, in milliseconds (RFC 4861, section 10).
 const RETRANS_TIMER: u32 = 1_000;

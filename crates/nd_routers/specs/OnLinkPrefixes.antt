@@ -7,7 +7,7 @@ use Rattle.nd_addr.specs.Prefix.{PrefixValue}
 use Rattle.nd_decode.specs.declared.prefix_info.PrefixInfo.{PrefixInfo}
 use Rattle.nd_decode.specs.Option.{Said, slla, tlla, prefix, redirected, mtu, rdnss, dnssl, other}
 use Rattle.nd_decode.specs.Pieces.{options_left}
-use Rattle.nd_routers.specs\.declared.on_link_prefixes.OnLink.{OnLink}
+use Rattle.nd_routers.specs.declared.on_link_prefixes.OnLink.{OnLink}
 
 -- how many prefixes may be on the link (our choice)
 abbrev pub max_prefixes : ℕ

@@ -6,12 +6,9 @@ ghost use Rattle.nd_addr.specs.Places.{packet_in};
 ghost use Rattle.nd_addr.specs.Frame.{ethernet_mtu};
 ghost use Rattle.nd_steps.specs.Packets.{frame_of};
 
-use nd_addr::{Addr, ETHERNET_HEADER_LENGTH, HEADERS_LENGTH, Ip6, Mac, write_frame};
+use nd_addr::{Addr, ETHERNET_HEADER_LENGTH, IPV6_HEADER_LENGTH, Ip6, Mac, write_frame};
 use nd_packet::Packet;
 use std::alloc::{AllocError, Allocator};
-
-/// How many bytes an IPv6 header has (RFC 8200, section 3).
-pub(crate) const IPV6_HEADER_LENGTH: usize = HEADERS_LENGTH - ETHERNET_HEADER_LENGTH;
 
 /// The packet in a frame, from its IPv6 header to the end of a payload of this length, in bytes: padding behind it is left out (RFC 8200,
 /// section 3).

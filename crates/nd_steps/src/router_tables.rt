@@ -12,7 +12,7 @@ ghost use Rattle.nd_message.specs.WellFormed.{IsWellFormed};
 ghost use Rattle.nd_slaac.specs.View.{falls_of};
 ghost use Rattle.nd_steps.specs.RouterTables.{Advertises, NotesAddress, Plans, next_advertisement, plans};
 
-use crate::draw::{answer_delay_drawn, interval_drawn};
+use crate::draws::{answer_delay_drawn, interval_drawn};
 use nd_addr::{Addr, Mac, Role};
 use nd_advertiser::Advertiser;
 use nd_compose::router_advertisement_frame;
