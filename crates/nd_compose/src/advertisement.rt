@@ -10,7 +10,8 @@ use nd_packet::Packet;
 use std::alloc::{Allocator, Global};
 
 impl<A: Allocator> FrameRoom<A> {
-    /// The answer to a solicitation from `::` for an own address: it tells all nodes that the address is held (RFC 4861, section 7.2.4).
+    /// Returns the answer to a solicitation from `::` for one of the node's own addresses: an advertisement to all nodes says that this node has
+    /// the address (RFC 4861, section 7.2.4).
     pub fn defence(self, router: bool, mac: Mac, target: Addr) -> Packet<A>
         ensures { result ≡ defence_frame router mac target }
     {
@@ -24,16 +25,15 @@ impl<A: Allocator> FrameRoom<A> {
         )
     }
 
-    /// The answer to a solicitation from an address for an own one (RFC 4861, section 7.2.4). Its Ethernet destination is still open: the
-    /// packet is addressed when it is sent.
+    /// Returns the answer to a solicitation from an address for one of the node's own (RFC 4861, section 7.2.4). Its Ethernet destination is still
+    /// open: the packet is addressed when it is sent.
     pub fn answer(self, router: bool, mac: Mac, target: Addr, asker: Addr) -> Packet<A>
         ensures { result ≡ answer_frame router mac target asker }
     {
         self.advertise(OPEN_MAC, mac, asker, router, true, target)
     }
 
-    /// A Neighbor Advertisement from its target, with the link-layer address of that, which is to override one that is known (RFC 4861,
-    /// section 4.4).
+    /// Returns a Neighbor Advertisement from its target, with the target's link-layer address and the Override flag (RFC 4861, section 4.4).
     #[tactic(auto, using(crate::proofs::Formed::advertisement_formed, crate::proofs::Formed::advertisement_short))]
     fn advertise(
         self,

@@ -12,10 +12,10 @@ use nd_message::{Body, Opt, put_frame};
 use nd_packet::Packet;
 use std::alloc::{AllocError, Allocator};
 
-/// How many bytes the longest of these messages has: a target, and one link-layer address (RFC 4861, sections 4.3 and 4.4).
+/// The length of the longest of these messages, in bytes: a target, and one link-layer address (RFC 4861, sections 4.3 and 4.4).
 const LONGEST_MESSAGE: usize = 32;
 
-/// Room for one frame that a node sends of its own.
+/// Room for one frame that a node sends for itself.
 #[derive(Drop)]
 pub struct FrameRoom<A: Allocator> {
     bytes: Vec<u8, A>,
@@ -24,14 +24,14 @@ pub struct FrameRoom<A: Allocator> {
 }
 
 impl<A: Allocator> FrameRoom<A> {
-    /// Takes the room. The error is want of memory.
+    /// Reserves the room. Returns an error if out of memory.
     pub fn new(alloc: A) -> Result<Self, AllocError> {
         Ok(FrameRoom {
             bytes: Vec::with_capacity(alloc, HEADERS_LENGTH + LONGEST_MESSAGE)?,
         })
     }
 
-    /// Writes the frame of a message into it, to one Ethernet address from another, from a source to a destination.
+    /// Writes the frame of a message into the room, from one Ethernet address to another, and from a source to a destination.
     #[tactic(auto, using(crate::proofs::Formed::long))]
     pub(crate) fn write<B: Allocator>(
         self,
@@ -55,7 +55,7 @@ impl<A: Allocator> FrameRoom<A> {
     }
 }
 
-/// What an Ethernet address and an address keep to, for the definitions: so many bytes each.
+/// Says for the definitions what the types say: an Ethernet address has 6 bytes, and an address 16.
 pub(crate) fn are_bytes(mac: &Mac, address: &Addr)
     ensures mac { AreBytes 6 mac.now.0 }
     ensures address { AreBytes 16 address.now.0 }

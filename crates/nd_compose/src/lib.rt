@@ -1,5 +1,5 @@
-//! The frames that a node sends of its own (RFC 4861, sections 4 and 7.2; RFC 4862, section 5.4). The short ones are written into room that is
-//! taken beforehand, so that sending one takes no memory; those of a router are made before they are sent.
+//! The frames that a node sends for itself (RFC 4861, sections 4 and 7.2; RFC 4862, section 5.4). The short ones are written into room that is
+//! reserved beforehand, so that sending one takes no memory; those of a router are made before they are sent.
 #![tactic(auto)]
 
 mod advertisement;

@@ -8,8 +8,8 @@ use nd_message::{Body, Opt, put_frame, written_length};
 use nd_packet::Packet;
 use std::alloc::{AllocError, Allocator};
 
-/// The frame of a message that may be long, to one Ethernet address from another, from a source to a destination, in room of its own
-/// length. The error is want of memory.
+/// Returns the frame of a message that may be long, from one Ethernet address to another, and from a source to a destination, in room of its own
+/// length. Returns an error if out of memory.
 #[tactic(auto, using(crate::proofs::Formed::long))]
 pub(crate) fn message_frame<A: Allocator, B: Allocator>(
     alloc: A,

@@ -11,20 +11,20 @@ use nd_message::{Body, Opt, Redirect};
 use nd_packet::Packet;
 use std::alloc::{AllocError, Allocator};
 
-/// How many bytes of the packet a Redirect quotes at most: what 1,280 bytes leave behind the headers and the fields, and what the option begins
-/// with (RFC 4861, section 4.5).
+/// The most bytes of the packet that a Redirect quotes: 1,280 bytes, less the headers, the fields, and the first bytes of the option (RFC 4861,
+/// section 4.5).
 const MOST_QUOTED: usize = 1192;
 
-/// The same behind a link-layer address (RFC 4861, section 4.5).
+/// The same after a link-layer address (RFC 4861, section 4.5).
 const MOST_QUOTED_BEHIND_ADDRESS: usize = 1184;
 
-/// How many options a Redirect has at most.
+/// The most options of a Redirect.
 const MOST_OPTIONS: usize = 2;
 
-/// The unit in which the lengths of options are told, in bytes (RFC 4861, section 4.6).
+/// The unit of the lengths of options, in bytes (RFC 4861, section 4.6).
 const OPTION_UNIT: usize = 8;
 
-/// The beginning of a packet, with zeros up to a whole unit (RFC 4861, section 4.6.3). The error is want of memory.
+/// Returns the beginning of a packet, padded with zeros to a whole unit (RFC 4861, section 4.6.3). Returns an error if out of memory.
 fn quoted<A: Allocator>(alloc: A, packet: &[u8], most: usize) -> Result<Vec<u8, A>, AllocError>
     ensures { IfOk result (λ bytes. bytes.items ≡ padded (take most packet.now)) }
 {
@@ -37,7 +37,7 @@ fn quoted<A: Allocator>(alloc: A, packet: &[u8], most: usize) -> Result<Vec<u8, 
     Ok(bytes)
 }
 
-/// How many bytes of the packet a Redirect quotes at most, by whether it tells a link-layer address (RFC 4861, section 4.5).
+/// Returns the most bytes of the packet that a Redirect quotes, with or without a link-layer address (RFC 4861, section 4.5).
 fn most_quoted(target_mac: Option<Mac>) -> usize
     ensures value { result ≡ most_quoted (target_options target_mac) }
     ensures most { result ≤ 1192 }
@@ -52,7 +52,7 @@ fn most_quoted(target_mac: Option<Mac>) -> usize
     }
 }
 
-/// The options before the packet. The error is want of memory.
+/// Returns the options before the packet. Returns an error if out of memory.
 fn first_options<A: Allocator>(
     alloc: A,
     target_mac: Option<Mac>,
@@ -69,9 +69,9 @@ fn first_options<A: Allocator>(
     }
 }
 
-/// A Redirect from an own address to who sent a packet, with the link-layer address of the target, if that is known, and as much of the
-/// packet, from its IPv6 header on, as 1,280 bytes leave (RFC 4861, sections 4.5 and 8.2). Its Ethernet destination is still open: it
-/// is addressed when it is sent. The error is want of memory.
+/// Returns a Redirect from `source`, one of the node's own addresses, to `to`, the sender of a packet, with the link-layer address of the target,
+/// if that is known. It quotes as much of the packet, from its IPv6 header on, as 1,280 bytes allow (RFC 4861, sections 4.5 and 8.2). Its Ethernet
+/// destination is still open: the frame is addressed when it is sent. Returns an error if out of memory.
 pub fn redirect_frame<A: Allocator + Clone>(
     alloc: &A,
     mac: Mac,

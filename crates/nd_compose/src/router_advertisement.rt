@@ -9,7 +9,8 @@ use nd_message::Message;
 use nd_packet::Packet;
 use std::alloc::{AllocError, Allocator};
 
-/// The frame of a Router Advertisement to all nodes, from an own address (RFC 4861, section 6.2.4). The error is want of memory.
+/// Returns the frame of a Router Advertisement to all nodes, from one of the node's own addresses (RFC 4861, section 6.2.4). Returns an error if
+/// out of memory.
 pub fn router_advertisement_frame<A: Allocator, B: Allocator>(
     alloc: A,
     mac: Mac,

@@ -8,7 +8,7 @@ use nd_packet::Packet;
 use std::alloc::{Allocator, Global};
 
 impl<A: Allocator> FrameRoom<A> {
-    /// A Router Solicitation to all routers, from an own address (RFC 4861, section 6.3.7).
+    /// Returns a Router Solicitation to all routers, from one of the node's own addresses (RFC 4861, section 6.3.7).
     #[tactic(auto, using(crate::proofs::Formed::router_solicitation_formed, crate::proofs::Formed::router_solicitation_short))]
     pub fn router_solicitation(self, mac: Mac, source: Addr) -> Packet<A>
         ensures { result ≡ router_solicitation_frame mac source }

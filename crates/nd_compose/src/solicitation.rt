@@ -9,7 +9,7 @@ use nd_packet::Packet;
 use std::alloc::{Allocator, Global};
 
 impl<A: Allocator> FrameRoom<A> {
-    /// A solicitation of duplicate address detection for an address: from `::`, without options (RFC 4862, section 5.4.2).
+    /// Returns a solicitation of duplicate address detection for an address: from `::`, without options (RFC 4862, section 5.4.2).
     #[tactic(auto, using(crate::proofs::Formed::bare_formed, crate::proofs::Formed::bare_short))]
     pub fn detection(self, mac: Mac, address: Addr) -> Packet<A>
         ensures { result ≡ detection_frame mac address }
@@ -28,7 +28,7 @@ impl<A: Allocator> FrameRoom<A> {
         )
     }
 
-    /// A multicast solicitation of a neighbour, from an own address (RFC 4861, section 7.2.2).
+    /// Returns a multicast solicitation of a neighbour, from one of the node's own addresses (RFC 4861, section 7.2.2).
     pub fn resolution(self, mac: Mac, source: Addr, target: Addr) -> Packet<A>
         ensures { result ≡ resolution_frame mac source target }
     {
@@ -42,14 +42,16 @@ impl<A: Allocator> FrameRoom<A> {
         )
     }
 
-    /// A unicast solicitation of a neighbour whose Ethernet address is known, from an own address (RFC 4861, section 7.3.3).
+    /// Returns a unicast solicitation of a neighbour whose Ethernet address is known, from one of the node's own addresses (RFC 4861, section
+    /// 7.3.3).
     pub fn probe(self, mac: Mac, source: Addr, to: Mac, target: Addr) -> Packet<A>
         ensures { result ≡ probe_frame mac source to target }
     {
         self.solicit(to, mac, source, target, target)
     }
 
-    /// A Neighbor Solicitation with the link-layer address of its sender (RFC 4861, section 4.3).
+    /// Returns a Neighbor Solicitation with the link-layer address of its sender (RFC 4861, section 4.3).
+    ///
     #[tactic(auto, using(crate::proofs::Formed::solicitation_formed, crate::proofs::Formed::solicitation_short))]
     fn solicit(self, to: Mac, mac: Mac, source: Addr, destination: Addr, target: Addr) -> Packet<A>
         ensures { result ≡ message_frame to mac source destination (solicitation mac target) }

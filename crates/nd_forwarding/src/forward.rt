@@ -10,10 +10,10 @@ use nd_addr::{Addr, Ip6};
 use nd_nexthop::Hop;
 use std::alloc::Allocator;
 
-/// The least hop limit of a packet that is sent on: it is decremented, and may not become zero (RFC 8200, section 3).
+/// The least hop limit of a packet that is sent on: it is decremented, and must not become zero (RFC 8200, section 3).
 const LEAST_HOP_LIMIT: u8 = 2;
 
-/// What becomes of a packet that is to be forwarded.
+/// What becomes of a packet in transit.
 #[derive(Clone, Copy, Debug, PartialEq, Eq)]
 pub enum Fate {
     /// It is sent to its destination, which is on the link.
@@ -22,19 +22,19 @@ pub enum Fate {
     Via(Addr),
     /// It is lost, since there is no route to its destination.
     NoRoute,
-    /// It is lost, since its hop limit is spent.
+    /// It is lost, since its hop limit doesn't allow another hop.
     HopLimit,
 }
 
-/// Whether a packet may be forwarded: whether neither its source nor its destination is link-local, unspecified, loopback (RFC 4291,
-/// sections 2.5.6, 2.5.2 and 2.5.3) or multicast, which is our choice.
+/// Returns true if a packet may be forwarded: neither its source nor its destination is link-local, unspecified, loopback (RFC 4291, sections
+/// 2.5.6, 2.5.2 and 2.5.3) or multicast, which is our choice.
 pub fn may_be_forwarded(header: &Ip6) -> bool
     ensures { result ≡ may_be_forwarded header.now }
 {
     !(stays(header.source) || stays(header.destination))
 }
 
-/// Whether packets from and to an address stay on their link.
+/// Returns true if packets from and to an address stay on their link.
 fn stays(address: Addr) -> bool
     ensures { result ≡ stays address.0 }
 {
@@ -45,7 +45,7 @@ fn stays(address: Addr) -> bool
 }
 
 impl<A: Allocator> Routes<A> {
-    /// What becomes of a packet that may be forwarded, whose destination is an own address or isn't.
+    /// Returns what becomes of a packet that may be forwarded. `is_own`: its destination is one of the node's own addresses.
     pub fn forward(&self, header: &Ip6, is_own: bool) -> Fate
         ensures value { (own : List ℕ → Bool) → own header.now.destination.0 ≡ is_own → fate_of result ≡ fate own self.now.entries header.now }
         ensures by_history { (own : List ℕ → Bool) → own header.now.destination.0 ≡ is_own → (history : List Row) → Stands self.now history → fate_of result ≡ fate own (routes history) header.now }
@@ -54,7 +54,7 @@ impl<A: Allocator> Routes<A> {
     }
 }
 
-/// What becomes of a packet of this hop limit that has this next hop.
+/// Returns what becomes of a packet with this hop limit and this next hop.
 fn fate_by(hop_limit: u8, hop: Hop) -> Fate
     ensures { fate_of result ≡ fate_by hop_limit (hop_of hop) }
 {

@@ -10,7 +10,7 @@ pub struct KeptRoute {
     pub route: Route,
 }
 
-/// The static routes, in the order in which their prefixes came.
+/// The static routes, in the order in which their prefixes were first put.
 #[derive(Drop)]
 pub struct KeptRoutes<'a> {
     rest: Iter<'a, Prefix, Route>,

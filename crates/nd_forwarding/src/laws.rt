@@ -11,19 +11,19 @@ ghost use Rattle.nd_forwarding.specs.Routes.{AllShorter, NoneHolds, NoneLonger, 
 ghost use Rattle.nd_forwarding.specs.Table.{Stands, Table};
 ghost use Rattle.nd_forwarding.specs.declared.route.Route.{Route};
 
-/// What happened gives one table, in which each prefix has the route that was put last for it.
+/// A history gives one table, in which each prefix has the route that was put last for it.
 pub fn one_answer()
     ensures table { (history : List Row) (a b : Table) → Stands a history → Stands b history → a ≡ b }
     ensures found { (history : List Row) (prefix : PrefixValue) → lookup (same_prefix prefix) (routes history) ≡ route_of prefix history }
 {}
 
-/// The longest route to an address is one that holds it where none that holds it is longer; there is none where none holds it.
+/// The longest route to an address is one whose prefix holds the address while no longer one does. There is none if no prefix holds it.
 pub fn longest_route()
     ensures longest { (address : List ℕ) (before behind : List (PrefixValue × Route)) (e : PrefixValue × Route) → holds e.0 address ≡ true → AllShorter address e.0.length before → NoneLonger address e.0.length behind → longest address (before ++ e ∷ behind) ≡ Some e }
     ensures none { (address : List ℕ) (es : List (PrefixValue × Route)) → NoneHolds address es → longest address es ≡ None }
 {}
 
-/// Two prefixes of one length that hold an address are one (RFC 4291, section 2.3), so there is one longest route.
+/// Two prefixes of one length that hold an address are the same (RFC 4291, section 2.3), so there is one longest route.
 pub fn one_prefix()
     ensures { (a b : PrefixValue) (address : List ℕ) → IsPrefix a.address.0 a.length → IsPrefix b.address.0 b.length → AreBytes 16 address → a.length ≡ b.length → Holds a address → Holds b address → a ≡ b }
 {}

@@ -1,4 +1,4 @@
-//! Where a router sends packets: its static routes, its next hops, and when it sends a Redirect (RFC 4861, sections 5.2 and 8.2).
+//! Forwarding by a router: its static routes, its next hops, and the moments of its Redirects (RFC 4861, sections 5.2 and 8.2).
 #![tactic(auto)]
 
 mod forward;

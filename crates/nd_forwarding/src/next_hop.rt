@@ -14,7 +14,7 @@ use nd_nexthop::Hop;
 use std::alloc::Allocator;
 
 impl<A: Allocator> Routes<A> {
-    /// The next hop of a packet, whose destination is an own address or isn't (RFC 4861, section 5.2).
+    /// Returns the next hop of a packet (RFC 4861, section 5.2). `is_own`: its destination is one of the node's own addresses.
     pub fn next_hop(&self, destination: Addr, is_own: bool) -> Hop
         ensures value { (own : List ℕ → Bool) → own destination.0 ≡ is_own → hop_of result ≡ hop own self.now.entries destination.0 }
         ensures by_history { (own : List ℕ → Bool) → own destination.0 ≡ is_own → (history : List Row) → Stands self.now history → hop_of result ≡ hop own (routes history) destination.0 }
@@ -23,7 +23,7 @@ impl<A: Allocator> Routes<A> {
     }
 }
 
-/// The next hop of a packet, to whose destination this is the longest route.
+/// Returns the next hop of a packet; `route` is the longest route to its destination.
 fn determine(destination: Addr, is_own: bool, route: Option<Route>) -> Hop
     ensures { (own : List ℕ → Bool) → own destination.0 ≡ is_own → hop_of result ≡ hop_by own route destination.0 }
 {
@@ -36,21 +36,21 @@ fn determine(destination: Addr, is_own: bool, route: Option<Route>) -> Hop
     by_route(route)
 }
 
-/// Whether nothing is sent to an address, since it is unspecified, the loopback address or an own one.
+/// Returns true if nothing is sent to an address, since it is unspecified, the loopback address or one of the node's own.
 fn is_own_or_none(destination: Addr, is_own: bool) -> bool
     ensures { (own : List ℕ → Bool) → own destination.0 ≡ is_own → result ≡ is_own_or_none own destination.0 }
 {
     destination.is_unspecified() || destination.is_loopback() || is_own
 }
 
-/// Whether an address is in fe80::/64, which is on the link (RFC 4291, section 2.5.6).
+/// Returns true if an address is in fe80::/64, which is on the link (RFC 4291, section 2.5.6).
 fn is_in_link_local_subnet(destination: Addr) -> bool
     ensures { result ≡ holds link_local_subnet destination.0 }
 {
     Prefix::link_local_subnet().holds(destination)
 }
 
-/// Where a packet goes by a route, if there is one.
+/// Returns the next hop by a route, if there is one.
 fn by_route(route: Option<Route>) -> Hop
     ensures { hop_of result ≡ by_route route }
 {

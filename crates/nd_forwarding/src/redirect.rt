@@ -15,8 +15,8 @@ use std::alloc::Allocator;
 const MIN_DELAY_BETWEEN_REDIRECTS: u64 = 100;
 
 impl<A: Allocator> Routes<A> {
-    /// The target of the Redirect that is sent now before a packet is forwarded, if one is (RFC 4861, section 8.2). The destination of the packet is
-    /// an own address or isn't.
+    /// Returns the target of the Redirect that is sent at `now`, in milliseconds, before a packet is forwarded, if one is (RFC 4861, section 8.2).
+    /// `is_own`: the packet's destination is one of the node's own addresses.
     pub fn redirect_for(&self, now: u64, header: &Ip6, is_own: bool) -> Option<Addr>
         ensures value { (own : List ℕ → Bool) → own header.now.destination.0 ≡ is_own → result ≡ redirect own self.now.entries self.now.redirected now header.now }
         ensures by_history { (own : List ℕ → Bool) → own header.now.destination.0 ≡ is_own → (history : List Row) → Stands self.now history → result ≡ redirect own (routes history) (last_redirect history) now header.now }
@@ -28,14 +28,14 @@ impl<A: Allocator> Routes<A> {
         other_than(header.source, target)
     }
 
-    /// A Redirect was made, whether it is sent now or waits for the address of a neighbour.
+    /// Notes at `now`, in milliseconds, that a Redirect was made, which is sent now or waits for a neighbour's link-layer address.
     pub fn redirected(&mut self, now: u64)
         ensures stands { GainsRow self.old self.new (RedirectMade now) }
     {
         self.redirected = Some(now);
     }
 
-    /// Whether a packet is forwarded that comes from a neighbour.
+    /// Returns true if a packet is forwarded and its source is on the link.
     fn redirects(&self, header: &Ip6, is_own: bool) -> bool
         ensures { (own : List ℕ → Bool) → own header.now.destination.0 ≡ is_own → result ≡ redirects own self.now.entries header.now }
     {
@@ -45,7 +45,7 @@ impl<A: Allocator> Routes<A> {
     }
 }
 
-/// Whether a packet isn't lost.
+/// Returns true if a packet isn't lost.
 fn is_sent(fate: Fate) -> bool
     ensures { result ≡ is_sent (fate_of fate) }
 {
@@ -55,7 +55,7 @@ fn is_sent(fate: Fate) -> bool
     }
 }
 
-/// Whether there is a route that leads to the destination itself.
+/// Returns true if there is a route, directly to the destination.
 fn is_direct(route: Option<Route>) -> bool
     ensures { result ≡ is_direct route }
 {
@@ -65,7 +65,8 @@ fn is_direct(route: Option<Route>) -> bool
     }
 }
 
-/// Whether the last Redirect was made so long ago, if there was one, that another one may be sent (RFC 4861, section 8.2).
+/// Returns true if there was no Redirect before, or the last one was made long enough ago for another one (RFC 4861, section 8.2). Moments are in
+/// milliseconds.
 fn may_redirect(now: u64, last: Option<u64>) -> bool
     ensures { result ≡ may_redirect now last }
 {
@@ -75,7 +76,7 @@ fn may_redirect(now: u64, last: Option<u64>) -> bool
     }
 }
 
-/// The better first hop of a destination by its route, if it can be told.
+/// Returns the better first hop of a destination by its route, if that is the destination itself or a link-local address.
 fn first_hop(destination: Addr, route: Option<Route>) -> Option<Addr>
     ensures { result ≡ first_hop destination route }
 {
@@ -86,7 +87,7 @@ fn first_hop(destination: Addr, route: Option<Route>) -> Option<Addr>
     }
 }
 
-/// The target, unless it is who sent the packet.
+/// Returns the target, unless it is the sender of the packet.
 fn other_than(source: Addr, target: Option<Addr>) -> Option<Addr>
     ensures { result ≡ other_than source target }
 {

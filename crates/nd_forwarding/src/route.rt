@@ -1,6 +1,6 @@
 use nd_addr::Addr;
 
-/// Where packets go that have a static route.
+/// The way of the packets of a static route.
 #[derive(Clone, Copy, Debug, PartialEq, Eq)]
 pub enum Route {
     /// To their destination, which is on the link.

@@ -15,14 +15,14 @@ use std::alloc::{AllocError, Allocator};
 use std::hash::{BuildHasherDefault, FoldHasher};
 use std::marker::Model;
 
-/// How many static routes there may be (our choice).
+/// The most static routes (our choice).
 const MAX_ROUTES: usize = 64;
 
-/// There are as many static routes as there may be.
+/// The table of static routes is full.
 #[derive(Clone, Copy, Debug, PartialEq, Eq)]
 pub struct Full;
 
-/// Routes by their prefixes, in the order in which these came.
+/// Routes by their prefixes, in the order in which the prefixes were first put.
 type Entries<A> = IndexMap<Prefix, Route, BuildHasherDefault<FoldHasher>, A>;
 
 /// The static routes of a router, and when it last made a Redirect. Moments are in milliseconds.
@@ -47,7 +47,7 @@ impl<A: Allocator> Model for Routes<A> {
 }
 
 impl<A: Allocator + Copy> Routes<A> {
-    /// No routes, with room for 64. The error is out of memory.
+    /// Returns an empty table with room for 64 routes. Returns an error if out of memory.
     pub fn new(alloc: A) -> Result<Self, AllocError>
         ensures empty { IfOk result (λ r. r ≡ record { entries = []; redirected = None }) }
         ensures stands { IfOk result (λ r. Stands r []) }
@@ -60,7 +60,7 @@ impl<A: Allocator + Copy> Routes<A> {
 }
 
 impl<A: Allocator> Routes<A> {
-    /// Returns how many routes there are, at most 64.
+    /// Returns the number of routes, at most 64.
     pub fn len(&self) -> usize
         ensures value { result ≡ length self.now.entries }
         ensures few { result ≤ max_routes }
@@ -68,8 +68,8 @@ impl<A: Allocator> Routes<A> {
         self.routes.len()
     }
 
-    /// A route is put: behind the others where its prefix has none, else in the place of the one that it has. Where a new prefix would be the
-    /// 65th, it is `Full`, and nothing has changed. It takes no memory.
+    /// Puts a route: at the end if its prefix has none, and otherwise in place of the existing one. Returns `Full` if a new prefix would be the
+    /// 65th; nothing has changed then. It takes no memory.
     pub fn put(&mut self, prefix: Prefix, route: Route) -> Result<(), Full>
         ensures full { is_ok result ≡ fits prefix self.old.entries }
         ensures by_history { (history : List Row) → Stands self.old history → is_ok result ≡ fits prefix (routes history) }
@@ -88,7 +88,7 @@ impl<A: Allocator> Routes<A> {
         }
     }
 
-    /// The routes, in the order in which their prefixes came.
+    /// Returns the routes, in the order in which their prefixes were first put.
     pub fn rows(&self) -> KeptRoutes<'_>
         ensures value { routes_left result ≡ self.now.entries }
         ensures few { length (routes_left result) ≤ max_routes }
@@ -97,7 +97,7 @@ impl<A: Allocator> Routes<A> {
         KeptRoutes::new(self.routes.iter())
     }
 
-    /// The route to an address: of those whose prefixes hold it that with the longest prefix.
+    /// Returns the route to an address: of the prefixes that hold it, that of the longest.
     #[tactic(auto, using(crate::proofs::Longest::found_all))]
     pub fn look(&self, destination: Addr) -> Option<Route>
         ensures value { result ≡ route_to destination.0 self.now.entries }
@@ -116,7 +116,7 @@ impl<A: Allocator> Routes<A> {
     }
 }
 
-/// A route takes the place of the one that its prefix has, where it has one.
+/// Replaces the route of a prefix. Returns false if the prefix has none; nothing has changed then.
 fn replace<A: Allocator>(entries: &mut Entries<A>, prefix: Prefix, route: Route) -> bool
     ensures found { result ≡ has_route prefix entries.old.entries }
     ensures entries { result ≡ true → entries.new.entries ≡ insert_entry same_prefix entries.old.entries prefix route }
@@ -135,7 +135,7 @@ fn replace<A: Allocator>(entries: &mut Entries<A>, prefix: Prefix, route: Route)
     }
 }
 
-/// Whether a prefix holds an address, and is longer than the one that was found so far, if there is one.
+/// Returns true if a prefix holds an address and is longer than the one found so far, if there is one.
 fn is_longer(prefix: &Prefix, destination: Addr, found: Option<(u8, Route)>) -> bool
     ensures { result ≡ (holds prefix.now destination.0 && exceeds prefix.now.length found) }
 {

@@ -56,7 +56,7 @@ impl<W, R: Rng + Drop, A: Allocator + Copy> Link<W, R, A> {
         tell_refused(told, now, why)
     }
 
-    /// An event comes to a node that is there. The error is out of memory, and then nothing is told.
+    /// Passes an event to the node at `place`. Returns an error if out of memory; nothing is reported then.
     pub(crate) fn arrive(
         &mut self,
         now: u64,

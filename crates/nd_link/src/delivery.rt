@@ -24,7 +24,7 @@ use rand_core::Rng;
 use std::alloc::{AllocError, Allocator};
 
 impl<W, R: Rng + Drop, A: Allocator + Copy> Link<W, R, A> {
-    /// An event comes to a node, if that is there. The error is out of memory, and then nothing is told.
+    /// Passes an event to the node of this number, or refuses it if there is none. Returns an error if out of memory; nothing is reported then.
     pub(crate) fn come(
         &mut self,
         now: u64,
@@ -49,8 +49,8 @@ impl<W, R: Rng + Drop, A: Allocator + Copy> Link<W, R, A> {
 }
 
 impl<W: Wire, R: Rng + Drop, A: Allocator + Copy> Link<W, R, A> {
-    /// A frame is carried to a node, if both are there and the node isn't its sender. Where an error comes, nothing is told; where it is the
-    /// wire's, the receiver has heard nothing.
+    /// Carries a frame to a node. It is refused if there is no such node or frame, or if the node is the frame's sender. Returns an error if out of
+    /// memory or if the wire fails; nothing is reported then, and if the wire fails, the receiver has heard nothing.
     pub(crate) fn deliver(
         &mut self,
         now: u64,
@@ -78,7 +78,7 @@ impl<W: Wire, R: Rng + Drop, A: Allocator + Copy> Link<W, R, A> {
         }
     }
 
-    /// What arrives at a node of a frame that was sent.
+    /// Returns what arrives at the node at place `to` of the frame at place `sent`.
     fn carried(&mut self, to: usize, sent: usize) -> Result<Vec<u8, A>, LinkFault>
         requires there { sent < vec_len self.old.frames }
         ensures arrives { IfOk result (λ frame. Arrived W.arrives to self.old.frames.items sent frame.items) }
@@ -96,7 +96,7 @@ impl<W: Wire, R: Rng + Drop, A: Allocator + Copy> Link<W, R, A> {
     }
 }
 
-/// The places of the node and of the frame that a delivery names, or the first reason why it is refused.
+/// Returns the places of the node and of the frame that a delivery names, or the first reason to refuse it.
 fn way<A: Allocator>(
     node: u64,
     number: u64,
@@ -117,7 +117,7 @@ fn way<A: Allocator>(
     Ok((place, sent))
 }
 
-/// The place that a number names among so many.
+/// Returns the place of a number among `count` places, if there is one.
 fn place_of(number: u64, count: usize) -> Option<usize>
     ensures some { IfSome result (λ place. (place ≡ number) × (place < count)) }
     ensures none { IfNone result (count ≤ number) }

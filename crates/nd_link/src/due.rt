@@ -5,8 +5,8 @@ use nd_node::Node;
 use rand_core::Rng;
 use std::alloc::Allocator;
 
-/// The place of the node at which something falls due first, and the moment, in milliseconds: of two with the same moment that of the
-/// lesser number. `None` where there is no node.
+/// Returns the place of the node at which something is due first, and the moment, in milliseconds; of two nodes with the same moment, the one of
+/// the lesser number. Returns `None` if there is no node.
 pub(crate) fn first_due<R: Rng + Drop, A: Allocator + Copy>(
     nodes: &[Node<R, A>],
 ) -> Option<(usize, u64)>
@@ -19,7 +19,7 @@ pub(crate) fn first_due<R: Rng + Drop, A: Allocator + Copy>(
     first
 }
 
-/// The first of those so far and of the next one: the next one only where it is earlier.
+/// Returns the first of those so far or the next one, which is taken only if it is earlier.
 fn earlier(first: Option<(usize, u64)>, place: usize, due: u64) -> Option<(usize, u64)>
     ensures { result ≡ earlier first place due }
 {

@@ -25,7 +25,7 @@ use nd_wire::Wire;
 use rand_core::Rng;
 use std::alloc::Allocator;
 
-/// What comes to a link from outside.
+/// What a link receives from outside.
 #[derive(Drop)]
 pub enum LinkEvent<R, A: Allocator> {
     /// Time passes.
@@ -33,7 +33,7 @@ pub enum LinkEvent<R, A: Allocator> {
     /// Another node starts, with the usual limits: its role, its link-layer address, the number of solicitations that it sends for each of its
     /// addresses, and the generator of its random words.
     Starts(Role, Mac, Transmits, R),
-    /// An event comes to a node, by its number.
+    /// A node receives an event: the number of the node, and the event.
     Comes(u64, Event<A>),
     /// A frame is carried to a node: the number of the node, and that of the frame.
     Delivers(u64, u64),
@@ -54,17 +54,17 @@ fn known<R: Rng + Drop, A: Allocator>(event: &LinkEvent<R, A>)
     }
 }
 
-/// The same of a frame that comes.
+/// Says the same of the frame of an event.
 fn known_frame(frame: &[u8])
     ensures { IsBytes frame.now }
 {}
 
 impl<W: Wire, R: Rng + Drop, A: Allocator + Copy> Link<W, R, A> {
-    /// An event comes at a moment, in milliseconds. All that is due up to it comes first, its own millisecond included, at the node of the
-    /// least number where several have something due; then it adds what it adds. One that comes too late is refused alone. What happened is
-    /// told at the end.
+    /// Passes an event to the link at `now`, in milliseconds. The link first does all that is due up to `now`, this millisecond included, beginning
+    /// with the node of the least number if several have something due at the same moment; then it does what the event adds. An event earlier than
+    /// the link's last moment is only refused. What happened is appended to `told`.
     ///
-    /// Where memory is refused the link is spent. Where its wire fails, all that was due has come, and nothing else.
+    /// Out of memory: the link is closed. If its wire fails, all that was due is done, and nothing else.
     pub fn event(
         &mut self,
         now: u64,
@@ -83,10 +83,10 @@ impl<W: Wire, R: Rng + Drop, A: Allocator + Copy> Link<W, R, A> {
         ensures unspent_by_wire { IsErrOf result LinkFault.Wire → self.new.spent ≡ self.old.spent }
         ensures bytes { IsOfBytes (link_event R.stream event) }
 
-        // One that comes too late is refused whatever memory there is, if there is a place for it.
+        // An event that is too late is refused even if no memory is left, if the list has room for the refusal.
         ensures late { self.old.spent ≡ false → now < self.old.last → vec_len told.old < vec_capacity told.old → IsOk result }
 
-        // Where nothing is due up to it, time that passes and an event that the link refuses ask for no memory.
+        // If nothing is due up to `now`, time that passes and an event that the link refuses ask for no memory.
         ensures quiet { (log : Log) → Stands R.stream self.old log → self.old.spent ≡ false → self.old.last ≤ now → AreSettled now self.old.nodes.items → AsksForNone now log (link_event R.stream event) (vec_capacity told.old - vec_len told.old) → IsOk result }
     {
         known(&event);
@@ -102,12 +102,12 @@ impl<W: Wire, R: Rng + Drop, A: Allocator + Copy> Link<W, R, A> {
 
     /// Runs events one after the other, each at its moment, in milliseconds, and reports what happens. It stops at the first fault: the events
     /// before it have run, and possibly part of what is due before the next one, and all of that is reported. Out of memory: the link is closed,
-    /// and every later call returns that error, for no events too. If
-    /// the wire fails, all that was due up to that event is done, and the link stays in use.
+    /// and every later call returns that error, even one without events. If the wire fails, all that was due up to that event is done, and the link
+    /// stays in use.
     ///
-    /// If there was no fault since the link was made, and its log is timely, no address is preferred or deprecated at two nodes at any moment up
-    /// to the last one (RFC 4862, section 5.4). The same holds where frames are lost if, in each attempt for an address, one solicitation arrives in
-    /// time at each other node, and the answers to that solicitation arrive in time.
+    /// If there was no fault since the link was made, and its log is timely, no address is preferred or deprecated at two nodes at any moment up to
+    /// the last one (RFC 4862, section 5.4). The same holds if frames are lost, provided that in each attempt for an address one solicitation
+    /// arrives in time at each other node, and the answers to that solicitation arrive in time.
     pub fn run(
         &mut self,
         events: Vec<(u64, LinkEvent<R, A>), A>,
@@ -135,7 +135,7 @@ impl<W: Wire, R: Rng + Drop, A: Allocator + Copy> Link<W, R, A> {
         Ok(())
     }
 
-    /// The same, but that the link isn't closed by running out of memory.
+    /// Does the same, but doesn't close the link if out of memory.
     fn answer(
         &mut self,
         now: u64,
@@ -160,7 +160,7 @@ impl<W: Wire, R: Rng + Drop, A: Allocator + Copy> Link<W, R, A> {
         self.add(now, event, told)
     }
 
-    /// What an event adds, once all that is due up to it is done. Where an error comes, nothing is told.
+    /// Does what an event adds, once all that is due up to `now` is done. If it returns an error, nothing is reported.
     fn add(
         &mut self,
         now: u64,

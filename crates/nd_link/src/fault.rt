@@ -3,12 +3,12 @@ ghost use Rattle.std.specs.Prelude.{◌≡◌};
 use nd_wire::WireFault;
 use std::alloc::AllocError;
 
-/// Why an event of a link wasn't done.
+/// Why an event of a link could not be done.
 #[derive(Clone, Copy, Debug, PartialEq, Eq)]
 pub enum LinkFault {
-    /// Memory was refused. The link is spent: it answers nothing else from then on.
+    /// Out of memory. The link is closed: every later call returns this error.
     Memory,
-    /// The wire failed to carry a frame. All that was due has come, and the receiver has heard nothing.
+    /// The wire failed to carry a frame. All that was due is done, and the receiver has heard nothing.
     Wire,
 }
 

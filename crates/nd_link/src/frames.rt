@@ -7,7 +7,7 @@ use crate::sent_frame::SentFrame;
 use nd_out::Out;
 use std::alloc::{AllocError, Allocator};
 
-/// The frames among what a node tells are kept, each at the place of its number. The error is out of memory.
+/// Keeps the frames among what a node reports, each at the place of its number. Returns an error if out of memory.
 pub(crate) fn keep_frames<A: Allocator + Copy>(
     frames: &mut Vec<SentFrame<A>, A>,
     alloc: A,
@@ -22,7 +22,7 @@ pub(crate) fn keep_frames<A: Allocator + Copy>(
     Ok(())
 }
 
-/// The same for one that may be a frame.
+/// Does the same for one output, which may be a frame.
 fn keep_frame<A: Allocator + Copy>(
     frames: &mut Vec<SentFrame<A>, A>,
     alloc: A,

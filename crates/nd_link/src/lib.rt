@@ -1,5 +1,5 @@
-//! Nodes on one link that hear one another (RFC 4861, section 2.1): each event turns the nodes at which something is due, carries what it
-//! carries, and tells what happened, so that all of it is decided by the events alone.
+//! Nodes on one link that hear one another (RFC 4861, section 2.1). Each event does what is due at the nodes, carries what it carries, and reports
+//! what happened, so that the events alone decide everything.
 #![tactic(auto)]
 
 mod arrival;

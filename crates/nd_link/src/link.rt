@@ -7,7 +7,7 @@ use nd_wire::Wire;
 use rand_core::Rng;
 use std::alloc::Allocator;
 
-/// How many nodes a link may have (our choice).
+/// The most nodes of a link (our choice).
 pub const MAX_NODES: usize = 16;
 
 /// Nodes on one link, where the frames of each can be carried to the others (RFC 4861, section 2.1). Each moment that it takes is in
@@ -16,13 +16,13 @@ pub const MAX_NODES: usize = 16;
 pub struct Link<W, R, A: Allocator> {
     pub(crate) alloc: A,
     pub(crate) wire: W,
-    /// Each at the place of its number.
+    /// Each node is at the place of its number.
     pub(crate) nodes: Vec<Node<R, A>, A>,
-    /// Each at the place of its number.
+    /// Each frame is at the place of its number.
     pub(crate) frames: Vec<SentFrame<A>, A>,
     /// The moment up to which time has passed.
     pub(crate) last: u64,
-    /// Whether memory was refused.
+    /// An earlier call was out of memory.
     pub(crate) spent: bool,
     ghost few: { vec_len nodes ≤ max_nodes },
     ghost early: { last < 2 ^ 62 },
@@ -31,7 +31,7 @@ pub struct Link<W, R, A: Allocator> {
 impl<W: Wire, R: Rng + Drop, A: Allocator + Copy> Link<W, R, A> {
     ghost use Rattle.nd_link.specs.Link.{Stands};
 
-    /// A link on which no node has started.
+    /// Returns a link on which no node has started.
     pub fn new(alloc: A, wire: W) -> Self
         ensures stands { Stands R.stream result [] }
         ensures wire { result.wire ≡ wire }
@@ -47,7 +47,7 @@ impl<W: Wire, R: Rng + Drop, A: Allocator + Copy> Link<W, R, A> {
         }
     }
 
-    /// Returns how many nodes have started: never more than `MAX_NODES`.
+    /// Returns the number of nodes that have started, at most `MAX_NODES`.
     pub fn node_count(&self) -> usize
         ensures count { result ≡ vec_len self.now.nodes }
         ensures few { result ≤ max_nodes }
@@ -55,7 +55,7 @@ impl<W: Wire, R: Rng + Drop, A: Allocator + Copy> Link<W, R, A> {
         self.nodes.len()
     }
 
-    /// How many calls of its wire failed, up to the greatest number of 64 bits.
+    /// Returns the number of calls of its wire that failed, up to the greatest number of 64 bits.
     pub fn failures(&self) -> u64
         ensures { result ≡ W.failed self.now.wire }
     {

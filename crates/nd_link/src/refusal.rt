@@ -1,7 +1,7 @@
 /// Why a link refuses an event (the reasons are this project's own).
 #[derive(Clone, Copy, Debug, PartialEq, Eq)]
 pub enum Refusal {
-    /// It comes too late: time has passed up to this moment, in milliseconds.
+    /// It is too late: time has passed up to this moment, in milliseconds.
     TooLate(u64),
     /// No node has the number.
     NoNode,
@@ -9,6 +9,6 @@ pub enum Refusal {
     NoFrame,
     /// The node has sent the frame itself.
     Own,
-    /// There are as many nodes as there may be.
+    /// The link has as many nodes as it can have.
     Full,
 }

@@ -10,16 +10,16 @@ use crate::refusal::Refusal;
 use nd_out::Out;
 use std::alloc::{AllocError, Allocator};
 
-/// What a link tells.
+/// What a link reports.
 #[derive(Drop)]
 pub enum Told<A: Allocator> {
     /// What happened at a node, by its number, with the moments, in milliseconds, the oldest first.
     Node(usize, Vec<(u64, Out<A>), A>),
-    /// The link refused an event that came at this moment, in milliseconds.
+    /// The link refused an event of this moment, in milliseconds.
     Refused(u64, Refusal),
 }
 
-/// What happened at a node goes to the end, if anything did. The error is out of memory, and then nothing is told.
+/// Reports what happened at a node, if anything did. Returns an error if out of memory; nothing is reported then.
 pub(crate) fn tell<A: Allocator>(
     told: &mut Vec<Told<A>, A>,
     node: usize,
@@ -35,7 +35,7 @@ pub(crate) fn tell<A: Allocator>(
     Ok(())
 }
 
-/// A refusal goes to the end. The error is out of memory, and then nothing is told.
+/// Reports a refusal. Returns an error if out of memory; nothing is reported then.
 pub(crate) fn tell_refused<A: Allocator>(
     told: &mut Vec<Told<A>, A>,
     at: u64,

@@ -11,7 +11,7 @@ use rand_core::Rng;
 use std::alloc::{AllocError, Allocator};
 
 impl<W, R: Rng + Drop, A: Allocator + Copy> Link<W, R, A> {
-    /// Does all that is due up to a moment, at one node after the other, and tells it. The error is out of memory.
+    /// Does all that is due up to `now`, in milliseconds, at one node after the other, and reports it. Returns an error if out of memory.
     pub(crate) fn settle(&mut self, now: u64, told: &mut Vec<Told<A>, A>) -> Result<(), AllocError>
         requires moment { IsMoment now }
         requires in_time { self.old.last ≤ now }
@@ -35,7 +35,7 @@ impl<W, R: Rng + Drop, A: Allocator + Copy> Link<W, R, A> {
         }
     }
 
-    /// Does what is due first at the node that turns first. The error is out of memory, and then nothing is told.
+    /// Does what is due first at the node that turns first. Returns an error if out of memory; nothing is reported then.
     fn turn(&mut self, place: usize, due: u64, told: &mut Vec<Told<A>, A>) -> Result<(), AllocError>
         requires moment { due < 2 ^ 62 }
         requires first { IsFirst R.stream self.old.nodes.items place due }

@@ -14,7 +14,7 @@ use nd_packet::{Packet, Ring};
 use nd_table::Schedule;
 use std::alloc::Allocator;
 
-/// How many multicast solicitations a resolution sends, the first included (RFC 4861, section 10).
+/// The number of multicast solicitations of a resolution, the first included (RFC 4861, section 10).
 pub(crate) const MAX_MULTICAST_SOLICIT: u8 = 3;
 
 /// Begins a resolution with a first packet, for an address that has no entry; its entry belongs at place `at` (RFC 4861, section 7.2.2).
@@ -50,8 +50,8 @@ pub(crate) fn begin<A: Allocator>(
 impl<A: Allocator> Entry<A> {
     ghost use Rattle.nd_neighbour.specs.AddressResolution.{asked_entry};
 
-    /// An entry whose resolution begins now (INCOMPLETE), with a first packet that waits. The first solicitation is sent
-    /// now, the next is due a RetransTimer later (RFC 4861, section 7.2.2).
+    /// Returns an entry whose resolution begins now (INCOMPLETE), with a first packet that waits. The first solicitation is sent now, the next is
+    /// due a RetransTimer later (RFC 4861, section 7.2.2).
     pub(crate) fn asked(
         addr: Addr,
         now: u64,

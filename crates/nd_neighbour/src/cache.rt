@@ -12,8 +12,7 @@ use std::marker::Model;
 /// The most neighbours that a cache may have room for (our choice).
 pub const MAX_NEIGHBOURS: usize = 2048;
 
-/// How many rings may be in hand (our choice): one packet may need one for its neighbour and, as `room` asks, one for a
-/// second neighbour.
+/// The most rings in reserve (our choice): one packet may need one for its neighbour and, as `room` asks, one for a second neighbour.
 const MAX_RINGS: usize = 2;
 
 /// The neighbours of a node on its link (RFC 4861, section 5.1). Each moment that a call takes or returns is in
@@ -43,7 +42,7 @@ impl<A: Allocator> Model for Cache<A> {
 impl<A: Allocator + Clone> Cache<A> {
     ghost use Rattle.nd_neighbour.specs.Table.{Stands, max_neighbours};
 
-    /// Returns an empty cache with room for `limit` neighbours, 1 to 2048, all of it reserved here. The error is out of memory.
+    /// Returns an empty cache with room for `limit` neighbours, 1 to 2048, all of it reserved here. Returns an error if out of memory.
     pub fn new(alloc: A, limit: usize) -> Result<Self, AllocError>
         requires least { 1 ≤ limit }
         requires most { limit ≤ max_neighbours }

@@ -13,7 +13,7 @@ use nd_packet::Packets;
 use nd_table::{Addressed, Dated, Schedule};
 use std::alloc::Allocator;
 
-/// What falls due for a neighbour.
+/// What is due for a neighbour.
 #[derive(Drop)]
 pub enum Due<A: Allocator> {
     /// A multicast solicitation of its address is to be sent (RFC 4861, section 7.2.2).
@@ -41,11 +41,10 @@ impl<A: Allocator> Cache<A> {
         self.dates.next()
     }
 
-    /// Returns what is due at `now`, for the lowest address for which something is (RFC 4861, sections 7.2.2 and
+    /// Takes the step that is due at `now`, in milliseconds, for the lowest address for which one is, and returns it (RFC 4861, sections 7.2.2 and
     /// 7.3.3). Returns `None` if nothing is due; the cache is unchanged.
     ///
-    /// Nothing may have been due before `now`. A late caller passes what `next_due` returns, until that is in the
-    /// future.
+    /// Nothing may have been due before `now`. A late caller passes what `next_due` returns, until that is in the future.
     pub fn turn(&mut self, now: u64) -> Option<Due<A>>
         requires moment { IsMoment now }
         requires none_before { NoneBefore self.old.entries now }
@@ -56,7 +55,7 @@ impl<A: Allocator> Cache<A> {
         ensures rings { self.new.rings ≡ self.old.rings }
         ensures limit { self.new.limit ≡ self.old.limit }
 
-        // Turns at one moment end.
+        // The number of turns at one moment is finite.
         ensures fewer { IfSome result (λ _. turns_left self.new.entries < turns_left self.old.entries) }
         ensures none { IfNone result (next_in self.old.entries ≢ Some now) }
         ensures later { NoneBefore self.new.entries now }
@@ -65,7 +64,7 @@ impl<A: Allocator> Cache<A> {
     }
 }
 
-/// Returns what is due now for the first entry for which something is: a solicitation, or its end.
+/// Takes the step that is due now for the first entry for which one is, a solicitation or the end of the entry, and returns it.
 pub(crate) fn turn_first<A: Allocator>(
     entries: &mut Vec<Entry<A>, A>,
     dates: &mut Schedule<A>,

@@ -19,30 +19,30 @@ pub(crate) const STALE_LIFETIME: u64 = 86_400_000;
 pub(crate) struct Entry<A: Allocator> {
     pub(crate) addr: Addr,
     pub(crate) router: bool,
-    /// The moment at which something falls due, in milliseconds.
+    /// The moment at which something is due, in milliseconds.
     pub(crate) due: u64,
     pub(crate) stage: Stage<A>,
 }
 
-/// What is kept of a neighbour beside its address and its mark.
+/// What is kept of a neighbour besides its address and IsRouter.
 #[derive(Drop)]
 pub(crate) enum Stage<A: Allocator> {
     /// INCOMPLETE: its link-layer address is being resolved (RFC 4861, section 7.2.2).
     Resolving {
         /// RetransTimer when it began: the time between two solicitations, in milliseconds.
         retrans: u32,
-        /// How many were sent after the first.
+        /// The number of solicitations sent after the first.
         sent: u8,
         waiting: Waiting<A>,
     },
     /// REACHABLE, STALE, DELAY or PROBE: its link-layer address is known.
     Known {
         mac: Mac,
-        /// Whether the last thing that was heard is a confirmation.
+        /// The last evidence was a confirmation.
         confirmed: bool,
         /// The moment until which the confirmation holds, or since which there is none, in milliseconds.
         since: u64,
-        /// What follows the first use since then.
+        /// DELAY or PROBE, after the first use since then.
         probing: Option<Probing>,
     },
 }
@@ -80,7 +80,7 @@ impl<A: Allocator> Dated<()> for Entry<A> {
 impl<A: Allocator> Entry<A> {
     ghost use Rattle.nd_neighbour.specs.Entry.{Known, is_reachable, known_mac, stale_lifetime, waiting_in};
 
-    /// The link-layer address, if it is known.
+    /// Returns the link-layer address, if it is known.
     pub(crate) fn mac(&self) -> Option<Mac>
         ensures { option_map (λ mac. number_of mac.0) result ≡ known_mac self.now.stage }
     {
@@ -90,7 +90,7 @@ impl<A: Allocator> Entry<A> {
         }
     }
 
-    /// Whether the link-layer address is known.
+    /// Returns true if the link-layer address is known.
     pub(crate) fn is_known(&self) -> bool
         ensures { result ≡ is_some (known_mac self.now.stage) }
     {
@@ -100,14 +100,14 @@ impl<A: Allocator> Entry<A> {
         }
     }
 
-    /// IsRouter.
+    /// Returns IsRouter.
     pub(crate) fn router(&self) -> bool
         ensures { result ≡ self.now.router }
     {
         self.router
     }
 
-    /// Whether a confirmation holds (REACHABLE).
+    /// Returns true if a confirmation holds (REACHABLE).
     pub(crate) fn is_reachable(&self, now: u64) -> bool
         ensures { result ≡ is_reachable self.now.stage now }
     {
@@ -121,7 +121,7 @@ impl<A: Allocator> Entry<A> {
         }
     }
 
-    /// The address is known from now on. What waited is handed out.
+    /// Records a link-layer address, which is known from now on. Returns the packets that waited.
     pub(crate) fn learn(&mut self, mac: Mac, confirmed: bool, since: u64) -> Packets<A>
         requires { since < 2 ^ 63 }
         ensures entry { self.new ≡ record self.old { due = since + stale_lifetime; stage = Known (number_of mac.0) confirmed since None } }
@@ -141,7 +141,7 @@ impl<A: Allocator> Entry<A> {
     }
 }
 
-/// Whether two link-layer addresses are the same.
+/// Returns true if two link-layer addresses are the same.
 pub(crate) fn is_same_mac(a: Mac, b: Mac) -> bool
     ensures { result ≡ (number_of a.0 == number_of b.0) }
 {

@@ -17,46 +17,44 @@ ghost use Rattle.nd_neighbour.specs.Table.{Stands};
 ghost use Rattle.nd_neighbour.specs.Due.{Falls, FirstDue, NoneBefore, NoneOverdue};
 ghost use Rattle.nd_neighbour.specs.Place.{IsLongestStale, NoPlace, Prepares, WouldBeFull, pushing};
 
-/// The definitions give one table, one thing that falls due first, and one neighbour that makes place.
+/// The definitions give one table, one thing that is due first, and one neighbour that is evicted.
 pub fn one_answer()
     ensures table { (history : List Row) (a b : List NeighbourEntry) → Stands a history → Stands b history → a ≡ b }
     ensures due { (history : List Row) (moment : ℕ) (a b : Option Falls) → FirstDue history moment a → FirstDue history moment b → a ≡ b }
     ensures longest { (history : List Row) (now a b : ℕ) → IsLongestStale history now a → IsLongestStale history now b → a ≡ b }
 {}
 
-/// Nothing that happens falls due in the past. Where nothing in a history is overdue at a moment, nothing is after one more row of that
-/// moment, whatever it is; and a table that stands for a history has no date before a moment exactly where nothing in the history is
-/// overdue then.
+/// Nothing that happens makes something due in the past. If nothing in a history is overdue at a moment, nothing is after one more row of that
+/// moment, for any row. A table that stands for a history has no date before a moment exactly if nothing in the history is overdue then.
 pub fn none_overdue()
     ensures still { (history : List Row) (now key : ℕ) (kind : RowKind) → NoneOverdue history now → NoneOverdue ((now, key, kind) ∷ history) now }
     ensures table { (entries : List NeighbourEntry) (history : List Row) (now : ℕ) → Stands entries history → NoneBefore entries now ↔ NoneOverdue history now }
 {}
 
-/// What makes place is the end of one neighbour, or nothing.
+/// Room is made by the end of one neighbour, or of none.
 pub fn one_is_pushed_out()
     ensures { (limit now key : ℕ) (enters : Bool) (history made : List Row) → Prepares limit now enters key history made → (pushed : Option ℕ) × (made ≡ pushing now pushed history) }
 {}
 
-/// Where there is room for a neighbour, and after it for a second one, the first one has place.
+/// If there is room for a neighbour, and after it for a second one, there is room for the first one.
 pub fn room_is_place()
     ensures { (limit now key : ℕ) (second : Option ℕ) (entries : List NeighbourEntry) → has_room limit now key second entries ≡ true → NoPlace limit now key entries → ⊥ }
 {}
 
-/// A cache has no place for a new neighbour exactly where what happened leaves none.
+/// A cache has no room for a new neighbour exactly if its history leaves none.
 pub fn full_by_history()
     ensures { (limit now key : ℕ) (entries : List NeighbourEntry) (history : List Row) → Stands entries history → NoPlace limit now key entries ↔ WouldBeFull limit now key history }
 {}
 
-/// At most three packets wait, and no packet is lost, doubled or moved where one more comes: those that waited and the
-/// new one are the one that has to make place, if one has, and those that wait then.
+/// At most three packets wait, and no packet is lost, doubled or moved if one more arrives: those that waited and the new one are the one that is
+/// dropped for it, if one is, and those that wait then.
 pub fn no_packet_is_lost()
     ensures three { (s : Story) → length (waiting_of s) ≤ max_waiting }
     ensures history { (s : Story) (at : ℕ) (packet : List ℕ) → waiting_of s ++ packet ∷ [] ≡ option_to_list (if nat_lt (length (waiting_of s)) max_waiting then None else slice_get (waiting_of s ++ packet ∷ []) 0) ++ waiting_of ((at, Waits packet) ∷ s) }
     ensures kept { (waiting : List (List ℕ)) (packet : List ℕ) → length waiting ≤ max_waiting → waiting ++ packet ∷ [] ≡ option_to_list (if nat_lt (length waiting) max_waiting then None else slice_get (waiting ++ packet ∷ []) 0) ++ keep_last max_waiting (waiting ++ packet ∷ []) }
 {}
 
-/// What news release are at most three packets, and they go to the address that the news give: where any are released, that is the one
-/// that is known afterwards.
+/// A message releases at most three packets, and they go to the address that it gives: if any are released, that is the address known afterwards.
 pub fn released_to_the_given_address()
     ensures few { (now : ℕ) (news : News) (times : Times) (s : Story) → length (released_by now (news_row news times) s) ≤ max_waiting }
     ensures given { (now : ℕ) (news : News) (times : Times) (s : Story) → (released_by now (news_row news times) s ≡ []) ⊎ (mac_of ((now, news_row news times) ∷ s) ≡ option_map (λ mac. number_of mac.0) (mac_given news)) }

@@ -1,10 +1,8 @@
-//! The neighbour cache of a host or a router (RFC 4861, sections 5.1, 7.2 and 7.3). Moments and times are in
-//! milliseconds.
+//! The neighbour cache of a host or a router (RFC 4861, sections 5.1, 7.2 and 7.3). Moments and times are in milliseconds.
 //!
-//! An event has a file, and its definition in `specs/` has the same name: a message gives a link-layer address
-//! (`link_layer_address`), an advertisement comes (`neighbor_advertisement`: 7.2.5), an upper layer confirms
-//! (`reachability_confirmation`: 7.3.1), a packet is to be sent (`sending`, with `address_resolution`: 7.2.2, and
-//! `unreachability_detection`: 7.3.3), and something falls due (`due`).
+//! Each event has a file, and its definition in `specs/` has the same name: a message gives a link-layer address (`link_layer_address`), an
+//! advertisement is received (`neighbor_advertisement`: 7.2.5), an upper layer confirms reachability (`reachability_confirmation`: 7.3.1), a packet
+//! is sent (`sending`, with `address_resolution`: 7.2.2, and `unreachability_detection`: 7.3.3), and time passes (`due`).
 #![tactic(auto)]
 
 mod address_resolution;

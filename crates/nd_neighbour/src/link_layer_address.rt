@@ -17,8 +17,8 @@ use nd_packet::Packets;
 use nd_table::{Addressed, Dated, Schedule, locate};
 use std::alloc::Allocator;
 
-/// Records the link-layer address that a message gives (RFC 4861, sections 6.2.6, 6.3.4, 7.2.3 and 8.3): changes the
-/// entry that is there, or adds one that is STALE. Returns `Full` if there is no room for it; the table is unchanged.
+/// Records the link-layer address that a message gives (RFC 4861, sections 6.2.6, 6.3.4, 7.2.3 and 8.3): changes the existing entry, or adds one
+/// that is STALE. Returns `Full` if there is no room for it; the table is unchanged.
 pub(crate) fn give_or_enter<A: Allocator>(
     entries: &mut Vec<Entry<A>, A>,
     dates: &mut Schedule<A>,
@@ -93,27 +93,27 @@ impl<A: Allocator> Entry<A> {
     ghost use Rattle.nd_neighbour.specs.Entry.{released, stale_entry};
     ghost use Rattle.nd_neighbour.specs.LinkLayerAddress.{given};
 
-    /// Its link-layer address is given (RFC 4861, sections 6.2.6, 6.3.4, 7.2.3 and 8.3).
+    /// Takes its link-layer address from a message (RFC 4861, sections 6.2.6, 6.3.4, 7.2.3 and 8.3). Returns the packets that waited for it.
     pub(crate) fn given(&mut self, now: u64, mac: Mac, mark: Option<bool>) -> Packets<A>
         requires { IsMoment now }
         ensures entry { self.new ≡ given now (number_of mac.0) mark self.old }
         ensures released { result ≡ released self.old self.new }
     {
-        // A Router Advertisement and a Redirect to a router say that it is one, a Router Solicitation that it is none.
+        // A Router Advertisement and a Redirect to a router say that it is one, a Router Solicitation that it is not.
         if let Some(router) = mark {
             self.router = router;
         }
         match self.mac() {
             // INCOMPLETE: the address is recorded, the entry is STALE, and what waited is sent (7.2.3, 7.3.3).
             None => self.learn(mac, false, now),
-            // The address that is known: the state stays (7.2.3).
+            // The address is the known one: the state stays (7.2.3).
             Some(known) if is_same_mac(mac, known) => Packets::none(),
-            // Another one takes its place, and the entry is STALE (7.2.3, 6.3.4, 6.2.6, 8.3).
+            // Another one replaces it, and the entry is STALE (7.2.3, 6.3.4, 6.2.6, 8.3).
             Some(_) => self.learn(mac, false, now),
         }
     }
 
-    /// An entry whose link-layer address is known and not confirmed (STALE).
+    /// Returns an entry whose link-layer address is known and not confirmed (STALE).
     pub(crate) fn stale(addr: Addr, router: bool, now: u64, mac: Mac) -> Self
         requires { IsMoment now }
         ensures { result ≡ stale_entry (number_of addr.0) router now (number_of mac.0) }

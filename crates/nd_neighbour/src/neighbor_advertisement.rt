@@ -14,7 +14,7 @@ use nd_packet::Packets;
 use nd_table::{Dated, Schedule, find};
 use std::alloc::Allocator;
 
-/// Takes a received Neighbor Advertisement (RFC 4861, section 7.2.5). If there is no entry it is discarded, and adds none.
+/// Takes a received Neighbor Advertisement (RFC 4861, section 7.2.5). If there is no entry the advertisement is discarded, and adds none.
 pub(crate) fn advertise<A: Allocator>(
     entries: &mut Vec<Entry<A>, A>,
     dates: &mut Schedule<A>,
@@ -52,7 +52,8 @@ impl<A: Allocator> Entry<A> {
     ghost use Rattle.nd_neighbour.specs.Entry.{released, waiting_in};
     ghost use Rattle.nd_neighbour.specs.NeighborAdvertisement.{advertised, conforming};
 
-    /// A Neighbor Advertisement for it comes (RFC 4861, section 7.2.5). No address is known in INCOMPLETE alone.
+    /// Takes a Neighbor Advertisement for it (RFC 4861, section 7.2.5), and returns the packets that it releases. Only an INCOMPLETE entry has no
+    /// address.
     pub(crate) fn advertised(
         &mut self,
         now: u64,
@@ -66,17 +67,17 @@ impl<A: Allocator> Entry<A> {
         ensures released { result ≡ released self.old self.new }
     {
         match (self.mac(), mac) {
-            // INCOMPLETE, and no address is given: it is discarded.
+            // INCOMPLETE, and the advertisement gives no address: it is discarded.
             (None, None) => Packets::none(),
-            // INCOMPLETE: the address is recorded, whatever Override says, and what waited is sent.
+            // INCOMPLETE: the address is recorded, with Override set or clear, and what waited is sent.
             (None, Some(first)) => self.conform(now, flags, first, true, reachable),
-            // II: no address is given.
+            // II: the advertisement gives no address.
             (Some(known), None) => self.conform(now, flags, known, false, reachable),
-            // II: the address is the one that is known.
+            // II: the address is the known one.
             (Some(known), Some(given)) if is_same_mac(given, known) => {
                 self.conform(now, flags, known, false, reachable)
             }
-            // II: Override is set, so another address takes the place of the one that is known.
+            // II: Override is set, so another address replaces the known one.
             (Some(_), Some(other)) if flags.overrides => {
                 self.conform(now, flags, other, true, reachable)
             }
@@ -87,7 +88,7 @@ impl<A: Allocator> Entry<A> {
         }
     }
 
-    /// It takes effect, at this address (RFC 4861, section 7.2.5, INCOMPLETE and II).
+    /// Applies an advertisement, with this address (RFC 4861, section 7.2.5, INCOMPLETE and II).
     fn conform(
         &mut self,
         now: u64,
@@ -111,7 +112,7 @@ impl<A: Allocator> Entry<A> {
         if is_new {
             return self.learn(mac, false, now);
         }
-        // Else its state stays.
+        // Otherwise its state stays.
         Packets::none()
     }
 }

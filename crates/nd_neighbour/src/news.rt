@@ -23,7 +23,7 @@ pub struct Flags {
     pub router: bool,
     /// S: the advertisement answers a solicitation.
     pub solicited: bool,
-    /// O: the link-layer address in it is to replace the one that is known.
+    /// O: the link-layer address in it replaces the known one.
     pub overrides: bool,
 }
 
@@ -53,7 +53,7 @@ pub enum News {
 impl News {
     ghost use Rattle.nd_neighbour.specs.News.{mac_given};
 
-    /// The link-layer address that the message gives, if it does. What `heard` releases goes there.
+    /// Returns the link-layer address that the message gives, if it does. The packets that `heard` releases go there.
     pub fn mac(&self) -> Option<Mac>
         ensures value { result ≡ mac_given self.now }
         ensures bytes { IfSome result (λ mac. AreBytes 6 mac.0) }
@@ -79,14 +79,14 @@ pub struct Times {
     pub reachable: u64,
 }
 
-/// What news of a neighbour bring with them.
+/// What news of a neighbour result in.
 #[derive(Drop)]
 pub struct Touched<A: Allocator> {
     /// The packets that waited for its link-layer address and can be sent now.
     pub released: Packets<A>,
     /// Its link-layer address was known before.
     pub was_known: bool,
-    /// It was a router, and is none any more: it has to leave the list of default routers (RFC 4861, section 7.2.5).
+    /// It was a router, and no longer is: it must leave the list of default routers (RFC 4861, section 7.2.5).
     pub ends_router: bool,
 }
 
@@ -127,12 +127,11 @@ impl<A: Allocator> Cache<A> {
     ghost use Rattle.nd_neighbour.specs.Place.{NoPlace};
     ghost use Rattle.nd_neighbour.specs.News.{GainsNews, Tells, lets_enter, news_key, news_row, was_known};
 
-    /// A message says something of a neighbour (RFC 4861, sections 6.2.6, 6.3.4, 7.2.3, 7.2.5 and 8.3). Only an address
-    /// that is given makes an entry; the other news of a neighbour that isn't there change nothing. Of `times` only
-    /// ReachableTime counts, and only where a solicited advertisement confirms. It takes no memory.
+    /// Takes what a message says of a neighbour (RFC 4861, sections 6.2.6, 6.3.4, 7.2.3, 7.2.5 and 8.3). Only a given address adds an entry; other
+    /// news of a neighbour without an entry change nothing. Of `times` only ReachableTime counts, and only if a solicited advertisement confirms.
+    /// It takes no memory.
     ///
-    /// `Full` comes where an address is given, the neighbour is new, all places are taken and no neighbour is STALE;
-    /// nothing has changed then.
+    /// Returns `Full` if the message gives an address, the neighbour is new, the table is full and no neighbour is STALE; nothing has changed then.
     pub fn heard(&mut self, now: u64, news: News, times: Times) -> Result<Touched<A>, CacheRefusal>
         requires moment { IsMoment now }
         requires span { times.reachable < 2 ^ 62 }
@@ -145,12 +144,12 @@ impl<A: Allocator> Cache<A> {
         // No more packets are released than waited for that neighbour.
         ensures few { IfOk result (λ touched. length touched.released ≤ length (waiting_at (entry_in (news_key news) self.old.entries))) }
 
-        // It is refused exactly where a new neighbour has no place, and only for that.
+        // It is refused exactly if there is no room for a new neighbour, and only for that.
         ensures full { IsErr result ↔ ((lets_enter news ≡ true) × NoPlace self.old.limit now (news_key news) self.old.entries) }
         ensures err { IfErr result (λ refusal. refusal ≡ CacheRefusal.Full) }
         ensures same { OnErr result (self.new ≡ self.old) }
 
-        // A neighbour whose address is given is there, so a use of it isn't refused as full.
+        // A neighbour whose address is given has an entry, so a use of it isn't refused as full.
         ensures there { OnOk result (lets_enter news ≡ true → is_some (entry_in (news_key news) self.new.entries) ≡ true) }
 
         ensures limit { self.new.limit ≡ self.old.limit }
@@ -184,8 +183,8 @@ impl<A: Allocator> Cache<A> {
     }
 }
 
-/// A message without a link-layer address says whether a neighbour is a router (RFC 4861, sections 6.2.6, 6.3.4 and
-/// 8.3): IsRouter is set where the entry is there.
+/// Takes a message without a link-layer address, which says whether a neighbour is a router (RFC 4861, sections 6.2.6, 6.3.4 and 8.3): sets
+/// IsRouter if there is an entry.
 pub(crate) fn mark<A: Allocator>(
     entries: &mut Vec<Entry<A>, A>,
     addr: Addr,
@@ -212,7 +211,7 @@ pub(crate) fn mark<A: Allocator>(
 impl<A: Allocator> Entry<A> {
     ghost use Rattle.nd_neighbour.specs.Entry.{with_mark};
 
-    /// A message says whether it is a router.
+    /// Takes from a message whether it is a router.
     pub(crate) fn mark(&mut self, router: bool)
         ensures { self.new ≡ with_mark router self.old }
     {

@@ -116,7 +116,7 @@ pub(crate) fn enter<A: Allocator>(
 impl<A: Allocator> Entry<A> {
     ghost use Rattle.nd_neighbour.specs.Place.{is_stale, since_of};
 
-    /// Returns true if it is stale at `now` (STALE).
+    /// Returns true if it is STALE at `now`, in milliseconds.
     pub(crate) fn is_stale(&self, now: u64) -> bool
         ensures { result ≡ is_stale self.now.stage now }
     {
@@ -133,7 +133,7 @@ impl<A: Allocator> Entry<A> {
         }
     }
 
-    /// Returns the moment since which it isn't known to be reachable.
+    /// Returns the moment since which it isn't known to be reachable, in milliseconds.
     pub(crate) fn since(&self) -> u64
         ensures { result ≡ since_of self.now.stage }
     {

@@ -15,8 +15,8 @@ impl<A: Allocator> Cache<A> {
     ghost use Rattle.nd_neighbour.specs.History.{Confirmed};
     ghost use Rattle.nd_neighbour.specs.Table.{GainsRow};
 
-    /// Takes an upper layer's confirmation that a neighbour is reached (RFC 4861, section 7.3.1). It is REACHABLE for
-    /// `reachable` milliseconds from `now` on. If it has no entry, or no link-layer address in it, nothing changes.
+    /// Takes an upper layer's confirmation that a neighbour is reachable (RFC 4861, section 7.3.1). It is REACHABLE for `reachable` milliseconds
+    /// from `now` on. If it has no entry, or an entry without a link-layer address, nothing changes.
     pub fn confirmed(&mut self, now: u64, addr: Addr, reachable: u64)
         requires moment { IsMoment now }
         requires span { reachable < 2 ^ 62 }
@@ -28,7 +28,7 @@ impl<A: Allocator> Cache<A> {
     }
 }
 
-/// Takes an upper layer's confirmation for an entry that may be there (RFC 4861, section 7.3.1).
+/// Takes an upper layer's confirmation for a neighbour that may have an entry (RFC 4861, section 7.3.1).
 pub(crate) fn confirm<A: Allocator>(
     entries: &mut Vec<Entry<A>, A>,
     dates: &mut Schedule<A>,
@@ -56,7 +56,7 @@ pub(crate) fn confirm<A: Allocator>(
 impl<A: Allocator> Entry<A> {
     ghost use Rattle.nd_neighbour.specs.ReachabilityConfirmation.{confirmed};
 
-    /// An upper layer confirms that it is reached (RFC 4861, sections 7.3.1 and 7.3.3).
+    /// Takes an upper layer's confirmation that it is reachable (RFC 4861, sections 7.3.1 and 7.3.3).
     pub(crate) fn confirm(&mut self, now: u64, reachable: u64)
         requires moment { IsMoment now }
         requires span { reachable < 2 ^ 62 }

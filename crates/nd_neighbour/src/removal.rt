@@ -18,7 +18,7 @@ impl<A: Allocator> Cache<A> {
     ghost use Rattle.nd_neighbour.specs.Table.{GainsRow, Stands, entry_in};
     ghost use Rattle.nd_neighbour.specs.Removal.{all_waiting, waiting_at};
 
-    /// Removes a neighbour, if it is there, and returns the packets that waited for it.
+    /// Removes a neighbour, if it has an entry, and returns the packets that waited for it.
     pub fn forget(&mut self, addr: Addr) -> Packets<A>
         ensures stands { (at : ℕ) → GainsRow self.old.entries self.new.entries (at, number_of addr.0, Forgot Removed) }
         ensures value { result ≡ waiting_at (entry_in (number_of addr.0) self.old.entries) }
@@ -51,8 +51,8 @@ impl<A: Allocator + Clone> Cache<A> {
     ghost use Rattle.nd_neighbour.specs.Table.{Stands};
     ghost use Rattle.nd_neighbour.specs.Removal.{all_waiting, cleared};
 
-    /// Removes all neighbours and returns the packets that waited, in the order of the addresses, the oldest first. Out of
-    /// memory: nothing has changed.
+    /// Removes all neighbours and returns the packets that waited, in the order of the addresses, the oldest first. Returns an error if out of
+    /// memory; nothing has changed then.
     pub fn clear(&mut self) -> Result<Vec<Packet<A>, A>, AllocError>
         ensures stands { OnOk result ((at : ℕ) (history : List Row) → Stands self.old.entries history → Stands self.new.entries (cleared at self.old.entries history)) }
         ensures none { OnOk result (self.new.entries ≡ []) }
@@ -67,7 +67,7 @@ impl<A: Allocator + Clone> Cache<A> {
     }
 }
 
-/// Removes an entry, if it is there, and returns the packets that waited at it.
+/// Removes an entry, if it exists, and returns the packets that waited for it.
 pub(crate) fn remove<A: Allocator>(
     entries: &mut Vec<Entry<A>, A>,
     dates: &mut Schedule<A>,
@@ -89,7 +89,7 @@ pub(crate) fn remove<A: Allocator>(
     entry.packets()
 }
 
-/// How many packets wait for a neighbour that may be there.
+/// Returns the number of packets that wait for a neighbour, which may have no entry.
 fn count_at<A: Allocator>(entries: &[Entry<A>], addr: Addr) -> usize
     requires { Rises entries.now }
     ensures few { result ≤ max_waiting }
@@ -101,7 +101,7 @@ fn count_at<A: Allocator>(entries: &[Entry<A>], addr: Addr) -> usize
     }
 }
 
-/// How many packets wait.
+/// Returns the number of packets that wait.
 pub(crate) fn count_waiting<A: Allocator>(entries: &[Entry<A>]) -> usize
     ensures { result ≡ length (all_waiting entries.now) }
 {
@@ -112,7 +112,7 @@ pub(crate) fn count_waiting<A: Allocator>(entries: &[Entry<A>]) -> usize
     count
 }
 
-/// Moves packets behind others. There is room for them.
+/// Moves packets to the end of a list. There is room for them.
 fn move_all<A: Allocator>(mut from: Packets<A>, to: &mut Vec<Packet<A>, A>)
     requires { vec_len to.old + length from ≤ vec_capacity to.old }
     ensures items { to.new.items ≡ to.old.items ++ from }
@@ -124,7 +124,7 @@ fn move_all<A: Allocator>(mut from: Packets<A>, to: &mut Vec<Packet<A>, A>)
     }
 }
 
-/// Takes all entries out. What waited is handed out, by the order of the addresses, the oldest first.
+/// Removes all entries and returns the packets that waited, in the order of the addresses, the oldest first.
 pub(crate) fn take_all<A: Allocator + Clone>(
     entries: &mut Vec<Entry<A>, A>,
 ) -> Result<Vec<Packet<A>, A>, AllocError>
@@ -146,7 +146,7 @@ pub(crate) fn take_all<A: Allocator + Clone>(
 impl<A: Allocator> Entry<A> {
     ghost use Rattle.nd_neighbour.specs.Entry.{waiting_in};
 
-    /// What waits at an entry that goes. Packets wait in INCOMPLETE alone (RFC 4861, section 7.2.2).
+    /// Returns the packets that wait at an entry that is removed. Packets wait in INCOMPLETE alone (RFC 4861, section 7.2.2).
     pub(crate) fn packets(self) -> Packets<A>
         ensures { result ≡ waiting_in self.stage }
     {
@@ -156,7 +156,7 @@ impl<A: Allocator> Entry<A> {
         }
     }
 
-    /// How many packets wait.
+    /// Returns the number of packets that wait.
     pub(crate) fn waiting(&self) -> usize
         ensures value { result ≡ length (waiting_in self.now.stage) }
         ensures few { result ≤ max_waiting }

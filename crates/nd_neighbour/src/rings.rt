@@ -7,8 +7,8 @@ use nd_packet::Ring;
 use std::alloc::{AllocError, Allocator};
 
 impl<A: Allocator + Clone> Cache<A> {
-    /// Makes rings for new neighbours until so many are in hand, at most two. With a ring in hand `used` takes no
-    /// memory. `Memory` comes where the allocator refuses one; those that were made before it stay in hand.
+    /// Makes rings for new neighbours until `n`, at most two, are in reserve. With a ring in reserve `used` takes no memory. Returns `Memory` if
+    /// the allocator refuses one; those that were made before it stay in reserve.
     pub fn ready(&mut self, n: usize) -> Result<(), CacheRefusal>
         requires { n ≤ max_rings }
         ensures ok { OnOk result (n ≤ self.new.rings) }
@@ -23,7 +23,7 @@ impl<A: Allocator + Clone> Cache<A> {
     }
 }
 
-/// A ring for a new entry: the last one in hand, or a new one.
+/// Returns a ring for a new entry: the last one in reserve, or a new one. Returns an error if out of memory.
 pub(crate) fn take_ring<A: Allocator + Clone>(
     rings: &mut Vec<Ring<A>, A>,
 ) -> Result<Ring<A>, AllocError>
@@ -40,7 +40,7 @@ pub(crate) fn take_ring<A: Allocator + Clone>(
     Ring::new(alloc)
 }
 
-/// Makes rings until there are so many.
+/// Makes rings until `n` are in reserve.
 pub(crate) fn fill<A: Allocator + Clone>(
     rings: &mut Vec<Ring<A>, A>,
     n: usize,
@@ -65,7 +65,7 @@ pub(crate) fn fill<A: Allocator + Clone>(
     Ok(())
 }
 
-/// A new ring, from the allocator of those in hand.
+/// Returns a new ring, from the allocator of the reserve. Returns an error if out of memory.
 fn make_ring<A: Allocator + Clone>(rings: &Vec<Ring<A>, A>) -> Result<Ring<A>, AllocError> {
     let alloc = rings.allocator().clone()?;
     Ring::new(alloc)

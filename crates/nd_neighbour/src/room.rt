@@ -19,8 +19,8 @@ impl<A: Allocator> Cache<A> {
     ghost use Rattle.nd_neighbour.specs.Table.{Stands};
     ghost use Rattle.nd_neighbour.specs.Room.{HasRoom};
 
-    /// Whether a neighbour that may be new has place, and after a use of it a second one: whether neither would be
-    /// refused as `Full`. A second one that had room here has place after `used` of the first.
+    /// Returns true if there is room for a neighbour, which may be new, and after a use of it for a second one: neither would be refused as `Full`.
+    /// If so, there is room for the second one after `used` of the first.
     pub fn room(&self, now: u64, addr: Addr, then: Option<Addr>) -> bool
         ensures value { result ≡ has_room self.now.limit now (number_of addr.0) (option_map (λ next. number_of next.0) then) self.now.entries }
         ensures history { (history : List Row) → Stands self.now.entries history → result ≡ true ↔ HasRoom self.now.limit now (number_of addr.0) (option_map (λ next. number_of next.0) then) history }
@@ -29,7 +29,7 @@ impl<A: Allocator> Cache<A> {
     }
 }
 
-/// Whether a neighbour has place, and after a use of it a second one.
+/// Returns true if there is room for a neighbour, and after a use of it for a second one.
 fn has_room<A: Allocator>(
     entries: &[Entry<A>],
     limit: usize,
@@ -51,7 +51,7 @@ fn has_room<A: Allocator>(
     }
 }
 
-/// Whether a second neighbour has place after a use of one that is there.
+/// Returns true if there is room for a second neighbour after a use of one that has an entry.
 fn place_beside<A: Allocator>(
     entries: &[Entry<A>],
     limit: usize,
@@ -65,7 +65,7 @@ fn place_beside<A: Allocator>(
     holds(entries, next) || entries.len() < limit || stays_stale(entries, used, now)
 }
 
-/// Whether a second neighbour has place after one that enters.
+/// Returns true if there is room for a second neighbour after one that enters.
 fn place_behind<A: Allocator>(
     entries: &[Entry<A>],
     limit: usize,
@@ -86,7 +86,7 @@ fn place_behind<A: Allocator>(
     }
 }
 
-/// Whether a second neighbour has place after one that enters, for which the entry at this place goes.
+/// Returns true if there is room for a second neighbour after one that enters, for which the entry at place `i` is evicted.
 fn place_without<A: Allocator>(
     entries: &[Entry<A>],
     i: usize,
@@ -104,7 +104,7 @@ fn place_without<A: Allocator>(
         || stale_beside(entries, gone, now)
 }
 
-/// Whether an entry is stale after a use of this one. A use before the moment at which it became stale leaves it so.
+/// Returns true if an entry is STALE after a use of this one. A use before the moment at which it became stale leaves it so.
 fn stays_stale<A: Allocator>(entries: &[Entry<A>], used: Addr, now: u64) -> bool
     ensures { result ≡ list_any (stays_stale (number_of used.0) now) entries.now }
 {
@@ -116,7 +116,7 @@ fn stays_stale<A: Allocator>(entries: &[Entry<A>], used: Addr, now: u64) -> bool
     false
 }
 
-/// Whether an entry is stale beside the one of this address.
+/// Returns true if an entry other than that of this address is STALE.
 fn stale_beside<A: Allocator>(entries: &[Entry<A>], gone: Addr, now: u64) -> bool
     ensures { result ≡ list_any (stale_beside (number_of gone.0) now) entries.now }
 {
@@ -128,7 +128,7 @@ fn stale_beside<A: Allocator>(entries: &[Entry<A>], gone: Addr, now: u64) -> boo
     false
 }
 
-/// Whether an entry is of another address.
+/// Returns true if an entry is of another address.
 fn is_other<A: Allocator>(entry: &Entry<A>, addr: Addr) -> bool
     ensures { result ≡ not (entry.now.key == number_of addr.0) }
 {

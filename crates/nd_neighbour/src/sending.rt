@@ -28,7 +28,7 @@ pub enum Use<A: Allocator> {
     Queued {
         /// A first solicitation is to be sent now.
         solicit: bool,
-        /// The oldest packet, where it had to make place.
+        /// The oldest packet, if it was dropped for this one.
         replaced: Option<Packet<A>>,
     },
 }
@@ -41,13 +41,12 @@ impl<A: Allocator + Clone> Cache<A> {
     ghost use Rattle.nd_neighbour.specs.Room.{LeavesRoom};
     ghost use Rattle.nd_neighbour.specs.View.{sending_of};
 
-    /// Returns what becomes of a packet for a neighbour (RFC 4861, sections 7.2.2 and 7.3.3): it can be sent, or it waits
-    /// until the link-layer address is known, and the first one that waits begins a resolution. Of `times` only
-    /// RetransTimer counts, and only if a resolution or probing begins.
+    /// Returns what becomes of a packet for a neighbour (RFC 4861, sections 7.2.2 and 7.3.3): it can be sent, or it waits until the link-layer
+    /// address is known, and the first one that waits begins a resolution. Of `times` only RetransTimer counts, and only if a resolution or probing
+    /// begins.
     ///
-    /// Returns `Full` if the neighbour is new, the table is full and no neighbour is STALE, and `Memory` if it is new, no
-    /// ring that `ready` makes is in reserve, and the allocator refuses one. The packet is returned, and nothing has
-    /// changed.
+    /// Returns `Full` if the neighbour is new, the table is full and no neighbour is STALE, and `Memory` if it is new, no ring that `ready` makes
+    /// is in reserve, and the allocator refuses one. The packet is returned, and nothing has changed.
     pub fn used(
         &mut self,
         now: u64,
@@ -61,18 +60,18 @@ impl<A: Allocator + Clone> Cache<A> {
         ensures value { IfOk result (λ sent. sending_of sent ≡ sending_in (entry_in (number_of addr.0) self.old.entries) packet) }
         ensures sending { IfOk result (λ sent. (history : List Row) → Stands self.old.entries history → sending_of sent ≡ sending_of_story (story (number_of addr.0) history) packet) }
 
-        // Full comes exactly where a new neighbour has no place, and Memory only where one needs a ring and none is in hand.
+        // `Full` is returned exactly if there is no room for a new neighbour, and `Memory` only if one needs a ring and none is in reserve.
         ensures full { (refusal_of result ≡ Some CacheRefusal.Full) ↔ NoPlace self.old.limit now (number_of addr.0) self.old.entries }
         ensures memory { refusal_of result ≡ Some CacheRefusal.Memory → (self.old.rings ≡ 0) × (entry_in (number_of addr.0) self.old.entries ≡ None) }
         ensures back { IfErr result (λ refused. refused.1 ≡ packet) }
         ensures same { OnErr result (self.new ≡ self.old) }
 
-        // Who had room after a use of this one has place.
+        // A neighbour for which there was room after a use of this one can enter.
         ensures leaves { OnOk result (LeavesRoom self.old.limit now (number_of addr.0) self.old.entries self.new.entries) }
 
         ensures limit { self.new.limit ≡ self.old.limit }
 
-        // Only a new neighbour takes a ring, one of those in hand where there is one.
+        // Only a new neighbour takes a ring, one in reserve if there is one.
         ensures rings { OnOk result (self.new.rings ≡ (if is_some (entry_in (number_of addr.0) self.old.entries) then self.old.rings else self.old.rings - 1)) }
     {
         let at = match locate(&self.entries, addr) {
@@ -146,14 +145,14 @@ impl<A: Allocator> Entry<A> {
     ghost use Rattle.nd_neighbour.specs.Sending.{sending_to, used};
     ghost use Rattle.nd_neighbour.specs.View.{sending_of};
 
-    /// A packet for it is to be sent (RFC 4861, sections 7.2.2 and 7.3.3).
+    /// Takes a packet to send to it (RFC 4861, sections 7.2.2 and 7.3.3).
     pub(crate) fn send(&mut self, now: u64, retrans: u32, packet: Packet<A>) -> Use<A>
         requires { IsMoment now }
         ensures entry { self.new ≡ used now retrans packet self.old }
         ensures sending { sending_of result ≡ sending_to self.old.stage packet }
     {
         match &mut self.stage {
-            // INCOMPLETE: it waits, and a fourth one takes the place of the oldest (7.2.2).
+            // INCOMPLETE: the packet waits, and a fourth one replaces the oldest (7.2.2).
             Stage::Resolving { waiting, .. } => Use::Queued {
                 solicit: false,
                 replaced: waiting.put(packet),
@@ -170,7 +169,7 @@ impl<A: Allocator> Entry<A> {
                     self.due = begun.from;
                     *probing = Some(begun);
                 }
-                // Else it is sent to the address that is known.
+                // Otherwise it is sent to the known address.
                 Use::Send(*mac, packet)
             }
         }

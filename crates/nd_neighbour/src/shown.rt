@@ -17,7 +17,7 @@ pub struct Neighbour {
     pub addr: Addr,
     /// Its link-layer address, if it is known.
     pub mac: Option<Mac>,
-    /// IsRouter: whether it is known to be a router.
+    /// IsRouter: it is known to be a router.
     pub router: bool,
     pub state: Reachability,
 }
@@ -31,9 +31,9 @@ pub enum Reachability {
     Reachable,
     /// STALE: it was not, and nothing was sent to it since.
     Stale,
-    /// DELAY: a packet was sent to it, and a confirmation may still come.
+    /// DELAY: a packet was sent to it, and a confirmation is still possible.
     Delay,
-    /// PROBE: it is asked whether it is there.
+    /// PROBE: it is being probed.
     Probe,
 }
 
@@ -43,7 +43,7 @@ impl<A: Allocator> Cache<A> {
     ghost use Rattle.nd_neighbour.specs.Shown.{seen, seen_of};
     ghost use Rattle.nd_neighbour.specs.View.{seen_in};
 
-    /// A neighbour at a moment, if there is an entry for it (RFC 4861, sections 5.1 and 7.3.2).
+    /// Returns a neighbour as it is at `now`, in milliseconds, if there is an entry for it (RFC 4861, sections 5.1 and 7.3.2).
     pub fn entry(&self, now: u64, addr: Addr) -> Option<Neighbour>
         ensures value { option_map (λ n. seen_in n) result ≡ option_map (seen now) (entry_in (number_of addr.0) self.now.entries) }
         ensures seen { (history : List Row) → Stands self.now.entries history → option_map (λ n. seen_in n) result ≡ seen_of (number_of addr.0) (story (number_of addr.0) history) now }
@@ -79,7 +79,7 @@ impl<'a, A: Allocator> Neighbours<'a, A> {
     ghost use Rattle.nd_neighbour.specs.Shown.{seen};
     ghost use Rattle.nd_neighbour.specs.Left.{neighbours_left};
 
-    /// Returns those of all entries, at a moment in milliseconds.
+    /// Returns the neighbours of all entries, as they are at a moment, in milliseconds.
     fn new(entries: &'a [Entry<A>], moment: u64) -> Self
         ensures { neighbours_left result ≡ map (seen moment) entries.entry.now }
     {
@@ -108,7 +108,7 @@ impl<A: Allocator> Iterator for Neighbours<'_, A> {
     }
 }
 
-/// What is shown of an entry that may be there.
+/// Returns what is shown of a neighbour, if it has an entry.
 pub(crate) fn show<A: Allocator>(entries: &[Entry<A>], now: u64, addr: Addr) -> Option<Neighbour>
     requires { Rises entries.now }
     ensures { option_map (λ n. seen_in n) result ≡ option_map (seen now) (entry_in (number_of addr.0) entries.now) }
@@ -123,7 +123,7 @@ impl<A: Allocator> Entry<A> {
     ghost use Rattle.nd_neighbour.specs.Shown.{seen, state_in};
     ghost use Rattle.nd_neighbour.specs.View.{seen_in};
 
-    /// What is shown of it at a moment (RFC 4861, section 7.3.2).
+    /// Returns what is shown of it at `now`, in milliseconds (RFC 4861, section 7.3.2).
     pub(crate) fn shown(&self, now: u64) -> Neighbour
         ensures { seen_in result ≡ seen now self.now }
     {
@@ -135,7 +135,7 @@ impl<A: Allocator> Entry<A> {
         }
     }
 
-    /// Its state at a moment (RFC 4861, section 7.3.2).
+    /// Returns its state at `now`, in milliseconds (RFC 4861, section 7.3.2).
     fn state(&self, now: u64) -> Reachability
         ensures { result ≡ state_in self.now.stage now }
     {

@@ -18,7 +18,7 @@ const MAX_REDIRECTS: usize = 64;
 /// A remembered next hop is always the one that would be chosen anew.
 #[derive(Drop)]
 pub struct Choice<A: Allocator> {
-    /// The destinations that were redirected most recently, by number. Those whose redirects ended keep their places.
+    /// The destinations that were redirected most recently, by number. Those whose redirects ended keep their entries.
     pub(crate) redirects: LruCache<u128, Target, DefaultHasher, A>,
     pub(crate) memo: Memo<A>,
 }
@@ -38,7 +38,7 @@ impl<A: Allocator> Model for Choice<A> {
 impl<A: Allocator + Clone> Choice<A> {
     ghost use Rattle.nd_nexthop.specs.Choice.{Stands};
 
-    /// Returns a choice without redirects, with room for those of 64 destinations, that remembers no next hop. The error is out of memory.
+    /// Returns a choice without redirects, with room for those of 64 destinations, that remembers no next hop. Returns an error if out of memory.
     pub fn new(alloc: A) -> Result<Self, AllocError>
         ensures empty { IfOk result (λ choice. choice ≡ record { redirects = []; memory = record { hops = []; until = None } }) }
         ensures stands { IfOk result (λ choice. Stands choice []) }
@@ -62,8 +62,8 @@ impl<A: Allocator> Choice<A> {
         KeptRedirects::new(self.redirects.iter())
     }
 
-    /// Returns the number of destinations that have a place among the kept redirects, at most 64. A destination whose redirect ended keeps its
-    /// place until another one needs it.
+    /// Returns the number of destinations with an entry among the kept redirects, at most 64. A destination whose redirect ended keeps its entry
+    /// until another one needs the room.
     pub fn redirects_len(&self) -> usize
         ensures value { result ≡ length self.now.redirects }
         ensures few { result ≤ max_redirects }
@@ -79,7 +79,7 @@ impl<A: Allocator> Choice<A> {
         self.memo.len()
     }
 
-    /// Returns true if remembered next hops may be used at a moment, in milliseconds.
+    /// Returns true if remembered next hops may be used at `now`, in milliseconds.
     pub fn is_asked(&self, now: u64) -> bool
         ensures { result ≡ is_asked now self.now.memory.until }
     {
@@ -93,8 +93,8 @@ impl<A: Allocator> Choice<A> {
         self.memo.forget();
     }
 
-    /// Sets the last moment at which remembered next hops may be used, in milliseconds, or that there is none. The caller needs it because
-    /// prefixes on the link end without an event. It takes no memory.
+    /// Sets the last moment at which remembered next hops may be used, in milliseconds, or `None` if they may be used at any moment. The caller
+    /// needs it because prefixes on the link end without an event. It takes no memory.
     pub fn until(&mut self, until: Option<u64>)
         ensures { self.new ≡ record self.old { memory = record self.old.memory { until = until } } }
     {

@@ -5,22 +5,21 @@ ghost use Rattle.nd_nexthop.specs.DefaultRouter.{router_of, failed_before, bette
 use crate::view::View;
 use nd_addr::{Addr, Preference};
 
-/// A default router as the choice sees it.
+/// A default router as the choice of a next hop sees it.
 #[derive(Clone, Copy, Debug, PartialEq, Eq)]
 pub struct Candidate {
     pub addr: Addr,
-    /// Whether it is reachable or probably reachable: it is in the neighbour cache, in another state than INCOMPLETE (RFC 4861, section
-    /// 6.3.6).
+    /// It is reachable or probably reachable: it is in the neighbour cache, in another state than INCOMPLETE (RFC 4861, section 6.3.6).
     pub usable: bool,
     /// Its preference, from its last advertisement (RFC 4191, section 2.2).
     pub preference: Preference,
-    /// If it failed since it came into the list, its place among those that did, by their last failures, the oldest first.
+    /// If it failed since it entered the list, its place among the routers that did, by their last failures, the oldest first.
     pub failed: Option<u64>,
 }
 
 /// Returns the default router that packets take (RFC 4861, section 6.3.6; RFC 4191, section 3.2): of the usable ones the one with the highest
-/// preference; where none is usable, the one that failed least recently, those first that never failed, and among equals the one with the
-/// highest preference. The first of the list wins a tie.
+/// preference; if none is usable, the one that failed least recently, those first that never failed, and among equals the one with the highest
+/// preference. The first of the list wins a tie.
 pub(crate) fn chosen_router<V: View>(view: &V) -> Option<Addr>
     ensures { option_map (λ a. number_of a.0) result ≡ chosen_router (V.candidates view.now) }
 {
@@ -34,7 +33,7 @@ pub(crate) fn chosen_router<V: View>(view: &V) -> Option<Addr>
     }
 }
 
-/// A router of the list.
+/// Returns a router of the list by its number.
 fn router_at<V: View>(view: &V, i: usize) -> Candidate
     requires { i < length (V.candidates view.now) }
     ensures { Some (router_of result) ≡ slice_get (V.candidates view.now) i }
@@ -45,7 +44,7 @@ fn router_at<V: View>(view: &V, i: usize) -> Candidate
     }
 }
 
-/// Returns the router that comes before the other one, and the first where neither does.
+/// Returns the router that comes before the other one, and the first if neither does.
 fn better(first: Option<Candidate>, second: Candidate) -> Candidate
     ensures { router_of result ≡ better_of (option_map router_of first) (router_of second) }
 {

@@ -34,8 +34,8 @@ impl<A: Allocator> Choice<A> {
     }
 }
 
-/// The redirects to this address end, or all where there is none. Each keeps its place: one after the other goes behind all others,
-/// and so they stand in their order again.
+/// Ends the redirects to `gone`, or all if that is `None`. Each redirect goes to the end of the order once, so that the order is the same
+/// afterwards.
 fn end_each<A: Allocator>(
     redirects: &mut LruCache<u128, Target, DefaultHasher, A>,
     gone: Option<Addr>,
@@ -49,7 +49,7 @@ fn end_each<A: Allocator>(
     }
 }
 
-/// The first redirect goes behind the others. It ends where it is to this address, or in any case where there is none.
+/// Moves the first redirect to the end of the order, and ends it if it is to `gone`, or if that is `None`.
 fn end_first<A: Allocator>(
     redirects: &mut LruCache<u128, Target, DefaultHasher, A>,
     gone: Option<Addr>,
@@ -62,7 +62,7 @@ fn end_first<A: Allocator>(
     }
 }
 
-/// The destination of the first redirect.
+/// Returns the destination of the first redirect.
 fn first<A: Allocator>(redirects: &LruCache<u128, Target, DefaultHasher, A>) -> Option<u128>
     ensures { result ≡ option_map (λ e. e.0) (slice_get redirects.now.entries 0) }
 {
@@ -72,7 +72,7 @@ fn first<A: Allocator>(redirects: &LruCache<u128, Target, DefaultHasher, A>) -> 
     }
 }
 
-/// The redirect of a destination ends where it is to this address, or in any case where there is none. It keeps its place.
+/// Ends the redirect of a destination if it is to `gone`, or if that is `None`. It keeps its entry and its place in the order.
 fn end_at<A: Allocator>(
     redirects: &mut LruCache<u128, Target, DefaultHasher, A>,
     destination: u128,

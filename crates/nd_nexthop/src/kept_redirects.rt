@@ -6,7 +6,7 @@ use nd_addr::Addr;
 #[derive(Clone, Copy, Debug, PartialEq, Eq)]
 pub struct Redirect {
     pub destination: Addr,
-    /// Its better first hop, which is the destination itself where that is on the link (RFC 4861, section 8).
+    /// Its better first hop, which is the destination itself if that is on the link (RFC 4861, section 8).
     pub target: Addr,
 }
 
@@ -21,7 +21,7 @@ impl<'a> KeptRedirects<'a> {
     ghost use Rattle.nd_nexthop.specs.History.{those_left};
     ghost use Rattle.nd_nexthop.specs.Left.{redirects_left};
 
-    /// Those of all that are remembered of which something is left.
+    /// Returns the redirects of these entries that have not ended.
     pub(crate) fn new(rest: Iter<'a, u128, Target>) -> Self
         ensures { redirects_left result ≡ those_left rest.entry }
     {

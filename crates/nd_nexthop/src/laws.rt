@@ -6,8 +6,8 @@ ghost use Rattle.nd_nexthop.specs.History.{RedirectRow, kept, redirects, max_red
 ghost use Rattle.nd_nexthop.specs.Choice.{Stands, Table, target_in};
 ghost use Rattle.nd_nexthop.specs.DefaultRouter.{DefaultRouter, chosen_router, AllLater, AllLessPreferred, NoneBefore, NonePreferred, NoneUsable};
 
-/// What happened gives one table, in which a look-up finds the kept redirect of each destination; and one list, which has the kept
-/// redirect of each destination, and 64 at most.
+/// A history gives one table, in which a look-up finds the kept redirect of each destination; and one list, which has the kept redirect of each
+/// destination, and 64 at most.
 pub fn one_answer()
     ensures table { (history : List RedirectRow) (a b : Table) → Stands a history → Stands b history → a.redirects ≡ b.redirects }
     ensures found { (history : List RedirectRow) (choice : Table) (key : ℕ) → Stands choice history → target_in key choice.redirects ≡ kept key history }
@@ -15,9 +15,9 @@ pub fn one_answer()
     ensures few { (history : List RedirectRow) → length (redirects history) ≤ max_redirects }
 {}
 
-/// The chosen default router is, of the usable ones, the one with the highest preference; where none is usable, the one that failed least
-/// recently, and of those that never failed the one with the highest preference (RFC 4861, section 6.3.6; RFC 4191, section 3.2). The first of
-/// the list wins a tie.
+/// The chosen default router is, of the usable ones, the one with the highest preference; if none is usable, the one that failed least recently,
+/// and of those that never failed the one with the highest preference (RFC 4861, section 6.3.6; RFC 4191, section 3.2). The first of the list wins
+/// a tie.
 pub fn one_router()
     ensures usable { (before behind : List DefaultRouter) (r : DefaultRouter) → r.usable ≡ true → AllLessPreferred r before → NonePreferred r behind → chosen_router (before ++ r ∷ behind) ≡ Some r.key }
     ensures least_recent { (before behind : List DefaultRouter) (r : DefaultRouter) → r.usable ≡ false → NoneUsable before → NoneUsable behind → AllLater r before → NoneBefore r behind → chosen_router (before ++ r ∷ behind) ≡ Some r.key }

@@ -10,10 +10,10 @@ use std::alloc::{AllocError, Allocator};
 use std::marker::Model;
 use std::num::NonZeroUsize;
 
-/// The number of destinations whose next hops are remembered (our choice).
+/// The most destinations whose next hops are remembered (our choice).
 const MAX_REMEMBERED: usize = 256;
 
-/// The next hops of the destinations that were asked for most recently.
+/// The next hops of the destinations that were looked up most recently.
 #[derive(Drop)]
 pub(crate) struct Memo<A: Allocator> {
     /// The next hops, by the numbers of the destinations.
@@ -34,7 +34,7 @@ impl<A: Allocator> Model for Memo<A> {
 }
 
 impl<A: Allocator + Clone> Memo<A> {
-    /// Returns an empty memo. The error is out of memory.
+    /// Returns an empty memo. Returns an error if out of memory.
     pub(crate) fn new(alloc: A) -> Result<Self, AllocError>
         ensures { IfOk result (λ memo. memo ≡ record { hops = []; until = None }) }
     {
@@ -45,8 +45,7 @@ impl<A: Allocator + Clone> Memo<A> {
         })
     }
 
-    /// Remembers the next hop of a destination at a moment, in milliseconds, if it may be used then. When out of memory it remembers nothing
-    /// more.
+    /// Remembers the next hop of a destination at `now`, in milliseconds, if it may be used then. If out of memory it remembers nothing more.
     pub(crate) fn remember(&mut self, now: u64, destination: Addr, hop: Hop)
         ensures hops { (e : ℕ × Answer) → Contains self.new.hops e → Contains self.old.hops e ⊎ ((is_asked now self.old.until ≡ true) × (e ≡ (number_of destination.0, hop))) }
         ensures until { self.new.until ≡ self.old.until }
@@ -58,8 +57,7 @@ impl<A: Allocator + Clone> Memo<A> {
 }
 
 impl<A: Allocator> Memo<A> {
-    /// Returns the remembered next hop of a destination, if it may be used at a moment, in milliseconds. The destination becomes the most
-    /// recent one.
+    /// Returns the remembered next hop of a destination, if it may be used at `now`, in milliseconds. The destination becomes the most recent one.
     pub(crate) fn recall(&mut self, now: u64, destination: Addr) -> Option<Hop>
         ensures asked { IsSome result → is_asked now self.old.until ≡ true }
         ensures found { IfSome result (λ hop. Contains self.old.hops (number_of destination.0, hop)) }
@@ -72,7 +70,7 @@ impl<A: Allocator> Memo<A> {
         self.hops.get(&destination.to_bits()).copied()
     }
 
-    /// Returns true if what is remembered may be used at a moment, in milliseconds.
+    /// Returns true if what is remembered may be used at `now`, in milliseconds.
     pub(crate) fn is_asked(&self, now: u64) -> bool
         ensures { result ≡ is_asked now self.now.until }
     {
@@ -97,7 +95,7 @@ impl<A: Allocator> Memo<A> {
         self.hops.clear();
     }
 
-    /// Sets the last moment at which what is remembered may be used, in milliseconds, or that there is none.
+    /// Sets the last moment at which what is remembered may be used, in milliseconds, or `None` if it may be used at any moment.
     pub(crate) fn until(&mut self, until: Option<u64>)
         ensures { self.new ≡ record self.old { until = until } }
     {

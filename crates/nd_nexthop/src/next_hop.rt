@@ -38,14 +38,14 @@ impl<A: Allocator + Clone> Choice<A> {
         ensures agrees { Agrees now (V.own view.now) (V.linked view.now) (V.candidates view.now) self.old → Agrees now (V.own view.now) (V.linked view.now) (V.candidates view.now) self.new }
         ensures stands { (history : List RedirectRow) → Stands self.old history → Stands self.new history }
 
-        // What is remembered then was remembered before, or is this answer, where it may be asked for at the moment.
+        // Each next hop that is remembered afterwards was remembered before, or is this one, if it may be used at `now`.
         ensures remembers { (e : ℕ × Answer) → Contains self.new.memory.hops e → Contains self.old.memory.hops e ⊎ ((is_asked now self.old.memory.until ≡ true) × (e ≡ (number_of destination.0, result))) }
         ensures redirects { self.new.redirects ≡ self.old.redirects }
         ensures until { self.new.memory.until ≡ self.old.memory.until }
     {
         addresses_are_told_by_numbers();
         let _bytes = destination.as_bytes();
-        // It is on the link at all times: to determine its next hop costs less than to remember it.
+        // fe80::/64 is always on the link: to determine this next hop costs less than to remember it.
         if destination.is_link_local() {
             return determine(self.target(destination), destination, view);
         }
@@ -63,7 +63,7 @@ impl<A: Allocator + Clone> Choice<A> {
 impl<A: Allocator> Choice<A> {
     ghost use Rattle.nd_nexthop.specs.Choice.{Stands, target_in};
 
-    /// Returns the next hop of a packet (RFC 4861, section 5.2), asked of the view anew. It neither reads nor changes what is remembered, and takes
+    /// Determines the next hop of a packet anew, from the view (RFC 4861, section 5.2). It neither reads nor changes what is remembered, and takes
     /// no memory.
     pub fn determine<V: View>(&self, destination: Addr, view: &V) -> Hop
         ensures value { hop_of result ≡ hop (V.own view.now) (V.linked view.now) (V.candidates view.now) (target_in (number_of destination.0) self.now.redirects) destination.0 }
@@ -72,7 +72,7 @@ impl<A: Allocator> Choice<A> {
         determine(self.target(destination), destination, view)
     }
 
-    /// The target of a destination's kept redirect. Asking leaves the order in which redirects are forgotten.
+    /// Returns the target of a destination's kept redirect. A look-up does not change which redirect is evicted first.
     fn target(&self, destination: Addr) -> Option<Addr>
         ensures { option_map (λ a. number_of a.0) result ≡ target_in (number_of destination.0) self.now.redirects }
     {
@@ -83,7 +83,7 @@ impl<A: Allocator> Choice<A> {
     }
 }
 
-/// The next hop of a packet, where the destination has this kept redirect, or none.
+/// Returns the next hop of a packet; `redirect` is the target of its destination's kept redirect, if there is one.
 fn determine<V: View>(redirect: Option<Addr>, destination: Addr, view: &V) -> Hop
     ensures { hop_of result ≡ hop (V.own view.now) (V.linked view.now) (V.candidates view.now) (option_map (λ a. number_of a.0) redirect) destination.0 }
 {
@@ -105,14 +105,14 @@ fn determine<V: View>(redirect: Option<Addr>, destination: Addr, view: &V) -> Ho
     }
 }
 
-/// Whether nothing is sent to an address, since it is unspecified, the loopback address or an own one.
+/// Returns true if nothing is sent to an address, since it is unspecified, the loopback address or one of the node's own.
 fn is_own_or_none<V: View>(destination: Addr, view: &V) -> bool
     ensures { result ≡ is_own_or_none (V.own view.now) destination.0 }
 {
     destination.is_unspecified() || destination.is_loopback() || view.is_own(destination)
 }
 
-/// Where a packet goes that is redirected: to the target, which is the destination where that is on the link (RFC 4861, section 8.3).
+/// Returns the next hop of a redirected packet: the target, which is the destination if that is on the link (RFC 4861, section 8.3).
 fn by_redirect(target: Addr, destination: Addr) -> Hop
     ensures { hop_of result ≡ by_redirect (number_of target.0) (number_of destination.0) }
 {

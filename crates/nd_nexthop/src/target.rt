@@ -6,7 +6,7 @@ use nd_addr::Addr;
 use nd_table::compare;
 use std::marker::Model;
 
-/// What is left of a redirect: its target, until it has ended.
+/// The target of a redirect, until the redirect has ended.
 #[derive(Debug, Drop)]
 pub(crate) struct Target {
     addr: Option<Addr>,
@@ -22,21 +22,21 @@ impl Model for Target {
 }
 
 impl Target {
-    /// A redirect to an address.
+    /// Returns a redirect to an address.
     pub(crate) fn of(addr: Addr) -> Target
         ensures { result ≡ Some (number_of addr.0) }
     {
         Target { addr: Some(addr) }
     }
 
-    /// The address, unless the redirect has ended.
+    /// Returns the target, unless the redirect has ended.
     pub(crate) fn addr(&self) -> Option<Addr>
         ensures { option_map (λ a. number_of a.0) result ≡ self.now }
     {
         self.addr
     }
 
-    /// The redirect ends where it is to this address, or in any case where there is none.
+    /// Ends the redirect if it is to `gone`, or if that is `None`.
     pub(crate) fn end(&mut self, gone: Option<Addr>)
         ensures { self.new ≡ left_of (option_map (λ a. number_of a.0) gone) self.old }
     {
@@ -44,7 +44,7 @@ impl Target {
     }
 }
 
-/// The target, unless it is this address, or there is none.
+/// Returns the target, unless it is `gone` or `gone` is `None`.
 fn left_of(gone: Option<Addr>, target: Option<Addr>) -> Option<Addr>
     ensures { option_map (λ a. number_of a.0) result ≡ left_of (option_map (λ a. number_of a.0) gone) (option_map (λ a. number_of a.0) target) }
 {

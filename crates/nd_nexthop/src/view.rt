@@ -4,31 +4,31 @@ ghost use Rattle.nd_nexthop.specs.DefaultRouter.{DefaultRouter, router_of};
 use crate::default_router::Candidate;
 use nd_addr::Addr;
 
-/// What a node is to the choice of its next hops, at one moment. Its ghost members say it for the definitions, so that a node gives them
-/// by its tables.
+/// What the choice of next hops sees of a node, at one moment. Its ghost members say the same to the definitions, so that a node implements it by
+/// its tables.
 pub trait View {
-    /// Whether the bytes are an own address.
+    /// The bytes are one of the node's own addresses.
     ghost own: { Self → List ℕ → Bool };
 
-    /// Whether the bytes are an address on the link.
+    /// The bytes are an address on the link.
     ghost linked: { Self → List ℕ → Bool };
 
     /// The default routers, in the order of their list.
     ghost candidates: { Self → List DefaultRouter };
 
-    /// Whether an address is one of the node's own, tentative or assigned.
+    /// Returns true if an address is one of the node's own, tentative or assigned.
     fn is_own(&self, addr: Addr) -> bool
         ensures { result ≡ own self.now addr.0 };
 
-    /// Whether an address is on the link: in fe80::/64 or in a prefix that stands (RFC 4861, sections 5.1 and 5.2).
+    /// Returns true if an address is on the link: in fe80::/64 or in a prefix of the Prefix List (RFC 4861, sections 5.1 and 5.2).
     fn on_link(&self, addr: Addr) -> bool
         ensures { result ≡ linked self.now addr.0 };
 
-    /// How many default routers there are.
+    /// Returns the number of default routers.
     fn routers(&self) -> usize
         ensures { result ≡ length (candidates self.now) };
 
-    /// A default router by its number in the list, from 0 on.
+    /// Returns a default router by its number in the list, from 0 on.
     fn router(&self, i: usize) -> Option<Candidate>
         ensures { option_map router_of result ≡ slice_get (candidates self.now) i };
 }

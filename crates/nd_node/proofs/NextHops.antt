@@ -55,9 +55,9 @@ use Rattle.nd_steps.proofs.Remembering.{hop_by_own}
 use Rattle.nd_steps.proofs.Resolved.{resolved_by_history}
 use Rattle.nd_nexthop.specs.Choice as choice
 use Rattle.nd_node.proofs.Recalling.{Recalls}
-use Rattle.nd_node.specs.declared.node.NeighbourEntry as entries
+use Rattle.nd_node.specs.declared.node.Node as nodes
 use Rattle.nd_node.specs.Moments.{earlier}
-use Rattle.nd_node.specs.NeighbourEntry.{Stands, next_of}
+use Rattle.nd_node.specs.Node.{Stands, next_of}
 
 -- ---- a router in any state other than INCOMPLETE
 
@@ -76,11 +76,11 @@ before_next None rest now lt = refl
 before_next (Some end) rest now lt = lt-ltb now end (omega (arith, lt))
 
 -- no router's lifetime has ended at a node at which nothing is due
-pub settled_routers : {R A : Type 0} (node : entries.NeighbourEntry R A) (now : ℕ) → now < next_of node → routers.IsSettled node.routers.entries now
+pub settled_routers : {R A : Type 0} (node : nodes.Node R A) (now : ℕ) → now < next_of node → routers.IsSettled node.routers.entries now
 settled_routers node now settled =
     before_next (routers.next_end node.routers.entries) (earlier (address_dates.next_in node.addresses.addresses) (earlier (neighbour_dates.next_in node.neighbours.entries) (earlier (next_solicitation node.role node.solicitations) (earlier (next_advertisement node.role node.router) (node.params.drawn_at + redraw_after))))) now settled
 
-module _ {R A : Type 0} (stream : R → Stream) (start : Start) (node : entries.NeighbourEntry R A) (c : Chronicle) (now : ℕ) (s : Stands stream start node c) (le : last_moment start.at c ≤ now) (settled : now < next_of node) where
+module _ {R A : Type 0} (stream : R → Stream) (start : Start) (node : nodes.Node R A) (c : Chronicle) (now : ℕ) (s : Stands stream start node c) (le : last_moment start.at c ≤ now) (settled : now < next_of node) where
   open_routers : open_at now node.routers.entries ≡ node.routers.entries
   open_routers = open_all same eqb_tells node.routers.entries now (open_each node.routers.entries now (settled_routers node now settled))
 
@@ -113,7 +113,7 @@ pub hop_of_host : (role start_role : Role) → role ≡ start_role → role ≡ 
 hop_of_host role start_role is host c now destination next h = subst (λ (r : Role). IsHopOf r c now destination next) (sym host ∙ is) h
 
 -- a router's goes by its routes
-pub hop_of_router : {R A : Type 0} (stream : R → Stream) (start : Start) (node : entries.NeighbourEntry R A) (c : Chronicle) (now : ℕ) → Stands stream start node c → node.role ≡ Router → (destination : Addr) (own : Bool) (next : NextHop)
+pub hop_of_router : {R A : Type 0} (stream : R → Stream) (start : Start) (node : nodes.Node R A) (c : Chronicle) (now : ℕ) → Stands stream start node c → node.role ≡ Router → (destination : Addr) (own : Bool) (next : NextHop)
     → own ≡ counted_in Own (address_in (number_of destination.0) node.addresses.addresses)
     → ((is : List ℕ → Bool) → is destination.0 ≡ own → (history : List route_rows.Row) → routing.Stands node.router.routes history → next ≡ by_routes.hop is (routes history) destination.0)
     → IsHopOf start.role c now destination next
@@ -123,7 +123,7 @@ hop_of_router stream start node c now s router destination own next own_is by_hi
 -- ---- the next hop is remembered
 
 -- a node whose choice was asked stands for the same
-pub stands_asked : {R A : Type 0} (stream : R → Stream) (start : Start) (node : entries.NeighbourEntry R A) (c : Chronicle) (asked : choice.Table) → Stands stream start node c → choice.Stands asked (redirect_history c)
+pub stands_asked : {R A : Type 0} (stream : R → Stream) (start : Start) (node : nodes.Node R A) (c : Chronicle) (asked : choice.Table) → Stands stream start node c → choice.Stands asked (redirect_history c)
     → Recalls node.last (record node { choice = asked }) → Stands stream start (record node { choice = asked }) c
 stands_asked stream start node c asked s redirects recalls = record {
   role = s.role;

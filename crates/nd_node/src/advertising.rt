@@ -1,4 +1,4 @@
-//! What a router is told to advertise (RFC 4861, section 6.2).
+//! Configures what a router advertises (RFC 4861, section 6.2).
 
 ghost use Rattle.std.specs.Prelude.{◌≡◌, ◌<◌, OnErr, OnOk, ◌≤◌, IsOk, vec_capacity, vec_len};
 ghost use Rattle.nd_table.specs.Moment.{IsMoment};
@@ -21,8 +21,8 @@ use std::alloc::{AllocError, Allocator};
 impl<R: Rng + Drop, A: Allocator + Clone> Node<R, A> {
     ghost use Rattle.nd_node.specs.Node.{Stands, next_of};
 
-    /// A router is to advertise so from a moment on, in milliseconds (RFC 4861, section 6.2.1). A host refuses it. The error is out of
-    /// memory, and then nothing has changed.
+    /// Configures a router to advertise `config` from `now` on, in milliseconds (RFC 4861, section 6.2.1). A host refuses it. Returns an error if
+    /// out of memory; nothing has changed then.
     pub(crate) fn advertise(
         &mut self,
         now: u64,
@@ -45,8 +45,8 @@ impl<R: Rng + Drop, A: Allocator + Clone> Node<R, A> {
         Ok(())
     }
 
-    /// A router is to advertise a prefix, too, or one that it advertises is to have these lifetimes (RFC 4861, section 6.2.1). It is refused where
-    /// it is one too many, and by a host. The error is out of memory, and then nothing has changed.
+    /// Adds a prefix to those that a router advertises, or replaces its lifetimes (RFC 4861, section 6.2.1). A host refuses it, and so does a
+    /// router whose list of prefixes is full. Returns an error if out of memory; nothing has changed then.
     pub(crate) fn offer(
         &mut self,
         now: u64,
@@ -72,8 +72,8 @@ impl<R: Rng + Drop, A: Allocator + Clone> Node<R, A> {
         }
     }
 
-    /// A router is to cease advertising (RFC 4861, section 6.2.5): where it has sent an advertisement since it began, it sends a last one, with
-    /// a router lifetime of 0. A host refuses it. The error is out of memory, and then nothing has changed.
+    /// Ceases advertising (RFC 4861, section 6.2.5): a router that has sent an advertisement since it began sends a last one, with a router
+    /// lifetime of 0. A host refuses it. Returns an error if out of memory; nothing has changed then.
     pub(crate) fn cease(
         &mut self,
         now: u64,

@@ -1,4 +1,4 @@
-//! A table is cleared, by a command.
+//! Clears a table, by a command.
 
 ghost use Rattle.std.specs.Prelude.{◌≡◌, ◌<◌, IsOk, OnErr, OnOk};
 ghost use Rattle.nd_chronicle.specs.Event as events;
@@ -11,14 +11,14 @@ use nd_steps::{tell_packets, tell_routers};
 use rand_core::Rng;
 use std::alloc::{AllocError, Allocator};
 
-/// The tables that a command clears.
+/// The tables that a command can clear.
 #[derive(Clone, Copy, Debug, PartialEq, Eq)]
 pub enum Clearable {
     /// The neighbours (RFC 4861, section 5.1).
     Neighbours,
     /// The default routers (RFC 4861, section 5.1). All redirects end with them.
     Routers,
-    /// The prefixes on the link (RFC 4861, section 5.1). The addresses that were formed of them stay.
+    /// The prefixes on the link (RFC 4861, section 5.1). The addresses that were formed from them stay.
     Prefixes,
     /// The kept redirects (RFC 4861, section 8.3).
     Redirects,
@@ -29,8 +29,8 @@ pub enum Clearable {
 impl<R: Rng + Drop, A: Allocator + Clone> Node<R, A> {
     ghost use Rattle.nd_node.specs.Node.{next_of};
 
-    /// All neighbours are forgotten, and what waits for them is lost, in the order of their addresses, the oldest first. The error is out
-    /// of memory, and then nothing has changed.
+    /// Removes all neighbours. The packets that wait for them are lost, in the order of the neighbours' addresses, the oldest first. Returns an
+    /// error if out of memory; nothing has changed then.
     fn clear_neighbours(
         &mut self,
         now: u64,
@@ -50,8 +50,8 @@ impl<R: Rng + Drop, A: Allocator + Clone> Node<R, A> {
         Ok(())
     }
 
-    /// All routers leave the list, in its order, and all redirects end with them (RFC 4861, section 6.3.5). The error is out of memory,
-    /// and then nothing has changed.
+    /// Removes all routers from the list, in its order, and ends all redirects with them (RFC 4861, section 6.3.5). Returns an error if out of
+    /// memory; nothing has changed then.
     fn clear_routers(
         &mut self,
         now: u64,
@@ -71,7 +71,7 @@ impl<R: Rng + Drop, A: Allocator + Clone> Node<R, A> {
         Ok(())
     }
 
-    /// A table is cleared at a moment, in milliseconds. The error is out of memory, and then nothing has changed.
+    /// Clears a table at `now`, in milliseconds. Returns an error if out of memory; nothing has changed then.
     pub(crate) fn clear(
         &mut self,
         now: u64,
@@ -83,7 +83,7 @@ impl<R: Rng + Drop, A: Allocator + Clone> Node<R, A> {
         ensures keeps { OnErr result (self.new ≡ self.old) }
         ensures told { OnErr result (outs.new.items ≡ outs.old.items) }
 
-        // Where nothing is told nothing refuses, whatever memory there is.
+        // If there is nothing to report it succeeds, even if no memory is left.
         ensures quiet { TellsNothing (clearable_of table) → IsOk result }
     {
         match table {

@@ -1,4 +1,4 @@
-//! How many rows the tables of a node have.
+//! The number of rows in each table of a node.
 
 ghost use Rattle.std.specs.Prelude.{◌≡◌, ◌≤◌, length};
 ghost use Rattle.nd_addr.specs.Number.{number_of};
@@ -15,29 +15,29 @@ use nd_addr::Addr;
 use rand_core::Rng;
 use std::alloc::Allocator;
 
-/// How many rows the tables of a node have, those among them whose end is due and hasn't been told.
+/// The number of rows in each table of a node. Rows whose end is due but not yet reported are counted.
 #[derive(Clone, Copy, Debug, PartialEq, Eq)]
 pub struct Counts {
     pub neighbours: usize,
     pub routers: usize,
     pub prefixes: usize,
-    /// The own addresses, the link-local one among them.
+    /// The node's own addresses, the link-local one included.
     pub addresses: usize,
     pub servers: usize,
     pub search_names: usize,
-    /// The destinations that have a place among the kept redirects.
+    /// The destinations among the kept redirects.
     pub redirects: usize,
-    /// The prefixes that a router advertises: none at a host.
+    /// The prefixes that a router advertises. A host has none.
     pub offers: usize,
-    /// The static routes of a router: none at a host.
+    /// The static routes of a router. A host has none.
     pub routes: usize,
 }
 
 impl<R: Rng + Drop, A: Allocator + Clone> Node<R, A> {
     ghost use Rattle.nd_node.specs.Node.{Stands};
 
-    /// How many rows the tables have: never more than their limits, whatever was heard (our choice: RFC 4861, section 5.3, leaves limits
-    /// to the node). It takes no memory.
+    /// Returns the number of rows in each table. None passes its limit, for any input (our choice: RFC 4861, section 5.3, leaves limits to the
+    /// node). It takes no memory.
     pub fn counts(&self) -> Counts
         ensures value { Counted self.now result }
         ensures within { (start : Start) (c : Chronicle) → Stands R.stream start self.now c → WithinLimits start.limits result }

@@ -1,4 +1,4 @@
-//! What falls due at a node, and when.
+//! What is due at a node, and when.
 
 ghost use Rattle.std.specs.Prelude.{◌≡◌, ℕ, if◌then◌else◌, ◌<◌, ◌≤◌, ◌↔◌, ◌∷◌, IsTrue, Some};
 ghost use Rattle.rand_core.specs.Stream.{next_u32};
@@ -29,7 +29,7 @@ impl<R: Rng + Drop, A: Allocator + Clone> Node<R, A> {
     ghost use Rattle.nd_steps.specs.Turned.{what_of};
     ghost use Rattle.nd_node.specs.Node.{Stands, NextDue, next_of, turns_left};
 
-    /// The moment at which something falls due next.
+    /// Returns the moment, in milliseconds, at which something is due next.
     pub fn next_due(&self) -> u64
         ensures value { result ≡ next_of self.now }
         ensures due { (start : Start) (c : Chronicle) → Stands R.stream start self.now c → NextDue start c result }
@@ -42,16 +42,16 @@ impl<R: Rng + Drop, A: Allocator + Clone> Node<R, A> {
         earlier(self.routers.next_due(), address)
     }
 
-    /// Whether nothing is due any more up to a moment.
+    /// Returns true if nothing is due up to `now`, in milliseconds.
     pub fn settled(&self, now: u64) -> bool
         ensures { IsTrue result ↔ (now < next_of self.now) }
     {
         now < self.next_due()
     }
 
-    /// Does what is due first at the moment, which is the next at which something is: the ends of routers, of own addresses, their
-    /// detections, the neighbours, Router Solicitations, Router Advertisements, a redraw of ReachableTime, each in the order of addresses. It
-    /// takes no memory.
+    /// Does the first thing that is due at `now`, in milliseconds; the caller passes the moment that `next_due` returns. The order is: ends of
+    /// routers, ends of own addresses, duplicate address detection, neighbours, Router Solicitations, Router Advertisements, a redraw of
+    /// ReachableTime; within each, the order of addresses. It takes no memory.
     pub(crate) fn take_turn(&mut self, now: u64) -> Turned<A>
         requires moment { IsMoment now }
         requires due { now ≡ next_of self.old }
@@ -96,7 +96,7 @@ impl<R: Rng + Drop, A: Allocator + Clone> Node<R, A> {
     }
 }
 
-/// Forgets remembered next hops if one of the node's own addresses has ended.
+/// Forgets the remembered next hops if one of the node's own addresses has ended.
 fn forget_if_ended<A: Allocator>(choice: &mut Choice<A>, due: nd_slaac::Due)
     ensures { choice.new ≡ (if ends (falls_of due) then record choice.old { memory = forgotten choice.old.memory } else choice.old) }
 {
@@ -106,7 +106,7 @@ fn forget_if_ended<A: Allocator>(choice: &mut Choice<A>, due: nd_slaac::Due)
     }
 }
 
-/// The first Router Solicitation comes with the link-local address (RFC 4861, section 6.3.7).
+/// Plans the first Router Solicitation once the link-local address is assigned (RFC 4861, section 6.3.7).
 fn note_address(
     solicitations: &mut RouterSolicitations,
     link_local: Addr,
@@ -126,7 +126,7 @@ fn note_address(
     }
 }
 
-/// ReachableTime is drawn again for the base in force (RFC 4861, section 6.3.4).
+/// Draws ReachableTime again from the base in force (RFC 4861, section 6.3.4).
 fn redraw<R: Rng>(params: &mut Params, generator: &mut R, now: u64)
     requires { IsMoment now }
     ensures stands { GainsRows params.old params.new (λ history. Drew now (reachable_drawn params.old.base_reachable_time (R.stream generator.old)) ∷ history) }
@@ -137,7 +137,7 @@ fn redraw<R: Rng>(params: &mut Params, generator: &mut R, now: u64)
     params.redrawn(now, value);
 }
 
-/// The earlier of a moment that may be missing and one that is there.
+/// Returns the earlier of two moments, of which `a` may be missing.
 fn earlier(a: Option<u64>, b: u64) -> u64
     ensures { result ≡ earlier a b }
 {

@@ -21,7 +21,7 @@ use nd_steps::OutgoingPacket;
 use rand_core::Rng;
 use std::alloc::{AllocError, Allocator};
 
-/// The tables that are shown.
+/// The tables that can be shown.
 #[derive(Clone, Copy, Debug, PartialEq, Eq)]
 pub enum Table {
     /// The neighbours (RFC 4861, section 5.1).
@@ -30,7 +30,7 @@ pub enum Table {
     Routers,
     /// The prefixes on the link (RFC 4861, section 5.1).
     Prefixes,
-    /// The own addresses (RFC 4862, section 5).
+    /// The node's own addresses (RFC 4862, section 5).
     Addresses,
     /// The DNS servers and search names (RFC 8106, section 6.1).
     Dns,
@@ -38,46 +38,46 @@ pub enum Table {
     Redirects,
     /// The parameters of the link (RFC 4861, section 6.3.2).
     Params,
-    /// What a router advertises: nothing at a host.
+    /// What a router advertises. A host shows nothing.
     Advertise,
-    /// The static routes of a router: none at a host.
+    /// The static routes of a router. A host shows nothing.
     Routes,
 }
 
-/// What comes to a node from outside.
+/// What a node receives from outside.
 #[derive(Drop)]
 pub enum Event<A: Allocator> {
     /// Time passes.
     Passes,
-    /// A frame comes, from its Ethernet destination on (RFC 2464, section 3).
+    /// A frame is received, from its Ethernet destination on (RFC 2464, section 3).
     Receives(Vec<u8, A>),
-    /// A packet of the upper layer is to be sent (RFC 4861, section 5.2).
+    /// The upper layer sends a packet (RFC 4861, section 5.2).
     Sends(OutgoingPacket<A>),
-    /// An upper layer confirms that a neighbour is reached (RFC 4861, section 7.3.1).
+    /// An upper layer confirms that a neighbour is reachable (RFC 4861, section 7.3.1).
     Confirms(Addr),
-    /// A neighbour is to be forgotten, by a command.
+    /// A command removes a neighbour.
     Forgets(Addr),
-    /// A table is to be cleared, by a command.
+    /// A command clears a table.
     Clears(Clearable),
-    /// A table is shown.
+    /// A command shows a table.
     Shows(Table),
-    /// A router is to advertise so (RFC 4861, section 6.2.1). A host refuses it, as all that follow.
+    /// A command configures a router to advertise (RFC 4861, section 6.2.1). A host refuses it, and all that follow.
     Advertises(Config),
-    /// A router is to advertise a prefix, too (RFC 4861, section 6.2.1).
+    /// A command adds a prefix to those that a router advertises (RFC 4861, section 6.2.1).
     Offers(Offer),
-    /// A router is to have a static route.
+    /// A command gives a router a static route.
     PutsRoute(KeptRoute),
-    /// A router is to cease advertising (RFC 4861, section 6.2.5).
+    /// A command ceases a router's advertising (RFC 4861, section 6.2.5).
     Stops,
 }
 
 impl<R: Rng + Drop, A: Allocator + Clone> Node<R, A> {
     ghost use Rattle.nd_node.specs.Node.{Stands, next_of};
 
-    /// An event comes at a moment, in milliseconds. All that is due up to it comes first, its own millisecond included; then it adds what
-    /// it adds. One that comes before the moment up to which time has passed is told alone.
+    /// Passes an event to the node at `now`, in milliseconds. The node first does all that is due up to `now`, this millisecond included, and then
+    /// what the event adds. An event earlier than the node's last moment is only reported as past.
     ///
-    /// The error is out of memory: then a part of what is due may have been done and told, and the event has added nothing.
+    /// Returns an error if out of memory: a part of what is due may have been done and reported then, and the event has added nothing.
     pub fn event(
         &mut self,
         now: u64,
@@ -88,11 +88,11 @@ impl<R: Rng + Drop, A: Allocator + Clone> Node<R, A> {
         ensures follows { OnOk result (Leads R.stream self.old self.new outs.old.items outs.new.items (FollowsBy now (event_of event.now))) }
         ensures onward { OnErr result (Leads R.stream self.old self.new outs.old.items outs.new.items (Onward now)) }
 
-        // Where nothing is due up to it and it asks for no memory, or where it comes too late, nothing refuses, whatever memory there is.
+        // If nothing is due up to `now` and the event asks for no memory, or if the event is too late, it succeeds even if no memory is left.
         ensures quiet { (start : Start) (c : Chronicle) → Stands R.stream start self.old c → last_moment start.at c ≤ now → now < next_of self.old → AsksForNone start c self.old now (vec_capacity outs.old - vec_len outs.old) (event_of event.now) → IsOk result }
         ensures late { now < self.old.last → vec_len outs.old < vec_capacity outs.old → IsOk result }
 
-        // Where nothing is due up to it and it is refused, it is reported so whatever memory there is.
+        // If nothing is due up to `now` and the event is refused, the refusal is reported even if no memory is left.
         ensures refused { (start : Start) (c : Chronicle) → Stands R.stream start self.old c → last_moment start.at c ≤ now → now < next_of self.old → AddsRefusal now c (EventAdds start now (event_of event.now)) → vec_len outs.old < vec_capacity outs.old → IsOk result }
     {
         if now < self.last {
@@ -103,9 +103,9 @@ impl<R: Rng + Drop, A: Allocator + Clone> Node<R, A> {
     }
 
     /// Receives a frame that the caller keeps, from its Ethernet destination on (RFC 2464, section 3): the event `Receives` without a copy of the
-    /// frame. All that is due up to `now`, in milliseconds, comes first.
+    /// frame. The node first does all that is due up to `now`, in milliseconds.
     ///
-    /// The error is out of memory: then a part of what is due may have been done and reported, and the frame has changed nothing.
+    /// Returns an error if out of memory: a part of what is due may have been done and reported then, and the frame has changed nothing.
     pub fn receive(
         &mut self,
         now: u64,
@@ -123,10 +123,10 @@ impl<R: Rng + Drop, A: Allocator + Clone> Node<R, A> {
         self.judge_frame(now, frame, outs)
     }
 
-    /// Events come, one after the other, each at its moment, in milliseconds.
+    /// Passes events to the node in their order, each with its moment, in milliseconds.
     ///
-    /// The error is out of memory: then some of the events have come, the first ones, and of what is due up to the next one a part may
-    /// have been done; all that is told.
+    /// Returns an error if out of memory: the first events have been handled then, and a part of what is due up to the next one may have been done;
+    /// all of that is reported.
     pub fn run(
         &mut self,
         events: &[(u64, Event<A>)],
@@ -142,8 +142,8 @@ impl<R: Rng + Drop, A: Allocator + Clone> Node<R, A> {
         Ok(())
     }
 
-    /// Reports an event that comes before the moment up to which time has passed, and changes nothing else. Returns an error if out of memory;
-    /// nothing is reported then.
+    /// Reports an event that is earlier than the node's last moment, and changes nothing else. Returns an error if out of memory; nothing is
+    /// reported then.
     fn refuse_past(&mut self, now: u64, outs: &mut Vec<(u64, Out<A>), A>) -> Result<(), AllocError>
         requires { now < self.old.last }
         ensures past { OnOk result ((event : events.Event) → Leads R.stream self.old self.new outs.old.items outs.new.items (FollowsBy now event)) }
@@ -155,9 +155,9 @@ impl<R: Rng + Drop, A: Allocator + Clone> Node<R, A> {
         Ok(())
     }
 
-    /// Adds what an event adds, once all that is due up to it is done: a link calls it, whose nodes take their turns together. An event that
-    /// comes before the moment up to which time has passed is reported alone, and the clock stays. Returns an error if out of memory; nothing has
-    /// happened then.
+    /// Adds what an event adds, once all that is due up to `now` is done. A link calls it, since its nodes take their turns together. An event
+    /// earlier than the node's last moment is only reported as past, and the clock stays. Returns an error if out of memory; nothing has happened
+    /// then.
     pub fn add(
         &mut self,
         now: u64,

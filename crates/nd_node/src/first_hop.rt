@@ -1,4 +1,4 @@
-//! The next hop of a packet, asked of the tables of a node (RFC 4861, sections 5.2 and 6.3.6).
+//! The next hop of a packet, from the tables of a node (RFC 4861, sections 5.2 and 6.3.6).
 
 ghost use Rattle.std.specs.Prelude.{◌≡◌, ◌<◌, ◌≤◌};
 ghost use Rattle.nd_chronicle.specs.Happening.{Chronicle, last_moment};
@@ -18,8 +18,8 @@ impl<R: Rng + Drop, A: Allocator + Clone> Node<R, A> {
     ghost use Rattle.nd_chronicle.specs.NextHop.{IsHopOf, IsNextHop};
     ghost use Rattle.nd_node.specs.Node.{Stands, next_of};
 
-    /// Returns the next hop that a host chooses for a packet to a destination at a moment, in milliseconds, up to which nothing is due (RFC
-    /// 4861, section 5.2). It may take memory to remember the next hop, and does without if there is none.
+    /// Returns the next hop that a host chooses for `destination` at `now`, in milliseconds, up to which nothing is due (RFC 4861, section 5.2). It
+    /// remembers the next hop if it gets the memory for that, and does without otherwise.
     pub(crate) fn next_hop(&mut self, now: u64, destination: Addr) -> Hop
         requires settled { now < next_of self.old }
         ensures next { (start : Start) (c : Chronicle) → Stands R.stream start self.old c → last_moment start.at c ≤ now → IsNextHop c now destination (hop_of result) }
@@ -28,7 +28,7 @@ impl<R: Rng + Drop, A: Allocator + Clone> Node<R, A> {
     {
         addresses_are_told_by_numbers();
         let _bytes = destination.as_bytes();
-        // No earlier moment than the last one is asked for.
+        // The tables are not asked about an earlier moment than the last one.
         let at = now.max(self.last);
         let tables = Tables {
             now: at,
@@ -40,8 +40,8 @@ impl<R: Rng + Drop, A: Allocator + Clone> Node<R, A> {
         self.choice.next_hop(at, destination, &tables)
     }
 
-    /// The next hop of a packet of this node to a destination at a moment, in milliseconds, up to which nothing is due: at a host the choice
-    /// among its tables, at a router its longest route (RFC 4861, section 5.2). It takes no memory.
+    /// Returns the next hop of this node's packet to `destination` at `now`, in milliseconds, up to which nothing is due: a host chooses from its
+    /// tables, a router takes its longest route (RFC 4861, section 5.2).
     pub(crate) fn hop_of_packet(&mut self, now: u64, destination: Addr) -> Hop
         requires settled { now < next_of self.old }
         ensures next { (start : Start) (c : Chronicle) → Stands R.stream start self.old c → last_moment start.at c ≤ now → IsHopOf start.role c now destination (hop_of result) }

@@ -1,4 +1,4 @@
-//! Whether what comes is for this node, or is to be sent on.
+//! Decides what is for this node and what a router sends on.
 
 ghost use Rattle.std.specs.Prelude.{◌≡◌, ◌↔◌, true};
 ghost use Rattle.nd_addr.specs.Ip6.{PacketParts};
@@ -22,8 +22,8 @@ impl<R: Rng + Drop, A: Allocator + Clone> Node<R, A> {
     ghost use Rattle.nd_steps.specs.OwnAddresses.{counting};
     ghost use Rattle.nd_node.specs.Node.{Stands};
 
-    /// Whether a destination is that of all nodes, at a router that of all routers, or an own address that counts, or the solicited-node
-    /// address of one (RFC 4291, section 2.8).
+    /// Returns true if `destination` is the all-nodes address, at a router the all-routers address, one of the node's own addresses of the kind
+    /// `counted`, or the solicited-node address of one of these (RFC 4291, section 2.8).
     fn is_ours(&self, counted: Counted, destination: Addr) -> bool
         ensures { (start : Start) (c : Chronicle) → Stands R.stream start self.now c → result ≡ true ↔ IsOurs start (counting counted c) destination }
     {
@@ -37,7 +37,7 @@ impl<R: Rng + Drop, A: Allocator + Clone> Node<R, A> {
         self.addresses.is_to(counted, destination)
     }
 
-    /// Whether a valid message is for this node.
+    /// Returns true if a valid message is for this node.
     pub(crate) fn is_for_us(&self, source: Addr, destination: Addr, body: &Body) -> bool
         ensures { (start : Start) (c : Chronicle) (message : Parts) → Stands R.stream start self.now c → message.body ≡ body.now → result ≡ true ↔ IsForUs start c source destination message }
     {
@@ -50,7 +50,7 @@ impl<R: Rng + Drop, A: Allocator + Clone> Node<R, A> {
         self.is_ours(Counted::Own, destination)
     }
 
-    /// Whether the link-local address is assigned.
+    /// Returns true if the link-local address is assigned.
     fn is_up(&self) -> bool
         ensures { (start : Start) (c : Chronicle) → Stands R.stream start self.now c → result ≡ is_up start c }
     {
@@ -58,7 +58,7 @@ impl<R: Rng + Drop, A: Allocator + Clone> Node<R, A> {
         self.addresses.counts(Counted::Assigned, own)
     }
 
-    /// Whether a packet that is no message is for this node: for an address that is assigned.
+    /// Returns true if a packet that is no message of Neighbor Discovery is for this node: its destination is an assigned address.
     pub(crate) fn is_packet_for_us(&self, destination: Addr) -> bool
         ensures { (start : Start) (c : Chronicle) (packet : PacketParts) → Stands R.stream start self.now c → packet.header.destination ≡ destination → result ≡ true ↔ IsPacketForUs start c packet }
     {
@@ -68,8 +68,8 @@ impl<R: Rng + Drop, A: Allocator + Clone> Node<R, A> {
         self.is_ours(Counted::Assigned, destination)
     }
 
-    /// Whether a packet that isn't for this node is to be sent on: the node is a router whose link-local address is assigned, and neither the
-    /// source nor the destination keeps the packet on its link (RFC 4291, section 2.5.6).
+    /// Returns true if a packet that isn't for this node is to be sent on: the node is a router whose link-local address is assigned, and neither
+    /// the source nor the destination keeps the packet on its link (RFC 4291, section 2.5.6).
     pub(crate) fn is_in_transit(&self, header: &Ip6) -> bool
         ensures { (start : Start) (c : Chronicle) (packet : PacketParts) → Stands R.stream start self.now c → packet.header ≡ header.now → (IsPacketForUs start c packet → ⊥) → result ≡ true ↔ IsInTransit start c packet }
     {

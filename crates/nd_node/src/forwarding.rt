@@ -32,8 +32,9 @@ use std::alloc::{AllocError, Allocator};
 impl<R: Rng + Drop, A: Allocator + Clone> Node<R, A> {
     ghost use Rattle.nd_node.specs.Node.{Stands, next_of};
 
-    /// A packet in transit comes in a frame, at a moment, in milliseconds, up to which nothing is due: it is sent on to its next hop, or lost
-    /// where there is none or its hop limit is spent (RFC 8200, section 3). The error is out of memory, and then nothing has changed.
+    /// Sends a packet in transit on to its next hop. It is lost if there is no route or its hop limit doesn't allow another hop (RFC 8200, section
+    /// 3). `frame` is the frame as received at `now`, in milliseconds, up to which nothing is due. Returns an error if out of memory; nothing has
+    /// changed then.
     pub(crate) fn forward(
         &mut self,
         now: u64,
@@ -60,8 +61,8 @@ impl<R: Rng + Drop, A: Allocator + Clone> Node<R, A> {
         }
     }
 
-    /// A packet in transit that isn't sent on is lost for a reason, and told of as it came. The error is out of memory, and then nothing
-    /// has changed.
+    /// Reports that a packet in transit is lost, with the reason `why` and the packet as received. Returns an error if out of memory; nothing has
+    /// changed then.
     fn lose_in_transit(
         &mut self,
         now: u64,
@@ -113,8 +114,8 @@ impl<R: Rng + Drop, A: Allocator + Clone> Node<R, A> {
         }
     }
 
-    /// A packet is sent on to its next hop behind a Redirect of a target to who sent it, or both are refused where one of the two neighbours
-    /// has no place (RFC 4861, section 8.2). The error is out of memory, and then nothing has changed.
+    /// Sends a Redirect for `target` to the packet's sender, then the packet to `hop` (RFC 4861, section 8.2). Both are refused if there is no room
+    /// for one of the two neighbours. Returns an error if out of memory; nothing has changed then.
     fn redirect_and_send(
         &mut self,
         now: u64,

@@ -1,4 +1,4 @@
-//! A frame that comes.
+//! Receives a frame.
 
 ghost use Rattle.std.specs.Prelude.{◌≡◌, ◌∷◌, ◌-◌, ◌<◌, ◌≤◌, ℕ, List, IsOk, OnOk, OnErr, vec_len, vec_capacity};
 ghost use Rattle.nd_addr.specs.Ip6.{packet_parts};
@@ -29,8 +29,8 @@ use std::alloc::{AllocError, Allocator};
 impl<R: Rng + Drop, A: Allocator + Clone> Node<R, A> {
     ghost use Rattle.nd_node.specs.Node.{Stands, next_of};
 
-    /// A packet that is no message of Neighbor Discovery goes to the upper layer, if it is for an assigned address, and on to another node, if
-    /// it is in transit (RFC 8200, section 3).
+    /// Passes a packet that is no message of Neighbor Discovery to the upper layer if its destination is an assigned address, and sends it on to
+    /// another node if it is in transit (RFC 8200, section 3).
     fn hear_packet(
         &mut self,
         now: u64,
@@ -60,7 +60,7 @@ impl<R: Rng + Drop, A: Allocator + Clone> Node<R, A> {
         Ok(())
     }
 
-    /// A valid message is heard, if it is for this node.
+    /// Handles a valid message if it is for this node.
     fn judge_message(
         &mut self,
         now: u64,
@@ -92,9 +92,9 @@ impl<R: Rng + Drop, A: Allocator + Clone> Node<R, A> {
         )
     }
 
-    /// A frame comes at a moment, in milliseconds, up to which nothing is due: it is dropped for the first reason that holds, a message
-    /// that is for this node is heard, and another packet for it goes to the upper layer (RFC 4861, sections 6.1, 7.1 and 8.1). The error
-    /// is out of memory, and then nothing has happened.
+    /// Receives a frame at `now`, in milliseconds, up to which nothing is due. The frame is dropped for the first reason that holds; a message for
+    /// this node is heard, and another packet for this node goes to the upper layer (RFC 4861, sections 6.1, 7.1 and 8.1). Returns an error if out
+    /// of memory; nothing has happened then.
     pub(crate) fn judge_frame(
         &mut self,
         now: u64,

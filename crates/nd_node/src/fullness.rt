@@ -18,8 +18,8 @@ impl<R: Rng + Drop, A: Allocator + Clone> Node<R, A> {
     ghost use Rattle.nd_node.specs.Fullness.{HasRoom};
     ghost use Rattle.nd_node.specs.RouterAdvertisement.{advertised};
 
-    /// Returns the first table, in the order of their limits, that has no room for a Router Advertisement at a moment, in milliseconds, and None
-    /// if all have. `place`: there is room for its sender among the neighbours. No table behind a full one is asked.
+    /// Returns the first table, in the order of their limits, that has no room for a Router Advertisement received at `now`, in milliseconds, or
+    /// `None` if all have room. `place`: there is room for its sender among the neighbours. It asks no table after a full one.
     pub(crate) fn first_full(
         &self,
         now: u64,

@@ -30,10 +30,9 @@
 //!   entries and of waiting packets. The event `Shows` returns the rows of a table as text, and so does `rows`.
 //!
 //! # What may fail
-//!
-//! Only memory. `Node::new` returns the generator then, with no word drawn. After an error of `event` a part of what is due may have been done
-//! and reported, and the event has changed nothing: the same call again goes on from there. No message is applied in part. No table grows: each
-//! has its room from the start, and a full table refuses (`Out::Refused`) or evicts an entry as RFC 4861, section 5.3, suggests.
+//! Only memory. `Node::new` returns the generator then, with no word drawn. After an error of `event` a part of what is due may have been done and
+//! reported, and the event has changed nothing: the same call continues from there. No message is applied in part. No table grows: each has its
+//! room from the start, and a full table refuses (`Out::Refused`) or evicts an entry as RFC 4861, section 5.3, suggests.
 //!
 //! Memory is taken for frames that are sent, packets that wait for a neighbour's link-layer address, new search names, the list of outputs and
 //! text. If the list has room, none is taken for a frame that is dropped, an advertisement that adds no search name, a refusal, `Passes` and

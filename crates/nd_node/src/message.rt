@@ -1,4 +1,4 @@
-//! A valid message that is for this node.
+//! Handles a valid message for this node.
 
 ghost use Rattle.std.specs.Prelude.{◌≡◌, ◌+◌, ◌++◌, [], ◌∷◌, ◌-◌, ◌<◌, ◌≤◌, ℕ, List, IsOk, OnOk, OnErr, vec_len, vec_capacity};
 ghost use Rattle.nd_decode.specs.Pieces.{options_left};
@@ -21,11 +21,11 @@ use nd_out::Out;
 use rand_core::Rng;
 use std::alloc::{AllocError, Allocator};
 
-/// How many rows a message adds at most, besides those of the packets that it releases: itself, a duplicate address or an answer, and a router
-/// that leaves the list.
+/// The most rows that a message adds, besides those of the packets that it releases: itself, a duplicate address or an answer, and a router that
+/// leaves the list.
 pub(crate) const MOST_ROWS: usize = 3;
 
-/// Reports a valid message that is for this node, at `now` in milliseconds, into room that was made before.
+/// Reports a valid message for this node, at `now` in milliseconds, into room that was made before.
 pub(crate) fn push_heard<A: Allocator>(
     outs: &mut Vec<(u64, Out<A>), A>,
     now: u64,
@@ -49,8 +49,8 @@ pub(crate) fn push_heard<A: Allocator>(
 impl<R: Rng + Drop, A: Allocator + Clone> Node<R, A> {
     ghost use Rattle.nd_node.specs.Node.{Stands, next_of};
 
-    /// A frame is dropped at a moment, in milliseconds, for a reason, which is told. The error is out of memory, and then nothing has
-    /// changed.
+    /// Reports at `now`, in milliseconds, that a frame is dropped, with the reason `why`. Returns an error if out of memory; nothing has changed
+    /// then.
     pub(crate) fn drop_frame(
         &mut self,
         now: u64,
@@ -62,7 +62,7 @@ impl<R: Rng + Drop, A: Allocator + Clone> Node<R, A> {
         ensures keeps { OnErr result (self.new ≡ self.old) }
         ensures told { OnErr result (outs.new.items ≡ outs.old.items) }
 
-        // Where there is a place for it nothing refuses, whatever memory there is.
+        // If the list has room for the report it succeeds, even if no memory is left.
         ensures quiet { vec_len outs.old < vec_capacity outs.old → IsOk result }
     {
         outs.push((now, Out::Dropped(why)))?;
@@ -70,8 +70,8 @@ impl<R: Rng + Drop, A: Allocator + Clone> Node<R, A> {
         Ok(())
     }
 
-    /// A valid message that is for this node is heard at a moment, in milliseconds (RFC 4861, sections 6.2.6, 6.3.4, 7.2.3, 7.2.5 and
-    /// 8.3). The error is out of memory, and then nothing has happened.
+    /// Handles a valid message for this node at `now`, in milliseconds (RFC 4861, sections 6.2.6, 6.3.4, 7.2.3, 7.2.5 and 8.3). Returns an error if
+    /// out of memory; nothing has happened then.
     pub(crate) fn hear_message(
         &mut self,
         now: u64,

@@ -20,9 +20,10 @@ use std::alloc::{AllocError, Allocator};
 impl<R: Rng + Drop, A: Allocator + Clone> Node<R, A> {
     ghost use Rattle.nd_node.specs.Node.{Stands, next_of};
 
-    /// A Neighbor Advertisement is heard at a moment, in milliseconds: its target is a duplicate if it is a tentative own address, what it
-    /// says of the neighbour is taken and releases what waits, and a router that is none any more leaves the list (RFC 4861, section
-    /// 7.2.5; RFC 4862, section 5.4.4). The error is out of memory, and then nothing has changed.
+    /// Handles a Neighbor Advertisement at `now`, in milliseconds (RFC 4861, section 7.2.5; RFC 4862, section 5.4.4). If its target is one of the
+    /// node's own tentative addresses, this address is a duplicate. The neighbour's entry takes what the advertisement says, and the packets that
+    /// wait for its link-layer address are sent. A router that has stopped being one leaves the list. Returns an error if out of memory; nothing
+    /// has changed then.
     pub(crate) fn hear_neighbor_advertisement(
         &mut self,
         now: u64,
@@ -47,7 +48,7 @@ impl<R: Rng + Drop, A: Allocator + Clone> Node<R, A> {
         outs.reserve(MAX_WAITING + MOST_ROWS)?;
         self.last = now;
         push_heard(outs, now, source, destination, body);
-        // RFC 4862, section 5.4.4: an advertisement for a tentative address: it is not unique.
+        // RFC 4862, section 5.4.4: an advertisement for a tentative address shows that this address is not unique.
         hear_holder(&mut self.addresses, &mut self.choice, now, na.target, outs);
         // RFC 4861, section 7.2.5: the entry of the target, and the packets that waited for its link-layer address.
         let times = times_in_force(&self.params);

@@ -30,16 +30,16 @@ use std::alloc::{AllocError, Allocator};
 struct AnswerRoom<A: Allocator> {
     /// For the advertisement.
     answer: FrameRoom<A>,
-    /// For the solicitation of the asker's link-layer address, where that isn't known.
+    /// For the solicitation of the asker's link-layer address, if that isn't known.
     solicitation: FrameRoom<A>,
 }
 
 impl<R: Rng + Drop, A: Allocator + Clone> Node<R, A> {
     ghost use Rattle.nd_node.specs.Node.{Stands, next_of};
 
-    /// A Neighbor Solicitation for an own address is heard at a moment, in milliseconds: from `::` another node tries the address, and
-    /// from an address it is answered (RFC 4861, sections 7.2.3 and 7.2.4; RFC 4862, section 5.4.3). The error is out of memory, and
-    /// then nothing has changed.
+    /// Handles a Neighbor Solicitation for one of the node's own addresses at `now`, in milliseconds (RFC 4861, sections 7.2.3 and 7.2.4; RFC 4862,
+    /// section 5.4.3). One from `::` says that another node tries the address; one from an address is answered. Returns an error if out of memory;
+    /// nothing has changed then.
     pub(crate) fn hear_neighbor_solicitation(
         &mut self,
         now: u64,
@@ -62,9 +62,9 @@ impl<R: Rng + Drop, A: Allocator + Clone> Node<R, A> {
         self.hear_asker(now, source, destination, ns, options, outs)
     }
 
-    /// A solicitation from `::` for an own address: another node tries it. All nodes are told where it is assigned; where it is
-    /// tentative, it is a duplicate (RFC 4861, section 7.2.4; RFC 4862, section 5.4.3). The error is out of memory, and then
-    /// nothing has changed.
+    /// Handles a solicitation from `::` for one of the node's own addresses, which another node tries. If the address is assigned, an advertisement
+    /// to all nodes says so; if it is tentative, it is a duplicate (RFC 4861, section 7.2.4; RFC 4862, section 5.4.3). Returns an error if out of
+    /// memory; nothing has changed then.
     fn hear_detection(
         &mut self,
         now: u64,
@@ -87,21 +87,21 @@ impl<R: Rng + Drop, A: Allocator + Clone> Node<R, A> {
         self.last = now;
         let body = Body::Ns(*ns);
         push_heard(outs, now, source, destination, body);
-        // RFC 4862, section 5.4.3: the target is tentative: another node tries it, too.
+        // RFC 4862, section 5.4.3: the target is tentative, and another node tries it, too.
         if hear_conflict(&mut self.addresses, &mut self.choice, ns.target) {
             outs.push_reserved((now, Out::Duplicate(ns.target)));
             return Ok(());
         }
-        // RFC 4861, section 7.2.4: all nodes are told that the address is held.
+        // RFC 4861, section 7.2.4: an advertisement to all nodes says that this node has the address.
         let router = is_router(self.role);
         let defence = room.defence(router, self.mac, ns.target);
         outs.push_reserved((now, Out::Frame(defence)));
         Ok(())
     }
 
-    /// A solicitation from an address for an own one: what it says of the asker is taken, and it is answered as any packet goes to a
-    /// neighbour (RFC 4861, sections 7.2.3 and 7.2.4). It is refused where the asker has no place. The error is out of memory, and
-    /// then nothing has changed.
+    /// Handles a solicitation from an address for one of the node's own: the asker's entry takes what the solicitation says, and the answer goes to
+    /// the asker as any packet to a neighbour (RFC 4861, sections 7.2.3 and 7.2.4). It is refused if there is no room for the asker. Returns an
+    /// error if out of memory; nothing has changed then.
     fn hear_asker(
         &mut self,
         now: u64,
@@ -141,7 +141,7 @@ impl<R: Rng + Drop, A: Allocator + Clone> Node<R, A> {
             times,
             outs,
         );
-        // Section 7.2.4: a solicited advertisement to the asker, which goes as any packet to a neighbour.
+        // Section 7.2.4: a solicited advertisement, sent to the asker as any packet to a neighbour.
         let router = is_router(self.role);
         let answer = room.answer.answer(router, self.mac, ns.target, source);
         self.go(now, source, answer, room.solicitation, outs);
@@ -149,8 +149,8 @@ impl<R: Rng + Drop, A: Allocator + Clone> Node<R, A> {
     }
 }
 
-/// Makes room for an answer and for all that is told with it: the frames, the places, and a ring for an asker that isn't there and
-/// doesn't give its link-layer address. The error is out of memory.
+/// Makes room for an answer and for all that is reported with it: the frames, the rows of the list, and a ring for an asker that has no entry and
+/// doesn't give its link-layer address. Returns an error if out of memory.
 fn make_room<A: Allocator + Clone>(
     neighbours: &mut Cache<A>,
     now: u64,
@@ -177,7 +177,7 @@ fn make_room<A: Allocator + Clone>(
     })
 }
 
-/// The flag R of what a node sends (RFC 4861, section 4.4).
+/// Returns the flag R of the advertisements that the node sends (RFC 4861, section 4.4).
 fn is_router(role: Role) -> bool
     ensures { result ≡ solicited.is_router role }
 {

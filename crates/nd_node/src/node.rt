@@ -18,7 +18,7 @@ use nd_steps::{
 use rand_core::Rng;
 use std::alloc::Allocator;
 
-/// A host or a router on its link. Each moment that a call takes or answers is in milliseconds, from a beginning that is the caller's.
+/// A host or a router on its link. Each moment that a call takes or returns is in milliseconds; the caller chooses where they begin.
 #[derive(Drop)]
 pub struct Node<R, A: Allocator> {
     pub(crate) role: Role,
@@ -41,10 +41,10 @@ impl<R: Rng + Drop, A: Allocator + Copy> Node<R, A> {
     ghost use Rattle.nd_chronicle.specs.History.{beginning};
     ghost use Rattle.nd_node.specs.Node.{Stands, starting};
 
-    /// Starts a node at `start`, in milliseconds. It draws its ReachableTime, then the delay of the first solicitation for its link-local
-    /// address, and forms that address (RFC 4861, section 6.3.2; RFC 4862, sections 5.3 and 5.4.2). `transmits` is the number of solicitations
-    /// that it sends for each address, and `limits` are the most neighbours and default routers that it keeps. Out of memory: the generator
-    /// comes back, and no word of it was taken.
+    /// Starts a node at `start`, in milliseconds. It draws its ReachableTime, then the delay of the first solicitation for its link-local address,
+    /// and forms that address (RFC 4861, section 6.3.2; RFC 4862, sections 5.3 and 5.4.2). `transmits` is the number of solicitations that it sends
+    /// for each address, and `limits` are the most neighbours and default routers that it keeps. If out of memory, returns the generator with no
+    /// word drawn.
     pub fn new(
         alloc: A,
         role: Role,

@@ -1,4 +1,4 @@
-//! A packet of the upper layer that is to be sent (RFC 4861, section 5.2).
+//! Sends a packet of the upper layer (RFC 4861, section 5.2).
 
 ghost use Rattle.std.specs.Prelude.{◌≡◌, ◌<◌, ◌≤◌, length, ℕ, List, None, IsOk, OnErr, OnOk, false, true, option_map, vec_capacity, vec_len};
 ghost use Rattle.nd_addr.specs.Number.{number_of};
@@ -33,8 +33,8 @@ use std::alloc::{AllocError, Allocator};
 impl<R: Rng + Drop, A: Allocator + Clone> Node<R, A> {
     ghost use Rattle.nd_node.specs.Node.{Stands, next_of};
 
-    /// Why a packet isn't sent at all, the first reason that holds: the link-local address is a duplicate (RFC 4862, section 5.4.5), the
-    /// source isn't assigned, or the packet is too long. It takes no memory.
+    /// Returns why a packet is refused, the first reason that holds: the link-local address is a duplicate (RFC 4862, section 5.4.5), the source
+    /// isn't assigned, or the packet is too long. It takes no memory.
     fn refusal_of(&self, outgoing: &OutgoingPacket<A>) -> Option<Refusal>
         ensures says { (start : Start) (now : ℕ) (c : Chronicle) → Stands R.stream start self.now c → option_map refusal_of result ≡ refusal_of_packet start now outgoing.now.source outgoing.now.payload.items c }
         ensures short { result ≡ None → length outgoing.now.payload.items ≤ 65535 }
@@ -53,7 +53,8 @@ impl<R: Rng + Drop, A: Allocator + Clone> Node<R, A> {
         None
     }
 
-    /// A packet is lost for a reason (RFC 4861, section 5.2; RFC 8200, section 3). The error is out of memory, and then nothing has changed.
+    /// Reports that a packet is lost, with the reason `why` (RFC 4861, section 5.2; RFC 8200, section 3). Returns an error if out of memory;
+    /// nothing has changed then.
     pub(crate) fn lose(
         &mut self,
         now: u64,
@@ -71,8 +72,7 @@ impl<R: Rng + Drop, A: Allocator + Clone> Node<R, A> {
         Ok(())
     }
 
-    /// A packet whose Ethernet destination is known goes out (RFC 2464, section 7). The error is out of memory, and then nothing has
-    /// changed.
+    /// Sends a packet whose Ethernet destination is known (RFC 2464, section 7). Returns an error if out of memory; nothing has changed then.
     fn send_at_once(
         &mut self,
         now: u64,
@@ -131,8 +131,8 @@ impl<R: Rng + Drop, A: Allocator + Clone> Node<R, A> {
         Ok(())
     }
 
-    /// Sends a packet of the upper layer to a neighbour, or refuses it if there is no room for the neighbour: that is asked before the frame is
-    /// made. Returns an error if out of memory; nothing has changed then.
+    /// Sends a packet of the upper layer to a neighbour, or refuses it if there is no room for the neighbour, before a frame is made. Returns an
+    /// error if out of memory; nothing has changed then.
     fn send_to_neighbour(
         &mut self,
         now: u64,
@@ -159,8 +159,8 @@ impl<R: Rng + Drop, A: Allocator + Clone> Node<R, A> {
         self.send_to(now, to, packet, outs)
     }
 
-    /// Sends a packet whose destination is on the link: at once to a multicast address, of which no entry is kept (RFC 2464, section 7), and
-    /// else as to a neighbour. Returns an error if out of memory; nothing has changed then.
+    /// Sends a packet whose destination is on the link: at once to a multicast address, for which there is no entry (RFC 2464, section 7), and
+    /// otherwise as to a neighbour. Returns an error if out of memory; nothing has changed then.
     fn send_directly(
         &mut self,
         now: u64,
@@ -215,8 +215,8 @@ impl<R: Rng + Drop, A: Allocator + Clone> Node<R, A> {
         }
     }
 
-    /// A packet is to be sent at a moment, in milliseconds, up to which nothing is due: it is refused for the first reason that holds, or
-    /// goes to its next hop (RFC 4861, section 5.2). The error is out of memory, and then nothing has happened.
+    /// Sends a packet of the upper layer at `now`, in milliseconds, up to which nothing is due: refuses it for the first reason that holds, or
+    /// sends it to its next hop (RFC 4861, section 5.2). Returns an error if out of memory; nothing has happened then.
     pub(crate) fn send(
         &mut self,
         now: u64,

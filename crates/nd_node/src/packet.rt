@@ -17,9 +17,9 @@ use rand_core::Rng;
 use std::alloc::Allocator;
 
 impl<R: Rng + Drop, A: Allocator + Clone> Node<R, A> {
-    /// A packet goes to a neighbour that has place, at the moment of the last event, in milliseconds: it is sent, or waits until the
-    /// link-layer address is known (RFC 4861, sections 7.2.2 and 7.3.3). It takes no memory: the room for the solicitation and for
-    /// what is told was taken before, and a ring for a neighbour that is new.
+    /// Sends a packet to a neighbour for which there is room, at the moment of the last event, in milliseconds. The packet waits if the link-layer
+    /// address isn't known (RFC 4861, sections 7.2.2 and 7.3.3). It takes no memory: the caller has made room for the solicitation, for what is
+    /// reported, and for the ring of a new neighbour.
     pub(crate) fn go(
         &mut self,
         now: u64,
@@ -35,7 +35,7 @@ impl<R: Rng + Drop, A: Allocator + Clone> Node<R, A> {
         requires room { vec_len outs.old < vec_capacity outs.old }
         ensures leads { Leads R.stream self.old self.new outs.old.items outs.new.items (PacketGoes now (number_of to.0) packet) }
 
-        // What a second packet behind this one needs.
+        // The room that a second packet after this one needs.
         ensures leaves { LeavesRoom self.old.neighbours.limit now (number_of to.0) self.old.neighbours.entries self.new.neighbours.entries }
         ensures limit { self.new.neighbours.limit ≡ self.old.neighbours.limit }
         ensures rings { self.new.neighbours.rings ≡ (if is_some (entry_in (number_of to.0) self.old.neighbours.entries) then self.old.neighbours.rings else self.old.neighbours.rings - 1) }

@@ -13,8 +13,8 @@ use std::alloc::Allocator;
 impl<R: Rng + Drop, A: Allocator + Clone> Node<R, A> {
     ghost use Rattle.nd_node.specs.Node.{next_of};
 
-    /// An upper layer confirms at a moment, in milliseconds, that a neighbour is reached (RFC 4861, section 7.3.1). It takes no memory,
-    /// and nothing is told.
+    /// Takes an upper layer's confirmation at `now`, in milliseconds, that a neighbour is reachable (RFC 4861, section 7.3.1). It takes no memory
+    /// and reports nothing.
     pub(crate) fn confirm(&mut self, now: u64, neighbour: Addr)
         requires moment { IsMoment now }
         requires settled { now < next_of self.old }

@@ -24,8 +24,8 @@ use std::alloc::{AllocError, Allocator};
 impl<R: Rng + Drop, A: Allocator + Clone> Node<R, A> {
     ghost use Rattle.nd_node.specs.Node.{Stands, next_of};
 
-    /// A Redirect that is for this node is heard, if it comes from the current first hop of its destination (RFC 4861, section 8.1). It
-    /// is asked of the tables as they are before the Redirect changes them.
+    /// Handles a Redirect for this node if it is from the current first hop of its destination (RFC 4861, section 8.1), which the tables say before
+    /// the Redirect changes them. Otherwise drops it.
     pub(crate) fn judge_redirect(
         &mut self,
         now: u64,
@@ -50,9 +50,9 @@ impl<R: Rng + Drop, A: Allocator + Clone> Node<R, A> {
         self.hear_redirect(now, source, destination, redirect, options, outs)
     }
 
-    /// A Redirect from the first hop of its destination is heard at a moment, in milliseconds: its target is the next hop of its
-    /// destination from now on, and what it says of the target is taken (RFC 4861, section 8.3). It is refused where the target has no
-    /// place among the neighbours. The error is out of memory, and then nothing has changed.
+    /// Handles a Redirect from the first hop of its destination at `now`, in milliseconds: its target is the destination's next hop from now on,
+    /// and the target's entry takes what the Redirect says (RFC 4861, section 8.3). It is refused if there is no room for the target among the
+    /// neighbours. Returns an error if out of memory; nothing has changed then.
     fn hear_redirect(
         &mut self,
         now: u64,

@@ -11,8 +11,8 @@ use std::alloc::{AllocError, Allocator};
 impl<R: Rng + Drop, A: Allocator + Clone> Node<R, A> {
     ghost use Rattle.nd_node.specs.Node.{next_of};
 
-    /// What was asked is refused at a moment, in milliseconds, for a reason, which is told alone. The error is out of memory, and then nothing has
-    /// changed.
+    /// Reports at `now`, in milliseconds, that the node refuses what was asked, with the reason. Returns an error if out of memory; nothing has
+    /// changed then.
     pub(crate) fn refuse(
         &mut self,
         now: u64,
@@ -24,7 +24,7 @@ impl<R: Rng + Drop, A: Allocator + Clone> Node<R, A> {
         ensures keeps { OnErr result (self.new ≡ self.old) }
         ensures told { OnErr result (outs.new.items ≡ outs.old.items) }
 
-        // With a place for the reason it succeeds whatever memory there is.
+        // If the list has room for the report it succeeds, even if no memory is left.
         ensures ready { vec_len outs.old < vec_capacity outs.old → IsOk result }
     {
         outs.push((now, Out::Refused(refusal)))?;

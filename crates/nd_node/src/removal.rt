@@ -1,4 +1,4 @@
-//! A neighbour is to be forgotten, by a command.
+//! Removes a neighbour, by a command.
 
 ghost use Rattle.std.specs.Prelude.{◌≡◌, ◌-◌, ◌<◌, ◌≤◌, IsOk, OnErr, OnOk, length, vec_capacity, vec_len};
 ghost use Rattle.nd_addr.specs.Number.{number_of};
@@ -17,8 +17,8 @@ use std::alloc::{AllocError, Allocator};
 impl<R: Rng + Drop, A: Allocator + Clone> Node<R, A> {
     ghost use Rattle.nd_node.specs.Node.{next_of};
 
-    /// A neighbour is forgotten at a moment, in milliseconds, and what waits for it is lost, the oldest first. That is no failure: no
-    /// redirect to it ends. The error is out of memory, and then nothing has changed.
+    /// Removes a neighbour at `now`, in milliseconds; the packets that wait for it are lost, the oldest first. This is no failure of the neighbour:
+    /// no redirect to it ends. Returns an error if out of memory; nothing has changed then.
     pub(crate) fn forget(
         &mut self,
         now: u64,
@@ -30,7 +30,7 @@ impl<R: Rng + Drop, A: Allocator + Clone> Node<R, A> {
         ensures keeps { OnErr result (self.new ≡ self.old) }
         ensures told { OnErr result (outs.new.items ≡ outs.old.items) }
 
-        // Where there are places for the packets that wait, nothing refuses.
+        // If the list has room for the waiting packets it succeeds, even if no memory is left.
         ensures quiet { length (waiting_at (entry_in (number_of neighbour.0) self.old.neighbours.entries)) ≤ vec_capacity outs.old - vec_len outs.old → IsOk result }
     {
         nd_neighbour::laws::none_overdue();

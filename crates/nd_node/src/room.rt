@@ -30,7 +30,7 @@ pub(crate) struct Room<A: Allocator> {
 }
 
 impl<A: Allocator + Copy> Room<A> {
-    /// Reserves each table to its limit; `limits` has those on neighbours and default routers. The error means out of memory.
+    /// Reserves each table to its limit; `limits` has those on neighbours and default routers. Returns an error if out of memory.
     pub(crate) fn new(alloc: A, limits: Limits) -> Result<Self, AllocError>
         ensures routers { IfOk result (λ room. room.routers ≡ record { limit = limits.routers; entries = []; preferences = []; failed = [] }) }
         ensures router_history { IfOk result (λ room. routers.Stands room.routers []) }

@@ -1,4 +1,4 @@
-//! A Router Advertisement is received (RFC 4861, section 6.3.4; RFC 4862, section 5.5.3; RFC 8106, section 6.1).
+//! Handles a Router Advertisement (RFC 4861, section 6.3.4; RFC 4862, section 5.5.3; RFC 8106, section 6.1).
 
 ghost use Rattle.std.specs.Prelude.{◌≡◌, ◌∷◌, ◌≤◌, ◌<◌, ◌+◌, ◌-◌, true, Some, IsOk, OnOk, OnErr, vec_len, vec_capacity};
 ghost use Rattle.std.specs.Option.{option_map};
@@ -32,17 +32,17 @@ use nd_steps::{
 use rand_core::Rng;
 use std::alloc::{AllocError, Allocator};
 
-/// How much a Router Advertisement tells at most beside the frames that are sent: itself, and a router that is timed out.
+/// The most that a Router Advertisement reports besides the frames that are sent: itself, and a router that times out.
 const BESIDE_FRAMES: usize = 2;
 
 /// A valid Router Advertisement, with the addresses of its packet (RFC 4861, section 4.2).
 #[derive(Clone, Copy)]
 struct Advertisement<'a> {
-    /// The router that sends it.
+    /// The router that sent it.
     source: Addr,
-    /// All nodes, or one that solicited it.
+    /// All nodes, or the node that solicited it.
     destination: Addr,
-    /// What stands before its options.
+    /// Its fields before the options.
     ra: RouterAdvertisement,
     /// Its options.
     options: Options<'a>,
@@ -51,7 +51,7 @@ struct Advertisement<'a> {
 impl<R: Rng + Drop, A: Allocator + Clone> Node<R, A> {
     ghost use Rattle.nd_node.specs.Node.{Stands, next_of};
 
-    /// A Router Advertisement is taken, for which there is room in all tables, with its news of its sender and the search names that it
+    /// Applies a Router Advertisement for which there is room in all tables. The caller passes its news of the sender and the search names that it
     /// adds. It takes no memory.
     fn take_router_advertisement(
         &mut self,
@@ -128,9 +128,9 @@ impl<R: Rng + Drop, A: Allocator + Clone> Node<R, A> {
         keep_until_a_prefix_ends(&mut self.choice, &self.prefixes, now, own);
     }
 
-    /// A Router Advertisement is heard at a moment, in milliseconds (RFC 4861, section 6.3.4; RFC 4862, section 5.5.3; RFC 8106, section
-    /// 6.1), once all that is due up to it is done. All tables take it together, or it is refused, since one of them has no room. The
-    /// error is out of memory, and then nothing has changed.
+    /// Handles a Router Advertisement at `now`, in milliseconds, up to which nothing is due (RFC 4861, section 6.3.4; RFC 4862, section 5.5.3; RFC
+    /// 8106, section 6.1). All tables take it, or it is refused if one of them has no room. Returns an error if out of memory; nothing has changed
+    /// then.
     pub(crate) fn hear_router_advertisement(
         &mut self,
         now: u64,
@@ -147,7 +147,7 @@ impl<R: Rng + Drop, A: Allocator + Clone> Node<R, A> {
         ensures told { OnErr result (outs.new.items ≡ outs.old.items) }
         ensures full { (limit : Table) (start : Start) (c : Chronicle) → Stands R.stream start self.old c → last_moment start.at c ≤ now → Fills start ((now, Passed) ∷ c) now source (record { body = bodies.Ra ra.now; options = options_left options.entry }) (bodies.Ra ra.now) (Some limit) → vec_len outs.old < vec_capacity outs.old → IsOk result }
 
-        // Where it adds no search name nothing refuses, whatever memory there is.
+        // If it adds no search name it succeeds, even if no memory is left.
         ensures quiet { AddsNoName self.old now source (options_left options.entry) (vec_capacity outs.old - vec_len outs.old) → IsOk result }
     {
         let news = news_of(source, &Body::Ra(*ra), options);

@@ -20,9 +20,9 @@ use std::alloc::{AllocError, Allocator};
 impl<R: Rng + Drop, A: Allocator + Clone> Node<R, A> {
     ghost use Rattle.nd_node.specs.Node.{Stands, next_of};
 
-    /// A Router Solicitation is heard at a moment, in milliseconds: what it says of its sender is taken, and a router plans its answer
-    /// (RFC 4861, section 6.2.6). It is refused where the sender has no place among the neighbours. The error is out of memory, and then
-    /// nothing has changed.
+    /// Handles a Router Solicitation at `now`, in milliseconds: the sender's entry takes what it says, and a router plans its answer (RFC 4861,
+    /// section 6.2.6). It is refused if there is no room for the sender among the neighbours. Returns an error if out of memory; nothing has
+    /// changed then.
     pub(crate) fn hear_router_solicitation(
         &mut self,
         now: u64,

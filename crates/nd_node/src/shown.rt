@@ -18,8 +18,8 @@ impl<R: Rng + Drop, A: Allocator + Clone> Node<R, A> {
     ghost use Rattle.nd_chronicle.specs.Shown.{AreRows};
     ghost use Rattle.nd_node.specs.Node.{Stands};
 
-    /// Returns the text of each row of a table at `now`, in milliseconds, up to which all that is due is done: of the typed rows that the calls
-    /// of `tables` return, one text for each. What only a router has is empty at a host. The error is out of memory.
+    /// Returns the text of each row of a table at `now`, in milliseconds, up to which all that is due is done: one text for each of the typed rows
+    /// that the calls of `tables` return. The tables of a router are empty at a host. Returns an error if out of memory.
     pub fn rows(&self, alloc: &A, now: u64, table: Table) -> Result<Vec<String<A>, A>, AllocError>
         ensures { IfOk result (λ rows. (start : Start) (c : Chronicle) → Stands R.stream start self.now c → last_moment start.at c ≤ now
             → AreRows start c now (table_of table) (map string_bytes rows.items)) }

@@ -19,8 +19,8 @@ use std::alloc::{AllocError, Allocator};
 impl<R: Rng + Drop, A: Allocator + Clone> Node<R, A> {
     ghost use Rattle.nd_node.specs.Node.{Stands, next_of};
 
-    /// A router is to have this route, in place of that of its prefix, if one is there. It is refused where it is one too many, and by a host.
-    /// The error is out of memory, and then nothing has changed.
+    /// Gives a router a static route, in place of an existing one of the same prefix. A host refuses it, and so does a router whose list of routes
+    /// is full. Returns an error if out of memory; nothing has changed then.
     pub(crate) fn put_route(
         &mut self,
         now: u64,

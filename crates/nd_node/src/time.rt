@@ -1,4 +1,4 @@
-//! Time that passes at a node.
+//! Lets time pass at a node.
 
 ghost use Rattle.std.specs.Prelude.{◌≡◌, ◌∷◌, ℕ, ◌<◌, ◌≤◌, Ok, OnOk, OnErr};
 ghost use Rattle.nd_table.specs.Moment.{IsMoment};
@@ -17,9 +17,9 @@ use std::alloc::{AllocError, Allocator};
 impl<R: Rng + Drop, A: Allocator + Clone> Node<R, A> {
     ghost use Rattle.nd_node.specs.Node.{Stands, next_of, turns_left};
 
-    /// Does what is due first at the moment, which is the next at which something is, and tells it: the ends of routers, of own addresses,
-    /// their detections, the neighbours, Router Solicitations, Router Advertisements, a redraw of ReachableTime, each in the order of
-    /// addresses. The error is out of memory, and then nothing has changed.
+    /// Does the first thing that is due at `now`, in milliseconds, and reports it; the caller passes the moment that `next_due` returns. The order
+    /// is: ends of routers, ends of own addresses, duplicate address detection, neighbours, Router Solicitations, Router Advertisements, a redraw
+    /// of ReachableTime; within each, the order of addresses. Returns an error if out of memory; nothing has changed then.
     pub fn turn(&mut self, now: u64, outs: &mut Vec<(u64, Out<A>), A>) -> Result<(), AllocError>
         requires moment { IsMoment now }
         requires due { now ≡ next_of self.old }
@@ -40,14 +40,14 @@ impl<R: Rng + Drop, A: Allocator + Clone> Node<R, A> {
         Ok(())
     }
 
-    /// Does all that is due up to a moment, and tells it. The error is out of memory, and then the rest can be done later.
+    /// Does all that is due up to `now`, in milliseconds, and reports it. Returns an error if out of memory; the rest can be done later.
     pub fn settle(&mut self, now: u64, outs: &mut Vec<(u64, Out<A>), A>) -> Result<(), AllocError>
         requires { IsMoment now }
         ensures onward { Leads R.stream self.old self.new outs.old.items outs.new.items (Onward now) }
         ensures passes { OnOk result (Leads R.stream self.old self.new outs.old.items outs.new.items (Passes now)) }
         ensures settled { OnOk result (now < next_of self.new) }
 
-        // Where nothing is due up to it nothing happens, whatever memory there is.
+        // If nothing is due up to `now` nothing happens, even if no memory is left.
         ensures idle { now < next_of self.old → (result ≡ Ok tt) × (self.new ≡ self.old) × (outs.new ≡ outs.old) }
     {
         idle_time_passes();
@@ -60,7 +60,8 @@ impl<R: Rng + Drop, A: Allocator + Clone> Node<R, A> {
         }
     }
 
-    /// Lets time pass up to `now`, in milliseconds, before which nothing is due. Where `now` is in the past, nothing changes. It takes no memory.
+    /// Lets time pass up to `now`, in milliseconds, before which nothing is due. If `now` is in the past, nothing changes. It takes no memory.
+    ///
     pub fn pass(&mut self, now: u64)
         requires settled { now < next_of self.old }
         ensures passes { (start : Start) (c : Chronicle) → Stands R.stream start self.old c → last_moment start.at c ≤ now → Stands R.stream start self.new ((now, Passed) ∷ c) }

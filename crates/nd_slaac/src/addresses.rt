@@ -11,7 +11,7 @@ use nd_table::{Dated, Schedule};
 use std::alloc::{AllocError, Allocator};
 use std::marker::Model;
 
-/// How many addresses there may be, the link-local one included (our choice).
+/// The most addresses of an interface, the link-local one included (our choice).
 pub const MAX_ADDRESSES: usize = 64;
 
 /// Room for the addresses of an interface, taken before it starts.
@@ -29,7 +29,7 @@ pub struct AddressRoom<A: Allocator> {
 }
 
 impl<A: Allocator + Clone> AddressRoom<A> {
-    /// Reserves room for 64 addresses and their dates, all that an interface ever takes. The error is out of memory.
+    /// Reserves room for 64 addresses and their dates, all that an interface ever takes. Returns an error if out of memory.
     pub fn new(alloc: A) -> Result<Self, AllocError> {
         let entries = Vec::with_capacity(alloc.clone()?, MAX_ADDRESSES)?;
         let ends = Schedule::new(alloc.clone()?, MAX_ADDRESSES)?;
@@ -42,12 +42,11 @@ impl<A: Allocator + Clone> AddressRoom<A> {
     }
 }
 
-/// The addresses of an interface (RFC 4862, section 5): each is formed, tried for, and then assigned until its valid
-/// lifetime ends.
+/// The addresses of an interface (RFC 4862, section 5): each is formed, tried, and then assigned until its valid lifetime ends.
 #[derive(Drop)]
 pub struct Addresses<A: Allocator> {
     pub(crate) mac: Mac,
-    /// How many solicitations each detection sends.
+    /// The number of solicitations that each detection sends.
     pub(crate) transmits: Transmits,
     pub(crate) entries: Vec<Entry, A>,
     /// The dates at which valid lifetimes end.
@@ -76,9 +75,9 @@ impl<A: Allocator> Addresses<A> {
     ghost use Rattle.nd_slaac.specs.PrefixOption.{link_local_of};
     ghost use Rattle.nd_slaac.specs.Calls.{formed};
 
-    /// Returns the addresses of an interface that starts: its link-local address, whose first solicitation waits for `delay`
-    /// (RFC 4862, sections 5.3 and 5.4.2). Moment, delay and RetransTimer are in milliseconds. Each detection sends `transmits`
-    /// solicitations. Takes no memory, since `room` was reserved before: a drawn delay is never lost.
+    /// Returns the addresses of an interface that starts: its link-local address, whose first solicitation waits for `delay` (RFC 4862, sections
+    /// 5.3 and 5.4.2). `now`, `delay` and `retrans`, the RetransTimer, are in milliseconds. Each detection sends `transmits` solicitations. Takes
+    /// no memory, since `room` was reserved before: a drawn delay is never lost.
     pub fn start(
         room: AddressRoom<A>,
         now: u64,

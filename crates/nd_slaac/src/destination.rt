@@ -46,7 +46,7 @@ impl<A: Allocator> Addresses<A> {
     }
 }
 
-/// Returns true if the entry of an address is there and counts.
+/// Returns true if an address has an entry that counts.
 fn entry_counts(entries: &[Entry], counted: Counted, addr: Addr) -> bool
     requires { Rises key_of entries.now }
     ensures { result ≡ counted_in counted (address_in (number_of addr.0) entries.now) }
@@ -57,8 +57,8 @@ fn entry_counts(entries: &[Entry], counted: Counted, addr: Addr) -> bool
     }
 }
 
-/// Returns true if an entry counts and is meant by the destination: it is the destination, or has it as its solicited-node address. Only a
-/// destination in ff02::1:ff00:0/104 is compared with all entries.
+/// Returns true if an entry counts for a destination: it is the destination, or the destination is its solicited-node address. Only a destination
+/// in ff02::1:ff00:0/104 is compared with all entries.
 fn any_is_to(entries: &[Entry], counted: Counted, destination: Addr) -> bool
     requires { Rises key_of entries.now }
     ensures { result ≡ list_any (is_to counted destination) entries.now }
@@ -74,7 +74,7 @@ fn any_is_to(entries: &[Entry], counted: Counted, destination: Addr) -> bool
     false
 }
 
-/// Returns true if an entry counts and has the destination, a solicited-node address, as its own.
+/// Returns true if the destination is the solicited-node address of an entry that counts.
 fn any_is_asked(entries: &[Entry], counted: Counted, destination: Addr) -> bool
     requires { destination.0 ≡ solicited_node_of destination.0 }
     ensures { result ≡ list_any (is_asked counted destination) entries.now }
@@ -108,7 +108,7 @@ impl Entry {
         }
     }
 
-    /// Returns true if it counts and has the destination, a solicited-node address, as its own.
+    /// Returns true if it counts and the destination is its solicited-node address.
     fn is_asked(&self, counted: Counted, destination: Addr) -> bool
         requires { destination.0 ≡ solicited_node_of destination.0 }
         ensures { result ≡ is_asked counted destination self.now }

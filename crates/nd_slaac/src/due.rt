@@ -14,12 +14,12 @@ use nd_addr::Addr;
 use nd_table::{Addressed, Dated, Schedule, lesser};
 use std::alloc::Allocator;
 
-/// What falls due for an address.
+/// What is due for an address.
 #[derive(Clone, Copy, Debug, PartialEq, Eq)]
 pub enum Due {
-    /// Its valid lifetime has ended, and it is gone (RFC 4862, section 5.5.4).
+    /// Its valid lifetime has ended, and it is removed (RFC 4862, section 5.5.4).
     End(Addr),
-    /// A solicitation for it is to be sent from `::` to its solicited-node address (RFC 4862, section 5.4.2).
+    /// A solicitation for it is due, from `::` to its solicited-node address (RFC 4862, section 5.4.2).
     Solicit(Addr),
     /// It is assigned to the interface (RFC 4862, section 5.4).
     Assign(Addr),
@@ -41,9 +41,9 @@ impl<A: Allocator> Addresses<A> {
         lesser(self.ends.next(), self.steps.next())
     }
 
-    /// Returns what is due at `now`, in milliseconds: the end of the lowest address whose valid lifetime ends then, or if there is none,
-    /// the step of the lowest address whose detection has one (RFC 4862, sections 5.4.2 and 5.5.4). Returns `None` if nothing is due;
-    /// the addresses are unchanged.
+    /// Takes the step that is due at `now`, in milliseconds, and returns it: the end of the lowest address whose valid lifetime ends then, or if
+    /// there is none, the step of the lowest address whose detection has one (RFC 4862, sections 5.4.2 and 5.5.4). Returns `None` if nothing is
+    /// due; the addresses are unchanged.
     ///
     /// Nothing may have been due before `now`. A late caller passes what `next_due` returns, until that is in the future.
     pub fn turn(&mut self, now: u64) -> Option<Due>
@@ -57,7 +57,7 @@ impl<A: Allocator> Addresses<A> {
         ensures mac { self.new.mac ≡ self.old.mac }
         ensures transmits { self.new.transmits ≡ self.old.transmits }
 
-        // Turns at one moment end.
+        // The number of turns at one moment is finite.
         ensures fewer { IfSome result (λ _. turns_left self.new.transmits self.new.addresses < turns_left self.old.transmits self.old.addresses) }
         ensures none { IfNone result (next_in self.old.addresses ≢ Some now) }
         ensures later { NoneBefore self.new.addresses now }

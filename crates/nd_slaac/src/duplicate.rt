@@ -20,8 +20,8 @@ impl<A: Allocator> Addresses<A> {
     ghost use Rattle.nd_slaac.specs.Calls.{detects_in};
     ghost use Rattle.nd_slaac.specs.MayCome.{MayCome};
 
-    /// Returns true if the address was tentative; it is now a duplicate, since another node has it or tries for it. An assigned address is
-    /// not changed (RFC 4862, sections 5.4.3 and 5.4.4).
+    /// Returns true if the address was tentative; it is now a duplicate, since another node has it or tries it. An assigned address is not changed
+    /// (RFC 4862, sections 5.4.3 and 5.4.4).
     pub fn conflict(&mut self, addr: Addr) -> bool
         ensures value { result ≡ detects_in (address_in (number_of addr.0) self.old.addresses) }
         ensures tentative { (history : List Row) → Stands self.old.addresses history → result ≡ is_tentative (story (number_of addr.0) history) }
@@ -35,7 +35,7 @@ impl<A: Allocator> Addresses<A> {
     }
 }
 
-/// Another node has an address, or tries for it: its detection fails, if it has not ended.
+/// Fails the detection of an address that another node has or tries, if the detection has not ended. Returns true if it had not.
 pub(crate) fn fail<A: Allocator>(
     entries: &mut Vec<Entry, A>,
     steps: &mut Schedule<A>,

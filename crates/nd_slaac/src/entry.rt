@@ -17,9 +17,9 @@ use std::marker::Model;
 #[derive(Drop)]
 pub(crate) struct Entry {
     pub(crate) addr: Addr,
-    /// The end of its preferred lifetime, if it has one.
+    /// The end of its preferred lifetime, in milliseconds, if it has one.
     pub(crate) preferred_end: Option<u64>,
-    /// The end of its valid lifetime, if it has one.
+    /// The end of its valid lifetime, in milliseconds, if it has one.
     pub(crate) valid_end: Option<u64>,
     pub(crate) stage: Stage,
 }
@@ -51,7 +51,7 @@ impl Entry {
     ghost use Rattle.nd_slaac.specs.Shown.{seen, state_at};
     ghost use Rattle.nd_slaac.specs.View.{falls_of, seen_in};
 
-    /// The link-local address, which has no ends (RFC 4862, section 5.3).
+    /// Returns the entry of the link-local address, which has no ends (RFC 4862, section 5.3).
     pub(crate) fn link_local(addr: Addr, now: u64, delay: u32, retrans: u32) -> Self
         requires { IsMoment now }
         ensures { result ≡ formed (number_of addr.0) now delay retrans None }
@@ -64,7 +64,7 @@ impl Entry {
         }
     }
 
-    /// An address of a prefix that is announced (RFC 4862, section 5.5.3 d).
+    /// Returns the entry of an address of an announced prefix (RFC 4862, section 5.5.3 d).
     pub(crate) fn formed(addr: Addr, now: u64, info: &PrefixInfo, delay: u32, retrans: u32) -> Self
         requires { IsMoment now }
         ensures { result ≡ formed (number_of addr.0) now delay retrans (Some (lifetimes_of info.now)) }
@@ -77,14 +77,14 @@ impl Entry {
         }
     }
 
-    /// Whether its detection goes on.
+    /// Returns true if its detection has not ended.
     pub(crate) fn is_detecting(&self) -> bool
         ensures { result ≡ is_detecting self.now.stage }
     {
         matches!(self.stage, Stage::Detecting { .. })
     }
 
-    /// The state at a moment (RFC 4862, section 2).
+    /// Returns the state at `now`, in milliseconds (RFC 4862, section 2).
     pub(crate) fn state(&self, now: u64) -> State
         ensures { result ≡ state_at now self.now }
     {
@@ -96,7 +96,7 @@ impl Entry {
         }
     }
 
-    /// What is shown of it at a moment.
+    /// Returns what is shown of it at `now`, in milliseconds.
     pub(crate) fn shown(&self, now: u64) -> OwnAddress
         ensures { seen_in result ≡ seen now self.now }
     {
@@ -108,7 +108,7 @@ impl Entry {
         }
     }
 
-    /// Its prefix is announced again (RFC 4862, section 5.5.3 e).
+    /// Renews its lifetimes, since its prefix is announced again (RFC 4862, section 5.5.3 e).
     pub(crate) fn announce(&mut self, now: u64, info: &PrefixInfo)
         requires { IsMoment now }
         ensures { self.new ≡ announced now (lifetimes_of info.now) self.old }
@@ -117,7 +117,7 @@ impl Entry {
         self.valid_end = renewed(now, self.valid_end, info.valid_lifetime);
     }
 
-    /// Another node has it, or tries for it (RFC 4862, sections 5.4.3 and 5.4.4).
+    /// Fails its detection: another node has the address or tries it (RFC 4862, sections 5.4.3 and 5.4.4).
     pub(crate) fn fail(&mut self)
         ensures { self.new ≡ failed self.old }
     {

@@ -14,24 +14,23 @@ ghost use Rattle.nd_addr.specs.declared.mac.Mac.{Mac};
 ghost use Rattle.nd_decode.specs.declared.prefix_info.PrefixInfo.{PrefixInfo};
 ghost use Rattle.nd_slaac.specs.MayCome.{IsHistory, Held};
 
-/// The definitions give one table, one answer whether options fit, and one thing that falls due first.
+/// The definitions give one table, one answer whether options fit, and one thing that is due first.
 pub fn one_answer()
     ensures table { (history : List Row) (a b : List Address) → Stands a history → Stands b history → a ≡ b }
     ensures fits { (mac : Mac) (history : List Row) (infos : List PrefixInfo) (a b : Bool) → FitsBy mac history infos a → FitsBy mac history infos b → a ≡ b }
     ensures due { (transmits : ℕ) (history : List Row) (moment : ℕ) (a b : Option Falls) → FirstDue transmits history moment a → FirstDue transmits history moment b → a ≡ b }
 {}
 
-/// Nothing that happens falls due in the past. Where nothing in a history is overdue at a moment, nothing is after one more row of that
-/// moment, whatever it is; and a table that stands for a history has no date before a moment exactly where nothing in the history is
-/// overdue then.
+/// Nothing that happens makes something due in the past. If nothing in a history is overdue at a moment, nothing is after one more row of that
+/// moment, for any row. A table that stands for a history has no date before a moment exactly if nothing in the history is overdue then.
 pub fn none_overdue()
     ensures still { (transmits : ℕ) (history : List Row) (now key : ℕ) (kind : RowKind) → NoneOverdue transmits history now → NoneOverdue transmits ((now, key, kind) ∷ history) now }
     ensures table { (transmits : ℕ) (addresses : List Address) (history : List Row) (now : ℕ) → Stands addresses history → NoneBefore addresses now ↔ NoneOverdue transmits history now }
 {}
 
 /// No address is assigned untried (RFC 4862, section 5.4). In every history, an assigned address was formed with a RetransTimer above 0 and was
-/// tentative up to its assignment. All its solicitations stand before that: the last one a RetransTimer before the assignment, each other one a
-/// RetransTimer before the next. Its valid lifetime had not ended then, and it has been assigned ever since. Besides, if nothing is due up to a
+/// tentative up to its assignment. All its solicitations are before that: the last one a RetransTimer before the assignment, each other one a
+/// RetransTimer before the next. Its valid lifetime had not ended then, and it has been assigned ever since. In addition, if nothing is due up to a
 /// moment, the valid lifetime of no known address has ended by then.
 pub fn none_untried()
     ensures held { (transmits : ℕ) (history : List Row) (key : ℕ) → IsHistory transmits history → is_assigned (story key history) ≡ true → Held transmits key history }

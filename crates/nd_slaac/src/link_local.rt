@@ -7,7 +7,7 @@ use nd_addr::{Addr, Mac, Prefix};
 use std::alloc::Allocator;
 
 impl<A: Allocator> Addresses<A> {
-    /// The link-local address of the interface (RFC 4862, section 5.3), which `start` formed.
+    /// Returns the link-local address of the interface (RFC 4862, section 5.3), which `start` formed.
     pub fn link_local(&self) -> Addr
         ensures { number_of result.0 ≡ link_local_of self.now.mac }
     {
@@ -15,7 +15,7 @@ impl<A: Allocator> Addresses<A> {
     }
 }
 
-/// The link-local address of an interface (RFC 4862, section 5.3).
+/// Returns the link-local address of an interface (RFC 4862, section 5.3).
 #[tactic(auto, unfolding(crate::specs::PrefixOption::link_local_of))]
 pub(crate) fn link_local(mac: Mac) -> Addr
     ensures { number_of result.0 ≡ link_local_of mac }

@@ -18,14 +18,14 @@ use nd_decode::PrefixInfo;
 use nd_table::{Addressed, Dated, Schedule, locate, put};
 use std::alloc::Allocator;
 
-/// What becomes of a prefix option (RFC 4862, section 5.5.3).
+/// The effect of a prefix option (RFC 4862, section 5.5.3).
 #[derive(Clone, Copy, Debug, PartialEq, Eq)]
 pub enum Taken {
     /// It formed an address.
     Formed,
     /// Its address is known, and has other lifetimes now.
     Renewed,
-    /// It says nothing of an address, or tells an address that isn't known of a lifetime that is over.
+    /// It neither formed an address nor renewed one.
     Ignored,
 }
 
@@ -42,10 +42,9 @@ impl<A: Allocator> Addresses<A> {
     ghost use Rattle.nd_slaac.specs.Calls.{keys_in, taken_of, row_taken, GainsRowIfAny, TakenBy};
     ghost use Rattle.nd_slaac.specs.MayCome.{MayCome};
 
-    /// Takes a prefix option of a Router Advertisement (RFC 4862, section 5.5.3): forms an address, whose first solicitation waits for
-    /// `delay`, renews the lifetimes of a known one, or does nothing. Moment, delay and RetransTimer are in milliseconds; the latter
-    /// two count only if an address is formed. Returns `Full` if that would be one address too many; nothing has changed. Takes no
-    /// memory.
+    /// Takes a prefix option of a Router Advertisement (RFC 4862, section 5.5.3): forms an address, whose first solicitation waits for `delay`,
+    /// renews the lifetimes of a known one, or does nothing. `now`, `delay` and `retrans`, the RetransTimer, are in milliseconds; the latter two
+    /// count only if an address is formed. Returns `Full` if that would be one address too many; nothing has changed. Takes no memory.
     pub fn heard_prefix(
         &mut self,
         now: u64,
@@ -63,7 +62,7 @@ impl<A: Allocator> Addresses<A> {
         ensures mac { self.new.mac ≡ self.old.mac }
         ensures transmits { self.new.transmits ≡ self.old.transmits }
 
-        // Where the options fit, the first isn't refused, and the others still fit.
+        // If the options fit, the first isn't refused, and the others still fit.
         ensures fits { (infos : List PrefixInfo) → fits_in self.old.mac (keys_in self.old.addresses) (info.now ∷ infos) ≡ true → IsOk result × (fits_in self.new.mac (keys_in self.new.addresses) infos ≡ true) }
     {
         if !is_taken(info) {
@@ -83,10 +82,10 @@ impl<A: Allocator> Addresses<A> {
     }
 }
 
-/// How many bits of an address its prefix has, the identifier that is formed having the others (RFC 4291, section 2.5.1).
+/// The number of bits of an address's prefix; the identifier that is formed has the others (RFC 4291, section 2.5.1).
 const PREFIX_LENGTH: u8 = 64;
 
-/// Whether an option may form or renew an address (RFC 4862, section 5.5.3 a to c).
+/// Returns true if an option may form or renew an address (RFC 4862, section 5.5.3 a to c).
 #[tactic(auto, unfolding(crate::specs::PrefixOption::is_taken))]
 pub(crate) fn is_taken(info: &PrefixInfo) -> bool
     ensures { result ≡ is_taken info.now }
@@ -99,7 +98,7 @@ pub(crate) fn is_taken(info: &PrefixInfo) -> bool
         && info.prefix.length() == PREFIX_LENGTH
 }
 
-/// The address that an option names.
+/// Returns the address that an option names.
 #[tactic(auto, unfolding(crate::specs::PrefixOption::is_taken, crate::specs::PrefixOption::named_by))]
 pub(crate) fn named_by(info: &PrefixInfo, mac: Mac) -> Addr
     requires { is_taken info.now ≡ true }

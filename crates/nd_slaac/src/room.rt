@@ -24,8 +24,8 @@ impl<A: Allocator> Addresses<A> {
     ghost use Rattle.nd_slaac.specs.Table.{Stands};
     ghost use Rattle.nd_slaac.specs.Calls.{keys_in};
 
-    /// Whether a prefix option would form an address, where there is room for it (RFC 4862, section 5.5.3 a to d). An address is known
-    /// until `turn` has told its end.
+    /// Returns true if a prefix option would form an address, given room for it (RFC 4862, section 5.5.3 a to d). An address is known until `turn`
+    /// has returned its end.
     pub fn would_form(&self, info: &PrefixInfo) -> bool
         ensures value { result ≡ would_form self.now.mac (keys_in self.now.addresses) info.now }
         ensures by_history { (history : List Row) → Stands self.now.addresses history → result ≡ (is_forming info.now && not (is_known (story (named_by self.now.mac info.now) history))) }
@@ -33,8 +33,8 @@ impl<A: Allocator> Addresses<A> {
         would_form(&self.entries, self.mac, info)
     }
 
-    /// Whether there is room for each address that the options of a Router Advertisement, taken in their order, would
-    /// form. Where it is so, `heard_prefix` refuses none of them. An address is known until `turn` has told its end.
+    /// Returns true if there is room for each address that the options of a Router Advertisement, taken in their order, would form. If so,
+    /// `heard_prefix` refuses none of them. An address is known until `turn` has returned its end.
     pub fn fits(&self, options: Options<'_>) -> bool
         ensures value { result ≡ fits_in self.now.mac (keys_in self.now.addresses) (prefixes_in (options_left options.entry)) }
         ensures by_history { (history : List Row) → Stands self.now.addresses history → FitsBy self.now.mac history (prefixes_in (options_left options.entry)) result }
@@ -43,7 +43,7 @@ impl<A: Allocator> Addresses<A> {
     }
 }
 
-/// Whether an address is known.
+/// Returns true if an address is known.
 fn is_known(entries: &[Entry], addr: Addr) -> bool
     requires { Rises key_of entries.now }
     ensures { result ≡ is_among (number_of addr.0) (keys_in entries.now) }
@@ -51,14 +51,14 @@ fn is_known(entries: &[Entry], addr: Addr) -> bool
     find(entries, addr).is_some()
 }
 
-/// Whether an option forms an address where that isn't known (RFC 4862, section 5.5.3 d).
+/// Returns true if an option forms its address unless that is known (RFC 4862, section 5.5.3 d).
 fn is_forming(info: &PrefixInfo) -> bool
     ensures { result ≡ is_forming info.now }
 {
     is_taken(info) && info.valid_lifetime != 0
 }
 
-/// Whether an option would form an address, where there is room.
+/// Returns true if an option would form an address, given room for it.
 pub(crate) fn would_form(entries: &[Entry], mac: Mac, info: &PrefixInfo) -> bool
     requires { Rises key_of entries.now }
     ensures { result ≡ would_form mac (keys_in entries.now) info.now }
@@ -66,14 +66,14 @@ pub(crate) fn would_form(entries: &[Entry], mac: Mac, info: &PrefixInfo) -> bool
     is_forming(info) && !is_known(entries, named_by(info, mac))
 }
 
-/// Whether an option forms this address where that isn't known.
+/// Returns true if an option forms this address unless that is known.
 fn forms(info: &PrefixInfo, mac: Mac, addr: Addr) -> bool
     ensures { result ≡ (is_forming info.now && (named_by mac info.now == number_of addr.0)) }
 {
     is_forming(info) && compare(named_by(info, mac), addr).is_eq()
 }
 
-/// Whether some option forms this address where that isn't known.
+/// Returns true if some option forms this address unless that is known.
 #[tactic(auto, using(crate::proofs::OfType::prefixes_from))]
 fn is_formed_by(options: Options<'_>, mac: Mac, addr: Addr) -> bool
     ensures { result ≡ is_formed_by mac (number_of addr.0) (prefixes_in (options_left options.entry)) }
@@ -89,7 +89,7 @@ fn is_formed_by(options: Options<'_>, mac: Mac, addr: Addr) -> bool
     false
 }
 
-/// Whether there is room for each address that the options would form.
+/// Returns true if there is room for each address that the options would form.
 #[tactic(auto, using(crate::proofs::OfType::prefixes_from))]
 pub(crate) fn fits(entries: &[Entry], mac: Mac, options: Options<'_>) -> bool
     requires few { length entries.now ≤ max_addresses }
@@ -113,7 +113,7 @@ pub(crate) fn fits(entries: &[Entry], mac: Mac, options: Options<'_>) -> bool
     true
 }
 
-/// Whether an option would form an address, and none of those behind it would form the same.
+/// Returns true if an option would form an address, and none of the options after it would form the same.
 fn is_new(entries: &[Entry], mac: Mac, info: &PrefixInfo, behind: Options<'_>) -> bool
     requires { Rises key_of entries.now }
     ensures { result ≡ (would_form mac (keys_in entries.now) info.now && not (is_formed_by mac (named_by mac info.now) (prefixes_in (options_left behind.entry)))) }

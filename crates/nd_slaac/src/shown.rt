@@ -17,7 +17,7 @@ use std::alloc::Allocator;
 pub struct OwnAddress {
     pub addr: Addr,
     pub state: State,
-    /// What is left of its preferred lifetime, in milliseconds: 0 where it has ended, and `None` where it has no end.
+    /// What is left of its preferred lifetime, in milliseconds: 0 if it has ended, and `None` if it has no end.
     pub preferred_left: Option<u64>,
     /// What is left of its valid lifetime, in milliseconds, in the same way.
     pub valid_left: Option<u64>,
@@ -29,7 +29,7 @@ impl<A: Allocator> Addresses<A> {
     ghost use Rattle.nd_slaac.specs.Table.{Stands, address_in};
     ghost use Rattle.nd_slaac.specs.Shown.{state_at};
 
-    /// The state of an address at a moment, in milliseconds, if it is known (RFC 4862, section 2).
+    /// Returns the state of an address at `now`, in milliseconds, if it is known (RFC 4862, section 2).
     pub fn state(&self, now: u64, addr: Addr) -> Option<State>
         ensures value { result ≡ option_map (state_at now) (address_in (number_of addr.0) self.now.addresses) }
         ensures state { (history : List Row) → Stands self.now.addresses history → result ≡ state_of (story (number_of addr.0) history) now }
@@ -37,7 +37,7 @@ impl<A: Allocator> Addresses<A> {
         show(&self.entries, now, addr)
     }
 
-    /// Whether an address is a duplicate (RFC 4862, section 5.4.5).
+    /// Returns true if an address is a duplicate (RFC 4862, section 5.4.5).
     pub fn is_duplicate(&self, addr: Addr) -> bool
         ensures { (history : List Row) → Stands self.now.addresses history → result ≡ is_duplicate (story (number_of addr.0) history) }
     {
@@ -71,7 +71,7 @@ impl<'a> OwnAddresses<'a> {
     ghost use Rattle.nd_slaac.specs.Shown.{seen};
     ghost use Rattle.nd_slaac.specs.Left.{addresses_left};
 
-    /// Returns those of all entries, at a moment in milliseconds.
+    /// Returns the addresses of all entries, as they are at a moment, in milliseconds.
     fn new(entries: &'a [Entry], moment: u64) -> Self
         ensures { addresses_left result ≡ map (seen moment) entries.entry.now }
     {
@@ -100,7 +100,7 @@ impl Iterator for OwnAddresses<'_> {
     }
 }
 
-/// The state of an entry that may be there.
+/// Returns the state of an address at `now`, in milliseconds, if it has an entry.
 pub(crate) fn show(entries: &[Entry], now: u64, addr: Addr) -> Option<State>
     requires { Rises key_of entries.now }
     ensures { result ≡ option_map (state_at now) (address_in (number_of addr.0) entries.now) }

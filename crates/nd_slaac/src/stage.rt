@@ -1,26 +1,26 @@
 ghost use Rattle.std.specs.Prelude.{◌≡◌, ◌+◌};
 ghost use Rattle.nd_table.specs.Moment.{IsMoment};
 
-/// Where the duplicate address detection of an address stands (RFC 4862, section 5.4).
+/// The stage of an address's duplicate address detection (RFC 4862, section 5.4).
 #[derive(Clone, Copy, Debug, PartialEq, Eq)]
 pub(crate) enum Stage {
-    /// It goes on.
+    /// It has not ended.
     Detecting {
-        /// How many solicitations were sent.
+        /// The number of solicitations sent.
         sent: u8,
         /// The moment of the next step, in milliseconds: a further solicitation, or the assignment.
         due: u64,
         /// The time between two steps, in milliseconds.
         retrans: u32,
     },
-    /// There was a conflict.
+    /// It failed: another node has the address or tries it.
     Failed,
-    /// The address is assigned.
+    /// It passed: the address is assigned.
     Passed,
 }
 
 impl Stage {
-    /// A detection begins. Its first solicitation waits for a delay.
+    /// Returns a detection that begins at `now`; its first solicitation waits for `delay`. Moment and times are in milliseconds.
     pub(crate) fn begin(now: u64, delay: u32, retrans: u32) -> Self
         requires { IsMoment now }
         ensures { result ≡ Stage.Detecting 0 (now + delay) retrans }

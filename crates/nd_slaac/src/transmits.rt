@@ -7,8 +7,8 @@ use std::marker::Model;
 /// The most solicitations that a duplicate address detection may send (our choice).
 const MAX_TRANSMITS: u8 = 8;
 
-/// How many solicitations each duplicate address detection of an interface sends, 1 to 8 (RFC 4862, section 5.1, DupAddrDetectTransmits). 0,
-/// which would be no detection, is not offered.
+/// The number of solicitations that each duplicate address detection of an interface sends, 1 to 8 (RFC 4862, section 5.1, DupAddrDetectTransmits).
+/// 0, which would be no detection, is not offered.
 #[derive(Clone, Copy, Debug, PartialEq, Eq)]
 pub struct Transmits {
     number: u8,

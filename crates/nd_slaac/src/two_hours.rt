@@ -7,7 +7,7 @@ use nd_table::end_time;
 /// Two hours, in seconds (RFC 4862, section 5.5.3 e).
 const TWO_HOURS: u32 = 7200;
 
-/// The end that is there, or two hours from now where that is earlier.
+/// Returns `end`, or two hours from `now` if that is earlier or there is no end. Both are in milliseconds.
 fn within_two_hours(now: u64, end: Option<u64>) -> u64
     requires { IsMoment now }
     ensures { result ≡ within_two_hours now end }
@@ -19,8 +19,8 @@ fn within_two_hours(now: u64, end: Option<u64>) -> u64
     }
 }
 
-/// The end of an address's valid lifetime, in milliseconds, after its prefix is announced again with a valid lifetime
-/// in seconds (RFC 4862, section 5.5.3 e). `None` is no end; so is a lifetime of all ones.
+/// Returns the end of an address's valid lifetime, in milliseconds, after its prefix is announced again with the valid lifetime `valid`, in seconds
+/// (RFC 4862, section 5.5.3 e). `None` is no end; so is a lifetime of all ones.
 pub fn renewed(now: u64, end: Option<u64>, valid: u32) -> Option<u64>
     requires { IsMoment now }
     ensures { result ≡ renewed now end valid }

@@ -26,16 +26,16 @@ use nd_out::Out;
 use nd_routers::Routers;
 use std::alloc::Allocator;
 
-/// Returns true if a Router Advertisement with this lifetime, in seconds, times out a router that is in the list at the moment, in
-/// milliseconds (RFC 4861, section 6.3.4).
+/// Returns true if a Router Advertisement with this lifetime, in seconds, times out a router that is in the list at `now`, in milliseconds (RFC
+/// 4861, section 6.3.4).
 fn times_out<A: Allocator>(routers: &Routers<A>, now: u64, source: Addr, lifetime: u16) -> bool
     ensures { (history : List RouterRow) → list.Stands routers.now history → result ≡ ((lifetime == 0) && stands same (number_of source.0) (announcements history) now) }
 {
     lifetime == 0 && routers.holds(now, source)
 }
 
-/// Returns true if a Router Advertisement with this lifetime, in seconds, and this preference only refreshes a router that is in the list at
-/// the moment, in milliseconds: no next hop changes.
+/// Returns true if a Router Advertisement with this lifetime, in seconds, and this preference only refreshes a router that is in the list at `now`,
+/// in milliseconds: no next hop changes.
 fn only_refreshes<A: Allocator>(
     routers: &Routers<A>,
     now: u64,
@@ -48,9 +48,9 @@ fn only_refreshes<A: Allocator>(
     lifetime != 0 && routers.holds(now, source) && routers.preference(source) == preference
 }
 
-/// Takes a Router Advertisement's sender as a default router, for a lifetime in seconds, with its preference, at a moment in milliseconds.
-/// There is room for it (RFC 4861, section 6.3.4; RFC 4191, section 2.2). Returns true if it timed out a router of the list; the redirects to
-/// that router end (section 6.3.5). Remembered next hops are forgotten, except where the router is only refreshed with the same preference.
+/// Takes a Router Advertisement's sender as a default router at `now`, in milliseconds, with its lifetime, in seconds, and its preference. There is
+/// room for it (RFC 4861, section 6.3.4; RFC 4191, section 2.2). Returns true if it timed out a router of the list; the redirects to that router
+/// end (section 6.3.5). Remembered next hops are forgotten, except if the router is only refreshed with the same preference.
 pub fn hear_router<A: Allocator>(
     routers: &mut Routers<A>,
     choice: &mut Choice<A>,
@@ -81,8 +81,8 @@ pub fn hear_router<A: Allocator>(
     true
 }
 
-/// Reports a router that was timed out at a moment, in milliseconds, if it was (RFC 4861, section 6.3.4). It takes no memory: room was made
-/// before.
+/// Reports at `now`, in milliseconds, that a router has left the list, if `times_out` (RFC 4861, section 6.3.4). It takes no memory: the caller has
+/// made room.
 pub fn tell_left<A: Allocator>(
     outs: &mut Vec<(u64, Out<A>), A>,
     now: u64,
@@ -97,9 +97,9 @@ pub fn tell_left<A: Allocator>(
     }
 }
 
-/// Removes a neighbour that is no longer a router from the list of default routers, if that is said at a moment, in milliseconds, and the
-/// neighbour is in the list. The redirects to it end, and that is reported (RFC 4861, section 7.2.5). Returns true if it left the list. It
-/// takes no memory: room was made before.
+/// Removes a neighbour that is no longer a router from the list of default routers at `now`, in milliseconds, if `ends` and the neighbour is in the
+/// list. The redirects to it end, and that is reported (RFC 4861, section 7.2.5). Returns true if it left the list. It takes no memory: the caller
+/// has made room.
 pub fn end_router<A: Allocator>(
     routers: &mut Routers<A>,
     choice: &mut Choice<A>,
@@ -125,7 +125,7 @@ pub fn end_router<A: Allocator>(
     true
 }
 
-/// Notes what is due for a neighbour. If the neighbour failed, the router that it may be failed too, and the redirects to it end (RFC 4861,
+/// Notes what is due for a neighbour. If the neighbour failed and is a router, the router failed too, and the redirects to it end (RFC 4861,
 /// sections 6.3.6 and 7.3.3). If its entry is gone, remembered next hops are forgotten.
 pub fn note_failure<A: Allocator + Clone>(
     routers: &mut Routers<A>,
@@ -147,7 +147,7 @@ pub fn note_failure<A: Allocator + Clone>(
     }
 }
 
-/// Routers leave the list at a moment, in milliseconds, in its order. It takes no memory: the room for it was taken before.
+/// Reports at `at`, in milliseconds, that these routers have left the list, in its order. It takes no memory: the caller has made room.
 pub fn tell_routers<A: Allocator>(outs: &mut Vec<(u64, Out<A>), A>, at: u64, routers: &[Addr])
     requires { vec_len outs.old + length routers.now ≤ vec_capacity outs.old }
     ensures { happenings outs.new.items ≡ happenings outs.old.items ++ at_moment at (map (λ key. LeftRouter key) (map (λ a. number_of a.0) routers.now)) }

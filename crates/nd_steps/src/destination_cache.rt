@@ -8,7 +8,7 @@ use nd_nexthop::Choice;
 use nd_routers::Prefixes;
 use std::alloc::Allocator;
 
-/// Keeps the remembered next hops if `keep`, and else forgets them.
+/// Keeps the remembered next hops if `keep`, and forgets them otherwise.
 pub fn keep_if<A: Allocator>(choice: &mut Choice<A>, keep: bool)
     ensures { choice.new ≡ (if keep then choice.old else record choice.old { memory = forgotten choice.old.memory }) }
 {
@@ -17,8 +17,9 @@ pub fn keep_if<A: Allocator>(choice: &mut Choice<A>, keep: bool)
     }
 }
 
-/// Sets the last moment at which remembered next hops may be used, in milliseconds: the one before the next prefix on the link ends, since
-/// prefixes end silently. `own`: no own address was formed. Those remembered are forgotten if one was, or if they were no longer in use.
+/// Sets the last moment at which remembered next hops may be used, in milliseconds: the one before the next prefix on the link ends, since prefixes
+/// end silently. `own`: none of the node's own addresses was formed. If one was, or if the former last moment has passed, the remembered next
+/// hops are forgotten.
 pub fn keep_until_a_prefix_ends<A: Allocator>(
     choice: &mut Choice<A>,
     prefixes: &Prefixes<A>,

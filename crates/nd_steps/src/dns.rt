@@ -17,7 +17,7 @@ use nd_decode::Options;
 use nd_dns::{Dns, NewNames};
 use std::alloc::Allocator;
 
-/// Takes the DNS servers and search names of a Router Advertisement, at a moment in milliseconds, with copies of the names that it adds. There
+/// Takes the DNS servers and search names of a Router Advertisement at `now`, in milliseconds; `names` are copies of the names that it adds. There
 /// is room for them (RFC 8106, section 6.1).
 pub fn hear_dns<A: Allocator>(dns: &mut Dns<A>, now: u64, options: Options<'_>, names: NewNames<A>)
     requires moment { IsMoment now }

@@ -19,10 +19,10 @@ use nd_out::{Loss, Out};
 use nd_packet::{Packet, Packets};
 use std::alloc::Allocator;
 
-/// How much a turn tells at most: a failure, and the three packets that waited.
+/// The most rows that a turn reports: a failure, and the three packets that waited.
 pub const MOST_TOLD: usize = 4;
 
-/// The solicitation that tries an address.
+/// Returns the solicitation of duplicate address detection for an address.
 fn detection<A: Allocator>(room: FrameRoom<A>, mac: Mac, addr: Addr) -> Packet<A>
     ensures { result ≡ detection_frame mac (addr_at (number_of addr.0)) }
 {
@@ -31,7 +31,7 @@ fn detection<A: Allocator>(room: FrameRoom<A>, mac: Mac, addr: Addr) -> Packet<A
     room.detection(mac, addr)
 }
 
-/// The solicitation that asks all nodes for a neighbour's link-layer address.
+/// Returns the solicitation that asks all nodes for a neighbour's link-layer address.
 fn resolution<A: Allocator>(room: FrameRoom<A>, mac: Mac, own: Addr, addr: Addr) -> Packet<A>
     ensures { result ≡ resolution_frame mac own (addr_at (number_of addr.0)) }
 {
@@ -40,7 +40,7 @@ fn resolution<A: Allocator>(room: FrameRoom<A>, mac: Mac, own: Addr, addr: Addr)
     room.resolution(mac, own, addr)
 }
 
-/// The solicitation that asks a neighbour whether it is still there.
+/// Returns the solicitation that probes whether a neighbour is still reachable.
 fn probe<A: Allocator>(room: FrameRoom<A>, mac: Mac, own: Addr, to: Mac, addr: Addr) -> Packet<A>
     ensures { result ≡ probe_frame mac own (mac_at (number_of to.0)) (addr_at (number_of addr.0)) }
 {
@@ -50,7 +50,7 @@ fn probe<A: Allocator>(room: FrameRoom<A>, mac: Mac, own: Addr, to: Mac, addr: A
     room.probe(mac, own, to, addr)
 }
 
-/// What is told of what falls due for an own address.
+/// Returns what is reported of a step for one of the node's own addresses.
 fn told_of_address<A: Allocator>(
     room: FrameRoom<A>,
     mac: Mac,
@@ -66,8 +66,8 @@ fn told_of_address<A: Allocator>(
     }
 }
 
-/// The packets that waited for a neighbour are lost at a moment, in milliseconds, for a reason, the oldest first. It takes no memory: the
-/// room for it was taken before.
+/// Reports at `at`, in milliseconds, that the packets that waited for a neighbour are lost, with the reason `why`, the oldest first. It takes no
+/// memory: the caller has made room.
 pub fn tell_lost<A: Allocator>(
     outs: &mut Vec<(u64, Out<A>), A>,
     at: u64,
@@ -83,7 +83,7 @@ pub fn tell_lost<A: Allocator>(
     }
 }
 
-/// What is told of what falls due for a neighbour.
+/// Reports a step that was due for a neighbour.
 fn tell_neighbour<A: Allocator>(
     outs: &mut Vec<(u64, Out<A>), A>,
     at: u64,
@@ -111,7 +111,7 @@ fn tell_neighbour<A: Allocator>(
     }
 }
 
-/// A Router Advertisement goes to the end at a moment, in milliseconds, if there is one. It takes no memory: the room for it was taken before.
+/// Reports at `at`, in milliseconds, that a Router Advertisement is sent, if there is one. It takes no memory: the caller has made room.
 pub fn tell_advertisement<A: Allocator>(
     outs: &mut Vec<(u64, Out<A>), A>,
     at: u64,
@@ -126,8 +126,8 @@ pub fn tell_advertisement<A: Allocator>(
     }
 }
 
-/// What is told of what fell due at a moment, in milliseconds, goes to the end, for a node with a link-layer address and a link-local one,
-/// and with the Router Advertisement that is due, if one is. It takes no memory: the room for it was taken before.
+/// Reports what was due at `at`, in milliseconds. `mac` and `own` are the node's link-layer address and its link-local address; `advertisement` is
+/// the Router Advertisement that is due, if one is. It takes no memory: the caller has made room.
 pub fn tell<A: Allocator>(
     outs: &mut Vec<(u64, Out<A>), A>,
     at: u64,

@@ -1,9 +1,9 @@
-//! The steps of which a node makes its events: what a step does to one of the conceptual data structures of RFC 4861, section 5.1, and what the
-//! node reports of it. Each file is one of these structures; the node's own addresses, parameters, DNS lists and what only a router has are
-//! files of their own. nd_node says which steps an event takes, in which order, and what is refused; a table's crate says what the table is.
+//! The steps that make up a node's events: what a step does to one of the conceptual data structures of RFC 4861, section 5.1, and what the node
+//! reports of it. There is one file for each of these structures, and one each for the node's own addresses, the parameters, the DNS lists and what
+//! only a router has. nd_node says which steps an event takes, in which order, and what is refused; a table's crate says what the table is.
 //!
-//! Each moment, `now` or `at`, is in milliseconds from a beginning that is the caller's. What is reported is appended to `outs`, with its
-//! moment, into room that was made before: only `ready_for`, `ready_for_two` and what makes a frame take memory.
+//! Each moment, `now` or `at`, is in milliseconds; the caller chooses where they begin. What is reported is appended to `outs`, with its moment,
+//! into room that was made before: only `ready_for`, `ready_for_two` and the functions that make a frame take memory.
 #![tactic(auto)]
 
 mod default_router_list;

@@ -32,7 +32,7 @@ use nd_out::{Loss, Out};
 use nd_packet::{Packet, Packets};
 use std::alloc::{AllocError, Allocator};
 
-/// Whether the neighbour that news are of has a place at a moment, in milliseconds, if they let it enter.
+/// Returns true if there is room at `now`, in milliseconds, for the neighbour of these news, in case they add it.
 fn has_place_with<A: Allocator>(neighbours: &Cache<A>, now: u64, news: &News) -> bool
     ensures room { result ≡ true → HasPlace neighbours.now.limit now (Some news.now) neighbours.now.entries }
     ensures placed { (history : List Row) → Stands neighbours.now.entries history → PlacedBy neighbours.now.limit now news.now history result }
@@ -45,7 +45,7 @@ fn has_place_with<A: Allocator>(neighbours: &Cache<A>, now: u64, news: &News) ->
     }
 }
 
-/// Whether the neighbour that news may be of has a place at a moment, in milliseconds, if they let it enter.
+/// Returns true if there is room at `now`, in milliseconds, for the neighbour of these news, in case there are news and they add it.
 pub fn has_place<A: Allocator>(neighbours: &Cache<A>, now: u64, news: Option<News>) -> bool
     ensures room { result ≡ true → HasPlace neighbours.now.limit now news neighbours.now.entries }
     ensures placed { (start : Start) (c : Chronicle) (times : Times) → neighbours.now.limit ≡ start.limits.neighbours → Stands neighbours.now.entries (neighbour_history c) → Placed start c now (entering (option_map (said_by times) news)) result }
@@ -56,8 +56,8 @@ pub fn has_place<A: Allocator>(neighbours: &Cache<A>, now: u64, news: Option<New
     }
 }
 
-/// Makes room for a packet to a neighbour at a moment, in milliseconds: the solicitation of its link-layer address, a place for what is
-/// told, and a ring where the neighbour isn't there. The error is out of memory, and then no more than room has been made.
+/// Makes room for a packet to a neighbour at `now`, in milliseconds: for the solicitation of its link-layer address, for what is reported, and for
+/// the ring of a neighbour that has no entry. Returns an error if out of memory; no more than room has been made then.
 pub fn ready_for<A: Allocator + Clone>(
     neighbours: &mut Cache<A>,
     now: u64,
@@ -78,9 +78,8 @@ pub fn ready_for<A: Allocator + Clone>(
     Ok(solicitation)
 }
 
-/// Makes room for a packet to one neighbour and then one to a second: the solicitation of the link-layer
-/// address of each, a place for what is told of each, and a ring for each, whoever is there, since the first may push the second out. The error
-/// is out of memory, and then no more than room has been made.
+/// Makes room for a packet to one neighbour and then one to a second: for each, the solicitation of its link-layer address, what is reported, and a
+/// ring, since making the first entry may evict the second. Returns an error if out of memory; no more than room has been made then.
 pub fn ready_for_two<A: Allocator + Clone>(
     neighbours: &mut Cache<A>,
     outs: &mut Vec<(u64, Out<A>), A>,
@@ -100,7 +99,7 @@ pub fn ready_for_two<A: Allocator + Clone>(
     Ok((first, second))
 }
 
-/// The neighbour that news are of.
+/// Returns the neighbour of these news.
 fn neighbour_in(news: &News) -> Addr
     ensures { number_of result.0 ≡ news_key news.now }
 {
@@ -109,7 +108,7 @@ fn neighbour_in(news: &News) -> Addr
     }
 }
 
-/// How many packets wait for the neighbour that is spoken of: none where nothing is said.
+/// Returns the number of packets that wait for the neighbour of these news, and 0 if there are none.
 pub fn waiting_for<A: Allocator>(neighbours: &Cache<A>, news: Option<News>) -> usize
     ensures value { result ≡ waiting_for news neighbours.now.entries }
     ensures few { result ≤ max_waiting }
@@ -120,7 +119,7 @@ pub fn waiting_for<A: Allocator>(neighbours: &Cache<A>, news: Option<News>) -> u
     }
 }
 
-/// Packets go to an Ethernet address, the oldest first.
+/// Reports packets as sent to an Ethernet address, the oldest first.
 fn send_each<A: Allocator>(outs: &mut Vec<(u64, Out<A>), A>, at: u64, mac: Mac, packets: Packets<A>)
     requires { vec_len outs.old + length packets ≤ vec_capacity outs.old }
     ensures told { happenings outs.new.items ≡ happenings outs.old.items ++ at_moment at (map (λ packet. Sent (addressed mac packet)) packets) }
@@ -174,10 +173,10 @@ fn hear_news<A: Allocator>(
     }
 }
 
-/// Takes what a message says of a neighbour at a moment, if it says anything, with the times in force, and sends the packets that waited for
-/// the address that it gives; moment and times are in milliseconds (RFC 4861, sections 6.2.6, 6.3.4, 7.2.3, 7.2.5 and 8.3). Returns true if it
-/// says that a router is no longer one. Remembered next hops are forgotten where the neighbour's link-layer address wasn't known. It takes no
-/// memory: room was made before.
+/// Takes what a message says of a neighbour at `now`, if it says anything, with the times in force, and sends the packets that waited for the
+/// address that it gives (RFC 4861, sections 6.2.6, 6.3.4, 7.2.3, 7.2.5 and 8.3). Moment and times are in milliseconds. Returns true if the message
+/// says that a router is no longer one. Remembered next hops are forgotten if the neighbour's link-layer address wasn't known. It takes no memory:
+/// the caller has made room.
 pub fn hear_of_neighbour<A: Allocator>(
     neighbours: &mut Cache<A>,
     choice: &mut Choice<A>,
@@ -193,11 +192,11 @@ pub fn hear_of_neighbour<A: Allocator>(
     ensures hears { HearsOf neighbours.old.limit now (option_map (said_by times) news) neighbours.old.entries neighbours.new.entries outs.old.items outs.new.items result }
     ensures remembers { MayRemember choice.old choice.new neighbours.old.entries neighbours.new.entries }
 
-    // A neighbour whose address is given is there then, and where nothing is said none is changed.
+    // A neighbour whose address is given has an entry then, and without news no entry changes.
     ensures there { IfSome news (λ n. lets_enter n ≡ true → is_some (entry_in (news_key n) neighbours.new.entries) ≡ true) }
     ensures unsaid { news ≡ None → neighbours.new.entries ≡ neighbours.old.entries }
 
-    // What else there was room for still has it.
+    // The room that was made for other rows is left.
     ensures len { vec_len outs.new ≤ vec_len outs.old + waiting_for news neighbours.old.entries }
     ensures most { vec_len outs.new ≤ vec_len outs.old + max_waiting }
     ensures capacity { vec_capacity outs.new ≡ vec_capacity outs.old }
@@ -221,8 +220,8 @@ pub fn note_use<A: Allocator>(choice: &mut Choice<A>, used: &Use<A>)
     }
 }
 
-/// What became of a packet to a neighbour at a moment, in milliseconds, goes to the end, for a node with a link-layer address and a
-/// link-local one (RFC 4861, sections 7.2.2 and 7.3.3): at most one row. It takes no memory: the room for it was taken before.
+/// Reports at `at`, in milliseconds, what became of a packet to a neighbour (RFC 4861, sections 7.2.2 and 7.3.3), in at most one row. `mac` and
+/// `own` are the node's link-layer address and its link-local address. It takes no memory: the caller has made room.
 pub fn tell_use<A: Allocator>(
     outs: &mut Vec<(u64, Out<A>), A>,
     at: u64,
@@ -255,8 +254,8 @@ pub fn tell_use<A: Allocator>(
     }
 }
 
-/// Packets that waited for neighbours that are forgotten by a command are lost at a moment, in milliseconds, in their order. It takes no
-/// memory: the room for it was taken before.
+/// Reports at `at`, in milliseconds, that the packets that waited for neighbours which a command removes are lost, in their order. It takes no
+/// memory: the caller has made room.
 pub fn tell_packets<A: Allocator>(
     outs: &mut Vec<(u64, Out<A>), A>,
     at: u64,

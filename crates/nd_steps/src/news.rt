@@ -15,7 +15,7 @@ use nd_decode::{
 };
 use nd_neighbour::{Flags, News, Times};
 
-/// The first Source Link-Layer Address (RFC 4861, section 4.6.1).
+/// Returns the first Source Link-Layer Address (RFC 4861, section 4.6.1).
 #[tactic(auto, using(crate::proofs::OfType::first_slla_from))]
 fn first_slla(options: Options<'_>) -> Option<Mac>
     ensures { result ≡ first_slla (options_left options.entry) }
@@ -29,7 +29,7 @@ fn first_slla(options: Options<'_>) -> Option<Mac>
     None
 }
 
-/// The first Target Link-Layer Address (RFC 4861, section 4.6.1).
+/// Returns the first Target Link-Layer Address (RFC 4861, section 4.6.1).
 #[tactic(auto, using(crate::proofs::OfType::first_tlla_from))]
 fn first_tlla(options: Options<'_>) -> Option<Mac>
     ensures { result ≡ first_tlla (options_left options.entry) }
@@ -43,7 +43,8 @@ fn first_tlla(options: Options<'_>) -> Option<Mac>
     None
 }
 
-/// That a neighbour's link-layer address is given, and whether it is a router, if that is said; without the address only that.
+/// Returns the news that give a neighbour's link-layer address and say whether it is a router, if the message says that; without an address, only
+/// the latter.
 fn given_or_marked(addr: Addr, mac: Option<Mac>, mark: Option<bool>) -> Option<News>
     ensures { (times : Times) → option_map (said_by times) result ≡ given_or_marked (number_of addr.0) mac mark }
 {
@@ -56,7 +57,7 @@ fn given_or_marked(addr: Addr, mac: Option<Mac>, mark: Option<bool>) -> Option<N
     }
 }
 
-/// The same of the source of a solicitation, which may be unspecified and is no neighbour then.
+/// Returns the same for the source of a solicitation; an unspecified source is no neighbour.
 fn given_by_source(source: Addr, mac: Option<Mac>, mark: Option<bool>) -> Option<News>
     ensures { (times : Times) → option_map (said_by times) result ≡ said_of_source source mac mark }
 {
@@ -66,7 +67,7 @@ fn given_by_source(source: Addr, mac: Option<Mac>, mark: Option<bool>) -> Option
     given_or_marked(source, mac, mark)
 }
 
-/// What a Redirect says of its target, which is a router where it is not the destination (RFC 4861, section 8.3).
+/// Returns what a Redirect says of its target, which is a router if it is not the destination (RFC 4861, section 8.3).
 fn given_by_redirect(redirect: &Redirect, mac: Option<Mac>) -> Option<News>
     ensures { (times : Times) → option_map (said_by times) result ≡ given_or_marked (number_of redirect.now.target.0) mac (mark_of_target redirect.now) }
 {
@@ -76,7 +77,7 @@ fn given_by_redirect(redirect: &Redirect, mac: Option<Mac>) -> Option<News>
     given_or_marked(redirect.target, mac, Some(true))
 }
 
-/// What a message says of a neighbour, if it says anything (RFC 4861, sections 6.2.6, 6.3.4, 7.2.3, 7.2.5 and 8.3).
+/// Returns what a message says of a neighbour, if it says anything (RFC 4861, sections 6.2.6, 6.3.4, 7.2.3, 7.2.5 and 8.3).
 pub fn news_of(source: Addr, body: &Body, options: Options<'_>) -> Option<News>
     ensures { (times : Times) → option_map (said_by times) result ≡ said_of_neighbour source body.now (options_left options.entry) times.reachable }
 {

@@ -1,4 +1,4 @@
-//! The next hop of a packet, asked of the tables of a node (RFC 4861, sections 5.2 and 6.3.6).
+//! The next hop of a packet, from the tables of a node (RFC 4861, sections 5.2 and 6.3.6).
 
 ghost use Rattle.std.specs.Prelude.{◌≡◌, ◌↔◌, true};
 ghost use Rattle.nd_addr.specs.Number.{number_of};
@@ -14,7 +14,7 @@ use nd_slaac::{Addresses, Counted};
 use nd_table::compare;
 use std::alloc::Allocator;
 
-/// Whether a neighbour is in any state other than INCOMPLETE.
+/// Returns true if a neighbour is in any state other than INCOMPLETE.
 fn is_resolved<A: Allocator>(neighbours: &Cache<A>, now: u64, addr: Addr) -> bool
     ensures { result ≡ is_resolved (entry_in (number_of addr.0) neighbours.now.entries) }
 {
@@ -33,7 +33,7 @@ pub struct Tables<'a, A: Allocator> {
     pub routers: &'a Routers<A>,
     /// The prefixes on the link (RFC 4861, section 5.1).
     pub prefixes: &'a Prefixes<A>,
-    /// The own addresses (RFC 4862, section 5).
+    /// The node's own addresses (RFC 4862, section 5).
     pub addresses: &'a Addresses<A>,
     /// The neighbours (RFC 4861, section 5.1).
     pub neighbours: &'a Cache<A>,
@@ -79,7 +79,7 @@ impl<A: Allocator> View for Tables<'_, A> {
     }
 }
 
-/// Whether a next hop is this node on the link, and not the destination itself (RFC 4861, section 8.1).
+/// Returns true if a next hop is this node on the link, and not the destination itself (RFC 4861, section 8.1).
 pub fn is_via(hop: Hop, addr: Addr) -> bool
     ensures { result ≡ true ↔ (hop_of hop ≡ via (number_of addr.0)) }
 {

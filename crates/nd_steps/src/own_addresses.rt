@@ -35,7 +35,7 @@ use nd_slaac::{Addresses, Counted};
 use rand_core::Rng;
 use std::alloc::Allocator;
 
-/// The link-local address of the node (RFC 4862, section 5.3).
+/// Returns the link-local address of the node (RFC 4862, section 5.3).
 pub fn link_local<A: Allocator>(addresses: &Addresses<A>) -> Addr
     ensures { result ≡ addr_at (link_local_of addresses.now.mac) }
 {
@@ -45,14 +45,14 @@ pub fn link_local<A: Allocator>(addresses: &Addresses<A>) -> Addr
     own
 }
 
-/// Whether a destination is that of all nodes (RFC 4291, section 2.7.1).
+/// Returns true if `destination` is the all-nodes address (RFC 4291, section 2.7.1).
 pub fn is_to_nodes(destination: Addr) -> bool
     ensures { result ≡ true ↔ (destination.0 ≡ all_nodes_address) }
 {
     destination == Addr::ALL_NODES
 }
 
-/// Whether a destination is that of all routers, at a router (RFC 4291, section 2.7.1).
+/// Returns true if the node is a router and `destination` is the all-routers address (RFC 4291, section 2.7.1).
 pub fn is_to_routers(role: Role, destination: Addr) -> bool
     ensures { result ≡ true ↔ ((role ≡ Router) × (destination.0 ≡ all_routers_address)) }
 {
@@ -62,8 +62,8 @@ pub fn is_to_routers(role: Role, destination: Addr) -> bool
     }
 }
 
-/// Whether another node has an address, or tries for it: an advertisement for it, or a solicitation for it from the unspecified address
-/// (RFC 4862, sections 5.4.3 and 5.4.4).
+/// Returns true if a message shows that another node has an address or tries it: an advertisement for it, or a solicitation for it from the
+/// unspecified address (RFC 4862, sections 5.4.3 and 5.4.4).
 fn conflicts_with(address: Addr, source: Addr, body: &Body) -> bool
     ensures { result ≡ conflicts_with address.0 source body.now }
 {
@@ -74,8 +74,8 @@ fn conflicts_with(address: Addr, source: Addr, body: &Body) -> bool
     }
 }
 
-/// Whether a solicitation for a target is heard: an assigned address is answered for, and a tentative one may be a duplicate (RFC 4861,
-/// section 7.2.3).
+/// Returns true if the node handles a solicitation for `target`: it answers for an assigned address, and a tentative one may be a duplicate (RFC
+/// 4861, section 7.2.3).
 fn is_own_target<A: Allocator>(addresses: &Addresses<A>, source: Addr, target: Addr) -> bool
     ensures { (c : Chronicle) → own_addresses.Stands addresses.now.addresses (address_history c) → result ≡ takes_target c source (bodies.Ns (record { target = target })) }
 {
@@ -85,7 +85,7 @@ fn is_own_target<A: Allocator>(addresses: &Addresses<A>, source: Addr, target: A
     addresses.counts(Counted::Own, target) && source.is_unspecified()
 }
 
-/// Whether a message speaks of a target for which it is heard (RFC 4861, section 7.2.3).
+/// Returns false for a solicitation whose target the node doesn't handle, and true for any other message (RFC 4861, section 7.2.3).
 pub fn takes_target<A: Allocator>(addresses: &Addresses<A>, source: Addr, body: &Body) -> bool
     ensures { (c : Chronicle) → own_addresses.Stands addresses.now.addresses (address_history c) → result ≡ takes_target c source body.now }
 {
@@ -95,7 +95,7 @@ pub fn takes_target<A: Allocator>(addresses: &Addresses<A>, source: Addr, body: 
     }
 }
 
-/// Whether the link-local address is assigned, or what comes makes it a duplicate (our choice: a node has to have a link-local address).
+/// Returns true if the link-local address is assigned, or if the message makes it a duplicate (our choice: a node must have a link-local address).
 pub fn is_awake<A: Allocator>(addresses: &Addresses<A>, source: Addr, body: &Body) -> bool
     ensures { (start : Start) (c : Chronicle) → own_addresses.Stands addresses.now.addresses (address_history c) → addresses.now.mac ≡ start.mac → result ≡ is_awake start c source body.now }
 {
@@ -108,8 +108,8 @@ pub fn is_awake<A: Allocator>(addresses: &Addresses<A>, source: Addr, body: &Bod
     addresses.counts(Counted::Own, own) && conflicts_with(own, source, body)
 }
 
-/// How long the first solicitation for an address waits, in milliseconds: that is drawn where one is formed by an advertisement that
-/// went to all (RFC 4862, section 5.4.2).
+/// Returns the delay of the first solicitation for an address, in milliseconds. It is drawn if the address is formed by an advertisement to all
+/// nodes (RFC 4862, section 5.4.2), and otherwise 0.
 fn delay<R: Rng>(generator: &mut R, to_all: bool, forms: bool) -> u32
     ensures { (result, R.stream generator.new) ≡ delay_from (to_all && forms) (R.stream generator.old) }
 {
@@ -119,8 +119,8 @@ fn delay<R: Rng>(generator: &mut R, to_all: bool, forms: bool) -> u32
     drawn_from(generator, 0, MAX_RTR_SOLICITATION_DELAY) as u32
 }
 
-/// A prefix option of a Router Advertisement may form an address, for which there is room (RFC 4862, section 5.5.3). Moment and
-/// RetransTimer are in milliseconds.
+/// Takes a prefix option of a Router Advertisement, which may form an address; there is room for it (RFC 4862, section 5.5.3). `now` and `retrans`,
+/// the RetransTimer in force, are in milliseconds.
 fn hear_prefix_option<R: Rng, A: Allocator>(
     addresses: &mut Addresses<A>,
     generator: &mut R,
@@ -158,8 +158,8 @@ pub fn none_forms<A: Allocator>(addresses: &Addresses<A>, options: Options<'_>) 
     true
 }
 
-/// The prefix options of a Router Advertisement may form addresses, in their order, for which there is room (RFC 4862, section 5.5.3).
-/// Moment and RetransTimer, which is the one in force, are in milliseconds.
+/// Takes the prefix options of a Router Advertisement in their order. They may form addresses; there is room for these (RFC 4862, section 5.5.3).
+/// `now` and `retrans`, the RetransTimer in force, are in milliseconds.
 #[tactic(auto, using(nd_slaac::proofs::OfType::prefixes_from))]
 pub fn hear_prefix_options<R: Rng, A: Allocator>(
     addresses: &mut Addresses<A>,
@@ -181,8 +181,8 @@ pub fn hear_prefix_options<R: Rng, A: Allocator>(
     }
 }
 
-/// Makes a tentative address a duplicate, since another node has it or tries it (RFC 4862, sections 5.4.3 and 5.4.4), and forgets remembered
-/// next hops then. Returns true if the address was tentative. It takes no memory.
+/// Makes a tentative address a duplicate, since another node has it or tries it (RFC 4862, sections 5.4.3 and 5.4.4), and forgets remembered next
+/// hops then. Returns true if the address was tentative. It takes no memory.
 pub fn hear_conflict<A: Allocator>(
     addresses: &mut Addresses<A>,
     choice: &mut Choice<A>,
@@ -200,9 +200,9 @@ pub fn hear_conflict<A: Allocator>(
     tentative
 }
 
-/// Takes that another node has an address, at a moment in milliseconds: a tentative address is a duplicate from now on, and that is reported
-/// (RFC 4862, section 5.4.4). Remembered next hops are forgotten then. Returns true if the address was tentative. It takes no memory: room was
-/// made before.
+/// Notes at `now`, in milliseconds, that another node has an address: a tentative address is a duplicate from now on, and that is reported (RFC
+/// 4862, section 5.4.4). Remembered next hops are forgotten then. Returns true if the address was tentative. It takes no memory: the caller has
+/// made room.
 pub fn hear_holder<A: Allocator>(
     addresses: &mut Addresses<A>,
     choice: &mut Choice<A>,

@@ -10,7 +10,7 @@ use nd_addr::{Addr, ETHERNET_HEADER_LENGTH, IPV6_HEADER_LENGTH, Ip6, Mac, write_
 use nd_packet::Packet;
 use std::alloc::{AllocError, Allocator};
 
-/// The packet in a frame, from its IPv6 header to the end of a payload of this length, in bytes: padding behind it is left out (RFC 8200,
+/// Returns the packet in a frame, from its IPv6 header to the end of a payload of this length, in bytes, without the padding after it (RFC 8200,
 /// section 3).
 pub fn packet_in(frame: &[u8], payload_length: usize) -> &[u8]
     ensures { result.now ≡ take (ipv6_header_length + payload_length) (packet_in frame.now) }
@@ -20,22 +20,22 @@ pub fn packet_in(frame: &[u8], payload_length: usize) -> &[u8]
     &packet[..length.min(packet.len())]
 }
 
-/// A packet that the upper layer hands to the node: what its IPv6 header says (RFC 8200, section 3), and what stands behind that.
+/// A packet that the upper layer passes to the node: what its IPv6 header says (RFC 8200, section 3), and its payload.
 #[derive(Drop)]
 pub struct OutgoingPacket<A: Allocator> {
-    /// The address that it comes from, an assigned one of the node.
+    /// The source, one of the node's assigned addresses.
     pub source: Addr,
-    /// The address that it is for, of which the next hop is asked (RFC 4861, section 5.2).
+    /// The destination, for which the next hop is determined (RFC 4861, section 5.2).
     pub destination: Addr,
-    /// What follows the header: one of IANA's protocol numbers.
+    /// The type of the header that follows: one of IANA's protocol numbers.
     pub next_header: u8,
-    /// What stands behind the header.
+    /// The bytes after the IPv6 header.
     pub payload: Vec<u8, A>,
 }
 
 impl<A: Allocator> OutgoingPacket<A> {
-    /// The frame of the packet, between two Ethernet addresses and with a hop limit (RFC 8200, section 3; RFC 2464, section 3). The error
-    /// is out of memory.
+    /// Returns the frame of the packet, between two Ethernet addresses and with a hop limit (RFC 8200, section 3; RFC 2464, section 3). Returns an
+    /// error if out of memory.
     pub fn frame(
         &self,
         alloc: A,
@@ -64,7 +64,7 @@ impl<A: Allocator> OutgoingPacket<A> {
     }
 }
 
-/// Whether a packet with this payload is longer than the MTU of the link, in bytes (RFC 8200, section 5).
+/// Returns true if a packet with this payload is longer than the MTU of the link, in bytes (RFC 8200, section 5).
 pub fn is_too_long(payload: &[u8], mtu: u32) -> bool
     requires { mtu ≤ ethernet_mtu }
     ensures { result ≡ nat_lt mtu (ipv6_header_length + length payload.now) }

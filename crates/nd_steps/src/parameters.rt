@@ -12,7 +12,7 @@ use nd_neighbour::Times;
 use nd_params::Params;
 use rand_core::Rng;
 
-/// The times in force for the neighbours, in milliseconds (RFC 4861, section 6.3.2).
+/// Returns the times in force for the neighbours, in milliseconds (RFC 4861, section 6.3.2).
 pub fn times_in_force(params: &Params) -> Times
     ensures retrans { result.retrans ≡ params.now.retrans_timer }
     ensures reachable { result.reachable ≡ params.now.reachable_time }
@@ -24,7 +24,7 @@ pub fn times_in_force(params: &Params) -> Times
     }
 }
 
-/// ReachableTime for the base that a Router Advertisement tells, in milliseconds, where it changes the base (RFC 4861, section 6.3.4).
+/// Draws ReachableTime, in milliseconds, if a Router Advertisement changes its base (RFC 4861, section 6.3.4).
 fn redraw<R: Rng>(generator: &mut R, params: &Params, ra: &RouterAdvertisement) -> Option<u64>
     ensures value { (result, R.stream generator.new) ≡ redraw_from (redraws params.now.base_reachable_time ra.now.reachable_time) ra.now.reachable_time (R.stream generator.old) }
     ensures below { IfSome result (λ value. value < 2 ^ 62) }
@@ -36,8 +36,8 @@ fn redraw<R: Rng>(generator: &mut R, params: &Params, ra: &RouterAdvertisement) 
     Some(reachable_drawn(generator, ra.reachable_time))
 }
 
-/// The parameters that a Router Advertisement tells at a moment, in milliseconds. Where it changes BaseReachableTime, ReachableTime is
-/// drawn for the new one (RFC 4861, section 6.3.4).
+/// Takes the parameters that a Router Advertisement gives at `now`, in milliseconds. If it changes BaseReachableTime, ReachableTime is drawn from
+/// the new base (RFC 4861, section 6.3.4).
 pub fn hear_parameters<R: Rng>(
     params: &mut Params,
     generator: &mut R,

@@ -1,4 +1,4 @@
-//! The Prefix List (RFC 4861, section 5.1): the prefixes on the link that Router Advertisements say.
+//! The Prefix List (RFC 4861, section 5.1): the prefixes that Router Advertisements say are on the link.
 
 ghost use Rattle.std.specs.Prelude.{◌≡◌, ◌≤◌, ◌<◌, List, true};
 ghost use Rattle.nd_addr.specs.Prefix.{PrefixValue};
@@ -17,8 +17,8 @@ use nd_nexthop::Choice;
 use nd_routers::Prefixes;
 use std::alloc::Allocator;
 
-/// Takes the prefixes that a Router Advertisement says are on the link, at a moment in milliseconds. There is room for them (RFC 4861, section
-/// 6.3.4). Remembered next hops are forgotten, except where prefixes are only refreshed.
+/// Takes the prefixes that a Router Advertisement says are on the link, at `now`, in milliseconds. There is room for them (RFC 4861, section
+/// 6.3.4). Remembered next hops are forgotten, except if prefixes are only refreshed.
 pub fn hear_prefixes<A: Allocator>(
     prefixes: &mut Prefixes<A>,
     choice: &mut Choice<A>,

@@ -24,7 +24,7 @@ use nd_table::compare;
 use rand_core::Rng;
 use std::alloc::{AllocError, Allocator};
 
-/// What only a router has. At a host both are empty.
+/// The tables that only a router has. At a host both are empty.
 #[derive(Drop)]
 pub struct RouterTables<A: Allocator> {
     /// What it advertises, and when (RFC 4861, section 6.2).
@@ -34,8 +34,8 @@ pub struct RouterTables<A: Allocator> {
 }
 
 impl<A: Allocator + Copy> RouterTables<A> {
-    /// An interface that doesn't advertise, and no routes, with room for as many prefixes and routes as there may be. The error is out
-    /// of memory.
+    /// Returns the tables of an interface that doesn't advertise and has no routes, with room for the most prefixes and routes. Returns an error if
+    /// out of memory.
     pub fn new(alloc: A) -> Result<Self, AllocError>
         ensures advertiser { IfOk result (λ tables. tables.advertiser ≡ record { assigned = None; last = None; advertising = None; offers = [] }) }
         ensures routes { IfOk result (λ tables. tables.routes ≡ record { entries = []; redirected = None }) }
@@ -48,8 +48,8 @@ impl<A: Allocator + Copy> RouterTables<A> {
 }
 
 impl<A: Allocator + Clone> RouterTables<A> {
-    /// Returns the Router Advertisement that is due at `now`, in milliseconds, from an interface with these addresses, and none if none is due
-    /// (RFC 4861, section 6.2.3). Returns an error if out of memory, and only where one is due.
+    /// Returns the Router Advertisement that is due at `now`, in milliseconds, if one is, from an interface with these addresses (RFC 4861, section
+    /// 6.2.3). Returns an error if out of memory, and only if one is due.
     pub fn advertisement_due(
         &self,
         alloc: A,
@@ -68,8 +68,8 @@ impl<A: Allocator + Clone> RouterTables<A> {
         framed(alloc, mac, own, message)
     }
 
-    /// The last Router Advertisement of an interface with these addresses, with a router lifetime of 0, if it advertises (RFC 4861, section
-    /// 6.2.5). The error is out of memory.
+    /// Returns the last Router Advertisement of an interface with these addresses, with a router lifetime of 0, if it advertises (RFC 4861, section
+    /// 6.2.5). Returns an error if out of memory.
     pub fn last_advertisement(
         &self,
         alloc: A,
@@ -83,7 +83,7 @@ impl<A: Allocator + Clone> RouterTables<A> {
     }
 }
 
-/// The frame of a message to all nodes, if there is one. The error is out of memory.
+/// Returns the frame of a message to all nodes, if there is one. Returns an error if out of memory.
 fn framed<A: Allocator>(
     alloc: A,
     mac: Mac,
@@ -103,7 +103,7 @@ fn framed<A: Allocator>(
 }
 
 impl<A: Allocator> RouterTables<A> {
-    /// When the next advertisement is due, in milliseconds, if one is: a host sends none (RFC 4861, section 6.2.4).
+    /// Returns the moment at which the next advertisement is due, in milliseconds, if one is. A host sends none (RFC 4861, section 6.2.4).
     pub fn next_due(&self, role: Role) -> Option<u64>
         ensures value { result ≡ next_advertisement role self.now }
         ensures settings { is_some result ≡ true → is_some (settings_in self.now.advertiser.advertising) ≡ true }
@@ -115,8 +115,8 @@ impl<A: Allocator> RouterTables<A> {
         self.advertiser.next_due()
     }
 
-    /// Whether an advertisement is due at a moment, in milliseconds. It is sent then, and the time until the next one is drawn (RFC 4861,
-    /// section 6.2.4).
+    /// Returns true if an advertisement is due at `now`, in milliseconds. It counts as sent then, and the time until the next one is drawn (RFC
+    /// 4861, section 6.2.4).
     pub fn turn<R: Rng>(&mut self, role: Role, now: u64, generator: &mut R) -> bool
         requires { IsMoment now }
         ensures due { result ≡ true → next_advertisement role self.old ≡ Some now }
@@ -139,8 +139,8 @@ impl<A: Allocator> RouterTables<A> {
         }
     }
 
-    /// What fell due for an own address at a moment, in milliseconds: advertisements are sent from the link-local one (RFC 4861, section
-    /// 4.2).
+    /// Notes what was due at `now`, in milliseconds, for one of the node's own addresses: advertisements are sent from the link-local one once it
+    /// is assigned (RFC 4861, section 4.2).
     pub fn note_address(&mut self, link_local: Addr, now: u64, due: Due)
         requires { IsMoment now }
         ensures { NotesAddress (number_of link_local.0) now (falls_of due) self.old self.new }
@@ -155,8 +155,8 @@ impl<A: Allocator> RouterTables<A> {
         }
     }
 
-    /// A Router Solicitation is heard at a moment, in milliseconds. At a router the first since the last advertisement has its answer planned,
-    /// after a delay that is drawn; a host answers none (RFC 4861, section 6.2.6).
+    /// Takes a Router Solicitation at `now`, in milliseconds. A router plans the answer to the first one since its last advertisement, after a
+    /// delay that is drawn; a host answers none (RFC 4861, section 6.2.6).
     pub fn hear_solicitation<R: Rng>(&mut self, role: Role, now: u64, generator: &mut R)
         requires { IsMoment now }
         ensures { Plans now (plans role self.old) (R.stream generator.old) (R.stream generator.new) self.old self.new }

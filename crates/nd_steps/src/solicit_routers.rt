@@ -17,11 +17,11 @@ const RTR_SOLICITATION_INTERVAL: u64 = 4_000;
 /// The Router Solicitations of a host (RFC 4861, section 6.3.7).
 #[derive(Drop)]
 pub struct RouterSolicitations {
-    /// When the link-local address was assigned, in milliseconds.
+    /// The moment at which the link-local address was assigned, in milliseconds.
     assigned: Option<u64>,
-    /// How many were sent.
+    /// The number of solicitations sent.
     sent: u64,
-    /// Whether a Router Advertisement of a router was heard (RFC 4861, section 6.3.7).
+    /// A Router Advertisement of a router was heard (RFC 4861, section 6.3.7).
     heard: bool,
 }
 
@@ -40,7 +40,7 @@ impl Model for RouterSolicitations {
 impl RouterSolicitations {
     ghost use Rattle.std.specs.Prelude.{None, false};
 
-    /// None was sent, and the link-local address isn't assigned.
+    /// Returns the state before any solicitation, with the link-local address not yet assigned.
     pub fn new() -> Self
         ensures { result ≡ record { assigned = None; sent = 0; heard = false } }
     {
@@ -51,8 +51,8 @@ impl RouterSolicitations {
         }
     }
 
-    /// When the next one is due, in milliseconds: the first comes with the link-local address, the others an interval later each, until
-    /// a router is heard. A router sends none.
+    /// Returns the moment at which the next solicitation is due, in milliseconds, if one is: the first when the link-local address is assigned,
+    /// each other one an interval later, until a router is heard. A router sends none.
     pub fn next_due(&self, role: Role) -> Option<u64>
         ensures { result ≡ next_solicitation role self.now }
     {
@@ -69,7 +69,7 @@ impl RouterSolicitations {
         Some(at + self.sent * RTR_SOLICITATION_INTERVAL)
     }
 
-    /// The link-local address is assigned at a moment, in milliseconds.
+    /// Notes that the link-local address is assigned at `now`, in milliseconds.
     pub fn assigned(&mut self, now: u64)
         requires { IsMoment now }
         ensures { self.new ≡ record self.old { assigned = Some now } }
@@ -77,8 +77,8 @@ impl RouterSolicitations {
         self.assigned = Some(now);
     }
 
-    /// A Router Advertisement is heard, with a lifetime in seconds: that of a router ends them, and where it is 0 it is none (RFC 4861,
-    /// section 6.3.7).
+    /// Takes a Router Advertisement with a lifetime, in seconds. One from a router ends the solicitations; with a lifetime of 0 the sender is no
+    /// default router, and they go on (RFC 4861, section 6.3.7).
     pub fn heard_router(&mut self, lifetime: u16)
         ensures { self.new ≡ record self.old { heard = not (lifetime == 0) || self.old.heard } }
     {
@@ -87,7 +87,7 @@ impl RouterSolicitations {
         }
     }
 
-    /// Whether one is due at a moment, in milliseconds. One more is sent then.
+    /// Returns true if a solicitation is due at `now`, in milliseconds. It counts as sent then.
     pub fn turn(&mut self, role: Role, now: u64) -> bool
         ensures due { result ≡ true → next_solicitation role self.old ≡ Some now }
         ensures none { result ≡ false → next_solicitation role self.old ≢ Some now }

@@ -1,4 +1,4 @@
-//! What a router makes of a packet that is in transit (RFC 8200, section 3; RFC 4861, section 8.2).
+//! What a router does with a packet in transit (RFC 8200, section 3; RFC 4861, section 8.2).
 
 ghost use Rattle.std.specs.Prelude.{◌≡◌, ◌≤◌, ◌+◌, ◌-◌, ℕ, IfOk, None, length};
 ghost use Rattle.nd_addr.specs.Frame.{written_frame};
@@ -21,7 +21,7 @@ use nd_neighbour::Cache;
 use nd_packet::Packet;
 use std::alloc::{AllocError, Allocator};
 
-/// The frame of a packet from an Ethernet address to one that is still open.
+/// Returns the frame of a packet from `mac` to an Ethernet address that is still open.
 fn frame_from<A: Allocator>(
     alloc: A,
     mac: Mac,
@@ -39,8 +39,8 @@ fn frame_from<A: Allocator>(
     }
 }
 
-/// The frame of a packet in transit as it came, from the node's Ethernet address to one that is still open, as the packet is told of
-/// where it isn't sent on (RFC 2464, section 3). The error is out of memory.
+/// Returns the frame of a packet in transit as received, from the node's Ethernet address to one that is still open. The node reports the packet so
+/// if it isn't sent on (RFC 2464, section 3). Returns an error if out of memory.
 pub fn frame_as_it_came<A: Allocator>(
     alloc: A,
     mac: Mac,
@@ -52,8 +52,8 @@ pub fn frame_as_it_came<A: Allocator>(
     frame_from(alloc, mac, &packet.header, packet.payload)
 }
 
-/// The frame of a packet in transit as it is sent on, with a hop limit that is lower by one, or 0 where it was 0, from the node's Ethernet
-/// address to one that is still open (RFC 8200, section 3). The error is out of memory.
+/// Returns the frame of a packet in transit as it is sent on, from the node's Ethernet address to one that is still open (RFC 8200, section 3). Its
+/// hop limit is one lower, or 0 if it was 0. Returns an error if out of memory.
 pub fn frame_sent_on<A: Allocator>(
     alloc: A,
     mac: Mac,
@@ -62,7 +62,7 @@ pub fn frame_sent_on<A: Allocator>(
     requires { length packet.now.payload.now ≤ 65535 }
     ensures { IfOk result (λ frame. frame ≡ written_frame open_mac mac (record (packet_parts packet.now).header { hop_limit = (packet_parts packet.now).header.hop_limit - 1 }) (packet_parts packet.now).payload) }
 {
-    // Of a packet that is sent on it is 2 at least.
+    // The hop limit of a packet that is sent on is at least 2.
     let header = Ip6 {
         hop_limit: packet.header.hop_limit.saturating_sub(1),
         ..packet.header
@@ -70,7 +70,7 @@ pub fn frame_sent_on<A: Allocator>(
     frame_from(alloc, mac, &header, packet.payload)
 }
 
-/// The link-layer address of a neighbour at a moment, in milliseconds, if it is known.
+/// Returns the link-layer address of a neighbour at `now`, in milliseconds, if it is known.
 fn known_mac<A: Allocator>(neighbours: &Cache<A>, now: u64, addr: Addr) -> Option<Mac>
     ensures { result ≡ mac_in (entry_in (number_of addr.0) neighbours.now.entries) }
 {
@@ -80,9 +80,9 @@ fn known_mac<A: Allocator>(neighbours: &Cache<A>, now: u64, addr: Addr) -> Optio
     Some(mac)
 }
 
-/// The Redirect that tells who sent a packet of a better first hop for its destination, from the node's Ethernet address and its own
-/// link-local one, with the link-layer address of that hop, if it is known at the moment, in milliseconds (RFC 4861, section 8.2). It
-/// quotes the bytes of the packet, from its IPv6 header on, as they came. The error is out of memory.
+/// Returns the Redirect that announces a better first hop, `target`, to the sender of a packet, with the link-layer address of that hop if it is
+/// known at `now`, in milliseconds (RFC 4861, section 8.2). It is sent from `mac`, the node's Ethernet address, and `own`, its link-local one.
+/// `bytes` is the packet as received, from its IPv6 header on, which the Redirect quotes. Returns an error if out of memory.
 pub fn better_hop_frame<A: Allocator + Clone>(
     alloc: &A,
     mac: Mac,

@@ -1,12 +1,13 @@
 use nd_addr::Addr;
 use std::alloc::Allocator;
 
-/// What fell due at a node.
+/// A step that was due at a node.
 #[derive(Drop)]
 pub enum Turned<A: Allocator> {
     /// A router's lifetime ended, and it left the list (RFC 4861, section 6.3.5).
     EndedRouter(Addr),
-    /// An own address ended, or its detection took a step (RFC 4862, sections 5.4 and 5.5.4).
+    /// One of the node's own addresses ended, or its duplicate address detection took a step (RFC 4862, sections 5.4 and 5.5.4).
+    ///
     Address(nd_slaac::Due),
     /// A neighbour is asked once more, or is gone (RFC 4861, sections 7.2.2 and 7.3.3).
     Neighbour(nd_neighbour::Due<A>),

@@ -20,13 +20,13 @@ use std::alloc::{AllocError, Allocator};
 pub enum LinkCommand {
     /// Another node starts.
     Node,
-    /// A command comes to a node.
+    /// A node receives a command.
     On,
     /// A frame is carried to a node.
     Deliver,
 }
 
-/// The command that a word begins.
+/// Returns the command that begins with a word.
 fn read_link_word(word: &[u8]) -> Option<LinkCommand>
     ensures found { IfSome result (λ command. word.now ≡ link_word command) }
     ensures only { (command : LinkCommand) → word.now ≡ link_word command → result ≡ Some command }
@@ -43,7 +43,8 @@ fn read_link_word(word: &[u8]) -> Option<LinkCommand>
     None
 }
 
-/// The event that the words behind a command spell. No other words spell any, and such words take no memory. The error is out of memory.
+/// Returns the event that the words after a command spell. No other words spell any, and such words take no memory. Returns an error if out of
+/// memory.
 fn read_link_arguments<A: Allocator + Clone>(
     alloc: &A,
     command: LinkCommand,
@@ -74,8 +75,8 @@ fn read_link_arguments<A: Allocator + Clone>(
     }
 }
 
-/// The event that the bytes of a command of a link spell. No other bytes spell any, and such bytes take no memory. The error is out of
-/// memory.
+/// Returns the event that the bytes of a command of a link spell. No other bytes spell any, and such bytes take no memory. Returns an error if out
+/// of memory.
 pub(crate) fn read_link_command<A: Allocator + Clone>(
     alloc: &A,
     bytes: &[u8],

@@ -1,4 +1,4 @@
-//! The lines of a link, by which nodes start on it, commands come to them and frames are carried; and the text of what it tells.
+//! The lines of a link, which start nodes, pass commands to them and carry frames; and the text of what the link reports.
 #![tactic(auto)]
 
 mod command;

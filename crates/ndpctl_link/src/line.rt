@@ -18,12 +18,12 @@ use std::alloc::{AllocError, Allocator};
 pub struct LinkLine<A: Allocator> {
     /// The moment, in milliseconds; `read_line` gives one below 2^62.
     pub at: u64,
-    /// What comes then.
+    /// The event of that moment.
     pub event: LinkEvent<Source, A>,
 }
 
-/// The line that some bytes spell: a moment in milliseconds, one space, and a command of the link. The bytes are those before the line
-/// feed. Any other line is malformed: it spells none, and takes no memory. The error is out of memory.
+/// Returns the line that some bytes spell: a moment in milliseconds, one space, and a command of the link. The bytes are those before the line
+/// feed. Any other line is malformed: it spells none, and takes no memory. Returns an error if out of memory.
 pub fn read_line<A: Allocator + Clone>(
     alloc: &A,
     line: &[u8],

@@ -1,4 +1,4 @@
-//! The words of a script by which a command comes to a node of a link.
+//! The words of a script that pass a command to a node of a link.
 
 ghost use Rattle.std.specs.Prelude.{◌≡◌, ◌≢◌, List, ℕ, None, Some, Ok, IfSome, IfOk, MatchBool};
 ghost use Rattle.std.specs.Option.{IsSomeAnd, option_map};
@@ -12,7 +12,7 @@ use nd_node::Event;
 use ndpctl_run::{read_command, split_number, split_word};
 use std::alloc::{AllocError, Allocator};
 
-/// Whether a command is `rx`, by which a frame is heard.
+/// Returns true if a command is `rx`, by which a frame is received.
 fn is_rx(command: &[u8]) -> bool
     ensures { MatchBool result ((event : events.Event) → IsOwnCommand command.now event → ⊥)
         ((event : events.Event) → IsCommand command.now event → (frame : List ℕ) → event ≢ Receives frame) }
@@ -23,8 +23,8 @@ fn is_rx(command: &[u8]) -> bool
     }
 }
 
-/// The event that the bytes of a command other than `rx` spell. No other bytes spell any, and such bytes take no memory. The error is out
-/// of memory.
+/// Returns the event that the bytes of a command other than `rx` spell. No other bytes spell any, and such bytes take no memory. Returns an error
+/// if out of memory.
 fn read_own_command<A: Allocator + Clone>(
     alloc: &A,
     command: &[u8],
@@ -39,8 +39,8 @@ fn read_own_command<A: Allocator + Clone>(
     read_command(alloc, command)
 }
 
-/// The number of a node, below 2^64, and the event at it that some words spell. No other words spell any, and such words take no memory.
-/// The error is out of memory.
+/// Returns the number of a node, below 2^64, and the event at it, that some words spell. No other words spell any, and such words take no memory.
+/// Returns an error if out of memory.
 pub(crate) fn read_node_command<A: Allocator + Clone>(
     alloc: &A,
     words: &[u8],

@@ -20,7 +20,7 @@ use nd_link::{Link, LinkEvent, LinkFault, Told, Wire};
 use nd_random::Source;
 use std::alloc::{AllocError, Allocator};
 
-/// A link whose nodes draw from sources that lines name, and room for what it tells of one line.
+/// A link whose nodes draw from sources that lines name, and room for what it reports of one line.
 #[derive(Drop)]
 pub struct LinkScript<W, A: Allocator> {
     pub(crate) link: Link<W, Source, A>,
@@ -28,7 +28,7 @@ pub struct LinkScript<W, A: Allocator> {
 }
 
 impl<W: Wire, A: Allocator + Copy> LinkScript<W, A> {
-    /// A link on which no node has started.
+    /// Returns a link on which no node has started.
     pub fn new(alloc: A, wire: W) -> Self
         ensures stands { Stands stream_of_source result.link [] }
         ensures wire { result.link.wire ≡ wire }
@@ -39,7 +39,7 @@ impl<W: Wire, A: Allocator + Copy> LinkScript<W, A> {
         }
     }
 
-    /// The line that some bytes spell. A malformed one takes no memory. The error is out of memory.
+    /// Returns the line that some bytes spell. A malformed one takes no memory. Returns an error if out of memory.
     fn read(&self, line: &[u8]) -> Result<Option<LinkLine<A>>, AllocError>
         ensures found { IfOk result (λ spelled. IfSome spelled (λ read. IsLinkLine line.now read.at (link_event stream_of_source read.event))) }
         ensures malformed { IfOk result (λ spelled. IfNone spelled ((at : ℕ) (event : events.Event) → IsLinkLine line.now at event → ⊥)) }
@@ -48,7 +48,7 @@ impl<W: Wire, A: Allocator + Copy> LinkScript<W, A> {
         read_line(self.told.allocator(), line)
     }
 
-    /// An event comes, and its text goes to the end.
+    /// Passes an event to the link, and appends the text of what it reports. Returns an error if out of memory or if the wire fails.
     fn event<B: Allocator>(
         &mut self,
         at: u64,

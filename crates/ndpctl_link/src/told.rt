@@ -1,4 +1,4 @@
-//! The text of what a link tells.
+//! The text of what a link reports.
 
 ghost use Rattle.std.specs.Prelude.{◌≡◌, ◌++◌, OnOk, string_bytes};
 ghost use Rattle.std.specs.List.{flat_map};
@@ -58,7 +58,7 @@ fn write_refused<A: Allocator>(
     text.push_str("\n")
 }
 
-/// Writes the lines of what the link tells at once.
+/// Writes the lines of one report of the link.
 fn write_one<A: Allocator, B: Allocator>(
     text: &mut String<A>,
     told: &Told<B>,
@@ -71,8 +71,9 @@ fn write_one<A: Allocator, B: Allocator>(
     }
 }
 
-/// Writes the text of what a link tells at the end: the lines of each node begin with its number, and those of the link with `link`. The
-/// error is out of memory.
+/// Appends the text of what a link reports: the lines of each node begin with its number, and those of the link with `link`. Returns an error if
+/// out of memory.
+///
 pub fn write_told<A: Allocator, B: Allocator>(
     text: &mut String<A>,
     told: &[Told<B>],

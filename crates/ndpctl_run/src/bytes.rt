@@ -1,4 +1,4 @@
-//! The words of a script that stand for bytes.
+//! The words of a script that spell bytes.
 
 ghost use Rattle.std.specs.Prelude.{◌≡◌, ◌↔◌, ◌<◌, ◌%◌, ℕ, List, length, IsTrue, IfSome, IfOk, None, Ok};
 ghost use Rattle.std.specs.List.{AllPass};
@@ -8,22 +8,22 @@ ghost use Rattle.ndpctl_run.specs.Bytes.{IsBytesWord};
 
 use std::alloc::{AllocError, Allocator};
 
-/// Whether a word is an even number of hexadecimal digits, in either case, and not empty.
+/// Returns true if a word is an even number of hexadecimal digits, in either case, and not empty.
 fn is_hexadecimal(word: &[u8]) -> bool
     ensures { IsTrue result ↔ ((0 < length word.now) × (length word.now % 2 ≡ 0) × AllPass is_hex_digit word.now) }
 {
     !word.is_empty() && word.len() % 2 == 0 && are_digits(word)
 }
 
-/// Whether all bytes of a word are hexadecimal digits, in either case.
+/// Returns true if all bytes of a word are hexadecimal digits, in either case.
 fn are_digits(word: &[u8]) -> bool
     ensures { IsTrue result ↔ AllPass is_hex_digit word.now }
 {
     nd_text::are_digits(word)
 }
 
-/// The bytes that a word spells: `-` stands for none, and else each byte is two hexadecimal digits, in either case. No other word spells
-/// bytes, and such a word takes no memory. The error is out of memory.
+/// Returns the bytes that a word spells: `-` spells none, and otherwise each byte is two hexadecimal digits, in either case. No other word spells
+/// bytes, and such a word takes no memory. Returns an error if out of memory.
 pub(crate) fn read_bytes<A: Allocator + Clone>(
     alloc: &A,
     word: &[u8],

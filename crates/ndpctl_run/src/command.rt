@@ -20,23 +20,23 @@ use std::alloc::{AllocError, Allocator};
 /// The commands that act on something, each by its word: all but `at` and `stop`.
 #[derive(Clone, Copy, Debug, PartialEq, Eq)]
 pub enum Command {
-    /// A frame is heard.
+    /// A frame is received.
     Rx,
-    /// A packet of the upper layer is to be sent.
+    /// The upper layer sends a packet.
     Send,
-    /// An upper layer confirms that a neighbour is reached.
+    /// An upper layer confirms that a neighbour is reachable.
     Confirm,
-    /// A neighbour is to be forgotten.
+    /// A neighbour is removed.
     Forget,
-    /// A table is to be cleared.
+    /// A table is cleared.
     Clear,
     /// A table is shown.
     Show,
-    /// A router is to advertise so (RFC 4861, section 6.2.1).
+    /// A router is configured to advertise (RFC 4861, section 6.2.1).
     Advertise,
-    /// A router is to advertise a prefix, too (RFC 4861, section 6.2.1).
+    /// A prefix is added to those that a router advertises (RFC 4861, section 6.2.1).
     Prefix,
-    /// A router is to have a static route.
+    /// A router is given a static route.
     Route,
 }
 
@@ -52,7 +52,7 @@ const COMMANDS: [Command; 9] = [
     Command::Route,
 ];
 
-/// The word that a command begins with.
+/// Returns the word that a command begins with.
 fn command_word(command: Command) -> &'static str
     ensures { result.now ≡ command_word command }
 {
@@ -69,7 +69,7 @@ fn command_word(command: Command) -> &'static str
     }
 }
 
-/// The command that a word begins.
+/// Returns the command that begins with a word.
 fn read_command_word(word: &[u8]) -> Option<Command>
     ensures found { IfSome result (λ command. word.now ≡ command_word command) }
     ensures only { (command : Command) → word.now ≡ command_word command → result ≡ Some command }
@@ -82,7 +82,8 @@ fn read_command_word(word: &[u8]) -> Option<Command>
     None
 }
 
-/// The event that the words behind a command spell. No other words spell any, and such words take no memory. The error is out of memory.
+/// Returns the event that the words after a command spell. No other words spell any, and such words take no memory. Returns an error if out of
+/// memory.
 fn read_arguments<A: Allocator + Clone>(
     alloc: &A,
     command: Command,
@@ -132,7 +133,7 @@ fn read_arguments<A: Allocator + Clone>(
     }
 }
 
-/// The event of a command that acts on nothing, by its word.
+/// Returns the event of a command without arguments, by its word.
 fn read_whole_command<A: Allocator>(word: &[u8]) -> Option<Event<A>>
     ensures found { IfSome result (λ event. IsWholeCommand word.now (event_of event)) }
     ensures only { (event : events.Event) → IsWholeCommand word.now event → option_map event_of result ≡ Some event }
@@ -146,7 +147,7 @@ fn read_whole_command<A: Allocator>(word: &[u8]) -> Option<Event<A>>
     None
 }
 
-/// The event that the bytes of a command spell. No other bytes spell any, and such bytes take no memory. The error is out of memory.
+/// Returns the event that the bytes of a command spell. No other bytes spell any, and such bytes take no memory. Returns an error if out of memory.
 pub fn read_command<A: Allocator + Clone>(
     alloc: &A,
     bytes: &[u8],

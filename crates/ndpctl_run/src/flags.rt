@@ -1,4 +1,4 @@
-//! The words of a script that stand for flags.
+//! The words of a script that spell flags.
 
 ghost use Rattle.std.specs.Prelude.{◌≡◌, Bool, codes, Some, IfSome};
 ghost use Rattle.nd_addr.specs.declared.preference.Preference.{Preference};

@@ -1,4 +1,4 @@
-//! What is true of all lines of a script: the contracts of functions that do nothing.
+//! Laws of all lines of a script, each the contract of a function that does nothing.
 
 ghost use Rattle.std.specs.Prelude.{◌≡◌, ℕ, List, Option};
 ghost use Rattle.nd_chronicle.specs.Event.{Event};
@@ -8,13 +8,13 @@ ghost use Rattle.ndpctl_run.specs.Script.{IsText};
 
 use nd_chronicle::laws::one_chronicle;
 
-/// A line spells one moment and one event at most.
+/// A line spells at most one moment and one event.
 pub fn one_reading()
     ensures { (line : List ℕ) (at other_at : ℕ) (event other_event : Event) → IsLine line at event → IsLine line other_at other_event
         → (at ≡ other_at) × (event ≡ other_event) }
 {}
 
-/// Lines have one text: from one start, and with one number of the first line, no two texts and no two malformed lines are theirs.
+/// Lines have one text: for one start, and one number of the first line, they have no two texts and no two malformed lines.
 pub fn one_text()
     ensures { (start : Start) (n : ℕ) (lines : List (List ℕ)) (told other_told : List ℕ) (found other_found : Option ℕ) → IsText start n lines told found
         → IsText start n lines other_told other_found → (told ≡ other_told) × (found ≡ other_found) }

@@ -18,15 +18,15 @@ use std::alloc::{AllocError, Allocator};
 pub struct Line<A: Allocator> {
     /// The moment, in milliseconds; `read_line` gives one below 2^62.
     pub at: u64,
-    /// What comes then.
+    /// The event of that moment.
     pub event: Event<A>,
 }
 
 /// The moments of a script are below this (our choice).
 const MOMENTS: u64 = 1 << 62;
 
-/// The moment that a line begins with, in milliseconds, and what follows its space: decimal digits with no sign and no leading zero, of a
-/// number below 2^62.
+/// Returns the moment that a line begins with, in milliseconds, and what follows its space. The moment is a number below 2^62 in decimal digits,
+/// with no sign and no leading zero.
 pub fn split_moment(line: &[u8]) -> Option<(u64, &[u8])>
     ensures found { IfSome result (λ parts. Parts line.now (λ word. IsNumberWord (2 ^ 62) word parts.0) (λ rest. rest ≡ parts.1.now)) }
     ensures only { (at : ℕ) (rest : List ℕ) → Parts line.now (λ word. IsNumberWord (2 ^ 62) word at) (λ r. r ≡ rest)
@@ -39,8 +39,8 @@ pub fn split_moment(line: &[u8]) -> Option<(u64, &[u8])>
     Some((at, rest))
 }
 
-/// The line that some bytes spell: a moment as `split_moment` reads it, and a command. The bytes are those before the line feed. Any other
-/// line is malformed: it spells none, and takes no memory. The error is out of memory.
+/// Returns the line that some bytes spell: a moment as `split_moment` reads it, and a command. The bytes are those before the line feed. Any other
+/// line is malformed: it spells none, and takes no memory. Returns an error if out of memory.
 pub fn read_line<A: Allocator + Clone>(
     alloc: &A,
     line: &[u8],

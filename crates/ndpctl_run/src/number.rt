@@ -8,7 +8,7 @@ ghost use Rattle.ndpctl_run.specs.Words.{Parts};
 use crate::words::split_word;
 use itoa::Buffer;
 
-/// The number in some decimal digits, if they are those of one below 2^64. Of other texts nothing is said.
+/// Returns the number in some decimal digits, if it is below 2^64. For other texts the result is not specified.
 fn number_in(text: &[u8]) -> Option<u64>
     ensures { (n : ℕ) → n < 2 ^ 64 → text.now ≡ decimal n → result ≡ Some n }
 {
@@ -21,14 +21,14 @@ fn number_in(text: &[u8]) -> Option<u64>
     }
 }
 
-/// Whether a text is what is written for a number: its decimal digits with no leading zero.
+/// Returns true if a text is what is written for a number: its decimal digits with no leading zero.
 fn is_decimal(text: &[u8], number: u64) -> bool
     ensures { IsTrue result ↔ (text.now ≡ decimal number) }
 {
     Buffer::new().format(number).as_bytes() == text
 }
 
-/// The number below 2^64 that a text spells in decimal digits, with no sign and no leading zero.
+/// Returns the number below 2^64 that a text spells in decimal digits, with no sign and no leading zero.
 pub fn read_number(text: &[u8]) -> Option<u64>
     ensures found { IfSome result (λ n. text.now ≡ decimal n) }
     ensures only { (n : ℕ) → n < 2 ^ 64 → text.now ≡ decimal n → result ≡ Some n }
@@ -49,7 +49,7 @@ pub fn read_count(word: &[u8], most: u64) -> Option<u64>
     Some(number)
 }
 
-/// The number below 2^64 that the first word of a text spells, and what follows its space.
+/// Returns the number below 2^64 that the first word of a text spells, and what follows its space.
 pub fn split_number(text: &[u8]) -> Option<(u64, &[u8])>
     ensures found { IfSome result (λ parts. Parts text.now (λ word. IsNumberWord (2 ^ 64) word parts.0) (λ rest. rest ≡ parts.1.now)) }
     ensures only { (number : ℕ) (rest : List ℕ) → Parts text.now (λ word. IsNumberWord (2 ^ 64) word number) (λ r. r ≡ rest)
@@ -60,7 +60,7 @@ pub fn split_number(text: &[u8]) -> Option<(u64, &[u8])>
     Some((number, rest))
 }
 
-/// The number below 2^8 that a word spells in decimal digits, with no sign and no leading zero.
+/// Returns the number below 2^8 that a word spells in decimal digits, with no sign and no leading zero.
 pub(crate) fn read_byte(word: &[u8]) -> Option<u8>
     ensures found { IfSome result (λ n. IsNumberWord (2 ^ 8) word.now n) }
     ensures only { (n : ℕ) → IsNumberWord (2 ^ 8) word.now n → result ≡ Some n }
@@ -72,7 +72,7 @@ pub(crate) fn read_byte(word: &[u8]) -> Option<u8>
     Some(number as u8)
 }
 
-/// The number below 2^16 that a word spells in decimal digits, with no sign and no leading zero.
+/// Returns the number below 2^16 that a word spells in decimal digits, with no sign and no leading zero.
 pub(crate) fn read_u16(word: &[u8]) -> Option<u16>
     ensures found { IfSome result (λ n. IsNumberWord (2 ^ 16) word.now n) }
     ensures only { (n : ℕ) → IsNumberWord (2 ^ 16) word.now n → result ≡ Some n }
@@ -84,7 +84,7 @@ pub(crate) fn read_u16(word: &[u8]) -> Option<u16>
     Some(number as u16)
 }
 
-/// The number below 2^32 that a word spells in decimal digits, with no sign and no leading zero.
+/// Returns the number below 2^32 that a word spells in decimal digits, with no sign and no leading zero.
 pub(crate) fn read_u32(word: &[u8]) -> Option<u32>
     ensures found { IfSome result (λ n. IsNumberWord (2 ^ 32) word.now n) }
     ensures only { (n : ℕ) → IsNumberWord (2 ^ 32) word.now n → result ≡ Some n }
@@ -96,7 +96,7 @@ pub(crate) fn read_u32(word: &[u8]) -> Option<u32>
     Some(number as u32)
 }
 
-/// The number below 2^16 that a word spells, `-` standing for a default.
+/// Returns the number below 2^16 that a word spells; `-` spells `default`.
 pub(crate) fn read_u16_or(word: &[u8], default: u16) -> Option<u16>
     ensures found { IfSome result (λ n. IsNumberOr default (2 ^ 16) word.now n) }
     ensures only { (n : ℕ) → IsNumberOr default (2 ^ 16) word.now n → result ≡ Some n }
@@ -107,7 +107,7 @@ pub(crate) fn read_u16_or(word: &[u8], default: u16) -> Option<u16>
     read_u16(word)
 }
 
-/// The number below 2^32 that a word spells, `-` standing for a default.
+/// Returns the number below 2^32 that a word spells; `-` spells `default`.
 pub(crate) fn read_u32_or(word: &[u8], default: u32) -> Option<u32>
     ensures found { IfSome result (λ n. IsNumberOr default (2 ^ 32) word.now n) }
     ensures only { (n : ℕ) → IsNumberOr default (2 ^ 32) word.now n → result ≡ Some n }
@@ -118,7 +118,7 @@ pub(crate) fn read_u32_or(word: &[u8], default: u32) -> Option<u32>
     read_u32(word)
 }
 
-/// The number below 2^64 that a text spells behind a label.
+/// Returns the number below 2^64 that a text spells after a label.
 pub(crate) fn read_labelled(text: &[u8], label: &[u8]) -> Option<u64>
     ensures found { IfSome result (λ n. text.now ≡ label.now ++ decimal n) }
     ensures only { (n : ℕ) → n < 2 ^ 64 → text.now ≡ label.now ++ decimal n → result ≡ Some n }

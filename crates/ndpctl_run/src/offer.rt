@@ -1,4 +1,4 @@
-//! The words of a script that stand for a prefix that a router is to advertise.
+//! The words of a script that spell a prefix for a router to advertise.
 
 ghost use Rattle.std.specs.Prelude.{◌≡◌, Some, IfSome};
 ghost use Rattle.nd_decode.specs.declared.prefix_info.PrefixInfo.{PrefixInfo};
@@ -16,8 +16,8 @@ const DEFAULT_VALID_LIFETIME: u32 = 2_592_000;
 /// AdvPreferredLifetime by default, in seconds: 7 days (RFC 4861, section 6.2.1).
 const DEFAULT_PREFERRED_LIFETIME: u32 = 604_800;
 
-/// The offer that the words of a text spell: a prefix, AdvValidLifetime and AdvPreferredLifetime in seconds, and the flags (RFC 4861, section
-/// 6.2.1).
+/// Returns the offer that the words of a text spell: a prefix, AdvValidLifetime and AdvPreferredLifetime in seconds, and the flags (RFC 4861,
+/// section 6.2.1).
 pub(crate) fn read_offer(text: &[u8]) -> Option<Offer>
     ensures found { IfSome result (λ info. IsOffer text.now info) }
     ensures only { (info : PrefixInfo) → IsOffer text.now info → result ≡ Some info }

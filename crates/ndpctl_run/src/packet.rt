@@ -1,4 +1,4 @@
-//! The words of a script that stand for packets of the upper layer.
+//! The words of a script that spell packets of the upper layer.
 
 ghost use Rattle.std.specs.Prelude.{◌≡◌, List, ℕ, None, Ok, IfSome, IfOk};
 ghost use Rattle.std.specs.Option.{IsSomeAnd};
@@ -13,7 +13,7 @@ use nd_addr::Addr;
 use nd_node::OutgoingPacket;
 use std::alloc::{AllocError, Allocator};
 
-/// What a packet's header is to say.
+/// What a script says of a packet's header.
 #[derive(Clone, Copy)]
 struct Header {
     source: Addr,
@@ -21,7 +21,7 @@ struct Header {
     next_header: u8,
 }
 
-/// The next header that the first word of a text spells, and what follows its space.
+/// Returns the next header that the first word of a text spells, and what follows its space.
 fn split_next_header(text: &[u8]) -> Option<(u8, &[u8])>
     ensures found { IfSome result (λ parts. Parts text.now (λ word. IsNextHeaderWord word parts.0) (λ rest. rest ≡ parts.1.now)) }
     ensures only { (next_header : ℕ) (rest : List ℕ) → Parts text.now (λ word. IsNextHeaderWord word next_header) (λ r. r ≡ rest)
@@ -32,7 +32,7 @@ fn split_next_header(text: &[u8]) -> Option<(u8, &[u8])>
     Some((next_header, rest))
 }
 
-/// The header that the first words of a text spell, and what follows their space.
+/// Returns the header that the first words of a text spell, and what follows their space.
 fn split_header(text: &[u8]) -> Option<(Header, &[u8])>
     ensures found { IfSome result (λ parts. IsHeader text.now parts.0.source parts.0.destination parts.0.next_header (λ rest. rest ≡ parts.1.now)) }
     ensures only { (source destination : Addr) (next_header : ℕ) (rest : List ℕ) → IsHeader text.now source destination next_header (λ r. r ≡ rest)
@@ -49,8 +49,8 @@ fn split_header(text: &[u8]) -> Option<(Header, &[u8])>
     Some((header, rest))
 }
 
-/// The packet that some words spell: its source, its destination, its next header in decimal digits, and its payload as `read_bytes` reads
-/// it. No other words spell one, and such words take no memory. The error is out of memory.
+/// Returns the packet that some words spell: its source, its destination, its next header in decimal digits, and its payload as `read_bytes` reads
+/// it. No other words spell one, and such words take no memory. Returns an error if out of memory.
 pub(crate) fn read_packet<A: Allocator + Clone>(
     alloc: &A,
     words: &[u8],

@@ -1,4 +1,4 @@
-//! The words of a script that stand for prefixes.
+//! The words of a script that spell prefixes.
 
 ghost use Rattle.std.specs.Prelude.{◌≡◌, Some, IfSome};
 ghost use Rattle.nd_addr.specs.Prefix.{PrefixValue};
@@ -6,7 +6,7 @@ ghost use Rattle.nd_addr.specs.Spelling.{SpellsPrefix};
 
 use nd_addr::Prefix;
 
-/// The prefix that a word spells.
+/// Returns the prefix that a word spells.
 pub(crate) fn read_prefix(word: &[u8]) -> Option<Prefix>
     ensures found { IfSome result (λ prefix. SpellsPrefix word.now prefix) }
     ensures only { (prefix : PrefixValue) → SpellsPrefix word.now prefix → result ≡ Some prefix }

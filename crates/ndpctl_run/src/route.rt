@@ -1,4 +1,4 @@
-//! The words of a script that stand for a static route of a router.
+//! The words of a script that spell a static route of a router.
 
 ghost use Rattle.std.specs.Prelude.{◌≡◌, Some, IfSome};
 ghost use Rattle.std.specs.Option.{IsSomeAnd};
@@ -11,7 +11,7 @@ use crate::prefix::read_prefix;
 use crate::words::two_words;
 use nd_forwarding::{KeptRoute, Route};
 
-/// Where the packets of a route go, by a word: `direct`, or the address of a router.
+/// Returns the way of a route that a word spells: `direct`, or the address of a router.
 fn read_way(word: &[u8]) -> Option<Route>
     ensures found { IfSome result (λ route. IsWay word.now route) }
     ensures only { (route : routes.Route) → IsWay word.now route → result ≡ Some route }
@@ -22,7 +22,7 @@ fn read_way(word: &[u8]) -> Option<Route>
     Some(Route::Via(read_address(word)?))
 }
 
-/// The route that the words of a text spell: a prefix, and where the packets to it go.
+/// Returns the route that the words of a text spell: a prefix, and the way of the packets to it.
 pub(crate) fn read_route(text: &[u8]) -> Option<KeptRoute>
     ensures found { IfSome result (λ kept. IsRoute text.now kept.prefix kept.route) }
     ensures only { (prefix : PrefixValue) (route : routes.Route) → IsRoute text.now prefix route → IsSomeAnd result (λ kept. (kept.prefix ≡ prefix) × (kept.route ≡ route)) }

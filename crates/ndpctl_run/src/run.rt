@@ -36,7 +36,7 @@ pub fn run_script<I: Input, O: Output, R: Rng + Drop, A: Allocator + Copy>(
     ensures front { OnErr result (TellsFront (IsText (starting 0 options.role options.mac options.transmits options.limits (R.stream options.generator))) (I.remaining reader.old) (O.contents writer.old) (O.contents writer.new)) }
     ensures beginning { OnErr result (TellsBeginning (IsText (starting 0 options.role options.mac options.transmits options.limits (R.stream options.generator))) (I.remaining reader.old) (O.contents writer.old) (O.contents writer.new)) }
     ensures read_failed { IsErrOf result ToolFault.Read → HasRisen (I.failed reader.old) (I.failed reader.new) ⊎ HasGrownBy most_reads (I.given reader.old) (I.given reader.new) }
-    // Where a read fails, the answers to all lines that were read before it are written.
+    // If a read fails, the answers to all lines that were read before it are written.
     ensures answered { IsErrOf result ToolFault.Read → TellsAsRead (IsText (starting 0 options.role options.mac options.transmits options.limits (R.stream options.generator))) (I.remaining reader.old) (I.remaining reader.new) (O.contents writer.old) (O.contents writer.new) }
     ensures write_failed { IsErrOf result ToolFault.Write → HasRisen (O.failed writer.old) (O.failed writer.new) }
     // Out of memory: the answers to all lines before the one at which it ran out are written, whole. That line is not malformed.
@@ -55,7 +55,7 @@ pub fn run_script<I: Input, O: Output, R: Rng + Drop, A: Allocator + Copy>(
     }
 }
 
-/// Starts the node at 0; it has answered no line. The error means out of memory.
+/// Starts the node at 0, before the first line. Returns an error if out of memory.
 fn start<R: Rng + Drop, A: Allocator + Copy>(
     alloc: A,
     options: RunOptions<R>,

@@ -17,7 +17,7 @@ use nd_out::{Out, write_outs};
 use rand_core::Rng;
 use std::alloc::{AllocError, Allocator};
 
-/// A node, and room for what it tells of one line.
+/// A node, and room for what it reports of one line.
 #[derive(Drop)]
 pub(crate) struct Script<R, A: Allocator> {
     node: Node<R, A>,
@@ -25,7 +25,7 @@ pub(crate) struct Script<R, A: Allocator> {
 }
 
 impl<R: Rng + Drop, A: Allocator + Clone> Script<R, A> {
-    /// Nothing was told yet.
+    /// Returns a node that has reported nothing yet.
     pub(crate) fn new(alloc: A, node: Node<R, A>) -> Self
         ensures { result.node ≡ node }
     {
@@ -35,7 +35,7 @@ impl<R: Rng + Drop, A: Allocator + Clone> Script<R, A> {
         }
     }
 
-    /// The line that some bytes spell, with its frame in the node's memory. A malformed one takes none. The error is out of memory.
+    /// Returns the line that some bytes spell, with its frame in the node's memory. A malformed one takes none. Returns an error if out of memory.
     fn read(&self, line: &[u8]) -> Result<Option<Line<A>>, AllocError>
         ensures found { IfOk result (λ spelled. IfSome spelled (λ read. IsLine line.now read.at (event_of read.event))) }
         ensures malformed { IfOk result (λ spelled. IfNone spelled ((at : ℕ) (event : events.Event) → IsLine line.now at event → ⊥)) }
@@ -44,7 +44,7 @@ impl<R: Rng + Drop, A: Allocator + Clone> Script<R, A> {
         read_line(self.outs.allocator(), line)
     }
 
-    /// An event comes, and its text goes to the end. The error is out of memory.
+    /// Passes an event to the node, and appends the text of what it reports. Returns an error if out of memory.
     fn event<B: Allocator>(
         &mut self,
         at: u64,

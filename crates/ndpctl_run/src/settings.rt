@@ -1,4 +1,4 @@
-//! The words of a script that stand for what a router is to advertise of itself and of its link.
+//! The words of a script that spell what a router advertises of itself and of its link.
 
 ghost use Rattle.std.specs.Prelude.{◌≡◌, ℕ, ◌<◌, ◌^◌, [], ◌∷◌, length, Some, IsSome, IfSome};
 ghost use Rattle.nd_advertiser.specs.Config.{Settings};
@@ -30,7 +30,7 @@ struct SettingsWords<'a> {
     mtu: &'a [u8],
 }
 
-/// The words of a text that has eight.
+/// Returns the words of a text of eight words.
 fn settings_words(text: &[u8]) -> Option<SettingsWords<'_>>
     ensures found { IfSome result (λ w. words_of text.now ≡ w.min.now ∷ w.max.now ∷ w.lifetime.now ∷ w.hop_limit.now ∷ w.flags.now ∷ w.reachable.now ∷ w.retrans.now ∷ w.mtu.now ∷ []) }
     ensures only { length (words_of text.now) ≡ 8 → IsSome result }
@@ -52,7 +52,7 @@ fn settings_words(text: &[u8]) -> Option<SettingsWords<'_>>
     })
 }
 
-/// The router lifetime that a word spells, in seconds, `-` standing for three times MaxRtrAdvInterval.
+/// Returns the router lifetime that a word spells, in seconds; `-` spells three times MaxRtrAdvInterval.
 fn read_lifetime(word: &[u8], max_interval: u16) -> Option<u16>
     ensures found { IfSome result (λ n. IsNumberOr (default_lifetime max_interval) (2 ^ 16) word.now n) }
     ensures only { (n : ℕ) → n < 2 ^ 16 → IsNumberOr (default_lifetime max_interval) (2 ^ 16) word.now n → result ≡ Some n }

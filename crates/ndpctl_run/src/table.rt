@@ -21,7 +21,7 @@ const TABLES: [Table; 9] = [
     Table::Routes,
 ];
 
-/// The word that names a table that is shown.
+/// Returns the word that names a table to show.
 fn table_word(table: Table) -> &'static str
     ensures { result.now ≡ table_word (table_of table) }
 {
@@ -38,7 +38,7 @@ fn table_word(table: Table) -> &'static str
     }
 }
 
-/// The table to be shown that a word names.
+/// Returns the table to show that a word names.
 pub(crate) fn read_table(word: &[u8]) -> Option<Table>
     ensures found { IfSome result (λ table. word.now ≡ table_word (table_of table)) }
     ensures only { (table : shown.Table) → word.now ≡ table_word table → option_map table_of result ≡ Some table }
@@ -59,7 +59,7 @@ const CLEARABLES: [Clearable; 5] = [
     Clearable::Dns,
 ];
 
-/// The word that names a table that is cleared.
+/// Returns the word that names a table to clear.
 fn clearable_word(table: Clearable) -> &'static str
     ensures { result.now ≡ clearable_word (clearable_of table) }
 {
@@ -72,7 +72,7 @@ fn clearable_word(table: Clearable) -> &'static str
     }
 }
 
-/// The table to be cleared that a word names.
+/// Returns the table to clear that a word names.
 pub(crate) fn read_clearable(word: &[u8]) -> Option<Clearable>
     ensures found { IfSome result (λ table. word.now ≡ clearable_word (clearable_of table)) }
     ensures only { (table : events.Clearable) → word.now ≡ clearable_word table → option_map clearable_of result ≡ Some table }

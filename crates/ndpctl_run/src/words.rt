@@ -3,7 +3,7 @@
 ghost use Rattle.std.specs.Prelude.{◌≡◌, [], ◌∷◌, length, IsSome, IfSome, MatchOption};
 ghost use Rattle.ndpctl_run.specs.Words.{HasNoSpace, IsParted, words_of};
 
-/// The first word of a text and what follows its space, where the text has a space.
+/// Returns the first word of a text and what follows its space, if the text has a space.
 pub fn split_word(text: &[u8]) -> Option<(&[u8], &[u8])>
     ensures { MatchOption result (HasNoSpace text.now) (λ parts. IsParted text.now parts.0.now parts.1.now) }
 {
@@ -15,7 +15,7 @@ pub fn split_word(text: &[u8]) -> Option<(&[u8], &[u8])>
     None
 }
 
-/// The words of a text that has two.
+/// Returns the words of a text of two words.
 pub fn two_words(text: &[u8]) -> Option<(&[u8], &[u8])>
     ensures found { IfSome result (λ words. words_of text.now ≡ words.0.now ∷ words.1.now ∷ []) }
     ensures only { length (words_of text.now) ≡ 2 → IsSome result }
@@ -27,7 +27,7 @@ pub fn two_words(text: &[u8]) -> Option<(&[u8], &[u8])>
     }
 }
 
-/// The words of a text that has four.
+/// Returns the words of a text of four words.
 pub(crate) fn four_words(text: &[u8]) -> Option<(&[u8], &[u8], &[u8], &[u8])>
     ensures found { IfSome result (λ words. words_of text.now ≡ words.0.now ∷ words.1.now ∷ words.2.now ∷ words.3.now ∷ []) }
     ensures only { length (words_of text.now) ≡ 4 → IsSome result }

@@ -7,7 +7,7 @@ use Rattle.std.specs.Prelude.{List, Some, true}
 use Rattle.std.proofs.lemmas.Result.{on_ok_weaker}
 use Rattle.nd_node.proofs.InTransit.{both_go, both_refused, first_placed, one_left, place_left}
 use Rattle.nd_node.proofs.Refusals.{both_left}
-use Rattle.nd_node.proofs.node.NeighbourEntry.redirect_and_send.Goals as goal
+use Rattle.nd_node.proofs.node.Node.redirect_and_send.Goals as goal
 
 pub returns-then-not-room-clause-adds : goal.returns-then-not-room-clause-adds
 returns-then-not-room-clause-adds g c =
