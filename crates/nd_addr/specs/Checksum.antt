@@ -10,7 +10,7 @@ word_sum [] = 0
 word_sum (a ∷ []) = 256 * a
 word_sum (a ∷ b ∷ bytes) = 256 * a + b + word_sum bytes
 
--- what stands in front of a message for its sum: both addresses, its length, and the next header of ICMPv6
+-- what precedes a message for its sum: both addresses, its length, and the next header of ICMPv6
 abbrev pub pseudo_header : List ℕ → List ℕ → ℕ → List ℕ
 pseudo_header source destination len = source ++ destination ++ big_bytes 4 len ++ 0 ∷ 0 ∷ 0 ∷ next_header_icmpv6 ∷ []
 

@@ -35,7 +35,7 @@ frame_of bytes =
 abbrev pub ethernet_mtu : ℕ
 ethernet_mtu = 1500
 
--- how many bytes stand in front of the payload: the fields, and the header (RFC 2464, section 3; RFC 8200, section 3)
+-- how many bytes precede the payload: the fields, and the header (RFC 2464, section 3; RFC 8200, section 3)
 abbrev pub headers_length : ℕ
 headers_length = ethernet_header_length + ipv6_header_length
 

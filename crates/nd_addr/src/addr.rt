@@ -12,7 +12,7 @@ use byteorder::{BigEndian, ByteOrder};
 pub struct Addr(pub [u8; 16]);
 
 impl Addr {
-    /// Its 16 bytes, in network order.
+    /// Returns its 16 bytes, in network order.
     pub fn as_bytes(&self) -> &[u8]
         ensures value { result.now ≡ self.now.0 }
         ensures bytes { AreBytes 16 self.now.0 }
@@ -20,7 +20,7 @@ impl Addr {
         known(&self.0)
     }
 
-    /// The address in the 16 bytes from a place on.
+    /// Returns the address in the 16 bytes from a place on.
     pub fn at(bytes: &[u8], place: usize) -> Addr
         requires { place + 16 ≤ length bytes.now }
         ensures { result.0 ≡ slice_range bytes.now place (place + 16) }
@@ -30,14 +30,14 @@ impl Addr {
         Addr(address)
     }
 
-    /// The 128-bit number that it is.
+    /// Returns it as a 128-bit number.
     pub fn to_bits(self) -> u128
         ensures { result ≡ number_of self.0 }
     {
         BigEndian::read_u128(self.as_bytes())
     }
 
-    /// The address of a 128-bit number.
+    /// Returns the address of a 128-bit number.
     pub fn from_bits(bits: u128) -> Addr
         ensures value { result ≡ addr_at bits }
         ensures number { number_of result.0 ≡ bits }

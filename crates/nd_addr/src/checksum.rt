@@ -5,23 +5,23 @@ ghost use Rattle.nd_addr.specs.Checksum.{word_sum, pseudo_header, total, HasRest
 use crate::addr::Addr;
 use crate::ip6::NEXT_HEADER_ICMPV6;
 
-/// Where the checksum stands in an ICMPv6 message, in 2 bytes (RFC 4443, section 2.1).
+/// The place of the checksum in an ICMPv6 message, in 2 bytes (RFC 4443, section 2.1).
 pub const SUM_AT: usize = 2;
 
-/// How many bytes a message has up to the end of its checksum.
+/// The end of the checksum in a message, in bytes.
 const SUM_END: usize = SUM_AT + 2;
 
-/// A word of two bytes.
+/// Returns a word of two bytes.
 fn word(high: u8, low: u8) -> u64
     ensures { result ≡ 256 * high + low }
 {
     256 * high as u64 + low as u64
 }
 
-/// How many bytes are added at most before their sum is made small again, so that none wraps (our choice).
+/// The most bytes that are added before the carries of their sum are added, so that no sum overflows (our choice).
 const PIECE: usize = 65536;
 
-/// A sum, and the words of some bytes added to it, two words a step. The carries are left in it.
+/// Returns a sum plus the words of some bytes, two words a step. The carries are left in it.
 fn add_piece(start: u64, bytes: &[u8]) -> u64
     requires start { start < 2 ^ 62 }
     requires piece { length bytes.now ≤ 2 ^ 16 }
@@ -42,7 +42,7 @@ fn add_piece(start: u64, bytes: &[u8]) -> u64
     }
 }
 
-/// A sum, and the words of any number of bytes added to it.
+/// Returns a sum plus the words of any number of bytes.
 fn add_words(start: u64, bytes: &[u8]) -> u64
     requires { start < 2 ^ 40 }
     ensures { HasRestOf result (start + word_sum bytes.now) }
@@ -57,7 +57,7 @@ fn add_words(start: u64, bytes: &[u8]) -> u64
     add_piece(so_far, rest)
 }
 
-/// The sum of the pseudo-header of a message of a length.
+/// Returns the sum of the pseudo-header of a message of this length.
 fn header_sum(source: Addr, destination: Addr, length: usize) -> u64
     ensures rest { HasRestOf result (word_sum (pseudo_header source.0 destination.0 length)) }
     ensures small { result < 2 ^ 36 }
@@ -66,15 +66,15 @@ fn header_sum(source: Addr, destination: Addr, length: usize) -> u64
     add_piece(add_piece(start, &source.0), &destination.0)
 }
 
-/// Whether the checksum of a message is good, its field included (RFC 4443, section 2.3). Both
-/// spellings of zero in the field are good.
+/// Returns true if the checksum of a message, which includes its field, is good (RFC 4443, section 2.3). Both spellings of zero in the field are
+/// good.
 pub fn sum_is_good(source: Addr, destination: Addr, message: &[u8]) -> bool
     ensures { IsTrue result ↔ IsGoodSum source.0 destination.0 message.now }
 {
     add_words(header_sum(source, destination, message.len()), message) % 65535 == 0
 }
 
-/// The sum of a message with its checksum field, if it has one, taken as zero.
+/// Returns the sum of a message with its checksum field, if it has one, taken as zero.
 fn sum_without_field(source: Addr, destination: Addr, message: &[u8]) -> u64
     ensures { HasRestOf result (total source.0 destination.0 (with_sum (0 ∷ 0 ∷ []) message.now)) }
 {
@@ -85,8 +85,8 @@ fn sum_without_field(source: Addr, destination: Addr, message: &[u8]) -> u64
     add_words(add_piece(start, &message[..SUM_AT]), &message[SUM_END..])
 }
 
-/// The checksum to be written into a message, whatever stands in its field (RFC 4443, section 2.3).
-/// A message shorter than four bytes has no such field, and is summed as it is (our choice).
+/// Returns the checksum to write into a message, for any value of its field (RFC 4443, section 2.3). A message shorter than four bytes has no such
+/// field, and is summed as it is (our choice).
 pub fn sum_for(source: Addr, destination: Addr, message: &[u8]) -> u16
     ensures exact { result ≡ sum_to_write source.0 destination.0 message.now }
     ensures good { 4 ≤ length message.now → IsGoodSum source.0 destination.0 (with_sum (big_bytes 2 result) message.now) }

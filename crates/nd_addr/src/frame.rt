@@ -13,16 +13,16 @@ use std::alloc::{AllocError, Allocator};
 /// The Ethernet type of IPv6 (RFC 2464, section 3).
 pub const ETHERNET_IPV6: u16 = 0x86dd;
 
-/// How many bytes an Ethernet header has, which is where the packet begins (RFC 2464, section 3).
+/// The length of an Ethernet header, in bytes, which is where the packet begins (RFC 2464, section 3).
 pub const ETHERNET_HEADER_LENGTH: usize = 14;
 
 /// The MTU of Ethernet, in bytes (RFC 2464, section 2).
 pub const ETHERNET_MTU: u32 = 1500;
 
-/// How many bytes stand in front of the payload of a packet: the Ethernet fields, and the header.
+/// The number of bytes before the payload of a packet: the Ethernet fields, and the header.
 pub const HEADERS_LENGTH: usize = ETHERNET_HEADER_LENGTH + IPV6_HEADER_LENGTH;
 
-/// Where the destination, the source and the type stand in it.
+/// The places of the destination, the source and the type in it.
 const DESTINATION_AT: usize = 0;
 
 const SOURCE_AT: usize = 6;
@@ -33,20 +33,20 @@ const TYPE_AT: usize = 12;
 /// source 6, type 2, and then the packet.
 pub enum Frame {}
 
-/// An Ethernet frame, with the bytes behind its type where they lie (RFC 2464, section 3).
+/// An Ethernet frame, with the bytes after its type left in place (RFC 2464, section 3).
 #[derive(Clone, Copy, Debug)]
 pub struct FrameRef<'a> {
-    /// Whom it is for.
+    /// The receiver.
     pub destination: Mac,
-    /// Who sent it.
+    /// The sender.
     pub source: Mac,
-    /// The packet, and whatever padding follows it.
+    /// The packet, and any padding after it.
     pub rest: &'a [u8],
 }
 
 impl Frame {
-    /// Reads a frame. The error is `FrameShort` for fewer than 14 bytes, and else `NotIpv6` for an Ethernet type other than
-    /// 0x86dd (RFC 2464, section 3).
+    /// Reads a frame. Returns `FrameShort` for fewer than 14 bytes, and otherwise `NotIpv6` for an Ethernet type other than 0x86dd (RFC 2464,
+    /// section 3).
     pub fn read(bytes: &[u8]) -> Result<FrameRef<'_>, Why>
         ensures { Gives frame_parts result (frame_of bytes.now) }
     {
@@ -64,8 +64,8 @@ impl Frame {
     }
 }
 
-/// Puts what stands in front of a payload of this length at the end, where there is room for `HEADERS_LENGTH` bytes more: the three
-/// Ethernet fields, and the header. It takes no memory.
+/// Appends what precedes a payload of this length: the three Ethernet fields, and the header. There is room for `HEADERS_LENGTH` bytes more. It
+/// takes no memory.
 pub fn put_headers<A: Allocator>(
     out: &mut Vec<u8, A>,
     destination: Mac,
@@ -82,8 +82,7 @@ pub fn put_headers<A: Allocator>(
     put_header(out, header, length);
 }
 
-/// The frame of a packet: the three Ethernet fields, the header with the payload's length, the payload.
-/// The error is want of memory.
+/// Returns the frame of a packet: the three Ethernet fields, the header with the payload's length, the payload. Returns an error if out of memory.
 pub fn write_frame<A: Allocator>(
     alloc: A,
     destination: Mac,

@@ -1,4 +1,4 @@
-//! Interface identifiers: the address that an interface forms of a prefix and its Ethernet address.
+//! Interface identifiers: the address that an interface forms from a prefix and its Ethernet address.
 
 ghost use Rattle.std.specs.Prelude.{◌≡◌};
 ghost use Rattle.nd_addr.specs.InterfaceId.{address_from_mac};
@@ -8,8 +8,8 @@ use crate::mac::Mac;
 use crate::prefix::Prefix;
 
 impl Addr {
-    /// The address of an interface: a prefix of 64 bits, and the modified EUI-64 of its Ethernet address
-    /// (RFC 4291, appendix A; RFC 2464, section 4).
+    /// Returns the address of an interface: a prefix of 64 bits, and the modified EUI-64 of its Ethernet address (RFC 4291, appendix A; RFC 2464,
+    /// section 4).
     pub fn from_mac(prefix: &Prefix, mac: Mac) -> Addr
         requires { prefix.now.length ≡ 64 }
         ensures { result.0 ≡ address_from_mac prefix.now.address.0 mac.0 }

@@ -14,23 +14,23 @@ pub const NEXT_HEADER_ICMPV6: u8 = 58;
 /// The least MTU of a link, in bytes (RFC 8200, section 5).
 pub const LEAST_MTU: u32 = 1280;
 
-/// How many bytes an IPv6 header has, which is where the payload begins (RFC 8200, section 3).
+/// The length of an IPv6 header, in bytes, which is where the payload begins (RFC 8200, section 3).
 pub const IPV6_HEADER_LENGTH: usize = 40;
 
 /// The version of IPv6, in the first four bits (RFC 8200, section 3).
 const VERSION: u32 = 6;
 
-/// Where the fields stand behind the first four bytes, which are version, traffic class and flow label.
+/// The places of the fields after the first four bytes, which are version, traffic class and flow label.
 const PAYLOAD_LENGTH_AT: usize = 4;
 
 const NEXT_HEADER_AT: usize = 6;
 
 const HOP_LIMIT_AT: usize = 7;
 
-/// Where the source is in the header.
+/// The place of the source in the header.
 pub const IPV6_SOURCE_AT: usize = 8;
 
-/// Where the destination is in the header.
+/// The place of the destination in the header.
 pub const IPV6_DESTINATION_AT: usize = 24;
 
 /// An IPv6 header (RFC 8200, section 3) without its version, which is 6, and its payload's length.
@@ -38,30 +38,30 @@ pub const IPV6_DESTINATION_AT: usize = 24;
 pub struct Ip6 {
     /// Traffic Class (RFC 8200, section 7).
     pub traffic_class: u8,
-    /// Flow Label, 20 bits (RFC 8200, section 6). Of a larger number the low 20 bits are written.
+    /// Flow Label, 20 bits (RFC 8200, section 6). The low 20 bits of a larger number are written.
     pub flow_label: u32,
-    /// What follows the header: `NEXT_HEADER_ICMPV6`, or another number of IANA's protocol numbers.
+    /// The type of the header that follows: `NEXT_HEADER_ICMPV6`, or another number of IANA's protocol numbers.
     pub next_header: u8,
-    /// How many more nodes may send the packet on.
+    /// The number of nodes that may still send the packet on.
     pub hop_limit: u8,
-    /// The address of who sent it.
+    /// The address of the sender.
     pub source: Addr,
-    /// The address of whom it is for.
+    /// The address of the receiver.
     pub destination: Addr,
 }
 
-/// An IPv6 packet, with its payload where it lies.
+/// An IPv6 packet, with its payload left in place.
 #[derive(Clone, Copy, Debug)]
 pub struct Ip6Ref<'a> {
     /// The fields of its header.
     pub header: Ip6,
-    /// As many bytes as the payload length says: padding behind them is left out.
+    /// As many bytes as the payload length says: padding after them is left out.
     pub payload: &'a [u8],
 }
 
 impl Ip6 {
-    /// Reads a packet (RFC 8200, section 3). The error is `HeaderShort` for fewer than 40 bytes, else `Version` for a version other
-    /// than 6, and else `PayloadShort` for fewer bytes behind the header than its payload length says.
+    /// Reads a packet (RFC 8200, section 3). Returns `HeaderShort` for fewer than 40 bytes, otherwise `Version` for a version other than 6, and
+    /// otherwise `PayloadShort` for fewer bytes after the header than its payload length says.
     pub fn read(bytes: &[u8]) -> Result<Ip6Ref<'_>, Why>
         ensures { Gives packet_parts result (packet_of bytes.now) }
     {
@@ -91,7 +91,7 @@ impl Ip6 {
     }
 }
 
-/// Puts the header of a packet with a payload of this length at the end.
+/// Appends the header of a packet with a payload of this length.
 pub(crate) fn put_header<A: Allocator>(out: &mut Vec<u8, A>, header: &Ip6, length: u16)
     requires { HasRoom out.old ipv6_header_length }
     ensures { Puts out.old out.new (written_header header.now length) }

@@ -1,4 +1,4 @@
-//! Kinds of address, and the multicast addresses that are made of others.
+//! Kinds of address, and the multicast addresses that are made from others.
 
 ghost use Rattle.std.specs.Prelude.{◌≡◌, ◌↔◌, IsTrue, bytes_eq};
 ghost use Rattle.nd_addr.specs.Kind.{multicast_prefix, link_local_prefix, link_local_subnet, unspecified_address, loopback_address, solicited_node_of, multicast_mac_of};
@@ -24,7 +24,7 @@ impl Addr {
     /// All routers of the link, `ff02::2` (RFC 4291, section 2.7.1).
     pub const ALL_ROUTERS: Addr = Addr([0xff, 2, 0, 0, 0, 0, 0, 0, 0, 0, 0, 0, 0, 0, 0, 2]);
 
-    /// Whether it is a multicast address, in ff00::/8 (RFC 4291, section 2.7).
+    /// Returns true if it is a multicast address, in ff00::/8 (RFC 4291, section 2.7).
     pub fn is_multicast(&self) -> bool
         ensures says { IsTrue result ↔ Holds multicast_prefix self.now.0 }
         ensures exactly { result ≡ holds multicast_prefix self.now.0 }
@@ -33,7 +33,7 @@ impl Addr {
         bytes[0] == 0xff
     }
 
-    /// Whether it is a link-local unicast address, in fe80::/10 (RFC 4291, section 2.5.6).
+    /// Returns true if it is a link-local unicast address, in fe80::/10 (RFC 4291, section 2.5.6).
     pub fn is_link_local(&self) -> bool
         ensures says { IsTrue result ↔ Holds link_local_prefix self.now.0 }
         ensures exactly { result ≡ holds link_local_prefix self.now.0 }
@@ -43,7 +43,7 @@ impl Addr {
         bytes[0] == first && bytes[1] / 64 == second / 64
     }
 
-    /// Whether it is the unspecified address `::` (RFC 4291, section 2.5.2).
+    /// Returns true if it is the unspecified address `::` (RFC 4291, section 2.5.2).
     pub fn is_unspecified(&self) -> bool
         ensures says { IsTrue result ↔ (self.now.0 ≡ unspecified_address) }
         ensures exactly { result ≡ bytes_eq self.now.0 unspecified_address }
@@ -51,7 +51,7 @@ impl Addr {
         *self == Addr::UNSPECIFIED
     }
 
-    /// Whether it is the loopback address `::1` (RFC 4291, section 2.5.3).
+    /// Returns true if it is the loopback address `::1` (RFC 4291, section 2.5.3).
     pub fn is_loopback(&self) -> bool
         ensures says { IsTrue result ↔ (self.now.0 ≡ loopback_address) }
         ensures exactly { result ≡ bytes_eq self.now.0 loopback_address }
@@ -59,8 +59,7 @@ impl Addr {
         *self == Addr::LOOPBACK
     }
 
-    /// Its solicited-node multicast address: ff02::1:ff00:0/104 with its low 24 bits (RFC 4291,
-    /// section 2.7.1).
+    /// Returns its solicited-node multicast address: ff02::1:ff00:0/104 with its low 24 bits (RFC 4291, section 2.7.1).
     pub fn solicited_node(&self) -> Addr
         ensures { result.0 ≡ solicited_node_of self.now.0 }
     {
@@ -70,7 +69,7 @@ impl Addr {
 }
 
 impl Prefix {
-    /// The subnet of link-local addresses, fe80::/64 (RFC 4291, section 2.5.6: the 54 bits behind fe80::/10 are zero).
+    /// Returns the subnet of link-local addresses, fe80::/64 (RFC 4291, section 2.5.6: the 54 bits after fe80::/10 are zero).
     pub fn link_local_subnet() -> Prefix
         ensures { result ≡ link_local_subnet }
     {
@@ -82,8 +81,7 @@ impl Prefix {
 }
 
 impl Mac {
-    /// The Ethernet address to which a multicast packet is sent: 33:33 and the last four bytes of its
-    /// destination (RFC 2464, section 7).
+    /// Returns the Ethernet address to which a multicast packet is sent: 33:33 and the last four bytes of its destination (RFC 2464, section 7).
     pub fn multicast(destination: Addr) -> Mac
         ensures { result.0 ≡ multicast_mac_of destination.0 }
     {

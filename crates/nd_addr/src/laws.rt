@@ -1,4 +1,4 @@
-//! What is true of all addresses and of all frames: the contracts of functions that do nothing.
+//! Laws of all addresses and of all frames, each the contract of a function that does nothing.
 
 ghost use Rattle.std.specs.Prelude.{◌≡◌, ◌↔◌, ◌<◌, ◌≤◌, ◌^◌, ◌++◌, ℕ, List, Ok, length, nat_eq, slice_index};
 ghost use Rattle.std.specs.Ordering.{nat_cmp};
@@ -20,7 +20,7 @@ pub fn order_is_of_numbers(a: Addr, b: Addr)
     let _b = b.as_bytes();
 }
 
-/// Addresses are told by their numbers: each is that of its number, and each number that is low enough is that of its address.
+/// Addresses and their numbers determine each other: each address is that of its number, and each number that is low enough is that of its address.
 pub fn addresses_are_told_by_numbers()
     ensures addr { (address : Addr) → AreBytes 16 address.0 → addr_at (number_of address.0) ≡ address }
     ensures mac { (mac : Mac) → AreBytes 6 mac.0 → mac_at (number_of mac.0) ≡ mac }
@@ -30,7 +30,7 @@ pub fn addresses_are_told_by_numbers()
     ensures mac_bytes { (number : ℕ) → AreBytes 6 (mac_at number).0 }
 {}
 
-/// The addresses that have a name are those of the definitions.
+/// The named addresses are those of the definitions.
 pub fn named_addresses()
     ensures unspecified { Addr.UNSPECIFIED.0 ≡ unspecified_address }
     ensures loopback { Addr.LOOPBACK.0 ≡ loopback_address }
@@ -39,22 +39,22 @@ pub fn named_addresses()
     ensures all_routers { Addr.ALL_ROUTERS.0 ≡ all_routers_address }
 {}
 
-/// Whether an address is multicast is told by its first byte alone (RFC 4291, section 2.7).
+/// The first byte of an address alone decides if it is multicast (RFC 4291, section 2.7).
 pub fn multicast_by_first_byte()
     ensures says { (address : List ℕ) → AreBytes 16 address → Holds multicast_prefix address ↔ (slice_index address 0 ≡ 0xff) }
     ensures exactly { (address : List ℕ) → AreBytes 16 address → holds multicast_prefix address ≡ nat_eq (slice_index address 0) 0xff }
 {}
 
-/// What `write_frame` writes reads back as what was written.
+/// What `write_frame` writes is read back as what was written.
 pub fn written_reads_back()
     ensures frame { (destination source : Mac) (header : Ip6) (payload : List ℕ) → length destination.0 ≡ 6 → length source.0 ≡ 6
         → frame_of (written_frame destination source header payload) ≡ Ok (record { destination = destination; source = source; rest = written_packet header payload }) }
-    // The same whatever padding follows the packet.
+    // The same for any padding after the packet.
     ensures packet { (header : Ip6) (payload padding : List ℕ) → FitsHeader header → length payload ≤ 65535
         → packet_of (written_packet header payload ++ padding) ≡ Ok (record { header = header; payload = payload }) }
 {}
 
-/// A frame is what stands in front of its payload, which is of one length, and the payload.
+/// A frame is what precedes its payload, which has a fixed length, and the payload.
 pub fn headers_come_first()
     ensures frame { (destination source : Mac) (header : Ip6) (payload : List ℕ) → written_frame destination source header payload ≡ written_headers destination source header (length payload) ++ payload }
     ensures len { (destination source : Mac) (header : Ip6) (len : ℕ) → length destination.0 ≡ 6 → length source.0 ≡ 6 → FitsHeader header → length (written_headers destination source header len) ≡ headers_length }

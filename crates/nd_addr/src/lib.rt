@@ -1,5 +1,4 @@
-//! Addresses, and what lies below a Neighbor Discovery message on the wire: the Ethernet frame, the
-//! IPv6 header and the ICMPv6 checksum.
+//! Addresses, and the layers below a Neighbor Discovery message on the wire: the Ethernet frame, the IPv6 header and the ICMPv6 checksum.
 #![tactic(auto)]
 
 mod addr;

@@ -8,7 +8,7 @@ use crate::bytes::known;
 pub struct Mac(pub [u8; 6]);
 
 impl Mac {
-    /// Its 6 bytes, in order.
+    /// Returns its 6 bytes, in order.
     pub fn as_bytes(&self) -> &[u8]
         ensures value { result.now ≡ self.now.0 }
         ensures bytes { AreBytes 6 self.now.0 }
@@ -16,7 +16,7 @@ impl Mac {
         known(&self.0)
     }
 
-    /// The address in the 6 bytes from a place on.
+    /// Returns the address in the 6 bytes from a place on.
     pub fn at(bytes: &[u8], place: usize) -> Mac
         requires { place + 6 ≤ length bytes.now }
         ensures { result.0 ≡ slice_range bytes.now place (place + 6) }

@@ -8,7 +8,7 @@ use crate::addr::Addr;
 use byteorder::{BigEndian, ByteOrder};
 use nd_text::{known_groups, parse_groups};
 
-/// The address of eight groups.
+/// Returns the address of eight groups.
 fn address_of(groups: [u16; 8]) -> Addr
     ensures { groups_of result.0 ≡ groups }
 {
@@ -17,7 +17,7 @@ fn address_of(groups: [u16; 8]) -> Addr
     Addr(bytes)
 }
 
-/// A text that is none of its kind.
+/// Why a text spells nothing of its kind.
 #[derive(Clone, Copy, Debug, PartialEq, Eq)]
 pub enum TextFault {
     /// The text is malformed.
@@ -25,9 +25,8 @@ pub enum TextFault {
 }
 
 impl Addr {
-    /// The address that a text spells (RFC 4291, section 2.2): eight groups of one to four hexadecimal
-    /// digits in either case, parted by colons, or fewer with one `::` for at least one group of zero.
-    /// Any other text is malformed.
+    /// Returns the address that a text spells (RFC 4291, section 2.2): eight groups of one to four hexadecimal digits in either case, separated by
+    /// colons, or fewer with one `::` for at least one group of zero. Any other text is malformed.
     pub fn parse(text: &[u8]) -> Result<Addr, TextFault>
         ensures found { IfOk result (λ address. SpellsAddress text.now (groups_of address.0)) }
         ensures only { (groups : List ℕ) → SpellsAddress text.now groups → IsOkAnd result (λ address. groups_of address.0 ≡ groups) }

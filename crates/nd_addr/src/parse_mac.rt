@@ -8,7 +8,7 @@ ghost use Rattle.nd_addr.specs.Spelling.{SpellsMac};
 use crate::mac::Mac;
 use crate::parse::TextFault;
 
-/// The byte of two hexadecimal digits in either case.
+/// Returns the byte of two hexadecimal digits in either case.
 fn read_pair(high: u8, low: u8) -> Option<u8>
     ensures { SomeIff result ((digit_value high < 16) × (digit_value low < 16)) (16 * digit_value high + digit_value low) }
 {
@@ -18,8 +18,8 @@ fn read_pair(high: u8, low: u8) -> Option<u8>
 }
 
 impl Mac {
-    /// The Ethernet address that a text spells: six pairs of hexadecimal digits in either case, parted by
-    /// colons. Any other text is malformed.
+    /// Returns the Ethernet address that a text spells: six pairs of hexadecimal digits in either case, separated by colons. Any other text is
+    /// malformed.
     pub fn parse(text: &[u8]) -> Result<Mac, TextFault>
         ensures found { IfOk result (λ mac. SpellsMac text.now mac.0) }
         ensures only { (bytes : List ℕ) → SpellsMac text.now bytes → IsOkAnd result (λ mac. mac.0 ≡ bytes) }

@@ -9,7 +9,7 @@ use crate::parse::TextFault;
 use crate::prefix::Prefix;
 use itoa::Buffer;
 
-/// Where the last slash is.
+/// Returns the place of the last slash.
 fn find_slash(text: &[u8]) -> Option<usize>
     ensures place { MatchOption result ((k : ℕ) → k < length text.now → slice_index text.now k ≡ 47 → ⊥) (λ at. (at < length text.now) × (slice_index text.now at ≡ 47)) }
     ensures last { IfSome result (λ at. (k : ℕ) → at < k → k < length text.now → slice_index text.now k ≡ 47 → ⊥) }
@@ -22,7 +22,7 @@ fn find_slash(text: &[u8]) -> Option<usize>
     None
 }
 
-/// The number in some decimal digits, if they are those of one below 256. Of other texts nothing is said.
+/// Returns the number in some decimal digits, if it is below 256. For other texts the result is not specified.
 fn number_in(text: &[u8]) -> Option<u8>
     ensures { (n : ℕ) → n < 256 → text.now ≡ decimal n → result ≡ Some n }
 {
@@ -35,14 +35,14 @@ fn number_in(text: &[u8]) -> Option<u8>
     }
 }
 
-/// Whether a text is what is written for a number: its decimal digits with no leading zero.
+/// Returns true if a text is what is written for a number: its decimal digits with no leading zero.
 fn is_decimal(text: &[u8], number: u8) -> bool
     ensures { IsTrue result ↔ (text.now ≡ decimal number) }
 {
     Buffer::new().format(number).as_bytes() == text
 }
 
-/// The prefix length that a text spells: 0 to 128, in decimal digits with no leading zero.
+/// Returns the prefix length that a text spells: 0 to 128, in decimal digits with no leading zero.
 fn read_length(text: &[u8]) -> Option<u8>
     ensures found { IfSome result (λ n. (n ≤ 128) × (text.now ≡ decimal n)) }
     ensures only { (n : ℕ) → n ≤ 128 → text.now ≡ decimal n → result ≡ Some n }
@@ -52,9 +52,8 @@ fn read_length(text: &[u8]) -> Option<u8>
 }
 
 impl Prefix {
-    /// The prefix that a text spells: an address as `Addr::parse` reads it, a slash, and a length of 0 to
-    /// 128 in decimal digits with no leading zero (RFC 4291, section 2.3). Bits past the length are made
-    /// zero. Any other text is malformed.
+    /// Returns the prefix that a text spells: an address as `Addr::parse` reads it, a slash, and a length of 0 to 128 in decimal digits with no
+    /// leading zero (RFC 4291, section 2.3). Bits past the length are set to zero. Any other text is malformed.
     pub fn parse(text: &[u8]) -> Result<Prefix, TextFault>
         ensures found { IfOk result (λ prefix. SpellsPrefix text.now prefix) }
         ensures only { (prefix : PrefixValue) → SpellsPrefix text.now prefix → IsOkAnd result (λ found. found ≡ prefix) }

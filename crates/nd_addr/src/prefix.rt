@@ -25,8 +25,7 @@ impl Model for Prefix {
 }
 
 impl Prefix {
-    /// The first bits of an address: its bits past them are made zero. There is no prefix of a length above 128 (RFC 4861, section
-    /// 4.6.2).
+    /// Returns the first bits of an address; its bits past them are set to zero. Returns `None` for a length above 128 (RFC 4861, section 4.6.2).
     pub fn new(address: Addr, length: u8) -> Option<Prefix>
         ensures { SomeIff result (length ≤ 128) (prefix_at length address.0) }
     {
@@ -39,7 +38,7 @@ impl Prefix {
         })
     }
 
-    /// The address with only zeros past the prefix.
+    /// Returns the address with only zeros past the prefix.
     pub fn address(&self) -> Addr
         ensures value { result ≡ self.now.address }
         ensures prefix { IsPrefix self.now.address.0 self.now.length }
@@ -47,7 +46,7 @@ impl Prefix {
         self.address
     }
 
-    /// Whether an address is in the prefix: whether they are alike in its bits (RFC 4291, section 2.3).
+    /// Returns true if an address is in the prefix: both have the same bits there (RFC 4291, section 2.3).
     pub fn holds(&self, address: Addr) -> bool
         ensures { IsTrue result ↔ Holds self.now address.0 }
     {
@@ -55,7 +54,7 @@ impl Prefix {
         is_same(first_bits(&address.0, self.length), self.address.0)
     }
 
-    /// How many bits it has, 0 to 128.
+    /// Returns the number of its bits, 0 to 128.
     pub fn length(&self) -> u8
         ensures value { result ≡ self.now.length }
         ensures prefix { IsPrefix self.now.address.0 self.now.length }
@@ -64,7 +63,7 @@ impl Prefix {
     }
 }
 
-/// Whether two addresses have the same bytes.
+/// Returns true if two addresses have the same bytes.
 fn is_same(a: [u8; 16], b: [u8; 16]) -> bool
     ensures { IsTrue result ↔ (a ≡ b) }
 {

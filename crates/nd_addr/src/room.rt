@@ -3,7 +3,7 @@ ghost use Rattle.nd_addr.specs.Room.{HasRoom, Puts};
 
 use std::alloc::Allocator;
 
-/// Puts bytes at the end, where there is room for them. It takes no memory.
+/// Appends bytes. There is room for them. It takes no memory.
 pub fn put_bytes<A: Allocator>(out: &mut Vec<u8, A>, bytes: &[u8])
     requires { HasRoom out.old (length bytes.now) }
     ensures { Puts out.old out.new bytes.now }

@@ -12,7 +12,7 @@ use nd_text::{byte_digits, push_ascii, write_groups};
 use std::alloc::{AllocError, Allocator};
 use std::fmt::Write;
 
-/// The eight groups of an address.
+/// Returns the eight groups of an address.
 fn groups_in(address: &Addr) -> [u16; 8]
     ensures { result ≡ groups_of address.now.0 }
 {
@@ -30,7 +30,7 @@ fn groups_in(address: &Addr) -> [u16; 8]
 }
 
 impl Addr {
-    /// Writes the text of RFC 5952 at the end. The error is want of memory.
+    /// Appends the text of RFC 5952. Returns an error if out of memory.
     pub fn write_text<A: Allocator>(&self, text: &mut String<A>) -> Result<(), AllocError>
         ensures written { OnOk result (string_bytes text.new ≡ string_bytes text.old ++ address_text self.now.0) }
         // It is the text of the first of the longest runs of zeros, and spells the address.
@@ -42,7 +42,7 @@ impl Addr {
     }
 }
 
-/// The six pairs of digits of an Ethernet address, in lower case with colons between them.
+/// Returns the six pairs of digits of an Ethernet address, in lower case with colons between them.
 fn mac_digits(mac: &Mac) -> [u8; 17]
     ensures { result ≡ mac_text mac.now.0 }
 {
@@ -61,7 +61,7 @@ fn mac_digits(mac: &Mac) -> [u8; 17]
 }
 
 impl Mac {
-    /// Writes six pairs of digits in lower case with colons between them. The error is want of memory.
+    /// Appends six pairs of digits in lower case with colons between them. Returns an error if out of memory.
     pub fn write_text<A: Allocator>(&self, text: &mut String<A>) -> Result<(), AllocError>
         ensures written { OnOk result (string_bytes text.new ≡ string_bytes text.old ++ mac_text self.now.0) }
         ensures spelled { SpellsMac (mac_text self.now.0) self.now.0 }
@@ -72,7 +72,7 @@ impl Mac {
 }
 
 impl Prefix {
-    /// Writes its address, a slash and its length. The error is want of memory.
+    /// Appends its address, a slash and its length. Returns an error if out of memory.
     pub fn write_text<A: Allocator>(&self, text: &mut String<A>) -> Result<(), AllocError>
         ensures written { OnOk result (string_bytes text.new ≡ string_bytes text.old ++ prefix_text self.now) }
         ensures spelled { SpellsPrefix (prefix_text self.now) self.now }

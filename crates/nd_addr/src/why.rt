@@ -1,7 +1,7 @@
 ghost use Rattle.std.specs.Prelude.{◌≡◌};
 ghost use Rattle.nd_addr.specs.Why.{number_of, name_of};
 
-/// Why a frame is dropped. The numbers by which reasons are told, and their names, are our choice.
+/// Why a frame is dropped. The numbers and names of the reasons are our choice.
 #[derive(Clone, Copy, Debug, PartialEq, Eq)]
 pub enum Why {
     /// Fewer than the 14 bytes of an Ethernet header (RFC 2464, section 3).
@@ -20,14 +20,14 @@ pub enum Why {
     Length = 7,
     /// An option of length 0 (RFC 4861, section 4.6).
     OptionZero = 8,
-    /// An option that is not all there (RFC 4861, section 4.6), also a single byte behind the last one.
+    /// An option that is not complete (RFC 4861, section 4.6), also a single byte after the last one.
     OptionOver = 9,
     /// A hop limit other than 255 (RFC 4861, sections 6.1, 7.1, 8.1).
     HopLimit = 10,
     /// A bad ICMPv6 checksum (RFC 4443, section 2.3).
     Sum = 11,
-    /// Of a Router Advertisement or a Redirect a source that is not link-local (RFC 4861, sections 6.1.2 and 8.1); of any message a
-    /// multicast source (our choice).
+    /// A source that is not link-local in a Router Advertisement or a Redirect (RFC 4861, sections 6.1.2 and 8.1), or a multicast source in any
+    /// message (our choice).
     Source = 12,
     /// A multicast target of a solicitation or advertisement (RFC 4861, sections 7.1.1 and 7.1.2).
     Target = 13,
@@ -49,14 +49,14 @@ pub enum Why {
 }
 
 impl Why {
-    /// The number by which it is told, 1 to 20.
+    /// Returns the number by which it is reported, 1 to 20.
     pub fn number(self) -> u8
         ensures { result ≡ number_of self }
     {
         self as u8
     }
 
-    /// The name by which it is told.
+    /// Returns the name by which it is reported.
     pub fn name(self) -> &'static str
         ensures { result.now ≡ name_of self }
     {

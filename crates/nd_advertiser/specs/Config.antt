@@ -9,7 +9,7 @@ use Rattle.nd_advertiser.specs.declared.config_fault.ConfigFault.{ConfigFault}
 use Rattle.nd_advertiser.specs.declared.config_fault.ConfigFault.TheVariants as faults
 
 -- the intervals between two advertisements and the router lifetime in seconds, the times of the fields in milliseconds, the MTU in
--- bytes, 0 where none is told
+-- bytes, 0 if none is announced
 pub record Settings : Type 0 where
   pub min_interval : ℕ
   pub max_interval : ℕ

@@ -25,7 +25,7 @@ options_of mac n offers = slla mac ∷ mtu_options n ++ map prefix offers
 abbrev pub contents : Mac → List PrefixInfo → Settings → Parts
 contents mac offers s = record { body = Ra s.fields; options = options_of mac s.mtu offers }
 
--- "set the Router Lifetime field to zero": it is no default router any more, and so "the preference value MUST be set to (00)" (RFC 4191,
+-- "set the Router Lifetime field to zero": it is no longer a default router, and so "the preference value MUST be set to (00)" (RFC 4191,
 -- section 2.2)
 abbrev pub without_lifetime : RouterAdvertisement → RouterAdvertisement
 without_lifetime fields = record fields { router_lifetime = 0; preference = Medium }

@@ -32,7 +32,7 @@ offer_of prefix (_ ∷ history) = offer_of prefix history
 abbrev pub offers_of : List Row → List PrefixInfo
 offers_of history = flat_map (λ prefix. option_to_list (offer_of prefix history)) (prefixes history)
 
--- an offer of this prefix would be one too many beside those of these prefixes
+-- an offer of this prefix would be one too many besides those of these prefixes
 abbrev pub is_one_too_many : PrefixValue → List PrefixValue → Bool
 is_one_too_many prefix ps = not (is_among prefix ps) && nat_le max_offers (length ps)
 

@@ -12,12 +12,12 @@ use crate::offers::{Full, Offers};
 use std::alloc::{AllocError, Allocator};
 use std::marker::Model;
 
-/// Whether and when a router advertises itself and its link (RFC 4861, section 6.2). Moments and times are in milliseconds.
+/// A router's advertising of itself and its link: its settings, and when it sends (RFC 4861, section 6.2). Moments and times are in milliseconds.
 #[derive(Drop)]
 pub struct Advertiser<A: Allocator> {
-    /// When its link-local address was assigned.
+    /// The moment at which its link-local address was assigned.
     assigned: Option<u64>,
-    /// When it sent its last advertisement.
+    /// The moment of its last advertisement.
     last: Option<u64>,
     advertising: Option<Advertising>,
     offers: Offers<A>,
@@ -33,15 +33,15 @@ impl<A: Allocator> Model for Advertiser<A> {
 
     ghost view = { λ a. record { assigned = a.assigned; last = a.last; advertising = a.advertising; offers = a.offers } };
 
-    // The next advertisement comes after the last one.
+    // The next advertisement is after the last one.
     ghost invariant = { λ a. IfSome a.last (λ at. at < 2 ^ 62) × IsAfter a.last (next a.assigned a.last a.advertising) };
 }
 
 impl<A: Allocator + Copy> Advertiser<A> {
     ghost use Rattle.nd_advertiser.specs.Table.{Stands};
 
-    /// An interface that doesn't advertise (RFC 4861, section 6.2.1, AdvSendAdvertisements), and has no prefixes to advertise yet, with
-    /// room for 16. The error is out of memory.
+    /// Returns an interface that doesn't advertise (RFC 4861, section 6.2.1, AdvSendAdvertisements), and has no prefixes to advertise yet, with
+    /// room for 16. Returns an error if out of memory.
     pub fn new(alloc: A) -> Result<Self, AllocError>
         ensures empty { IfOk result (λ advertiser. advertiser ≡ record { assigned = None; last = None; advertising = None; offers = [] }) }
         ensures stands { IfOk result (λ advertiser. Stands advertiser []) }
@@ -61,8 +61,8 @@ impl<A: Allocator> Advertiser<A> {
     ghost use Rattle.nd_advertiser.specs.Offers.{answer_to, max_offers, offers_of, prefixes};
     ghost use Rattle.nd_advertiser.specs.Table.{GainsRow, Stands};
 
-    /// A prefix is to be advertised so (RFC 4861, section 6.2.1, AdvPrefixList): a new one behind the others, one that is there in its
-    /// place. `Full` comes where it would be the 17th. It takes no memory.
+    /// Puts a prefix into those to advertise (RFC 4861, section 6.2.1, AdvPrefixList): a new one at the end, an existing one in its place. Returns
+    /// `Full` if it would be the 17th. It takes no memory.
     pub fn put(&mut self, offer: Offer) -> Result<(), Full>
         ensures value { result ≡ answer_to offer.prefix (prefixes_in self.old.offers) }
         ensures by_history { (history : List Row) → Stands self.old history → result ≡ answer_to offer.prefix (prefixes history) }
@@ -72,7 +72,7 @@ impl<A: Allocator> Advertiser<A> {
         self.offers.put(offer)
     }
 
-    /// The offers, in the order in which their prefixes came.
+    /// Returns the offers, in the order in which their prefixes were first put.
     pub fn rows(&self) -> OfferRows<'_>
         ensures value { result ≡ self.now.offers }
         ensures by_history { (history : List Row) → Stands self.now history → result ≡ offers_of history }
@@ -81,7 +81,7 @@ impl<A: Allocator> Advertiser<A> {
         self.offers.rows()
     }
 
-    /// Returns how many prefixes are offered, at most 16.
+    /// Returns the number of prefixes offered, at most 16.
     pub fn offers_len(&self) -> usize
         ensures value { result ≡ length self.now.offers }
         ensures few { result ≤ max_offers }
@@ -89,8 +89,8 @@ impl<A: Allocator> Advertiser<A> {
         self.offers.len()
     }
 
-    /// It is to advertise with this configuration (RFC 4861, section 6.2.2). Where it does already, only what it advertises changes, and
-    /// the range of what is drawn from now on.
+    /// Begins to advertise with this configuration (RFC 4861, section 6.2.2). If it advertises already, only what it advertises changes, and the
+    /// range of what is drawn from now on.
     pub fn begin(&mut self, now: u64, config: Config)
         requires { IsMoment now }
         ensures stands { GainsRow self.old self.new (Advertises now config) }
@@ -101,7 +101,7 @@ impl<A: Allocator> Advertiser<A> {
         }
     }
 
-    /// Its link-local address was assigned, from which it advertises (RFC 4861, section 4.2).
+    /// Notes that its link-local address, from which it advertises, is assigned (RFC 4861, section 4.2).
     pub fn assigned(&mut self, now: u64)
         requires { IsMoment now }
         ensures stands { GainsRow self.old self.new (Assigned now) }
@@ -110,7 +110,7 @@ impl<A: Allocator> Advertiser<A> {
         self.assigned = Some(now);
     }
 
-    /// Whether it is an advertising interface.
+    /// Returns true if it is an advertising interface.
     pub fn is_on(&self) -> bool
         ensures value { result ≡ is_some self.now.advertising }
         ensures by_history { (history : List Row) → Stands self.now history → result ≡ is_on history }
@@ -118,7 +118,7 @@ impl<A: Allocator> Advertiser<A> {
         self.advertising.is_some()
     }
 
-    /// What it advertises, if it does.
+    /// Returns the configuration with which it advertises, if it does.
     pub fn config(&self) -> Option<Config>
         ensures value { result ≡ settings_in self.now.advertising }
         ensures by_history { (history : List Row) → Stands self.now history → result ≡ advertised_by history }
@@ -129,8 +129,8 @@ impl<A: Allocator> Advertiser<A> {
         }
     }
 
-    /// The least and the greatest time, in milliseconds, that may be drawn for the next advertisement, where it advertises (RFC 4861,
-    /// section 6.2.4).
+    /// Returns the least and the greatest time, in milliseconds, that may be drawn for the next advertisement, if it advertises (RFC 4861, section
+    /// 6.2.4).
     pub fn interval(&self) -> Option<(u64, u64)>
         ensures value { result ≡ option_map interval_range (settings_in self.now.advertising) }
         ensures by_history { (history : List Row) → Stands self.now history → result ≡ interval_of history }
@@ -141,8 +141,8 @@ impl<A: Allocator> Advertiser<A> {
         }
     }
 
-    /// Whether a Router Solicitation that comes now has to be planned for with a draw: whether an advertisement was sent since it became an
-    /// advertising interface, and no answer is planned since the last one (RFC 4861, section 6.2.6).
+    /// Returns true if a Router Solicitation received now must draw an answer delay: an advertisement was sent since it became an advertising
+    /// interface, and no answer is planned since the last one (RFC 4861, section 6.2.6).
     pub fn wants_draw(&self) -> bool
         ensures value { result ≡ wants_draw self.now.advertising }
         ensures by_history { (history : List Row) → Stands self.now history → result ≡ wants_draw_of history }
@@ -153,8 +153,8 @@ impl<A: Allocator> Advertiser<A> {
         }
     }
 
-    /// A Router Solicitation is heard that has to be planned for, with the delay that was drawn for it, 0 to 500 ms (RFC 4861, sections
-    /// 6.2.6 and 10, MAX_RA_DELAY_TIME).
+    /// Takes a Router Solicitation that must be answered, with the delay that was drawn for it, 0 to 500 ms (RFC 4861, sections 6.2.6 and 10,
+    /// MAX_RA_DELAY_TIME).
     pub fn heard_rs(&mut self, now: u64, delay: u32)
         requires moment { IsMoment now }
         requires wants { wants_draw self.old.advertising ≡ true }
@@ -165,7 +165,7 @@ impl<A: Allocator> Advertiser<A> {
         }
     }
 
-    /// When the next advertisement is due, if one is.
+    /// Returns the moment at which the next advertisement is due, if one is.
     pub fn next_due(&self) -> Option<u64>
         ensures value { result ≡ next self.now.assigned self.now.last self.now.advertising }
         ensures due { (history : List Row) → Stands self.now history → result ≡ next_of history }
@@ -178,7 +178,7 @@ impl<A: Allocator> Advertiser<A> {
         }
     }
 
-    /// An advertisement that is due is sent, with the time until the next one, which was drawn in `interval` (RFC 4861, section 6.2.4).
+    /// Notes that an advertisement that is due is sent. The time until the next one was drawn in `interval` (RFC 4861, section 6.2.4).
     pub fn turn(&mut self, now: u64, interval: u32)
         requires moment { IsMoment now }
         requires due { next self.old.assigned self.old.last self.old.advertising ≡ Some now }
@@ -192,8 +192,8 @@ impl<A: Allocator> Advertiser<A> {
         self.last = Some(now);
     }
 
-    /// It ceases to advertise (RFC 4861, section 6.2.5). Where it has sent an advertisement since it became an advertising interface, it
-    /// answers true: a last one is to be sent now, with a router lifetime of 0.
+    /// Ceases to advertise (RFC 4861, section 6.2.5). Returns true if it has sent an advertisement since it became an advertising interface: the
+    /// caller sends a last one now, with a router lifetime of 0.
     pub fn stop(&mut self, now: u64) -> bool
         requires { IsMoment now }
         ensures value { result ≡ has_sent self.old.advertising }

@@ -15,17 +15,17 @@ const MAX_INITIAL_RTR_ADVERTISEMENTS: u8 = 3;
 /// MAX_INITIAL_RTR_ADVERT_INTERVAL, in milliseconds (RFC 4861, section 10).
 const MAX_INITIAL_RTR_ADVERT_INTERVAL: u32 = 16_000;
 
-/// What an advertising interface goes by (RFC 4861, section 6.2). Moments are in milliseconds.
+/// The state of an advertising interface (RFC 4861, section 6.2). Moments are in milliseconds.
 #[derive(Drop)]
 pub(crate) struct Advertising {
-    /// When it became one.
+    /// The moment at which it became one.
     pub(crate) began: u64,
     pub(crate) config: Config,
-    /// How many advertisements it has sent since, counted up to the first three.
+    /// The number of advertisements sent since, counted up to the first three.
     pub(crate) sent: u8,
-    /// When the next one is planned, if one was sent.
+    /// The moment for which the next one is planned, if one was sent.
     pub(crate) planned: Option<u64>,
-    /// When a solicitation is to be answered, if one came since the last one.
+    /// The moment at which a solicitation is answered, if one was received since the last advertisement.
     pub(crate) answer: Option<u64>,
 }
 
@@ -44,7 +44,7 @@ impl Model for Advertising {
 impl Advertising {
     ghost use Rattle.nd_advertiser.specs.Calls.{advertised, begun, planned_for};
 
-    /// An interface becomes an advertising interface (RFC 4861, section 6.2.2).
+    /// Returns an interface that becomes an advertising interface at `now` (RFC 4861, section 6.2.2).
     pub(crate) fn begin(now: u64, config: Config) -> Self
         ensures { Some result ≡ begun now config None }
     {
@@ -57,14 +57,14 @@ impl Advertising {
         }
     }
 
-    /// It is to advertise with other settings. What is planned stays (our choice).
+    /// Changes its settings. What is planned stays (our choice).
     pub(crate) fn configure(&mut self, now: u64, config: Config)
         ensures { Some self.new ≡ begun now config (Some self.old) }
     {
         self.config = config;
     }
 
-    /// An advertisement is sent, and the time until the next one is drawn (RFC 4861, section 6.2.4).
+    /// Notes that an advertisement is sent, with the time that was drawn until the next one (RFC 4861, section 6.2.4).
     pub(crate) fn send(&mut self, now: u64, interval: u32)
         requires { IsMoment now }
         ensures { Some self.new ≡ advertised now interval (Some self.old) }
@@ -74,7 +74,7 @@ impl Advertising {
         self.sent = (self.sent + 1).min(MAX_INITIAL_RTR_ADVERTISEMENTS);
     }
 
-    /// A solicitation is planned for, where none is yet (RFC 4861, section 6.2.6).
+    /// Plans the answer to a solicitation, if none is planned yet (RFC 4861, section 6.2.6).
     pub(crate) fn plan(&mut self, last: Option<u64>, now: u64, delay: u32)
         requires moment { IsMoment now }
         requires last { IfSome last (λ at. at < 2 ^ 62) }
@@ -85,14 +85,14 @@ impl Advertising {
         }
     }
 
-    /// Whether a solicitation has to be planned for: an advertisement was sent, and no answer is planned since.
+    /// Returns true if a solicitation must be planned for: an advertisement was sent, and no answer is planned since.
     pub(crate) fn wants_draw(&self) -> bool
         ensures { result ≡ (not (self.now.sent == 0) && is_none self.now.answer) }
     {
         self.sent != 0 && self.answer.is_none()
     }
 
-    /// The date of the next advertisement.
+    /// Returns the moment of the next advertisement.
     pub(crate) fn next(&self, assigned: Option<u64>, last: Option<u64>) -> Option<u64>
         requires last { IfSome last (λ at. at < 2 ^ 62) }
         ensures date { result ≡ next_date (first_date self.now.began assigned last) self.now.planned self.now.answer }
@@ -105,7 +105,7 @@ impl Advertising {
     }
 }
 
-/// The time until the next advertisement, which is cut after the first three (RFC 4861, section 6.2.4).
+/// Returns the time until the next advertisement, which is limited for the first three (RFC 4861, section 6.2.4).
 fn interval_after(sent: u8, interval: u32) -> u32
     ensures { result ≡ interval_after sent interval }
 {
@@ -116,7 +116,8 @@ fn interval_after(sent: u8, interval: u32) -> u32
     }
 }
 
-/// When a solicitation is answered: after its delay, and a while after the last advertisement (RFC 4861, section 6.2.6).
+/// Returns the moment at which a solicitation is answered: after its delay, which begins MIN_DELAY_BETWEEN_RAS after the last advertisement at the
+/// earliest (RFC 4861, section 6.2.6).
 fn answer_date(last: Option<u64>, now: u64, delay: u32) -> u64
     requires moment { IsMoment now }
     requires last { IfSome last (λ at. at < 2 ^ 62) }
@@ -130,7 +131,8 @@ fn answer_date(last: Option<u64>, now: u64, delay: u32) -> u64
     }
 }
 
-/// When the first advertisement is sent: from an address that is assigned, and a while after the last one (RFC 4861, section 6.2.4).
+/// Returns the moment of the first advertisement: once the address is assigned, and MIN_DELAY_BETWEEN_RAS after the last one (RFC 4861, section
+/// 6.2.4).
 fn first_date(began: u64, assigned: Option<u64>, last: Option<u64>) -> Option<u64>
     requires last { IfSome last (λ at. at < 2 ^ 62) }
     ensures { result ≡ first_date (Some began) assigned last }

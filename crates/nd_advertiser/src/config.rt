@@ -7,28 +7,28 @@ use nd_addr::{ETHERNET_MTU, LEAST_MTU, Preference};
 use nd_decode::RouterAdvertisement;
 use std::marker::Model;
 
-/// MaxRtrAdvInterval at least and at most, in seconds (RFC 4861, section 6.2.1).
+/// The range of MaxRtrAdvInterval, in seconds (RFC 4861, section 6.2.1).
 const LEAST_MAX_INTERVAL: u16 = 4;
 
 const GREATEST_MAX_INTERVAL: u16 = 1800;
 
-/// MinRtrAdvInterval at least, in seconds (RFC 4861, section 6.2.1).
+/// The least MinRtrAdvInterval, in seconds (RFC 4861, section 6.2.1).
 const LEAST_MIN_INTERVAL: u16 = 3;
 
 const MILLISECONDS_PER_SECOND: u64 = 1000;
 
-/// AdvDefaultLifetime at most, in seconds (RFC 4861, section 6.2.1).
+/// The greatest AdvDefaultLifetime, in seconds (RFC 4861, section 6.2.1).
 const GREATEST_LIFETIME: u16 = 9000;
 
-/// AdvReachableTime at most, in milliseconds: an hour (RFC 4861, section 6.2.1).
+/// The greatest AdvReachableTime, in milliseconds: an hour (RFC 4861, section 6.2.1).
 const GREATEST_REACHABLE_TIME: u32 = 3_600_000;
 
 /// The flags of a Router Advertisement, and its preference (RFC 4861, section 4.2; RFC 4191, section 2.2).
 #[derive(Clone, Copy, Debug, PartialEq, Eq)]
 pub struct ConfigFlags {
-    /// AdvManagedFlag: addresses are to be had by DHCPv6.
+    /// AdvManagedFlag: addresses are available by DHCPv6.
     pub managed: bool,
-    /// AdvOtherConfigFlag: other configuration is to be had by DHCPv6.
+    /// AdvOtherConfigFlag: other configuration is available by DHCPv6.
     pub other: bool,
     /// The preference of the router over other default routers.
     pub preference: Preference,
@@ -58,10 +58,10 @@ impl Model for Config {
 }
 
 impl Config {
-    /// Such a configuration: MinRtrAdvInterval, MaxRtrAdvInterval and AdvDefaultLifetime in seconds, AdvCurHopLimit, the flags,
-    /// AdvReachableTime and AdvRetransTimer in milliseconds, and AdvLinkMTU in bytes, 0 standing for none.
+    /// Returns such a configuration: MinRtrAdvInterval, MaxRtrAdvInterval and AdvDefaultLifetime in seconds, AdvCurHopLimit, the flags,
+    /// AdvReachableTime and AdvRetransTimer in milliseconds, and AdvLinkMTU in bytes, 0 for none.
     ///
-    /// The error is the first rule that is broken: `Max`, `Min`, `Lifetime`, `Reachable`, `Mtu` or `Preference`.
+    /// Returns the first rule that is broken as an error: `Max`, `Min`, `Lifetime`, `Reachable`, `Mtu` or `Preference`.
     pub fn new(
         min_interval: u16,
         max_interval: u16,
@@ -109,7 +109,7 @@ impl Config {
         })
     }
 
-    /// The least and the greatest time between two advertisements, in milliseconds (RFC 4861, section 6.2.4).
+    /// Returns the least and the greatest time between two advertisements, in milliseconds (RFC 4861, section 6.2.4).
     pub fn interval(&self) -> (u64, u64)
         ensures { result ≡ interval_range self.now }
     {
@@ -119,7 +119,7 @@ impl Config {
         )
     }
 
-    /// The fields of the advertisements.
+    /// Returns the fields of the advertisements.
     pub fn fields(&self) -> RouterAdvertisement
         ensures value { result ≡ self.now.fields }
         ensures right { config_fault self.now ≡ None }
@@ -128,7 +128,7 @@ impl Config {
         self.fields
     }
 
-    /// AdvLinkMTU, in bytes; 0 where the advertisements have no MTU option.
+    /// Returns AdvLinkMTU, in bytes, or 0 if the advertisements have no MTU option.
     pub fn mtu(&self) -> u32
         ensures { result ≡ self.now.mtu }
     {
@@ -136,7 +136,7 @@ impl Config {
     }
 }
 
-/// The milliseconds of so many seconds.
+/// Returns a number of seconds in milliseconds.
 fn milliseconds(seconds: u16) -> u64
     ensures { result ≡ milliseconds seconds }
 {

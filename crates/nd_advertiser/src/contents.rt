@@ -17,19 +17,19 @@ use nd_decode::{Body, RouterAdvertisement};
 use nd_message::{Message, Opt};
 use std::alloc::{AllocError, Allocator};
 
-/// How many bytes the message of an advertisement has at most: 16 of fields, 8 of the link-layer address, 8 of the MTU, and 32 of
-/// each of 16 offers (RFC 4861, section 4.2).
+/// The length of the longest advertisement, in bytes: 16 of fields, 8 of the link-layer address, 8 of the MTU, and 32 of each of 16 offers (RFC
+/// 4861, section 4.2).
 pub const MAX_CONTENTS_LENGTH: usize = 544;
 
-/// How many options it has at most: the link-layer address, the MTU, and the offers.
+/// The most options of an advertisement: the link-layer address, the MTU, and the offers.
 const MAX_OPTIONS: usize = 2 + MAX_OFFERS;
 
 impl<A: Allocator> Advertiser<A> {
     ghost use Rattle.nd_advertiser.specs.History.{Row};
     ghost use Rattle.nd_advertiser.specs.Table.{Stands};
 
-    /// What an advertisement says now, if it advertises, from an interface of this Ethernet address (RFC 4861, section 6.2.3). It has
-    /// `MAX_CONTENTS_LENGTH` bytes at most. The error is out of memory.
+    /// Returns what it advertises now, if it does, from an interface of this Ethernet address (RFC 4861, section 6.2.3), in `MAX_CONTENTS_LENGTH`
+    /// bytes at most. Returns an error if out of memory.
     pub fn contents<B: Allocator>(
         &self,
         alloc: B,
@@ -47,8 +47,8 @@ impl<A: Allocator> Advertiser<A> {
         Ok(Some(advertisement(config.fields(), options)))
     }
 
-    /// What the last advertisement says, which is sent when it ceases to advertise: the same, with a router lifetime of 0 (RFC 4861,
-    /// section 6.2.5) and the preference Medium (RFC 4191, section 2.2).
+    /// Returns the last advertisement, which is sent when it ceases to advertise: the same, with a router lifetime of 0 (RFC 4861, section 6.2.5)
+    /// and the preference Medium (RFC 4191, section 2.2).
     pub fn last_contents<B: Allocator>(
         &self,
         alloc: B,
@@ -67,7 +67,7 @@ impl<A: Allocator> Advertiser<A> {
         Ok(Some(advertisement(fields, options)))
     }
 
-    /// The options of an advertisement.
+    /// Returns the options of an advertisement.
     fn options<B: Allocator>(
         &self,
         alloc: B,
@@ -86,7 +86,7 @@ impl<A: Allocator> Advertiser<A> {
     }
 }
 
-/// The options before those of the offers, with room for these too.
+/// Returns the options before those of the offers, with room for these too.
 fn first_options<B: Allocator>(alloc: B, mac: Mac, mtu: u32) -> Result<Vec<Opt<B>, B>, AllocError>
     ensures value { IfOk result (λ options. map said options.items ≡ options_of mac mtu []) }
     ensures fits { IfOk result (λ options. AllByRecursion FitsOption (map said options.items)) }
@@ -102,7 +102,7 @@ fn first_options<B: Allocator>(alloc: B, mac: Mac, mtu: u32) -> Result<Vec<Opt<B
     Ok(options)
 }
 
-/// The advertisement of these fields and options.
+/// Returns the advertisement of these fields and options.
 fn advertisement<B: Allocator>(fields: RouterAdvertisement, options: Vec<Opt<B>, B>) -> Message<B>
     requires medium { IsMediumAtZero fields }
     requires fits { AllByRecursion FitsOption (map said options.items) }
@@ -117,7 +117,7 @@ fn advertisement<B: Allocator>(fields: RouterAdvertisement, options: Vec<Opt<B>,
     }
 }
 
-/// The option of an offer.
+/// Returns the option of an offer.
 fn prefix_option<B: Allocator>(offer: Offer) -> Opt<B>
     ensures value { said result ≡ prefix offer }
     ensures fits { FitsOption (said result) }
@@ -127,7 +127,7 @@ fn prefix_option<B: Allocator>(offer: Offer) -> Opt<B>
     Opt::Prefix(info)
 }
 
-/// The fields of the last advertisement.
+/// Returns the fields of the last advertisement.
 fn without_lifetime(fields: RouterAdvertisement) -> RouterAdvertisement
     ensures { result ≡ without_lifetime fields }
 {

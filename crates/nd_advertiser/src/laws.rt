@@ -8,14 +8,14 @@ ghost use Rattle.nd_advertiser.specs.History.{Row};
 ghost use Rattle.nd_advertiser.specs.Overdue.{IsOf, IsSpaced};
 ghost use Rattle.nd_advertiser.specs.Table.{Stands, Table};
 
-/// What happened gives one state of the advertising.
+/// A history gives one state of the advertising.
 pub fn one_answer()
     ensures { (history : List Row) (a b : Table) → Stands a history → Stands b history → a ≡ b }
 {}
 
-/// The date of the next advertisement, by what is kept, is that by what happened. Nothing that happens falls due in the past: where no
-/// advertisement is due before a moment, none is after one more row of that moment. And the next advertisement comes after the last one,
-/// since two are apart (RFC 4861, section 6.2.4).
+/// The date of the next advertisement in the table is the one that the history gives. Nothing that happens makes something due in the past: if no
+/// advertisement is due before a moment, none is after one more row of that moment. The next advertisement is after the last one, since two have a
+/// least distance (RFC 4861, section 6.2.4).
 pub fn none_overdue()
     ensures table { (table : Table) (history : List Row) → Stands table history → next table.assigned table.last table.advertising ≡ next_of history }
     ensures still { (history : List Row) (now : ℕ) (row : Row) → IsOf now row → NotBefore now (next_of history) → NotBefore now (next_of (row ∷ history)) }

@@ -13,7 +13,7 @@ use std::marker::Model;
 pub struct OfferFlags {
     /// AdvOnLinkFlag: its addresses are on the link.
     pub on_link: bool,
-    /// AdvAutonomousFlag: a host may make itself an address of it.
+    /// AdvAutonomousFlag: a host may form an address from it.
     pub autonomous: bool,
 }
 
@@ -38,8 +38,8 @@ impl Model for Offer {
 }
 
 impl Offer {
-    /// A prefix with AdvValidLifetime and AdvPreferredLifetime in seconds, all ones standing for ever. The error is the first rule that is
-    /// broken: `Preferred` or `Prefix`.
+    /// Returns an offer of a prefix, with AdvValidLifetime and AdvPreferredLifetime in seconds, all ones for infinity. Returns the first rule that
+    /// is broken as an error: `Preferred` or `Prefix`.
     pub fn new(
         prefix: Prefix,
         valid_lifetime: u32,
@@ -67,7 +67,7 @@ impl Offer {
         })
     }
 
-    /// What the prefix option says of it.
+    /// Returns the prefix option of the offer.
     pub fn info(&self) -> PrefixInfo
         ensures value { result ≡ self.now }
         ensures right { offer_fault self.now ≡ None }

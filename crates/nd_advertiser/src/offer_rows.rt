@@ -5,7 +5,7 @@ use indexmap::map::Values;
 use nd_addr::Prefix;
 use std::marker::Model;
 
-/// The offers, in the order in which their prefixes came.
+/// The offers, in the order in which their prefixes were first put.
 #[derive(Drop)]
 pub struct OfferRows<'a> {
     rest: Values<'a, Prefix, Offer>,
@@ -21,7 +21,7 @@ impl<'a> Model for OfferRows<'a> {
 }
 
 impl<'a> OfferRows<'a> {
-    /// Those of the values.
+    /// Returns the offers of these values.
     pub(crate) fn new(rest: Values<'a, Prefix, Offer>) -> Self
         ensures { result ≡ rest.entry }
     {

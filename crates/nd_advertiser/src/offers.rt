@@ -10,14 +10,14 @@ use std::alloc::{AllocError, Allocator};
 use std::hash::{BuildHasherDefault, FoldHasher};
 use std::marker::Model;
 
-/// How many prefixes are advertised at most (our choice).
+/// The most prefixes that are advertised (our choice).
 pub(crate) const MAX_OFFERS: usize = 16;
 
 /// There is no room: it would be one prefix too many. Nothing has changed then.
 #[derive(Clone, Copy, Debug, PartialEq, Eq)]
 pub struct Full;
 
-/// The prefixes that a router advertises (RFC 4861, section 6.2.1, AdvPrefixList), in the order in which they came.
+/// The prefixes that a router advertises (RFC 4861, section 6.2.1, AdvPrefixList), in the order in which they were first put.
 #[derive(Drop)]
 pub(crate) struct Offers<A: Allocator> {
     entries: IndexMap<Prefix, Offer, BuildHasherDefault<FoldHasher>, A>,
@@ -34,12 +34,12 @@ impl<A: Allocator> Model for Offers<A> {
 
     ghost view = { λ o. map (λ e. e.1) o.entries.entries };
 
-    // Each stands under its prefix, they are no more than 16, and there is room for as many.
+    // Each is under its prefix, they are no more than 16, and there is room for as many.
     ghost invariant = { λ o. AllByRecursion (λ e. e.0 ≡ e.1.prefix) o.entries.entries × (length o.entries.entries ≤ max_offers) × (max_offers ≤ length o.entries.entries + spare o.entries) };
 }
 
 impl<A: Allocator + Copy> Offers<A> {
-    /// None, with room for 16. The error is out of memory.
+    /// Returns an empty list, with room for 16. Returns an error if out of memory.
     pub(crate) fn new(alloc: A) -> Result<Self, AllocError>
         ensures { IfOk result (λ offers. offers ≡ []) }
     {
@@ -54,7 +54,7 @@ impl<A: Allocator + Copy> Offers<A> {
 }
 
 impl<A: Allocator> Offers<A> {
-    /// A prefix is offered: a new one goes behind the others, one that is there is replaced in its place.
+    /// Puts an offer: at the end if its prefix is new, and otherwise in place of the existing one.
     pub(crate) fn put(&mut self, offer: Offer) -> Result<(), Full>
         ensures value { result ≡ answer_to offer.prefix (prefixes_in self.old) }
         ensures put { OnOk result (self.new ≡ with_offer offer self.old) }
@@ -74,7 +74,7 @@ impl<A: Allocator> Offers<A> {
         }
     }
 
-    /// The offers, in their order.
+    /// Returns the offers, in their order.
     pub(crate) fn rows(&self) -> OfferRows<'_>
         ensures value { result ≡ self.now }
         ensures few { length result ≤ max_offers }
@@ -82,7 +82,7 @@ impl<A: Allocator> Offers<A> {
         OfferRows::new(self.entries.values())
     }
 
-    /// Returns how many prefixes are offered, at most 16.
+    /// Returns the number of prefixes offered, at most 16.
     pub(crate) fn len(&self) -> usize
         ensures value { result ≡ length self.now }
         ensures few { result ≤ max_offers }

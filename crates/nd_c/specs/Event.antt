@@ -26,14 +26,14 @@ refuses (Some (at, _)) = false
 abbrev pub answer_of : {A : Type 0} → ℕ → List (ℕ × Out A) → ℤ
 answer_of before reports = if nat_lt before (length reports) then (if refuses (slice_get reports (length reports - 1)) then refused else done) else done
 
--- An event comes to a session. If its moment is past, nothing changes. Else what is due up to it is done, and then it adds what it adds. When out of
+-- A session receives an event. If its moment is past, nothing changes. Else what is due up to it is done, and then it adds what it adds. When out of
 -- memory a part of what is due is done, and the event adds nothing.
 pub record Comes (now : ℕ) (event : Event) (status : ℤ) (old new : Session) : Type 0 where
   pub early : now < last_of old.node → (status ≡ past) × (new ≡ old)
   pub comes : last_of old.node ≤ now
       → ((status ≡ no_memory) × LedBy old new (Onward now)) ⊎ ((status ≡ answer_of (length old.queue) new.queue) × LedBy old new (FollowsBy now event))
 
--- An event comes to a slot with a session, or without one.
+-- A slot receives an event, with a session in it or without one.
 pub record Answers (now : ℕ) (event : Event) (status : ℤ) (old new : Option Session) : Type 0 where
   pub bad_moment : 2 ^ 62 ≤ now → (status ≡ invalid) × (new ≡ old)
   pub no_node : now < 2 ^ 62 → old ≡ None → (status ≡ closed) × (new ≡ None)

@@ -93,7 +93,7 @@ pub record RouterAt (now : ℕ) (index : ℕ) (s : Session) (row : Option Router
 pub record PrefixAt (now : ℕ) (index : ℕ) (s : Session) (row : Option PrefixRow) : Type 0 where
   pub each : InEachUpTo now s (λ start c. IsRowIn lifetimes.seen_in prefix_row (Shows same_prefix (prefix_history c) now) index row)
 
--- the own address at an index
+-- one of the node's own addresses, at an index
 pub record AddressAt (now : ℕ) (index : ℕ) (s : Session) (row : Option AddressRow) : Type 0 where
   pub each : InEach s (λ start c. IsRowIn address_view.seen_in address_row (addresses.Lists (address_history c) now) index row)
 

@@ -61,8 +61,8 @@ fn comes(alloc: Global, session: &mut Session, now: u64, given: Given<'_>) -> i3
     }
 }
 
-/// Gives an event to a session, at `now` in milliseconds. The error is out of memory: then a part of what is due may have been done and reported, and
-/// the event has added nothing.
+/// Gives an event to a session, at `now` in milliseconds. Returns an error if out of memory: a part of what is due may have been done and reported
+/// then, and the event has added nothing.
 fn give(alloc: Global, session: &mut Session, now: u64, given: Given<'_>) -> Result<(), AllocError>
     requires { IsMoment now }
     ensures follows { OnOk result (LedBy session.old session.new (FollowsBy now (event_given given.entry))) }
@@ -80,7 +80,7 @@ fn give(alloc: Global, session: &mut Session, now: u64, given: Given<'_>) -> Res
     }
 }
 
-/// Returns ND_REFUSED if the newest report is a refusal that comes behind `before` others, and else ND_DONE.
+/// Returns ND_REFUSED if the newest report is a refusal after `before` others, and otherwise ND_DONE.
 fn answer_of(session: &Session, before: usize) -> i32
     ensures { result ≡ answer_of before session.now.queue }
 {

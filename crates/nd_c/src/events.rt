@@ -23,7 +23,7 @@ pub extern "C" fn nd_turn(alloc: Global, node: &mut Slot, now: u64) -> i32
     answer(alloc, node, now, Given::Event(&Event::Passes))
 }
 
-/// Receives a frame, from its Ethernet destination on (RFC 2464, section 3). The frame stays the caller's.
+/// Receives a frame, from its Ethernet destination on (RFC 2464, section 3). The caller keeps the frame.
 #[unsafe(no_mangle)]
 pub extern "C" fn nd_receive(alloc: Global, node: &mut Slot, now: u64, frame: &[u8]) -> i32
     ensures { Answers now (events.Receives frame.now) result node.old.handle.session node.new.handle.session }
@@ -53,7 +53,7 @@ pub extern "C" fn nd_send(
     answer(alloc, node, now, given)
 }
 
-/// Takes that an upper layer confirms that a neighbour is reached (RFC 4861, section 7.3.1).
+/// Takes an upper layer's confirmation that a neighbour is reachable (RFC 4861, section 7.3.1).
 #[unsafe(no_mangle)]
 pub extern "C" fn nd_confirm(alloc: Global, node: &mut Slot, now: u64, neighbour: &[u8; 16]) -> i32
     ensures { Answers now (events.Confirms (record { 0 = neighbour.now })) result node.old.handle.session node.new.handle.session }

@@ -1,4 +1,4 @@
-//! A node is opened and closed, and asked for its moments.
+//! Opens and closes a node, and returns its moments.
 
 ghost use Rattle.std.specs.Prelude.{◌≡◌, ◌-◌, ◌^◌, ◌<◌, IfOk, None, Some};
 ghost use Rattle.nd_node.specs.Limits.{AreLimits};
@@ -32,7 +32,7 @@ pub extern "C" fn nd_open(alloc: Global, node: &mut Slot, options: &Options) -> 
     DONE
 }
 
-/// Starts a session in a box, as it is asked for. The error is out of memory.
+/// Starts a session in a box, as it is asked for. Returns an error if out of memory.
 fn start_boxed(alloc: Global, opening: &Opening) -> Result<Box<Session, Global>, AllocError>
     requires moment { opening.now.start < 2 ^ 62 }
     requires limits { AreLimits opening.now.neighbours opening.now.routers }
@@ -45,7 +45,7 @@ fn start_boxed(alloc: Global, opening: &Opening) -> Result<Box<Session, Global>,
     }
 }
 
-/// Starts a session as it is asked for. The error is out of memory.
+/// Starts a session as it is asked for. Returns an error if out of memory.
 fn start(alloc: Global, opening: &Opening) -> Result<Session, AllocError>
     requires moment { opening.now.start < 2 ^ 62 }
     requires limits { AreLimits opening.now.neighbours opening.now.routers }

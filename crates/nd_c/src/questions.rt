@@ -314,7 +314,7 @@ pub extern "C" fn nd_advertising_of(
     status
 }
 
-/// Writes how many entries the tables have.
+/// Writes the number of entries of each table.
 #[unsafe(no_mangle)]
 pub extern "C" fn nd_counts_of(alloc: Global, node: &mut Slot, now: u64, row: &mut CountsRow) -> i32
     ensures { Asked now (CountsOf) result node.old.handle.session node.new.handle.session row.old row.new }

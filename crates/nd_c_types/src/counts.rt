@@ -5,7 +5,7 @@ ghost use Rattle.nd_c_types.specs.Counts.{counts_row, shown};
 
 use nd_node::Counts;
 
-/// How many entries the tables have: `nd_counts_row` of the header.
+/// The number of entries of each table: `nd_counts_row` of the header.
 #[repr(C)]
 #[derive(Clone, Copy, Drop)]
 pub struct CountsRow {

@@ -56,7 +56,7 @@ impl NameRow {
         let text = text_of(bytes);
         NameRow {
             left: left_number(name.left),
-            // A dot stands for each length byte but the first.
+            // There is a dot for each length byte but the first.
             length: (bytes.len() - 1) as u32,
             reserved: 0,
             text,

@@ -5,10 +5,10 @@ ghost use Rattle.nd_search_list.specs.Name.{IsSpelled, lowered};
 ghost use Rattle.nd_search_list.specs.Text.{IsText, name_text, text_from};
 ghost use Rattle.nd_c_types.specs.NameText.{padded};
 
-/// How many bytes a text has room for.
+/// The number of bytes for which a text has room.
 const TEXT_LENGTH: usize = 256;
 
-/// Returns the text of the name that the bytes spell, with zeros behind it (RFC 1035, section 2.3.1).
+/// Returns the text of the name that the bytes spell, with zeros after it (RFC 1035, section 2.3.1).
 pub(crate) fn text_of(bytes: &[u8]) -> [u8; 256]
     requires { IsSpelled bytes.now }
     ensures written { result ≡ padded (name_text (lowered bytes.now)) }
@@ -22,7 +22,7 @@ pub(crate) fn text_of(bytes: &[u8]) -> [u8; 256]
     text
 }
 
-/// Writes the rest of a name's text, of which a label lacks `first` bytes. The bytes behind it are unchanged.
+/// Writes the rest of a name's text, of which a label lacks `first` bytes. The bytes after it are unchanged.
 fn write_from(text: &mut [u8], first: u8, bytes: &[u8])
     requires { length bytes.now ≤ length text.old }
     ensures { text.new ≡ text_from first (lowered bytes.now) ++ drop (length bytes.now) text.old }

@@ -11,7 +11,7 @@ use nd_node::{USUAL_NEIGHBOURS, USUAL_ROUTERS};
 use nd_routers::MAX_ROUTERS;
 use nd_slaac::Transmits;
 
-/// How many bytes the structure has.
+/// The number of bytes of the structure.
 const SIZE: u32 = 64;
 
 /// The limit that moments are below, in milliseconds.
@@ -24,7 +24,7 @@ const MOST_NEIGHBOURS: u32 = MAX_NEIGHBOURS as u32;
 
 const MOST_ROUTERS: u32 = MAX_ROUTERS as u32;
 
-/// The number of solicitations for which 0 stands.
+/// The number of solicitations that 0 means.
 const USUAL_TRANSMITS: u8 = 1;
 
 /// What a node is opened with: `nd_options` of the header.
@@ -51,7 +51,7 @@ pub struct Options {
     pub reserved: [u64; 3],
 }
 
-/// Where the random words of a node come from.
+/// The source of a node's random words.
 #[derive(Clone, Copy, Debug, PartialEq, Eq)]
 pub enum Draws {
     /// The generator PCG32, with this seed.

@@ -12,7 +12,7 @@ use std::alloc::Allocator;
 #[repr(C)]
 #[derive(Clone, Copy, Drop)]
 pub struct Record {
-    /// When it was due, or when its event arrived, in milliseconds.
+    /// The moment at which it was due, or its event was received, in milliseconds.
     pub moment: u64,
     /// The number of its bytes.
     pub length: usize,

@@ -1,4 +1,4 @@
--- What falls due in a millisecond, in the order of its passes, and what comes with it.
+-- What is due in a millisecond, in the order of its passes, and what comes with it.
 use Rattle.std.specs.Prelude.{◌≡◌, ◌≢◌, ℕ, ◌+◌, ◌*◌, Bool, true, false, ◌&&◌, ◌||◌, not, ◌==◌, nat_lt, if◌then◌else◌, List, [], ◌∷◌, Option, Some, None}
 use Rattle.std.specs.Option.{option_map}
 use Rattle.nd_addr.specs.declared.role.Role.{Role}
@@ -67,9 +67,9 @@ router_advertisement_date start c = if is_host start.role then None else next_of
 
 -- ---- the passes
 
--- what may fall due: a router's lifetime ends (RFC 4861, section 6.3.5); an own address ends, is to be solicited or is assigned (RFC 4862,
--- sections 5.4 and 5.5.4); a neighbour is to be solicited, fails or ages (RFC 4861, sections 7.2.2 and 7.3.3); a Router Solicitation, or a
--- Router Advertisement, is to be sent (sections 6.3.7 and 6.2.4); ReachableTime is to be drawn again (section 6.3.4)
+-- what may be due: a router's lifetime ends (RFC 4861, section 6.3.5); one of the node's own addresses ends, is solicited or is assigned (RFC
+-- 4862, sections 5.4 and 5.5.4); a neighbour is solicited, fails or ages (RFC 4861, sections 7.2.2 and 7.3.3); a Router Solicitation, or a
+-- Router Advertisement, is sent (sections 6.3.7 and 6.2.4); ReachableTime is drawn again (section 6.3.4)
 pub data What : Type 0 where
   RouterEnds : (key : ℕ) → What
   AddressFalls : (falls : addresses.Falls) → What

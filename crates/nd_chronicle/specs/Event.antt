@@ -56,7 +56,7 @@ pub data Clearable : Type 0 where
 pub data Event : Type 0 where
   -- time passes
   Passes : Event
-  -- a frame comes
+  -- a frame is received
   Receives : (frame : List ℕ) → Event
   -- a packet is to be sent
   Sends : (source destination : Addr) (next_header : ℕ) (payload : List ℕ) → Event
@@ -74,7 +74,7 @@ pub data Event : Type 0 where
   -- a router is to cease advertising (section 6.2.5)
   Stops : Event
 
--- a frame that comes is bytes
+-- a received frame is bytes
 abbrev pub ComesAsBytes : Event → Type 0
 ComesAsBytes event = (frame : List ℕ) → event ≡ Receives frame → IsBytes frame
 
@@ -87,7 +87,7 @@ abbrev pub packet_bytes : List ℕ → List ℕ
 packet_bytes frame = take (ipv6_header_length + payload_length_of (packet_in frame)) (packet_in frame)
 
 module _ (start : Start) (now : ℕ) where
-  -- ---- a frame comes
+  -- ---- a frame is received
 
   -- what a message adds that is for this node and for which all tables have room
   abbrev pub MessageAdds : Addr → Addr → Parts → Body → Chronicle → Chronicle → Type 0

@@ -32,14 +32,14 @@ key_of (via key) destination = key
 key_of no_route destination = 0
 
 module _ (start : Start) (now : ℕ) where
-  -- it goes to who sent the packet, which is quoted as it came
+  -- it goes to the sender of the packet, which is quoted as received
   abbrev pub better_hop_frame : Addr → PacketParts → List ℕ → Chronicle → List ℕ
   better_hop_frame target packet bytes c =
       redirect_frame start.mac (link_local start) packet.header.source (known_mac_of c target) target packet.header.destination bytes
 
   -- ---- the packet
 
-  -- as it came
+  -- as received
   abbrev pub frame_as_it_came : PacketParts → List ℕ
   frame_as_it_came packet = written_frame open_mac start.mac packet.header packet.payload
 
@@ -53,7 +53,7 @@ module _ (start : Start) (now : ℕ) where
     pub redirect : Goes start ((now, RedirectMade) ∷ c) now (number_of packet.header.source.0) (better_hop_frame target packet bytes c) told
     pub behind : Goes start told now key (frame_sent_on packet) d
 
-  -- both go or none does, where one of them has no place
+  -- both go or none does, if there is no room for one of them
   abbrev pub SendsOn : Option Addr → PacketParts → List ℕ → ℕ → Chronicle → Chronicle → Type 0
   SendsOn None packet bytes key c d = GoesIfPlaced start now key (frame_sent_on packet) c d
   SendsOn (Some target) packet bytes key c d =

@@ -27,7 +27,7 @@ use Rattle.nd_chronicle.specs.Histories.{router_history, prefix_history, address
 use Rattle.nd_chronicle.specs.Packet.{HasPlace, no_place}
 use Rattle.nd_chronicle.specs.Message.{said, lets_enter}
 
--- the neighbour that has to have place, and whether it enters
+-- the neighbour for which there has to be room, and whether it enters
 abbrev pub entering : Option (ℕ × RowKind) → Option (ℕ × Bool)
 entering None = None
 entering (Some news) = Some (news.0, lets_enter news.1)
@@ -40,7 +40,7 @@ abbrev pub needs : Chronicle → Addr → Parts → Body → Option (ℕ × Bool
 needs c source message (bodies.Ns ns) = asking source
 needs c source message _ = entering (said c source message)
 
--- whether it has place
+-- whether there is room for it
 abbrev pub Placed : Start → Chronicle → ℕ → Option (ℕ × Bool) → Bool → Type 0
 Placed start c now None place = place ≡ true
 Placed start c now (Some need) place = HasPlace start c now need.0 need.1 place

@@ -60,7 +60,7 @@ pub data Happening : Type 0 where
   Dropped : (why : Why) → Happening
   -- a packet that is no message goes up, from its IPv6 header to the end of its payload
   Up : (packet : List ℕ) → Happening
-  -- something that no message says happened to a neighbour, or to an own address
+  -- something that no message says happened to a neighbour, or to one of the node's own addresses
   Neighbour : (key : ℕ) (kind : neighbours.RowKind) → Happening
   Address : (key : ℕ) (kind : addresses.RowKind) → Happening
   -- a router left the list
@@ -91,7 +91,7 @@ pub data Happening : Type 0 where
   Refused : (refusal : Refusal) → Happening
   -- rows of a table were shown, each a text
   Shown : (rows : List (List ℕ)) → Happening
-  -- an event came too late, and was told alone: time had passed up to this moment
+  -- an event was too late, and was only reported as past: time had passed up to this moment
   TooLate : (last : ℕ) → Happening
 
 -- a moment and what happened then, the newest first

@@ -72,7 +72,7 @@ pub record IsInTransit (start : Start) (c : Chronicle) (packet : PacketParts) : 
   pub may : may_be_forwarded packet.header ≡ true
   pub up : is_up start c ≡ true
 
--- ---- from whom a Redirect comes
+-- ---- the sender of a Redirect
 
 -- "The IP source address of the Redirect is the same as the current first-hop router for the specified ICMP Destination Address."
 -- (section 8.1)

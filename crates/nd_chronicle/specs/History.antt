@@ -36,7 +36,7 @@ module _ (start : Start) where
 
   -- ---- events
 
-  -- The milliseconds up to an event come first, its own included; then it adds what it adds. One that comes too late is told alone.
+  -- The milliseconds up to an event come first, its own included; then it adds what it adds. One that is too late is only reported as past.
   abbrev pub Follows : Chronicle → ℕ → Event → Chronicle → Type 0
   Follows c now event d =
       MatchBool (nat_lt now (last_moment start.at c))

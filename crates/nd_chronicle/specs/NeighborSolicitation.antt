@@ -1,4 +1,4 @@
--- What a Neighbor Solicitation for an own address adds (RFC 4861, sections 7.2.3 and 7.2.4; RFC 4862, section 5.4.3).
+-- What a Neighbor Solicitation for one of the node's own addresses adds (RFC 4861, sections 7.2.3 and 7.2.4; RFC 4862, section 5.4.3).
 use Rattle.std.specs.Prelude.{◌≡◌, ℕ, Bool, true, false, if◌then◌else◌, bytes_eq, MatchBool, ◌∷◌}
 use Rattle.nd_addr.specs.declared.addr.Addr.{Addr}
 use Rattle.nd_addr.specs.declared.role.Role.{Role}
@@ -21,7 +21,7 @@ is_router Router = true
 is_router Host = false
 
 module _ (start : Start) (at : ℕ) where
-  -- From ::, another node tries the address: if it is assigned here, all nodes are told so; if it is tentative, it is a duplicate.
+  -- From ::, another node tries the address: if it is assigned here, an advertisement to all nodes says so; if it is tentative, it is a duplicate.
   abbrev pub then_tried : Addr → Chronicle → Chronicle
   then_tried target c =
       if is_assigned c target.0 then (at, Sent (defence_frame (is_router start.role) start.mac target)) ∷ c

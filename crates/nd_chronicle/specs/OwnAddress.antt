@@ -18,7 +18,7 @@ is_tentative c address = states.is_tentative (story_of c (number_of address))
 abbrev pub is_assigned : Chronicle → List ℕ → Bool
 is_assigned c address = states.is_assigned (story_of c (number_of address))
 
--- an own address: a duplicate is none
+-- one of the node's own addresses: a duplicate is none
 abbrev pub is_own : Chronicle → List ℕ → Bool
 is_own c address = is_tentative c address || is_assigned c address
 

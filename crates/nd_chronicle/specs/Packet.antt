@@ -25,24 +25,24 @@ abbrev pub sending : ℕ → ℕ → List (List ℕ) → Chronicle → Chronicle
 sending at mac [] c = c
 sending at mac (packet ∷ packets) c = sending at mac packets ((at, Sent (addressed (mac_at mac) packet)) ∷ c)
 
--- a neighbour goes, so that another one has place
+-- a neighbour goes, so that there is room for another one
 abbrev pub with_pushed : ℕ → Option ℕ → Chronicle → Chronicle
 with_pushed at None c = c
 with_pushed at (Some key) c = (at, Neighbour key (neighbours.Forgot neighbours.PushedOut)) ∷ c
 
--- what makes place for a neighbour that may have to enter
+-- what makes room for a neighbour that may have to enter
 pub record MakesPlace (start : Start) (c : Chronicle) (at key : ℕ) (enters : Bool) (d : Chronicle) : Type 0 where
   pub pushed : Option ℕ
   pub place : Prepares start.limits.neighbours at enters key (neighbour_history c) (pushing at pushed (neighbour_history c))
   pub with_it : d ≡ with_pushed at pushed c
 
--- whether there is place for it: there isn't where it would be full
+-- whether there is room for it: there isn't if it would be full
 abbrev pub HasPlace : Start → Chronicle → ℕ → ℕ → Bool → Bool → Type 0
 HasPlace start c at key enters place =
     MatchBool place (enters ≡ true → WouldBeFull start.limits.neighbours at key (neighbour_history c) → ⊥)
     ((enters ≡ true) × WouldBeFull start.limits.neighbours at key (neighbour_history c))
 
--- whether there is place for it, and behind a packet to it for a second one
+-- whether there is room for it, and behind a packet to it for a second one
 abbrev pub HavePlace : Start → Chronicle → ℕ → ℕ → ℕ → Bool → Type 0
 HavePlace start c at key second place =
     MatchBool place (HasRoom start.limits.neighbours at key (Some second) (neighbour_history c))
@@ -59,17 +59,17 @@ then_packet start at key retrans packet (Queues true replaced) c =
 then_packet start at key retrans packet (Queues false replaced) c =
     losing at Replaced (option_to_list replaced) ((at, Neighbour key (neighbours.Waits packet)) ∷ c)
 
--- What a packet to a neighbour adds, with the RetransTimer in force: the neighbour has place, and the packet is sent or waits.
+-- What a packet to a neighbour adds, with the RetransTimer in force: there is room for the neighbour, and the packet is sent or waits.
 pub record Goes (start : Start) (c : Chronicle) (at key : ℕ) (packet : List ℕ) (d : Chronicle) : Type 0 where
   pub placed : Chronicle
   pub place : MakesPlace start c at key true placed
   pub goes : d ≡ then_packet start at key (retrans_timer c) packet (sending_of_story (story key (neighbour_history c)) packet) placed
 
--- the table that has no place, if it has none
+-- the table that has no room, if it has none
 abbrev pub no_place : Bool → Option Limit
 no_place place = if place then None else Some Neighbours
 
--- it goes to the neighbour, if that has place
+-- it goes to the neighbour, if there is room for that
 abbrev pub GoesIfPlaced : Start → ℕ → ℕ → List ℕ → Chronicle → Chronicle → Type 0
 GoesIfPlaced start now key packet c d =
     (place : Bool) × HasPlace start c now key true place × UnlessFull now (no_place place) (Goes start c now key packet) c d

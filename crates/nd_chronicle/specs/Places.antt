@@ -14,24 +14,24 @@ use Rattle.nd_chronicle.specs.InForce.{retrans_timer}
 use Rattle.nd_chronicle.specs.Hearing.{conflicts_with}
 use Rattle.nd_chronicle.specs.OwnAddress.{story_of}
 
--- the place of a row of an own address, with this history of the own addresses below it
+-- the place of a row of one of the node's own addresses, with this history of the own addresses below it
 pub record PlaceOf (at key : ℕ) (kind : RowKind) (below : List Row) (c : Chronicle) : Type 0 where
   pub before : Chronicle
   pub there : Past ((at, Address key kind) ∷ before) c
   pub history : address_history before ≡ below
 
--- a solicitation for an own address, and the frame that is sent with it
+-- a solicitation for one of the node's own addresses, and the frame that is sent with it
 abbrev pub solicited_with : Start → ℕ → ℕ → Chronicle → Chronicle
 solicited_with start at key c = (at, Sent (detection_frame start.mac (addr_at key))) ∷ (at, Address key Solicited) ∷ c
 
--- an own address is formed
+-- one of the node's own addresses is formed
 abbrev pub formed_with : ℕ → ℕ → ℕ → ℕ → Option Lifetimes → Chronicle → Chronicle
 formed_with at key delay retrans lifetimes c = (at, Address key (Formed delay retrans lifetimes)) ∷ c
 
--- how an own address came to be held, in rows of the chronicle: it was formed, was tried from then on until it was assigned, and is held since;
--- each solicitation for it was sent a RetransTimer before the next one, and the last one a RetransTimer before it was assigned; RetransTimer is
--- the one that was in force when it was formed, and until it was assigned no other node was heard to have it or to try for it (RFC 4862,
--- section 5.4)
+-- how the node got one of its own addresses, in rows of the chronicle: it was formed, was tried from then on until it was assigned, and is
+-- held since; each solicitation for it was sent a RetransTimer before the next one, and the last one a RetransTimer before it was assigned;
+-- RetransTimer is the one that was in force when it was formed, and until it was assigned no other node was heard to have it or to try it (RFC
+-- 4862, section 5.4)
 pub record HeldInRows (start : Start) (key : ℕ) (c : Chronicle) : Type 0 where
   pub formed : ℕ
   pub delay : ℕ

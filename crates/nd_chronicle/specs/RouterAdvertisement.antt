@@ -57,7 +57,7 @@ module _ (start : Start) (at : ℕ) where
   then_options to_all [] c = c
   then_options to_all (info ∷ infos) c = then_options to_all infos (then_option to_all info c)
 
-  -- where "the received Router Lifetime value is zero, immediately time-out the entry" (section 6.3.4): a router that stands in the list
+  -- where "the received Router Lifetime value is zero, immediately time-out the entry" (section 6.3.4): a router that is in the list
   abbrev pub times_out : Chronicle → Addr → RouterAdvertisement → Bool
   times_out c source ra = (ra.router_lifetime == 0) && stands same (number_of source.0) (announcements (router_history c)) at
 

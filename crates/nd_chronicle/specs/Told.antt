@@ -1,5 +1,5 @@
--- The text of a chronicle: what is told of each row, and nothing of what has no text (the texts are this project's own).
--- What is told of it is a list of items too, off which the text and the frames that were sent can be read.
+-- The text of a chronicle: what is reported of each row, and nothing of what has no text (the texts are this project's own).
+-- What is reported of it is a list of items too, off which the text and the frames that were sent can be read.
 use Rattle.std.specs.Prelude.{ℕ, List, [], ◌∷◌, ◌++◌, length, map, codes}
 use Rattle.std.specs.Fmt.{decimal}
 use Rattle.std.specs.List.{flat_map}
@@ -62,7 +62,7 @@ told_of_address key addresses.Assigned = (codes "assigned " ++ key_text key) ∷
 told_of_address key addresses.Ended = (codes "ended address " ++ key_text key) ∷ []
 told_of_address key _ = []
 
--- what is told of what happened: texts without their moment
+-- what is reported of what happened: texts without their moment
 abbrev pub told_of : Happening → List (List ℕ)
 told_of Passed = []
 told_of (Drew what value) = []
@@ -102,7 +102,7 @@ abbrev pub text : Chronicle → List ℕ
 text [] = []
 text (row ∷ c) = text c ++ lines_of row
 
--- what is told of a row: a frame that was sent, a message that was heard with its addresses and its fields, a packet that was lost and why; all
+-- what is reported of a row: a frame that was sent, a message that was heard with its addresses and its fields, a packet that was lost and why; all
 -- else by its text
 pub data Told : Type 0 where
   Frame : (frame : List ℕ) → Told
@@ -110,7 +110,7 @@ pub data Told : Type 0 where
   LostPacket : (why : Loss) (packet : List ℕ) → Told
   Words : (words : List ℕ) → Told
 
--- what is told of what happened
+-- what is reported of what happened
 abbrev pub items_of : Happening → List Told
 items_of (Sent frame) = Frame frame ∷ []
 items_of (Heard source destination message) = Message source destination message.body ∷ []

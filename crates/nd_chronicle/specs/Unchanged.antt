@@ -1,4 +1,4 @@
--- What leaves a node as it was: time that passes up to an event, a frame that is dropped, an event that is refused or comes too late.
+-- What leaves a node unchanged: time that passes up to an event, a frame that is dropped, an event that is refused or too late.
 use Rattle.std.specs.Prelude.{◌≡◌, ◌↔◌, ℕ, Bool, true, false, List, Option}
 use Rattle.nd_addr.specs.declared.addr.Addr.{Addr}
 use Rattle.nd_nexthop.specs.NextHop.{NextHop}

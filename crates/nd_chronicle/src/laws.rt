@@ -32,7 +32,7 @@ pub fn one_chronicle()
     ensures { (start : Start) (events : List (ℕ × Event)) (c d : Chronicle) → IsChronicle start events c → IsChronicle start events d → c ≡ d }
 {}
 
-/// Nothing that happened is lost: whatever happens further, a chronicle grows, and what is told of it is told behind the text of before.
+/// Nothing that happened is lost: with each further event a chronicle only grows, and the text of what it adds is after the text of before.
 pub fn only_grows()
     ensures rows { (start : Start) (events : List (ℕ × Event)) (c d : Chronicle) → Runs start c events d → Grows c d }
     ensures told { (newer c : Chronicle) → text (newer ++ c) ≡ text c ++ text newer }
@@ -51,26 +51,27 @@ pub fn tried_before_held()
     ensures rows { (start : Start) (events : List (ℕ × Event)) (c d : Chronicle) (key : ℕ) → IsChronicle start events c → Past d c → is_assigned (story_of d key) ≡ true → HeldInRows start key d }
 {}
 
-/// Each assignment of an own address ends a Duplicate Address Detection that found no rival (RFC 4862, sections 5.4.3 to 5.4.5): `HeldInRows` holds
-/// of that assignment, and from the forming of the address up to it the node received neither a Neighbor Solicitation from `::` for the address
-/// nor a Neighbor Advertisement for it.
+/// Each assignment of one of the node's own addresses ends a Duplicate Address Detection that found no rival (RFC 4862, sections 5.4.3 to 5.4.5):
+/// `HeldInRows` holds of that assignment, and from the forming of the address up to it the node received neither a Neighbor Solicitation from `::`
+/// for the address nor a Neighbor Advertisement for it.
 pub fn each_assignment_was_tried()
     ensures { (start : Start) (events : List (ℕ × Event)) (c over : Chronicle) (at key : ℕ) → IsChronicle start events c → Past ((at, Address key Assigned) ∷ over) c → AssignedInRows start at key over }
 {}
 
-/// A frame that is dropped, an event that is refused and an event in the past change nothing: the history of each table, the packets that wait, the
-/// words of the generator, what is due, each next hop and what each table shows stay as they were.
+/// A dropped frame, a refused event and an event in the past change nothing: the history of each table, the packets that wait, the words of the
+/// generator, what is due, each next hop and what each table shows stay as they were.
 pub fn refusals_change_nothing()
     ensures row { (start : Start) (c : Chronicle) (at : ℕ) (what : Happening) → changes_nothing what ≡ true → IsUnchanged start c ((at, what) ∷ c) }
     ensures event { (start : Start) (c : Chronicle) (now : ℕ) (what : Happening) → changes_nothing what ≡ true → IsUnchanged start c ((now, what) ∷ (now, Passed) ∷ c) }
 {}
 
-/// An event that is refused adds its refusal alone, and any other adds no refusal: so a refusal is the last row that its event adds.
+/// A refused event adds its refusal alone, and any other adds no refusal: so a refusal is the last row that its event adds.
 pub fn refusals_come_alone()
     ensures { (start : Start) (now : ℕ) (event : Event) (c d : Chronicle) → EventAdds start now event c d → RefusedOrNot now c d }
 {}
 
-/// The number of an own address is that of an address, and of no multicast address, whatever bytes come as frames (RFC 4862, section 5.5.3).
+/// The number of one of the node's own addresses is that of an address, and of no multicast address, for any bytes received as frames (RFC 4862,
+/// section 5.5.3).
 pub fn own_addresses_are_unicast()
     ensures number { (start : Start) (events : List (ℕ × Event)) (c d : Chronicle) (key : ℕ) → AreBytes 6 start.mac.0
         → ComeAsBytes events → IsChronicle start events c → Past d c → is_known (story_of d key) ≡ true
@@ -80,8 +81,9 @@ pub fn own_addresses_are_unicast()
         → IsUnicast (addr_at key) }
 {}
 
-/// At each place of a chronicle an own address other than the link-local one is known only where that one is assigned, and that one stays so,
-/// whatever bytes come as frames: where it is a duplicate, there is no own address (RFC 4862, sections 5.3, 5.4.5 and 5.5.3).
+/// At each place of a chronicle, one of the node's own addresses other than the link-local one is known only if the link-local one is assigned, and
+/// that one stays so, for any bytes received as frames: if it is a duplicate, the node has no address of its own (RFC 4862, sections 5.3, 5.4.5 and
+/// 5.5.3).
 pub fn link_local_address_comes_first()
     ensures known { (start : Start) (events : List (ℕ × Event)) (c d : Chronicle) (key : ℕ) → ComeAsBytes events
         → IsChronicle start events c → Past d c → key ≢ link_local_key start → is_known (story_of d key) ≡ true → is_up start d ≡ true }
@@ -94,7 +96,7 @@ pub fn link_local_address_comes_first()
         → IsChronicle start events c → Runs start c later d → is_up start c ≡ true → is_up start d ≡ true }
 {}
 
-/// What happened to the own addresses stands in the chronicle, row by row, and each solicitation for one is sent in the moment of its row, with
+/// What happened to the node's own addresses is in the chronicle, row by row, and each solicitation for one is sent in the moment of its row, with
 /// nothing between (RFC 4862, section 5.4.2).
 pub fn rows_have_places()
     ensures place { (c : Chronicle) (at key : ℕ) (kind : RowKind) (below : List Row) → Past ((at, key, kind) ∷ below) (address_history c) → PlaceOf at key kind below c }
@@ -102,9 +104,9 @@ pub fn rows_have_places()
     ensures sent { (start : Start) (events : List (ℕ × Event)) (c below : Chronicle) (at key : ℕ) → IsChronicle start events c → Past ((at, Address key Solicited) ∷ below) c → Past (solicited_with start at key below) c }
 {}
 
-/// Where another node tries an own address, a duplicate is told or all nodes are told that it is held here; where another node tells all nodes
-/// that it holds an address, that is a duplicate if it is tentative here (RFC 4861, section 7.2.4; RFC 4862, sections 5.4.3 and 5.4.4). Nothing
-/// refuses either, and nothing else comes first.
+/// If another node tries one of the node's own addresses, the node reports a duplicate or says to all nodes that it has the address. If another
+/// node says to all nodes that it has an address, this is a duplicate if it is tentative here (RFC 4861, section 7.2.4; RFC 4862, sections 5.4.3
+/// and 5.4.4). Neither is refused, and nothing else happens before it.
 pub fn rivals_are_heard()
     ensures tried { (start : Start) (c d : Chronicle) (now : ℕ) (frame : List ℕ) (address : Addr) → AreBytes 16 address.0 → IsUnicast address → (t : IsDetection frame address)
         → is_own c address.0 ≡ true → is_awake start c unspecified (bodies.Ns (record { target = address })) ≡ true
@@ -114,7 +116,7 @@ pub fn rivals_are_heard()
         → FrameAdds start now frame c d → d ≡ then_neighbor_advertised now address all_nodes address t.message c }
 {}
 
-/// Milliseconds in which nothing is due add nothing: who knows the moment before which nothing is due may go there at once.
+/// Milliseconds in which nothing is due add nothing: a caller that knows the moment before which nothing is due may go there at once.
 pub fn idle_time_passes()
     ensures { (start : Start) (c d : Chronicle) (next end : ℕ) → ((moment : ℕ) → moment < next → Due start c moment None) → (moment : ℕ) → moment ≤ next → next ≤ end + 1
         → Walk start c next end d → Walk start c moment end d }

@@ -28,7 +28,7 @@ solicited_node address = record { 0 = solicited_node_of address.0 }
 abbrev pub multicast_mac : Addr → Mac
 multicast_mac destination = record { 0 = multicast_mac_of destination.0 }
 
--- what stands in the place of an Ethernet destination that is still open: a frame that waits is addressed when it is sent
+-- the placeholder for an Ethernet destination that is still open: a frame that waits is addressed when it is sent
 abbrev pub open_mac : Mac
 open_mac = record { 0 = replicate 6 0 }
 

@@ -1,4 +1,4 @@
--- What the frames of duplicate address detection mean, whoever wrote them: by what they carry, not by their bytes.
+-- What the frames of duplicate address detection mean, for every sender: by what they carry, not by their bytes.
 use Rattle.std.specs.Prelude.{◌≡◌, ℕ, Bool, false, List}
 use Rattle.std.specs.List.{list_any}
 use Rattle.nd_addr.specs.declared.addr.Addr.{Addr}

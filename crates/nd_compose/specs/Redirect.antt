@@ -14,7 +14,7 @@ abbrev pub target_options : Option Mac → List Said
 target_options None = []
 target_options (Some mac) = tlla mac ∷ []
 
--- how many bytes the fields of a Redirect have, and a unit in which the lengths of options are told
+-- how many bytes the fields of a Redirect have, and a unit in which the lengths of options are counted
 abbrev pub redirect_length : ℕ
 redirect_length = 40
 
@@ -37,7 +37,7 @@ redirect_message mac target destination packet = record {
   options = target_options mac ++ redirected (padded (take (most_quoted (target_options mac)) packet)) ∷ [];
 }
 
--- from an own address to who sent the packet, addressed when it is sent
+-- from one of the node's own addresses to the sender of the packet, addressed when it is sent
 abbrev pub redirect_frame : Mac → Addr → Addr → Option Mac → Addr → Addr → List ℕ → List ℕ
 redirect_frame mac source to target_mac target destination packet =
     message_frame open_mac mac source to (redirect_message target_mac target destination packet)

@@ -1,3 +1,5 @@
+//! The Neighbor Advertisements that a node sends (RFC 4861, sections 4.4 and 7.2.4).
+
 ghost use Rattle.std.specs.Prelude.{◌≡◌};
 ghost use Rattle.nd_message.specs.Frame.{message_frame};
 ghost use Rattle.nd_compose.specs.Frames.{advertisement, defence_frame, answer_frame};

@@ -1,3 +1,5 @@
+//! Room for one short frame, reserved before it is sent.
+
 ghost use Rattle.std.specs.Prelude.{◌≡◌, ◌≤◌, ◌+◌, [], vec_capacity};
 ghost use Rattle.nd_addr.specs.Bytes.{AreBytes};
 ghost use Rattle.nd_addr.specs.Frame.{headers_length};

@@ -1,3 +1,5 @@
+//! The frame of a message of any length.
+
 ghost use Rattle.std.specs.Prelude.{◌≡◌, IfOk};
 ghost use Rattle.nd_message.specs.Frame.{message_frame};
 ghost use Rattle.nd_message.specs.Owned.{whole_of};

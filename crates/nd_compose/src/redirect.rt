@@ -1,3 +1,5 @@
+//! The Redirect that a router sends (RFC 4861, sections 4.5 and 8.2). The definitions are in `specs/Redirect.antt`.
+
 ghost use Rattle.std.specs.Prelude.{◌≡◌, ◌≤◌, IfOk, IfSome, map, take};
 ghost use Rattle.nd_addr.specs.Bytes.{AreBytes};
 ghost use Rattle.nd_message.specs.Owned.{said};

@@ -1,3 +1,5 @@
+//! The Router Advertisement that a router sends (RFC 4861, section 6.2.4).
+
 ghost use Rattle.std.specs.Prelude.{◌≡◌, IfOk};
 ghost use Rattle.nd_message.specs.Owned.{whole};
 ghost use Rattle.nd_message.specs.WellFormed.{IsWellFormed};

@@ -1,3 +1,5 @@
+//! The Router Solicitation that a host sends (RFC 4861, section 6.3.7).
+
 ghost use Rattle.std.specs.Prelude.{◌≡◌};
 ghost use Rattle.nd_compose.specs.Frames.{router_solicitation_frame};
 

@@ -1,3 +1,5 @@
+//! The Neighbor Solicitations that a node sends (RFC 4861, sections 4.3, 7.2.2 and 7.3.3; RFC 4862, section 5.4.2).
+
 ghost use Rattle.std.specs.Prelude.{◌≡◌};
 ghost use Rattle.nd_message.specs.Frame.{message_frame};
 ghost use Rattle.nd_compose.specs.Frames.{detection_frame, resolution_frame, probe_frame, solicitation};
@@ -51,7 +53,6 @@ impl<A: Allocator> FrameRoom<A> {
     }
 
     /// Returns a Neighbor Solicitation with the link-layer address of its sender (RFC 4861, section 4.3).
-    ///
     #[tactic(auto, using(crate::proofs::Formed::solicitation_formed, crate::proofs::Formed::solicitation_short))]
     fn solicit(self, to: Mac, mac: Mac, source: Addr, destination: Addr, target: Addr) -> Packet<A>
         ensures { result ≡ message_frame to mac source destination (solicitation mac target) }

@@ -25,7 +25,7 @@ pub enum Body {
 }
 
 impl Body {
-    /// The fields of a message of a type.
+    /// Returns the fields of a message of a type.
     pub(crate) fn read(kind: MessageType, bytes: &[u8]) -> Body
         requires { least_length (type_number kind) ≤ length bytes.now }
         ensures { result ≡ body_as kind bytes.now }

@@ -10,8 +10,8 @@ use crate::message_type::MessageType;
 use crate::options::{Options, fault_in};
 use nd_addr::Why;
 
-/// The message that some bytes spell whose type is known already, as it is to whoever has asked whether they are a message
-/// at all. The errors are those of `decode`.
+/// Returns the message that some bytes spell. The caller passes its type, which it knows from asking if the bytes are a message at all. The errors
+/// are those of `decode`.
 #[tactic(auto, unfolding(crate::specs::Decoding::decode_of))]
 pub fn decode_as(kind: MessageType, bytes: &[u8]) -> Result<MessageRef<'_>, Why>
     requires { IsOfType kind bytes.now }
@@ -34,21 +34,21 @@ pub fn decode_as(kind: MessageType, bytes: &[u8]) -> Result<MessageRef<'_>, Why>
     })
 }
 
-/// The message that some bytes spell (RFC 4861, section 4). Their first byte is the type of a known message.
+/// Returns the message that some bytes spell (RFC 4861, section 4). Their first byte is the type of a known message.
 ///
-/// The error is `Code` where a second byte is there and is not 0; else `Length` where there are fewer bytes than the fields of the type
-/// have; else what is wrong with the first option that is not whole, `OptionZero` for a length of 0 and `OptionOver` where it is not all
-/// there. This order is our choice. The checksum and all that is reserved are not looked at, and an option whose type is not known or
-/// whose data do not fit its type is `Other` (RFC 4861, sections 4.6 and 6.1 to 8.1).
+/// Returns `Code` if there is a second byte and it is not 0; otherwise `Length` if there are fewer bytes than the fields of the type have;
+/// otherwise what is wrong with the first option that is not whole, `OptionZero` for a length of 0 and `OptionOver` if it is not complete. This
+/// order is our choice. The checksum and all reserved fields are not looked at, and an option whose type is not known or whose data do not fit its
+/// type is `Other` (RFC 4861, sections 4.6 and 6.1 to 8.1).
 pub fn decode(bytes: &[u8]) -> Result<MessageRef<'_>, Why>
     requires { HasKnownKind bytes.now }
-    // What is answered is spelled so, and what is spelled is answered.
+    // A message that is returned is spelled by the bytes, and if they spell a message, it is returned.
     ensures found { IfOk result (λ m. Spells bytes.now (parts m)) }
     ensures only { (m : Parts) → Spells bytes.now m → Gives parts result (Ok m) }
-    // The reason is the first, and where there is one, it is told.
+    // The error is the first reason that holds, and if one holds, it is returned.
     ensures refused { IfErr result (λ why. IsRefused bytes.now why) }
     ensures only_refused { (why : Why) → IsRefused bytes.now why → result ≡ Err why }
-    // The same by a function.
+    // The same as one function.
     ensures exactly { Gives parts result (decode_of bytes.now) }
 {
     match MessageType::of(bytes[0]) {

@@ -6,8 +6,7 @@ ghost use Rattle.nd_decode.specs.RouterFlags.{router_flags_text};
 
 use nd_addr::Preference;
 
-/// Returns the letters of the flags of a Router Advertisement: `m` for M, `o` for O, then `h` for High or `l` for Low; `-` where there are
-/// none.
+/// Returns the letters of the flags of a Router Advertisement: `m` for M, `o` for O, then `h` for High or `l` for Low; `-` if there are none.
 pub fn router_flags_text(managed: bool, other: bool, preference: Preference) -> &'static str
     ensures { result.now ≡ router_flags_text managed other preference }
 {
@@ -27,7 +26,7 @@ pub fn router_flags_text(managed: bool, other: bool, preference: Preference) -> 
     }
 }
 
-/// Returns the letters of the flags of a prefix: `l` for L, then `a` for A; `-` where neither is set.
+/// Returns the letters of the flags of a prefix: `l` for L, then `a` for A; `-` if neither is set.
 pub fn prefix_flags_text(on_link: bool, autonomous: bool) -> &'static str
     ensures { result.now ≡ flags_text on_link autonomous (codes "l") (codes "a") }
 {

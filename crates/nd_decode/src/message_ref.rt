@@ -1,7 +1,7 @@
 use crate::body::Body;
 use crate::options::Options;
 
-/// A message, with its options where they lie (RFC 4861, section 4).
+/// A message, with its options left in place (RFC 4861, section 4).
 #[derive(Clone, Copy, Debug)]
 pub struct MessageRef<'a> {
     /// Its type and its fields.

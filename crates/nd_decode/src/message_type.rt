@@ -25,7 +25,7 @@ pub const ICMPV6_REDIRECT: u8 = 137;
 /// The hop limit of every message of Neighbor Discovery: no router can have sent it on (RFC 4861, section 3.1).
 pub const HOP_LIMIT: u8 = 255;
 
-/// How many bytes a Router Solicitation has in front of its options (RFC 4861, section 4.1). It has no fields.
+/// The number of bytes of a Router Solicitation before its options (RFC 4861, section 4.1). It has no fields.
 pub const ROUTER_SOLICITATION_LENGTH: usize = 8;
 
 /// The types of the messages of Neighbor Discovery (RFC 4861, sections 4.1 to 4.5).
@@ -39,7 +39,7 @@ pub enum MessageType {
 }
 
 impl MessageType {
-    /// The type of this number. No other number than 133 to 137 is that of a message.
+    /// Returns the type of this number. No other number than 133 to 137 is that of a message.
     pub fn of(number: u8) -> Option<MessageType>
         ensures { MatchOption result ((kind : MessageType) → number ≢ type_number kind) (λ kind. number ≡ type_number kind) }
     {
@@ -53,7 +53,7 @@ impl MessageType {
         }
     }
 
-    /// How many bytes a message of the type has at least, which is where its options begin (RFC 4861, sections 4.1 to 4.5).
+    /// Returns the least number of bytes of a message of the type, which is where its options begin (RFC 4861, sections 4.1 to 4.5).
     pub(crate) fn least_length(self) -> usize
         ensures { result ≡ least_length (type_number self) }
     {

@@ -3,24 +3,24 @@ ghost use Rattle.nd_decode.specs.Message.{neighbor_advertisement_of};
 
 use nd_addr::Addr;
 
-/// What the owner of an address tells of itself (RFC 4861, section 4.4).
+/// What the owner of an address announces of itself (RFC 4861, section 4.4).
 #[derive(Clone, Copy, Debug, PartialEq, Eq)]
 pub struct NeighborAdvertisement {
-    /// Whether the sender is a router.
+    /// The sender is a router.
     pub router: bool,
-    /// Whether it answers a solicitation.
+    /// It answers a solicitation.
     pub solicited: bool,
-    /// Whether its link-layer address takes the place of one that is known already.
+    /// Its link-layer address replaces a known one.
     pub override_flag: bool,
-    /// The address that is told of.
+    /// The address that is announced.
     pub target: Addr,
 }
 
 impl NeighborAdvertisement {
-    /// How many bytes its fields have, which is where its options begin.
+    /// The length of its fields, in bytes, which is where its options begin.
     pub const LENGTH: usize = 24;
 
-    /// Where the byte of flags stands.
+    /// The place of the byte of flags.
     pub const FLAGS_AT: usize = 4;
 
     /// The flag R, Router.
@@ -32,10 +32,10 @@ impl NeighborAdvertisement {
     /// The flag O, Override.
     pub const FLAG_OVERRIDE: u8 = 0x20;
 
-    /// Where Target Address stands.
+    /// The place of Target Address.
     pub const TARGET_AT: usize = 8;
 
-    /// The fields at their places.
+    /// Returns the fields at their places.
     pub(crate) fn read(bytes: &[u8]) -> NeighborAdvertisement
         requires { 24 ≤ length bytes.now }
         ensures { result ≡ neighbor_advertisement_of bytes.now }

@@ -11,13 +11,13 @@ pub struct NeighborSolicitation {
 }
 
 impl NeighborSolicitation {
-    /// How many bytes its fields have, which is where its options begin.
+    /// The length of its fields, in bytes, which is where its options begin.
     pub const LENGTH: usize = 24;
 
-    /// Where Target Address stands.
+    /// The place of Target Address.
     pub const TARGET_AT: usize = 8;
 
-    /// The field at its place.
+    /// Returns the field at its place.
     pub(crate) fn read(bytes: &[u8]) -> NeighborSolicitation
         requires { 24 ≤ length bytes.now }
         ensures { result ≡ neighbor_solicitation_of bytes.now }

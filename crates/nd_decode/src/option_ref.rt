@@ -41,21 +41,20 @@ pub const LEAST_SERVERS_UNITS: u8 = 3;
 /// The least length of a DNS Search List, in units of 8 bytes (RFC 8106, section 5.2).
 pub const LEAST_NAMES_UNITS: u8 = 2;
 
-/// How many bytes an option has at most: 255 units of 8 bytes (RFC 4861, section 4.6).
+/// The length of the longest option, in bytes: 255 units of 8 bytes (RFC 4861, section 4.6).
 pub const LONGEST_OPTION: usize = 2040;
 
-/// Where the link-layer address stands in its option (RFC 4861, section 4.6.1).
+/// The place of the link-layer address in its option (RFC 4861, section 4.6.1).
 const LINK_LAYER_ADDRESS_AT: usize = 2;
 
-/// Where an option has its number of 4 bytes: the MTU (RFC 4861, section 4.6.4), or a lifetime in seconds (RFC 8106, sections 5.1
-/// and 5.2).
+/// The place of an option's number of 4 bytes: the MTU (RFC 4861, section 4.6.4), or a lifetime in seconds (RFC 8106, sections 5.1 and 5.2).
 const NUMBER_AT: usize = 4;
 
-/// Where an option has its data of any length, behind its type, its length and 6 bytes: the packet (RFC 4861, section 4.6.3), the servers or the names (RFC 8106,
-/// sections 5.1 and 5.2).
+/// The place of an option's data of any length, after its type, its length and 6 bytes: the packet (RFC 4861, section 4.6.3), the servers or the
+/// names (RFC 8106, sections 5.1 and 5.2).
 pub const OPTION_DATA_AT: usize = 8;
 
-/// An option of a message, with its bytes where they lie (RFC 4861, section 4.6; RFC 8106, section 5).
+/// An option of a message, with its bytes left in place (RFC 4861, section 4.6; RFC 8106, section 5).
 #[derive(Clone, Copy, Debug)]
 pub enum OptionRef<'a> {
     /// Source Link-Layer Address: the sender's.
@@ -64,21 +63,21 @@ pub enum OptionRef<'a> {
     Tlla(Mac),
     /// Prefix Information (RFC 4861, section 4.6.2).
     Prefix(PrefixInfo),
-    /// Redirected Header: the beginning of the packet that was redirected, and what pads it to a multiple of 8 bytes.
+    /// Redirected Header: the beginning of the packet that was redirected, with the padding to a multiple of 8 bytes.
     Redirected(&'a [u8]),
     /// The MTU of the link, in bytes.
     Mtu(u32),
-    /// DNS servers, and for how many seconds they serve, all ones standing for ever.
+    /// DNS servers, and their lifetime in seconds, all ones for infinity.
     Rdnss(u32, Servers<'a>),
-    /// Names in which to search, and for how many seconds, all ones standing for ever.
+    /// Search names, and their lifetime in seconds, all ones for infinity.
     Dnssl(u32, Names<'a>),
-    /// Any other option: its type, and its bytes behind the length. It has a type that is not known, or one of the types above
-    /// with a length or data that do not fit it (our choice), and is to be passed over (RFC 4861, section 4.6).
+    /// Any other option: its type, and its bytes after the length. It has a type that is not known, or one of the types above with a length or data
+    /// that do not fit it (our choice). A receiver ignores it (RFC 4861, section 4.6).
     Other(u8, &'a [u8]),
 }
 
 impl<'a> OptionRef<'a> {
-    /// What a piece says.
+    /// Returns the option that a piece spells.
     #[tactic(auto, unfolding(crate::specs::Option::option_of))]
     pub(crate) fn read(piece: &'a [u8]) -> OptionRef<'a>
         requires { IsPiece piece.now }
@@ -90,7 +89,7 @@ impl<'a> OptionRef<'a> {
         }
     }
 
-    /// The row of the table that its type tells, if it fits.
+    /// Returns the option of the type of a piece, if the piece fits that type.
     #[tactic(auto, unfolding(crate::specs::Option::known_of))]
     fn known(piece: &'a [u8]) -> Option<OptionRef<'a>>
         requires { IsPiece piece.now }

@@ -15,7 +15,7 @@ impl<'a> Options<'a> {
     ghost use Rattle.nd_decode.specs.Pieces.{options_left};
     ghost use Rattle.nd_decode.specs.OfType.{from_kind};
 
-    /// The options in these bytes.
+    /// Returns the options in these bytes.
     pub(crate) fn new(bytes: &'a [u8]) -> Self
         ensures { options_left result ≡ options_in bytes.entry.now }
     {
@@ -56,7 +56,7 @@ impl<'a> Iterator for Options<'a> {
     }
 }
 
-/// The first piece, and the bytes behind it, if they begin with a whole one.
+/// Returns the first piece, and the bytes after it, if they begin with a whole one.
 fn split_piece(bytes: &[u8]) -> Option<(&[u8], &[u8])>
     ensures { MatchOption result (begins_whole bytes.now ≡ false) (λ p. (begins_whole bytes.now ≡ true)
         × (p.0.now ≡ take (piece_length bytes.now) bytes.now) × (p.1.now ≡ drop (piece_length bytes.now) bytes.now)) }
@@ -71,7 +71,7 @@ fn split_piece(bytes: &[u8]) -> Option<(&[u8], &[u8])>
     Some(bytes.split_at(length))
 }
 
-/// What is wrong with the first option that is not whole: `OptionZero` or `OptionOver`.
+/// Returns what is wrong with the first option that is not whole: `OptionZero` or `OptionOver`.
 #[tactic(auto, using(crate::proofs::Walk::rest_in_step, crate::proofs::Walk::rest_in_stop))]
 pub(crate) fn fault_in(bytes: &[u8]) -> Option<Why>
     ensures { result ≡ fault_of (rest_in bytes.now) }

@@ -5,18 +5,18 @@ ghost use Rattle.nd_decode.specs.Option.{prefix_of};
 use byteorder::{BigEndian, ByteOrder};
 use nd_addr::{Addr, Prefix};
 
-/// What a router tells of a prefix (RFC 4861, section 4.6.2).
+/// What a router announces of a prefix (RFC 4861, section 4.6.2).
 #[derive(Clone, Copy, Debug, PartialEq, Eq)]
 pub struct PrefixInfo {
-    /// The prefix, its bits past its length being zero whatever was sent.
+    /// The prefix. Its bits past its length are zero, for any bits received.
     pub prefix: Prefix,
-    /// The flag L: whether its addresses are on the link.
+    /// The flag L: its addresses are on the link.
     pub on_link: bool,
-    /// The flag A: whether a host may make itself an address of it (RFC 4862, section 5.5.3).
+    /// The flag A: a host may form an address from it (RFC 4862, section 5.5.3).
     pub autonomous: bool,
-    /// For how many seconds it is on the link, all ones standing for ever.
+    /// The time for which it is on the link, in seconds, all ones for infinity.
     pub valid_lifetime: u32,
-    /// For how many seconds the addresses made of it are preferred, all ones standing for ever.
+    /// The time for which the addresses formed from it are preferred, in seconds, all ones for infinity.
     pub preferred_lifetime: u32,
 }
 
@@ -24,10 +24,10 @@ impl PrefixInfo {
     /// Its length in units of 8 bytes.
     pub const UNITS: u8 = 4;
 
-    /// Where Prefix Length stands.
+    /// The place of Prefix Length.
     pub const PREFIX_LENGTH_AT: usize = 2;
 
-    /// Where the byte of flags stands.
+    /// The place of the byte of flags.
     pub const FLAGS_AT: usize = 3;
 
     /// The flag L, on-link.
@@ -36,16 +36,16 @@ impl PrefixInfo {
     /// The flag A, autonomous address-configuration.
     pub const FLAG_AUTONOMOUS: u8 = 0x40;
 
-    /// Where Valid Lifetime stands, in 4 bytes.
+    /// The place of Valid Lifetime, in 4 bytes.
     pub const VALID_LIFETIME_AT: usize = 4;
 
-    /// Where Preferred Lifetime stands, in 4 bytes.
+    /// The place of Preferred Lifetime, in 4 bytes.
     pub const PREFERRED_LIFETIME_AT: usize = 8;
 
-    /// Where Prefix stands, in 16 bytes.
+    /// The place of Prefix, in 16 bytes.
     pub const PREFIX_AT: usize = 16;
 
-    /// The fields at their places, if the prefix length is at most 128.
+    /// Returns the fields at their places, if the prefix length is at most 128.
     pub(crate) fn read(piece: &[u8]) -> Option<PrefixInfo>
         requires { 32 ≤ length piece.now }
         ensures { SomeIff result (slice_index piece.now 2 ≤ 128) (prefix_of piece.now) }

@@ -6,23 +6,23 @@ use nd_addr::Addr;
 /// A better first hop for a destination (RFC 4861, section 4.5).
 #[derive(Clone, Copy, Debug, PartialEq, Eq)]
 pub struct Redirect {
-    /// The better first hop, or the destination itself where that is a neighbor.
+    /// The better first hop, or the destination itself if that is a neighbor.
     pub target: Addr,
-    /// The address whose packets are to go there.
+    /// The address whose packets go there.
     pub destination: Addr,
 }
 
 impl Redirect {
-    /// How many bytes its fields have, which is where its options begin.
+    /// The length of its fields, in bytes, which is where its options begin.
     pub const LENGTH: usize = 40;
 
-    /// Where Target Address stands.
+    /// The place of Target Address.
     pub const TARGET_AT: usize = 8;
 
-    /// Where Destination Address stands.
+    /// The place of Destination Address.
     pub const DESTINATION_AT: usize = 24;
 
-    /// The fields at their places.
+    /// Returns the fields at their places.
     pub(crate) fn read(bytes: &[u8]) -> Redirect
         requires { 40 ≤ length bytes.now }
         ensures { result ≡ redirect_of bytes.now }

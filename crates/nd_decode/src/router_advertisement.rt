@@ -4,33 +4,33 @@ ghost use Rattle.nd_decode.specs.Message.{preference_of, router_advertisement_of
 use byteorder::{BigEndian, ByteOrder};
 use nd_addr::Preference;
 
-/// What a router tells of itself and of its link (RFC 4861, section 4.2; RFC 4191, section 2.2).
+/// What a router announces of itself and of its link (RFC 4861, section 4.2; RFC 4191, section 2.2).
 #[derive(Clone, Copy, Debug, PartialEq, Eq)]
 pub struct RouterAdvertisement {
-    /// The hop limit for the packets that a host sends; 0 where the router does not say.
+    /// The hop limit for the packets that a host sends; 0 if the router does not say.
     pub hop_limit: u8,
-    /// Whether addresses are to be had by DHCPv6.
+    /// Addresses are available by DHCPv6.
     pub managed: bool,
-    /// Whether other configuration is to be had by DHCPv6.
+    /// Other configuration is available by DHCPv6.
     pub other: bool,
-    /// Its preference over other default routers. It has no meaning where the router lifetime is 0.
+    /// Its preference over other default routers. It has no meaning if the router lifetime is 0.
     pub preference: Preference,
-    /// For how many seconds it is a default router; 0 where it is none.
+    /// The time for which it is a default router, in seconds; 0 if it is none.
     pub router_lifetime: u16,
-    /// For how many milliseconds a neighbor is reachable once it was confirmed; 0 where the router does not say.
+    /// The time for which a neighbor is reachable after a confirmation, in milliseconds; 0 if the router does not say.
     pub reachable_time: u32,
-    /// How many milliseconds lie between solicitations; 0 where the router does not say.
+    /// The time between solicitations, in milliseconds; 0 if the router does not say.
     pub retrans_timer: u32,
 }
 
 impl RouterAdvertisement {
-    /// How many bytes its fields have, which is where its options begin.
+    /// The length of its fields, in bytes, which is where its options begin.
     pub const LENGTH: usize = 16;
 
-    /// Where Cur Hop Limit stands.
+    /// The place of Cur Hop Limit.
     pub const HOP_LIMIT_AT: usize = 4;
 
-    /// Where the byte of flags stands.
+    /// The place of the byte of flags.
     pub const FLAGS_AT: usize = 5;
 
     /// The flag M, Managed address configuration.
@@ -45,16 +45,16 @@ impl RouterAdvertisement {
     /// The higher bit of the preference: set in Low.
     pub const FLAG_LOW: u8 = 0x10;
 
-    /// Where Router Lifetime stands, in 2 bytes.
+    /// The place of Router Lifetime, in 2 bytes.
     pub const ROUTER_LIFETIME_AT: usize = 6;
 
-    /// Where Reachable Time stands, in 4 bytes.
+    /// The place of Reachable Time, in 4 bytes.
     pub const REACHABLE_TIME_AT: usize = 8;
 
-    /// Where Retrans Timer stands, in 4 bytes.
+    /// The place of Retrans Timer, in 4 bytes.
     pub const RETRANS_TIMER_AT: usize = 12;
 
-    /// The fields at their places.
+    /// Returns the fields at their places.
     pub(crate) fn read(bytes: &[u8]) -> RouterAdvertisement
         requires { 16 ≤ length bytes.now }
         ensures { result ≡ router_advertisement_of bytes.now }

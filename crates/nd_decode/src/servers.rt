@@ -5,15 +5,15 @@ ghost use Rattle.nd_decode.specs.Servers.{servers_in, servers_left, is_server};
 
 use nd_addr::Addr;
 
-/// The addresses of DNS servers in some bytes, one behind the other (RFC 8106, section 5.1).
+/// The addresses of DNS servers in some bytes, one after the other (RFC 8106, section 5.1).
 #[derive(Clone, Copy, Debug)]
 pub struct Servers<'a> {
     rest: &'a [u8],
 }
 
 impl<'a> Servers<'a> {
-    /// The addresses in these bytes, if each is one that a server can have (`is_server`). What is left behind the last whole one is not
-    /// looked at.
+    /// Returns the addresses in these bytes, if each is one that a server can have (`is_server`). The bytes after the last whole one are not looked
+    /// at.
     pub fn read(bytes: &'a [u8]) -> Option<Servers<'a>>
         ensures { MatchOption result (list_all is_server (servers_in bytes.entry.now) ≡ false)
             (λ s. (list_all is_server (servers_in bytes.entry.now) ≡ true) × (servers_left s ≡ servers_in bytes.entry.now)) }
@@ -27,7 +27,7 @@ impl<'a> Servers<'a> {
         Some(servers)
     }
 
-    /// How many addresses are left.
+    /// Returns the number of addresses that are left.
     #[tactic(auto, using(crate::proofs::Addresses::servers_in_length))]
     pub fn len(&self) -> usize
         ensures { result ≡ length (servers_left self.now) }
@@ -54,7 +54,7 @@ impl<'a> Iterator for Servers<'a> {
     }
 }
 
-/// The first address, and the bytes behind it, if one is whole.
+/// Returns the first address, and the bytes after it, if one is whole.
 fn split_server(bytes: &[u8]) -> Option<(Addr, &[u8])>
     ensures { MatchOption result (length bytes.now < 16) (λ p. (16 ≤ length bytes.now)
         × (p.0.0 ≡ take 16 bytes.now) × (p.1.now ≡ drop 16 bytes.now)) }
@@ -66,7 +66,7 @@ fn split_server(bytes: &[u8]) -> Option<(Addr, &[u8])>
     Some((Addr::at(first, 0), rest))
 }
 
-/// Whether a server can have the address: it is not multicast, unspecified or loopback (our choice; RFC 8106 leaves it open).
+/// Returns true if a server can have the address: it is not multicast, unspecified or loopback (our choice; RFC 8106 leaves it open).
 pub fn is_server(address: Addr) -> bool
     ensures value { result ≡ is_server address }
     ensures bytes { AreBytes 16 address.0 }

@@ -7,14 +7,14 @@ use nd_decode::{NameRef, Names, OPTION_DNS_SEARCH_LIST, OptionRef, Options};
 use nd_table::Announces;
 use std::alloc::Allocator;
 
-/// The search names that the options of a Router Advertisement tell, with the lifetimes of their options (RFC 8106, section 5.2).
+/// The search names that the options of a Router Advertisement announce, with the lifetimes of their options (RFC 8106, section 5.2).
 #[derive(Clone, Copy, Debug)]
 pub(crate) struct AnnouncedNames<'a> {
-    /// What is left of the option at hand.
+    /// What is left of the current option.
     names: Option<Names<'a>>,
     /// Its lifetime, in seconds.
     lifetime: u32,
-    /// The options behind it.
+    /// The options after it.
     options: Options<'a>,
 }
 
@@ -22,7 +22,7 @@ impl<'a> AnnouncedNames<'a> {
     ghost use Rattle.nd_decode.specs.Pieces.{options_left};
     ghost use Rattle.nd_dns.specs.AnnouncedNames.{names_told, names_to_come};
 
-    /// Those of these options. The first option is read here, so that a walk that is begun again doesn't read it again.
+    /// Returns the names of these options. The first option is read here, so that a walk that is begun again doesn't read it again.
     #[tactic(auto, using(crate::proofs::OfType::names_from))]
     pub(crate) fn new(options: Options<'a>) -> Self
         ensures { names_to_come result ≡ names_told (options_left options.entry) }
@@ -42,7 +42,7 @@ impl<'a> AnnouncedNames<'a> {
         }
     }
 
-    /// The next one.
+    /// Returns the next name.
     #[tactic(auto, using(crate::proofs::OfType::names_from))]
     pub(crate) fn next_name(&mut self) -> Option<(NameRef<'a>, u32)>
         ensures { MatchOption result (names_to_come self.old ≡ []) (λ p. names_to_come self.old ≡ (name_of p.0, p.1) ∷ names_to_come self.new) }
@@ -73,7 +73,7 @@ impl<'a, A: Allocator> Announces<SearchName<A>, NameRef<'a>> for AnnouncedNames<
     }
 }
 
-/// The next name of the option at hand.
+/// Returns the next name of the current option.
 fn next_of<'a>(names: &mut Option<Names<'a>>) -> Option<NameRef<'a>>
     ensures { MatchOption result ((at_hand names.old ≡ []) × (at_hand names.new ≡ [])) (λ name. at_hand names.old ≡ name_of name ∷ at_hand names.new) }
 {

@@ -2,14 +2,14 @@ use nd_addr::Addr;
 use nd_decode::{OPTION_RECURSIVE_DNS_SERVER, OptionRef, Options, Servers};
 use nd_table::Announces;
 
-/// The DNS servers that the options of a Router Advertisement tell, with the lifetimes of their options (RFC 8106, section 5.1).
+/// The DNS servers that the options of a Router Advertisement announce, with the lifetimes of their options (RFC 8106, section 5.1).
 #[derive(Clone, Copy, Debug)]
 pub(crate) struct AnnouncedServers<'a> {
-    /// What is left of the option at hand.
+    /// What is left of the current option.
     servers: Option<Servers<'a>>,
     /// Its lifetime, in seconds.
     lifetime: u32,
-    /// The options behind it.
+    /// The options after it.
     options: Options<'a>,
 }
 
@@ -18,7 +18,7 @@ impl<'a> AnnouncedServers<'a> {
     ghost use Rattle.nd_decode.specs.Pieces.{options_left};
     ghost use Rattle.nd_dns.specs.AnnouncedServers.{servers_told, servers_to_come};
 
-    /// Those of these options.
+    /// Returns the servers of these options.
     pub(crate) fn new(options: Options<'a>) -> Self
         ensures { servers_to_come result ≡ servers_told (options_left options.entry) }
     {
@@ -56,7 +56,7 @@ impl Announces<Addr, Addr> for AnnouncedServers<'_> {
 ghost use Rattle.std.specs.Prelude.{◌≡◌, [], ◌∷◌, MatchOption};
 ghost use Rattle.nd_dns.specs.AnnouncedServers.{at_hand};
 
-/// The next server of the option at hand.
+/// Returns the next server of the current option.
 fn next_of(servers: &mut Option<Servers<'_>>) -> Option<Addr>
     ensures { MatchOption result ((at_hand servers.old ≡ []) × (at_hand servers.new ≡ [])) (λ server. at_hand servers.old ≡ server ∷ at_hand servers.new) }
 {

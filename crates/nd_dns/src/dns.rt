@@ -13,13 +13,13 @@ use nd_table::{Lasting, WithLifetimes};
 use std::alloc::{AllocError, Allocator};
 use std::marker::Model;
 
-/// How many servers may be known (our choice).
+/// The most servers (our choice).
 pub(crate) const MAX_SERVERS: usize = 32;
 
-/// How many search names may be known (our choice).
+/// The most search names (our choice).
 pub(crate) const MAX_NAMES: usize = 32;
 
-/// The DNS servers and search names that a host has heard of, each list in the order in which they came (RFC 8106, section 6.1).
+/// The DNS servers and search names that a host has heard of, each list in the order in which they were added (RFC 8106, section 6.1).
 #[derive(Drop)]
 pub struct Dns<A: Allocator> {
     pub(crate) alloc: A,
@@ -46,7 +46,7 @@ impl<A: Allocator> Model for Dns<A> {
 impl<A: Allocator + Clone> Dns<A> {
     ghost use Rattle.nd_dns.specs.Dns.{Stands};
 
-    /// Nothing heard, with room for 32 servers and for 32 names. All of it is reserved here; the error is out of memory.
+    /// Returns empty lists, with room for 32 servers and for 32 names, all of it reserved here. Returns an error if out of memory.
     pub fn new(alloc: A) -> Result<Self, AllocError>
         ensures empty { IfOk result (λ dns. dns ≡ record { servers = []; names = [] }) }
         ensures stands { IfOk result (λ dns. Stands dns [] []) }
@@ -65,8 +65,8 @@ impl<A: Allocator> Dns<A> {
     ghost use Rattle.nd_dns.specs.Dns.{Stands, max_servers, max_names};
     ghost use Rattle.nd_dns.specs.AnnouncedNames.{same_name};
 
-    /// Returns the servers that stand at `now`, with what is left of their lifetimes, both in milliseconds, in the order in which they entered the
-    /// list. It takes no memory.
+    /// Returns the servers that haven't ended at `now`, with what is left of their lifetimes, both in milliseconds, in the order in which they
+    /// entered the list. It takes no memory.
     pub fn servers(&self, now: u64) -> WithLifetimes<'_, Addr>
         ensures value { lifetimes_left result ≡ map (seen now) (open_at now self.now.servers) }
         ensures lists { (history : List (Row Addr)) (names : List (Row (List ℕ))) → Stands self.now history names → last_moment history ≤ now → Shows same_addr history now (lifetimes_left result) }
@@ -74,7 +74,7 @@ impl<A: Allocator> Dns<A> {
         WithLifetimes::new(&self.servers, now)
     }
 
-    /// How many servers there are that haven't been taken out, at most 32.
+    /// Returns the number of servers in the list, at most 32. Those that have ended but weren't yet removed are counted.
     pub fn servers_len(&self) -> usize
         ensures value { result ≡ length self.now.servers }
         ensures few { result ≤ max_servers }
@@ -82,7 +82,7 @@ impl<A: Allocator> Dns<A> {
         self.servers.len()
     }
 
-    /// How many search names there are that haven't been taken out, at most 32.
+    /// Returns the number of search names in the list, at most 32. Those that have ended but weren't yet removed are counted.
     pub fn search_names_len(&self) -> usize
         ensures value { result ≡ length self.now.names }
         ensures few { result ≤ max_names }
@@ -90,8 +90,8 @@ impl<A: Allocator> Dns<A> {
         self.names.len()
     }
 
-    /// Returns the search names that stand at `now`, with what is left of their lifetimes, both in milliseconds, in the order in which they entered
-    /// the list. It takes no memory.
+    /// Returns the search names that haven't ended at `now`, with what is left of their lifetimes, both in milliseconds, in the order in which they
+    /// entered the list. It takes no memory.
     pub fn search_names(&self, now: u64) -> WithLifetimes<'_, SearchName<A>>
         ensures value { lifetimes_left result ≡ map (seen now) (open_at now self.now.names) }
         ensures lists { (servers : List (Row Addr)) (history : List (Row (List ℕ))) → Stands self.now servers history → last_moment history ≤ now → Shows same_name history now (lifetimes_left result) }
@@ -99,7 +99,7 @@ impl<A: Allocator> Dns<A> {
         WithLifetimes::new(&self.names, now)
     }
 
-    /// Nothing has been heard from now on.
+    /// Removes all servers and search names.
     pub fn clear(&mut self)
         ensures value { self.new ≡ record { servers = []; names = [] } }
         ensures stands { (at : ℕ) (servers : List (Row Addr)) (names : List (Row (List ℕ))) → Stands self.new (Cleared at ∷ servers) (Cleared at ∷ names) }

@@ -14,7 +14,7 @@ use std::marker::Model;
 /// The search names that a Router Advertisement adds, in the order in which they enter.
 #[derive(Drop)]
 pub struct NewNames<A: Allocator> {
-    /// Made when a name enters: where none does, nothing is asked of the allocator.
+    /// The list is made when a name is added: if none is, no memory is asked for.
     names: Option<VecDeque<SearchName<A>, A>>,
 }
 
@@ -30,14 +30,14 @@ impl<A: Allocator> Model for NewNames<A> {
 impl<A: Allocator> NewNames<A> {
     ghost use Rattle.std.specs.Prelude.{◌≡◌, ◌∷◌, [], MatchOption};
 
-    /// None.
+    /// Returns an empty list.
     pub(crate) fn none() -> Self
         ensures { result ≡ [] }
     {
         NewNames { names: None }
     }
 
-    /// The first of those that are left.
+    /// Removes and returns the first name.
     pub(crate) fn next(&mut self) -> Option<SearchName<A>>
         ensures { MatchOption result (self.old ≡ []) (λ name. self.old ≡ name ∷ self.new) }
     {
@@ -52,7 +52,7 @@ impl<A: Allocator + Clone> NewNames<A> {
     ghost use Rattle.std.specs.Prelude.{◌≡◌, ◌++◌, ◌∷◌, [], OnOk};
     ghost use Rattle.nd_search_list.specs.NameRef.{name_of};
 
-    /// A copy of one more, behind the others. The error is out of memory.
+    /// Appends a copy of a name. Returns an error if out of memory.
     pub(crate) fn add(&mut self, alloc: &A, name: &NameRef<'_>) -> Result<(), AllocError>
         ensures { OnOk result (self.new ≡ self.old ++ name_of name.now ∷ []) }
     {
@@ -68,7 +68,7 @@ impl<A: Allocator + Clone> NewNames<A> {
     }
 }
 
-/// Copies of the names that the announcements of a message enter, in their order. The error is out of memory.
+/// Returns copies of the names that the announcements of a message add, in their order. Returns an error if out of memory.
 pub(crate) fn copies<A: Allocator + Clone>(
     alloc: &A,
     entries: &[Lasting<SearchName<A>>],

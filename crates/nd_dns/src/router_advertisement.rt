@@ -22,8 +22,8 @@ impl<A: Allocator> Dns<A> {
     ghost use Rattle.nd_dns.specs.AnnouncedServers.{servers_told};
     ghost use Rattle.nd_dns.specs.AnnouncedNames.{same_name, names_told};
 
-    /// Returns true if there is room for the servers that the options of a Router Advertisement announce at a moment in milliseconds, taken
-    /// in order. It takes no memory.
+    /// Returns true if there is room for the servers that the options of a Router Advertisement announce at `now`, in milliseconds, taken in order.
+    /// It takes no memory.
     pub fn fits_servers(&self, now: u64, options: Options<'_>) -> bool
         ensures value { result ≡ fits same_addr max_servers now (servers_told (options_left options.entry)) self.now.servers }
         ensures by_history { (history : List (Row Addr)) (names : List (Row (List ℕ))) (es : List (Lasting Addr)) → Stands self.now history names → last_moment history ≤ now → Lists same_addr history now es
@@ -44,9 +44,9 @@ impl<A: Allocator> Dns<A> {
         fits_all(&self.names, MAX_NAMES, now, told)
     }
 
-    /// Takes the servers and search names of a Router Advertisement at a moment in milliseconds, in order, with copies of the names that it
-    /// adds (RFC 8106, section 6.1): each enters or is refreshed, and a lifetime of 0 removes it. Returns `Full` if the servers or the names
-    /// are too many at some point, and names the servers first; the table is unchanged. It takes no memory.
+    /// Takes the servers and search names of a Router Advertisement at `now`, in milliseconds, in order, with copies of the names that it adds (RFC
+    /// 8106, section 6.1): each enters or is refreshed, and a lifetime of 0 removes it. Returns `Full` if the servers or the names are too many at
+    /// some point, and names the servers first; the table is unchanged. It takes no memory.
     pub fn heard_ra(
         &mut self,
         now: u64,
@@ -60,7 +60,7 @@ impl<A: Allocator> Dns<A> {
             → Stands self.new (then_announced now (servers_told (options_left options.entry)) servers) (then_announced now (names_told (options_left options.entry)) names)) }
         ensures value { OnOk result (self.new ≡ after now (options_left options.entry) self.old) }
 
-        // It is refused exactly where the servers or the names, taken in order, are too many at some point.
+        // It is refused exactly if the servers or the names, taken in order, are too many at some point.
         ensures full { IsErr result ↔ ((fits same_addr max_servers now (servers_told (options_left options.entry)) self.old.servers && fits same_name max_names now (names_told (options_left options.entry)) self.old.names) ≡ false) }
         ensures refusal { IfErr result (λ refusal. refusal ≡ TableRefusal.Full (if fits same_addr max_servers now (servers_told (options_left options.entry)) self.old.servers then Limit.Names else Limit.Servers)) }
         ensures same { OnErr result (self.new ≡ self.old) }
@@ -97,17 +97,16 @@ impl<A: Allocator + Clone> Dns<A> {
     ghost use Rattle.nd_dns.specs.Dns.{max_names, new_names};
     ghost use Rattle.nd_dns.specs.AnnouncedNames.{same_name, names_told};
 
-    /// Copies the search names that they add, each as often as it enters: the only part of hearing them that takes memory. Returns `Full` if
-    /// there is no room for the names that they announce, before anything is copied, and `Memory` when out of memory. Where they add none it
-    /// takes no memory.
+    /// Copies the search names that they add, each as often as it enters: the only part of hearing them that takes memory. Returns `Full` if there
+    /// is no room for the names that they announce, before anything is copied, and `Memory` if out of memory. If they add none it takes no memory.
     pub fn names(&self, now: u64, options: Options<'_>) -> Result<NewNames<A>, TableRefusal>
         ensures value { IfOk result (λ names. names ≡ new_names now (options_left options.entry) self.now) }
 
-        // There is no room exactly where the names, taken in order, are too many at some point.
+        // There is no room exactly if the names, taken in order, are too many at some point.
         ensures full { IsErrAnd result (λ refusal. refusal ≡ TableRefusal.Full Limit.Names) ↔ (fits same_name max_names now (names_told (options_left options.entry)) self.now.names ≡ false) }
         ensures refusal { IfErr result (λ refusal. (refusal ≡ TableRefusal.Full Limit.Names) ⊎ (refusal ≡ TableRefusal.Memory)) }
 
-        // Where no name is added nothing refuses, whatever memory there is.
+        // If no name is added it succeeds, even if no memory is left.
         ensures quiet { new_names now (options_left options.entry) self.now ≡ [] → IsOk result }
     {
         if !self.fits_names(now, options) {
@@ -119,11 +118,11 @@ impl<A: Allocator + Clone> Dns<A> {
         }
     }
 
-    /// Copies the search names that they add, without asking for room. The error is out of memory. Where they add none it takes no memory.
+    /// Copies the search names that they add, without asking for room. Returns an error if out of memory. If they add none it takes no memory.
     pub fn new_names(&self, now: u64, options: Options<'_>) -> Result<NewNames<A>, AllocError>
         ensures value { IfOk result (λ names. names ≡ new_names now (options_left options.entry) self.now) }
 
-        // Where no name is added nothing refuses, whatever memory there is.
+        // If no name is added it succeeds, even if no memory is left.
         ensures quiet { new_names now (options_left options.entry) self.now ≡ [] → IsOk result }
     {
         copies(&self.alloc, &self.names, now, AnnouncedNames::new(options))

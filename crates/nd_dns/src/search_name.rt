@@ -7,7 +7,7 @@ use nd_table::NamesKey;
 use std::alloc::{AllocError, Allocator};
 use std::marker::Model;
 
-/// A search name that is kept: its labels in small letters, each behind its length byte (RFC 1035, section 3.1).
+/// A search name that is kept: its labels in small letters, each after its length byte (RFC 1035, section 3.1).
 #[derive(Drop)]
 pub struct SearchName<A: Allocator> {
     bytes: Vec<u8, A>,
@@ -25,7 +25,7 @@ impl<A: Allocator> Model for SearchName<A> {
 }
 
 impl<A: Allocator> SearchName<A> {
-    /// A name that was heard, in small letters. The error is out of memory.
+    /// Returns a copy of a name that was heard, in small letters. Returns an error if out of memory.
     pub(crate) fn copied(alloc: A, name: &NameRef<'_>) -> Result<Self, AllocError>
         ensures { IfOk result (λ n. n ≡ name_of name.now) }
     {
@@ -34,7 +34,7 @@ impl<A: Allocator> SearchName<A> {
         })
     }
 
-    /// The name where its bytes lie, which also writes its text.
+    /// Returns the name with its bytes left in place, which also writes its text.
     pub fn as_name(&self) -> NameRef<'_>
         ensures value { name_of result ≡ self.now }
         ensures bytes { bytes_of result ≡ self.now }

@@ -45,7 +45,7 @@ fn live(alloc: Global, frame: &[u8]) -> Result<String<Global>, AllocError> {
     let Ok(mut host) = Node::new(alloc, Role::Host, MAC, 0, Transmits::ONE, limits, random) else {
         return Err(AllocError);
     };
-    // All that is due up to a moment, in milliseconds, comes before its event: here the detection for the link-local address.
+    // All that is due up to a moment, in milliseconds, is done before its event: here the detection for the link-local address.
     let mut outs = Vec::new(alloc);
     host.receive(3_000, frame, &mut outs)?;
     host.event(6_000, &Event::Passes, &mut outs)?;

@@ -24,7 +24,7 @@ pub fn each_history_has_a_chronicle()
     ensures timed { (start : Start) (events : List (ℕ × Event)) (c : Chronicle) → LeaveTime events → IsChronicle start events c → AreTimed c }
 {}
 
-/// Where both intervals of a router's settings are 0, the millisecond in which a Router Advertisement is due has no end: each that is sent is
+/// If both intervals of a router's settings are 0, the millisecond in which a Router Advertisement is due has no end: each one that is sent is
 /// followed by another one in the same millisecond (RFC 4861, section 6.2.4), so that no chronicle leads past it.
 pub fn no_end_without_an_interval()
     ensures { (start : Start) (c d : Chronicle) (moment end : ℕ) (settings : Settings) → settings.min_interval ≡ 0 → settings.max_interval ≡ 0

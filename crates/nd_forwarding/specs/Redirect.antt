@@ -43,12 +43,12 @@ first_hop destination None = None
 first_hop destination (Some Direct) = Some destination
 first_hop destination (Some (Via router)) = if holds link_local_prefix router.0 then Some router else None
 
--- the target, unless it is who sent the packet
+-- the target, unless it is the sender of the packet
 abbrev pub other_than : Addr → Option Addr → Option Addr
 other_than source None = None
 other_than source (Some target) = if bytes_eq target.0 source.0 then None else Some target
 
--- a Redirect may be sent to who sent this packet, of a router that has these own addresses and these routes: it forwards the packet, whose
+-- a Redirect may be sent to the sender of this packet, of a router that has these own addresses and these routes: it forwards the packet, whose
 -- source is on the link
 abbrev pub redirects : (List ℕ → Bool) → List (PrefixValue × Route) → Ip6 → Bool
 redirects own es header = may_be_forwarded header && is_sent (fate own es header) && is_neighbour es header.source

@@ -1,3 +1,5 @@
+//! The static routes as typed values. The definitions are in `specs/KeptRoutes.antt`.
+
 use crate::route::Route;
 use indexmap::map::Iter;
 use nd_addr::Prefix;
@@ -6,7 +8,7 @@ use nd_addr::Prefix;
 #[derive(Clone, Copy, Debug, PartialEq, Eq)]
 pub struct KeptRoute {
     pub prefix: Prefix,
-    /// Where packets to the addresses of the prefix go.
+    /// The way of packets to the addresses of the prefix.
     pub route: Route,
 }
 

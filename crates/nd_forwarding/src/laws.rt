@@ -17,7 +17,7 @@ pub fn one_answer()
     ensures found { (history : List Row) (prefix : PrefixValue) → lookup (same_prefix prefix) (routes history) ≡ route_of prefix history }
 {}
 
-/// The longest route to an address is one whose prefix holds the address while no longer one does. There is none if no prefix holds it.
+/// The longest route to an address is one whose prefix holds the address, and no longer prefix does. There is none if no prefix holds it.
 pub fn longest_route()
     ensures longest { (address : List ℕ) (before behind : List (PrefixValue × Route)) (e : PrefixValue × Route) → holds e.0 address ≡ true → AllShorter address e.0.length before → NoneLonger address e.0.length behind → longest address (before ++ e ∷ behind) ≡ Some e }
     ensures none { (address : List ℕ) (es : List (PrefixValue × Route)) → NoneHolds address es → longest address es ≡ None }

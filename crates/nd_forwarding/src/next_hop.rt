@@ -1,3 +1,5 @@
+//! The next hop of a router's packet (RFC 4861, section 5.2). The definitions are in `specs/NextHop.antt`.
+
 ghost use Rattle.std.specs.Prelude.{◌≡◌, ℕ, Bool, List};
 ghost use Rattle.nd_addr.specs.Kind.{link_local_subnet};
 ghost use Rattle.nd_addr.specs.Number.{holds};

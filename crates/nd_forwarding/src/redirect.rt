@@ -1,3 +1,5 @@
+//! When a router sends a Redirect (RFC 4861, section 8.2). The definitions are in `specs/Redirect.antt`.
+
 ghost use Rattle.std.specs.Prelude.{◌≡◌, ℕ, Bool, List};
 ghost use Rattle.nd_forwarding.specs.Forward.{fate_of, is_sent};
 ghost use Rattle.nd_forwarding.specs.History.{Row, RedirectMade};

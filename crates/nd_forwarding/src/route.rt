@@ -1,3 +1,5 @@
+//! A static route without its prefix.
+
 use nd_addr::Addr;
 
 /// The way of the packets of a static route.

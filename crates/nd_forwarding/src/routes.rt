@@ -1,3 +1,5 @@
+//! The table of static routes. The definitions are in `specs/Routes.antt`.
+
 ghost use Rattle.std.specs.Prelude.{◌≡◌, ◌≤◌, ◌&&◌, length, true, false, List, [], None, IfOk, OnOk, OnErr, is_ok};
 ghost use Rattle.nd_forwarding.specs.History.{Row, RoutePut};
 ghost use Rattle.nd_forwarding.specs.KeptRoutes.{routes_left};

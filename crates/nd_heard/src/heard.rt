@@ -26,9 +26,9 @@ pub struct Heard {
     /// The ICMPv6 type.
     pub message_type: u32,
     pub next_header: u32,
-    /// Where the options begin in the frame.
+    /// The place in the frame at which the options begin.
     pub options: u32,
-    /// How many bytes they have.
+    /// Their number of bytes.
     pub options_bytes: u32,
     /// In milliseconds.
     pub reachable_time: u32,
@@ -160,7 +160,7 @@ pub fn preference_number(preference: Preference) -> u8
     }
 }
 
-/// Returns how many bytes a message of a type has before its options (RFC 4861, section 4).
+/// Returns the number of bytes of a message of a type before its options (RFC 4861, section 4).
 fn options_at(message_type: u32) -> u32
     ensures { result ≡ least_length message_type }
 {
@@ -179,7 +179,7 @@ fn payload_length(frame: &[u8]) -> u32
     u32::from(byte(frame, 18)) * 256 + u32::from(byte(frame, 19))
 }
 
-/// Returns a byte of a frame, or 0 behind its end.
+/// Returns a byte of a frame, or 0 after its end.
 fn byte(frame: &[u8], at: usize) -> u8
     ensures { result ≡ slice_index frame.now at }
 {

@@ -4,7 +4,7 @@ use Rattle.nd_lines.specs.declared.ahead.FirstLine.{FirstLine}
 use Rattle.nd_lines.specs.declared.ahead.FirstLine.TheVariants.{Whole, TooLong, Unfinished}
 use Rattle.nd_lines.specs.Lines.{lines_of, HasLongLine, longest_line}
 
--- how many bytes of the input are in hand at most (our choice)
+-- how many bytes of the input are buffered at most (our choice)
 abbrev pub buffer_room : ℕ
 buffer_room = 65536
 
@@ -21,7 +21,7 @@ pub record IsWholeLine (bytes : List ℕ) (n : ℕ) : Type 0 where
   pub cut : bytes ≡ take n bytes ++ (10 ∷ drop (n + 1) bytes)
   pub one : (rest : List ℕ) → lines_of (take n bytes ++ (10 ∷ rest)) ≡ take n bytes ∷ lines_of rest
 
--- what stands first among the bytes, whatever comes behind them
+-- what stands first among the bytes, with anything after them
 abbrev pub Finds : List ℕ → FirstLine → Type 0
 Finds bytes (Whole n) = (n < length bytes) × (n ≤ longest_line) × IsWholeLine bytes n
 Finds bytes TooLong = (rest : List ℕ) → HasLongLine (bytes ++ rest)

@@ -2,7 +2,7 @@
 use Rattle.std.specs.Prelude.{◌≡◌, ℕ, ◌+◌, List, [], ◌∷◌, ◌++◌, Option, Some, None}
 use Rattle.nd_lines.specs.Written.{AppendsUpTo}
 
--- Which text some lines may have: the first of them has the number, nothing is told from the first malformed one on, and that one's number
+-- Which text some lines may have: the first of them has the number, nothing is answered from the first malformed one on, and that one's number
 -- comes last.
 abbrev pub Texts : Type 1
 Texts = ℕ → List (List ℕ) → List ℕ → Option ℕ → Type 0
@@ -45,6 +45,6 @@ module _ {T : Type 0} (before after : TextsTo T) where
 abbrev pub EndsWell : Texts → Type 0
 EndsWell texts = (n : ℕ) → texts n [] [] None
 
--- the line is malformed, and nothing is told from it on
+-- the line is malformed, and nothing is answered from it on
 abbrev pub IsMalformed : Texts → List ℕ → Type 0
 IsMalformed texts line = (n : ℕ) (lines : List (List ℕ)) → texts n (line ∷ lines) [] (Some n)

@@ -1,4 +1,4 @@
--- What a run has told.
+-- What a run has written.
 use Rattle.std.specs.Prelude.{◌≡◌, ◌<◌, ◌⊎◌, ℕ, List, [], ◌∷◌, ◌++◌, length, Option, Some, None, ⊤}
 use Rattle.std.specs.Io.KnownBytes.{Appends}
 use Rattle.nd_lines.specs.Answers.{Texts, TextsTo}

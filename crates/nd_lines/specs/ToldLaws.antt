@@ -1,4 +1,4 @@
--- Laws of what a run has told, for a caller above: by one relation between lines and texts and by another, and where the beginning of a text is
+-- Laws of what a run has written, for a caller above: by one relation between lines and texts and by another, and where the beginning of a text is
 -- one of each.
 use Rattle.std.specs.Prelude.{◌≡◌, ◌⊎◌, ℕ, List, ◌++◌, Option, Some, None, refl, ⊤}
 use Rattle.std.proofs.Common.{ap, sym, subst, ◌∙◌, append_assoc, inl, inr}

@@ -1,4 +1,4 @@
-//! The bytes that were read ahead, in which lines are found without a copy.
+//! The bytes that are read ahead, in which lines are found without a copy.
 
 ghost use Rattle.nd_lines.specs.Lines.{longest_line};
 ghost use Rattle.std.specs.Prelude.{◌≡◌, ◌≤◌, ◌<◌, ◌+◌, ◌-◌, ◌⊎◌, length, drop, vec_len, OnOk, OnErr, IfOk, Ok, true, false};
@@ -11,13 +11,13 @@ use crate::input::{Input, ReadFault};
 use memchr::memchr;
 use std::alloc::{AllocError, Allocator};
 
-/// How many bytes can be in hand (our choice): a line, and what a large read brings behind it.
+/// The most buffered bytes (our choice): a line, and what a large read adds after it.
 const ROOM: usize = 65536;
 
-/// How many reads an input has (our choice).
+/// The most reads of an input (our choice).
 const READS: u64 = 1 << 40;
 
-/// Bytes that were read and not taken yet, in one buffer.
+/// Bytes that were read and not yet taken, in one buffer.
 #[derive(Drop)]
 pub struct Ahead<A: Allocator> {
     buffer: Vec<u8, A>,
@@ -30,19 +30,19 @@ pub struct Ahead<A: Allocator> {
     ghost counted: { reads ≤ most_reads },
 }
 
-/// What stands first among the bytes in hand.
+/// What the buffered bytes begin with.
 #[derive(Clone, Copy, Debug, PartialEq, Eq)]
 pub enum FirstLine {
-    /// A line of so many bytes, and its line feed.
+    /// A line of this number of bytes, and its line feed.
     Whole(usize),
-    /// A line over the limit, whatever comes behind it.
+    /// A line over the limit, with anything after it.
     TooLong,
     /// The beginning of a line, or no byte.
     Unfinished,
 }
 
 impl<A: Allocator> Ahead<A> {
-    /// Nothing was read yet. Makes the buffer, which never grows.
+    /// Returns a buffer in which nothing was read yet. It never grows. Returns an error if out of memory.
     pub fn new(alloc: A) -> Result<Ahead<A>, AllocError>
         ensures empty { IfOk result (λ ahead. ahead.start ≡ ahead.end) }
         ensures reads { IfOk result (λ ahead. ahead.reads ≡ most_reads) }
@@ -56,7 +56,7 @@ impl<A: Allocator> Ahead<A> {
         })
     }
 
-    /// The bytes in hand.
+    /// Returns the buffered bytes.
     pub fn in_hand(&self) -> &[u8]
         ensures bytes { result.now ≡ in_hand self.now.buffer.items self.now.start self.now.end }
         ensures length { length result.now ≡ self.now.end - self.now.start }
@@ -64,7 +64,7 @@ impl<A: Allocator> Ahead<A> {
         &self.buffer[self.start..self.end]
     }
 
-    /// Looks for the first line among the bytes in hand.
+    /// Looks for the first line among the buffered bytes.
     pub fn first_line(&self) -> FirstLine
         ensures { Finds (in_hand self.now.buffer.items self.now.start self.now.end) result }
     {
@@ -77,7 +77,7 @@ impl<A: Allocator> Ahead<A> {
         }
     }
 
-    /// Takes bytes from the front of those in hand.
+    /// Takes bytes from the front of the buffered ones.
     pub fn take(&mut self, count: usize)
         requires { count ≤ self.old.end - self.old.start }
         ensures rest { in_hand self.new.buffer.items self.new.start self.new.end ≡ drop count (in_hand self.old.buffer.items self.old.start self.old.end) }
@@ -87,7 +87,7 @@ impl<A: Allocator> Ahead<A> {
         self.start += count;
     }
 
-    /// Moves the bytes in hand to the front of the buffer.
+    /// Moves the buffered bytes to the front of the buffer.
     fn move_to_front(&mut self)
         ensures start { self.new.start ≡ 0 }
         ensures end { self.new.end ≡ self.old.end - self.old.start }
@@ -102,8 +102,8 @@ impl<A: Allocator> Ahead<A> {
         self.start = 0;
     }
 
-    /// Reads behind the bytes in hand, as many as there is room for. Answers whether a byte came: none comes at the
-    /// end alone, and there no further read is to be made.
+    /// Reads as many bytes as there is room for, after the buffered ones. Returns true if a byte was read: only at the end there is none, and no
+    /// further read must be made then.
     pub fn fill<R: Input>(&mut self, input: &mut R) -> Result<bool, ReadFault>
         requires { self.old.end - self.old.start ≤ longest_line }
         ensures bytes { OnOk result (Keeps (prepend_known (in_hand self.old.buffer.items self.old.start self.old.end) (R.remaining input.old)) (prepend_known (in_hand self.new.buffer.items self.new.start self.new.end) (R.remaining input.new))) }

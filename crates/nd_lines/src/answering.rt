@@ -1,4 +1,4 @@
-//! What answers lines, one after the other.
+//! Answers to lines, one after the other.
 
 ghost use Rattle.nd_lines.specs.Lines.{longest_line};
 ghost use Rattle.std.specs.Prelude.{◌≡◌, ◌≢◌, ◌≤◌, ◌<◌, ℕ, List, Option, Err, length, string_bytes, OnOk, IsErrOf};
@@ -21,30 +21,30 @@ pub enum Unanswered {
     Wire,
 }
 
-/// What answers lines, one after the other. It may hold what earlier lines said.
+/// A type that answers lines, one after the other. It may hold what earlier lines said.
 pub trait Answering {
     ghost use Rattle.nd_lines.specs.declared.answering.Unanswered.{Unanswered};
 
-    /// Which text some lines may have from here on, the answerer being the second one behind them. The first line has the given number. No line
-    /// is answered from the first malformed one on, whose number comes last.
+    /// The texts that some lines may have from here on; the second answerer is the one after them. The first line has the given number. No line is
+    /// answered from the first malformed one on, whose number is last.
     ghost texts: { Self → Self → ℕ → List (List ℕ) → List ℕ → Option ℕ → Type 0 };
 
-    /// Which lines are malformed.
+    /// The lines that are malformed.
     ghost is_malformed: { List ℕ → Type 0 };
 
-    /// What a fault at a line means: the answerer before the line, the line, the answerer after it, and the fault.
+    /// The meaning of a fault at a line: the answerer before the line, the line, the answerer after it, and the fault.
     ghost fails: { Self → List ℕ → Self → Unanswered → Type 0 };
 
-    /// How many calls of its wire failed so far, up to the greatest number of 64 bits.
+    /// The number of calls of its wire that failed so far, up to the greatest number of 64 bits.
     ghost failed: { Self → ℕ };
 
-    /// Appends the answer to one line, which is passed without its line feed. Where it returns an error, what it appended is no answer.
+    /// Appends the answer to one line, which is passed without its line feed. If it returns an error, what it appended is no answer.
     fn answer<A: Allocator>(&mut self, line: &[u8], text: &mut String<A>) -> Result<(), Unanswered>
         requires { length line.now ≤ longest_line }
         ensures answered { OnOk result (Tells (texts self.old) (texts self.new) line.now (string_bytes text.old) (string_bytes text.new)) }
         ensures malformed { IsErrOf result Unanswered.Malformed → IsMalformed (texts self.old self.new) line.now }
         ensures only { IsErrOf result Unanswered.Malformed → is_malformed line.now }
-        // A malformed line is reported as malformed, whatever memory there is.
+        // A malformed line is reported as malformed, even if no memory is left.
         ensures none { is_malformed line.now → IsErrOf result Unanswered.Malformed }
         ensures text_kept { IsErrOf result Unanswered.Malformed → string_bytes text.new ≡ string_bytes text.old }
         ensures fails { (fault : Unanswered) → IsErrOf result fault → fails self.old line.now self.new fault }

@@ -16,12 +16,12 @@ use crate::run::run_lines;
 use crate::tool_fault::ToolFault;
 use std::alloc::Allocator;
 
-/// What answers each line by itself. It may hold room to work in, on which no answer depends.
+/// A type that answers each line by itself. It may hold room to work in, on which no answer depends.
 pub trait AnsweringEach {
-    /// The answer to a line, or none where the line is malformed.
+    /// The answer to a line, or none if the line is malformed.
     ghost answer_to: { List ℕ → Option (List ℕ) };
 
-    /// Appends the answer to one line, which comes without its line feed.
+    /// Appends the answer to one line, which is passed without its line feed.
     fn answer_each<A: Allocator>(
         &mut self,
         line: &[u8],
@@ -30,7 +30,7 @@ pub trait AnsweringEach {
         requires { length line.now ≤ longest_line }
         ensures answered { OnOk result (IsSomeAnd (answer_to line.now) (λ told. string_bytes text.new ≡ string_bytes text.old ++ told)) }
         ensures malformed { IsErrOf result Unanswered.Malformed → answer_to line.now ≡ None }
-        // A malformed line is told, whatever memory there is.
+        // A malformed line is reported as malformed, even if no memory is left.
         ensures none { answer_to line.now ≡ None → IsErrOf result Unanswered.Malformed }
         ensures text_kept { IsErrOf result Unanswered.Malformed → string_bytes text.new ≡ string_bytes text.old }
         // It has no wire.
@@ -44,7 +44,7 @@ pub struct Each<T> {
 }
 
 impl<T: AnsweringEach> Each<T> {
-    /// Answers by what answers one line.
+    /// Returns an answerer of all lines from one of a single line.
     pub fn new(answering: T) -> Self
         ensures { result.answering ≡ answering }
     {
@@ -74,7 +74,7 @@ impl<T: AnsweringEach> Answering for Each<T> {
     }
 }
 
-/// Answers each line of the reader by itself into the writer, up to the first malformed one, as `run_lines` does.
+/// Writes to `writer` the answer to each line of `reader`, each by itself, up to the first malformed one, as `run_lines` does.
 pub fn run_each<R: Input, W: Output, T: AnsweringEach + Drop, A: Allocator + Clone>(
     alloc: A,
     reader: &mut R,
@@ -85,7 +85,7 @@ pub fn run_each<R: Input, W: Output, T: AnsweringEach + Drop, A: Allocator + Clo
     ensures line { (n : ℕ) → IsErrOf result (ToolFault.Line n) → Wrote (text_of_each T.answer_to) (malformed_of_each T.answer_to) (R.remaining reader.old) (W.contents writer.old) (W.contents writer.new) (Some n) }
     ensures front { OnErr result (WroteFront (text_of_each T.answer_to) (R.remaining reader.old) (W.contents writer.old) (W.contents writer.new)) }
     ensures read_failed { IsErrOf result ToolFault.Read → HasRisen (R.failed reader.old) (R.failed reader.new) ⊎ HasGrownBy most_reads (R.given reader.old) (R.given reader.new) }
-    // Where a read fails, the answers to all lines that were read before it are written.
+    // If a read fails, the answers to all lines that were read before it are written.
     ensures answered { IsErrOf result ToolFault.Read → Answered (text_of_each T.answer_to) (malformed_of_each T.answer_to) (R.remaining reader.old) (R.remaining reader.new) (W.contents writer.old) (W.contents writer.new) }
     ensures write_failed { IsErrOf result ToolFault.Write → HasRisen (W.failed writer.old) (W.failed writer.new) }
     // Out of memory: the answers to all lines before the one at which it ran out are written, whole. That line is not malformed.

@@ -1,4 +1,4 @@
-//! Where bytes come from.
+//! The sources of bytes.
 
 ghost use Rattle.std.specs.Prelude.{◌≡◌, ◌≤◌, ◌<◌, ◌+◌, ◌-◌, ◌^◌, ℕ, List, Option, Some, min, OnErr, IfOk};
 ghost use Rattle.std.specs.Io.KnownBytes.{ReadConsumes};
@@ -13,17 +13,17 @@ pub struct ReadFault;
 
 /// A source of bytes that counts what it gave and how often it failed.
 pub trait Input {
-    /// The bytes that reads will give from here on, where they are known.
+    /// The bytes that reads will give from here on, if they are known.
     ghost remaining: { Self → Option (List ℕ) };
 
-    /// How many bytes reads gave so far, up to the greatest number of 64 bits.
+    /// The number of bytes that reads gave so far, up to the greatest number of 64 bits.
     ghost given: { Self → ℕ };
 
-    /// How many reads failed so far, up to the greatest number of 64 bits.
+    /// The number of reads that failed so far, up to the greatest number of 64 bits.
     ghost failed: { Self → ℕ };
 
-    /// Reads into the front of the buffer, and answers how many bytes. With room for some, no byte comes at the
-    /// end alone. After a failure nothing was taken from what is to come.
+    /// Reads into the front of the buffer, and returns the number of bytes. If the buffer has room, the number is 0 only at the end. A failed read
+    /// takes nothing from what is left.
     fn read(&mut self, buffer: &mut [u8]) -> Result<usize, ReadFault>
         ensures bound { ReadsAtMost result buffer.new }
         ensures bytes { ReadConsumes (remaining self.old) (remaining self.new) result buffer.new }
@@ -32,7 +32,7 @@ pub trait Input {
         ensures fault { OnErr result (HasRisen (failed self.old) (failed self.new)) }
         ensures failed_never_falls { failed self.old ≤ failed self.new };
 
-    /// How many reads failed.
+    /// Returns the number of reads that failed.
     fn failures(&self) -> u64
         ensures { result ≡ failed self.now };
 }
@@ -46,7 +46,7 @@ pub struct Reading<R> {
 }
 
 impl<R: Read> Reading<R> {
-    /// A reader that gave no byte and had no failure.
+    /// Returns a reader that gave no byte and had no failure.
     pub fn new(reader: R) -> Self
         ensures reader { result.reader ≡ reader }
         ensures given { result.given ≡ 0 }
@@ -85,7 +85,7 @@ impl<R: Read> Input for Reading<R> {
     }
 }
 
-/// Bytes in memory, given in pieces of at most so many.
+/// Bytes in memory, given in pieces of limited length.
 #[derive(Drop)]
 pub struct Pieces<'a> {
     bytes: &'a [u8],
@@ -95,7 +95,7 @@ pub struct Pieces<'a> {
 }
 
 impl<'a> Pieces<'a> {
-    /// All of the bytes, in pieces of at most `piece` bytes.
+    /// Returns all of the bytes, in pieces of at most `piece` bytes.
     pub fn new(bytes: &'a [u8], piece: usize) -> Self
         requires { 0 < piece }
         ensures bytes { result.bytes.now ≡ bytes.now }
@@ -117,7 +117,7 @@ impl Input for Pieces<'_> {
 
     ghost failed = { λ _. 0 };
 
-    // The clauses of `Input::read`, and that a piece is no larger than it may be.
+    // The clauses of `Input::read`, and that a piece is no larger than its limit.
     fn read(&mut self, buffer: &mut [u8]) -> Result<usize, ReadFault>
         ensures bound { ReadsAtMost result buffer.new }
         ensures bytes { ReadConsumes (Some self.old.bytes.now) (Some self.new.bytes.now) result buffer.new }

@@ -1,4 +1,4 @@
-//! Where bytes go.
+//! The sinks of bytes.
 
 ghost use Rattle.std.specs.Prelude.{◌≡◌, ◌≤◌, ◌<◌, ℕ, List, Option, length, OnOk, OnErr, IfOk};
 ghost use Rattle.std.specs.Io.KnownBytes.{WriteAppends, Appends};
@@ -13,14 +13,13 @@ pub struct WriteFault;
 
 /// A sink of bytes that counts how often it failed.
 pub trait Output {
-    /// The bytes that it holds, where they are known.
+    /// The bytes that it holds, if they are known.
     ghost contents: { Self → Option (List ℕ) };
 
-    /// How many writes failed so far, up to the greatest number of 64 bits.
+    /// The number of writes that failed so far, up to the greatest number of 64 bits.
     ghost failed: { Self → ℕ };
 
-    /// Writes the front of the buffer, and answers how many bytes: at least one of some. After a failure nothing
-    /// was written.
+    /// Writes the front of the buffer, and returns the number of bytes, at least one if there are any. A failed write has written nothing.
     fn write(&mut self, buffer: &[u8]) -> Result<usize, WriteFault>
         ensures bound { IfOk result (λ n. n ≤ length buffer.now) }
         ensures some { 0 < length buffer.now → IfOk result (λ n. 0 < n) }
@@ -28,7 +27,7 @@ pub trait Output {
         ensures fault { OnErr result (HasRisen (failed self.old) (failed self.new)) }
         ensures never_falls { failed self.old ≤ failed self.new };
 
-    /// How many writes failed.
+    /// Returns the number of writes that failed.
     fn failures(&self) -> u64
         ensures { result ≡ failed self.now };
 }
@@ -41,7 +40,7 @@ pub struct Writing<W> {
 }
 
 impl<W: Write> Writing<W> {
-    /// A writer with no failure.
+    /// Returns a writer with no failure.
     pub fn new(writer: W) -> Self
         ensures writer { result.writer ≡ writer }
         ensures failures { result.failures ≡ 0 }
@@ -52,7 +51,7 @@ impl<W: Write> Writing<W> {
         }
     }
 
-    /// The writer.
+    /// Returns the writer.
     pub fn into_inner(self) -> W
         ensures { result ≡ self.writer }
     {
@@ -85,7 +84,7 @@ impl<W: Write> Output for Writing<W> {
     }
 }
 
-/// Writes all of the bytes. After a fault a front of them was written.
+/// Writes all of the bytes. After a fault some of the first ones are written.
 pub fn write_whole<W: Output>(writer: &mut W, bytes: &[u8]) -> Result<(), WriteFault>
     ensures ok { OnOk result (Appends (W.contents writer.old) (W.contents writer.new) bytes.now) }
     ensures front { OnErr result (AppendsFront (W.contents writer.old) (W.contents writer.new) bytes.now) }

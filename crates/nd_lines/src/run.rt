@@ -15,7 +15,7 @@ use crate::tool_fault::ToolFault;
 use crate::unwritten::Unwritten;
 use std::alloc::Allocator;
 
-/// Answers the last line, which has no line feed, unless there is none, and writes the answer.
+/// Answers the last line, which has no line feed, if there is one, and writes the answer.
 fn answer_last<L: Answering, W: Output, A: Allocator>(
     line: &[u8],
     number: u64,
@@ -44,8 +44,8 @@ fn answer_last<L: Answering, W: Output, A: Allocator>(
     Ok(())
 }
 
-/// Answers each line of the reader into the writer, up to the first malformed one. The answers to all whole lines
-/// that were read are written before each further read.
+/// Writes to `writer` the answer to each line of `reader`, up to the first malformed one. The answers to all whole lines that were read are written
+/// before each further read.
 pub fn run_lines<R: Input, W: Output, L: Answering, A: Allocator + Clone>(
     alloc: A,
     reader: &mut R,
@@ -56,11 +56,11 @@ pub fn run_lines<R: Input, W: Output, L: Answering, A: Allocator + Clone>(
     ensures line { (n : ℕ) → IsErrOf result (ToolFault.Line n) → TellsAll (L.texts answering.old answering.new) (R.remaining reader.old) (W.contents writer.old) (W.contents writer.new) (Some n) }
     ensures front { OnErr result (TellsFront (ToAny (L.texts answering.old)) (R.remaining reader.old) (W.contents writer.old) (W.contents writer.new)) }
     ensures read_failed { IsErrOf result ToolFault.Read → HasRisen (R.failed reader.old) (R.failed reader.new) ⊎ HasGrownBy most_reads (R.given reader.old) (R.given reader.new) }
-    // Where a read fails, the answers to all lines that were read before it are written.
+    // If a read fails, the answers to all lines that were read before it are written.
     ensures answered { IsErrOf result ToolFault.Read → TellsAsRead (L.texts answering.old answering.new) (R.remaining reader.old) (R.remaining reader.new) (W.contents writer.old) (W.contents writer.new) }
     // Out of memory: the answers to all lines before the one at which it ran out are written, whole. That line is not malformed.
     ensures memory { IsErrOf result ToolFault.Memory → IsUntouched (R.remaining reader.old) (R.remaining reader.new) (W.contents writer.old) (W.contents writer.new) ⊎ TellsUntil (L.texts answering.old) (StopsAt L.fails L.is_malformed answering.new Unanswered.Memory) (R.remaining reader.old) (W.contents writer.old) (W.contents writer.new) }
-    // The same where the answerer's wire fails.
+    // The same if the answerer's wire fails.
     ensures wire { IsErrOf result ToolFault.Wire → TellsUntil (L.texts answering.old) (StopsAt L.fails L.is_malformed answering.new Unanswered.Wire) (R.remaining reader.old) (W.contents writer.old) (W.contents writer.new) }
     // A write may also fail while these answers are written: `Write` is reported then.
     ensures write_failed { IsErrOf result ToolFault.Write → HasRisen (W.failed writer.old) (W.failed writer.new) }

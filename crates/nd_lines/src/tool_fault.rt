@@ -1,4 +1,4 @@
-//! What ends a run of the tool.
+//! The faults that end a run of the tool.
 
 ghost use Rattle.std.specs.Prelude.{◌≡◌};
 ghost use Rattle.nd_lines.specs.declared.tool_fault.ToolFault.TheVariants.{Read, Write, Memory};
@@ -15,7 +15,7 @@ pub enum ToolFault {
     /// The line of this number, counted from 1, is malformed.
     #[error("line {0}: malformed")]
     Line(u64),
-    /// Memory was refused.
+    /// Out of memory.
     #[error("no memory")]
     Memory,
     /// A read failed, or the input has too many reads.
@@ -30,7 +30,7 @@ pub enum ToolFault {
 }
 
 impl ToolFault {
-    /// The status that the tool exits with: 2 for a malformed line, 3 for memory, 4 for the world outside.
+    /// Returns the exit status of the tool: 2 for a malformed line, 3 for memory, 4 for a read, a write or a wire.
     pub fn status(self) -> u8
         ensures { result ≡ status_of self }
     {

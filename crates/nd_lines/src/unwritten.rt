@@ -1,4 +1,4 @@
-//! The answers that are not written yet.
+//! The answers that are not yet written.
 
 ghost use Rattle.std.specs.Prelude.{◌≡◌, ◌≢◌, ◌≤◌, ◌∷◌, ◌++◌, ℕ, [], Err, length, string_bytes, OnOk, OnErr, IsErrOf};
 ghost use Rattle.std.specs.Io.KnownBytes.{Appends};
@@ -14,10 +14,10 @@ use crate::output::{Output, WriteFault, write_whole};
 use crate::tool_fault::ToolFault;
 use std::alloc::Allocator;
 
-/// A text above this many bytes is written though more lines are in hand (our choice).
+/// A text above this number of bytes is written even if more lines are buffered (our choice).
 const MUCH_TEXT: usize = 32768;
 
-/// The answers that are not written yet: between two lines at most so many bytes, whatever lines come.
+/// The answers that are not yet written: a limited number of bytes between two lines, for any lines.
 #[derive(Drop)]
 pub struct Unwritten<A: Allocator> {
     text: String<A>,
@@ -27,7 +27,7 @@ pub struct Unwritten<A: Allocator> {
 }
 
 impl<A: Allocator> Unwritten<A> {
-    /// No answer. It takes no memory.
+    /// Returns an empty text. It takes no memory.
     pub fn new(alloc: A, for_one: A) -> Self
         ensures { string_bytes result.text ≡ [] }
     {
@@ -80,7 +80,7 @@ impl<A: Allocator> Unwritten<A> {
         }
     }
 
-    /// Puts the answer to a line behind the others. Writes if the text is long, or has no memory to grow.
+    /// Appends the answer to a line. Writes if the text is long, or if there is no memory for it to grow.
     fn keep_answer<W: Output>(&mut self, writer: &mut W) -> Result<(), WriteFault>
         ensures ok { OnOk result (AppendsUpTo (W.contents writer.old) (W.contents writer.new) (string_bytes self.old.text ++ string_bytes self.old.answer) (string_bytes self.new.text)) }
         ensures front { OnErr result (AppendsFront (W.contents writer.old) (W.contents writer.new) (string_bytes self.old.text ++ string_bytes self.old.answer)) }
@@ -98,7 +98,7 @@ impl<A: Allocator> Unwritten<A> {
     }
 }
 
-/// The fault of a run that ends at the line of this number.
+/// Returns the fault of a run that ends at the line of this number.
 fn fault_at(number: u64, why: Unanswered) -> ToolFault
     ensures { result ≡ fault_at number why }
 {

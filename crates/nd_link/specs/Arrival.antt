@@ -1,4 +1,4 @@
--- An event comes to a link at a moment up to which its nodes have done what was due.
+-- A link receives an event at a moment up to which its nodes have done what was due.
 use Rattle.std.specs.Prelude.{◌≡◌, ℕ, ◌∷◌, Option, Some, None}
 use Rattle.nd_chronicle.specs.Event as nodes
 use Rattle.nd_node.specs.Limits.{usual_limits}
@@ -22,6 +22,6 @@ abbrev pub carrying : ℕ → ℕ → Option ℕ → Log → Log
 carrying now node None log = log
 carrying now node (Some number) log = Carries node now number ∷ log
 
--- it comes to a node that is there, as a frame that is carried or not
+-- an existing node receives it, as a frame that is carried or not
 abbrev pub Arrives : ℕ → ℕ → nodes.Event → Option ℕ → Log → Log → Type 0
 Arrives now node event carried log d = AddsRows usual_limits now node event (carrying now node carried (reached now log)) d

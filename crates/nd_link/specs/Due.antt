@@ -1,4 +1,4 @@
--- Which node of a link turns first, by what falls due at each.
+-- Which node of a link turns first, by what is due at each.
 use Rattle.std.specs.Prelude.{◌≡◌, ℕ, ◌<◌, ◌≤◌, nat_lt, if◌then◌else◌, List, [], length, slice_get, Option, Some, None}
 use Rattle.rand_core.specs.Stream.{Stream}
 use Rattle.nd_chronicle.specs.Start.{Start}

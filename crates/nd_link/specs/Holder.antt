@@ -11,7 +11,7 @@ use Rattle.nd_link_log.specs.Losing.{LosesLittle}
 use Rattle.nd_link.specs.declared.link.Link.{Link}
 use Rattle.nd_link.specs.Link.{Stands}
 
--- the link stands for the log of these events, of which what was handed in is bytes
+-- the link stands for the log of these events, of which the input is bytes
 pub record StandsForEvents {W R A : Type 0} (stream : R → Stream) (link : Link W R A) (events : List (ℕ × Event)) (log : Log) : Type 0 where
   pub bytes : AreOfBytes events
   pub runs : IsLog usual_limits events log

@@ -1,4 +1,4 @@
--- Events that come to a link, one after the other.
+-- Events that a link receives, one after the other.
 use Rattle.std.specs.Prelude.{ℕ, List, take}
 use Rattle.nd_node.specs.Limits.{usual_limits}
 use Rattle.nd_link_log.specs.Log.{Log}
@@ -6,11 +6,11 @@ use Rattle.nd_link_log.specs.Event.{Event}
 use Rattle.nd_link_log.specs.History.{Follows, Runs}
 use Rattle.nd_link.specs.Time.{Onward, Passes}
 
--- what follows where the event comes
+-- what follows from the event
 abbrev pub FollowsBy : ℕ → Event → Log → Log → Type 0
 FollowsBy now event log d = Follows usual_limits log now event d
 
--- what follows where the events come
+-- what follows from the events
 abbrev pub RunsBy : List (ℕ × Event) → Log → Log → Type 0
 RunsBy events log d = Runs usual_limits log events d
 

@@ -13,11 +13,11 @@ use Rattle.nd_link.specs.declared.told.Told.{Told}
 use Rattle.nd_link.specs.Link.{Stands}
 use Rattle.nd_link.specs.Told.{Tells}
 
--- The call leads from each log that the link stood for to one of those that the relation gives, and tells what is told of it.
+-- The call leads from each log that the link stood for to one of those that the relation gives, and reports it.
 pub record Leads {W R A : Type 0} (stream : R → Stream) (old new : Link W R A) (before after : List (Told A)) (To : Log → Log → Type 0) : Type 0 where
   pub each : (log : Log) → Stands stream old log → (d : Log) × To log d × Stands stream new d × Tells log d before after
 
--- it tells what is told of one of those, whatever has become of the link
+-- it reports one of those, whatever has become of the link
 pub record TellsOf {W R A : Type 0} (stream : R → Stream) (old : Link W R A) (before after : List (Told A)) (To : Log → Log → Type 0) : Type 0 where
   pub each : (log : Log) → Stands stream old log → (d : Log) × To log d × Tells log d before after
 

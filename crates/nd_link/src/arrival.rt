@@ -1,3 +1,5 @@
+//! A node of a link receives an event. The definitions are in `specs/Arrival.antt`.
+
 ghost use Rattle.std.specs.Prelude.{◌≡◌, ◌≢◌, ◌<◌, ◌≤◌, ℕ, IsOk, OnErr, OnOk, Option, vec_capacity, vec_len};
 ghost use Rattle.nd_table.specs.Moment.{IsMoment};
 ghost use Rattle.nd_node.specs.Event.{event_of};

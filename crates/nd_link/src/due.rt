@@ -1,3 +1,5 @@
+//! Which node of a link turns first. The definitions are in `specs/Due.antt`.
+
 ghost use Rattle.std.specs.Prelude.{◌≡◌};
 ghost use Rattle.nd_link.specs.Due.{FirstDue, earlier};
 

@@ -1,3 +1,5 @@
+//! Events of a link. The definitions are in `specs/Event.antt`.
+
 ghost use Rattle.std.specs.Prelude.{◌≡◌, ◌≢◌, ◌≤◌, ◌<◌, ◌-◌, Err, IsErrOf, IsOk, OnErr, OnOk, false, true, vec_capacity, vec_len};
 ghost use Rattle.nd_addr.specs.Bytes.{IsBytes};
 ghost use Rattle.nd_table.specs.Moment.{IsMoment};

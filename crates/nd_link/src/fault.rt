@@ -1,3 +1,5 @@
+//! Why an event of a link could not be done.
+
 ghost use Rattle.std.specs.Prelude.{◌≡◌};
 
 use nd_wire::WireFault;

@@ -1,3 +1,5 @@
+//! The frames that a link keeps. The definitions are in `specs/Frames.antt`.
+
 ghost use Rattle.std.specs.Prelude.{◌≡◌, ◌++◌, OnOk};
 ghost use Rattle.nd_steps.specs.Outputs.{frame_sent, frames_in, happenings};
 ghost use Rattle.nd_out.specs.Out.{happening};

@@ -1,3 +1,5 @@
+//! A link: its nodes, its frames and its wire. The definitions are in `specs/Link.antt`.
+
 ghost use Rattle.std.specs.Prelude.{◌≡◌, ◌≤◌, ◌<◌, ◌^◌, [], false, vec_len};
 ghost use Rattle.nd_link_log.specs.Event.{max_nodes};
 

@@ -1,3 +1,5 @@
+//! Time passes at the nodes of a link. The definitions are in `specs/Passing.antt`.
+
 ghost use Rattle.nd_link.specs.Due.{AreSettled};
 ghost use Rattle.nd_link.specs.Passing.{OthersPass};
 

@@ -1,3 +1,5 @@
+//! Why a link refuses an event.
+
 /// Why a link refuses an event (the reasons are this project's own).
 #[derive(Clone, Copy, Debug, PartialEq, Eq)]
 pub enum Refusal {

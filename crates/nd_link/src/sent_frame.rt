@@ -1,3 +1,5 @@
+//! A frame that was sent, with its sender.
+
 ghost use Rattle.nd_addr.specs.Bytes.{IsBytes};
 
 use std::alloc::Allocator;

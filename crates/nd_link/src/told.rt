@@ -1,3 +1,5 @@
+//! What a link reports. The definitions are in `specs/Told.antt`.
+
 ghost use Rattle.std.specs.Prelude.{◌≡◌, ◌<◌, IsOk, OnErr, OnOk, vec_capacity, vec_len};
 ghost use Rattle.std.specs.List.{flat_map};
 ghost use Rattle.nd_chronicle.specs.Told.{node_lines};

@@ -1,3 +1,5 @@
+//! A link does what is due at its nodes.
+
 ghost use Rattle.std.specs.Prelude.{◌≡◌, ℕ, ◌^◌, ◌<◌, ◌≤◌, Ok, OnOk, OnErr};
 ghost use Rattle.nd_table.specs.Moment.{IsMoment};
 ghost use Rattle.nd_link.specs.Due.{AreSettled, IsFirst};

@@ -8,7 +8,7 @@ use Rattle.nd_chronicle.specs.Event.{ComesAsBytes}
 use Rattle.nd_link_log.specs.Log.{Log, Adds}
 use Rattle.nd_link_log.specs.Event.{Event, Passes, Starts, Comes, Delivers}
 
--- the link-layer address of a node that starts is six bytes, it solicits once or more often for an address, and a frame that comes is bytes
+-- the link-layer address of a node that starts is six bytes, it solicits once or more often for an address, and a received frame is bytes
 abbrev pub IsOfBytes : Event → Type 0
 IsOfBytes Passes = Unit {0}
 IsOfBytes (Starts role mac transmits stream) = AreBytes 6 mac.0 × (0 < transmits)

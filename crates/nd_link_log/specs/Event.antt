@@ -14,7 +14,7 @@ use Rattle.nd_link_log.specs.Log.{Log, NoNode, NoFrame, Own, Full, Begins, Adds,
 abbrev pub max_nodes : ℕ
 max_nodes = 16
 
--- time passes; another node starts; an event comes to a node, by its number; a frame is carried to a node, by the numbers of both
+-- time passes; another node starts; a node, by its number, receives an event; a frame is carried to a node, by the numbers of both
 pub data Event : Type 0 where
   Passes : Event
   Starts : (role : Role) (mac : Mac) (transmits : ℕ) (stream : Stream) → Event
@@ -27,7 +27,7 @@ passing now zero log = log
 passing now (suc i) log = Adds i now Passed ∷ passing now i log
 
 module _ (limits : Limits) (now : ℕ) where
-  -- an event comes to a node that is there, and adds its rows, which are of that node alone
+  -- an existing node receives an event, and adds its rows, which are of that node alone
   pub record AddsRows (node : ℕ) (event : nodes.Event) (log d : Log) : Type 0 where
     pub start : Start
     pub starts : start_of node log ≡ Some start
@@ -43,7 +43,7 @@ module _ (limits : Limits) (now : ℕ) where
     pub is_frame : IsFrame log number sender at frame
     pub adds : MatchBool (sender == node) (d ≡ Refuses now Own ∷ log) (AddsRows node (nodes.Receives frame) (Carries node now number ∷ log) d)
 
-  -- what comes to a node that isn't there is refused
+  -- what is for a node that doesn't exist is refused
   abbrev pub IfThere : ℕ → (Log → Log → Type 0) → Log → Log → Type 0
   IfThere node Adds' log d = MatchBool (nat_lt node (nodes log)) (Adds' log d) (d ≡ Refuses now NoNode ∷ log)
 

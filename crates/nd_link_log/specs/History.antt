@@ -19,8 +19,8 @@ pub data Walk : Log → ℕ → ℕ → Log → Type 0 where
   passes : {log d : Log} {moment end : ℕ} → moment ≤ end → ((node : ℕ) → IsIdle node log moment) → Walk log (suc moment) end d → Walk log moment end d
 
 module _ (limits : Limits) where
-  -- The milliseconds up to an event come first, its own included, and it is a moment at each node; then it adds what it adds. One that comes too
-  -- late is refused alone.
+  -- The milliseconds up to an event come first, its own included, and it is a moment at each node; then it adds what it adds. One that is too
+  -- late is only refused.
   abbrev pub Follows : Log → ℕ → Event → Log → Type 0
   Follows log now event d =
       MatchBool (nat_lt now (last_moment log))

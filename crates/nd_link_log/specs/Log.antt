@@ -25,7 +25,7 @@ pub data Entry : Type 0 where
   Adds : (node at : ℕ) (what : Happening) → Entry
   -- the link carries a frame to a node
   Carries : (node at frame : ℕ) → Entry
-  -- time has passed up to a moment, at which an event comes
+  -- time has passed up to a moment, that of an event
   Reaches : (at : ℕ) → Entry
   -- the link refuses an event
   Refuses : (at : ℕ) (why : Refusal) → Entry
@@ -77,7 +77,7 @@ pub record IsFrame (log : Log) (number sender at : ℕ) (frame : List ℕ) : Typ
 
 -- ---- time
 
--- up to which moment time has passed, in milliseconds: a link starts at 0, and an event that comes too late leaves it
+-- up to which moment time has passed, in milliseconds: a link starts at 0, and an event that is too late leaves it
 abbrev pub last_moment : Log → ℕ
 last_moment [] = 0
 last_moment (Begins node start ∷ log) = start.at

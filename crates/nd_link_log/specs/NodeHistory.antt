@@ -6,7 +6,7 @@ use Rattle.nd_link_log.specs.Log.{Log, IsFrame, Reaches, Refuses, TooLate, last_
 use Rattle.nd_link_log.specs.Event.{Event, Passes, Starts, Comes, Delivers, EventHappens, passing}
 use Rattle.nd_link_log.specs.History.{Walk}
 
--- the event neither comes to the node nor carries another node's frame to it
+-- the event is neither for the node nor carries another node's frame to it
 abbrev pub PassesBy : ℕ → Log → Event → Type 0
 PassesBy node log Passes = Unit {0}
 PassesBy node log (Starts role mac transmits stream) = Unit {0}
@@ -20,7 +20,7 @@ pub data IsToNode (node : ℕ) (log : Log) : Event → nodes.Event → Type 0 wh
   Elsewhere : {event : Event} → PassesBy node log event → IsToNode node log event nodes.Passes
 
 module _ (limits : Limits) (node : ℕ) where
-  -- From one log to another by these events, the node lives this history: it has none before it starts, an event that comes too late for the
+  -- From one log to another by these events, the node lives this history: it has none before it starts, an event that is too late for the
   -- link is none, and each other one is an event of the node at its moment.
   pub data IsHistoryOf : Log → List (ℕ × Event) → List (ℕ × nodes.Event) → Log → Type 0 where
     Over : {log : Log} → IsHistoryOf log [] [] log

@@ -29,7 +29,7 @@ pub fn one_log()
     ensures { (limits : Limits) (events : List (ℕ × Event)) (c d : Log) → IsLog limits events c → IsLog limits events d → c ≡ d }
 {}
 
-/// Nothing that happened on a link is lost: whatever happens further, its log grows.
+/// Nothing that happened on a link is lost: with each further event its log only grows.
 pub fn log_only_grows()
     ensures { (limits : Limits) (events : List (ℕ × Event)) (log d : Log) → Runs limits log events d → (newer : List Entry) × (d ≡ newer ++ log) }
 {}
@@ -39,40 +39,40 @@ pub fn few_nodes()
     ensures { (limits : Limits) (events : List (ℕ × Event)) (log : Log) → IsLog limits events log → nodes log ≤ max_nodes }
 {}
 
-/// What is told of a log is told behind the text of what it was before.
+/// The text of what is added to a log is after the text of what was there before.
 pub fn text_only_grows()
     ensures { (newer log : List Entry) → text (newer ++ log) ≡ text log ++ text newer }
 {}
 
-/// Each node of a link lives a history of its own: its chronicle in the log is the one of that history, which is of bytes if the link's is.
+/// Each node of a link has a history of its own: its chronicle in the log is the one of that history, which is of bytes if the link's is.
 pub fn nodes_have_histories()
     ensures { (limits : Limits) (events : List (ℕ × Event)) (log : Log) (node : ℕ) (start : Start) → IsLog limits events log → start_of node log ≡ Some start
         → (history : List (ℕ × chronicle.Event)) × IsChronicle start history (chronicle_of node log) × (AreOfBytes events → SendsBytes log → ComeAsBytes history) }
 {}
 
-/// Which history that is: every event on the link since the node started that didn't come too late, as its own event where it comes to the node, as
-/// a received frame where the link carries another node's frame to it, and else as time that passes.
+/// Which history that is: every event on the link since the node started that wasn't too late, as its own event if it is for the node, as a
+/// received frame if the link carries another node's frame to it, and otherwise as time that passes.
 pub fn nodes_live_the_links_events()
     ensures { (limits : Limits) (events : List (ℕ × Event)) (log : Log) (node : ℕ) (start : Start) → IsLog limits events log → start_of node log ≡ Some start
         → (history : List (ℕ × chronicle.Event)) × IsHistoryOf limits node [] events history log × IsChronicle start history (chronicle_of node log) }
 {}
 
-/// The log of each link is sound: whatever events come, in whatever order, its nodes and the link itself do what they owe.
+/// The log of each link is sound: for any events in any order, its nodes and the link itself do what they owe.
 pub fn links_are_sound()
     ensures { (limits : Limits) (events : List (ℕ × Event)) (log : Log) → AreOfBytes events → SendsBytes log → IsLog limits events log → IsSound log }
 {}
 
-/// On a timely link no address is preferred or deprecated at two nodes, at no place of its log (RFC 4862, section 5.4), by what the nodes and
-/// the link owe alone: how an address comes to be held, and what comes of a frame that is carried. So it is on each link.
+/// On a timely link, at each place of its log, no address is preferred or deprecated at two nodes (RFC 4862, section 5.4). This follows from what
+/// the nodes and the link owe alone: how a node gets an address, and the effect of a carried frame. So it holds on each link.
 pub fn one_holder()
     ensures where_sound { (log : Log) (within : ℕ) → IsSound log → IsTimely within log → HasOneHolder log }
     ensures on_links { (limits : Limits) (events : List (ℕ × Event)) (log : Log) (within : ℕ) → AreOfBytes events → SendsBytes log → IsLog limits events log
         → IsTimely within log → HasOneHolder log }
 {}
 
-/// On a link that loses frames no address is preferred or deprecated at two nodes either (RFC 4862, section 5.4), if of each attempt for an
-/// address at least one solicitation reaches each other node that was on the link when the address was formed, and each answer to that delivery
-/// reaches the node that asks, both in time. Anything else may be lost. A timely link is a case of it.
+/// On a link that loses frames no address is preferred or deprecated at two nodes either (RFC 4862, section 5.4), if in each attempt for an address
+/// at least one solicitation reaches each other node that was on the link when the address was formed, and each answer to that delivery reaches the
+/// node that asks, both in time. Anything else may be lost. A timely link is a case of it.
 pub fn one_holder_where_frames_are_lost()
     ensures where_sound { (log : Log) (within : ℕ) → IsSound log → LosesLittle within log → HasOneHolder log }
     ensures on_links { (limits : Limits) (events : List (ℕ × Event)) (log : Log) (within : ℕ) → AreOfBytes events → SendsBytes log → IsLog limits events log
@@ -92,8 +92,8 @@ pub fn bound_is_sharp()
         → (log : Log) × (key : ℕ) × IsSound log × AllArrive 2 log × AllWait (2 * 2) log × Holds 0 key log × Holds 1 key log }
 {}
 
-/// The premises can be met where frames are lost: on a sound log of two nodes only the second of three solicitations is carried, and the address
-/// is held.
+/// The premises can be met if frames are lost: on a sound log of two nodes only the second of three solicitations is carried, and the address is
+/// held.
 pub fn losses_are_borne()
     ensures { (start : Start) → start.at ≡ 0 → AreBytes 6 start.mac.0
         → (log : Log) × (key : ℕ) × (nodes log ≡ 2) × (sent log ≡ 3) × IsSound log × LosesLittle 1 log

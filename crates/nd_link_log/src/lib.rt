@@ -1,4 +1,4 @@
-//! Nodes on one link: what happens to them all, and what is told of it. These are definitions and their laws, by which `nd_link` runs.
+//! Nodes on one link: what happens to them all, and what is reported of it. These are definitions and their laws, by which `nd_link` runs.
 #![tactic(auto)]
 
 pub mod laws;

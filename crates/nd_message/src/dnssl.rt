@@ -10,10 +10,10 @@ use nd_decode::{LONGEST_OPTION, OPTION_DATA_AT, OPTION_DNS_SEARCH_LIST};
 use nd_search_list::is_name;
 use std::alloc::Allocator;
 
-/// How many bytes of names a DNS Search List has at most (RFC 4861, section 4.6).
+/// The most bytes of names in a DNS Search List (RFC 4861, section 4.6).
 const LONGEST_NAMES: usize = LONGEST_OPTION - OPTION_DATA_AT;
 
-/// How many bytes a DNS Search List has, if these can be its names.
+/// Returns the number of bytes of a DNS Search List, if these can be its names.
 pub(crate) fn dnssl_length<A: Allocator>(lifetime: u32, names: &[Name<A>]) -> Option<usize>
     ensures { SomeIff result (FitsDnssl lifetime (map labels_of names.now)) (length (dnssl_piece lifetime (map labels_of names.now))) }
 {
@@ -22,7 +22,7 @@ pub(crate) fn dnssl_length<A: Allocator>(lifetime: u32, names: &[Name<A>]) -> Op
     Some(8 + length + missing(length))
 }
 
-/// The fewest bytes that so many lack to a multiple of 8.
+/// Returns the number of bytes that `length` lacks to a multiple of 8.
 fn missing(length: usize) -> usize
     ensures value { result ≡ missing length }
     ensures few { result < 8 }
@@ -30,7 +30,7 @@ fn missing(length: usize) -> usize
     (8 - length % 8) % 8
 }
 
-/// How many bytes names have one behind the other, if they can be those of an option.
+/// Returns the number of bytes of names, one after the other, if they can be those of an option.
 fn names_length<A: Allocator>(names: &[Name<A>]) -> Option<usize>
     ensures { SomeIff result (FitNames (map labels_of names.now)) (length (names_data (map labels_of names.now))) }
 {
@@ -47,7 +47,7 @@ fn names_length<A: Allocator>(names: &[Name<A>]) -> Option<usize>
     if names.is_empty() { None } else { Some(length) }
 }
 
-/// Writes the piece of a DNS Search List at the end (RFC 8106, section 5.2).
+/// Appends the piece of a DNS Search List (RFC 8106, section 5.2).
 pub(crate) fn put_dnssl<A: Allocator, B: Allocator>(
     lifetime: u32,
     names: &[Name<A>],
@@ -66,7 +66,7 @@ pub(crate) fn put_dnssl<A: Allocator, B: Allocator>(
     put_zeros(padding, out);
 }
 
-/// Writes names at the end, each with the zero byte that ends it.
+/// Appends names, each with the zero byte that ends it.
 fn put_names<A: Allocator, B: Allocator>(names: &[Name<A>], out: &mut Vec<u8, B>)
     requires { HasRoom out.old (length (names_data (map labels_of names.now))) }
     ensures { Puts out.old out.new (names_data (map labels_of names.now)) }
@@ -76,7 +76,7 @@ fn put_names<A: Allocator, B: Allocator>(names: &[Name<A>], out: &mut Vec<u8, B>
     }
 }
 
-/// Writes a name at the end, with the zero byte that ends it.
+/// Appends a name, with the zero byte that ends it.
 fn put_name<A: Allocator, B: Allocator>(name: &Name<A>, out: &mut Vec<u8, B>)
     requires { HasRoom out.old (length (ended (labels_of name.now))) }
     ensures { Puts out.old out.new (ended (labels_of name.now)) }
@@ -85,7 +85,7 @@ fn put_name<A: Allocator, B: Allocator>(name: &Name<A>, out: &mut Vec<u8, B>)
     put_bytes(out, &[0]);
 }
 
-/// Writes at most 8 zeros at the end.
+/// Appends at most 8 zeros.
 fn put_zeros<A: Allocator>(count: usize, out: &mut Vec<u8, A>)
     requires fits { count ≤ 8 }
     requires room { HasRoom out.old count }

@@ -15,7 +15,7 @@ use nd_addr::{Addr, SUM_AT, sum_for};
 use nd_decode::Body;
 use std::alloc::{AllocError, Allocator};
 
-/// Writes a message with a sum of 0 at the end.
+/// Appends a message with a checksum of 0.
 fn put_without_sum<A: Allocator, B: Allocator>(
     out: &mut Vec<u8, A>,
     body: &Body,
@@ -31,7 +31,7 @@ fn put_without_sum<A: Allocator, B: Allocator>(
     }
 }
 
-/// Writes a number into the sum field of the message that begins at a place.
+/// Writes a number into the checksum field of the message that begins at a place.
 fn put_sum<A: Allocator>(out: &mut Vec<u8, A>, start: usize, sum: u16)
     requires { start + 4 ≤ length out.old.items }
     ensures items { out.new.items ≡ slice_set (slice_set out.old.items (start + 2) (sum / 256)) (start + 2 + 1) (sum % 256) }
@@ -43,9 +43,8 @@ fn put_sum<A: Allocator>(out: &mut Vec<u8, A>, start: usize, sum: u16)
     out[place + 1] = (sum % 256) as u8;
 }
 
-/// Writes a message of these fields and options, from a source to a destination, at the end, where there is room for it (RFC 4861,
-/// section 4): as many bytes as `written_length` says. All that its readers ignore is 0, and the checksum is that of RFC 4443,
-/// section 2.3. It takes no memory.
+/// Appends a message of these fields and options, from a source to a destination (RFC 4861, section 4). There is room for it: as many bytes as
+/// `written_length` says. All that its readers ignore is 0, and the checksum is that of RFC 4443, section 2.3. It takes no memory.
 pub fn put_message<A: Allocator, B: Allocator>(
     out: &mut Vec<u8, A>,
     body: &Body,
@@ -63,8 +62,8 @@ pub fn put_message<A: Allocator, B: Allocator>(
     put_sum(out, start, sum);
 }
 
-/// The bytes of a message from a source to a destination (RFC 4861, section 4), as `put_message` writes them. The error is want of
-/// memory, and there is no other: whether a message has a spelling is `Message::is_well_formed`'s.
+/// Returns the bytes of a message from a source to a destination (RFC 4861, section 4), as `put_message` writes them. Returns an error if out of
+/// memory, and no other error: `Message::is_well_formed` says if a message has a spelling.
 pub fn encode<A: Allocator, B: Allocator>(
     alloc: A,
     message: &Message<B>,
@@ -76,7 +75,7 @@ pub fn encode<A: Allocator, B: Allocator>(
     ensures spelled { IfOk result (λ v. Spells v.items (whole message.now)) }
     ensures good { IfOk result (λ v. IsGoodSum source.0 destination.0 v.items) }
     ensures short { IfOk result (λ v. length v.items ≤ 65535) }
-    // `decode` may be called on it, and gives the message back.
+    // `decode` may be called with it, and returns the message.
     ensures known { IfOk result (λ v. HasKnownKind v.items) }
     ensures read { IfOk result (λ v. decode_of v.items ≡ Ok (whole message.now)) }
 {

@@ -31,7 +31,7 @@ pub(crate) fn fields_length(body: &Body) -> Option<usize>
     }
 }
 
-/// Writes the fields of a body at the end, with a sum of 0.
+/// Appends the fields of a body, with a checksum of 0.
 pub(crate) fn put_fields<A: Allocator>(body: &Body, out: &mut Vec<u8, A>)
     requires { HasRoom out.old (length (fields_of 0 body.now)) }
     ensures { Puts out.old out.new (fields_of 0 body.now) }

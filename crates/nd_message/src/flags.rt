@@ -4,7 +4,7 @@ ghost use Rattle.nd_message.specs.Spelling.{preference_bits};
 use nd_addr::Preference;
 use nd_decode::RouterAdvertisement;
 
-/// A byte with the bits of the mask where the flag is set, and else 0.
+/// Returns the bits of the mask if the flag is set, and 0 otherwise.
 pub(crate) fn flag(is_set: bool, mask: u8) -> u8
     ensures { result ≡ (if is_set then mask else 0) }
 {

@@ -13,9 +13,8 @@ use nd_addr::{Addr, Ip6, Mac, NEXT_HEADER_ICMPV6, put_headers};
 use nd_decode::{Body, HOP_LIMIT};
 use std::alloc::Allocator;
 
-/// Puts the frame of a message of these fields and options at the end, where there is room for `HEADERS_LENGTH` bytes and as many
-/// more as `written_length` says: the Ethernet fields and the header of `nd_addr`, with a hop limit of 255, and the message (RFC
-/// 4861, section 4). It takes no memory.
+/// Appends the frame of a message of these fields and options: the Ethernet fields and the header of `nd_addr`, with a hop limit of 255, and the
+/// message (RFC 4861, section 4). There is room for `HEADERS_LENGTH` bytes and as many more as `written_length` says. It takes no memory.
 pub fn put_frame<A: Allocator, B: Allocator>(
     out: &mut Vec<u8, A>,
     to: Mac,

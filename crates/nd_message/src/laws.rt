@@ -12,8 +12,8 @@ ghost use Rattle.nd_message.specs.Frame.{message_frame};
 ghost use Rattle.nd_message.specs.Spelling.{fields_of, written_length, written_message};
 ghost use Rattle.nd_message.specs.WellFormed.{IsWellFormed};
 
-/// What is written of a message has a good checksum. Where the message is well formed, it spells the message and fits into a
-/// packet. Its length is that of the message, whatever the addresses.
+/// A written message has a good checksum. If the message is well formed, the bytes spell it and fit into a packet. Their number is that of the
+/// message, for all addresses.
 pub fn written_as_meant()
     ensures good { (source destination : Addr) (message : Parts) → length source.0 ≡ 16 → length destination.0 ≡ 16 → IsGoodSum source.0 destination.0 (written_message source destination message) }
     ensures spelled { (source destination : Addr) (message : Parts) → IsWellFormed message → Spells (written_message source destination message) message }
@@ -21,7 +21,7 @@ pub fn written_as_meant()
     ensures len { (source destination : Addr) (message : Parts) → length (written_message source destination message) ≡ written_length message }
 {}
 
-/// A message is well formed exactly where its fields and its options keep to what each of them has to, and are short enough together.
+/// A message is well formed exactly if its fields and its options keep to their rules, and are short enough together.
 pub fn well_formed_by_parts()
     ensures { (message : Parts) → IsWellFormed message ↔ (FitsBody message.body × FitsBehind (length (fields_of 0 message.body)) message.options) }
 {}

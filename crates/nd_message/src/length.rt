@@ -9,12 +9,12 @@ use crate::opt::Opt;
 use nd_decode::Body;
 use std::alloc::Allocator;
 
-/// How many bytes a message has at most: what the payload length of an IPv6 header can say (RFC 8200, section 3).
+/// The length of the longest message, in bytes: what the payload length of an IPv6 header can say (RFC 8200, section 3).
 const LONGEST_PAYLOAD: usize = 65535;
 
-/// How many bytes are written of a message of these fields and options, which is the room that `put_message` needs. There are
-/// none if it is not well formed: the options are too long, an `Other` reads as one of the known options or its piece is no multiple of
-/// 8 bytes, or a Router Advertisement has router lifetime 0 and a preference other than Medium.
+/// Returns the number of bytes of a message of these fields and options, which is the room that `put_message` needs. Returns `None` if it is not
+/// well formed: the options are too long, an `Other` reads as one of the known options or its piece is no multiple of 8 bytes, or a Router
+/// Advertisement has router lifetime 0 and a preference other than Medium.
 pub fn written_length<A: Allocator>(body: &Body, options: &[Opt<A>]) -> Option<usize>
     ensures len { SomeIff result (IsWellFormed (whole_of body.now options.now)) (written_length (whole_of body.now options.now)) }
     ensures short { IfSome result (λ len. len ≤ 65535) }

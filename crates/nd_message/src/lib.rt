@@ -1,5 +1,5 @@
-//! Messages of Neighbor Discovery (RFC 4861, section 4; RFC 8106, section 5) that own their options, and writing them. Reading
-//! them is `nd_decode`'s, whose items stand here as well.
+//! Messages of Neighbor Discovery (RFC 4861, section 4; RFC 8106, section 5) that own their options, and writing them. Reading is in `nd_decode`,
+//! whose items this crate re-exports.
 #![tactic(auto)]
 
 mod dnssl;

@@ -5,7 +5,7 @@ use nd_addr::{Mac, put_bytes};
 use nd_decode::LINK_LAYER_ADDRESS_UNITS;
 use std::alloc::Allocator;
 
-/// Writes the piece of a Source or Target Link-Layer Address at the end (RFC 4861, section 4.6.1).
+/// Appends the piece of a Source or Target Link-Layer Address (RFC 4861, section 4.6.1).
 pub(crate) fn put_link_layer_address<A: Allocator>(kind: u8, mac: &Mac, out: &mut Vec<u8, A>)
     requires { HasRoom out.old (length (kind ∷ 1 ∷ mac.now.0)) }
     ensures { Puts out.old out.new (kind ∷ 1 ∷ mac.now.0) }

@@ -7,7 +7,7 @@ use nd_addr::put_bytes;
 use nd_decode::{MTU_UNITS, OPTION_MTU};
 use std::alloc::Allocator;
 
-/// How many bytes an MTU has. They hold each number that it can be.
+/// Returns the number of bytes of an MTU option, which is the same for each MTU.
 pub(crate) fn mtu_length(number: u32) -> usize
     ensures len { result ≡ length (piece_of (mtu number)) }
     ensures fits { number < 2 ^ 32 }
@@ -16,7 +16,7 @@ pub(crate) fn mtu_length(number: u32) -> usize
     8
 }
 
-/// Writes the piece of an MTU at the end (RFC 4861, section 4.6.4).
+/// Appends the piece of an MTU (RFC 4861, section 4.6.4).
 pub(crate) fn put_mtu<A: Allocator>(number: u32, out: &mut Vec<u8, A>)
     requires { HasRoom out.old (length (piece_of (mtu number))) }
     ensures { Puts out.old out.new (piece_of (mtu number)) }

@@ -8,7 +8,7 @@ use nd_addr::put_bytes;
 use nd_decode::{ICMPV6_NEIGHBOR_ADVERTISEMENT, NeighborAdvertisement};
 use std::alloc::Allocator;
 
-/// Writes the fields of a Neighbor Advertisement at the end (RFC 4861, section 4.4).
+/// Appends the fields of a Neighbor Advertisement (RFC 4861, section 4.4).
 pub(crate) fn put_neighbor_advertisement<A: Allocator>(
     na: &NeighborAdvertisement,
     out: &mut Vec<u8, A>,

@@ -7,7 +7,7 @@ use nd_addr::put_bytes;
 use nd_decode::{ICMPV6_NEIGHBOR_SOLICITATION, NeighborSolicitation};
 use std::alloc::Allocator;
 
-/// Writes the fields of a Neighbor Solicitation at the end (RFC 4861, section 4.3).
+/// Appends the fields of a Neighbor Solicitation (RFC 4861, section 4.3).
 pub(crate) fn put_neighbor_solicitation<A: Allocator>(
     ns: &NeighborSolicitation,
     out: &mut Vec<u8, A>,

@@ -26,31 +26,30 @@ pub enum Opt<A: Allocator> {
     Tlla(Mac),
     /// Prefix Information (RFC 4861, section 4.6.2).
     Prefix(PrefixInfo),
-    /// Redirected Header: the beginning of the packet that was redirected, and what pads it to a multiple of 8 bytes, 2,032 bytes at
-    /// most.
+    /// Redirected Header: the beginning of the packet that was redirected, with the padding to a multiple of 8 bytes, 2,032 bytes at most.
     Redirected(Vec<u8, A>),
     /// The MTU of the link, in bytes.
     Mtu(u32),
     /// DNS servers, 1 to 127, each one that `is_server` takes.
     Rdnss {
-        /// For how many seconds they serve, all ones standing for ever.
+        /// Their lifetime in seconds, all ones for infinity.
         lifetime: u32,
         /// Their addresses, in their order.
         servers: Vec<Addr, A>,
     },
-    /// Names in which to search, at least one, each one that `is_name` takes, and 2,032 bytes at most with the zero byte behind each.
+    /// Search names, at least one, each one that `is_name` takes, and 2,032 bytes at most with the zero byte after each.
     Dnssl {
-        /// For how many seconds they are searched in, all ones standing for ever.
+        /// Their lifetime in seconds, all ones for infinity.
         lifetime: u32,
         /// The names, in their order.
         names: Vec<Name<A>, A>,
     },
-    /// Any other option: its type, and its bytes behind the length, 8k - 2 of them, 6 to 2,038.
+    /// Any other option: its type, and its bytes after the length, 8k - 2 of them, 6 to 2,038.
     Other(u8, Vec<u8, A>),
 }
 
 impl<A: Allocator> Opt<A> {
-    /// How many bytes its piece has, if some piece says it.
+    /// Returns the number of bytes of its piece, if some piece spells it.
     pub(crate) fn piece_length(&self) -> Option<usize>
         ensures { SomeIff result (FitsOption (said self.now)) (length (piece_of (said self.now))) }
     {
@@ -66,7 +65,7 @@ impl<A: Allocator> Opt<A> {
         }
     }
 
-    /// Writes its piece at the end.
+    /// Appends its piece.
     pub(crate) fn put<B: Allocator>(&self, out: &mut Vec<u8, B>)
         requires fits { FitsOption (said self.now) }
         requires room { HasRoom out.old (length (piece_of (said self.now))) }

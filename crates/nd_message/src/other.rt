@@ -15,7 +15,7 @@ use nd_decode::{
 use nd_search_list::Names;
 use std::alloc::Allocator;
 
-/// Whether a piece of this type and with these bytes behind its length is whole and reads as no known option.
+/// Returns true if a piece of this type and with these bytes after its length is whole and reads as no known option.
 pub(crate) fn is_other(kind: u8, rest: &[u8]) -> bool
     ensures { IsTrue result ↔ FitsOption (other kind rest.now) }
 {
@@ -26,7 +26,7 @@ pub(crate) fn is_other(kind: u8, rest: &[u8]) -> bool
     !is_known(kind, rest)
 }
 
-/// Whether a piece of this type and with these bytes behind its length reads as a known option.
+/// Returns true if a piece of this type and with these bytes after its length reads as a known option.
 #[tactic(auto, unfolding(nd_decode::specs::Option::known_of))]
 fn is_known(kind: u8, rest: &[u8]) -> bool
     requires least { 6 ≤ length rest.now }
@@ -52,7 +52,7 @@ fn is_known(kind: u8, rest: &[u8]) -> bool
     }
 }
 
-/// Writes the piece of any other option at the end (RFC 4861, section 4.6).
+/// Appends the piece of any other option (RFC 4861, section 4.6).
 pub(crate) fn put_other<A: Allocator>(kind: u8, rest: &[u8], out: &mut Vec<u8, A>)
     requires fits { length rest.now ≤ 2038 }
     requires room { HasRoom out.old (length (other_piece kind rest.now)) }

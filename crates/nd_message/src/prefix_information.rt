@@ -8,7 +8,7 @@ use nd_addr::put_bytes;
 use nd_decode::{OPTION_PREFIX_INFORMATION, PrefixInfo};
 use std::alloc::Allocator;
 
-/// How many bytes a Prefix Information has. They hold each value that it can have.
+/// Returns the number of bytes of a Prefix Information, which is the same for each value.
 pub(crate) fn prefix_length(info: &PrefixInfo) -> usize
     ensures len { result ≡ length (prefix_piece info.now) }
     ensures fits { FitsPrefix info.now }
@@ -23,7 +23,7 @@ pub(crate) fn prefix_length(info: &PrefixInfo) -> usize
     prefix.address().as_bytes().len() + PrefixInfo::PREFIX_AT
 }
 
-/// Writes the piece of a Prefix Information at the end (RFC 4861, section 4.6.2).
+/// Appends the piece of a Prefix Information (RFC 4861, section 4.6.2).
 pub(crate) fn put_prefix<A: Allocator>(info: &PrefixInfo, out: &mut Vec<u8, A>)
     requires { HasRoom out.old (length (prefix_piece info.now)) }
     ensures { Puts out.old out.new (prefix_piece info.now) }

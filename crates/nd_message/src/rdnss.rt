@@ -8,13 +8,13 @@ use nd_addr::{Addr, put_bytes};
 use nd_decode::{LONGEST_OPTION, OPTION_DATA_AT, OPTION_RECURSIVE_DNS_SERVER, is_server};
 use std::alloc::Allocator;
 
-/// How many servers an option has at most: of its bytes each server has 16 (RFC 4861, section 4.6; RFC 8106, section 5.1).
+/// The most servers of an option: of its bytes each server has 16 (RFC 4861, section 4.6; RFC 8106, section 5.1).
 const MOST_SERVERS: usize = (LONGEST_OPTION - OPTION_DATA_AT) / 16;
 
-/// How many it has at least (RFC 8106, section 5.1).
+/// The fewest servers of an option (RFC 8106, section 5.1).
 const FEWEST_SERVERS: usize = 1;
 
-/// How many bytes a Recursive DNS Server has, if these can be its servers.
+/// Returns the number of bytes of a Recursive DNS Server, if these can be its servers.
 pub(crate) fn rdnss_length(lifetime: u32, servers: &[Addr]) -> Option<usize>
     ensures { SomeIff result (FitsRdnss lifetime servers.now) (length (rdnss_piece lifetime servers.now)) }
 {
@@ -25,7 +25,7 @@ pub(crate) fn rdnss_length(lifetime: u32, servers: &[Addr]) -> Option<usize>
     Some(8 + 16 * servers.len())
 }
 
-/// Whether each can be a server.
+/// Returns true if each address can be that of a server.
 fn are_servers(servers: &[Addr]) -> bool
     ensures { IsTrue result ↔ AllByRecursion FitsServer servers.now }
 {
@@ -37,7 +37,7 @@ fn are_servers(servers: &[Addr]) -> bool
     true
 }
 
-/// Writes the piece of a Recursive DNS Server at the end (RFC 8106, section 5.1).
+/// Appends the piece of a Recursive DNS Server (RFC 8106, section 5.1).
 pub(crate) fn put_rdnss<A: Allocator>(lifetime: u32, servers: &[Addr], out: &mut Vec<u8, A>)
     requires fits { FitsRdnss lifetime servers.now }
     requires room { HasRoom out.old (length (rdnss_piece lifetime servers.now)) }
@@ -49,7 +49,7 @@ pub(crate) fn put_rdnss<A: Allocator>(lifetime: u32, servers: &[Addr], out: &mut
     put_servers(servers, out)
 }
 
-/// Writes addresses at the end, one behind the other.
+/// Appends addresses, one after the other.
 fn put_servers<A: Allocator>(servers: &[Addr], out: &mut Vec<u8, A>)
     requires { HasRoom out.old (length (flat_map (λ s. s.0) servers.now)) }
     ensures { Puts out.old out.new (flat_map (λ s. s.0) servers.now) }

@@ -7,7 +7,7 @@ use nd_addr::put_bytes;
 use nd_decode::{ICMPV6_REDIRECT, Redirect};
 use std::alloc::Allocator;
 
-/// Writes the fields of a Redirect at the end (RFC 4861, section 4.5).
+/// Appends the fields of a Redirect (RFC 4861, section 4.5).
 pub(crate) fn put_redirect<A: Allocator>(redirect: &Redirect, out: &mut Vec<u8, A>)
     requires { HasRoom out.old (length (fields_of 0 (bodies.Redirect redirect.now))) }
     ensures { Puts out.old out.new (fields_of 0 (bodies.Redirect redirect.now)) }

@@ -9,10 +9,10 @@ use nd_addr::put_bytes;
 use nd_decode::{LONGEST_OPTION, OPTION_DATA_AT, OPTION_REDIRECTED_HEADER};
 use std::alloc::Allocator;
 
-/// How many bytes of a packet a Redirected Header has at most (RFC 4861, section 4.6).
+/// The most bytes of a packet in a Redirected Header (RFC 4861, section 4.6).
 const LONGEST_REDIRECTED: usize = LONGEST_OPTION - OPTION_DATA_AT;
 
-/// How many bytes a Redirected Header has, if it can have this packet.
+/// Returns the number of bytes of a Redirected Header, if it can have this packet.
 pub(crate) fn redirected_length(packet: &[u8]) -> Option<usize>
     ensures { SomeIff result (FitsRedirected packet.now) (length (piece_of (redirected packet.now))) }
 {
@@ -22,7 +22,7 @@ pub(crate) fn redirected_length(packet: &[u8]) -> Option<usize>
     Some(packet.len() + 8)
 }
 
-/// Writes the piece of a Redirected Header at the end (RFC 4861, section 4.6.3).
+/// Appends the piece of a Redirected Header (RFC 4861, section 4.6.3).
 pub(crate) fn put_redirected<A: Allocator>(packet: &[u8], out: &mut Vec<u8, A>)
     requires fits { FitsRedirected packet.now }
     requires room { HasRoom out.old (length (piece_of (redirected packet.now))) }

@@ -30,7 +30,7 @@ pub(crate) fn router_advertisement_length(ra: &RouterAdvertisement) -> Option<us
     Some(RouterAdvertisement::LENGTH)
 }
 
-/// Writes the fields of a Router Advertisement at the end (RFC 4861, section 4.2; RFC 4191, section 2.2).
+/// Appends the fields of a Router Advertisement (RFC 4861, section 4.2; RFC 4191, section 2.2).
 pub(crate) fn put_router_advertisement<A: Allocator>(ra: &RouterAdvertisement, out: &mut Vec<u8, A>)
     requires { HasRoom out.old (length (fields_of 0 (bodies.Ra ra.now))) }
     ensures { Puts out.old out.new (fields_of 0 (bodies.Ra ra.now)) }

@@ -7,7 +7,7 @@ use nd_addr::put_bytes;
 use nd_decode::ICMPV6_ROUTER_SOLICITATION;
 use std::alloc::Allocator;
 
-/// Writes the fields of a Router Solicitation at the end (RFC 4861, section 4.1).
+/// Appends the fields of a Router Solicitation (RFC 4861, section 4.1).
 pub(crate) fn put_router_solicitation<A: Allocator>(out: &mut Vec<u8, A>)
     requires { HasRoom out.old (length (fields_of 0 bodies.Rs)) }
     ensures { Puts out.old out.new (fields_of 0 bodies.Rs) }

@@ -1,4 +1,4 @@
--- What is kept of a neighbour, beside its story.
+-- What is kept of a neighbour, besides its story.
 use Rattle.std.specs.Prelude.{ℕ, Bool, List, Option, Some, None, [], if◌then◌else◌, is_some, nat_lt, false, ◌&&◌, ◌+◌, true}
 use Rattle.nd_neighbour.specs.declared.unreachability_detection.Probing.{Probing}
 
@@ -7,14 +7,14 @@ use Rattle.nd_neighbour.specs.declared.unreachability_detection.Probing.{Probing
 abbrev pub stale_lifetime : ℕ
 stale_lifetime = 86400000
 
--- what is kept of a neighbour, beside its address and its mark
+-- what is kept of a neighbour, besides its address and its mark
 pub data Stage : Type 0 where
   -- no address is known (INCOMPLETE): the time between two solicitations, how many were sent after the first, what waits
   Resolving : (retrans sent : ℕ) (waiting : List (List ℕ)) → Stage
   -- an address is known (REACHABLE, STALE, DELAY or PROBE): whether the last word is a confirmation, until or from when, and the use afterwards
   Known : (mac : ℕ) (confirmed : Bool) (since : ℕ) (probing : Option Probing) → Stage
 
--- a neighbour: its address, its mark, the moment at which something falls due, and the rest
+-- a neighbour: its address, its mark, the moment at which something is due, and the rest
 pub record NeighbourEntry : Type 0 where
   pub key : ℕ
   pub router : Bool

@@ -1,4 +1,4 @@
--- A Neighbor Advertisement comes (RFC 4861, section 7.2.5).
+-- A Neighbor Advertisement is received (RFC 4861, section 7.2.5).
 use Rattle.std.specs.Prelude.{ℕ, Bool, if◌then◌else◌, Option, Some, None, true, ◌==◌, ◌||◌, is_some, false, nat_lt, ◌&&◌}
 use Rattle.nd_neighbour.specs.declared.news.Flags.{Flags}
 use Rattle.nd_neighbour.specs.Entry.{NeighbourEntry, stale_entry, reachable_entry, with_mark, Stage, Resolving, Known}

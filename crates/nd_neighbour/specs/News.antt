@@ -37,7 +37,7 @@ lets_enter (news.Given addr mac mark) = true
 lets_enter (news.Advert addr flags mac) = false
 lets_enter (news.Marked addr router) = false
 
--- whatever history old stands for, new stands for it with the row of the news, and with what makes place before
+-- for each history that old stands for, new stands for it with the row of the news, and with what makes room before
 abbrev pub GainsNews : ℕ → ℕ → News → Times → List NeighbourEntry → List NeighbourEntry → Type 0
 GainsNews limit now n times old new =
     GainsRowsMakingPlace Stands old new (Prepares limit now (lets_enter n) (news_key n)) (λ history made. (now, news_key n, news_row n times) ∷ made)
@@ -50,7 +50,7 @@ released_by at kind s = if is_some (mac_of ((at, kind) ∷ s)) then waits_of s e
 abbrev pub ends_router : ℕ → RowKind → Story → Bool
 ends_router at kind s = is_router s && not (is_router ((at, kind) ∷ s))
 
--- what is told of news is what the history says
+-- what is returned for news is what the history says
 pub record Tells (now key : ℕ) (kind : RowKind) (old : List NeighbourEntry) (packets : List (List ℕ)) (turned : Bool) : Type 0 where
   pub released : (history : List Row) → Stands old history → packets ≡ released_by now kind (story key history)
   pub turned_is : (history : List Row) → Stands old history → turned ≡ ends_router now kind (story key history)

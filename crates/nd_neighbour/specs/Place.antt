@@ -1,4 +1,4 @@
--- Which neighbour makes place for a new one, and when there is no place (RFC 4861, section 5.3, leaves this open).
+-- Which neighbour is evicted for a new one, and when there is no room (RFC 4861, section 5.3, leaves this open).
 use Rattle.std.specs.Prelude.{◌≡◌, ℕ, true, List, ◌<◌, ◌≤◌, ◌⊎◌, ◌∷◌, length, Bool, ◌&&◌, not, MatchBool, false, nat_lt, Some, None, if◌then◌else◌, Option, [], ◌||◌, is_some, slice_index_or, slice_get}
 use Rattle.std.specs.List.{remove, insert}
 use Rattle.nd_neighbour.specs.declared.shown.Reachability.TheVariants.{Stale}
@@ -33,12 +33,12 @@ abbrev pub Prepares : ℕ → ℕ → Bool → ℕ → List Row → List Row →
 Prepares limit now enters key history made =
     MatchBool (enters && not (is_present (story key history))) (MakesPlace limit now history made) (made ≡ history)
 
--- the history behind the end of a neighbour that is pushed out, if one is
+-- the history behind the end of a neighbour that is evicted, if one is
 abbrev pub pushing : ℕ → Option ℕ → List Row → List Row
 pushing now None history = history
 pushing now (Some key) history = (now, key, Forgot PushedOut) ∷ history
 
--- a new neighbour has no place: it isn't present, there are as many as there may be, and none is stale
+-- there is no room for a new neighbour: it isn't present, there are as many as there may be, and none is stale
 pub record WouldBeFull (limit now key : ℕ) (history : List Row) : Type 0 where
   pub absent : is_present (story key history) ≡ false
   pub entries : List NeighbourEntry
@@ -70,11 +70,11 @@ abbrev pub stalest : ℕ → List NeighbourEntry → Option NeighbourEntry
 stalest now [] = None
 stalest now (n ∷ entries) = longer (if_stale now n) (stalest now entries)
 
--- there is place for one more, or one that makes place
+-- there is room for one more, or one that can be evicted
 abbrev pub has_place : ℕ → ℕ → List NeighbourEntry → Bool
 has_place limit now entries = nat_lt (length entries) limit || is_some (stalest now entries)
 
--- a new neighbour has no place in the list
+-- there is no room for a new neighbour in the list
 abbrev pub NoPlace : ℕ → ℕ → ℕ → List NeighbourEntry → Type 0
 NoPlace limit now key entries = (entry_in key entries ≡ None) × (has_place limit now entries ≡ false)
 

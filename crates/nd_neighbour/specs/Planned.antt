@@ -1,4 +1,4 @@
--- The dates of neighbours, kept in their order beside them.
+-- The dates of neighbours, kept in their order next to them.
 use Rattle.std.specs.Prelude.{◌≤◌, List, length}
 use Rattle.nd_table.specs.Dates.{Planned, AreDates}
 use Rattle.nd_neighbour.specs.Entry.{NeighbourEntry}

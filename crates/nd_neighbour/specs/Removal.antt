@@ -1,4 +1,4 @@
--- Neighbours are forgotten, and what waited for them is handed out.
+-- Neighbours are forgotten, and what waited for them is returned.
 use Rattle.std.specs.Prelude.{ℕ, List, [], ◌∷◌, ◌≡◌, ◌<◌, length, slice_index_or, Some, None, Option, ◌++◌}
 use Rattle.std.specs.List.{remove}
 use Rattle.nd_neighbour.specs.History.{Row, Forgot, Cleared}

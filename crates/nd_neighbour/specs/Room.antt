@@ -1,4 +1,4 @@
--- Whether a neighbour that may enter has place, and after a use of it a second one.
+-- Whether there is room for a neighbour that may enter, and after a use of it for a second one.
 use Rattle.std.specs.Prelude.{ℕ, true, List, Option, MatchOption, nat_lt, Bool, ◌&&◌, ◌||◌, not, ◌==◌, length, is_some, ◌+◌, Some, None, if◌then◌else◌, ◌≡◌}
 use Rattle.std.specs.List.{list_any}
 use Rattle.nd_neighbour.specs.History.{Row, story}
@@ -21,7 +21,7 @@ stays_stale key now n = is_stale n.stage now && (not (n.key == key) || nat_lt no
 abbrev pub stale_beside : ℕ → ℕ → NeighbourEntry → Bool
 stale_beside gone now n = is_stale n.stage now && not (n.key == gone)
 
--- the second has place where the first is there and is used
+-- there is room for the second if the first is present and is used
 abbrev pub place_beside : ℕ → ℕ → ℕ → ℕ → List NeighbourEntry → Bool
 place_beside limit now key next entries =
     is_some (entry_in next entries) || (nat_lt (length entries) limit || list_any (stays_stale key now) entries)
@@ -36,7 +36,7 @@ abbrev pub place_behind : ℕ → ℕ → ℕ → ℕ → List NeighbourEntry �
 place_behind limit now key next entries None = (key == next) || (is_some (entry_in next entries) || nat_lt (length entries + 1) limit)
 place_behind limit now key next entries (Some n) = nat_lt (length entries) limit || place_without n now key next entries
 
--- the second has place after a use of the first
+-- there is room for the second after a use of the first
 abbrev pub has_second : ℕ → ℕ → ℕ → ℕ → List NeighbourEntry → Bool
 has_second limit now key next entries =
     if is_some (entry_in key entries) then place_beside limit now key next entries
@@ -49,6 +49,6 @@ abbrev pub has_room : ℕ → ℕ → ℕ → Option ℕ → List NeighbourEntry
 has_room limit now key None entries = has_first limit now key entries
 has_room limit now key (Some next) entries = has_first limit now key entries && has_second limit now key next entries
 
--- a second one that had room before a use of the first has place after it
+-- if there was room for a second one before a use of the first, there is room after it
 pub record LeavesRoom (limit now key : ℕ) (old new : List NeighbourEntry) : Type 0 where
   pub has : (next : ℕ) → has_room limit now key (Some next) old ≡ true → NoPlace limit now next new → ⊥

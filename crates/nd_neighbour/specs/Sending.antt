@@ -33,7 +33,7 @@ then_packet false known now key retrans packet history = (now, key, Waits packet
 then_packet true None now key retrans packet history = (now, key, Waits packet) ∷ history
 then_packet true (Some mac) now key retrans packet history = (now, key, Used retrans) ∷ history
 
--- whatever history old stands for, new stands for it with the rows of the packet, and with what makes place before
+-- for each history that old stands for, new stands for it with the rows of the packet, and with what makes room before
 abbrev pub GainsPacket : ℕ → ℕ → ℕ → ℕ → List ℕ → List NeighbourEntry → List NeighbourEntry → Type 0
 GainsPacket limit now key retrans packet old new =
     GainsRowsMakingPlace Stands old new (Prepares limit now true key)

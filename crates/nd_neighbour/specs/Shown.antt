@@ -54,7 +54,7 @@ seen t n = record { key = n.key; mac = known_mac n.stage; router = n.router; sta
 abbrev pub seen_key : Seen → ℕ
 seen_key x = x.key
 
--- the list shows the neighbours that the history tells of, as they are at the moment, in the order of their addresses
+-- the list shows the neighbours that the history gives, as they are at the moment, in the order of their addresses
 pub record Lists (history : List Row) (now : ℕ) (shown : List Seen) : Type 0 where
   pub each : (key : ℕ) → at_key seen_key key shown ≡ seen_of key (story key history) now
   pub order : Rises seen_key shown

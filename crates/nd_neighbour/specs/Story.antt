@@ -67,7 +67,7 @@ waits_by (Some mac) waiting = []
 abbrev pub waits_of : Story → List (List ℕ)
 waits_of s = if is_present s then waits_by (mac_of s) (waiting_of s) else []
 
--- the moment at which something falls due: of the resolution without an address, of reachability with one
+-- the moment at which something is due: of the resolution without an address, of reachability with one
 abbrev pub due_by : Option ℕ → Option Evidence → Option Use → Option Resolution → ℕ
 due_by None evidence use' resolution = resolution_due resolution
 due_by (Some mac) evidence use' resolution = reach_due evidence use'
@@ -77,7 +77,7 @@ abbrev pub stage_by : Option ℕ → Option Evidence → Option Use → Option R
 stage_by None evidence use' resolution waiting = Resolving (retrans_in resolution) (more_in resolution) waiting
 stage_by (Some mac) evidence use' resolution waiting = Known mac (is_confirmed evidence) (since_in evidence) (probing_of use')
 
--- the moment at which something falls due for a neighbour that is present
+-- the moment at which something is due for a neighbour that is present
 abbrev pub due_of : Story → ℕ
 due_of s = due_by (mac_of s) (evidence_of s) (use_of s) (resolution_of s)
 

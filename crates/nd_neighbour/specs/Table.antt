@@ -7,7 +7,7 @@ use Rattle.nd_neighbour.specs.History.{Row, story}
 use Rattle.nd_neighbour.specs.Entry.{NeighbourEntry}
 use Rattle.nd_neighbour.specs.Story.{entry_of}
 
--- how many rings may be in hand for new neighbours. Our choice: a packet may need one for its neighbour and, as `room`
+-- how many rings may be in reserve for new neighbours. Our choice: a packet may need one for its neighbour and, as `room`
 -- asks, one for a second neighbour.
 abbrev pub max_rings : ℕ
 max_rings = 2
@@ -16,7 +16,7 @@ max_rings = 2
 abbrev pub max_neighbours : ℕ
 max_neighbours = 2048
 
--- a cache: how many neighbours it has room for, those that it has, and how many rings are in hand for new ones
+-- a cache: how many neighbours it has room for, those that it has, and how many rings are in reserve for new ones
 pub record Table : Type 0 where
   pub limit : ℕ
   pub entries : List NeighbourEntry
@@ -34,7 +34,7 @@ entry_in key entries = at_key address key entries
 abbrev pub Rises : List NeighbourEntry → Type 0
 Rises entries = keyed.Rises address entries
 
--- The neighbours are those that the history tells of, each as its story says, in the order of their addresses.
+-- The neighbours are those that the history gives, each as its story says, in the order of their addresses.
 pub record Stands (entries : List NeighbourEntry) (history : List Row) : Type 0 where
   pub each : (key : ℕ) → entry_in key entries ≡ entry_of key (story key history)
   pub order : Rises entries

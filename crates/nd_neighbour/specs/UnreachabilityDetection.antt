@@ -1,4 +1,4 @@
--- The first use of a neighbour that isn't reachable any more, and the probes that follow it (RFC 4861, section 7.3.3).
+-- The first use of a neighbour that is no longer reachable, and the probes that follow it (RFC 4861, section 7.3.3).
 use Rattle.std.specs.Prelude.{ℕ, nat_le, if◌then◌else◌, Option, Some, None, ◌+◌, ◌*◌}
 use Rattle.nd_neighbour.specs.declared.unreachability_detection.Probing.{Probing}
 use Rattle.nd_neighbour.specs.History.{RowKind, Used, Probed}

@@ -1,3 +1,5 @@
+//! Address resolution (RFC 4861, section 7.2.2). The definitions are in `specs/AddressResolution.antt`.
+
 ghost use Rattle.std.specs.Prelude.{None, true, vec_capacity, vec_len, ◌<◌, ◌≡◌, ◌≤◌};
 ghost use Rattle.nd_addr.specs.Number.{number_of};
 ghost use Rattle.nd_table.specs.Moment.{IsMoment};

@@ -1,3 +1,5 @@
+//! The neighbour cache (RFC 4861, section 5.1): its memory, its limit and look-ups.
+
 ghost use Rattle.std.specs.Prelude.{IfOk, [], List, ◌≡◌, ◌≤◌, ◌+◌, is_some, length};
 ghost use Rattle.nd_addr.specs.Number.{number_of};
 ghost use Rattle.nd_table.specs.Keyed.{binary_digits};

@@ -1,3 +1,5 @@
+//! What is due for neighbours (RFC 4861, sections 7.2.2 and 7.3.3). The definitions are in `specs/Due.antt`.
+
 ghost use Rattle.std.specs.Prelude.{IfNone, IfSome, List, None, Some, false, if◌then◌else◌, true, vec_capacity, vec_len, ◌<◌, ◌≡◌, ◌≢◌, ◌≤◌};
 ghost use Rattle.std.specs.Option.{option_map};
 ghost use Rattle.nd_table.specs.Moment.{IsMoment};
@@ -16,9 +18,9 @@ use std::alloc::Allocator;
 /// What is due for a neighbour.
 #[derive(Drop)]
 pub enum Due<A: Allocator> {
-    /// A multicast solicitation of its address is to be sent (RFC 4861, section 7.2.2).
+    /// A multicast solicitation of its address is due (RFC 4861, section 7.2.2).
     Multicast(Addr),
-    /// A unicast solicitation is to be sent to it (RFC 4861, section 7.3.3).
+    /// A unicast solicitation to it is due (RFC 4861, section 7.3.3).
     Unicast(Addr, Mac),
     /// No solicitation was answered. The entry is gone, and these packets, which waited for it, weren't sent (RFC
     /// 4861, sections 7.2.2 and 7.3.3).

@@ -1,3 +1,5 @@
+//! An entry of the neighbour cache (RFC 4861, sections 5.1 and 7.3.2). The definitions are in `specs/Entry.antt`.
+
 ghost use Rattle.std.specs.Prelude.{is_some, ◌+◌, ◌<◌, ◌==◌, ◌^◌, ◌≡◌};
 ghost use Rattle.std.specs.Option.{option_map};
 ghost use Rattle.nd_addr.specs.Number.{number_of};
@@ -10,8 +12,7 @@ use std::alloc::Allocator;
 use std::marker::Model;
 use std::mem;
 
-/// How long an entry that is STALE and unused is kept, in milliseconds: a day. Our choice: RFC 4861, section 5.3,
-/// leaves it open.
+/// The time for which an entry that is STALE and unused is kept, in milliseconds: a day. Our choice: RFC 4861, section 5.3, leaves it open.
 pub(crate) const STALE_LIFETIME: u64 = 86_400_000;
 
 /// An entry of the neighbour cache (RFC 4861, section 5.1).

@@ -1,3 +1,5 @@
+//! A message gives a link-layer address (RFC 4861, sections 6.2.6, 6.3.4, 7.2.3 and 8.3). The definitions are in `specs/LinkLayerAddress.antt`.
+
 ghost use Rattle.std.specs.Prelude.{IfErr, IfOk, IsErr, OnErr, OnOk, false, length, slice_get, vec_capacity, vec_len, ◌<◌, ◌↔◌, ◌≡◌, ◌≤◌};
 ghost use Rattle.nd_addr.specs.Number.{number_of};
 ghost use Rattle.nd_table.specs.Moment.{IsMoment};

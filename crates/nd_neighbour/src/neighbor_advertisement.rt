@@ -1,3 +1,5 @@
+//! A Neighbor Advertisement is received (RFC 4861, section 7.2.5). The definitions are in `specs/NeighborAdvertisement.antt`.
+
 ghost use Rattle.std.specs.Prelude.{[], if◌then◌else◌, vec_capacity, vec_len, ◌<◌, ◌^◌, ◌||◌, ◌≡◌};
 ghost use Rattle.std.specs.Option.{option_map};
 ghost use Rattle.nd_addr.specs.Number.{number_of};

@@ -1,3 +1,5 @@
+//! What messages say of neighbours. The definitions are in `specs/News.antt`.
+
 ghost use Rattle.std.specs.Prelude.{IfErr, IfOk, IfSome, IsErr, OnErr, OnOk, [], false, is_some, not, true, vec_capacity, vec_len, ◌&&◌, ◌<◌, ◌^◌, ◌↔◌, ◌≡◌, length, ◌≤◌};
 ghost use Rattle.nd_addr.specs.Bytes.{AreBytes};
 ghost use Rattle.nd_addr.specs.Number.{number_of};

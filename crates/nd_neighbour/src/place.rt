@@ -1,3 +1,5 @@
+//! The place of a new entry, and the entry that is evicted for it. The definitions are in `specs/Place.antt`.
+
 ghost use Rattle.std.specs.Prelude.{IfSome, None, length, slice_get, true, vec_capacity, vec_len, ◌<◌, ◌≡◌, ◌≤◌};
 ghost use Rattle.nd_neighbour.specs.Planned.{IsPlanned};
 ghost use Rattle.nd_addr.specs.Number.{number_of};

@@ -1,3 +1,5 @@
+//! An upper layer confirms reachability (RFC 4861, section 7.3.1). The definitions are in `specs/ReachabilityConfirmation.antt`.
+
 ghost use Rattle.std.specs.Prelude.{vec_capacity, vec_len, ◌<◌, ◌^◌, ◌≡◌};
 ghost use Rattle.nd_addr.specs.Number.{number_of};
 ghost use Rattle.nd_table.specs.Moment.{IsMoment};

@@ -1,3 +1,5 @@
+//! Why a call of the neighbour cache is refused.
+
 /// Why a call of the neighbour cache is refused. Nothing has changed then.
 #[derive(Clone, Copy, Debug, PartialEq, Eq)]
 pub enum CacheRefusal {

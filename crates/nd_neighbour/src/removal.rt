@@ -1,3 +1,5 @@
+//! Neighbours are removed. The definitions are in `specs/Removal.antt`.
+
 ghost use Rattle.std.specs.Prelude.{IfOk, List, OnErr, OnOk, [], length, vec_capacity, vec_len, ℕ, ◌++◌, ◌+◌, ◌≡◌, ◌≤◌};
 ghost use Rattle.nd_addr.specs.Number.{number_of};
 ghost use Rattle.nd_packet.specs.Waiting.{max_waiting};

@@ -1,3 +1,5 @@
+//! The rings in reserve for the packets of new neighbours.
+
 ghost use Rattle.std.specs.Prelude.{IfErr, IsOk, OnErr, OnOk, length, max, vec_capacity, vec_len, ◌-◌, ◌<◌, ◌≡◌, ◌≤◌};
 ghost use Rattle.nd_neighbour.specs.Table.{max_rings};
 

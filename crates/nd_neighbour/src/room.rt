@@ -1,3 +1,5 @@
+//! Room for one neighbour, and for a second one after it. The definitions are in `specs/Room.antt`.
+
 ghost use Rattle.std.specs.Prelude.{List, Some, length, not, slice_get, true, ◌<◌, ◌==◌, ◌↔◌, ◌≡◌};
 ghost use Rattle.std.specs.List.{list_any};
 ghost use Rattle.std.specs.Option.{option_map};

@@ -1,3 +1,5 @@
+//! A packet is sent to a neighbour (RFC 4861, sections 7.2.2 and 7.3.3). The definitions are in `specs/Sending.antt`.
+
 ghost use Rattle.std.specs.Prelude.{IfErr, IfOk, List, None, OnErr, OnOk, Some, if◌then◌else◌, is_some, length, slice_get, vec_capacity, vec_len, ◌-◌, ◌<◌, ◌↔◌, ◌≡◌};
 ghost use Rattle.nd_addr.specs.Number.{number_of};
 ghost use Rattle.nd_table.specs.Moment.{IsMoment};
@@ -26,7 +28,7 @@ pub enum Use<A: Allocator> {
     Send(Mac, Packet<A>),
     /// It waits until the address is known (RFC 4861, section 7.2.2).
     Queued {
-        /// A first solicitation is to be sent now.
+        /// A first solicitation must be sent now.
         solicit: bool,
         /// The oldest packet, if it was dropped for this one.
         replaced: Option<Packet<A>>,

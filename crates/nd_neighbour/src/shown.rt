@@ -1,3 +1,5 @@
+//! What is shown of neighbours (RFC 4861, sections 5.1 and 7.3.2). The definitions are in `specs/Shown.antt`.
+
 ghost use Rattle.std.specs.Prelude.{List, map, ◌≡◌};
 ghost use Rattle.std.specs.Option.{option_map};
 ghost use Rattle.nd_addr.specs.Number.{number_of};

@@ -1,3 +1,5 @@
+//! Neighbor Unreachability Detection (RFC 4861, section 7.3.3). The definitions are in `specs/UnreachabilityDetection.antt`.
+
 ghost use Rattle.std.specs.Prelude.{IfSome, is_some, nat_lt, ◌+◌, ◌<◌, ◌≡◌};
 ghost use Rattle.nd_table.specs.Moment.{IsMoment};
 ghost use Rattle.nd_neighbour.specs.UnreachabilityDetection.{delay_first_probe_time, max_unicast_solicit};
@@ -35,7 +37,6 @@ impl Probing {
 
     /// Returns the state after a probe that is due is sent, in PROBE, a RetransTimer after the one before. Returns `None` after the third: the
     /// entry is removed (RFC 4861, section 7.3.3).
-    ///
     pub(crate) fn probed(self) -> Option<Self>
         ensures left { is_some result ≡ nat_lt self.sent max_unicast_solicit }
         ensures sent { IfSome result (λ next. next ≡ record { from = self.from; retrans = self.retrans; sent = self.sent + 1 }) }

@@ -5,8 +5,8 @@ use Rattle.std.specs.Prelude.{ℕ, Bool, true, false, ◌||◌, not, ◌==◌, n
 abbrev pub max_redirects : ℕ
 max_redirects = 64
 
--- A Redirect tells the better first hop of a destination, its target; a target is gone, since it can't be reached or is no router any
--- more; all redirects are cleared. Destinations and targets are told by the numbers that their addresses are.
+-- A Redirect announces the better first hop of a destination, its target; a target is gone, since it can't be reached or is no longer
+-- a router; all redirects are cleared. Destinations and targets are named by the numbers that their addresses are.
 pub data RedirectRow : Type 0 where
   Redirected : (at destination target : ℕ) → RedirectRow
   TargetGone : (at target : ℕ) → RedirectRow

@@ -32,8 +32,8 @@ abbrev pub unless_redirected : Option ℕ → ℕ → NextHop → NextHop
 unless_redirected None key rest = rest
 unless_redirected (Some target) key rest = by_redirect target key
 
--- an address to which nothing is sent: the unspecified address is never a destination, and what goes to the loopback address or to an
--- own one never leaves the node (RFC 4291, sections 2.5.2 and 2.5.3)
+-- an address to which nothing is sent: the unspecified address is never a destination, and what goes to the loopback address or to one
+-- of the node's own addresses never leaves the node (RFC 4291, sections 2.5.2 and 2.5.3)
 abbrev pub is_own_or_none : (List ℕ → Bool) → List ℕ → Bool
 is_own_or_none own address = bytes_eq address unspecified_address || bytes_eq address loopback_address || own address
 

@@ -1,3 +1,5 @@
+//! Default router selection (RFC 4861, section 6.3.6; RFC 4191, section 3.2). The definitions are in `specs/DefaultRouter.antt`.
+
 ghost use Rattle.std.specs.Prelude.{◌≡◌, ◌<◌, Some, length, slice_get, option_map};
 ghost use Rattle.nd_addr.specs.Number.{number_of};
 ghost use Rattle.nd_nexthop.specs.DefaultRouter.{router_of, failed_before, better_of, comes_before, is_less_recent, chosen_router};

@@ -1,3 +1,5 @@
+//! The end of redirects (RFC 4861, sections 6.3.5 and 7.3.3).
+
 ghost use Rattle.std.specs.Prelude.{◌≡◌, ℕ, map, option_map, slice_get};
 ghost use Rattle.lru.specs.LruCache.{lru_cache};
 ghost use Rattle.nd_addr.specs.Number.{number_of};

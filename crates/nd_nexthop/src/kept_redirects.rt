@@ -1,3 +1,5 @@
+//! The kept redirects as typed values.
+
 use crate::target::Target;
 use lru::Iter;
 use nd_addr::Addr;

@@ -1,3 +1,5 @@
+//! The remembered next hops (RFC 4861, section 5.1, the Destination Cache). The definitions are in `specs/Memo.antt`.
+
 ghost use Rattle.std.specs.Prelude.{◌≡◌, ◌≤◌, ◌⊎◌, ℕ, [], true, Some, None, Contains, IfOk, IfSome, IsSome, length};
 ghost use Rattle.nd_addr.specs.Number.{number_of};
 ghost use Rattle.nd_nexthop.specs.declared.next_hop.Hop.{Hop as Answer};

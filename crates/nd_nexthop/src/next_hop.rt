@@ -1,3 +1,5 @@
+//! Next-hop determination (RFC 4861, section 5.2). The definitions are in `specs/NextHop.antt`.
+
 ghost use Rattle.std.specs.Prelude.{◌≡◌, ◌⊎◌, ℕ, List, Contains, option_map, true};
 ghost use Rattle.nd_addr.specs.Number.{number_of};
 ghost use Rattle.nd_nexthop.specs.NextHop.{hop_of, hop, by_redirect, is_own_or_none};

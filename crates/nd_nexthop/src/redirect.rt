@@ -1,3 +1,5 @@
+//! A Redirect is taken (RFC 4861, section 8.3).
+
 ghost use Rattle.std.specs.Prelude.{◌≡◌, ℕ, OnOk, OnErr, IsOk, IsSome, nat_eq};
 ghost use Rattle.std.specs.Map.{lookup};
 ghost use Rattle.nd_addr.specs.Number.{number_of};

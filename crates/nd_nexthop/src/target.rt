@@ -1,3 +1,5 @@
+//! The target of a kept redirect.
+
 ghost use Rattle.std.specs.Prelude.{◌≡◌, Some, option_map};
 ghost use Rattle.nd_addr.specs.Number.{number_of};
 ghost use Rattle.nd_nexthop.specs.Choice.{left_of};

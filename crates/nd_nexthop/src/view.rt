@@ -1,3 +1,5 @@
+//! What the choice of next hops sees of a node.
+
 ghost use Rattle.std.specs.Prelude.{◌≡◌, ℕ, Bool, List, length, slice_get, option_map};
 ghost use Rattle.nd_nexthop.specs.DefaultRouter.{DefaultRouter, router_of};
 

@@ -59,16 +59,16 @@ events_of list = map (λ e. (e.0, event_of e.1)) list
 abbrev pub AreEarly : {A : Type 0} → List (ℕ × Event A) → Type 0
 AreEarly list = AllByRecursion (λ e. e.0 < 2 ^ 62) list
 
--- what follows where the event comes
+-- what follows from the event
 abbrev pub FollowsBy : ℕ → events.Event → Start → Chronicle → Chronicle → Type 0
 FollowsBy now event start c d = Follows start c now event d
 
--- From each chronicle of earlier moments that the node stood for, the event leads to one with what it adds, and that is told.
+-- From each chronicle of earlier moments that the node stood for, the event leads to one with what it adds, and that is reported.
 pub record AddsEvent {R A : Type 0} (stream : R → Stream) (old new : Node R A) (before after : List (ℕ × Out A)) (now : ℕ) (event : events.Event) : Type 0 where
   pub each : (start : Start) (c : Chronicle) → Stands stream start old c → last_moment start.at c ≤ now
       → (d : Chronicle) × EventAdds start now event ((now, Passed) ∷ c) d × Stands stream start new d × Tells c d before after
 
--- what follows where the events come, one after the other
+-- what follows from the events, one after the other
 abbrev pub RunsBy : List (ℕ × events.Event) → Start → Chronicle → Chronicle → Type 0
 RunsBy list start c d = Runs start c list d
 

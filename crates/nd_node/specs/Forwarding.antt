@@ -16,12 +16,12 @@ use Rattle.nd_node.specs.declared.node.Node.{Node}
 use Rattle.nd_node.specs.Node.{Stands}
 
 -- From each chronicle of earlier moments that the node stood for, the call leads to one with what a packet adds that is in transit, of
--- these bytes, and that is told.
+-- these bytes, and that is reported.
 pub record AddsForwarded {R A : Type 0} (stream : R → Stream) (old new : Node R A) (before after : List (ℕ × Out A)) (now : ℕ) (packet : PacketParts) (bytes : List ℕ) : Type 0 where
   pub each : (start : Start) (c : Chronicle) → Stands stream start old c → last_moment start.at c ≤ now
       → (d : Chronicle) × ForwardAdds start now packet bytes ((now, Passed) ∷ c) d × Stands stream start new d × Tells c d before after
 
--- to one in which the packet is lost as it came
+-- to one in which the packet is lost as received
 pub record AddsLostInTransit {R A : Type 0} (stream : R → Stream) (old new : Node R A) (before after : List (ℕ × Out A)) (now : ℕ) (why : Loss) (packet : PacketParts) : Type 0 where
   pub each : (start : Start) (c : Chronicle) → Stands stream start old c → last_moment start.at c ≤ now
       → Stands stream start new ((now, Lost why (frame_as_it_came start now packet)) ∷ (now, Passed) ∷ c)
@@ -32,7 +32,7 @@ pub record AddsSentOn {R A : Type 0} (stream : R → Stream) (old new : Node R A
   pub each : (start : Start) (c : Chronicle) → Stands stream start old c → last_moment start.at c ≤ now
       → (d : Chronicle) × SendsOn start now target packet bytes key ((now, Passed) ∷ c) d × Stands stream start new d × Tells c d before after
 
--- the same where its destination is an own address or isn't, which decides on the Redirect with the routes
+-- the same with or without a destination among the node's own addresses, which decides on the Redirect with the routes
 pub record AddsOnward {R A : Type 0} (stream : R → Stream) (old new : Node R A) (before after : List (ℕ × Out A)) (now key : ℕ) (own : Bool) (packet : PacketParts) (bytes : List ℕ) : Type 0 where
   pub each : (start : Start) (c : Chronicle) → Stands stream start old c → last_moment start.at c ≤ now → is_own c packet.header.destination.0 ≡ own
       → (d : Chronicle) × SendsOn start now (redirect (is_own c) (routes (route_history c)) (last_redirect (route_history c)) now packet.header) packet bytes key ((now, Passed) ∷ c) d

@@ -1,4 +1,4 @@
--- A frame that comes, and a message that is for the node.
+-- A received frame, and a message that is for the node.
 use Rattle.std.specs.Prelude.{ℕ, List, ◌∷◌, ◌≤◌}
 use Rattle.rand_core.specs.Stream.{Stream}
 use Rattle.nd_addr.specs.declared.addr.Addr.{Addr}
@@ -13,7 +13,7 @@ use Rattle.nd_steps.specs.Outputs.{Tells}
 use Rattle.nd_node.specs.declared.node.Node.{Node}
 use Rattle.nd_node.specs.Node.{Stands}
 
--- From each chronicle of earlier moments that the node stood for, the call leads to one with this alone, and that is told.
+-- From each chronicle of earlier moments that the node stood for, the call leads to one with this alone, and that is reported.
 pub record AddsAlone {R A : Type 0} (stream : R → Stream) (old new : Node R A) (before after : List (ℕ × Out A)) (now : ℕ) (what : Happening) : Type 0 where
   pub each : (start : Start) (c : Chronicle) → Stands stream start old c → last_moment start.at c ≤ now
       → Stands stream start new ((now, what) ∷ (now, Passed) ∷ c) × Tells c ((now, what) ∷ (now, Passed) ∷ c) before after

@@ -16,7 +16,7 @@ use Rattle.nd_dns.specs.AnnouncedNames.{same_name, names_told}
 use Rattle.nd_dns.specs.AnnouncedServers.{servers_told}
 use Rattle.nd_node.specs.declared.node.Node.{Node}
 
--- its sender has a place among the neighbours, and each other table has room
+-- there is room for its sender among the neighbours, and each other table has room
 pub record HasRoom {R A : Type 0} (node : Node R A) (now : ℕ) (source : Addr) (ra : RouterAdvertisement) (options : List Said) (place : Bool) : Type 0 where
   pub neighbours : place ≡ true
   pub routers : fits same node.routers.limit now ((number_of source.0, ra.router_lifetime) ∷ []) node.routers.entries ≡ true

@@ -13,12 +13,12 @@ use Rattle.nd_node.specs.declared.node.Node.{Node}
 use Rattle.nd_node.specs.Node.{Stands}
 
 -- From each chronicle of earlier moments that the node stood for, a message that is for it leads to one with what it adds, or with its
--- refusal where a table would be full, and that is told.
+-- refusal where a table would be full, and that is reported.
 pub record AddsMessage {R A : Type 0} (stream : R → Stream) (old new : Node R A) (before after : List (ℕ × Out A)) (now : ℕ) (source destination : Addr) (message : Parts) : Type 0 where
   pub each : (start : Start) (c : Chronicle) → Stands stream start old c → last_moment start.at c ≤ now → takes_target c source message.body ≡ true
       → (d : Chronicle) × VerdictAdds start now [] (hears source destination message) ((now, Passed) ∷ c) d × Stands stream start new d × Tells c d before after
 
--- all is as before, but rings that may be in hand
+-- all is as before, except rings that may be in reserve
 pub record Keeps {R A : Type 0} (old new : Node R A) : Type 0 where
   pub role : new.role ≡ old.role
   pub mac : new.mac ≡ old.mac

@@ -43,7 +43,7 @@ TellsNothing events.ClearRedirects = Unit {0}
 TellsNothing events.ClearDns = Unit {0}
 TellsNothing _ = ⊥
 
--- the event asks a node that stands for a chronicle for no memory, where there are so many places for what is told
+-- the event asks a node that stands for a chronicle for no memory, where there are so many places for what is reported
 abbrev pub AsksForNone : {R A : Type 0} → Start → Chronicle → Node R A → ℕ → ℕ → events.Event → Type 0
 AsksForNone start c node now places events.Passes = Unit {0}
 AsksForNone start c node now places (events.Receives frame) = IsDropped start c now frame places ⊎ IsNameless node now frame places

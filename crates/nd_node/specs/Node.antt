@@ -41,7 +41,7 @@ abbrev pub earliest : Option ℕ → Option ℕ → Option ℕ → Option ℕ �
 earliest routers addresses neighbours solicitation advertisement redraw =
     earlier routers (earlier addresses (earlier neighbours (earlier solicitation (earlier advertisement redraw))))
 
--- the moment at which something falls due next
+-- the moment at which something is due next
 abbrev pub next_of : {R A : Type 0} → Node R A → ℕ
 next_of node =
     earliest (routers.next_end node.routers.entries) (address_dates.next_in node.addresses.addresses) (neighbour_dates.next_in node.neighbours.entries)
@@ -78,7 +78,7 @@ pub record NextDue (start : Start) (c : Chronicle) (next : ℕ) : Type 0 where
   pub not_past : last_moment start.at c ≤ next
   pub nothing_before : (moment : ℕ) → moment < next → Due start c moment None
 
--- an own address ends
+-- one of the node's own addresses ends
 abbrev pub ends : Falls → Bool
 ends (Ends key) = true
 ends _ = false

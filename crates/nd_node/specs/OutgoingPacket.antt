@@ -12,14 +12,14 @@ use Rattle.nd_steps.specs.Outputs.{Tells}
 use Rattle.nd_node.specs.declared.node.Node.{Node}
 use Rattle.nd_node.specs.Node.{Stands}
 
--- From each chronicle of earlier moments that the node stood for, the call leads to one in which the packet goes to the neighbour, if that
--- has place, and that is told.
+-- From each chronicle of earlier moments that the node stood for, the call leads to one in which the packet goes to the neighbour, if there
+-- is room for that, and that is reported.
 pub record AddsToNeighbour {R A : Type 0} (stream : R → Stream) (old new : Node R A) (before after : List (ℕ × Out A)) (now key : ℕ) (packet : List ℕ) : Type 0 where
   pub each : (start : Start) (c : Chronicle) → Stands stream start old c → last_moment start.at c ≤ now
       → (d : Chronicle) × GoesIfPlaced start now key packet ((now, Passed) ∷ c) d × Stands stream start new d × Tells c d before after
 
 -- From each chronicle of earlier moments that the node stood for, the call leads to one with what the packet adds whose next hop this is,
--- and that is told.
+-- and that is reported.
 pub record AddsPacket {R A : Type 0} (stream : R → Stream) (old new : Node R A) (before after : List (ℕ × Out A)) (now : ℕ) (next : NextHop) (packet : OutgoingPacket A) : Type 0 where
   pub each : (start : Start) (c : Chronicle) → Stands stream start old c → last_moment start.at c ≤ now
       → (d : Chronicle) × PacketAdds start now next packet.source packet.destination packet.next_header packet.payload.items ((now, Passed) ∷ c) d

@@ -18,7 +18,7 @@ use Rattle.nd_node.specs.Node.{Stands}
 abbrev pub advertised : RouterAdvertisement → List Said → Parts
 advertised ra options = record { body = bodies.Ra ra; options = options }
 
--- What an advertisement leads to: there is place for its sender, and the tables are those of the chronicle with all that it adds.
+-- What an advertisement leads to: there is room for its sender, and the tables are those of the chronicle with all that it adds.
 pub record Advertises {R A : Type 0} (stream : R → Stream) (new : Node R A) (before after : List (ℕ × Out A)) (now : ℕ) (source destination : Addr) (ra : RouterAdvertisement) (options : List Said) (start : Start) (c : Chronicle) : Type 0 where
   pub placed : Chronicle
   pub place : PlaceFor start c now (said c source (advertised ra options)) placed

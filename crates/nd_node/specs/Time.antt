@@ -10,7 +10,7 @@ use Rattle.nd_node.specs.declared.node.Node.{Node}
 use Rattle.nd_node.specs.Node.{Stands}
 use Rattle.nd_out.specs.declared.out.Out.{Out}
 
--- The call leads from each chronicle that the node stood for to one of those that the relation gives, and tells what is told of it.
+-- The call leads from each chronicle that the node stood for to one of those that the relation gives, and reports it.
 pub record Leads {R A : Type 0} (stream : R → Stream) (old new : Node R A) (before after : List (ℕ × Out A)) (To : Start → Chronicle → Chronicle → Type 0) : Type 0 where
   pub each : (start : Start) (c : Chronicle) → Stands stream start old c → (d : Chronicle) × To start c d × Stands stream start new d × Tells c d before after
 

@@ -1,3 +1,5 @@
+//! Which table of a node is full for a Router Advertisement. The definition is in `specs/Fullness.antt`.
+
 ghost use Rattle.std.specs.Prelude.{◌≡◌, ◌≤◌, None};
 ghost use Rattle.std.specs.Option.{option_map};
 ghost use Rattle.nd_decode.specs.Pieces.{options_left};

@@ -1,3 +1,5 @@
+//! Handles a Neighbor Solicitation (RFC 4861, sections 7.2.3 and 7.2.4; RFC 4862, section 5.4.3).
+
 ghost use Rattle.std.specs.Prelude.{◌≡◌, ◌∷◌, ◌+◌, ◌<◌, ◌≤◌, List, None, Some, IsOk, OnOk, OnErr, bytes_eq, false, true, vec_len, vec_capacity};
 ghost use Rattle.nd_addr.specs.Kind.{unspecified_address};
 ghost use Rattle.nd_addr.specs.Number.{number_of};

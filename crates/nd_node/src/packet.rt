@@ -1,3 +1,5 @@
+//! Sends a packet to a neighbour (RFC 4861, sections 7.2.2 and 7.3.3). The definition is in `specs/Packet.antt`.
+
 ghost use Rattle.std.specs.Prelude.{◌≡◌, ◌+◌, ◌-◌, ◌<◌, ◌≤◌, None, if◌then◌else◌, is_some, true, vec_len, vec_capacity};
 ghost use Rattle.nd_addr.specs.Number.{number_of};
 ghost use Rattle.nd_table.specs.Moment.{IsMoment};

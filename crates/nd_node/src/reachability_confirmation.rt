@@ -1,3 +1,5 @@
+//! Takes an upper layer's confirmation (RFC 4861, section 7.3.1).
+
 ghost use Rattle.std.specs.Prelude.{◌<◌, ℕ, List};
 ghost use Rattle.nd_table.specs.Moment.{IsMoment};
 ghost use Rattle.nd_chronicle.specs.Event as events;

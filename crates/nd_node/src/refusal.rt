@@ -1,3 +1,5 @@
+//! Reports a refusal.
+
 ghost use Rattle.std.specs.Prelude.{◌≡◌, ◌<◌, IsOk, OnErr, OnOk, vec_capacity, vec_len};
 ghost use Rattle.nd_chronicle.specs.Happening.{Refused};
 ghost use Rattle.nd_node.specs.Frame.{AddsAlone};

@@ -1,3 +1,5 @@
+//! Handles a Router Solicitation (RFC 4861, section 6.2.6).
+
 ghost use Rattle.std.specs.Prelude.{◌≡◌, ◌∷◌, ◌<◌, ◌≤◌, Some, IsOk, OnOk, OnErr, vec_capacity, vec_len};
 ghost use Rattle.nd_decode.specs.Pieces.{options_left};
 ghost use Rattle.nd_decode.specs.declared.body.Body.TheVariants as bodies;

@@ -61,7 +61,6 @@ impl<R: Rng + Drop, A: Allocator + Clone> Node<R, A> {
     }
 
     /// Lets time pass up to `now`, in milliseconds, before which nothing is due. If `now` is in the past, nothing changes. It takes no memory.
-    ///
     pub fn pass(&mut self, now: u64)
         requires settled { now < next_of self.old }
         ensures passes { (start : Start) (c : Chronicle) → Stands R.stream start self.old c → last_moment start.at c ≤ now → Stands R.stream start self.new ((now, Passed) ∷ c) }

@@ -1,4 +1,4 @@
--- The lines of what is told of a node of a link (the texts are this project's own).
+-- The lines of what is reported of a node of a link (the texts are this project's own).
 use Rattle.std.specs.Prelude.{ℕ, List, [], ◌++◌, Option, Some, None, codes}
 use Rattle.std.specs.Fmt.{decimal}
 use Rattle.nd_chronicle.specs.Told.{line_at, node_line}

@@ -43,7 +43,7 @@ refusal_of (refusal.NotOurs source) = happenings.NotOurs source
 refusal_of refusal.TooLong = happenings.TooLong
 refusal_of (refusal.Full full) = happenings.Full (limit_of full)
 
--- what happened: of a message its fields, since its options aren't told
+-- what happened: of a message its fields, since its options aren't reported
 abbrev pub happening : {A : Type 0} → Out A → Happening
 happening (outs.Frame packet) = happenings.Sent packet
 happening (outs.Heard source destination body) = happenings.Heard source destination (record { body = body; options = [] })

@@ -23,7 +23,7 @@ impl Row for OwnAddress {
     }
 }
 
-/// The word for a state (RFC 4862, section 2).
+/// Returns the word for a state (RFC 4862, section 2).
 fn state_word(state: State) -> &'static str
     ensures { result.now ≡ state_text state }
 {
@@ -35,7 +35,7 @@ fn state_word(state: State) -> &'static str
     }
 }
 
-/// Returns the rows of own addresses, in their order. The error is out of memory.
+/// Returns the rows of the node's own addresses, in their order. Returns an error if out of memory.
 pub fn address_rows<A: Allocator + Clone>(
     alloc: &A,
     addresses: OwnAddresses<'_>,

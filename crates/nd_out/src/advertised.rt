@@ -10,7 +10,7 @@ use nd_advertiser::{Offer, OfferRows};
 use nd_decode::{PrefixInfo, prefix_flags_text};
 use std::alloc::{AllocError, Allocator};
 
-/// Writes the lifetimes of an advertised prefix, in seconds, each behind a space.
+/// Writes the lifetimes of an advertised prefix, in seconds, each after a space.
 fn write_lifetimes<A: Allocator>(text: &mut String<A>, info: PrefixInfo) -> Result<(), AllocError>
     ensures { OnOk result (string_bytes text.new ≡ string_bytes text.old ++ lifetimes_text info) }
 {
@@ -18,7 +18,7 @@ fn write_lifetimes<A: Allocator>(text: &mut String<A>, info: PrefixInfo) -> Resu
     write_labelled(text, " ", u64::from(info.preferred_lifetime))
 }
 
-/// Writes its flags behind a space.
+/// Writes its flags after a space.
 fn write_flags<A: Allocator>(text: &mut String<A>, info: PrefixInfo) -> Result<(), AllocError>
     ensures { OnOk result (string_bytes text.new ≡ string_bytes text.old ++ offer_flags_text info) }
 {
@@ -39,7 +39,7 @@ impl Row for Offer {
     }
 }
 
-/// Whether it advertises.
+/// The row that says if the router advertises.
 #[derive(Clone, Copy)]
 struct Advertising(bool);
 
@@ -57,7 +57,7 @@ impl Row for Advertising {
     }
 }
 
-/// Returns the rows of what a router advertises: whether it does, and its offers, in their order. A host has none. The error is out of memory.
+/// Returns the rows of what a router advertises: `advertises`, and its offers, in their order. A host has none. Returns an error if out of memory.
 pub fn advertise_rows<A: Allocator + Clone>(
     alloc: &A,
     role: Role,
@@ -77,7 +77,7 @@ pub fn advertise_rows<A: Allocator + Clone>(
     }
 }
 
-/// Appends the rows of offers. The error is out of memory.
+/// Appends the rows of offers. Returns an error if out of memory.
 fn add_offers<A: Allocator + Clone>(
     rows: &mut Vec<String<A>, A>,
     alloc: &A,

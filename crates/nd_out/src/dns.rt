@@ -33,7 +33,7 @@ impl<B: Allocator> Row for SearchName<B> {
     }
 }
 
-/// Returns the rows of DNS servers and then of search names, in their orders. The error is out of memory.
+/// Returns the rows of DNS servers and then of search names, in their orders. Returns an error if out of memory.
 pub fn dns_rows<A: Allocator + Clone, B: Allocator>(
     alloc: &A,
     servers: WithLifetimes<'_, Addr>,

@@ -1,4 +1,4 @@
-//! What a node tells: what happened at it as values, their texts, and the rows of its tables.
+//! What a node reports: what happened at it as values, their texts, and the rows of its tables.
 #![tactic(auto)]
 
 mod addresses;

@@ -9,7 +9,7 @@ use itoa::Buffer;
 use nd_addr::Addr;
 use std::alloc::{AllocError, Allocator};
 
-/// Writes a number. The error is out of memory.
+/// Writes a number. Returns an error if out of memory.
 pub(crate) fn write_number<A: Allocator>(
     text: &mut String<A>,
     number: u64,
@@ -19,7 +19,7 @@ pub(crate) fn write_number<A: Allocator>(
     text.push_str(Buffer::new().format(number))
 }
 
-/// Writes a moment, and a space behind it.
+/// Writes a moment, and a space after it.
 pub(crate) fn write_moment<A: Allocator>(text: &mut String<A>, at: u64) -> Result<(), AllocError>
     ensures { OnOk result (string_bytes text.new ≡ string_bytes text.old ++ decimal at ++ codes " ") }
 {
@@ -27,7 +27,7 @@ pub(crate) fn write_moment<A: Allocator>(text: &mut String<A>, at: u64) -> Resul
     text.push_str(" ")
 }
 
-/// Writes what a line begins with: of a node of a link its number, and else nothing.
+/// Writes the beginning of a line: the number of a node of a link, and nothing for a node without a link.
 pub(crate) fn write_front<A: Allocator>(
     text: &mut String<A>,
     node: Option<usize>,
@@ -42,7 +42,7 @@ pub(crate) fn write_front<A: Allocator>(
     text.push_str(" ")
 }
 
-/// Writes an address, which is told by its number.
+/// Writes an address.
 pub(crate) fn write_address<A: Allocator>(
     text: &mut String<A>,
     addr: Addr,

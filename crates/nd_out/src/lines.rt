@@ -68,7 +68,7 @@ fn write_counted<A: Allocator>(
     text.push_str("\n")
 }
 
-/// Writes the lines of rows that were shown, of a node of a link each with its number.
+/// Writes the lines of rows that were shown, each with the number of the node if it is one of a link.
 fn write_each_row<A: Allocator, B: Allocator>(
     text: &mut String<A>,
     node: Option<usize>,
@@ -141,8 +141,8 @@ fn write_out<A: Allocator, B: Allocator>(
     }
 }
 
-/// Writes the lines of what happened at a node of a link, at a moment in milliseconds: those of the node alone, each with its number
-/// before it. The error is out of memory.
+/// Writes the lines of what happened at a node of a link, at a moment in milliseconds: those of a node without a link, each with the number of the
+/// node before it. Returns an error if out of memory.
 pub fn write_node_out<A: Allocator, B: Allocator>(
     text: &mut String<A>,
     node: usize,
@@ -160,8 +160,8 @@ pub fn write_node_out<A: Allocator, B: Allocator>(
     }
 }
 
-/// Writes the text of what happened at the end, each with its moment in milliseconds: a line each, and of rows that were shown a line
-/// for each and one for their number. The error is out of memory.
+/// Appends the text of what happened, each with its moment in milliseconds: a line each, and for rows that were shown a line each and one for their
+/// number. Returns an error if out of memory.
 pub fn write_outs<A: Allocator, B: Allocator>(
     text: &mut String<A>,
     outs: &[(u64, Out<B>)],

@@ -8,7 +8,7 @@ use crate::out::Loss;
 use nd_addr::{Addr, ETHERNET_HEADER_LENGTH, IPV6_DESTINATION_AT, IPV6_SOURCE_AT};
 use std::alloc::{AllocError, Allocator};
 
-/// The word for why a packet was lost.
+/// Returns the word for the reason for which a packet was lost.
 pub(crate) fn loss_word(why: Loss) -> &'static str
     ensures { result.now ≡ loss_text (loss_of why) }
 {
@@ -21,14 +21,14 @@ pub(crate) fn loss_word(why: Loss) -> &'static str
     }
 }
 
-/// A byte, or 0 past the end.
+/// Returns a byte, or 0 past the end.
 fn byte_at(bytes: &[u8], i: usize) -> u8
     ensures { result ≡ slice_index bytes.now i }
 {
     if i < bytes.len() { bytes[i] } else { 0 }
 }
 
-/// The address at a place. What the bytes lack of it is zeros.
+/// Returns the address at a place. Missing bytes are zeros.
 fn address_at(bytes: &[u8], place: usize) -> Addr
     requires { place ≤ 65536 }
     ensures { address_text result.0 ≡ address_text (slice_range bytes.now place (place + 16)) }

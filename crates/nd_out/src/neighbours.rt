@@ -26,7 +26,7 @@ impl Row for Neighbour {
     }
 }
 
-/// Writes a link-layer address, which is told by its number.
+/// Writes a link-layer address.
 fn write_mac<A: Allocator>(text: &mut String<A>, mac: Mac) -> Result<(), AllocError>
     ensures { OnOk result (string_bytes text.new ≡ string_bytes text.old ++ mac_text (mac_at (number_of mac.0)).0) }
 {
@@ -34,7 +34,7 @@ fn write_mac<A: Allocator>(text: &mut String<A>, mac: Mac) -> Result<(), AllocEr
     mac.write_text(text)
 }
 
-/// Writes a link-layer address, or `-` where none is known.
+/// Writes a link-layer address, or `-` if none is known.
 fn write_mac_or_none<A: Allocator>(text: &mut String<A>, mac: Option<Mac>) -> Result<(), AllocError>
     ensures { OnOk result (string_bytes text.new ≡ string_bytes text.old ++ mac_or_none_text (option_map (λ mac. number_of mac.0) mac)) }
 {
@@ -44,7 +44,7 @@ fn write_mac_or_none<A: Allocator>(text: &mut String<A>, mac: Option<Mac>) -> Re
     }
 }
 
-/// The word for a reachability state (RFC 4861, section 7.3.2).
+/// Returns the word for a reachability state (RFC 4861, section 7.3.2).
 fn reachability_word(state: Reachability) -> &'static str
     ensures { result.now ≡ reachability_text state }
 {
@@ -57,14 +57,14 @@ fn reachability_word(state: Reachability) -> &'static str
     }
 }
 
-/// The word for IsRouter (RFC 4861, section 5.1).
+/// Returns the word for IsRouter (RFC 4861, section 5.1).
 fn router_or_host(router: bool) -> &'static str
     ensures { result.now ≡ router_or_host_text router }
 {
     if router { "router" } else { "host" }
 }
 
-/// Returns the rows of neighbours, in their order. The error is out of memory.
+/// Returns the rows of neighbours, in their order. Returns an error if out of memory.
 pub fn neighbour_rows<A: Allocator + Clone, B: Allocator>(
     alloc: &A,
     neighbours: Neighbours<'_, B>,

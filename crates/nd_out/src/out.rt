@@ -8,13 +8,13 @@ use std::alloc::Allocator;
 pub enum Loss {
     /// Its neighbour can't be reached (RFC 4861, section 7.2.2).
     Unreachable,
-    /// A later one took its place among those that wait for an address (RFC 4861, section 7.2.2).
+    /// A later one replaced it among those that wait for an address (RFC 4861, section 7.2.2).
     Replaced,
-    /// Its neighbour was to be forgotten.
+    /// A command removed its neighbour.
     Forgotten,
     /// There is no next hop for it (RFC 4861, section 5.2).
     NoRoute,
-    /// It was to be forwarded, and its hop limit is spent (RFC 8200, section 3).
+    /// Its hop limit doesn't allow another hop, and it was in transit (RFC 8200, section 3).
     HopLimit,
 }
 
@@ -27,7 +27,7 @@ pub enum Limit {
     Routers,
     /// The prefixes on the link (RFC 4861, section 5.1).
     Prefixes,
-    /// The own addresses (RFC 4862, section 5).
+    /// The node's own addresses (RFC 4862, section 5).
     Addresses,
     /// The DNS servers (RFC 8106, section 6.1).
     Servers,
@@ -46,7 +46,7 @@ pub enum Refusal {
     WrongRole,
     /// The link-local address of the node is a duplicate (RFC 4862, section 5.4.5).
     Disabled,
-    /// The source of a packet is no assigned address of the node.
+    /// The source of a packet is not an assigned address of the node.
     NotOurs(Addr),
     /// A packet is longer than the MTU of the link (RFC 8200, section 5).
     TooLong,
@@ -54,12 +54,12 @@ pub enum Refusal {
     Full(Limit),
 }
 
-/// What happened at a node, so far as it is told.
+/// What a node reports of what happened at it.
 #[derive(Drop)]
 pub enum Out<A: Allocator> {
     /// A frame was sent.
     Frame(Packet<A>),
-    /// A valid message was heard. Its options aren't told.
+    /// A valid message was heard. Its options aren't reported.
     Heard {
         /// The source of its packet.
         source: Addr,
@@ -72,7 +72,7 @@ pub enum Out<A: Allocator> {
     Dropped(Why),
     /// A packet that is no message of Neighbor Discovery goes to the upper layer, from its IPv6 header to the end of its payload.
     Up(Vec<u8, A>),
-    /// An own address is another node's as well (RFC 4862, section 5.4.5).
+    /// Another node has one of the node's own addresses as well (RFC 4862, section 5.4.5).
     Duplicate(Addr),
     /// An address was assigned to the interface (RFC 4862, section 5.4).
     Assigned(Addr),
@@ -88,6 +88,6 @@ pub enum Out<A: Allocator> {
     Shown(Vec<String<A>, A>),
     /// An event was refused.
     Refused(Refusal),
-    /// An event came too late: time had passed up to this moment, in milliseconds.
+    /// An event was too late: time had passed up to this moment, in milliseconds.
     Past(u64),
 }

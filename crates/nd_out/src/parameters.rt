@@ -50,7 +50,7 @@ fn write_flags<A: Allocator>(text: &mut String<A>, params: &Params) -> Result<()
     write_flag(text, " other ", params.other())
 }
 
-/// Returns the row of the parameters of the link. The error is out of memory.
+/// Returns the row of the parameters of the link. Returns an error if out of memory.
 pub fn parameter_row<A: Allocator + Clone>(
     alloc: &A,
     params: &Params,

@@ -19,7 +19,7 @@ impl Row for Prefix {
     }
 }
 
-/// Returns the rows of prefixes on the link, in their order. The error is out of memory.
+/// Returns the rows of prefixes on the link, in their order. Returns an error if out of memory.
 pub fn prefix_rows<A: Allocator + Clone>(
     alloc: &A,
     prefixes: WithLifetimes<'_, Prefix>,

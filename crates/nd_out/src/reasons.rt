@@ -1,4 +1,4 @@
-//! What was heard, and why something was not.
+//! The texts of messages that were heard, and of the reasons of drops and refusals.
 
 ghost use Rattle.std.specs.Prelude.{◌≡◌, ◌++◌, OnOk, codes, string_bytes};
 ghost use Rattle.nd_chronicle.specs.Happening.{Dropped, Refused};
@@ -11,7 +11,7 @@ use nd_addr::Why;
 use nd_decode::Body;
 use std::alloc::{AllocError, Allocator};
 
-/// The word for the type of a message.
+/// Returns the word for the type of a message.
 fn kind_word(body: &Body) -> &'static str
     ensures { result.now ≡ kind_text body.now }
 {
@@ -24,7 +24,7 @@ fn kind_word(body: &Body) -> &'static str
     }
 }
 
-/// The word for a table that has a limit.
+/// Returns the word for a table that has a limit.
 fn limit_word(limit: Limit) -> &'static str
     ensures { result.now ≡ limit_text (limit_of limit) }
 {

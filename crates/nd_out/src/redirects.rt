@@ -21,7 +21,7 @@ impl Row for Redirect {
     }
 }
 
-/// Returns the rows of kept redirects, in their order. The error is out of memory.
+/// Returns the rows of kept redirects, in their order. Returns an error if out of memory.
 pub fn redirect_rows<A: Allocator + Clone>(
     alloc: &A,
     redirects: KeptRedirects<'_>,

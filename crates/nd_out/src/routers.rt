@@ -21,7 +21,7 @@ impl Row for DefaultRouter {
     }
 }
 
-/// Returns the rows of default routers, in their order. The error is out of memory.
+/// Returns the rows of default routers, in their order. Returns an error if out of memory.
 pub fn router_rows<A: Allocator + Clone>(
     alloc: &A,
     routers: DefaultRouters<'_>,

@@ -8,17 +8,17 @@ use crate::line::write_number;
 use nd_table::{WithLifetime, WithLifetimes};
 use std::alloc::{AllocError, Allocator};
 
-/// What stands in a row of a table.
+/// A value that is shown in a row of a table.
 pub(crate) trait Row {
     /// Its text.
     ghost shown: { Self → List ℕ };
 
-    /// Writes its text. The error is out of memory.
+    /// Writes its text. Returns an error if out of memory.
     fn write_row<A: Allocator>(&self, text: &mut String<A>) -> Result<(), AllocError>
         ensures { OnOk result (string_bytes text.new ≡ string_bytes text.old ++ shown self.now) };
 }
 
-/// Writes a word and a number behind it.
+/// Writes a word and a number after it.
 pub(crate) fn write_labelled<A: Allocator>(
     text: &mut String<A>,
     word: &str,
@@ -38,7 +38,7 @@ pub(crate) fn write_word<A: Allocator>(text: &mut String<A>, word: &str) -> Resu
     text.push_str(word)
 }
 
-/// Writes a word and a flag behind it.
+/// Writes a word and a flag after it.
 pub(crate) fn write_flag<A: Allocator>(
     text: &mut String<A>,
     word: &str,
@@ -63,7 +63,7 @@ pub(crate) fn write_left<A: Allocator>(
     }
 }
 
-/// The text of a row. The error is out of memory.
+/// Returns the text of a row. Returns an error if out of memory.
 pub(crate) fn row_text<R: Row, A: Allocator>(alloc: A, row: &R) -> Result<String<A>, AllocError>
     ensures { IfOk result (λ text. string_bytes text ≡ R.shown row.now) }
 {
@@ -72,7 +72,7 @@ pub(crate) fn row_text<R: Row, A: Allocator>(alloc: A, row: &R) -> Result<String
     Ok(text)
 }
 
-/// Appends the text of a row. The error is out of memory.
+/// Appends the text of a row. Returns an error if out of memory.
 pub(crate) fn add_row<R: Row, A: Allocator + Clone>(
     rows: &mut Vec<String<A>, A>,
     alloc: &A,
@@ -97,7 +97,7 @@ impl<K: Row> Row for WithLifetime<'_, K> {
     }
 }
 
-/// Appends the text of each key with what is left of its lifetime. The error is out of memory.
+/// Appends the text of each key with what is left of its lifetime. Returns an error if out of memory.
 pub(crate) fn add_with_lifetimes<K: Row, A: Allocator + Clone>(
     rows: &mut Vec<String<A>, A>,
     alloc: &A,

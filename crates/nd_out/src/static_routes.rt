@@ -34,7 +34,7 @@ impl Row for KeptRoute {
     }
 }
 
-/// Returns the rows of static routes, in their order. A host has none. The error is out of memory.
+/// Returns the rows of static routes, in their order. A host has none. Returns an error if out of memory.
 pub fn route_rows<A: Allocator + Clone>(
     alloc: &A,
     role: Role,
@@ -52,7 +52,7 @@ pub fn route_rows<A: Allocator + Clone>(
     }
 }
 
-/// Appends the rows of routes. The error is out of memory.
+/// Appends the rows of routes. Returns an error if out of memory.
 fn add_routes<A: Allocator + Clone>(
     rows: &mut Vec<String<A>, A>,
     alloc: &A,

@@ -6,8 +6,8 @@ use nd_addr::{ETHERNET_HEADER_LENGTH, Mac};
 use std::alloc::Allocator;
 use std::marker::Model;
 
-/// A whole Ethernet frame, of 14 bytes at least (RFC 2464, section 3). Its first six bytes, where it goes to, are set when it
-/// is sent: sending a packet that waited takes no memory.
+/// A whole Ethernet frame, of 14 bytes at least (RFC 2464, section 3). Its first six bytes, the destination, are set when it is sent: sending a
+/// packet that waited takes no memory.
 #[derive(Debug, Drop)]
 pub struct Packet<A: Allocator> {
     frame: Vec<u8, A>,
@@ -26,7 +26,7 @@ impl<A: Allocator> Model for Packet<A> {
 }
 
 impl<A: Allocator> Packet<A> {
-    /// The packet that this frame is. `None` where it is too short for an Ethernet header.
+    /// Returns the packet that this frame is, or `None` if it is too short for an Ethernet header.
     pub fn new(frame: Vec<u8, A>) -> Option<Self>
         ensures { result ≡ packet_of frame.items }
     {
@@ -36,7 +36,7 @@ impl<A: Allocator> Packet<A> {
         Some(Packet { frame })
     }
 
-    /// The bytes of the frame.
+    /// Returns the bytes of the frame.
     pub fn as_bytes(&self) -> &[u8]
         ensures value { result.now ≡ self.now }
         ensures long { ethernet_header_length ≤ length self.now }
@@ -44,7 +44,7 @@ impl<A: Allocator> Packet<A> {
         &self.frame
     }
 
-    /// The same frame to this Ethernet address. It takes no memory.
+    /// Returns the same frame to this Ethernet address. It takes no memory.
     pub fn addressed(self, destination: Mac) -> Self
         ensures { result ≡ addressed destination self }
     {
@@ -53,7 +53,7 @@ impl<A: Allocator> Packet<A> {
         Packet { frame }
     }
 
-    /// The frame, handed out.
+    /// Returns the frame itself.
     pub fn into_frame(self) -> Vec<u8, A>
         ensures { result.items ≡ self }
     {
@@ -61,7 +61,7 @@ impl<A: Allocator> Packet<A> {
     }
 }
 
-/// Sets where a frame goes to.
+/// Sets the destination of a frame.
 fn set_destination(frame: &mut [u8], destination: &Mac)
     requires { ethernet_header_length ≤ length frame.old }
     ensures { frame.new ≡ addressed destination.now frame.old }

@@ -6,7 +6,7 @@ use crate::waiting::Waiting;
 use std::alloc::Allocator;
 use std::marker::Model;
 
-/// Packets that waited for an address and are handed out, the oldest first.
+/// Packets that waited for an address and no longer do, the oldest first.
 #[derive(Drop)]
 pub struct Packets<A: Allocator> {
     waiting: Option<Waiting<A>>,
@@ -21,14 +21,14 @@ impl<A: Allocator> Model for Packets<A> {
 }
 
 impl<A: Allocator> Packets<A> {
-    /// No packets.
+    /// Returns no packets.
     pub fn none() -> Self
         ensures { result ≡ [] }
     {
         Packets { waiting: None }
     }
 
-    /// All that waited for one address.
+    /// Returns all packets that waited for one address.
     pub fn of(waiting: Waiting<A>) -> Self
         ensures { result ≡ waiting }
     {
@@ -37,7 +37,7 @@ impl<A: Allocator> Packets<A> {
         }
     }
 
-    /// Takes the oldest packet out.
+    /// Removes the oldest packet and returns it.
     pub fn take(&mut self) -> Option<Packet<A>>
         ensures rest { self.new ≡ drop 1 self.old }
         ensures oldest { result ≡ slice_get self.old 0 }
@@ -48,7 +48,7 @@ impl<A: Allocator> Packets<A> {
         }
     }
 
-    /// How many there are, at most three.
+    /// Returns the number of packets, at most three.
     pub fn len(&self) -> usize
         ensures value { result ≡ length self.now }
         ensures few { length self.now ≤ max_waiting }
@@ -59,7 +59,7 @@ impl<A: Allocator> Packets<A> {
         }
     }
 
-    /// Whether there is none.
+    /// Returns true if there are no packets.
     pub fn is_empty(&self) -> bool
         ensures { result ≡ (length self.now == 0) }
     {

@@ -4,7 +4,7 @@ use crate::packet::Packet;
 use crate::waiting::Waiting;
 use std::alloc::{AllocError, Allocator};
 
-/// Room for the packets of a neighbour that is to come, taken beforehand, so that the neighbour itself takes no memory.
+/// Room for the packets of a future neighbour, taken beforehand, so that adding the neighbour takes no memory.
 #[derive(Drop)]
 pub struct Ring<A: Allocator> {
     waiting: Waiting<A>,
@@ -12,7 +12,7 @@ pub struct Ring<A: Allocator> {
 }
 
 impl<A: Allocator> Ring<A> {
-    /// Such room. No other call takes memory.
+    /// Returns such room, or an error if out of memory. No other call takes memory.
     pub fn new(alloc: A) -> Result<Self, AllocError>
         ensures { IfOk result (λ ring. ring.waiting ≡ []) }
     {
@@ -21,7 +21,7 @@ impl<A: Allocator> Ring<A> {
         })
     }
 
-    /// The packets of the neighbour, of which this is the first.
+    /// Returns the packets of the neighbour, of which `packet` is the first.
     pub fn with(self, packet: Packet<A>) -> Waiting<A>
         ensures { result ≡ packet ∷ [] }
     {

@@ -7,7 +7,7 @@ use circular_buffer::HeapCircularBuffer;
 use std::alloc::{AllocError, Allocator};
 use std::marker::Model;
 
-/// How many packets wait for one address at most. Our choice: RFC 4861, section 7.2.2, asks for at least one.
+/// The most packets that wait for one address. Our choice: RFC 4861, section 7.2.2, asks for at least one.
 pub const MAX_WAITING: usize = 3;
 
 /// Packets that wait for an address, the oldest first.
@@ -28,7 +28,7 @@ impl<A: Allocator> Model for Waiting<A> {
 }
 
 impl<A: Allocator> Waiting<A> {
-    /// Room for packets. No other call takes memory.
+    /// Returns room for packets, or an error if out of memory. No other call takes memory.
     pub fn new(alloc: A) -> Result<Self, AllocError>
         ensures { IfOk result (λ w. w ≡ []) }
     {
@@ -37,7 +37,7 @@ impl<A: Allocator> Waiting<A> {
         })
     }
 
-    /// Puts a packet last. A fourth packet takes the place of the oldest, which is handed back.
+    /// Appends a packet. A fourth packet replaces the oldest, which is returned.
     pub fn put(&mut self, packet: Packet<A>) -> Option<Packet<A>>
         ensures last { self.new ≡ keep_last max_waiting (self.old ++ packet ∷ []) }
         ensures replaced { result ≡ (if nat_lt (length self.old) max_waiting then None else slice_get (self.old ++ packet ∷ []) 0) }
@@ -45,7 +45,7 @@ impl<A: Allocator> Waiting<A> {
         self.ring.push_back(packet)
     }
 
-    /// Takes the oldest packet out.
+    /// Removes the oldest packet and returns it.
     pub fn take(&mut self) -> Option<Packet<A>>
         ensures rest { self.new ≡ drop 1 self.old }
         ensures oldest { result ≡ slice_get self.old 0 }
@@ -53,7 +53,7 @@ impl<A: Allocator> Waiting<A> {
         self.ring.pop_front()
     }
 
-    /// How many wait.
+    /// Returns the number of packets that wait.
     pub fn len(&self) -> usize
         ensures value { result ≡ length self.now }
         ensures few { result ≤ max_waiting }

@@ -30,6 +30,6 @@ pub record Stands (values : Values) (history : List Row) : Type 0 where
 abbrev pub GainsRows : Values → Values → (List Row → List Row) → Type 0
 GainsRows = growing.GainsRows Stands
 
--- a base that is told, and is another one
+-- a base that is announced, and is another one
 abbrev pub redraws : ℕ → ℕ → Bool
 redraws base told = not (told == 0) && not (told == base)

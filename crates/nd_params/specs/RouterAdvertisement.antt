@@ -16,7 +16,7 @@ first_mtu (rdnss _ _ ∷ options) = first_mtu options
 first_mtu (dnssl _ _ ∷ options) = first_mtu options
 first_mtu (other _ _ ∷ options) = first_mtu options
 
--- a number that is told, where 0 says nothing
+-- a number that is announced, where 0 says nothing
 abbrev pub nonzero_or : ℕ → ℕ → ℕ
 nonzero_or told before = if told == 0 then before else told
 

@@ -7,13 +7,13 @@ ghost use Rattle.nd_params.specs.Params.{Values, Stands};
 use nd_addr::ETHERNET_MTU;
 use std::marker::Model;
 
-/// CurHopLimit until a router tells one (RFC 4861, section 6.3.2; the number is that of the registry of IP parameters).
+/// CurHopLimit until a router announces one (RFC 4861, section 6.3.2; the number is that of the registry of IP parameters).
 const DEFAULT_HOP_LIMIT: u8 = 64;
 
-/// BaseReachableTime until a router tells one, in milliseconds (RFC 4861, section 10).
+/// BaseReachableTime until a router announces one, in milliseconds (RFC 4861, section 10).
 pub const REACHABLE_TIME: u32 = 30_000;
 
-/// RetransTimer until a router tells one, in milliseconds (RFC 4861, section 10).
+/// RetransTimer until a router announces one, in milliseconds (RFC 4861, section 10).
 const RETRANS_TIMER: u32 = 1_000;
 
 /// The parameters of a link that its routers announce (RFC 4861, section 6.3.2).
@@ -44,7 +44,7 @@ impl Model for Params {
 }
 
 impl Params {
-    /// The defaults (RFC 4861, section 10), with a first ReachableTime that was drawn for their base, at a moment, both in milliseconds.
+    /// Returns the defaults (RFC 4861, section 10), with a first ReachableTime that was drawn from their base, at `now`, both in milliseconds.
     pub fn new(now: u64, drawn: u64) -> Params
         requires moment { IsMoment now }
         requires span { drawn < 2 ^ 62 }

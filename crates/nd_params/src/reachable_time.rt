@@ -7,12 +7,12 @@ ghost use Rattle.nd_params.specs.ReachableTime.{reachable_range, MayBeDrawn};
 
 use crate::params::Params;
 
-/// How long after a draw of ReachableTime the next one comes, in milliseconds: two hours, which is our
-/// choice of the few hours of RFC 4861, section 6.3.4.
+/// The time from a draw of ReachableTime to the next one, in milliseconds: two hours, which is our choice of the few hours of RFC 4861, section
+/// 6.3.4.
 const REDRAW_AFTER: u64 = 7_200_000;
 
 impl Params {
-    /// The moment at which ReachableTime is to be drawn again, in milliseconds.
+    /// Returns the moment at which ReachableTime is drawn again, in milliseconds.
     pub fn next_due(&self) -> u64
         ensures value { result ≡ self.now.drawn_at + redraw_after }
         ensures due { (history : List Row) → Stands self.now history → result ≡ next_draw history }
@@ -20,7 +20,7 @@ impl Params {
         self.drawn_at + REDRAW_AFTER
     }
 
-    /// ReachableTime was drawn again at a moment, both in milliseconds.
+    /// Notes that ReachableTime was drawn again at `now`, both in milliseconds.
     pub fn redrawn(&mut self, now: u64, drawn: u64)
         requires moment { IsMoment now }
         requires span { drawn < 2 ^ 62 }
@@ -32,11 +32,11 @@ impl Params {
     }
 }
 
-/// The least and the greatest ReachableTime that may be drawn for a base, all in milliseconds: half of it and one and a half of it
-/// (RFC 4861, section 6.3.2), both rounded down.
+/// Returns the least and the greatest ReachableTime that may be drawn for a base, all in milliseconds: half of it and one and a half of it (RFC
+/// 4861, section 6.3.2), both rounded down.
 pub fn reachable_range(base: u32) -> (u64, u64)
     ensures value { result ≡ reachable_range base }
-    // What may be drawn for a base is a ReachableTime that `new`, `heard_ra` and `redrawn` take.
+    // `new`, `heard_ra` and `redrawn` take any ReachableTime that may be drawn for a base.
     ensures below { (value : ℕ) → MayBeDrawn base value → value < 2 ^ 62 }
 {
     let base = u64::from(base);

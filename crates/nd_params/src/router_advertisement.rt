@@ -12,7 +12,7 @@ use nd_addr::{ETHERNET_MTU, LEAST_MTU};
 use nd_decode::{OPTION_MTU, OptionRef, Options, RouterAdvertisement};
 
 impl Params {
-    /// Whether a Router Advertisement changes the base, so that ReachableTime has to be drawn (RFC 4861, section 6.3.4).
+    /// Returns true if a Router Advertisement changes the base, so that ReachableTime must be drawn (RFC 4861, section 6.3.4).
     pub fn redraws(&self, ra: &RouterAdvertisement) -> bool
         ensures value { result ≡ redraws self.now.base_reachable_time ra.now.reachable_time }
         ensures changes { (history : List Row) (options : List Said) → Stands self.now history → result ≡ not (base_of (Heard ra.now options ∷ history) == base_of history) }
@@ -20,8 +20,8 @@ impl Params {
         ra.reachable_time != 0 && ra.reachable_time != self.base_reachable_time
     }
 
-    /// A Router Advertisement is heard at a moment (RFC 4861, section 6.3.4). Where it changes the base, which `redraws` tells, a new
-    /// ReachableTime was drawn. Moment and ReachableTime are in milliseconds.
+    /// Takes a Router Advertisement at `now` (RFC 4861, section 6.3.4). If it changes the base, as `redraws` says, `drawn` is the new
+    /// ReachableTime. Both are in milliseconds.
     pub fn heard_ra(
         &mut self,
         now: u64,
@@ -52,7 +52,7 @@ impl Params {
     }
 }
 
-/// The first MTU option.
+/// Returns the first MTU option.
 #[tactic(auto, using(crate::proofs::OfType::first_mtu_from))]
 fn first_mtu(options: Options<'_>) -> Option<u32>
     ensures { result ≡ first_mtu (options_left options.entry) }
@@ -66,7 +66,7 @@ fn first_mtu(options: Options<'_>) -> Option<u32>
     None
 }
 
-/// The MTU behind these options, of which the first one counts, if the link can have it.
+/// Returns the MTU after these options: that of the first MTU option if the link can have it, and otherwise `before`.
 fn mtu_after(options: Options<'_>, before: u32) -> u32
     requires { before ≤ ethernet_mtu }
     ensures most { result ≤ ethernet_mtu }

@@ -7,7 +7,7 @@ ghost use Rattle.nd_params.specs.Params.{Stands};
 use crate::params::Params;
 
 impl Params {
-    /// CurHopLimit.
+    /// Returns CurHopLimit.
     pub fn hop_limit(&self) -> u8
         ensures value { result ≡ self.now.hop_limit }
         ensures by_history { (history : List Row) → Stands self.now history → result ≡ hop_limit_of history }
@@ -15,7 +15,7 @@ impl Params {
         self.hop_limit
     }
 
-    /// LinkMTU, in bytes.
+    /// Returns LinkMTU, in bytes.
     pub fn mtu(&self) -> u32
         ensures value { result ≡ self.now.mtu }
         ensures most { result ≤ ethernet_mtu }
@@ -24,7 +24,7 @@ impl Params {
         self.mtu
     }
 
-    /// BaseReachableTime, in milliseconds.
+    /// Returns BaseReachableTime, in milliseconds.
     pub fn base_reachable_time(&self) -> u32
         ensures value { result ≡ self.now.base_reachable_time }
         ensures by_history { (history : List Row) → Stands self.now history → result ≡ base_of history }
@@ -32,7 +32,7 @@ impl Params {
         self.base_reachable_time
     }
 
-    /// ReachableTime, in milliseconds.
+    /// Returns ReachableTime, in milliseconds.
     pub fn reachable_time(&self) -> u64
         ensures value { result ≡ self.now.reachable_time }
         ensures below { result < 2 ^ 62 }
@@ -41,7 +41,7 @@ impl Params {
         self.reachable_time
     }
 
-    /// RetransTimer, in milliseconds.
+    /// Returns RetransTimer, in milliseconds.
     pub fn retrans_timer(&self) -> u32
         ensures value { result ≡ self.now.retrans_timer }
         ensures positive { 0 < result }
@@ -50,7 +50,7 @@ impl Params {
         self.retrans_timer
     }
 
-    /// Whether addresses are to be had by DHCPv6: the flag M of the last Router Advertisement (RFC 4861, section 4.2).
+    /// Returns true if addresses are available by DHCPv6: the flag M of the last Router Advertisement (RFC 4861, section 4.2).
     pub fn managed(&self) -> bool
         ensures value { result ≡ self.now.managed }
         ensures by_history { (history : List Row) → Stands self.now history → result ≡ managed_of history }
@@ -58,7 +58,7 @@ impl Params {
         self.managed
     }
 
-    /// Whether other configuration is to be had by DHCPv6: the flag O of the last Router Advertisement (RFC 4861, section 4.2).
+    /// Returns true if other configuration is available by DHCPv6: the flag O of the last Router Advertisement (RFC 4861, section 4.2).
     pub fn other(&self) -> bool
         ensures value { result ≡ self.now.other }
         ensures by_history { (history : List Row) → Stands self.now history → result ≡ other_of history }

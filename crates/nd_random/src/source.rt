@@ -4,7 +4,7 @@ use rand_core::utils::NextWord;
 use rand_core::{Rng, SeedableRng, utils};
 use rand_pcg::Pcg32;
 
-/// Where the random words of a node come from.
+/// The source of the random words of a node.
 #[derive(Drop)]
 pub enum Source {
     /// The generator PCG32.

@@ -7,20 +7,20 @@ use std::cell::Cell;
 /// No request is refused.
 const NONE: u64 = 0;
 
-/// What is counted. A sum stays at the greatest number of 64 bits where it would pass it.
+/// The counts of an allocator. A sum that would pass the greatest number of 64 bits stays there.
 #[derive(Clone, Copy)]
 struct Counts {
     /// The number of the request that is refused, counted from 1 at the next one, or `NONE`.
     left: u64,
-    /// How many requests were passed on.
+    /// The number of requests passed on.
     requests: u64,
-    /// How many bytes these asked for in all.
+    /// The number of bytes of these requests in all.
     bytes: u64,
-    /// How many of these bytes were not given back.
+    /// The number of these bytes that were not returned.
     held: u64,
 }
 
-/// Passes requests on to another allocator, counts them, and refuses one of them when it is told to.
+/// Passes requests on to another allocator, counts them, and refuses one of them on demand.
 pub struct Refusing<B: Allocator> {
     inner: B,
     counts: Cell<Counts>,
@@ -47,22 +47,22 @@ impl<B: Allocator> Refusing<B> {
         self.counts.set(counts);
     }
 
-    /// Returns true if a request that is to be refused hasn't been made yet.
+    /// Returns true if a request that will be refused hasn't been made yet.
     pub fn is_waiting(&self) -> bool {
         self.counts.get().left != NONE
     }
 
-    /// Returns how many requests were passed on.
+    /// Returns the number of requests passed on.
     pub fn requests(&self) -> u64 {
         self.counts.get().requests
     }
 
-    /// Returns how many bytes these requests asked for in all. A block that grows asks for its new length.
+    /// Returns the number of bytes of these requests in all. A block that grows asks for its new length.
     pub fn bytes(&self) -> u64 {
         self.counts.get().bytes
     }
 
-    /// Returns how many of these bytes were not given back. It is too great if the inner allocator refused a request.
+    /// Returns the number of these bytes that were not returned. It is too great if the inner allocator refused a request.
     pub fn held(&self) -> u64 {
         self.counts.get().held
     }
@@ -77,7 +77,7 @@ impl<B: Allocator> Drop for Refusing<B> {
     }
 }
 
-/// Counts a block of `size` bytes that is given back.
+/// Counts a block of `size` bytes that is returned.
 fn give_back(counts: &Cell<Counts>, size: usize) {
     let mut after = counts.get();
     after.held = after.held.saturating_sub(size as u64);

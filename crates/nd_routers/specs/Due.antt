@@ -1,10 +1,10 @@
--- What falls due of the routers, asked of what happened: a router leaves when its lifetime ends (RFC 4861, section 6.3.5).
+-- What is due of the routers, asked of what happened: a router leaves when its lifetime ends (RFC 4861, section 6.3.5).
 use Rattle.std.specs.Prelude.{◌≡◌, ℕ, ◌≤◌, List, Option, Some, None}
 use Rattle.nd_table.specs.Announcements.{end_of}
 use Rattle.nd_routers.specs.History.{RouterRow, announcements}
 use Rattle.nd_routers.specs.Routers.{same}
 
--- the router's end comes at this moment, and it hasn't left yet
+-- the router's lifetime ends at this moment, and it hasn't left yet
 abbrev pub IsDue : List RouterRow → ℕ → ℕ → Type 0
 IsDue history moment key = end_of same key (announcements history) ≡ Some (Some moment)
 

@@ -1,4 +1,4 @@
--- The dates at which the routers' lifetimes end, kept in their order beside them.
+-- The dates at which the routers' lifetimes end, kept in their order next to them.
 use Rattle.std.specs.Prelude.{ℕ, List, Option}
 use Rattle.nd_table.specs.Dates.{Planned, AreDates}
 use Rattle.nd_table.specs.declared.lasting.Lasting.{Lasting}

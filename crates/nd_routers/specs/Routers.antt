@@ -40,11 +40,11 @@ GainsRow = growing.GainsRow Stands
 abbrev pub next_end : List (Lasting ℕ) → Option ℕ
 next_end es = least_date (λ e. e.end) es
 
--- the key, if its end comes at this moment
+-- the key, if it ends at this moment
 abbrev pub key_at : ℕ → Lasting ℕ → Option ℕ
 key_at now e = if is_at now e.end then Some e.key else None
 
--- the least key whose end comes at this moment
+-- the least key that ends at this moment
 abbrev pub first_due : ℕ → List (Lasting ℕ) → Option ℕ
 first_due now es = least_date (key_at now) es
 

@@ -18,12 +18,12 @@ pub record Seen : Type 0 where
 abbrev pub seen : ℕ → (ℕ → Preference) → Lasting ℕ → Seen
 seen now preference e = record { key = e.key; left = time_left now e.end; preference = preference e.key }
 
--- the list shows the routers that the history tells of, as they are at the moment, in the order in which they arrived
+-- the list shows the routers that the history gives, as they are at the moment, in the order in which they arrived
 abbrev pub Shows : List RouterRow → ℕ → List Seen → Type 0
 Shows history now shown =
     (entries : List (Lasting ℕ)) × Lists same (announcements history) now entries × (shown ≡ map (seen now (λ key. preference_of key history)) entries)
 
--- the same of what is kept: those that haven't ended, each with the preference that stands in its place
+-- the same of what is kept: those that haven't ended, each with the preference at its place
 abbrev pub seen_beside : ℕ → List (Lasting ℕ) → List Preferred → List Seen
 seen_beside now [] ps = []
 seen_beside now (e ∷ es) [] = []

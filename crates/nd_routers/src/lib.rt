@@ -1,5 +1,5 @@
-//! The default routers of a host and the prefixes of its link (RFC 4861, section 6.3.4). The parameters of the link, and the DNS servers
-//! and search names (RFC 8106) are given on.
+//! The default routers of a host and the prefixes of its link (RFC 4861, section 6.3.4). The crate re-exports the parameters of the link, and the
+//! DNS servers and search names (RFC 8106).
 #![tactic(auto)]
 
 mod due;

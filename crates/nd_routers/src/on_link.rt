@@ -17,7 +17,7 @@ use std::alloc::Allocator;
 impl<A: Allocator> Prefixes<A> {
     ghost use Rattle.nd_routers.specs.OnLink.{least_end, is_held};
 
-    /// Returns true if an address is on the link at `now`, in milliseconds: in a prefix that stands, or in fe80::/64 (RFC 4861, section 5.2).
+    /// Returns true if an address is on the link at `now`, in milliseconds: in a prefix that hasn't ended, or in fe80::/64 (RFC 4861, section 5.2).
     pub fn on_link(&self, now: u64, address: Addr) -> bool
         ensures value { result ≡ is_held address.0 (open_at now self.now) }
         ensures by_history { (history : List (Row PrefixValue)) (es : List (Lasting PrefixValue)) → Stands same_prefix self.now history → last_moment history ≤ now → Lists same_prefix history now es → result ≡ is_held address.0 es }
@@ -54,14 +54,14 @@ pub(crate) fn is_link_local(address: Addr) -> bool
     holds(&Prefix::link_local_subnet(), address.to_bits())
 }
 
-/// Returns true if a prefix that stands holds an address.
+/// Returns true if a prefix that hasn't ended holds an address.
 pub(crate) fn is_held(entries: &[Lasting<Prefix>], now: u64, address: Addr) -> bool
     ensures { result ≡ list_any (λ e. holds e.key address.0) (open_at now entries.now) }
 {
     any_holds(entries, now, address.to_bits())
 }
 
-/// Returns true if a prefix that stands holds the address of a number.
+/// Returns true if a prefix that hasn't ended holds the address of a number.
 fn any_holds(entries: &[Lasting<Prefix>], now: u64, number: u128) -> bool
     ensures { result ≡ list_any (λ e. nat_eq (number / 2 ^ (128 - e.key.length)) (number_of e.key.address.0 / 2 ^ (128 - e.key.length))) (open_at now entries.now) }
 {
@@ -73,7 +73,7 @@ fn any_holds(entries: &[Lasting<Prefix>], now: u64, number: u128) -> bool
     false
 }
 
-/// Returns the earliest end of the prefixes that stand.
+/// Returns the earliest end of the prefixes that haven't ended.
 pub(crate) fn least_end(entries: &[Lasting<Prefix>], now: u64) -> Option<u64>
     ensures { result ≡ least_end (open_at now entries.now) }
 {

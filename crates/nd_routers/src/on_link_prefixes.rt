@@ -19,8 +19,8 @@ use std::alloc::Allocator;
 impl<A: Allocator> Prefixes<A> {
     ghost use Rattle.nd_routers.specs.OnLinkPrefixes.{prefixes_in};
 
-    /// Returns true if there is room for the prefixes that the options of a Router Advertisement announce at a moment in milliseconds, taken
-    /// in order: then `heard_ra` isn't refused. It takes no memory.
+    /// Returns true if there is room for the prefixes that the options of a Router Advertisement announce at `now`, in milliseconds, taken in
+    /// order: then `heard_ra` isn't refused. It takes no memory.
     pub fn fits(&self, now: u64, options: Options<'_>) -> bool
         ensures value { result ≡ fits same_prefix max_prefixes now (prefixes_in (options_left options.entry)) self.now }
         ensures by_history { (history : List (Row PrefixValue)) (es : List (Entry PrefixValue)) → Stands same_prefix self.now history → last_moment history ≤ now → Lists same_prefix history now es
@@ -29,17 +29,16 @@ impl<A: Allocator> Prefixes<A> {
         fits_all(&self.entries, MAX_PREFIXES, now, OnLink { options })
     }
 
-    /// Returns true if the options of a Router Advertisement only refresh prefixes that are on the link at a moment, in milliseconds: they
-    /// enter none and remove none. It takes no memory.
+    /// Returns true if the options of a Router Advertisement only refresh prefixes that are on the link at `now`, in milliseconds: they add none
+    /// and remove none. It takes no memory.
     pub fn only_refreshes(&self, now: u64, options: Options<'_>) -> bool
         ensures { result ≡ only_refreshes same_prefix now (prefixes_in (options_left options.entry)) self.now }
     {
         only_refreshes(&self.entries, now, OnLink { options })
     }
 
-    /// The options of a Router Advertisement are heard at a moment in milliseconds, in order (RFC 4861, section 6.3.4): a prefix that is
-    /// on the link enters or is refreshed, and a valid lifetime of 0 removes it. `Full` comes where the prefixes are too many at some
-    /// point. It takes no memory.
+    /// Takes the options of a Router Advertisement at `now`, in milliseconds, in order (RFC 4861, section 6.3.4): a prefix that is on the link
+    /// enters or is refreshed, and a valid lifetime of 0 removes it. Returns `Full` if the prefixes are too many at some point. It takes no memory.
     pub fn heard_ra(&mut self, now: u64, options: Options<'_>) -> Result<(), TableRefusal>
         requires moment { IsMoment now }
 
@@ -47,7 +46,7 @@ impl<A: Allocator> Prefixes<A> {
             → Stands same_prefix self.new (then_announced now (prefixes_in (options_left options.entry)) history)) }
         ensures value { OnOk result (self.new ≡ announced_all same_prefix now (prefixes_in (options_left options.entry)) self.old) }
 
-        // It is refused exactly where the prefixes, taken in order, are too many at some point.
+        // It is refused exactly if the prefixes, taken in order, are too many at some point.
         ensures full { IsErr result ↔ (fits same_prefix max_prefixes now (prefixes_in (options_left options.entry)) self.old ≡ false) }
         ensures refusal { IfErr result (λ refusal. refusal ≡ TableRefusal.Full Limit.Prefixes) }
         ensures same { OnErr result (self.new ≡ self.old) }
@@ -110,7 +109,7 @@ impl Announces<Prefix, Prefix> for OnLink<'_> {
     }
 }
 
-/// Whether an option says that its prefix is on the link. What is said of link-local and multicast ones isn't taken.
+/// Returns true if an option says that its prefix is on the link. Link-local and multicast prefixes aren't taken.
 fn is_on_link(info: &PrefixInfo) -> bool
     ensures { result ≡ is_on_link info.now }
 {

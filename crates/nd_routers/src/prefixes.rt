@@ -13,10 +13,10 @@ use nd_table::{Lasting, WithLifetimes};
 use std::alloc::{AllocError, Allocator};
 use std::marker::Model;
 
-/// How many prefixes may be on the link (our choice).
+/// The most prefixes on the link (our choice).
 pub(crate) const MAX_PREFIXES: usize = 64;
 
-/// The prefixes that are on the link, in the order in which they came (RFC 4861, section 5.1).
+/// The prefixes that are on the link, in the order in which they were added (RFC 4861, section 5.1).
 #[derive(Drop)]
 pub struct Prefixes<A: Allocator> {
     pub(crate) entries: Vec<Lasting<Prefix>, A>,
@@ -39,7 +39,7 @@ impl<A: Allocator> Model for Prefixes<A> {
 }
 
 impl<A: Allocator> Prefixes<A> {
-    /// No prefixes, with room for 64. All of it is reserved here; the error is out of memory.
+    /// Returns an empty list with room for 64 prefixes, all of it reserved here. Returns an error if out of memory.
     pub fn new(alloc: A) -> Result<Self, AllocError>
         ensures empty { IfOk result (λ prefixes. prefixes ≡ []) }
         ensures stands { IfOk result (λ prefixes. Stands same_prefix prefixes []) }
@@ -58,7 +58,7 @@ impl<A: Allocator> Prefixes<A> {
         WithLifetimes::new(&self.entries, now)
     }
 
-    /// How many prefixes there are whose end hasn't been told, at most 64.
+    /// Returns the number of prefixes in the list, at most 64. Those that have ended but weren't yet removed are counted.
     pub fn len(&self) -> usize
         ensures value { result ≡ length self.now }
         ensures few { result ≤ max_prefixes }
@@ -66,7 +66,7 @@ impl<A: Allocator> Prefixes<A> {
         self.entries.len()
     }
 
-    /// No prefix is on the link from now on, but for fe80::/64.
+    /// Removes all prefixes from the list. fe80::/64 is still on the link.
     pub fn clear(&mut self)
         ensures value { self.new ≡ [] }
         ensures stands { (at : ℕ) (history : List (Row PrefixValue)) → Stands same_prefix self.new (Cleared at ∷ history) }

@@ -21,14 +21,14 @@ impl Model for Router {
 }
 
 impl Router {
-    /// The router of an address.
+    /// Returns the router of an address.
     pub(crate) fn of(addr: Addr) -> Router
         ensures { result ≡ number_of addr.0 }
     {
         Router { addr }
     }
 
-    /// Its address.
+    /// Returns its address.
     pub fn addr(&self) -> Addr
         ensures { number_of result.0 ≡ self.now }
     {

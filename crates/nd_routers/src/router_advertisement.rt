@@ -20,7 +20,7 @@ use std::alloc::Allocator;
 /// What a Router Advertisement does to the list of default routers.
 #[derive(Clone, Copy, Debug, PartialEq, Eq)]
 pub enum Change {
-    /// The router comes into the list.
+    /// The router enters the list.
     Entered,
     /// It stays, with another end.
     Refreshed,
@@ -35,8 +35,8 @@ impl<A: Allocator> Routers<A> {
     ghost use Rattle.nd_routers.specs.Routers.{same, Stands, GainsRow, IsSettled};
     ghost use Rattle.nd_routers.specs.RouterAdvertisement.{change_of};
 
-    /// Returns true if there is room for a router that announces itself at a moment in milliseconds, for a lifetime in seconds: then
-    /// `heard_ra` isn't refused. It takes no memory.
+    /// Returns true if there is room for a router that announces itself at `now`, in milliseconds, for a lifetime in seconds: then `heard_ra` isn't
+    /// refused. It takes no memory.
     pub fn fits(&self, now: u64, source: Addr, lifetime: u16) -> bool
         ensures value { result ≡ fits same self.now.limit now ((number_of source.0, lifetime) ∷ []) self.now.entries }
         ensures by_history { (history : List RouterRow) (es : List (Lasting ℕ)) → Stands self.now history → Lists same (announcements history) now es
@@ -45,9 +45,9 @@ impl<A: Allocator> Routers<A> {
         fits_one(&self.entries, self.limit, now, source, lifetime)
     }
 
-    /// Takes a router that announces itself at a moment in milliseconds, for a lifetime in seconds, with its preference (RFC 4861, section
-    /// 6.3.4; RFC 4191, section 2.2): it enters the list or is refreshed, and a lifetime of 0 removes it, whatever its preference. Returns
-    /// `Full` if it is one too many; the list is unchanged. It takes no memory.
+    /// Takes a router that announces itself at `now`, in milliseconds, for a lifetime in seconds, with its preference (RFC 4861, section 6.3.4; RFC
+    /// 4191, section 2.2): it enters the list or is refreshed, and a lifetime of 0 removes it, with any preference. Returns `Full` if it is one too
+    /// many; the list is unchanged. It takes no memory.
     ///
     /// The end of no router may be overdue: the caller asks `next_due`, and calls `turn` first.
     pub fn heard_ra(
@@ -69,7 +69,7 @@ impl<A: Allocator> Routers<A> {
         ensures change { IfOk result (λ change. (history : List RouterRow) → Stands self.old history
             → change ≡ change_of (stands same (number_of source.0) (announcements history) now) (stands same (number_of source.0) (announcements (Heard now (number_of source.0) lifetime preference ∷ history)) now)) }
 
-        // It is refused exactly where the router is one too many.
+        // It is refused exactly if the router is one too many.
         ensures full { IsErr result ↔ (fits same self.old.limit now ((number_of source.0, lifetime) ∷ []) self.old.entries ≡ false) }
         ensures refusal { IfErr result (λ refusal. refusal ≡ TableRefusal.Full Limit.Routers) }
         ensures same { OnErr result (self.new ≡ self.old) }
@@ -122,7 +122,7 @@ impl<A: Allocator> Routers<A> {
     }
 }
 
-/// Whether there is room for a router that announces itself.
+/// Returns true if there is room for a router that announces itself.
 fn fits_one(
     entries: &[Lasting<Router>],
     limit: usize,
@@ -139,7 +139,7 @@ fn fits_one(
     lifetime == 0 || count(entries, now) < limit
 }
 
-/// What changes where a router was listed before or not, and is then or not.
+/// Returns what has changed. `before` and `after`: the router was listed before, is listed then.
 pub(crate) fn change_by(before: bool, after: bool) -> Change
     ensures { result ≡ change_of before after }
 {

@@ -16,9 +16,9 @@ use std::alloc::Allocator;
 #[derive(Clone, Copy, Debug, PartialEq, Eq)]
 pub struct Listed {
     pub addr: Addr,
-    /// How it is preferred (RFC 4191, section 2.2).
+    /// Its preference (RFC 4191, section 2.2).
     pub preference: Preference,
-    /// If it failed since it came, its place among those that did, by their last failures, the oldest first.
+    /// If it failed since it entered the list, its place among the routers that did, by their last failures, the oldest first.
     pub failed: Option<u64>,
 }
 
@@ -27,8 +27,8 @@ impl<A: Allocator> Routers<A> {
     ghost use Rattle.nd_routers.specs.Routers.{Stands, GainsRow, keys};
     ghost use Rattle.nd_routers.specs.RouterFailures.{place_among, FailsAt};
 
-    /// A router can't be reached: its failure is noted, if it is in the list, so that it is chosen last (RFC 4861, section 6.3.6). It
-    /// takes no memory.
+    /// Notes the failure of a router that can't be reached, if it is in the list, so that it is chosen last (RFC 4861, section 6.3.6). It takes no
+    /// memory.
     pub fn failed(&mut self, source: Addr)
         ensures stands { (at : ℕ) → GainsRow self.old self.new (Failed at (number_of source.0)) }
         ensures entries { self.new.entries ≡ self.old.entries }
@@ -45,7 +45,7 @@ impl<A: Allocator> Routers<A> {
         }
     }
 
-    /// A router by its number in the list, from 0 on. It takes no memory.
+    /// Returns a router by its number in the list, from 0 on. It takes no memory.
     pub fn at(&self, i: usize) -> Option<Listed>
         ensures value { option_map (λ l. number_of l.addr.0) result ≡ slice_get (keys self.now.entries) i }
         ensures preference { IfSome result (λ l. l.preference ≡ preference_among (number_of l.addr.0) self.now.preferences) }
@@ -62,7 +62,7 @@ impl<A: Allocator> Routers<A> {
     }
 }
 
-/// The router has no failure from now on.
+/// Removes the failure of a router.
 pub(crate) fn forget<A: Allocator>(failed: &mut Vec<Router, A>, addr: Addr)
     ensures items { failed.new.items ≡ others (number_of addr.0) failed.old.items }
     ensures shorter { vec_len failed.new ≤ vec_len failed.old }
@@ -71,7 +71,7 @@ pub(crate) fn forget<A: Allocator>(failed: &mut Vec<Router, A>, addr: Addr)
     failed.retain(|router| !compare(router.addr(), addr).is_eq());
 }
 
-/// The place of the router, counted from 0.
+/// Returns the place of a router, counted from 0.
 pub(crate) fn place(failed: &[Router], addr: Addr) -> Option<u64>
     ensures { result ≡ place_among (number_of addr.0) failed.now }
 {

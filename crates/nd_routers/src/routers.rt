@@ -10,14 +10,14 @@ use nd_table::{Lasting, Schedule, stands};
 use std::alloc::{AllocError, Allocator};
 use std::marker::Model;
 
-/// The most default routers that a list may have room for (our choice).
+/// The greatest limit on default routers (our choice).
 pub const MAX_ROUTERS: usize = 64;
 
 /// The default routers, in the order in which they arrived (RFC 4861, section 5.1).
 #[derive(Drop)]
 pub struct Routers<A: Allocator> {
     pub(crate) entries: Vec<Lasting<Router>, A>,
-    /// How they are preferred, in the same order.
+    /// Their preferences, in the same order.
     pub(crate) preferences: Vec<Preferred, A>,
     /// The dates at which their lifetimes end.
     pub(crate) dates: Schedule<A>,
@@ -43,7 +43,7 @@ impl<A: Allocator + Clone> Routers<A> {
     ghost use Rattle.nd_routers.specs.History.{RouterRow};
     ghost use Rattle.nd_routers.specs.Routers.{max_routers, Stands, then_left, keys};
 
-    /// Returns an empty list with room for `limit` routers, 1 to 64, all of it reserved here. The error is out of memory.
+    /// Returns an empty list with room for `limit` routers, 1 to 64, all of it reserved here. Returns an error if out of memory.
     pub fn new(alloc: A, limit: usize) -> Result<Self, AllocError>
         requires least { 1 ≤ limit }
         requires most { limit ≤ max_routers }

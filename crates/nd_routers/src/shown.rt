@@ -47,7 +47,7 @@ pub struct DefaultRouters<'a> {
 impl<'a> DefaultRouters<'a> {
     ghost use Rattle.nd_routers.specs.Left.{routers_left};
 
-    /// Returns those of these entries, with these preferences, that haven't ended by a moment in milliseconds.
+    /// Returns the routers of these entries, with these preferences, that haven't ended at `moment`, in milliseconds.
     fn new(entries: &'a [Lasting<Router>], preferences: &'a [Preferred], moment: u64) -> Self
         ensures { routers_left result ≡ seen_beside moment entries.entry.now preferences.entry.now }
     {

@@ -1,5 +1,4 @@
-//! The domain names of a search list as a message of Neighbor Discovery has them (RFC 8106, section 5.2): borrowed over their bytes,
-//! with no memory taken.
+//! The domain names of a search list in a message of Neighbor Discovery (RFC 8106, section 5.2): borrowed over their bytes, with no memory taken.
 #![tactic(auto)]
 
 mod name_ref;

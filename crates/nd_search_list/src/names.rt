@@ -14,11 +14,11 @@ pub struct Names<'a> {
 }
 
 impl<'a> Names<'a> {
-    /// The names in the data of a DNS Search List behind its lifetime: at least one name, and then zeros to the end, or nothing (RFC
-    /// 8106, section 5.2). Names are not compressed. There are none where a label has another byte than letters, digits, hyphens and underscores or is longer than 63 bytes, a name is longer
-    /// than 255 bytes with its zero byte or runs out, or the padding has another byte.
+    /// Returns the names in the data of a DNS Search List after its lifetime: at least one name, and then zeros to the end, or nothing (RFC 8106,
+    /// section 5.2). Names are not compressed. Returns `None` if a label has another byte than letters, digits, hyphens and underscores or is
+    /// longer than 63 bytes, if a name is longer than 255 bytes with its zero byte or is not complete, or if the padding has another byte.
     pub fn read(bytes: &'a [u8]) -> Option<Names<'a>>
-        // What is answered is spelled so, and where some names are spelled, these are answered.
+        // Names that are returned are spelled by the bytes, and if the bytes spell names, these are returned.
         ensures found { IfSome result (λ n. SpellsNames bytes.entry.now (names_left n)) }
         ensures only { (ns : List (List ℕ)) → SpellsNames bytes.entry.now ns → IsSomeAnd result (λ n. names_left n ≡ ns) }
         // The same by functions.
@@ -27,7 +27,7 @@ impl<'a> Names<'a> {
         Names::read_exactly(bytes)
     }
 
-    /// How many names there are.
+    /// Returns the number of names.
     #[tactic(auto, using(crate::proofs::Walk::names_in_step, crate::proofs::Walk::names_in_stop))]
     pub fn len(&self) -> usize
         ensures { result ≡ length (names_left self.now) }
@@ -41,7 +41,7 @@ impl<'a> Names<'a> {
         count
     }
 
-    /// The same, by the functions that decide it.
+    /// Returns the same, by the functions that decide it.
     #[tactic(auto, using(crate::proofs::Deciding::fewer_left, crate::proofs::Deciding::all_left))]
     fn read_exactly(bytes: &'a [u8]) -> Option<Names<'a>>
         ensures { MatchOption result (spells_names bytes.entry.now ≡ false) (λ n. (spells_names bytes.entry.now ≡ true) × (names_left n ≡ names_in bytes.entry.now)) }
@@ -72,7 +72,7 @@ impl<'a> Iterator for Names<'a> {
     }
 }
 
-/// The first name, and the bytes behind its zero byte, if they begin with one.
+/// Returns the first name, and the bytes after its zero byte, if they begin with one.
 fn split_name(bytes: &[u8]) -> Option<(NameRef<'_>, &[u8])>
     ensures { MatchOption result (name_length bytes.now ≡ 0) (λ p. (0 < name_length bytes.now)
         × (bytes_of p.0 ≡ take (name_length bytes.now) bytes.now) × (p.1.now ≡ drop (name_length bytes.now + 1) bytes.now) × (length p.1.now < length bytes.now)) }
@@ -85,7 +85,7 @@ fn split_name(bytes: &[u8]) -> Option<(NameRef<'_>, &[u8])>
     Some((NameRef::new(&bytes[..length]), rest))
 }
 
-/// The bytes where no more name begins.
+/// Returns the bytes after the last name.
 #[tactic(auto, using(crate::proofs::Walk::rest_in_step, crate::proofs::Walk::rest_in_stop))]
 fn rest_in(bytes: &[u8]) -> &[u8]
     ensures { result.now ≡ rest_in bytes.now }

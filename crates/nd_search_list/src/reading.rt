@@ -3,14 +3,14 @@ ghost use Rattle.nd_search_list.specs.Label.{is_sign};
 ghost use Rattle.nd_search_list.specs.Name.{IsName, lowered};
 ghost use Rattle.nd_search_list.specs.Reading.{labels_length, name_length, are_small, are_zeros, lowers_to, is_spelled};
 
-/// How many bytes a label has at most (RFC 1035, section 2.3.4).
+/// The most bytes of a label (RFC 1035, section 2.3.4).
 const LONGEST_LABEL: u8 = 63;
 
-/// How many bytes a name has at most before its zero byte, with which they are 255 (RFC 1035, section 2.3.4).
+/// The most bytes of a name before its zero byte, with which they are 255 (RFC 1035, section 2.3.4).
 const LONGEST_NAME: usize = 254;
 
-/// Whether a byte may stand in a label: a letter, a digit or a hyphen (RFC 1035, section 2.3.1), or an underscore (our choice, since
-/// names of services have it: RFC 8552). Where hyphens stand is not looked at (our choice).
+/// Returns true if a label may have this byte: a letter, a digit or a hyphen (RFC 1035, section 2.3.1), or an underscore (our choice, since names
+/// of services have it: RFC 8552). The places of hyphens are not looked at (our choice).
 fn is_sign(byte: u8) -> bool
     ensures { result ≡ is_sign byte }
 {
@@ -21,7 +21,7 @@ fn is_sign(byte: u8) -> bool
     byte.is_ascii_alphanumeric() || byte == b'-' || byte == b'_'
 }
 
-/// How many bytes whole labels have in front of some bytes; 0 where a label has another byte or runs out.
+/// Returns the number of bytes of the whole labels at the beginning of some bytes, or 0 if a label has another byte or is not complete.
 #[tactic(auto, unfolding(crate::specs::Reading::labels_length))]
 fn labels_length(bytes: &[u8]) -> usize
     ensures { result ≡ labels_length bytes.now }
@@ -46,7 +46,7 @@ fn labels_length(bytes: &[u8]) -> usize
     if left == 0 { before } else { 0 }
 }
 
-/// How many bytes the labels of the first name have, before its zero byte; 0 where the bytes begin with none.
+/// Returns the number of bytes of the labels of the first name, before its zero byte, or 0 if the bytes begin with none.
 #[tactic(auto, unfolding(crate::specs::Reading::name_length))]
 pub(crate) fn name_length(bytes: &[u8]) -> usize
     ensures value { result ≡ name_length bytes.now }
@@ -60,7 +60,7 @@ pub(crate) fn name_length(bytes: &[u8]) -> usize
     }
 }
 
-/// Whether there are no capital letters.
+/// Returns true if there are no capital letters.
 fn are_small(bytes: &[u8]) -> bool
     ensures { result ≡ are_small bytes.now }
 {
@@ -74,7 +74,7 @@ fn are_small(bytes: &[u8]) -> bool
     true
 }
 
-/// Whether the bytes are the labels of a name and nothing behind them.
+/// Returns true if the bytes are the labels of a name and nothing after them.
 #[tactic(auto, unfolding(crate::specs::Reading::is_spelled))]
 fn is_spelled(bytes: &[u8]) -> bool
     ensures { result ≡ is_spelled bytes.now }
@@ -82,15 +82,15 @@ fn is_spelled(bytes: &[u8]) -> bool
     !bytes.is_empty() && bytes.len() <= LONGEST_NAME && labels_length(bytes) == bytes.len()
 }
 
-/// Whether the bytes are a name in small letters: labels, at least one, each behind its length byte, 254 bytes at most (RFC 1035,
-/// section 3.1).
+/// Returns true if the bytes are a name in small letters: labels, at least one, each after its length byte, 254 bytes at most (RFC 1035, section
+/// 3.1).
 pub fn is_name(bytes: &[u8]) -> bool
     ensures { IsTrue result ↔ IsName bytes.now }
 {
     is_spelled(bytes) && are_small(bytes)
 }
 
-/// Whether there are only zeros.
+/// Returns true if there are only zeros.
 pub(crate) fn are_zeros(bytes: &[u8]) -> bool
     ensures { result ≡ are_zeros bytes.now }
 {
@@ -104,7 +104,7 @@ pub(crate) fn are_zeros(bytes: &[u8]) -> bool
     true
 }
 
-/// Whether the bytes in small letters are the others.
+/// Returns true if the bytes in small letters are the others.
 pub(crate) fn lowers_to(bytes: &[u8], others: &[u8]) -> bool
     ensures { result ≡ lowers_to bytes.now others.now }
 {
@@ -120,7 +120,7 @@ pub(crate) fn lowers_to(bytes: &[u8], others: &[u8]) -> bool
     left.is_empty()
 }
 
-/// Whether both are the same in small letters.
+/// Returns true if both are the same in small letters.
 pub(crate) fn are_same(bytes: &[u8], others: &[u8]) -> bool
     ensures { result ≡ lowers_to bytes.now (lowered others.now) }
 {

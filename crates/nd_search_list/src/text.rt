@@ -9,8 +9,8 @@ use crate::name_ref::NameRef;
 use std::alloc::{AllocError, Allocator};
 
 impl NameRef<'_> {
-    /// Writes its labels in small letters with dots between them (RFC 1035, section 2.3.1). The error is want of memory, and then the
-    /// text is as it was.
+    /// Appends its labels in small letters with dots between them (RFC 1035, section 2.3.1). Returns an error if out of memory; the text is
+    /// unchanged then.
     pub fn write_text<A: Allocator>(&self, text: &mut String<A>) -> Result<(), AllocError>
         ensures written { OnOk result (string_bytes text.new ≡ string_bytes text.old ++ name_text (name_of self.now)) }
         ensures kept { OnErr result (string_bytes text.new ≡ string_bytes text.old) }
@@ -26,7 +26,7 @@ impl NameRef<'_> {
     }
 }
 
-/// Writes what is left of the text, where so many bytes of a label are still to come. There is room for it, so this never fails.
+/// Appends the rest of the text, where `first` bytes of the current label are left. There is room for it, so this never fails.
 fn push_from<A: Allocator>(text: &mut String<A>, first: u8, bytes: &[u8]) -> Result<(), AllocError>
     requires low { AllByRecursion (λ byte. byte < 128) bytes.now }
     requires room { string_len text.old + length bytes.now ≤ string_capacity text.old }

@@ -139,7 +139,7 @@ impl Session {
         self.node.routes()
     }
 
-    /// Returns how many rows the tables have, which is never more than their limits.
+    /// Returns the number of rows of each table, which is never more than its limit.
     pub fn counts(&self) -> Counts
         ensures value { Counted self.now.node result }
         ensures within { (start : Start) (c : Chronicle) → Stands stream_of_source start self.now.node c → WithinLimits start.limits result }

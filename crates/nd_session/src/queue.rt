@@ -9,11 +9,12 @@ use std::marker::Model;
 /// What a node reported, with its moment in milliseconds.
 pub(crate) type Report = (u64, Out<Global>);
 
-/// For how many reports each part of a queue has room from the start (our choice): an event with no more of them takes no memory for them.
+/// The number of reports for which each part of a queue has room from the start (our choice): an event with no more of them takes no memory for
+/// them.
 const ROOM: usize = 16;
 
-/// Reports, the oldest first. A node appends to the back. The front is kept in reverse, so that the oldest report is at its end; when it is empty, the
-/// back becomes the front. So what it costs to take a report does not grow with their number.
+/// Reports, the oldest first. A node appends to the back. The front is kept in reverse, so that the oldest report is at its end; when it is empty,
+/// the back becomes the front. So what it costs to take a report does not grow with their number.
 #[derive(Drop)]
 pub struct Queue {
     front: Vec<Report, Global>,
@@ -31,7 +32,7 @@ impl Model for Queue {
 }
 
 impl Queue {
-    /// Returns an empty queue with room for `ROOM` reports. The error is out of memory.
+    /// Returns an empty queue with room for `ROOM` reports. Returns an error if out of memory.
     pub(crate) fn new(alloc: Global) -> Result<Queue, AllocError>
         ensures { IfOk result (λ queue. queue ≡ []) }
     {
@@ -41,7 +42,7 @@ impl Queue {
         })
     }
 
-    /// Returns how many reports there are.
+    /// Returns the number of reports.
     pub(crate) fn len(&self) -> usize
         ensures { result ≡ length self.now }
     {

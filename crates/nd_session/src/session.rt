@@ -17,8 +17,8 @@ use nd_random::Source;
 use nd_slaac::Transmits;
 use std::alloc::{AllocError, Global};
 
-/// A node, and the queue of what it reported and the caller has not taken yet, the oldest report first. Each moment is in milliseconds, from
-/// a beginning that is the caller's.
+/// A node, and the queue of its reports that the caller has not taken yet, the oldest first. Each moment is in milliseconds; the caller chooses
+/// where they begin.
 #[derive(Drop)]
 pub struct Session {
     pub(crate) node: Node<Source, Global>,
@@ -56,10 +56,10 @@ impl Session {
         self.node.next_due()
     }
 
-    /// Does all that is due up to `now`, in milliseconds, its own millisecond included, and then what the event asks for. The queue gains what
-    /// the node sends and reports.
+    /// Does all that is due up to `now`, in milliseconds, its own millisecond included, and then what the event asks for. The queue gains what the
+    /// node sends and reports.
     ///
-    /// The error is out of memory: then a part of what is due may have been done and reported, and the event has added nothing.
+    /// Returns an error if out of memory: a part of what is due may have been done and reported then, and the event has added nothing.
     pub fn event(&mut self, now: u64, event: &Event<Global>) -> Result<(), AllocError>
         requires { IsMoment now }
         ensures follows { OnOk result (Leads stream_of_source self.old.node self.new.node self.old.queue self.new.queue (FollowsBy now (event_of event.now))) }
@@ -68,8 +68,8 @@ impl Session {
         self.node.event(now, event, &mut self.queue.back)
     }
 
-    /// Does all that is due up to `now`, in milliseconds, its own millisecond included. The error is out of memory: then a part of it may have
-    /// been done and reported.
+    /// Does all that is due up to `now`, in milliseconds, its own millisecond included. Returns an error if out of memory: a part of it may have
+    /// been done and reported then.
     pub fn settle(&mut self, now: u64) -> Result<(), AllocError>
         requires { IsMoment now }
         ensures passes { OnOk result (Leads stream_of_source self.old.node self.new.node self.old.queue self.new.queue (Passes now)) }
@@ -79,7 +79,7 @@ impl Session {
         self.node.settle(now, &mut self.queue.back)
     }
 
-    /// Receives a frame, from its Ethernet destination on (RFC 2464, section 3), at `now`, in milliseconds. The frame stays the caller's and is
+    /// Receives a frame, from its Ethernet destination on (RFC 2464, section 3), at `now`, in milliseconds. The caller keeps the frame, which is
     /// not copied. Fails as `event` does.
     pub fn receive(&mut self, now: u64, frame: &[u8]) -> Result<(), AllocError>
         requires { IsMoment now }
@@ -114,7 +114,7 @@ impl Session {
         self.event(now, &Event::Sends(packet))
     }
 
-    /// Returns how many reports the caller has not taken yet.
+    /// Returns the number of reports that the caller has not taken yet.
     pub fn reports(&self) -> usize
         ensures { result ≡ length self.now.queue }
     {

@@ -7,8 +7,8 @@ use crate::handle::Handle;
 use crate::session::Session;
 use std::alloc::Global;
 
-/// A place for one session, which another language keeps where it likes and passes by a pointer: all zeros are a closed slot. It must not be
-/// copied, and an open one is closed by `take` before it goes: dropping it would leak its session.
+/// A slot for one session, which another language keeps in its own memory and passes by a pointer: all zeros are a closed slot. It must not be
+/// copied. An open one must be closed by `take` before it ends, since dropping it would leak its session.
 #[repr(C)]
 #[derive(Drop)]
 pub struct Slot {

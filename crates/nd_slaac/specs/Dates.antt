@@ -1,4 +1,4 @@
--- The same of what is kept: the dates of addresses, the first that falls due, and the next moment.
+-- The same of what is kept: the dates of addresses, the first that is due, and the next moment.
 use Rattle.std.specs.Prelude.{◌≡◌, ℕ, ◌+◌, ◌-◌, ◌<◌, nat_lt, if◌then◌else◌, List, [], ◌∷◌, length, slice_index_or, slice_set, Option, Some, None}
 use Rattle.std.specs.List.{remove}
 use Rattle.nd_table.specs.Due as due
@@ -31,7 +31,7 @@ first_at date now addresses = due.first_at date now addresses
 abbrev pub next_in : List Address → Option ℕ
 next_in addresses = least_date earlier addresses
 
--- nothing fell due before the moment
+-- nothing was due before the moment
 abbrev pub NoneBefore : List Address → ℕ → Type 0
 NoneBefore addresses now = NotBefore now (next_in addresses)
 
@@ -55,7 +55,7 @@ pub data Turns (transmits now : ℕ) (old new : List Address) (what : Falls) : T
   Goes : (at : ℕ) (a : Address) → at < length old → a ≡ slice_index_or old at a → first_at end_date now old ≡ Some a → what ≡ Ends a.key → new ≡ remove old at → Turns transmits now old new what
   Steps : (at : ℕ) (a : Address) → at < length old → a ≡ slice_index_or old at a → first_at end_date now old ≡ None → first_at next_step now old ≡ Some a → what ≡ falls_by transmits a.key a.stage → new ≡ slice_set old at (stepped transmits now a) → Turns transmits now old new what
 
--- nothing of the list falls due at the moment
+-- nothing of the list is due at the moment
 pub record Rests (now : ℕ) (addresses : List Address) : Type 0 where
   pub ends : first_at end_date now addresses ≡ None
   pub steps : first_at next_step now addresses ≡ None

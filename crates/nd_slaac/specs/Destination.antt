@@ -1,4 +1,4 @@
--- Whether a packet goes to an own address, or to the solicited-node address of one (RFC 4291, section 2.8).
+-- Whether a packet goes to one of the node's own addresses, or to the solicited-node address of one (RFC 4291, section 2.8).
 use Rattle.std.specs.Prelude.{◌≡◌, ◌⊎◌, ℕ, Bool, true, false, ◌&&◌, ◌||◌, ◌==◌, bytes_eq, slice_index, List, Option, Some, None}
 use Rattle.nd_addr.specs.declared.addr.Addr.{Addr}
 use Rattle.nd_addr.specs.Bytes.{AreBytes}
@@ -17,7 +17,7 @@ abbrev pub counts : Counted → Story → Bool
 counts Own s = is_tentative s || is_assigned s
 counts Assigned s = is_assigned s
 
--- an own address that counts is the destination, or has it as its solicited-node address
+-- one of the node's own addresses that counts is the destination, or has it as its solicited-node address
 pub record IsTo (counted : Counted) (history : List Row) (destination : Addr) : Type 0 where
   pub address : Addr
   pub bytes : AreBytes 16 address.0

@@ -1,11 +1,11 @@
--- What falls due, asked of what happened (RFC 4862, sections 5.4.2 and 5.5.4).
+-- What is due, asked of what happened (RFC 4862, sections 5.4.2 and 5.5.4).
 use Rattle.std.specs.Prelude.{◌≡◌, ℕ, ◌≤◌, ◌<◌, ◌⊎◌, true, List, Option, Some, None}
 use Rattle.nd_slaac.specs.History.{Row, Story, story, RowKind, Solicited, Assigned, Ended}
 use Rattle.nd_slaac.specs.Ends.{valid_end}
 use Rattle.nd_slaac.specs.State.{Forming, forming_of, is_known, is_tentative, sent_of}
 use Rattle.nd_slaac.specs.Address.{step_at}
 
--- an address falls due: its valid lifetime ends, a solicitation for it is to be sent, or it is assigned
+-- an address is due: its valid lifetime ends, a solicitation for it is to be sent, or it is assigned
 pub data Falls : Type 0 where
   Ends : (key : ℕ) → Falls
   Solicits : (key : ℕ) → Falls
@@ -42,13 +42,13 @@ NotAfter a b = (pass_of a < pass_of b) ⊎ ((pass_of a ≡ pass_of b) × (key_in
 
 -- how many solicitations a detection sends is the interface's own choice (RFC 4862, section 5.1, DupAddrDetectTransmits)
 module _ (transmits : ℕ) where
-  -- it falls due at the moment, and no row has come for it yet
+  -- it is due at the moment, and there is no row for it yet
   abbrev pub IsDue : List Row → ℕ → Falls → Type 0
   IsDue history moment (Ends key) = (is_known (story key history) ≡ true) × (valid_end (story key history) ≡ Some moment)
   IsDue history moment (Solicits key) = IsStep (story key history) moment × (sent_of (story key history) < transmits)
   IsDue history moment (Assigns key) = IsStep (story key history) moment × (transmits ≤ sent_of (story key history))
 
-  -- it falls due at the moment, and nothing that does comes before it
+  -- it is due at the moment, and nothing that is due then is before it
   pub record IsFirst (history : List Row) (moment : ℕ) (falls : Falls) : Type 0 where
     pub due : IsDue history moment falls
     pub first : (others : Falls) → IsDue history moment others → NotAfter falls others
@@ -57,7 +57,7 @@ module _ (transmits : ℕ) where
   FirstDue history moment None = (falls : Falls) → IsDue history moment falls → ⊥
   FirstDue history moment (Some falls) = IsFirst history moment falls
 
-  -- the moment is the first at which something falls due, if there is one
+  -- the moment is the first at which something is due, if there is one
   abbrev pub NextDue : List Row → Option ℕ → Type 0
   NextDue history None = (moment : ℕ) (falls : Falls) → IsDue history moment falls → ⊥
   NextDue history (Some next) = ((falls : Falls) × IsDue history next falls) × ((moment : ℕ) (falls : Falls) → IsDue history moment falls → next ≤ moment)

@@ -1,4 +1,4 @@
--- Histories: lists of rows of which each came where it may come, and what they say of an address that is assigned.
+-- Histories: lists of rows of which each is at a place where it is possible, and what they say of an address that is assigned.
 use Rattle.std.specs.Prelude.{◌≡◌, ℕ, ◌+◌, ◌*◌, ◌<◌, ◌≤◌, true, false, List, [], ◌∷◌, Option, Some}
 use Rattle.nd_slaac.specs.History.{Lifetimes, Row, story, Formed, Announced, Solicited, Conflict, Assigned, Ended}
 use Rattle.nd_slaac.specs.State.{is_known, is_tentative, is_assigned}
@@ -21,12 +21,12 @@ pub record Tried (key : ℕ) (history : List Row) (formed delay retrans sent : �
 
 -- a detection sends so many solicitations (RFC 4862, section 5.1, DupAddrDetectTransmits)
 module _ (transmits : ℕ) where
-  -- it is the first that falls due at the moment, and nothing was due before
+  -- it is the first that is due at the moment, and nothing was due before
   pub record IsTurn (history : List Row) (now : ℕ) (falls : Falls) : Type 0 where
     pub first : FirstDue transmits history now (Some falls)
     pub none_before : (moment : ℕ) (others : Falls) → IsDue transmits history moment others → now ≤ moment
 
-  -- a row may come on top of others: an address is formed where it isn't known, with a RetransTimer above 0; it is
+  -- a row is possible on top of others: an address is formed where it isn't known, with a RetransTimer above 0; it is
   -- announced where it is known, and has a conflict where it is tentative; all else comes at its date
   abbrev pub MayCome : Row → List Row → Type 0
   MayCome (at, key, Formed delay retrans lifetimes) history = (is_known (story key history) ≡ false) × (0 < retrans)

@@ -1,4 +1,4 @@
--- The dates of addresses, kept in their order beside them.
+-- The dates of addresses, kept in their order next to them.
 use Rattle.std.specs.Prelude.{◌≤◌, List}
 use Rattle.nd_table.specs.Keyed.{Rises}
 use Rattle.nd_table.specs.Dates.{Planned, AreDates}

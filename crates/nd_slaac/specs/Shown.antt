@@ -36,7 +36,7 @@ seen t a = record { key = a.key; state = state_at t a; preferred_left = time_lef
 abbrev pub seen_key : Seen → ℕ
 seen_key s = s.key
 
--- the list shows the addresses that the history tells of, as they are at the moment, in the order of their numbers
+-- the list shows the addresses that the history gives, as they are at the moment, in the order of their numbers
 pub record Lists (history : List Row) (now : ℕ) (shown : List Seen) : Type 0 where
   pub each : (key : ℕ) → at_key seen_key key shown ≡ seen_of key (story key history) now
   pub order : Rises seen_key shown

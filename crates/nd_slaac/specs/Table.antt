@@ -20,7 +20,7 @@ key_of a = a.key
 abbrev pub address_in : ℕ → List Address → Option Address
 address_in key addresses = at_key key_of key addresses
 
--- The addresses are those that the history tells of, each as its story says, in the order of their numbers.
+-- The addresses are those that the history gives, each as its story says, in the order of their numbers.
 pub record Stands (addresses : List Address) (history : List Row) : Type 0 where
   pub each : (key : ℕ) → address_in key addresses ≡ address_of key (story key history)
   pub order : Rises key_of addresses

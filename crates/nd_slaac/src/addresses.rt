@@ -1,3 +1,5 @@
+//! The addresses of an interface: their memory, their start and their number (RFC 4862, sections 5.3 and 5.4).
+
 ghost use Rattle.std.specs.Prelude.{◌≡◌, ◌≤◌, ◌<◌, [], ◌∷◌, None, length, vec_capacity};
 ghost use Rattle.nd_table.specs.Moment.{IsMoment};
 ghost use Rattle.nd_slaac.specs.Room.{max_addresses};

@@ -1,3 +1,5 @@
+//! The addresses for which a packet is received (RFC 4291, section 2.8). The definitions are in `specs/Destination.antt`.
+
 ghost use Rattle.std.specs.Prelude.{◌≡◌, ◌↔◌, List, true};
 ghost use Rattle.std.specs.List.{list_any};
 ghost use Rattle.nd_addr.specs.Kind.{solicited_node_of};

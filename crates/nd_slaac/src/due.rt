@@ -1,3 +1,5 @@
+//! What is due for addresses (RFC 4862, sections 5.4.2 and 5.5.4). The definitions are in `specs/Due.antt`.
+
 ghost use Rattle.std.specs.Prelude.{◌≡◌, ◌≢◌, ◌<◌, List, IfSome, IfNone, Some, None, ◌≤◌, vec_len, vec_capacity};
 ghost use Rattle.std.specs.Option.{option_map};
 ghost use Rattle.nd_table.specs.Moment.{IsMoment};

@@ -1,3 +1,5 @@
+//! Another node has an address or tries it (RFC 4862, sections 5.4.3 and 5.4.4).
+
 ghost use Rattle.std.specs.Prelude.{◌≡◌, ℕ, List, Some, true, false, vec_len, vec_capacity};
 ghost use Rattle.nd_addr.specs.Number.{number_of};
 ghost use Rattle.nd_table.specs.Keyed.{Rises};

@@ -1,3 +1,5 @@
+//! An address with its lifetimes and the stage of its detection (RFC 4862, sections 5.4 and 5.5.4).
+
 ghost use Rattle.std.specs.Prelude.{◌≡◌, ◌<◌, true, None, Some};
 ghost use Rattle.nd_addr.specs.Number.{number_of};
 ghost use Rattle.nd_table.specs.Moment.{IsMoment};

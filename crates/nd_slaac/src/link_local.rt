@@ -1,3 +1,5 @@
+//! The link-local address of an interface (RFC 4862, section 5.3).
+
 ghost use Rattle.std.specs.Prelude.{◌≡◌};
 ghost use Rattle.nd_addr.specs.Number.{number_of};
 ghost use Rattle.nd_slaac.specs.PrefixOption.{link_local_of};

@@ -1,3 +1,5 @@
+//! Prefix options form and renew addresses (RFC 4862, section 5.5.3). The definitions are in `specs/PrefixOption.antt`.
+
 ghost use Rattle.std.specs.Prelude.{◌≡◌, true, ◌+◌, ◌<◌, ◌∷◌, List, IsOk, IfSome, None, is_some, length, ◌≤◌, vec_len, vec_capacity, Ok};
 ghost use Rattle.nd_addr.specs.Number.{number_of};
 ghost use Rattle.nd_slaac.specs.PrefixOption.{is_taken, named_by, lifetimes_of};

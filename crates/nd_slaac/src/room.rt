@@ -1,3 +1,5 @@
+//! Room for the addresses that prefix options form (RFC 4862, section 5.5.3). The definitions are in `specs/Room.antt`.
+
 ghost use Rattle.std.specs.Prelude.{◌≡◌, ◌≤◌, ◌&&◌, ◌==◌, not, length, List, true, is_some};
 ghost use Rattle.nd_addr.specs.Number.{number_of};
 ghost use Rattle.nd_decode.specs.Pieces.{options_left};

@@ -1,3 +1,5 @@
+//! What is shown of addresses (RFC 4862, section 2). The definitions are in `specs/Shown.antt`.
+
 ghost use Rattle.std.specs.Prelude.{◌≡◌, List, map};
 ghost use Rattle.std.specs.Option.{option_map};
 ghost use Rattle.nd_addr.specs.Number.{number_of};

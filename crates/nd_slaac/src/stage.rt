@@ -1,3 +1,5 @@
+//! The stages of duplicate address detection (RFC 4862, section 5.4).
+
 ghost use Rattle.std.specs.Prelude.{◌≡◌, ◌+◌};
 ghost use Rattle.nd_table.specs.Moment.{IsMoment};
 

@@ -1,3 +1,5 @@
+//! The states of an address (RFC 4862, section 2). The definition is in `specs/State.antt`.
+
 /// The state of an address (RFC 4862, sections 2 and 5.4). It is assigned to the interface if it is preferred or deprecated.
 #[derive(Clone, Copy, Debug, PartialEq, Eq)]
 pub enum State {

@@ -1,3 +1,5 @@
+//! The two-hour rule for valid lifetimes (RFC 4862, section 5.5.3 e). The definitions are in `specs/TwoHours.antt`.
+
 ghost use Rattle.std.specs.Prelude.{◌≡◌, ◌<◌};
 ghost use Rattle.nd_table.specs.Moment.{IsMoment};
 ghost use Rattle.nd_slaac.specs.TwoHours.{within_two_hours, renewed};

@@ -25,7 +25,7 @@ abbrev pub with_gone : ℕ → Bool → ℕ → List RedirectRow → List Redire
 with_gone at true key history = TargetGone at key ∷ history
 with_gone at false key history = history
 
--- a router that left the list is told
+-- a router that left the list is reported
 abbrev pub left_told : Bool → ℕ → List Happening
 left_told true key = LeftRouter key ∷ []
 left_told false key = []
@@ -40,7 +40,7 @@ abbrev pub with_lost_target : ℕ → Falls → List RedirectRow → List Redire
 with_lost_target at (Fails key packets) history = TargetGone at key ∷ history
 with_lost_target at _ history = history
 
--- whatever history they stood for, they stand for it with the failure, if it is one
+-- for each history that they stood for, they stand for it with the failure, if it is one
 pub record Notes (at : ℕ) (falls : Falls) (old_routers new_routers : routers.Table) (old_choice new_choice : choice.Table) : Type 0 where
   pub routers : (history : List RouterRow) → routers.Stands old_routers history → routers.Stands new_routers (with_failure at falls history)
   pub redirects : (history : List RedirectRow) → choice.Stands old_choice history → choice.Stands new_choice (with_lost_target at falls history)
@@ -51,8 +51,8 @@ abbrev pub told_left : ℕ → Bool → ℕ → List (ℕ × Happening)
 told_left now true key = (now, LeftRouter key) ∷ []
 told_left now false key = []
 
--- A neighbour that may be a router no more: whatever history was stood for, it leaves the list where it stands there and is one no more,
--- the redirects to it end with it, and that is told.
+-- A neighbour that may no longer be a router: for each history that was stood for, it leaves the list if it is there and is one no longer,
+-- the redirects to it end with it, and that is reported.
 pub record Leaves {A : Type 0} (now key : ℕ) (ends : Bool) (old new : routers.Table) (old_choice new_choice : choice.Table) (before after : List (ℕ × Out A)) (left : Bool) : Type 0 where
   pub routers : (history : List RouterRow) → routers.Stands old history → (left ≡ (ends && stands same key (announcements history) now)) × routers.Stands new (with_left now left key history)
   pub redirects : (history : List RedirectRow) → choice.Stands old_choice history → choice.Stands new_choice (with_gone now left key history)

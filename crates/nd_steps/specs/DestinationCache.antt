@@ -26,7 +26,7 @@ use Rattle.nd_neighbour.specs.Due as neighbours_due
 use Rattle.nd_neighbour.specs.Table as neighbours
 use Rattle.nd_routers.specs.Routers as routers
 
--- an own address
+-- one of the node's own addresses
 abbrev pub own_in : List Address → List ℕ → Bool
 own_in addresses address = counted_in Own (address_in (number_of address) addresses)
 

@@ -1,4 +1,4 @@
--- What is told of what falls due: what is sent, and what happened, the oldest first.
+-- What is reported of what is due: what is sent, and what happened, the oldest first.
 use Rattle.std.specs.Prelude.{ℕ, List, [], ◌∷◌, map, Option}
 use Rattle.std.specs.Option.{option_to_list}
 use Rattle.nd_addr.specs.declared.addr.Addr.{Addr}

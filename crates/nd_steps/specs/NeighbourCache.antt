@@ -28,7 +28,7 @@ use Rattle.nd_chronicle.specs.Message as message
 abbrev pub said_by : Times → News → ℕ × RowKind
 said_by times news = (news_key news, news_row news times)
 
--- there is place for the neighbour that enters with them
+-- there is room for the neighbour that enters with them
 abbrev pub HasPlace : ℕ → ℕ → Option News → List NeighbourEntry → Type 0
 HasPlace limit now None entries = Unit {0}
 HasPlace limit now (Some news) entries = lets_enter news ≡ true → NoPlace limit now (news_key news) entries → ⊥
@@ -44,7 +44,7 @@ HasRoomFor count room news entries = (count + waiting_for news entries ≤ room)
 
 -- ---- by history
 
--- what makes place for a neighbour of which something is said
+-- what makes room for a neighbour of which something is said
 abbrev pub PreparesFor : ℕ → ℕ → Option (ℕ × RowKind) → List Row → List Row → Type 0
 PreparesFor limit now None history made = made ≡ history
 PreparesFor limit now (Some said) history made = Prepares limit now (message.lets_enter said.1) said.0 history made
@@ -65,8 +65,8 @@ abbrev pub ends_said : ℕ → Option (ℕ × RowKind) → List Row → Bool
 ends_said now None history = false
 ends_said now (Some said) history = ends_router now said.1 (story said.0 history)
 
--- Whatever history the neighbours stood for, they stand for it with what is said, and with what makes place before; the packets that it
--- releases are handed out, and whether it takes the mark of a router away is answered.
+-- For each history that the neighbours stood for, they stand for it with what is said, and with what makes room before; the packets that it
+-- releases are returned, and so is whether it takes the mark of a router away.
 pub record HearsOf {A : Type 0} (limit now : ℕ) (said : Option (ℕ × RowKind)) (old new : List NeighbourEntry) (before after : List (ℕ × Out A)) (ends : Bool) : Type 0 where
   pub each : (history : List Row) → Stands old history
       → (made : List Row) × PreparesFor limit now said history made × Stands new (then_neighbour now said made)

@@ -11,11 +11,11 @@ use Rattle.nd_out.specs.Out.{happening}
 abbrev pub at_moment : ℕ → List Happening → List (ℕ × Happening)
 at_moment at happenings = map (λ h. (at, h)) happenings
 
--- what happened, by what is handed out
+-- what happened, by what is output
 abbrev pub happenings : {A : Type 0} → List (ℕ × Out A) → List (ℕ × Happening)
 happenings outs = map (λ o. (o.0, happening o.1)) outs
 
--- What is handed out more is what is told of the one more than of the other.
+-- What is reported more is what is reported of the one more than of the other.
 pub record Tells {A : Type 0} (c d : Chronicle) (old new : List (ℕ × Out A)) : Type 0 where
   pub newer : List (ℕ × Happening)
   pub told : items d ≡ items c ++ flat_map items_at newer

@@ -30,7 +30,7 @@ abbrev pub told_conflict : ℕ → Bool → ℕ → List (ℕ × Happening)
 told_conflict now true key = (now, happening.Address key Conflict) ∷ []
 told_conflict now false key = []
 
--- Another node has the address: whatever history was stood for, it is a duplicate from now on where it is tentative, and that is told.
+-- Another node has the address: for each history that was stood for, it is a duplicate from now on where it is tentative, and that is reported.
 pub record Conflicts {A : Type 0} (now key : ℕ) (old new : List Address) (before after : List (ℕ × Out A)) (tentative : Bool) : Type 0 where
   pub stands : (history : List Row) → addresses.Stands old history → (tentative ≡ is_tentative (story key history)) × addresses.Stands new (with_conflict now tentative key history)
   pub told : happenings after ≡ happenings before ++ told_conflict now tentative key

@@ -63,7 +63,7 @@ pub record Plans {A : Type 0} (now : ℕ) (wants : Bool) (words left : Stream) (
   pub drawn : left ≡ (if wants then (next_u32 words).1 else words)
   pub routes : new.routes ≡ old.routes
 
--- What falls due for an own address says when the link-local one is assigned, from which advertisements are sent.
+-- What is due for one of the node's own addresses says when the link-local one is assigned, from which advertisements are sent.
 pub record NotesAddress {A : Type 0} (link_local now : ℕ) (falls : Falls) (old new : RouterTables A) : Type 0 where
   pub advertiser : (history : List advertising_rows.Row) → advertising.Stands old.advertiser history
       → advertising.Stands new.advertiser (then_assigned link_local now (key_in falls) (happens falls) history)

@@ -27,7 +27,7 @@ pub record Stands (start : Start) (s : Solicitations) (c : Chronicle) : Type 0 w
   pub sent : s.sent ≡ solicited_routers c
   pub heard : s.heard ≡ heard_router (parameter_history c)
 
--- what falls due for an own address says when the link-local one is assigned
+-- what is due for one of the node's own addresses says when the link-local one is assigned
 abbrev pub after_address : ℕ → ℕ → Falls → Solicitations → Solicitations
 after_address link_local now (Assigns key) s = if key == link_local then record s { assigned = Some now } else s
 after_address link_local now _ s = s

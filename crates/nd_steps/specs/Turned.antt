@@ -1,4 +1,4 @@
--- What fell due, as a turn answers it.
+-- What was due, as a turn returns it.
 use Rattle.nd_addr.specs.Number.{number_of}
 use Rattle.nd_slaac.specs.View as addresses
 use Rattle.nd_neighbour.specs.View as neighbours

@@ -1,3 +1,5 @@
+//! What only a router has: its advertising and its static routes. The definitions are in `specs/RouterTables.antt`.
+
 ghost use Rattle.std.specs.Prelude.{◌≡◌, ◌≢◌, ◌<◌, List, [], None, Ok, Some, IfOk, IfSome, is_some, option_map, true, false};
 ghost use Rattle.nd_addr.specs.Number.{number_of};
 ghost use Rattle.nd_table.specs.Moment.{IsMoment};

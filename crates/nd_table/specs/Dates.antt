@@ -1,4 +1,4 @@
--- The dates of entries, kept in their order beside them.
+-- The dates of entries, kept in their order next to them.
 use Rattle.std.specs.Prelude.{◌≡◌, ℕ, ◌+◌, ◌*◌, ◌^◌, ◌<◌, Bool, ◌&&◌, ◌==◌, if◌then◌else◌, List, [], ◌∷◌, Option, Some, None, option_and_then}
 use Rattle.std.specs.List.{list_any, insert}
 use Rattle.nd_table.specs.declared.date.Date.{Date}

@@ -1,4 +1,4 @@
--- A list of entries of which each may fall due at a moment.
+-- A list of entries of which each may be due at a moment.
 use Rattle.std.specs.Prelude.{ℕ, ◌≤◌, min, MatchOption, Bool, false, ◌==◌, if◌then◌else◌, List, [], ◌∷◌, Option, Some, None}
 
 -- the lesser of two moments that may be missing
@@ -22,7 +22,7 @@ module _ {N : Type 0} (date : N → Option ℕ) where
   least_date [] = None
   least_date (n ∷ ns) = lesser (date n) (least_date ns)
 
-  -- the first that falls due at the moment
+  -- the first that is due at the moment
   abbrev pub first_at : ℕ → List N → Option N
   first_at now [] = None
   first_at now (n ∷ ns) = if is_at now (date n) then Some n else first_at now ns

@@ -8,7 +8,7 @@ use crate::lasting_entries::{announce, count, stands};
 use crate::names_key::NamesKey;
 use std::alloc::Allocator;
 
-/// Whether a key stands behind an announcement, of it or of another key.
+/// Returns true if a key is listed after one announcement, which names the key or another one.
 fn stands_after(before: bool, named: bool, lifetime: u32) -> bool
     ensures { result ≡ (if named then not (lifetime == 0) else before) }
 {
@@ -18,7 +18,7 @@ fn stands_after(before: bool, named: bool, lifetime: u32) -> bool
     before
 }
 
-/// Whether a key stands behind the first few announcements of a message.
+/// Returns true if a key is listed after the first `taken` announcements of a message.
 fn stands_behind<K, Q: NamesKey<K> + Drop, I: Announces<K, Q> + Copy>(
     entries: &[Lasting<K>],
     now: u64,
@@ -41,7 +41,7 @@ fn stands_behind<K, Q: NamesKey<K> + Drop, I: Announces<K, Q> + Copy>(
     listed
 }
 
-/// Whether an announcement of a message enters its key, behind the first few.
+/// Returns true if an announcement of a message, after the first `taken` of them, adds its key.
 pub fn enters_behind<K, Q: NamesKey<K> + Drop, I: Announces<K, Q> + Copy>(
     entries: &[Lasting<K>],
     now: u64,
@@ -55,7 +55,7 @@ pub fn enters_behind<K, Q: NamesKey<K> + Drop, I: Announces<K, Q> + Copy>(
     lifetime != 0 && !stands_behind(entries, now, announced, taken, name)
 }
 
-/// Returns true if there is room for all announced keys besides those that stand, even if each announcement adds one.
+/// Returns true if there is room for all announced keys besides those listed, even if each announcement adds one.
 fn are_few<K, Q: NamesKey<K> + Drop, I: Announces<K, Q> + Copy>(room: usize, announced: I) -> bool
     ensures { result ≡ true → length (I.told announced) ≤ room }
 {
@@ -70,7 +70,7 @@ fn are_few<K, Q: NamesKey<K> + Drop, I: Announces<K, Q> + Copy>(room: usize, ann
     true
 }
 
-/// Whether the announcements of a message, taken in order, never lead to more entries than a limit. It takes no memory.
+/// Returns true if the announcements of a message, taken in order, never lead to more entries than `limit`. It takes no memory.
 pub fn fits_all<K, Q: NamesKey<K> + Drop, I: Announces<K, Q> + Copy>(
     entries: &[Lasting<K>],
     limit: usize,
@@ -100,7 +100,7 @@ pub fn fits_all<K, Q: NamesKey<K> + Drop, I: Announces<K, Q> + Copy>(
     true
 }
 
-/// How many keys stand behind an announcement, of one that stood before or not, and stands then or not.
+/// Returns the number of listed keys after an announcement. `before` and `after`: its key was listed before it, is listed after it.
 fn count_after(standing: usize, before: bool, after: bool) -> usize
     requires some { before ≡ true → 1 ≤ standing }
     requires room { standing < 2 ^ 32 }

@@ -12,7 +12,7 @@ use std::alloc::{AllocError, Allocator};
 use std::cmp::Ordering;
 use std::marker::Model;
 
-/// For how many dates a block has room: our choice.
+/// The number of dates for which a block has room: our choice.
 pub(crate) const BLOCK: usize = 32;
 
 /// A run of dates, with room for `BLOCK`.
@@ -34,7 +34,7 @@ impl<A: Allocator> Model for Block<A> {
 }
 
 impl<A: Allocator> Block<A> {
-    /// Returns an empty block with all its room. The error is out of memory.
+    /// Returns an empty block with all its room. Returns an error if out of memory.
     pub(crate) fn new(alloc: A) -> Result<Self, AllocError>
         ensures { IfOk result (λ block. block ≡ []) }
     {
@@ -50,14 +50,14 @@ impl<A: Allocator> Block<A> {
         &self.dates
     }
 
-    /// Returns how many dates there are.
+    /// Returns the number of dates.
     pub(crate) fn len(&self) -> usize
         ensures { result ≡ length self.now }
     {
         self.dates.len()
     }
 
-    /// Puts in a date that isn't there, and returns its place. There is room for it.
+    /// Adds a date that isn't in the block, and returns its place. There is room for it.
     pub(crate) fn put(&mut self, date: Date) -> usize
         requires order { Rises rank self.old }
         requires absent { at_key rank (rank date) self.old ≡ None }
@@ -72,7 +72,7 @@ impl<A: Allocator> Block<A> {
         }
     }
 
-    /// Returns the place where a date belongs that isn't there. The last date is looked at before the others are searched.
+    /// Returns the place where a date that isn't in the block belongs. The last date is looked at before the others are searched.
     fn place(&self, date: &Date) -> usize
         requires order { Rises rank self.now }
         requires absent { at_key rank (rank date.now) self.now ≡ None }
@@ -90,7 +90,7 @@ impl<A: Allocator> Block<A> {
         at
     }
 
-    /// Takes out a date, if it is there.
+    /// Removes a date, if it is in the block.
     pub(crate) fn take(&mut self, date: Date)
         requires order { Rises rank self.old }
         requires addresses { AllAddresses self.old }
@@ -102,7 +102,7 @@ impl<A: Allocator> Block<A> {
         }
     }
 
-    /// Moves the dates of a full block from the place `at` on into `upper`, which gives up its own dates.
+    /// Moves the dates of a full block from place `at` on into `upper`, whose own dates are dropped.
     pub(crate) fn split_into(&mut self, at: usize, upper: &mut Self)
         requires full { length self.old ≡ BLOCK }
         requires within { at < BLOCK }
@@ -118,7 +118,7 @@ impl<A: Allocator> Block<A> {
         self.dates.truncate(at);
     }
 
-    /// Appends the dates of the block behind this one. There is room for them.
+    /// Appends the dates of the block after this one. There is room for them.
     pub(crate) fn join(&mut self, behind: &Self)
         requires { length self.old + length behind.now ≤ BLOCK }
         ensures { self.new ≡ self.old ++ behind.now }
@@ -129,7 +129,7 @@ impl<A: Allocator> Block<A> {
         }
     }
 
-    /// Takes out all dates.
+    /// Removes all dates.
     pub(crate) fn clear(&mut self)
         ensures { self.new ≡ [] }
     {

@@ -1,4 +1,4 @@
-//! The dates of a table in blocks, so that a date that comes, changes or goes shifts the dates of its block alone. The definitions are in
+//! The dates of a table in blocks, so that a date that is added, changed or removed shifts the dates of its block alone. The definitions are in
 //! `specs/Blocks.antt`.
 
 ghost use Rattle.std.specs.Prelude.{◌≡◌, ℕ, ◌+◌, ◌-◌, ◌<◌, ◌≤◌, ◌^◌, [], ◌∷◌, length, take, drop, slice_get, slice_index_or, None, IfOk, vec_len, vec_capacity};
@@ -14,8 +14,8 @@ use crate::ranked::Ranked;
 use std::alloc::{AllocError, Allocator};
 use std::marker::Model;
 
-/// Blocks of dates: those in use, in the order of their dates, and those to spare. A block that becomes full is split, and two adjacent
-/// ones that wouldn't fill a block are joined.
+/// Blocks of dates: those in use, in the order of their dates, and those in reserve. A block that becomes full is split, and two adjacent ones that
+/// wouldn't fill a block are joined.
 #[derive(Drop)]
 pub struct Blocks<A: Allocator> {
     used: Vec<Block<A>, A>,
@@ -34,7 +34,7 @@ impl<A: Allocator> Model for Blocks<A> {
 }
 
 impl<A: Allocator + Clone> Blocks<A> {
-    /// Returns one empty block in use, and enough to spare for `room` dates. All memory is reserved here. The error is out of memory.
+    /// Returns one empty block in use, and enough in reserve for `room` dates. All memory is reserved here. Returns an error if out of memory.
     pub(crate) fn new(alloc: A, room: usize) -> Result<Self, AllocError>
         ensures none { IfOk result (λ blocks. blocks.blocks ≡ [] ∷ []) }
         ensures room { IfOk result (λ blocks. EnoughFor room blocks) }
@@ -60,7 +60,7 @@ impl<A: Allocator> Blocks<A> {
         self.used[0].dates()
     }
 
-    /// Puts in a date that isn't there. There are blocks enough for one more.
+    /// Adds a date that isn't in a block. There are enough blocks for one more.
     pub(crate) fn put(&mut self, date: Date)
         requires order { Rises rank (all_of self.old.blocks) }
         requires kept { Kept self.old.blocks }
@@ -79,7 +79,7 @@ impl<A: Allocator> Blocks<A> {
         }
     }
 
-    /// Takes out a date, if it is there.
+    /// Removes a date, if it is in a block.
     pub(crate) fn take(&mut self, date: Date)
         requires order { Rises rank (all_of self.old.blocks) }
         requires addresses { AllAddresses (all_of self.old.blocks) }
@@ -95,7 +95,7 @@ impl<A: Allocator> Blocks<A> {
         self.settle(at);
     }
 
-    /// Takes out all dates.
+    /// Removes all dates.
     pub(crate) fn clear(&mut self)
         requires { Kept self.old.blocks }
         ensures none { self.new.blocks ≡ [] ∷ [] }
@@ -110,8 +110,8 @@ impl<A: Allocator> Blocks<A> {
         block.clear();
     }
 
-    /// Returns the place of the block where a date belongs, which `find` returns. The last block is looked at before the others are searched,
-    /// since most dates that come are behind all others.
+    /// Returns the place of the block where a date belongs, which `find` returns. The last block is looked at before the others are searched, since
+    /// most new dates are after all others.
     fn find_from_last(&self, date: Date) -> usize
         requires order { Rises rank (all_of self.now.blocks) }
         requires kept { Kept self.now.blocks }
@@ -125,7 +125,7 @@ impl<A: Allocator> Blocks<A> {
         self.find(date)
     }
 
-    /// Returns the place of the block where a date belongs: the last one whose first date doesn't come behind it, or else the first.
+    /// Returns the place of the block where a date belongs: the last one whose first date isn't after it, or else the first.
     fn find(&self, date: Date) -> usize
         requires order { Rises rank (all_of self.now.blocks) }
         requires kept { Kept self.now.blocks }
@@ -142,8 +142,8 @@ impl<A: Allocator> Blocks<A> {
         }
     }
 
-    /// Splits a full block: it keeps its first `lower` dates. `put` splits it behind the date that came, so that dates that come in their order
-    /// fill the blocks, whatever dates are behind them.
+    /// Splits a full block, which keeps its first `lower` dates. `put` splits it after the new date, so that dates added in their order fill the
+    /// blocks, for any dates after them.
     fn split(&mut self, at: usize, lower: usize)
         requires some { 0 < lower }
         requires fewer { lower < BLOCK }
@@ -170,7 +170,7 @@ impl<A: Allocator> Blocks<A> {
         }
     }
 
-    /// Joins the adjacent blocks that a split at a place has left too short: the two blocks there, the one before them, and the one behind.
+    /// Joins the adjacent blocks that a split at a place has left too short: the two blocks there, the one before them, and the one after.
     fn settle_split(&mut self, at: usize)
         requires within { at < length self.old.blocks }
         requires short { AllShort self.old.blocks }
@@ -187,7 +187,7 @@ impl<A: Allocator> Blocks<A> {
         self.join(at);
     }
 
-    /// Joins the adjacent blocks that a date that went has left too short: the block at a place, the one before it, and the one behind it.
+    /// Joins the adjacent blocks that the removal of a date has left too short: the block at a place, the one before it, and the one after it.
     fn settle(&mut self, at: usize)
         requires within { at < length self.old.blocks }
         requires short { AllShort self.old.blocks }
@@ -203,7 +203,7 @@ impl<A: Allocator> Blocks<A> {
         self.join(at);
     }
 
-    /// Joins a block with the one before it, if both are there and wouldn't fill a block.
+    /// Joins a block with the one before it, if both exist and wouldn't fill a block.
     fn join(&mut self, next: usize)
         requires short { AllShort self.old.blocks }
         requires behind { Filled (drop next self.old.blocks) }
@@ -228,7 +228,7 @@ impl<A: Allocator> Blocks<A> {
     }
 }
 
-/// Puts a block to those to spare. There is room for it.
+/// Returns a block to the reserve. There is room for it.
 fn give_back<A: Allocator>(spare: &mut Vec<Block<A>, A>, block: Block<A>)
     requires { vec_len spare.old < vec_capacity spare.old }
     ensures len { vec_len spare.new ≡ vec_len spare.old + 1 }

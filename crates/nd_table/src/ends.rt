@@ -30,7 +30,7 @@ pub fn is_before(now: u64, end: Option<u64>) -> bool
     }
 }
 
-/// Returns the time that is left at `now` until an end: 0 once it has come, and `None` where there is no end. All are in milliseconds.
+/// Returns the time that is left at `now` until an end: 0 after the end, and `None` if there is no end. All are in milliseconds.
 pub fn time_left(now: u64, end: Option<u64>) -> Option<u64>
     ensures { result ≡ time_left now end }
 {

@@ -13,7 +13,7 @@ pub struct Lasting<K> {
 }
 
 impl<K> Lasting<K> {
-    /// Returns the time that is left at `now` until its end: 0 once it has come, and `None` where there is no end. All are in milliseconds.
+    /// Returns the time that is left at `now` until its end: 0 after the end, and `None` if there is no end. All are in milliseconds.
     pub fn left(&self, now: u64) -> Option<u64>
         ensures { result ≡ time_left now self.now.end }
     {

@@ -7,7 +7,7 @@ use crate::lasting::Lasting;
 use crate::names_key::NamesKey;
 use std::alloc::Allocator;
 
-/// Whether there is an entry of the key.
+/// Returns true if there is an entry of the key.
 pub fn has<K, Q: NamesKey<K>>(entries: &[Lasting<K>], name: &Q) -> bool
     ensures { result ≡ is_some (end_in Q.same (Q.named name.now) entries.now) }
 {
@@ -35,7 +35,7 @@ fn renew_each<K, Q: NamesKey<K>>(entries: &mut [Lasting<K>], name: &Q, end: Opti
     }
 }
 
-/// The key's entry has this end from now on.
+/// Sets the end of the key's entry.
 pub fn renew<K, Q: NamesKey<K>, A: Allocator>(
     entries: &mut Vec<Lasting<K>, A>,
     name: &Q,
@@ -48,7 +48,7 @@ pub fn renew<K, Q: NamesKey<K>, A: Allocator>(
     renew_each(entries, name, end);
 }
 
-/// The key has no entry from now on.
+/// Removes the entry of the key.
 pub fn remove<K: Drop, Q: NamesKey<K>, A: Allocator>(entries: &mut Vec<Lasting<K>, A>, name: &Q)
     ensures items { entries.new.items ≡ without Q.same (Q.named name.now) entries.old.items }
     ensures shorter { vec_len entries.new ≤ vec_len entries.old }
@@ -57,7 +57,7 @@ pub fn remove<K: Drop, Q: NamesKey<K>, A: Allocator>(entries: &mut Vec<Lasting<K
     entries.retain(|entry| !name.names(&entry.key));
 }
 
-/// The keys that have ended by now have no entry from now on.
+/// Removes the entries that have ended at `now`, in milliseconds.
 pub fn drop_ended<K: Drop, A: Allocator>(entries: &mut Vec<Lasting<K>, A>, now: u64)
     ensures items { entries.new.items ≡ open_at now entries.old.items }
     ensures shorter { vec_len entries.new ≤ vec_len entries.old }
@@ -66,7 +66,8 @@ pub fn drop_ended<K: Drop, A: Allocator>(entries: &mut Vec<Lasting<K>, A>, now: 
     entries.retain(|entry| is_before(now, entry.end));
 }
 
-/// A key is announced for a lifetime in seconds, by a name. There is room for it, and the key itself is given where it enters.
+/// Takes an announcement of a key by its name, for a lifetime in seconds, and removes the entries that have ended. There is room for it, and `key`
+/// is given if the announcement adds it.
 pub fn announce<K: Drop, Q: NamesKey<K>, A: Allocator>(
     entries: &mut Vec<Lasting<K>, A>,
     now: u64,
@@ -95,14 +96,14 @@ pub fn announce<K: Drop, Q: NamesKey<K>, A: Allocator>(
     }
 }
 
-/// Whether an announcement enters the key that it names.
+/// Returns true if an announcement adds the key that it names.
 pub fn enters<K, Q: NamesKey<K>>(entries: &[Lasting<K>], now: u64, name: &Q, lifetime: u32) -> bool
     ensures { result ≡ enters Q.same now (Q.named name.now) lifetime entries.now }
 {
     lifetime != 0 && !stands(entries, now, name)
 }
 
-/// Whether the key has an entry that hasn't ended by now.
+/// Returns true if the key has an entry that hasn't ended at `now`, in milliseconds.
 pub fn stands<K, Q: NamesKey<K>>(entries: &[Lasting<K>], now: u64, name: &Q) -> bool
     ensures { result ≡ is_some (end_in Q.same (Q.named name.now) (open_at now entries.now)) }
 {
@@ -114,7 +115,7 @@ pub fn stands<K, Q: NamesKey<K>>(entries: &[Lasting<K>], now: u64, name: &Q) -> 
     false
 }
 
-/// How many entries haven't ended by now.
+/// Returns the number of entries that haven't ended at `now`, in milliseconds.
 pub fn count<K>(entries: &[Lasting<K>], now: u64) -> usize
     ensures value { result ≡ length (open_at now entries.now) }
     ensures within { result ≤ length entries.now }

@@ -1,10 +1,10 @@
-//! How many entries a search looks at.
+//! The number of entries that a search looks at.
 
 ghost use Rattle.std.specs.Prelude.{◌≡◌, ℕ, ◌≤◌, ◌+◌};
 
-/// What counts the entries that a search looks at.
+/// A counter of the entries that a search looks at.
 pub trait Counter {
-    /// How many it has counted.
+    /// The number counted so far.
     ghost count: { Self → ℕ };
 
     /// Counts one more entry.
@@ -13,7 +13,7 @@ pub trait Counter {
         ensures kept { count self.old ≤ count self.new };
 }
 
-/// How many entries a search has looked at. The count stops at the greatest number.
+/// The number of entries that a search has looked at. The count stops at the greatest number.
 #[derive(Clone, Copy, Debug, PartialEq, Eq)]
 pub struct Probes {
     pub looks: u64,
@@ -38,7 +38,7 @@ impl Counter for Probes {
     }
 }
 
-/// For a search whose looks nobody asks for.
+/// A counter for searches that nobody counts.
 #[derive(Clone, Copy)]
 pub(crate) struct Uncounted;
 

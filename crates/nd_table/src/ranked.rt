@@ -10,7 +10,7 @@ pub trait Ranked<K> {
     /// Its key as a number.
     ghost key: { Self → ℕ };
 
-    /// The key that a `K` stands for, as a number.
+    /// The key that a `K` names, as a number.
     ghost number: { K → ℕ };
 
     /// Returns the order of its key and the one that is searched for.

@@ -1,4 +1,4 @@
-//! The dates of a table, in their order: what falls due next is looked up and not searched for. The definitions are in `specs/Dates.antt`.
+//! The dates of a table, in their order: what is due next is looked up and not searched for. The definitions are in `specs/Dates.antt`.
 
 ghost use Rattle.std.specs.Prelude.{◌≡◌, ◌≢◌, ℕ, ◌<◌, ◌≤◌, [], length, slice_get, IfOk, IfSome, IfNone, Some, None};
 ghost use Rattle.nd_addr.specs.Number.{number_of};
@@ -15,8 +15,8 @@ use nd_addr::Addr;
 use std::alloc::{AllocError, Allocator};
 use std::marker::Model;
 
-/// The dates of the entries of a table, in their order, so that what falls due next is the first of them. A table keeps it beside its
-/// entries, and reports each date of an entry that comes, changes or goes.
+/// The dates of the entries of a table, in their order, so that what is due next is the first of them. A table keeps it besides its entries, and
+/// reports each date of an entry that is added, changed or removed.
 #[derive(Drop)]
 pub struct Schedule<A: Allocator> {
     blocks: Blocks<A>,
@@ -35,7 +35,7 @@ impl<A: Allocator> Model for Schedule<A> {
 }
 
 impl<A: Allocator + Clone> Schedule<A> {
-    /// Returns an empty schedule with room for `room` dates, all of it reserved here. The error is out of memory.
+    /// Returns an empty schedule with room for `room` dates, all of it reserved here. Returns an error if out of memory.
     pub fn new(alloc: A, room: usize) -> Result<Self, AllocError>
         ensures none { IfOk result (λ schedule. schedule.dates ≡ []) }
         ensures room { IfOk result (λ schedule. room ≤ schedule.room) }
@@ -84,8 +84,8 @@ impl<A: Allocator> Schedule<A> {
         first_due(self.blocks.front(), now)
     }
 
-    /// Changes the date of an address from `was` to `date`, in milliseconds, either of which may be missing. A date that stays is not
-    /// touched. There is room for one that comes.
+    /// Changes the date of an address from `was` to `date`, in milliseconds, either of which may be missing. A date that stays is not touched.
+    /// There is room for a new one.
     pub fn change(&mut self, was: Option<u64>, date: Option<u64>, addr: Addr)
         requires was { (moment : ℕ) → has moment (number_of addr.0) self.old.dates ≡ is_at moment was }
         requires room { IfNone was (IfSome date (λ _. Rises rank self.old.dates → length self.old.dates < self.old.room)) }
@@ -107,7 +107,7 @@ impl<A: Allocator> Schedule<A> {
         }
     }
 
-    /// Takes out all dates.
+    /// Removes all dates.
     pub fn clear(&mut self)
         ensures none { self.new.dates ≡ [] }
         ensures room { self.new.room ≡ self.old.room }

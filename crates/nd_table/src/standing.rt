@@ -1,7 +1,7 @@
 use crate::ends::is_before;
 use crate::lasting::Lasting;
 
-/// The keys that stand at a moment, with their ends, in the order in which they came.
+/// The keys that haven't ended at a moment, with their ends, in the order in which they were added.
 #[derive(Clone, Copy, Debug)]
 pub struct Standing<'a, K> {
     rest: &'a [Lasting<K>],
@@ -13,7 +13,7 @@ impl<'a, K> Standing<'a, K> {
     ghost use Rattle.nd_table.specs.Listing.{open_at};
     ghost use Rattle.nd_table.specs.Left.{standing_left};
 
-    /// Those of these entries that haven't ended by a moment.
+    /// Returns those of these entries that haven't ended at `moment`, in milliseconds.
     pub fn new(entries: &'a [Lasting<K>], moment: u64) -> Self
         ensures { standing_left result ≡ open_at moment entries.entry.now }
     {

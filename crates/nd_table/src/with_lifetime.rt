@@ -1,4 +1,4 @@
-//! Keys that stand at a moment, with what is left of their lifetimes.
+//! Keys that haven't ended at a moment, with what is left of their lifetimes.
 
 ghost use Rattle.std.specs.Prelude.{◌≡◌, map};
 ghost use Rattle.nd_table.specs.Listing.{open_at};
@@ -7,7 +7,7 @@ ghost use Rattle.nd_table.specs.Shown.{seen};
 use crate::lasting::Lasting;
 use crate::standing::Standing;
 
-/// A key that stands at a moment, and what is left of its lifetime.
+/// A key that hasn't ended at a moment, and what is left of its lifetime.
 #[derive(Clone, Copy, Debug)]
 pub struct WithLifetime<'a, K> {
     pub key: &'a K,
@@ -15,7 +15,7 @@ pub struct WithLifetime<'a, K> {
     pub left: Option<u64>,
 }
 
-/// The keys that stand at a moment, in the order in which they were first announced, with what is left of their lifetimes.
+/// The keys that haven't ended at a moment, in the order in which they were first announced, with what is left of their lifetimes.
 #[derive(Clone, Copy, Debug)]
 pub struct WithLifetimes<'a, K> {
     rest: Standing<'a, K>,
@@ -25,7 +25,7 @@ pub struct WithLifetimes<'a, K> {
 impl<'a, K> WithLifetimes<'a, K> {
     ghost use Rattle.nd_table.specs.Left.{lifetimes_left};
 
-    /// Returns those of these entries that haven't ended by a moment in milliseconds.
+    /// Returns those of these entries that haven't ended at `moment`, in milliseconds.
     pub fn new(entries: &'a [Lasting<K>], moment: u64) -> Self
         ensures { lifetimes_left result ≡ map (seen moment) (open_at moment entries.entry.now) }
     {

@@ -6,7 +6,7 @@ ghost use Rattle.nd_text.specs.Digits.{byte_text, digit_at, hex_text};
 
 use std::alloc::{AllocError, Allocator};
 
-/// The digit of a number below 16, in lower case.
+/// Returns the digit of a number below 16, in lower case.
 fn hex_digit(n: u8) -> u8
     requires { n < 16 }
     ensures { result ≡ digit_glyph false n }
@@ -48,7 +48,7 @@ pub(crate) fn push_group<A: Allocator>(text: &mut String<A>, group: u16) -> Resu
     Ok(())
 }
 
-/// Writes a byte as two hexadecimal digits in lower case at the end. The error is want of memory.
+/// Appends a byte as two hexadecimal digits in lower case. Returns an error if out of memory.
 pub fn push_byte<A: Allocator>(text: &mut String<A>, byte: u8) -> Result<(), AllocError>
     ensures { OnOk result (string_bytes text.new ≡ string_bytes text.old ++ byte_text byte) }
 {
@@ -58,14 +58,14 @@ pub fn push_byte<A: Allocator>(text: &mut String<A>, byte: u8) -> Result<(), All
     Ok(())
 }
 
-/// The two hexadecimal digits of a byte, in lower case.
+/// Returns the two hexadecimal digits of a byte, in lower case.
 pub fn byte_digits(byte: u8) -> [u8; 2]
     ensures { result ≡ byte_text byte }
 {
     [hex_digit(byte / 16), hex_digit(byte % 16)]
 }
 
-/// Writes ASCII characters as one piece at the end. The error is want of memory.
+/// Appends ASCII characters as one piece. Returns an error if out of memory.
 pub fn push_ascii<A: Allocator>(text: &mut String<A>, characters: &[u8]) -> Result<(), AllocError>
     requires { IsAscii characters.now }
     ensures { OnOk result (string_bytes text.new ≡ string_bytes text.old ++ characters.now) }
@@ -76,7 +76,7 @@ pub fn push_ascii<A: Allocator>(text: &mut String<A>, characters: &[u8]) -> Resu
     }
 }
 
-/// How many bytes are written as one piece (our choice).
+/// The most bytes that are written as one piece (our choice).
 const PIECE: usize = 64;
 
 /// Writes a few bytes as one piece.
@@ -92,7 +92,7 @@ fn push_piece<A: Allocator>(text: &mut String<A>, piece: &[u8]) -> Result<(), Al
     }
 }
 
-/// Writes bytes as two hexadecimal digits each, in lower case, at the end. The error is want of memory.
+/// Appends bytes as two hexadecimal digits each, in lower case. Returns an error if out of memory.
 pub fn write_hex<A: Allocator>(text: &mut String<A>, bytes: &[u8]) -> Result<(), AllocError>
     ensures { OnOk result (string_bytes text.new ≡ string_bytes text.old ++ hex_text bytes.now) }
 {

@@ -1,6 +1,6 @@
 ghost use Rattle.std.specs.Prelude.{◌≡◌, ◌<◌, ℕ, length, slice_index};
 
-/// The same groups. What an array's type says of each, that it is below 65536, is handed on as a clause.
+/// Returns the same groups, with a clause that says what an array's type says of each: it is below 65536.
 pub fn known_groups(groups: &[u16; 8]) -> &[u16]
     ensures value { result.now ≡ groups.now }
     ensures len { length groups.now ≡ 8 }

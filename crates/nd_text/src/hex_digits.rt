@@ -1,4 +1,4 @@
-//! Whether characters are hexadecimal digits, 32 at a time.
+//! Recognizes hexadecimal digits, 32 characters at a time.
 
 ghost use Rattle.std.specs.Prelude.{◌≡◌, ◌↔◌, length, IsTrue};
 ghost use Rattle.std.specs.List.{AllPass};
@@ -7,10 +7,10 @@ ghost use Rattle.hex.specs.Hex.{is_hex_digit};
 use crate::hex_steps::{are_values, values_of};
 use std::simd::prelude::*;
 
-/// How many characters one step reads (our choice).
+/// The number of characters that one step reads (our choice).
 const STEP: usize = 32;
 
-/// Whether the characters of one step are digits.
+/// Returns true if the characters of one step are digits.
 fn step_is_digits(step: &[u8]) -> bool
     requires { length step.now ≡ 32 }
     ensures { IsTrue result ↔ AllPass is_hex_digit step.now }
@@ -18,14 +18,14 @@ fn step_is_digits(step: &[u8]) -> bool
     are_values(values_of(u8x32::from_slice(step)))
 }
 
-/// Whether a few characters are digits.
+/// Returns true if a few characters are digits.
 fn few_are_digits(characters: &[u8]) -> bool
     ensures { IsTrue result ↔ AllPass is_hex_digit characters.now }
 {
     characters.iter().all(|byte| byte.is_ascii_hexdigit())
 }
 
-/// Whether all characters are digits, in either case.
+/// Returns true if all characters are digits, in either case.
 pub fn are_digits(characters: &[u8]) -> bool
     ensures { IsTrue result ↔ AllPass is_hex_digit characters.now }
 {

@@ -6,10 +6,10 @@ ghost use Rattle.nd_text.specs.HexDigits.{value_or_none, AreValues, SpellsFirst}
 
 use std::simd::prelude::*;
 
-/// How many bytes one step writes. It reads twice as many digits.
+/// The number of bytes that one step writes. It reads twice as many digits.
 const STEP_BYTES: usize = 16;
 
-/// The values of digits in either case, and 255 for what is none.
+/// Returns the values of digits in either case, and 255 for each character that is no digit.
 pub(crate) fn values_of(digits: u8x32) -> u8x32
     ensures { result ≡ map value_or_none digits }
 {
@@ -21,14 +21,14 @@ pub(crate) fn values_of(digits: u8x32) -> u8x32
     decimal.simd_le(u8x32::splat(9)).select(decimal, of_letter)
 }
 
-/// Whether all are values of digits.
+/// Returns true if all are values of digits.
 pub(crate) fn are_values(values: u8x32) -> bool
     ensures { IsTrue result ↔ AreValues values }
 {
     values.simd_ge(u8x32::splat(0x80)).to_bitmask() == 0
 }
 
-/// The bytes of pairs of values, the higher one first.
+/// Returns the bytes of pairs of values, the higher one first.
 fn paired(values: u8x32) -> u8x16
     ensures len { length result ≡ 16 }
     ensures lanes { (i : ℕ) → i < 16 → slice_index result i ≡ (slice_index values (2 * i) * 16 + slice_index values (2 * i + 1)) % 256 }
@@ -38,8 +38,7 @@ fn paired(values: u8x32) -> u8x16
     high * u8x16::splat(16) + low
 }
 
-/// Decodes one step of digits to the bytes from a place on, where all before are decoded. The answer
-/// is whether they are digits.
+/// Decodes one step of digits to the bytes from a place on; all bytes before that are decoded. Returns true if they are digits.
 fn decode_step(digits: &[u8], bytes: &mut [u8], at: usize) -> bool
     requires pairs { length digits.now ≡ 2 * length bytes.old }
     requires room { at + 16 ≤ length bytes.old }
@@ -54,8 +53,8 @@ fn decode_step(digits: &[u8], bytes: &mut [u8], at: usize) -> bool
     true
 }
 
-/// Decodes digits to half as many bytes, if they are digits and there is at least one step of them.
-/// Else the answer is `false`, and the bytes are any.
+/// Decodes digits to half as many bytes. Returns false if there is a character that is no digit, or less than one step of them; the bytes are
+/// unspecified then.
 pub(crate) fn decode_quickly(digits: &[u8], bytes: &mut [u8]) -> bool
     requires { length digits.now ≡ 2 * length bytes.old }
     ensures { IsTrue result → decode_of digits.now ≡ Ok bytes.new }
@@ -63,7 +62,7 @@ pub(crate) fn decode_quickly(digits: &[u8], bytes: &mut [u8]) -> bool
     if bytes.len() < STEP_BYTES {
         return false;
     }
-    // The last step ends with the digits, and may read some once more.
+    // The last step ends with the digits, and may read some of them again.
     let last = bytes.len() - STEP_BYTES;
     let mut at = 0;
     while at < last {

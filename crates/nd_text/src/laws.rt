@@ -1,4 +1,4 @@
-//! What is true of all texts.
+//! Laws of all texts.
 
 ghost use Rattle.std.specs.Prelude.{◌≡◌, ℕ, List};
 ghost use Rattle.nd_text.specs.Text.{IsText};

@@ -4,7 +4,7 @@ ghost use Rattle.std.specs.Prelude.{◌≡◌, ◌+◌, ◌-◌, ◌++◌, ◌�
 ghost use Rattle.nd_text.specs.Parsing.{word_of, behind_of, group_of, groups_within, some_groups, all_eight, around_gap, gap_at, address_groups};
 ghost use Rattle.nd_text.specs.Spelling.{SpellsAddress};
 
-/// The first word of a text, and what follows its colon.
+/// Returns the first word of a text, and what follows its colon.
 fn split_word(text: &[u8]) -> (&[u8], Option<&[u8]>)
     ensures word { result.0.now ≡ word_of text.now }
     ensures behind { MatchOption result.1 (behind_of text.now ≡ None) (λ rest. behind_of text.now ≡ Some rest.now) }
@@ -17,7 +17,7 @@ fn split_word(text: &[u8]) -> (&[u8], Option<&[u8]>)
     (text, None)
 }
 
-/// The value of a word of one to four hexadecimal digits.
+/// Returns the value of a word of one to four hexadecimal digits.
 fn read_group(word: &[u8]) -> Option<u16>
     ensures { result ≡ group_of word.now }
 {
@@ -34,14 +34,14 @@ fn read_group(word: &[u8]) -> Option<u16>
     Some(value)
 }
 
-/// Some groups of an address, one to eight of them or none.
+/// Some groups of an address, none to eight.
 #[derive(Clone, Copy)]
 struct Groups {
     groups: [u16; 8],
     count: usize,
 }
 
-/// The groups that a text spells, parted by colons, if there are eight at most.
+/// Returns the groups that a text spells, separated by colons, if there are eight at most.
 fn read_groups(text: &[u8]) -> Option<Groups>
     ensures groups { MatchOption result (groups_within 8 text.now ≡ None) (λ g. groups_within 8 text.now ≡ Some (take g.count g.groups)) }
     ensures few { IfSome result (λ g. g.count ≤ 8) }
@@ -62,7 +62,7 @@ fn read_groups(text: &[u8]) -> Option<Groups>
     None
 }
 
-/// Where the first two colons are.
+/// Returns the place of the first two colons.
 fn find_gap(text: &[u8]) -> Option<usize>
     ensures place { result ≡ gap_at text.now }
     ensures within { IfSome result (λ at. at + 2 ≤ length text.now) }
@@ -75,7 +75,7 @@ fn find_gap(text: &[u8]) -> Option<usize>
     None
 }
 
-/// The groups that a text spells, of which there may be none.
+/// Returns the groups that a text spells, which may be none.
 fn read_some(text: &[u8]) -> Option<Groups>
     ensures groups { MatchOption result (some_groups text.now ≡ None) (λ g. some_groups text.now ≡ Some (take g.count g.groups)) }
     ensures few { IfSome result (λ g. g.count ≤ 8) }
@@ -89,7 +89,7 @@ fn read_some(text: &[u8]) -> Option<Groups>
     read_groups(text)
 }
 
-/// The eight groups that a text without two colons spells.
+/// Returns the eight groups that a text without two colons spells.
 fn read_whole(text: &[u8]) -> Option<[u16; 8]>
     ensures { result ≡ all_eight (groups_within 8 text.now) }
 {
@@ -97,7 +97,7 @@ fn read_whole(text: &[u8]) -> Option<[u16; 8]>
     (all.count == 8).then_some(all.groups)
 }
 
-/// Eight groups with some in front, some at the end, and zeros between them.
+/// Returns eight groups with some at the beginning, some at the end, and zeros between them.
 fn with_zeros_between(before: &[u16], after: &[u16]) -> [u16; 8]
     requires { length before.now + length after.now ≤ 8 }
     ensures { result ≡ before.now ++ replicate (8 - (length before.now + length after.now)) 0 ++ after.now }
@@ -111,7 +111,7 @@ fn with_zeros_between(before: &[u16], after: &[u16]) -> [u16; 8]
     groups
 }
 
-/// The eight groups of which some stand before two colons and some behind them.
+/// Returns the eight groups of which some are before two colons and some after them.
 fn read_shortened(front: &[u8], behind: &[u8]) -> Option<[u16; 8]>
     ensures { result ≡ around_gap (some_groups front.now) (some_groups behind.now) }
 {
@@ -123,7 +123,7 @@ fn read_shortened(front: &[u8], behind: &[u8]) -> Option<[u16; 8]>
     Some(with_zeros_between(&before.groups[..before.count], &after.groups[..after.count]))
 }
 
-/// The eight groups of the address that a text spells.
+/// Returns the eight groups of the address that a text spells.
 fn read_address(text: &[u8]) -> Option<[u16; 8]>
     ensures { result ≡ address_groups text.now }
 {
@@ -133,9 +133,8 @@ fn read_address(text: &[u8]) -> Option<[u16; 8]>
     }
 }
 
-/// The eight groups of the address that a text spells: eight groups of one to four hexadecimal digits in either
-/// case, parted by colons, or fewer with one `::` for at least one group of zero (RFC 4291, section 2.2). No
-/// other text spells any.
+/// Returns the eight groups of the address that a text spells: eight groups of one to four hexadecimal digits in either case, separated by colons,
+/// or fewer with one `::` for at least one group of zero (RFC 4291, section 2.2). No other text spells any.
 pub fn parse_groups(text: &[u8]) -> Option<[u16; 8]>
     ensures found { IfSome result (λ groups. SpellsAddress text.now groups) }
     ensures only { (groups : List ℕ) → SpellsAddress text.now groups → result ≡ Some groups }

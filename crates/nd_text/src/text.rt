@@ -15,7 +15,7 @@ struct Run {
     len: usize,
 }
 
-/// How many groups are zero from this one on, where so many are behind it.
+/// Returns the length of the run of zeros from this group on; `behind` is that of the run after it.
 fn zeros_from(group: u16, behind: usize) -> usize
     requires { behind < 8 }
     ensures { result ≡ (if group == 0 then suc behind else 0) }
@@ -23,7 +23,7 @@ fn zeros_from(group: u16, behind: usize) -> usize
     if group == 0 { behind + 1 } else { 0 }
 }
 
-/// The first of the longest runs of zeros.
+/// Returns the first of the longest runs of zeros.
 fn find_longest(groups: &[u16; 8]) -> Run
     ensures start { result.start ≡ (longest_run groups.now).start }
     ensures len { result.len ≡ (longest_run groups.now).len }
@@ -74,7 +74,7 @@ fn push_shown<A: Allocator>(
     push_groups(text, &groups[run.start + run.len..])
 }
 
-/// Writes the text of RFC 5952 for the eight groups of an address at the end. The error is want of memory.
+/// Appends the text of RFC 5952 for the eight groups of an address. Returns an error if out of memory.
 pub fn write_groups<A: Allocator>(text: &mut String<A>, groups: &[u16; 8]) -> Result<(), AllocError>
     ensures written { OnOk result (string_bytes text.new ≡ string_bytes text.old ++ groups_text groups.now) }
     // It is the text of the first of the longest runs of zeros, and spells the groups.

@@ -17,7 +17,7 @@ pub struct Heard<'a> {
     pub message: MessageRef<'a>,
 }
 
-/// What is heard in a frame, with its bytes where they lie.
+/// What is heard in a frame, with its bytes left in place.
 #[derive(Clone, Copy, Debug)]
 pub enum Hearing<'a> {
     /// A valid message of Neighbor Discovery.
@@ -28,37 +28,35 @@ pub enum Hearing<'a> {
     Drop(Why),
 }
 
-/// What a frame is to a host or to a router (RFC 4861, sections 6.1, 7.1 and 8.1).
+/// Returns what a frame is to a host or to a router (RFC 4861, sections 6.1, 7.1 and 8.1).
 ///
-/// The reasons are looked for in this order: `FrameShort`, `NotIpv6`, `HeaderShort`, `Version`, `PayloadShort`; then, of messages
-/// alone, `HopLimit`, `Sum`, `Code`, `Length`, `OptionZero`, `OptionOver`, `Source`, `Target`, `UnspecifiedSlla`,
-/// `NotSolicitedNode`, `SolicitedMulticast`, `RedirectTarget`, `RedirectDestination`, `NotForUs`. The order is our
-/// choice, in which no option is looked at before the checksum is good; `Why` says when each comes. What asks for a node's
-/// addresses or tables isn't looked at, nor are the Ethernet addresses.
+/// The reasons are looked for in this order: `FrameShort`, `NotIpv6`, `HeaderShort`, `Version`, `PayloadShort`; then, for messages alone,
+/// `HopLimit`, `Sum`, `Code`, `Length`, `OptionZero`, `OptionOver`, `Source`, `Target`, `UnspecifiedSlla`, `NotSolicitedNode`,
+/// `SolicitedMulticast`, `RedirectTarget`, `RedirectDestination`, `NotForUs`. The order is our choice, in which no option is looked at before the
+/// checksum is good; `Why` says when each holds. What depends on a node's addresses or tables isn't looked at, nor are the Ethernet addresses.
 pub fn hear(frame: &[u8], role: Role) -> Hearing<'_>
-    // What is answered is heard so, and nothing else is.
+    // What is returned is heard so, and nothing else is.
     ensures heard { Hears frame.now role (outcome result) }
     ensures only { (o : Outcome) → Hears frame.now role o → outcome result ≡ o }
-    // The same by a function.
+    // The same as one function.
     ensures exactly { outcome result ≡ hearing_of frame.now role }
 {
     taken_by(role, hear_exactly(frame))
 }
 
-/// What a frame is to a node of the role that takes its message: a Router Solicitation to a router, a Router Advertisement or a
-/// Redirect to a host, and all else to both alike. The reasons are those of `hear` in their order, but for `NotForUs`, which is
-/// never told.
+/// Returns what a frame is to a node of the role that takes its message: a Router Solicitation to a router, a Router Advertisement or a Redirect to
+/// a host, and all else to both. The reasons are those of `hear` in their order, except for `NotForUs`, which is never returned.
 pub fn hear_in_some_role(frame: &[u8]) -> Hearing<'_>
-    // What is answered some role hears that takes the message, and nothing else is heard so.
+    // What is returned is heard by some role that takes the message, and nothing else is heard so.
     ensures heard { HearsInSomeRole frame.now (outcome result) }
     ensures only { (o : Outcome) → HearsInSomeRole frame.now o → outcome result ≡ o }
-    // The same by a function.
+    // The same as one function.
     ensures exactly { outcome result ≡ hearing_in_some_role frame.now }
 {
     hear_exactly(frame)
 }
 
-/// What a frame is, by the function that decides it, where nobody asks for the role.
+/// Returns what a frame is to a role that takes its message, by the function that decides it.
 #[tactic(auto, unfolding(crate::specs::Hearing::hearing_in_some_role))]
 fn hear_exactly(frame: &[u8]) -> Hearing<'_>
     ensures { outcome result ≡ hearing_in_some_role frame.now }
@@ -73,7 +71,7 @@ fn hear_exactly(frame: &[u8]) -> Hearing<'_>
     }
 }
 
-/// What a node of a role hears: it drops a message that it does not take.
+/// Returns what a node of a role hears: it drops a message that it does not take.
 fn taken_by(role: Role, heard: Hearing<'_>) -> Hearing<'_>
     ensures { outcome result ≡ taken_by role (outcome heard.entry) }
 {
@@ -85,7 +83,7 @@ fn taken_by(role: Role, heard: Hearing<'_>) -> Hearing<'_>
     }
 }
 
-/// What a packet is.
+/// Returns what a packet is.
 fn hear_packet(packet: Ip6Ref<'_>) -> Hearing<'_>
     ensures { outcome result ≡ outcome_of_packet (record { header = packet.entry.header; payload = packet.entry.payload.now }) }
 {
@@ -114,7 +112,7 @@ fn hear_packet(packet: Ip6Ref<'_>) -> Hearing<'_>
     }
 }
 
-/// The type of the message of Neighbor Discovery that a packet is, by its next header and its first byte, if it is one.
+/// Returns the type of the message of Neighbor Discovery that a packet is, by its next header and its first byte, if it is one.
 fn message_type(packet: &Ip6Ref<'_>) -> Option<MessageType>
     ensures { MatchOption result (is_message packet.now.header packet.now.payload.now ≡ false)
         (λ kind. (is_message packet.now.header packet.now.payload.now ≡ true) × IsOfType kind packet.now.payload.now) }

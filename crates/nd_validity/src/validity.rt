@@ -1,4 +1,4 @@
-//! What makes a message invalid that is well spelled (RFC 4861, sections 6.1, 7.1 and 8.1).
+//! What makes a well-spelled message invalid (RFC 4861, sections 6.1, 7.1 and 8.1).
 
 ghost use Rattle.std.specs.Prelude.{◌≡◌};
 ghost use Rattle.std.specs.List.{list_any};
@@ -10,7 +10,7 @@ use crate::hearing::Heard;
 use nd_addr::{Addr, Role, Why};
 use nd_decode::{Body, MessageRef, OPTION_SOURCE_LINK_LAYER_ADDRESS, OptionRef, Options};
 
-/// The first fault of a message that is well spelled.
+/// Returns the first fault of a well-spelled message.
 pub(crate) fn fault(heard: &Heard<'_>) -> Option<Why>
     ensures { result ≡ fault_of heard.now.source heard.now.destination (parts heard.now.message) }
 {
@@ -36,22 +36,22 @@ pub(crate) fn fault(heard: &Heard<'_>) -> Option<Why>
     redirects_multicast(body).then_some(Why::RedirectDestination)
 }
 
-/// Whether routers alone send it.
+/// Returns true if only routers send it.
 fn is_of_routers(body: &Body) -> bool
     ensures { result ≡ is_of_routers body.now }
 {
     matches!(body, Body::Ra(_) | Body::Redirect(_))
 }
 
-/// Whether the source is a multicast address (our choice for all five messages; RFC 4291, section 2.7, has none), or, of what routers
-/// send, one that is not link-local (RFC 4861, sections 6.1.2 and 8.1).
+/// Returns true if the source is a multicast address (our choice for all five messages; RFC 4291, section 2.7, has none), or is not link-local in a
+/// message that routers send (RFC 4861, sections 6.1.2 and 8.1).
 fn has_bad_source(source: &Addr, body: &Body) -> bool
     ensures { result ≡ has_bad_source source.now body.now }
 {
     source.is_multicast() || is_of_routers(body) && !source.is_link_local()
 }
 
-/// Whether the target of a Neighbor Solicitation or Advertisement is multicast (RFC 4861, sections 7.1.1 and 7.1.2).
+/// Returns true if the target of a Neighbor Solicitation or Advertisement is multicast (RFC 4861, sections 7.1.1 and 7.1.2).
 fn has_bad_target(body: &Body) -> bool
     ensures { result ≡ has_bad_target body.now }
 {
@@ -62,7 +62,7 @@ fn has_bad_target(body: &Body) -> bool
     }
 }
 
-/// Whether a solicitation from `::` has a Source Link-Layer Address (RFC 4861, sections 6.1.1 and 7.1.1).
+/// Returns true if a solicitation from `::` has a Source Link-Layer Address (RFC 4861, sections 6.1.1 and 7.1.1).
 fn has_unspecified_slla(source: &Addr, message: &MessageRef<'_>) -> bool
     ensures { result ≡ has_unspecified_slla source.now (parts message.now) }
 {
@@ -71,7 +71,7 @@ fn has_unspecified_slla(source: &Addr, message: &MessageRef<'_>) -> bool
         && has_slla(message.options)
 }
 
-/// Whether some option is a Source Link-Layer Address.
+/// Returns true if some option is a Source Link-Layer Address.
 #[tactic(auto, using(crate::proofs::OfType::any_slla_from))]
 fn has_slla(options: Options<'_>) -> bool
     ensures { result ≡ list_any is_slla (options_left options.entry) }
@@ -85,7 +85,7 @@ fn has_slla(options: Options<'_>) -> bool
     false
 }
 
-/// Whether a Neighbor Solicitation from `::` goes to another than a solicited-node address (RFC 4861, section 7.1.1).
+/// Returns true if a Neighbor Solicitation from `::` is to another than a solicited-node address (RFC 4861, section 7.1.1).
 fn misses_solicited_node(source: &Addr, destination: &Addr, body: &Body) -> bool
     ensures { result ≡ misses_solicited_node source.now destination.now body.now }
 {
@@ -95,15 +95,14 @@ fn misses_solicited_node(source: &Addr, destination: &Addr, body: &Body) -> bool
     }
 }
 
-/// Whether it is a solicited-node address: that of its own low 24 bits (RFC 4291, section 2.7.1).
+/// Returns true if it is a solicited-node address: that of its own low 24 bits (RFC 4291, section 2.7.1).
 fn is_solicited_node(address: &Addr) -> bool
     ensures { result ≡ is_solicited_node address.now }
 {
     *address == address.solicited_node()
 }
 
-/// Whether a Neighbor Advertisement says that it answers a solicitation, and goes to a multicast address (RFC 4861, section
-/// 7.1.2).
+/// Returns true if a Neighbor Advertisement to a multicast address says that it was solicited (RFC 4861, section 7.1.2).
 fn is_solicited_multicast(destination: &Addr, body: &Body) -> bool
     ensures { result ≡ is_solicited_multicast destination.now body.now }
 {
@@ -113,7 +112,7 @@ fn is_solicited_multicast(destination: &Addr, body: &Body) -> bool
     }
 }
 
-/// Whether the target of a Redirect is neither link-local nor the destination (RFC 4861, section 8.1).
+/// Returns true if the target of a Redirect is neither link-local nor the destination (RFC 4861, section 8.1).
 fn has_bad_redirect_target(body: &Body) -> bool
     ensures { result ≡ has_bad_redirect_target body.now }
 {
@@ -125,7 +124,7 @@ fn has_bad_redirect_target(body: &Body) -> bool
     }
 }
 
-/// Whether a Redirect is for a multicast destination (RFC 4861, section 8.1).
+/// Returns true if a Redirect is for a multicast destination (RFC 4861, section 8.1).
 fn redirects_multicast(body: &Body) -> bool
     ensures { result ≡ redirects_multicast body.now }
 {
@@ -135,8 +134,8 @@ fn redirects_multicast(body: &Body) -> bool
     }
 }
 
-/// Whether nodes of this role take no such message: hosts no Router Solicitation, routers neither a Router Advertisement nor
-/// a Redirect (RFC 4861, sections 6.2.6, 6.3.4 and 8.2).
+/// Returns true if nodes of this role take no such message: hosts no Router Solicitation, routers neither a Router Advertisement nor a Redirect
+/// (RFC 4861, sections 6.2.6, 6.3.4 and 8.2).
 pub(crate) fn is_not_for(role: Role, body: &Body) -> bool
     ensures { result ≡ is_not_for role body.now }
 {

@@ -10,7 +10,7 @@ IsFaithfulTo node arrives = (frame bytes : List ℕ) → arrives node frame byte
 abbrev pub IsFaithful : (ℕ → List ℕ → List ℕ → Type 0) → Type 0
 IsFaithful arrives = (node : ℕ) → IsFaithfulTo node arrives
 
--- how many calls come before the one that fails, after one more call: none any more once it failed
+-- how many calls come before the one that fails, after one more call: none once it failed
 abbrev pub after_call : Option ℕ → Option ℕ
 after_call None = None
 after_call (Some zero) = None

@@ -1,4 +1,4 @@
-//! A wire for tests of what a fault leaves.
+//! A wire for tests of what is left after a fault.
 
 ghost use Rattle.std.specs.Prelude.{◌≡◌, ◌≢◌, ◌≤◌, [], Some, length, OnOk, OnErr, IsErr, vec_capacity};
 ghost use Rattle.nd_lines.specs.Counts.{one_more};
@@ -7,16 +7,16 @@ ghost use Rattle.nd_wire.specs.Wire.{after_call, all_faults};
 use crate::wire::{Wire, WireFault};
 use std::alloc::Allocator;
 
-/// A wire that fails at one call, the one of a number that is counted from 0, and carries all others by the wire inside.
+/// A wire that fails at one call, whose number is counted from 0, and carries all others by the wire inside.
 #[derive(Drop)]
 pub struct FailingWire<W> {
     wire: W,
-    /// How many calls come before the one that fails; `None` once it failed.
+    /// The number of calls before the one that fails; `None` once it failed.
     before: Option<u64>,
 }
 
 impl<W> FailingWire<W> {
-    /// A wire that fails at the call number `at`, which the wire inside never sees.
+    /// Returns a wire that fails at the call number `at`, which the wire inside never sees.
     pub fn new(wire: W, at: u64) -> Self
         ensures wire { result.wire ≡ wire }
         ensures before { result.before ≡ Some at }

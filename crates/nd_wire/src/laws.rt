@@ -1,4 +1,4 @@
-//! What is true of all frames.
+//! Laws of all frames.
 
 ghost use Rattle.nd_wire.specs.Wire.{IsFaithful};
 
@@ -6,12 +6,12 @@ use crate::failing_wire::FailingWire;
 use crate::memory_wire::MemoryWire;
 use crate::wire::Wire;
 
-/// Over memory each frame arrives as it was sent.
+/// A wire over memory delivers each frame as it was sent.
 pub fn memory_is_faithful()
     ensures { IsFaithful ⟦<MemoryWire as Wire>⟧.arrives }
 {}
 
-/// One call that fails changes no frame that arrives.
+/// A call that fails changes no frame that arrives.
 pub fn failing_is_faithful<W: Wire>()
     ensures { IsFaithful W.arrives → IsFaithful ⟦<FailingWire<W> as Wire>⟧.arrives }
 {}

@@ -1,4 +1,4 @@
-//! What carries frames from one node of a link to another. It knows nothing of what a frame says, and of a node its number alone.
+//! Wires, which carry frames from one node of a link to another. They know nothing of what a frame says, and only the number of a node.
 #![tactic(auto)]
 
 mod failing_wire;

@@ -5,7 +5,7 @@ ghost use Rattle.std.specs.Prelude.{◌≡◌, ◌≤◌, [], length, OnOk, IsOk
 use crate::wire::{Wire, WireFault};
 use std::alloc::Allocator;
 
-/// Gives the frame itself. It never fails, and takes no memory.
+/// Delivers the frame itself. It never fails, and takes no memory.
 #[derive(Clone, Copy)]
 pub struct MemoryWire;
 
@@ -14,7 +14,7 @@ impl Wire for MemoryWire {
 
     ghost failed = { λ _. 0 };
 
-    // What the clauses of `Wire::carry` come to, and that it succeeds.
+    // What the clauses of `Wire::carry` mean here, and that it succeeds.
     fn carry<A: Allocator>(
         &mut self,
         _to: usize,

@@ -5,7 +5,7 @@ use std::process::Abort;
 use std::test::Fail;
 use std::time::{Duration, Instant};
 
-/// A frame is carried; what arrived, or that it did not.
+/// Carries a frame, and returns what arrived, or the fault.
 fn carried<W: Wire>(
     rt: &HostRuntime,
     wire: &mut W,
@@ -65,7 +65,7 @@ fn faults_of_two_failing_wires_add_up(rt: HostRuntime) -> Result<(), Fail> {
     Ok(())
 }
 
-/// A frame of so many bytes, that begins with `first`.
+/// Returns a frame of `length` bytes that begins with `first`.
 fn frame_of(rt: &HostRuntime, length: usize, first: u8) -> Result<Vec<u8>, Fail> {
     let mut frame = Vec::new(rt.alloc());
     let mut byte = first;
@@ -129,7 +129,7 @@ fn send(rt: &impl Abort, wire: &UdpWire<Global>, to: usize, bytes: &[u8]) -> Res
     Ok(())
 }
 
-/// A datagram that comes before the first frame is thrown away, whoever sent it.
+/// A datagram that arrives before the first frame is thrown away, for any sender.
 #[test]
 fn what_came_before_the_first_frame_is_thrown_away(rt: HostRuntime) -> Result<(), Fail> {
     for stale in [[4u8].as_slice(), &[4, 5, 6], &[4, 5, 6, 7]] {

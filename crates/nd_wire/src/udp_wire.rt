@@ -10,11 +10,11 @@ use std::io::ErrorKind;
 use std::net::{Ipv4Addr, Net, SocketAddr, SocketAddrV4, UdpSocket};
 use std::time::Duration;
 
-/// How long a receiver waits for a datagram, in seconds (our choice).
+/// The time for which a receiver waits for a datagram, in seconds (our choice).
 const READ_TIMEOUT: u64 = 1;
 
-/// The bytes of the longest datagram over IPv4 (RFC 791, section 3.1, without headers of 20 and, by RFC 768, 8 bytes),
-/// and one more, by which a longer one is told.
+/// The bytes of the longest datagram over IPv4 (RFC 791, section 3.1, without headers of 20 and, by RFC 768, 8 bytes), and one more, by which a
+/// longer one is recognized.
 const ROOM: usize = 65508;
 
 /// The most datagrams that are thrown away before one is sent (our choice).
@@ -25,7 +25,7 @@ const MOST_STALE: usize = 1024;
 pub(crate) struct Receiver {
     socket: UdpSocket,
     pub(crate) at: SocketAddr,
-    /// Whether no datagram can be waiting there.
+    /// No datagram can be waiting there.
     is_empty: bool,
 }
 
@@ -39,13 +39,13 @@ pub struct UdpWire<A: Allocator> {
     failures: u64,
 }
 
-/// A socket of this machine.
+/// Opens a socket of this machine.
 fn local_socket<N: Net>(net: &N) -> io::Result<UdpSocket> {
     UdpSocket::bind(net, SocketAddrV4::new(Ipv4Addr::LOCALHOST, 0))
 }
 
 impl Receiver {
-    /// A socket for the datagrams of one sender: the system drops all others from here on.
+    /// Opens a socket for the datagrams of one sender: the system drops all others from here on.
     fn open<N: Net>(net: &N, sender: SocketAddr) -> io::Result<Self> {
         let socket = local_socket(net)?;
         socket.connect(sender)?;
@@ -73,7 +73,7 @@ impl Receiver {
         Err(ErrorKind::ResourceBusy.into())
     }
 
-    /// One datagram from the sender to this socket, and out of it.
+    /// Passes one datagram from the sender to this socket, and reads it there.
     fn pass<A: Allocator>(
         &mut self,
         sender: &UdpSocket,
@@ -102,8 +102,8 @@ impl Receiver {
 }
 
 impl<A: Allocator> UdpWire<A> {
-    /// Opens a socket for sending, and one for each of the nodes 0 to `nodes - 1`. The error is the system's, or that of
-    /// the allocator, which no other call asks.
+    /// Opens a socket for sending, and one for each of the nodes 0 to `nodes - 1`. Returns an error of the system or of the allocator, which no
+    /// other call asks.
     pub fn new<N: Net>(net: &N, alloc: A, nodes: usize) -> io::Result<Self>
         ensures unfailed { IfOk result (λ w. w.failures ≡ 0) }
         ensures sockets { IfOk result (λ w. length w.receivers.items ≡ nodes) }
@@ -128,7 +128,7 @@ impl<A: Allocator> Wire for UdpWire<A> {
 
     ghost failed = { λ w. w.failures };
 
-    // What the clauses of `Wire::carry` come to, and that a node without a socket is a fault.
+    // What the clauses of `Wire::carry` mean here, and that a node without a socket is a fault.
     fn carry<B: Allocator>(
         &mut self,
         to: usize,

@@ -1,25 +1,25 @@
-//! What every wire owes.
+//! The contract of every wire.
 
 ghost use Rattle.std.specs.Prelude.{◌≡◌, ◌≤◌, [], ℕ, List, length, OnOk, OnErr, vec_capacity};
 ghost use Rattle.nd_lines.specs.Counts.{one_more};
 
 use std::alloc::Allocator;
 
-/// A frame that was not carried: a call of the system failed, or what arrived can't be what was sent. Which it was a wire
-/// doesn't tell; it counts it.
+/// A frame was not carried: a call of the system failed, or what arrived can't be what was sent. A wire counts the fault and doesn't say which it
+/// was.
 #[derive(Clone, Copy, Debug, PartialEq, Eq)]
 pub struct WireFault;
 
-/// What carries one frame after the other to nodes, and counts how often it failed (this project's own).
+/// A wire carries one frame after the other to nodes, and counts how often it failed (this project's own).
 pub trait Wire {
-    /// Which bytes may arrive where a frame is sent: first the number of the node that it is sent to, then the frame, then what arrives.
+    /// The bytes that may arrive if a frame is sent: first the number of the receiving node, then the frame, then what arrives.
     ghost arrives: { ℕ → List ℕ → List ℕ → Type 0 };
 
-    /// How many calls failed so far, up to the greatest number of 64 bits.
+    /// The number of calls that failed so far, up to the greatest number of 64 bits.
     ghost failed: { Self → ℕ };
 
-    /// Carries a frame to the node of a number. What arrives is put into an empty vector with room for the frame: it
-    /// is no longer, so a wire asks for no memory that could be refused. The one error is `WireFault`, and it is counted.
+    /// Carries a frame to the node of a number. What arrives is put into an empty vector with room for the frame: it is no longer than the frame,
+    /// so a wire asks for no memory that could be refused. Returns no other error than `WireFault`, which is counted.
     fn carry<A: Allocator>(
         &mut self,
         to: usize,
@@ -33,7 +33,7 @@ pub trait Wire {
         ensures fault { OnErr result (failed self.new ≡ one_more (failed self.old)) }
         ensures no_fault { OnOk result (failed self.new ≡ failed self.old) };
 
-    /// How many calls failed, up to the greatest number of 64 bits.
+    /// Returns the number of calls that failed, up to the greatest number of 64 bits.
     fn failures(&self) -> u64
         ensures { result ≡ failed self.now };
 }

@@ -199,7 +199,7 @@ pub record Asks (words : List (List ℕ)) (what : Asked) : Type 0 where
   pub faultless : faults_of names words ≡ []
   pub asked : AsksFor names words what
 
--- the fault is one that the words have, and isn't want of memory
+-- the fault is one in the words, and isn't that of running out of memory
 pub record IsFault (names : Names) (words : List (List ℕ)) (k : ErrorKind) : Type 0 where
   pub among : IsAmong k (faults_of names words)
   pub not_memory : k ≡ kind.OutOfMemory → ⊥

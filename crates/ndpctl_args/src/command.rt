@@ -35,7 +35,7 @@ const DEFAULT_NEIGHBOURS: &str = "512";
 /// The default of `--routers`, as in `Limits::usual`.
 const DEFAULT_ROUTERS: &str = "16";
 
-/// Returns the option `--name`, whose value is `default` where the words don't give one. `help` is its text in the help.
+/// Returns the option `--name`, whose value is `default` if the words don't give one. `help` is its text in the help.
 fn defaulted<'a>(alloc: Global, name: &'a str, default: &'a str, help: &'a str) -> Arg<'a>
     ensures rule { rule_of result ≡ option_with_default name.entry.now default.entry.now }
     ensures local { result.global ≡ false }

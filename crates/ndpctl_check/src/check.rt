@@ -17,7 +17,7 @@ use std::alloc::Allocator;
 /// The most bytes of a frame: a line has at most 16,384 digits (our choice).
 const LONGEST_FRAME: usize = 8192;
 
-/// What answers lines of frames, with room for one frame.
+/// An answerer of lines of frames, with room for one frame.
 #[derive(Drop)]
 struct Check {
     frame: [u8; LONGEST_FRAME],
@@ -44,13 +44,12 @@ impl AnsweringEach for Check {
     }
 }
 
-/// Answers each line of the reader into the writer: a line holds a frame in hexadecimal, and its answer
-/// is what the frame is, or the first reason to drop it.
+/// Writes to `writer` the answer to each line of `reader`: a line holds a frame in hexadecimal, and its answer is what the frame is, or the first
+/// reason to drop it.
 ///
-/// The error is `Line(n)` for the first malformed line, counted from 1, which is too long or no even
-/// number of hexadecimal digits; all lines before it were answered. Otherwise it is out of memory, and all
-/// lines before the one at which it ran out were answered, or a fault of the reader or the writer, and a
-/// beginning of the text was written.
+/// Returns `Line(n)` for the first malformed line, counted from 1, which is too long or no even number of hexadecimal digits; all lines before it
+/// were answered. Otherwise memory ran out, and all lines before the one at which it did were answered, or the reader or the writer has a fault,
+/// and a beginning of the text was written.
 pub fn run_check<R: Input, W: Output, A: Allocator + Clone>(
     alloc: A,
     reader: &mut R,
@@ -60,7 +59,7 @@ pub fn run_check<R: Input, W: Output, A: Allocator + Clone>(
     ensures line { (n : ℕ) → IsErrOf result (ToolFault.Line n) → Wrote (text_of_each answer_to) (malformed_of_each answer_to) (R.remaining reader.old) (W.contents writer.old) (W.contents writer.new) (Some n) }
     ensures front { OnErr result (WroteFront (text_of_each answer_to) (R.remaining reader.old) (W.contents writer.old) (W.contents writer.new)) }
     ensures read_failed { IsErrOf result ToolFault.Read → HasRisen (R.failed reader.old) (R.failed reader.new) ⊎ HasGrownBy most_reads (R.given reader.old) (R.given reader.new) }
-    // Where a read fails, the answers to all lines that were read before it are written.
+    // If a read fails, the answers to all lines that were read before it are written.
     ensures answered { IsErrOf result ToolFault.Read → Answered (text_of_each answer_to) (malformed_of_each answer_to) (R.remaining reader.old) (R.remaining reader.new) (W.contents writer.old) (W.contents writer.new) }
     ensures write_failed { IsErrOf result ToolFault.Write → HasRisen (W.failed writer.old) (W.failed writer.new) }
     // Out of memory: the answers to all lines before the one at which it ran out are written, whole. That line is not malformed.

@@ -52,7 +52,7 @@ fn write_router_advertisement<A: Allocator>(
     write_times(text, advertisement)
 }
 
-/// Writes an address behind a word.
+/// Writes an address after a word.
 #[tactic(auto, unfolding(crate::specs::MessageText::labelled))]
 fn write_address<A: Allocator>(
     text: &mut String<A>,

@@ -92,7 +92,7 @@ fn write_names<A: Allocator>(
     write_each_name(text, names)
 }
 
-/// Writes how many bytes a Redirected Header has of its packet.
+/// Writes the number of bytes that a Redirected Header has of its packet.
 fn write_redirected<A: Allocator>(text: &mut String<A>, packet: &[u8]) -> Result<(), AllocError>
     ensures { OnOk result (string_bytes text.new ≡ string_bytes text.old ++ option_text (options.redirected packet.now)) }
 {

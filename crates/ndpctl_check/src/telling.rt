@@ -8,7 +8,7 @@ use crate::words::write_number;
 use nd_validity::{Hearing, hear_in_some_role};
 use std::alloc::{AllocError, Allocator};
 
-/// Writes what a frame is. The error is out of memory.
+/// Writes what a frame is. Returns an error if out of memory.
 fn tell<A: Allocator>(text: &mut String<A>, hearing: &Hearing<'_>) -> Result<(), AllocError>
     ensures { OnOk result (string_bytes text.new ≡ string_bytes text.old ++ told (outcome hearing.now)) }
 {
@@ -26,7 +26,7 @@ fn tell<A: Allocator>(text: &mut String<A>, hearing: &Hearing<'_>) -> Result<(),
     }
 }
 
-/// Writes what a frame is to the role that takes its message, and a line feed. The error is out of memory.
+/// Writes what a frame is to the role that takes its message, and a line feed. Returns an error if out of memory.
 pub fn tell_line<A: Allocator>(text: &mut String<A>, frame: &[u8]) -> Result<(), AllocError>
     ensures { OnOk result (string_bytes text.new ≡ string_bytes text.old ++ (told (hearing_in_some_role frame.now) ++ 10 ∷ [])) }
 {

@@ -4,7 +4,7 @@ ghost use Rattle.ndpctl_check.specs.Words.{letter_text, three_flags_text};
 use itoa::Buffer;
 use std::alloc::{AllocError, Allocator};
 
-/// Writes a word, and a number behind it.
+/// Writes a word, and a number after it.
 pub(crate) fn write_number<A: Allocator>(
     text: &mut String<A>,
     word: &str,
@@ -16,7 +16,7 @@ pub(crate) fn write_number<A: Allocator>(
     text.push_str(Buffer::new().format(number))
 }
 
-/// Writes a word, and a count behind it.
+/// Writes a word, and a count after it.
 pub(crate) fn write_count<A: Allocator>(
     text: &mut String<A>,
     word: &str,

@@ -12,7 +12,7 @@ use Rattle.nd_link.specs.declared.link.Link.{Link}
 use Rattle.nd_link.specs.Link.{Stands}
 use Rattle.nd_link.specs.Time as time
 
--- From each log that the link stood for, where its wire is faithful, the event leads to one that it stands for, and what is told of that was put
+-- From each log that the link stood for, where its wire is faithful, the event leads to one that it stands for, and what is reported of that was put
 -- at the end. What the event brings is bytes.
 pub record AnswersEvent {W R A : Type 0} (arrives : ℕ → List ℕ → List ℕ → Type 0) (stream : R → Stream) (old new : Link W R A) (at : ℕ) (event : Event) (before after : List ℕ) : Type 0 where
   pub told : List ℕ

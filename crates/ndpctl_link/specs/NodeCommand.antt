@@ -1,4 +1,4 @@
--- The words by which a command comes to a node of a link (the texts are this project's own).
+-- The words that pass a command to a node of a link (the texts are this project's own).
 use Rattle.std.specs.Prelude.{◌≢◌, ◌^◌, ℕ, List}
 use Rattle.nd_chronicle.specs.Event.{Event, Receives}
 use Rattle.ndpctl_run.specs.Command.{IsCommand}

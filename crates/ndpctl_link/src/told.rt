@@ -73,7 +73,6 @@ fn write_one<A: Allocator, B: Allocator>(
 
 /// Appends the text of what a link reports: the lines of each node begin with its number, and those of the link with `link`. Returns an error if
 /// out of memory.
-///
 pub fn write_told<A: Allocator, B: Allocator>(
     text: &mut String<A>,
     told: &[Told<B>],

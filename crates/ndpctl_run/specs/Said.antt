@@ -4,7 +4,7 @@ use Rattle.nd_lines.specs.Lines.{longest_line}
 
 -- by the grammar of a line
 module _ {E : Type 0} (IsLine : List ℕ → ℕ → E → Type 0) where
-  -- the line says that an event comes at a moment
+  -- the line says that there is an event at a moment
   pub record Says (line : List ℕ) (at : ℕ) (event : E) : Type 0 where
     pub short : length line ≤ longest_line
     pub spelled : IsLine line at event

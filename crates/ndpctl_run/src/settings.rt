@@ -64,7 +64,8 @@ fn read_lifetime(word: &[u8], max_interval: u16) -> Option<u16>
 }
 
 /// Returns the settings that the words of a text spell: MinRtrAdvInterval, MaxRtrAdvInterval and AdvDefaultLifetime in seconds, AdvCurHopLimit, the
-/// flags with the preference, AdvReachableTime and AdvRetransTimer in milliseconds, and AdvLinkMTU in bytes, 0 standing for none (RFC 4861, section 6.2.1).
+/// flags with the preference, AdvReachableTime and AdvRetransTimer in milliseconds, and AdvLinkMTU in bytes, 0 standing for none (RFC 4861, section
+/// 6.2.1).
 pub(crate) fn read_settings(text: &[u8]) -> Option<Config>
     ensures found { IfSome result (λ settings. AreSettings text.now settings) }
     ensures only { (settings : Settings) → AreSettings text.now settings → result ≡ Some settings }

@@ -26,7 +26,7 @@ status_of_words DisplayHelp = 0
 status_of_words DisplayVersion = 0
 status_of_words k = 2
 
--- that of the words, 2 for a bad value, or that of want of memory
+-- that of the words, 2 for a bad value, or that of running out of memory
 abbrev pub status_of_refusal : Refused → ℕ
 status_of_refusal (Told error) = status_of_words (kind_of error)
 status_of_refusal Mac = 2

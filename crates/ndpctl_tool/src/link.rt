@@ -17,7 +17,7 @@ use std::alloc::Allocator;
 use std::io::ErrorKind;
 use std::net::Net;
 
-/// A link whose frames are carried by memory.
+/// Runs a link whose frames are carried by memory.
 pub(crate) fn link_over_memory<R: Input, W: Output, A: Allocator + Copy>(
     alloc: A,
     reader: &mut R,
@@ -38,8 +38,8 @@ pub(crate) fn link_over_memory<R: Input, W: Output, A: Allocator + Copy>(
     run_link(alloc, reader, writer, &mut script)
 }
 
-/// The same over datagrams between sockets of this machine. If a socket can't be opened, the wire failed; if there is no memory for the sockets, it
-/// is out of memory.
+/// Runs the same over datagrams between sockets of this machine. If a socket can't be opened, the wire failed; if there is no memory for the
+/// sockets, the fault is `Memory`.
 pub(crate) fn link_over_datagrams<N: Net, R: Input, W: Output, A: Allocator + Copy>(
     net: &N,
     alloc: A,

@@ -1,4 +1,4 @@
-//! The whole program, but for where its input comes from.
+//! The whole program, except for the source of its input.
 
 use crate::ending::Ending;
 use crate::run::run;
@@ -12,8 +12,8 @@ use std::rt::Env;
 
 /// Does what the words of the command line ask for, on the lines of `reader`, and returns the exit status.
 ///
-/// The answers go to the standard output of `rt`, each before the next read, and so does the help that the words ask for. A complaint goes to standard
-/// error.
+/// The answers go to the standard output of `rt`, each before the next read, and so does the help that the words ask for. A complaint goes to
+/// standard error.
 pub fn tool<R: Env + Print + Eprint + AllocGlobal, N: Net, I: Input>(
     rt: &R,
     net: &N,

@@ -29,7 +29,7 @@ pub fn run<N: Net, R: Input, W: Output, A: Allocator + Copy>(
     ensures front { IsClaimed asked → OnErr result (TellsFront (texts_asked asked) (R.remaining reader.old) (W.contents writer.old) (W.contents writer.new)) }
     ensures beginning { IsClaimed asked → OnErr result (TellsBeginning (texts_asked asked) (R.remaining reader.old) (W.contents writer.old) (W.contents writer.new)) }
     ensures read_failed { IsErrOf result ToolFault.Read → HasRisen (R.failed reader.old) (R.failed reader.new) ⊎ HasGrownBy most_reads (R.given reader.old) (R.given reader.new) }
-    // Where a read fails, the answers to all lines that were read before it are written.
+    // If a read fails, the answers to all lines that were read before it are written.
     ensures answered { IsClaimed asked → IsErrOf result ToolFault.Read → TellsAsRead (texts_asked asked) (R.remaining reader.old) (R.remaining reader.new) (W.contents writer.old) (W.contents writer.new) }
     ensures write_failed { IsErrOf result ToolFault.Write → HasRisen (W.failed writer.old) (W.failed writer.new) }
     // Out of memory: the answers to all lines before the one at which it ran out are written, whole. That line is not malformed.

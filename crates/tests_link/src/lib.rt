@@ -1,4 +1,4 @@
-//! Tests of a link: what its events tell, and the lines and the text of `link`. They stand here, so that no crate is proved a second time
+//! Tests of a link: what its events report, and the lines and the text of `link`. They are here, so that no crate is proved a second time
 //! for its tests. There is nothing here but tests.
 #![tactic(auto)]
 

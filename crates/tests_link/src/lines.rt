@@ -173,7 +173,7 @@ fn nodes_that_cannot_start_are_malformed(rt: HostRuntime) {
     }
 }
 
-/// A frame comes to a node by the link alone.
+/// A node receives frames from the link alone.
 #[test]
 fn other_commands_are_malformed(rt: HostRuntime) {
     for line in [

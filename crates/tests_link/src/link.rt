@@ -21,7 +21,7 @@ const F1: &str =
 const F2: &str =
     "3333000000023456789abcde86dd6000000000103afffe80000000000000365678fffe9abcdeff0200000000000000000000000000028500a78f0000000001013456789abcde";
 
-/// The answer to that solicitation by who holds the address.
+/// The answer to that solicitation by the node that has the address.
 const F9: &str =
     "3333000000013456789abcde86dd6000000000203afffe80000000000000365678fffe9abcdeff02000000000000000000000000000188001a3020000000fe80000000000000365678fffe9abcde02013456789abcde";
 
@@ -30,7 +30,7 @@ fn host() -> LinkEvent<Pcg32, Global> {
     LinkEvent::Starts(Role::Host, MAC, Transmits::ONE, Pcg32::seed_from_u64(0))
 }
 
-/// The lines of what is told, each behind the number of its node.
+/// The lines of what is reported, each after the number of its node.
 fn write_lines(rt: &impl Abort, text: &mut String<Global>, told: &[Told<Global>]) {
     for one in told {
         match one {
@@ -57,14 +57,14 @@ fn write_lines(rt: &impl Abort, text: &mut String<Global>, told: &[Told<Global>]
     }
 }
 
-/// These lines are told: the text comes in parts.
+/// These lines are reported: the text is written in parts.
 fn is_told(rt: &impl Abort, alloc: Global, told: &[Told<Global>], wanted: &[&str]) {
     let mut text = String::new(alloc);
     write_lines(rt, &mut text, told);
     assert_eq!(rt; text.as_str(), joined(rt, alloc, wanted).as_str());
 }
 
-/// An event comes. A function of its own, so that no test's proof carries what an event adds.
+/// Passes an event. A function of its own, so that no test's proof carries what an event adds.
 fn comes<W: Wire>(
     rt: &impl Abort,
     link: &mut Link<W, Pcg32, Global>,
@@ -111,7 +111,7 @@ fn over_datagrams_they_find_it_too(rt: HostRuntime) {
     two_try(&rt, rt.alloc(), wire);
 }
 
-/// Who holds an address answers who tries it later (RFC 4861, section 7.2.4); and each refusal of the link.
+/// A node that has an address answers one that tries it later (RFC 4861, section 7.2.4); and each refusal of the link.
 #[test]
 fn a_holder_answers(rt: HostRuntime) {
     let mut link = Link::new(rt.alloc(), MemoryWire);
@@ -149,8 +149,8 @@ fn a_holder_answers(rt: HostRuntime) {
     );
 }
 
-/// Where a frame may take half of RetransTimer the answer may come when the address is assigned, and then two nodes have it: so a timely link
-/// has to be faster (RFC 4862, section 5.4).
+/// If a frame may take half of RetransTimer, the answer can arrive when the address is assigned, and then two nodes have it: so a timely link
+/// must be faster (RFC 4862, section 5.4).
 #[test]
 fn an_answer_after_retrans_timer_is_too_late(rt: HostRuntime) {
     let mut link = Link::new(rt.alloc(), MemoryWire);
@@ -179,7 +179,7 @@ fn an_answer_after_retrans_timer_is_too_late(rt: HostRuntime) {
     );
 }
 
-/// A frame that comes twice is heard twice, and one that comes late is heard.
+/// A frame that arrives twice is heard twice, and one that arrives late is heard.
 #[test]
 fn repeated_and_late_frames_are_heard(rt: HostRuntime) {
     let mut link = Link::new(rt.alloc(), MemoryWire);
@@ -214,7 +214,7 @@ fn a_seventeenth_node_is_refused(rt: HostRuntime) {
     assert!(rt; matches!(&told[..], [Told::Refused(7, Refusal::Full)]));
 }
 
-/// Where the wire fails all that was due has come, the receiver has heard nothing, and the same delivery may be tried again.
+/// If the wire fails, all that was due is done, the receiver has heard nothing, and the same delivery may be tried again.
 #[test]
 fn a_fault_of_the_wire_leaves_the_turns(rt: HostRuntime) {
     let mut link = Link::new(rt.alloc(), FailingWire::new(MemoryWire, 0));
@@ -239,7 +239,7 @@ fn a_fault_of_the_wire_leaves_the_turns(rt: HostRuntime) {
     assert!(rt; link.failures() == 1);
 }
 
-/// Events come by one call, up to a fault of the wire, and those that are left by another.
+/// One call takes events, up to a fault of the wire, and those that are left by another.
 #[test]
 fn events_come_one_after_the_other(rt: HostRuntime) {
     let mut link = Link::new(rt.alloc(), FailingWire::new(MemoryWire, 1));

@@ -11,7 +11,7 @@ use std::test::*;
 /// How often the router advertises: more than 4,096 turns up to one event, and more than 1,024 frames.
 const ADVERTISEMENTS: u64 = 5000;
 
-/// A router that advertises each 3 s, and a host; both have 5,000 advertisements' time. Then the last of them is delivered, and one line comes far too
+/// A router that advertises each 3 s, and a host; both have 5,000 advertisements' time. Then the last of them is delivered, and one line is far too
 /// late.
 fn lines(alloc: Global, last: u64) -> Result<String, AllocError> {
     let mut lines = String::from_str(
@@ -24,7 +24,7 @@ fn lines(alloc: Global, last: u64) -> Result<String, AllocError> {
     Ok(lines)
 }
 
-/// What is told of them (RFC 4861, sections 6.2.4 and 6.3.7).
+/// What is reported of them (RFC 4861, sections 6.2.4 and 6.3.7).
 fn wanted(alloc: Global, last: u64) -> Result<String, AllocError> {
     let mut wanted = String::from_str(
         alloc,

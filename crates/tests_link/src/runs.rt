@@ -14,7 +14,7 @@ const TWO_TRY: &str =
 const BOTH_SENT: &str =
     "n0 0 tx 3333ff9abcde3456789abcde86dd6000000000183aff00000000000000000000000000000000ff0200000000000000000001ff9abcde870053df00000000fe80000000000000365678fffe9abcde\nn1 0 tx 3333ff9abcde3456789abcde86dd6000000000183aff00000000000000000000000000000000ff0200000000000000000001ff9abcde870053df00000000fe80000000000000365678fffe9abcde\n";
 
-/// What the first two of these lines say: the second host sends once the third line comes.
+/// What the first two of these lines say: the second host sends after the third line.
 const FIRST_SENT: &str =
     "n0 0 tx 3333ff9abcde3456789abcde86dd6000000000183aff00000000000000000000000000000000ff0200000000000000000001ff9abcde870053df00000000fe80000000000000365678fffe9abcde\n";
 
@@ -29,7 +29,7 @@ const ONE_HOLDS: &str =
 const HELD: &str =
     "n0 0 tx 3333ff9abcde3456789abcde86dd6000000000183aff00000000000000000000000000000000ff0200000000000000000001ff9abcde870053df00000000fe80000000000000365678fffe9abcde\nn0 1000 assigned fe80::3656:78ff:fe9a:bcde\nn0 1000 tx 3333000000023456789abcde86dd6000000000103afffe80000000000000365678fffe9abcdeff0200000000000000000000000000028500a78f0000000001013456789abcde\nn1 2000 tx 3333ff9abcde3456789abcde86dd6000000000183aff00000000000000000000000000000000ff0200000000000000000001ff9abcde870053df00000000fe80000000000000365678fffe9abcde\nn0 2400 heard ns\nn0 2400 tx 3333000000013456789abcde86dd6000000000203afffe80000000000000365678fffe9abcdeff02000000000000000000000000000188001a3020000000fe80000000000000365678fffe9abcde02013456789abcde\nn1 2800 heard na\nn1 2800 duplicate fe80::3656:78ff:fe9a:bcde\nlink 2800 refused no-frame\n";
 
-/// One host tries an address three times that another holds. The first solicitation is lost; the second one comes, and its answer (RFC 4862,
+/// One host tries an address three times that another holds. The first solicitation is lost; the second one arrives, and its answer (RFC 4862,
 /// section 5.4).
 const SECOND_OF_THREE_COMES: &str =
     "0 node host 34:56:78:9a:bc:de word:0\n2000 node host 34:56:78:9a:bc:de word:0 3\n3400 deliver 0 3\n3800 deliver 1 4\n5000 on 1 at\n";
@@ -60,7 +60,7 @@ fn run<W: Wire + Drop>(
     (writer.into_inner(), done)
 }
 
-/// These parts, one behind the other.
+/// Returns these parts, one after the other.
 pub(crate) fn joined(rt: &impl Abort, alloc: Global, parts: &[&str]) -> String {
     let mut text = String::new(alloc);
     for part in parts {
@@ -130,7 +130,7 @@ fn one_of_two_is_assigned_where_every_second_frame_is_lost(rt: HostRuntime) {
     );
 }
 
-/// If the wire fails at a line, the answers to all lines before it are written, whatever pieces the lines come in.
+/// If the wire fails at a line, the answers to all lines before it are written, for any pieces of the lines.
 #[test]
 fn a_wire_that_fails_ends_the_run(rt: HostRuntime) {
     for piece in [1, 7, 4096] {
@@ -169,7 +169,7 @@ fn a_malformed_line_ends_the_run(rt: HostRuntime) {
     );
 }
 
-/// A malformed line is told as such, however long it is.
+/// A malformed line is reported as one, however long it is.
 #[test]
 fn a_long_malformed_line_ends_the_run(rt: HostRuntime) {
     let mut lines = joined(&rt, rt.alloc(), &[TWO_TRY, "400 on 0 rx "]);

@@ -42,7 +42,7 @@ fn duplicate(rt: &(impl Abort + AllocGlobal), node: usize, at: u64) -> Told<Glob
     Told::Node(node, outs)
 }
 
-/// This text is written of what is told.
+/// This text is written for what is reported.
 fn is_told(rt: &(impl Abort + AllocGlobal), told: &[Told<Global>], wanted: &str) {
     let mut text = String::new(rt.alloc());
     write_told(&mut text, told).expect(rt, "memory");

@@ -63,7 +63,7 @@ fn piece(heap: &LocalHeap) -> Result<Vec<u8, &LocalHeap>, AllocError> {
     Vec::with_capacity(heap, 1)
 }
 
-/// Hears the options of a message: whether there was memory for the names that they add.
+/// Hears the options of a message. Returns true if there was memory for the names that they add.
 fn hear(rt: &impl Abort, dns: &mut Dns<&LocalHeap>, options: Options<'_>) -> bool {
     match dns.names(0, options) {
         Ok(names) => {
@@ -95,7 +95,7 @@ fn a_message_that_adds_no_name_needs_no_memory(rt: HostRuntime) -> Result<(), Fa
     }
     assert!(rt; piece(&heap).is_err());
     assert!(rt; !hear(&rt, &mut dns, other_name.options));
-    // A message without a name, and one whose name stands already.
+    // A message without a name, and one whose name is listed already.
     assert!(rt; hear(&rt, &mut dns, no_name.options));
     assert!(rt; hear(&rt, &mut dns, first.options));
     Ok(())

@@ -33,7 +33,7 @@ fn small<'h>(rt: &impl Abort, heap: &'h LocalHeap, role: Role) -> Node<Pcg32, &'
     node
 }
 
-/// The event is refused, while there is no memory and one place for what is reported.
+/// The event is refused, while there is no memory and room for one report.
 fn is_refused<'h>(
     rt: &impl Abort,
     heap: &'h LocalHeap,

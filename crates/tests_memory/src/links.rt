@@ -19,18 +19,18 @@ const OTHER_MAC: Mac = Mac([2, 0, 0, 0, 0, 2]);
 
 const OTHER: Addr = Addr([0xfe, 0x80, 0, 0, 0, 0, 0, 0, 0, 0, 0, 0xff, 0xfe, 0, 0, 2]);
 
-/// How many bytes a list of what is told of an event asks for: it has room for four entries. An entry is a moment of 8 bytes, at most four addresses, two
-/// of them in a Redirect, and at most two words that say what it is.
+/// The number of bytes that a list of what an event reports asks for: it has room for four entries. An entry is a moment of 8 bytes, at most
+/// four addresses, two of them in a Redirect, and at most two words that say what it is.
 const TOLD: u64 = 4 * (8 + 4 * 16 + 2 * 8);
 
-/// How many bytes a frame that was sent has in the list of these: a number and a list, five words in all. The list doubles as it grows, so it has less
-/// than twice the room that it needs, and asked for less than twice that.
+/// The number of bytes that a sent frame has in the list of these: a number and a list, five words in all. The list doubles as it grows, so it
+/// has less than twice the room that it needs, and asked for less than twice that.
 const LISTED: u64 = 5 * 8;
 
 /// How often it grows at most, up to a thousand frames.
 const GROWTHS: u64 = 10;
 
-/// An event comes. A function of its own, so that no test's proof carries what an event adds.
+/// Passes an event. A function of its own, so that no test's proof carries what an event adds.
 fn comes<'h>(
     rt: &impl Abort,
     link: &mut Link<MemoryWire, Pcg32, &'h Heap>,
@@ -109,7 +109,7 @@ fn how_much_a_link_asks_for(rt: HostRuntime) {
     let heap = Refusing::new(rt.alloc());
     let mut told = Vec::with_capacity(&heap, 16).expect(&rt, "memory");
     let mut link = two_hosts(&rt, &heap, &mut told);
-    // The first solicitation, for an address that isn't the other's, of 78 bytes: it is carried, and dropped, which is told.
+    // The first solicitation, for an address that isn't the other's, of 78 bytes: it is carried, and dropped, which is reported.
     let dropped = Delivered {
         requests: 2,
         bytes: 78 + TOLD,

@@ -14,7 +14,7 @@ use std::test::*;
 
 type Heap = Refusing<Global>;
 
-/// How many destinations there are: one more than are remembered.
+/// The number of destinations: one more than are remembered.
 const DESTINATIONS: u16 = 257;
 
 /// No request is refused, or the first one of each event.
@@ -22,7 +22,7 @@ const NO_REQUEST: u64 = 0;
 
 const FIRST_REQUEST: u64 = 1;
 
-/// An event comes at 3 s. A function of its own, so that no test's proof carries what an event adds.
+/// Passes an event at 3 s. A function of its own, so that no test's proof carries what an event adds.
 fn come<'h>(
     rt: &impl Abort,
     node: &mut Node<Pcg32, &'h Heap>,

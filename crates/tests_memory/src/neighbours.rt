@@ -46,7 +46,7 @@ fn state(cache: &Cache<&LocalHeap>, n: u8) -> Option<Reachability> {
     cache.entry(0, addr(n)).map(|entry| entry.state)
 }
 
-/// Whether the cache has the first neighbour alone, and place for another.
+/// Returns true if the cache has the first neighbour alone, and room for another.
 fn has_one(cache: &Cache<&LocalHeap>) -> bool {
     state(cache, 1) == Some(Reachability::Stale)
         && state(cache, 2) == None
@@ -54,7 +54,7 @@ fn has_one(cache: &Cache<&LocalHeap>) -> bool {
         && cache.room(0, addr(2), None)
 }
 
-/// Whether it has both, and a packet that waits for the second one.
+/// Returns true if it has both, and a packet that waits for the second one.
 fn has_both(cache: &Cache<&LocalHeap>) -> bool {
     state(cache, 1) == Some(Reachability::Stale)
         && state(cache, 2) == Some(Reachability::Incomplete)
@@ -84,7 +84,7 @@ fn use_second<'h>(
             None
         }
         Err((refusal, back)) => {
-            // The frame comes back, and the cache is as it was.
+            // The frame is returned, and the cache is as it was.
             assert!(rt; refusal == CacheRefusal::Memory);
             assert!(rt; back.as_bytes().first() == Some(&7));
             assert!(rt; has_one(cache));

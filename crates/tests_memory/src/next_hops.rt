@@ -41,7 +41,7 @@ impl View for OneRouter {
     }
 }
 
-/// How many destinations there are: one more than are remembered.
+/// The number of destinations: one more than are remembered.
 const DESTINATIONS: u16 = 257;
 
 /// Where no pair can be remembered for lack of memory, each destination has its next hop all the same.

@@ -13,7 +13,7 @@ use std::alloc::{AllocError, Global};
 use std::process::Abort;
 use std::test::*;
 
-/// More than a node and all that comes here take.
+/// More than a node and all events here take.
 pub(crate) const AMPLE: usize = 1 << 22;
 
 /// The blocks that take what is left of a heap, in bytes.
@@ -64,14 +64,14 @@ pub(crate) const REDIRECT: [u8; 102] = [
     2, 1, 2, 0, 0, 0, 0, 2,
 ];
 
-/// A packet of 2001:db8::9 to 2001:db8:1::5, which a router sends on, and tells its sender of a better hop.
+/// A packet of 2001:db8::9 to 2001:db8:1::5, which a router sends on, with a Redirect of its sender to a better hop.
 pub(crate) const TRANSIT: [u8; 54] = [
     0x34, 0x56, 0x78, 0x9a, 0xbc, 0xde, 2, 0, 0, 0, 0, 9, 0x86, 0xdd, 0x60, 0, 0, 0, 0, 0, 0x11,
     0x40, 0x20, 1, 0x0d, 0xb8, 0, 0, 0, 0, 0, 0, 0, 0, 0, 0, 0, 9, 0x20, 1, 0x0d, 0xb8, 0, 1, 0, 0,
     0, 0, 0, 0, 0, 0, 0, 5,
 ];
 
-/// An event comes. A function of its own, so that no test's proof carries what an event adds.
+/// Passes an event. A function of its own, so that no test's proof carries what an event adds.
 pub(crate) fn come<'h>(
     node: &mut Node<Pcg32, &'h LocalHeap>,
     now: u64,
@@ -101,7 +101,7 @@ pub(crate) fn host<'h>(rt: &impl Abort, heap: &'h LocalHeap) -> Node<Pcg32, &'h 
     node
 }
 
-/// A frame comes.
+/// Receives a frame.
 pub(crate) fn receives<'h>(
     heap: &'h LocalHeap,
     bytes: &[u8],
@@ -111,7 +111,7 @@ pub(crate) fn receives<'h>(
     Ok(Event::Receives(frame))
 }
 
-/// A packet without a payload is to be sent.
+/// Sends a packet without a payload.
 pub(crate) fn sends(heap: &LocalHeap, destination: Addr) -> Event<&LocalHeap> {
     Event::Sends(OutgoingPacket {
         source: OWN,
@@ -136,7 +136,7 @@ pub(crate) fn exhaust<'h>(
     blocks
 }
 
-/// Takes blocks of one size, until there is none any more.
+/// Takes blocks of one size, until there is none left.
 fn fill<'h>(
     heap: &'h LocalHeap,
     size: usize,
@@ -178,7 +178,7 @@ fn shown<'h>(
     text
 }
 
-/// The events that ask for no memory come, while there is none left.
+/// Passes the events that ask for no memory, while there is none left.
 fn take_without_memory<'h>(
     rt: &impl Abort,
     heap: &'h LocalHeap,
@@ -211,7 +211,7 @@ fn take_without_memory<'h>(
 }
 
 /// The events that ask for no memory: time that passes, a frame that is dropped, an advertisement that adds nothing, a confirmation, a
-/// neighbour that isn't known and is forgotten, tables that are cleared without a word, and an event that comes too late.
+/// neighbour that isn't known and is forgotten, tables that are cleared without a word, and an event that is too late.
 #[test]
 fn a_host_without_memory_takes_what_asks_for_none(rt: HostRuntime) {
     let heap = LocalHeap::new(rt.alloc(), AMPLE).expect(&rt, "memory");
@@ -234,7 +234,7 @@ fn a_host_without_memory_takes_what_asks_for_none(rt: HostRuntime) {
     );
 }
 
-/// An event comes while so many blocks of 16 bytes are left.
+/// Passes an event while this number of blocks of 16 bytes is left.
 fn try_event<'h>(
     rt: &impl Abort,
     heap: &'h LocalHeap,
@@ -254,7 +254,7 @@ fn try_event<'h>(
 }
 
 /// Each request of an event is the one that is refused in some try, since each try has 16 bytes more than the one before; and each that is
-/// refused leaves all tables as they were, and tells nothing. The tries are few, so the event asks for little memory.
+/// refused leaves all tables as they were, and reports nothing. The tries are few, so the event asks for little memory.
 fn refuse_each<'h>(
     rt: &impl Abort,
     heap: &'h LocalHeap,
@@ -348,7 +348,7 @@ fn router<'h>(rt: &impl Abort, heap: &'h LocalHeap) -> Node<Pcg32, &'h LocalHeap
     node
 }
 
-/// A packet that is sent on, and the Redirect before it; what is shown; an advertisement that falls due, 16 s after the first at most, and
+/// A packet that is sent on, and the Redirect before it; what is shown; an advertisement that is due, 16 s after the first at most, and
 /// the last one.
 #[test]
 fn each_request_of_a_routers_event_is_refused_once(rt: HostRuntime) {

@@ -6,7 +6,7 @@ use std::test::*;
 /// The most calls of a run.
 const MOST: usize = 8;
 
-/// Runs over heaps of every size, from none at all up. A run tells the call for which there was no memory, by its number below
+/// Runs over heaps of every size, from none at all up. A run returns the call for which there was no memory, by its number below
 /// `calls`, or that there was memory for all. Each call must be refused in some run, and none once there was memory for all.
 pub(crate) fn each_is_refused_once<F: Fn(&LocalHeap) -> Option<usize>>(
     rt: &impl Abort,

@@ -40,22 +40,22 @@ const ROUTER_SOLICITATION: [u8; 70] = [
     2, 0x85, 0, 0x7a, 0x2a, 0, 0, 0, 0, 1, 1, 2, 0, 0, 0, 0, 2,
 ];
 
-/// Who asks.
+/// The asker.
 const ASKER: Addr = Addr([0xfe, 0x80, 0, 0, 0, 0, 0, 0, 0, 0, 0, 0, 0, 0, 0, 2]);
 
-/// How often an event comes while it is counted.
+/// The number of times that an event is passed while it is counted.
 pub(crate) const TIMES: u64 = 1000;
 
-/// How often an event comes before it is counted. By then a node keeps what it keeps of it: three packets wait for a neighbour at most.
+/// How often an event is passed before it is counted. By then a node keeps what it keeps of it: three packets wait for a neighbour at most.
 const FIRST: u64 = 4;
 
-/// Room for as much as any event here tells, in entries: at most 20, and four in reserve for a turn.
+/// Room for as much as any event here reports, in entries: at most 20, and four in reserve for a turn.
 const ROOM: usize = 24;
 
 /// The frame of a solicitation or an advertisement of a neighbour: a message of 24 bytes, and a link-layer address in 8.
 pub(crate) const FRAME: u64 = 14 + 40 + 24 + 8;
 
-/// How many bytes a host asks for at most that shows two neighbours: 32 for each in a list of them; four for each byte of a text, since its room
+/// The most bytes that a host asks for to show two neighbours: 32 for each in a list of them; four for each byte of a text, since its room
 /// doubles as it grows; and a list of four texts, of four words each. The texts are `neighbour fe80::2 02:00:00:00:00:02 delay host` and
 /// `neighbour fe80::ff:fe00:1 02:00:00:00:00:01 stale router`.
 const SHOWN_BYTES: u64 = 2 * 32 + 4 * (46 + 56) + 4 * 32;
@@ -63,7 +63,7 @@ const SHOWN_BYTES: u64 = 2 * 32 + 4 * (46 + 56) + 4 * 32;
 /// How often it asks: for the two lists, and for 8, 16, 32 and 64 bytes or more of each text.
 const SHOWN_REQUESTS: u64 = 2 + 2 * 4;
 
-/// How many bytes a turn asks for at most that sends a Router Advertisement: room for a solicitation, as each turn does; for 18 options of five words,
+/// The most bytes that a turn asks for to send a Router Advertisement: room for a solicitation, as each turn does; for 18 options of five words,
 /// which are a lifetime and a list; and for the frame, with a message of 16 bytes and a link-layer address in 8.
 const ADVERTISED_BYTES: u64 = FRAME + 18 * 40 + (14 + 40 + 16 + 8);
 
@@ -76,7 +76,7 @@ const MINUTES: u64 = 100;
 /// What an event asks for.
 #[derive(Clone, Copy)]
 struct Asked {
-    /// How many entries it tells.
+    /// The number of entries that it reports.
     told: u64,
     /// How often it asks for memory.
     requests: u64,
@@ -84,7 +84,7 @@ struct Asked {
     bytes: u64,
 }
 
-/// Takes an event. There is room for all that is told.
+/// Takes an event. There is room for all that is reported.
 fn ask<'h>(
     rt: &impl Abort,
     heap: &'h Heap,
@@ -105,8 +105,8 @@ fn ask<'h>(
     }
 }
 
-/// Takes an event a few times at `start`, and then a thousand times, `step` ms apart. Each of these tells as many entries as `most` says and asks for as
-/// much at most, and all together leave as many bytes held as there were.
+/// Takes an event a few times at `start`, and then a thousand times, `step` ms apart. Each of these reports as many entries as `most` says and asks
+/// for as much at most, and all together leave as many bytes held as there were.
 fn asks<'h>(
     rt: &impl Abort,
     heap: &'h Heap,
@@ -132,7 +132,7 @@ fn asks<'h>(
     assert!(rt; heap.held() == held);
 }
 
-/// A frame comes.
+/// Receives a frame.
 fn receives<'h>(rt: &impl Abort, heap: &'h Heap, bytes: &[u8]) -> Event<&'h Heap> {
     let mut frame = Vec::new(heap);
     frame.extend_from_slice(bytes).expect(rt, "memory");
@@ -165,7 +165,7 @@ fn what_is_counted(rt: HostRuntime) {
     assert!(rt; heap.requests() == 2 && heap.bytes() == 300 && heap.held() == 0);
 }
 
-/// A host's events. The neighbour is known when the packet comes.
+/// A host's events. The neighbour is known when the packet is sent.
 #[test]
 fn how_much_a_host_asks_for(rt: HostRuntime) {
     let heap = Refusing::new(rt.alloc());
@@ -179,7 +179,7 @@ fn how_much_a_host_asks_for(rt: HostRuntime) {
     for (event, told, requests, bytes) in [
         // A frame that is dropped.
         (receives(&rt, &heap, &EMPTY), 1, 0, 0),
-        // It adds nothing any more.
+        // It adds nothing more.
         (receives(&rt, &heap, &ADVERTISEMENT), 1, 0, 0),
         // The answer, and room for a solicitation of the asker.
         (receives(&rt, &heap, &SOLICITATION), 2, 2, 2 * FRAME),
@@ -192,7 +192,7 @@ fn how_much_a_host_asks_for(rt: HostRuntime) {
             SHOWN_REQUESTS,
             SHOWN_BYTES,
         ),
-        // What the neighbour answers, and a Redirect to it: they add nothing any more.
+        // What the neighbour answers, and a Redirect to it: they add nothing more.
         (receives(&rt, &heap, &ANSWER), 1, 0, 0),
         (receives(&rt, &heap, &REDIRECT), 1, 0, 0),
         // Nothing is due.

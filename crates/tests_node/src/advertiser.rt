@@ -141,7 +141,7 @@ fn an_offer_breaks_no_rule(rt: HostRuntime) -> Result<(), Fail> {
     for (first, second, length, preferred, broken) in [
         (0x20, 1, 64, 10, None),
         (0x20, 1, 64, 11, Some(ConfigFault::Preferred)),
-        // The first rule that is broken is told.
+        // The first rule that is broken is returned.
         (0xff, 2, 64, 11, Some(ConfigFault::Preferred)),
         (0xff, 2, 64, 10, Some(ConfigFault::Prefix)),
         (0xfe, 0x80, 64, 10, Some(ConfigFault::Prefix)),
@@ -165,7 +165,7 @@ fn an_offer_breaks_no_rule(rt: HostRuntime) -> Result<(), Fail> {
     Ok(())
 }
 
-/// A router whose address was assigned is to advertise with these intervals in seconds.
+/// A router whose address was assigned advertises with these intervals in seconds.
 fn begin(advertiser: &mut Advertiser<Global>, min: u16, max: u16, now: u64) -> bool
     requires { now < 2 ^ 62 }
 {
@@ -191,7 +191,7 @@ fn send(rt: &impl Abort, advertiser: &mut Advertiser<Global>, now: u64, interval
     }
 }
 
-/// A solicitation is heard. It answers whether a delay was drawn for it.
+/// Hears a solicitation. Returns true if a delay was drawn for it.
 fn solicit(advertiser: &mut Advertiser<Global>, now: u64, delay: u32) -> bool
     requires { now < 2 ^ 62 }
 {
@@ -272,7 +272,7 @@ fn offer(first: u8, second: u8, length: u8, valid: u32) -> Option<Offer> {
     Offer::new(prefix(first, second, length)?, valid, 10, FLAGS).ok()
 }
 
-/// A prefix is offered. There is no answer where it is no offer.
+/// Offers a prefix. Returns `None` if it is no offer.
 fn put(
     advertiser: &mut Advertiser<Global>,
     second: u8,
@@ -320,7 +320,7 @@ fn sixteen_prefixes_are_advertised(rt: HostRuntime) {
         assert_eq!(rt; put(&mut advertiser, second, 64, 100), Some(Ok(())));
     }
     assert!(rt; put(&mut advertiser, 16, 64, 100) == Some(Err(Full)));
-    // One that is there finds its place.
+    // An existing one is replaced in its place.
     assert!(rt; put(&mut advertiser, 0, 64, 200) == Some(Ok(())));
     assert!(rt; put(&mut advertiser, 15, 64, 200) == Some(Ok(())));
     assert!(rt; put(&mut advertiser, 17, 64, 100) == Some(Err(Full)));

@@ -6,7 +6,7 @@ use std::alloc::Global;
 use std::process::Abort;
 use std::test::*;
 
-/// The host's Ethernet address, and the link-local address that comes of it.
+/// The host's Ethernet address, and the link-local address formed from it.
 const MAC: Mac = Mac([0x34, 0x56, 0x78, 0x9a, 0xbc, 0xde]);
 
 const LINK_LOCAL: Addr = Addr([
@@ -72,7 +72,7 @@ const PROBE: [u8; 86] = [
     0x34, 0x56, 0x78, 0x9a, 0xbc, 0xde,
 ];
 
-/// A host tells all nodes that fe80::3656:78ff:fe9a:bcde is held.
+/// A host says to all nodes that it has fe80::3656:78ff:fe9a:bcde.
 const DEFENCE: [u8; 86] = [
     0x33, 0x33, 0x00, 0x00, 0x00, 0x01, 0x34, 0x56, 0x78, 0x9a, 0xbc, 0xde, 0x86, 0xdd, 0x60, 0x00,
     0x00, 0x00, 0x00, 0x20, 0x3a, 0xff, 0xfe, 0x80, 0x00, 0x00, 0x00, 0x00, 0x00, 0x00, 0x36, 0x56,
@@ -158,7 +158,7 @@ const PADDED: [u8; 150] = [
     0x00, 0x00, 0x00, 0x00, 0x00, 0x00,
 ];
 
-/// What comes before the first 1,192 bytes of a packet of 1,400 bytes: the IPv6 packet has 1,280 bytes (payload length 0x4d8), the option 150
+/// What precedes the first 1,192 bytes of a packet of 1,400 bytes: the IPv6 packet has 1,280 bytes (payload length 0x4d8), the option 150
 /// units of 8 bytes.
 const LONGEST: [u8; 102] = [
     0x02, 0x00, 0x00, 0x00, 0x00, 0x09, 0x02, 0x00, 0x00, 0x00, 0x00, 0x01, 0x86, 0xdd, 0x60, 0x00,
@@ -170,7 +170,7 @@ const LONGEST: [u8; 102] = [
     0x00, 0x00, 0x00, 0x00, 0x00, 0x00,
 ];
 
-/// The same with a link-layer address: 1,184 bytes of it come behind, so that the option has 149 units.
+/// The same with a link-layer address: 1,184 bytes of it follow, so that the option has 149 units.
 const LONGEST_WITH_ADDRESS: [u8; 110] = [
     0x02, 0x00, 0x00, 0x00, 0x00, 0x09, 0x02, 0x00, 0x00, 0x00, 0x00, 0x01, 0x86, 0xdd, 0x60, 0x00,
     0x00, 0x00, 0x04, 0xd8, 0x3a, 0xff, 0xfe, 0x80, 0x00, 0x00, 0x00, 0x00, 0x00, 0x00, 0x00, 0x00,
@@ -295,7 +295,7 @@ fn a_quoted_packet_is_padded_to_a_whole_unit(rt: HostRuntime) {
     assert!(rt; is(&redirect(&rt, None, &packet), &PADDED));
 }
 
-/// These bytes, and then so many of the packet.
+/// These bytes, and then this number of bytes of the packet.
 fn quotes(
     rt: &(impl Abort + AllocGlobal),
     frame: &Packet<Global>,

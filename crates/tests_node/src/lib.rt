@@ -1,5 +1,5 @@
-//! Tests of a node, and of what it is made of beside its tables, over their public calls alone: messages, next hops, routes, what is
-//! advertised, frames, rows. They stand here, so that nothing is proved a second time for its tests. There is nothing here but tests.
+//! Tests of a node, and of what it is made of besides its tables, over their public calls alone: messages, next hops, routes, what is
+//! advertised, frames, rows. They are here, so that nothing is proved a second time for its tests. There is nothing here but tests.
 #![tactic(auto)]
 
 #[cfg(test)]

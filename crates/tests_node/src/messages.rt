@@ -120,7 +120,7 @@ fn writes_solicitation(rt: HostRuntime) {
     assert!(rt; bytes.as_slice() == &SOLICITATION[..]);
 }
 
-/// A message is put behind what stands there, in room that was made before.
+/// A message is put after other bytes, into room that was made before.
 #[test]
 fn puts_a_message_behind_other_bytes(rt: HostRuntime) {
     let body = Body::Ns(NeighborSolicitation { target: TARGET });
@@ -136,7 +136,7 @@ fn puts_a_message_behind_other_bytes(rt: HostRuntime) {
     assert!(rt; out.get(3..).expect(&rt, "the message") == &SOLICITATION[..]);
 }
 
-/// What stands in front of that solicitation in its frame: to 33:33:ff:9a:bc:de from 34:56:78:9a:bc:de, and to ff02::1:ff9a:bcde
+/// What precedes that solicitation in its frame: to 33:33:ff:9a:bc:de from 34:56:78:9a:bc:de, and to ff02::1:ff9a:bcde
 /// from ::.
 const SOLICITATION_HEADERS: [u8; 54] = [
     0x33, 0x33, 0xff, 0x9a, 0xbc, 0xde, 0x34, 0x56, 0x78, 0x9a, 0xbc, 0xde, 0x86, 0xdd, 0x60, 0x00,
@@ -373,7 +373,7 @@ fn tells_well_formed_packets(rt: HostRuntime) {
     }
 }
 
-/// Whether an advertisement with this server so many times is well-formed.
+/// Returns true if an advertisement with this server so many times is well-formed.
 fn serves(rt: &(impl Abort + AllocGlobal), server: Addr, count: usize) -> bool {
     let mut servers = Vec::new(rt.alloc());
     for _ in 0..count {
@@ -395,7 +395,7 @@ fn tells_well_formed_servers(rt: HostRuntime) {
     assert!(rt; !serves(&rt, Addr::LOOPBACK, 1));
 }
 
-/// Whether an advertisement with this name so many times, and then the other, is well-formed.
+/// Returns true if an advertisement with this name so many times, and then the other, is well-formed.
 fn searches(rt: &(impl Abort + AllocGlobal), text: &[u8], count: usize, last: &[u8]) -> bool {
     let mut names = Vec::new(rt.alloc());
     for _ in 0..count {
@@ -421,7 +421,7 @@ fn tells_well_formed_names(rt: HostRuntime) {
     assert!(rt; !searches(&rt, b"\x0eabcdefghijklmn", 127, b"\x01a"));
 }
 
-/// Whether an advertisement with this option alone is well-formed.
+/// Returns true if an advertisement with this option alone is well-formed.
 fn fits(rt: &(impl Abort + AllocGlobal), kind: u8, rest: &[u8]) -> bool {
     let mut own = Vec::new(rt.alloc());
     own.extend_from_slice(rest).expect(rt, "memory");
@@ -541,7 +541,7 @@ fn reads_what_it_wrote(rt: HostRuntime) {
     assert!(rt; left.next().is_none());
 }
 
-/// Five options as they are spelled: an address, an MTU, a prefix, two servers for half an hour, and one of a type that nobody knows.
+/// Five options as they are spelled: an address, an MTU, a prefix, two servers for half an hour, and one of an unknown type.
 const FIVE_OPTIONS: [u8; 152] = [
     0x01, 0x01, 0x02, 0x00, 0x00, 0x00, 0x00, 0x01, 0x05, 0x01, 0x00, 0x00, 0x00, 0x00, 0x05, 0xdc,
     0x03, 0x04, 0x40, 0xc0, 0x00, 0x27, 0x8d, 0x00, 0x00, 0x09, 0x3a, 0x80, 0x00, 0x00, 0x00, 0x00,
@@ -583,7 +583,7 @@ fn push_five(rt: &(impl Abort + AllocGlobal), options: &mut Vec<Opt<Global>>) {
         .expect(rt, "memory");
 }
 
-/// Whether the next five options are these.
+/// Returns true if the next five options are these.
 fn next_are_five(left: &mut Options<'_>) -> bool {
     let slla = matches!(left.next(), Some(OptionRef::Slla(mac)) if mac == Mac([2, 0, 0, 0, 0, 1]));
     let mtu = matches!(left.next(), Some(OptionRef::Mtu(1500)));

@@ -17,7 +17,7 @@ fn global(net: u8, n: u8) -> Addr {
     Addr([0x20, 0x01, 0x0d, 0xb8, 0, net, 0, 0, 0, 0, 0, 0, 0, 0, 0, n])
 }
 
-/// A node with one own address, one prefix on its link, and some default routers.
+/// A node with one address of its own, one prefix on its link, and some default routers.
 #[derive(Clone, Copy, Debug)]
 struct Node<'a> {
     own: Addr,
@@ -246,7 +246,7 @@ fn chooses_the_preferred_router(rt: HostRuntime) {
     }
 }
 
-/// How many redirects are kept.
+/// The number of redirects that are kept.
 fn count(choice: &Choice<Global>) -> u8 {
     let mut n = 0u8;
     for _ in choice.rows() {
@@ -271,7 +271,7 @@ fn keeps_64_redirects(rt: HostRuntime) {
     choice.target_gone(link_local(2));
     assert!(rt; choice.next_hop(0, global(1, 2), &view) == Hop::NoRoute);
     assert!(rt; count(&choice) == 63);
-    // Asking changes no order: the first goes where a 65th comes.
+    // Asking changes no order: a 65th evicts the first.
     assert!(rt; choice.next_hop(0, global(1, 0), &view) == Hop::Via(link_local(0)));
     choice
         .redirected(global(1, 64), link_local(64))
@@ -279,13 +279,13 @@ fn keeps_64_redirects(rt: HostRuntime) {
     assert!(rt; choice.next_hop(0, global(1, 0), &view) == Hop::NoRoute);
     assert!(rt; choice.next_hop(0, global(1, 1), &view) == Hop::Via(link_local(1)));
     assert!(rt; count(&choice) == 63);
-    // One that is redirected again is the newest, and pushes none out.
+    // One that is redirected again is the newest, and evicts none.
     choice
         .redirected(global(1, 1), link_local(99))
         .expect(&rt, "memory");
     assert!(rt; choice.next_hop(0, global(1, 1), &view) == Hop::Via(link_local(99)));
     assert!(rt; count(&choice) == 63);
-    // The next one pushes out the one that ended, the next again one that is kept.
+    // The next one evicts the one that ended, the one after that one that is kept.
     choice
         .redirected(global(1, 65), link_local(65))
         .expect(&rt, "memory");
@@ -311,7 +311,7 @@ fn remembers_256_destinations(rt: HostRuntime) {
         assert!(rt; choice.next_hop(0, global(2, n), &view) == Hop::Via(link_local(9)));
     }
     assert!(rt; choice.remembered() == 256);
-    // The one that was asked for least recently makes place.
+    // The one that was looked up least recently is evicted.
     assert!(rt; choice.next_hop(0, global(3, 0), &view) == Hop::Via(link_local(9)));
     assert!(rt; choice.remembered() == 256);
     // A destination that is asked for again takes no other place.
@@ -331,7 +331,7 @@ fn remembers_up_to_its_last_moment(rt: HostRuntime) {
         panic!(rt; "no node");
     };
     assert!(rt; choice.next_hop(5, global(1, 1), &view) == Hop::Via(link_local(9)));
-    // Where it is asked without being told of a change, it answers by what it remembers, and afterwards by the view.
+    // If it is asked and no change was noted, it returns what it remembers, and afterwards what the view gives.
     let Some(view) = make_node(&none) else {
         panic!(rt; "no node");
     };

@@ -44,7 +44,7 @@ fn host(rt: &(impl Abort + AllocGlobal)) -> Node<Pcg32, Global> {
     .expect(rt, "memory")
 }
 
-/// Of events at a host that starts at 0 it tells this, behind what it tells of its start.
+/// For events at a host that starts at 0 it reports this, after what it reports of its start.
 fn tells(rt: &(impl Abort + AllocGlobal), events: &[(u64, Event<Global>)], wanted: &str)
     requires { AreEarly events.now }
 {
@@ -56,7 +56,7 @@ fn tells(rt: &(impl Abort + AllocGlobal), events: &[(u64, Event<Global>)], wante
     assert!(rt; text.as_str().strip_prefix(STARTED) == Some(wanted));
 }
 
-/// Events come one after the other, and all that is due up to each comes first.
+/// Passes events one after the other; all that is due up to each is done first.
 #[test]
 fn events_run_in_their_order(rt: HostRuntime) {
     let events = [
@@ -103,7 +103,7 @@ fn a_lent_frame_is_heard(rt: HostRuntime) {
     is_heard_as_lent(&rt, 2999, &ADVERTISEMENT);
 }
 
-/// A host is settled up to the moment at which something falls due, and once that is done.
+/// A host is settled up to the moment at which something is due, and once that is done.
 #[test]
 fn a_host_settles(rt: HostRuntime) {
     let mut node = host(&rt);
@@ -122,7 +122,7 @@ fn a_new_host_has_one_row(rt: HostRuntime) {
     assert!(rt; (counts.addresses, counts.servers, counts.search_names) == (1, 0, 0));
 }
 
-/// A packet of three bytes is to be sent.
+/// Sends a packet of three bytes.
 fn sends_from(rt: &(impl Abort + AllocGlobal), source: Addr, destination: Addr) -> Event<Global> {
     Event::Sends(OutgoingPacket {
         source,
@@ -185,14 +185,14 @@ const NEIGHBOUR: Addr = Addr([0xfe, 0x80, 0, 0, 0, 0, 0, 0, 0, 0, 0, 0, 0, 0, 0,
 /// The target of the Redirect.
 const TARGET: Addr = Addr([0xfe, 0x80, 0, 0, 0, 0, 0, 0, 0, 0, 0, 0, 0, 0, 0, 2]);
 
-/// A frame comes.
+/// Receives a frame.
 fn received(rt: &(impl Abort + AllocGlobal), bytes: &[u8]) -> Event<Global> {
     let mut frame = Vec::new(rt.alloc());
     frame.extend_from_slice(bytes).expect(rt, "memory");
     Event::Receives(frame)
 }
 
-/// A packet without a payload is to be sent.
+/// Sends a packet without a payload.
 fn sends(rt: &impl AllocGlobal, destination: Addr) -> Event<Global> {
     Event::Sends(OutgoingPacket {
         source: OWN,
@@ -237,7 +237,7 @@ fn neighbours_are_cleared(rt: HostRuntime) {
     );
 }
 
-/// Redirects end by themselves and with the routers, which are told.
+/// Redirects end by themselves and with the routers, which are reported.
 #[test]
 fn routers_and_redirects_are_cleared(rt: HostRuntime) {
     let events = [

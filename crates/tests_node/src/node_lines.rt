@@ -19,7 +19,7 @@ const SOLICITATION: [u8; 78] = [
     0, 0, 0, 0, 0x36, 0x56, 0x78, 0xff, 0xfe, 0x9a, 0xbc, 0xde,
 ];
 
-/// This text is told of one thing that happened at a node of a link.
+/// This text is written for one thing that happened at a node of a link.
 fn is_told(rt: &(impl Abort + AllocGlobal), node: usize, at: u64, out: Out<Global>, text: &str) {
     let mut told = String::new(rt.alloc());
     write_node_out(&mut told, node, at, &out).expect(rt, "memory");

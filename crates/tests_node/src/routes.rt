@@ -23,7 +23,7 @@ fn via(n: u8) -> Route {
     Route::Via(link_local(n))
 }
 
-/// A route is put.
+/// Puts a route.
 fn puts(rt: &impl Abort, routes: &mut Routes<Global>, prefix: Prefix, route: Route) {
     assert!(rt; routes.put(prefix, route) == Ok(()));
 }
@@ -48,7 +48,7 @@ fn has_rows(rt: &impl Abort, routes: &Routes<Global>, wanted: &[(Prefix, Route)]
 fn longest_prefix_decides(rt: HostRuntime) {
     let mut routes = Routes::new(rt.alloc()).expect(&rt, "memory");
     assert!(rt; routes.look(global(0, 1)).is_none());
-    // Shorter ones stand before and behind the longer ones.
+    // Shorter ones are before and after the longer ones.
     let wide = prefix(&rt, global(0, 0), 32);
     let everything = prefix(&rt, Addr::UNSPECIFIED, 0);
     let subnet = prefix(&rt, global(1, 0), 64);
@@ -136,7 +136,7 @@ fn hops_go_by_the_order_of_5_2(rt: HostRuntime) {
     ];
     for (destination, hop) in &table {
         assert!(rt; routes.next_hop(*destination, false) == *hop);
-        // Nothing goes to an own address.
+        // Nothing goes to one of the node's own addresses.
         assert!(rt; routes.next_hop(*destination, true) == Hop::NoRoute);
     }
     // No route counts before these rules.
@@ -202,7 +202,7 @@ fn a_neighbour_is_redirected(rt: HostRuntime) {
     let away = global(1, 5);
     for (source, destination, hop_limit, target) in [
         (host, away, 64, Some(link_local(2))),
-        // A destination on the link is its own better first hop, unless it is who sent the packet.
+        // A destination on the link is its own better first hop, unless it is the sender of the packet.
         (host, global(0, 8), 64, Some(global(0, 8))),
         (host, host, 64, None),
         // The source isn't on the link, or has no route.
@@ -222,7 +222,7 @@ fn a_neighbour_is_redirected(rt: HostRuntime) {
         );
     }
     assert!(rt; routes.redirect_for(2000, &packet(host, away, 64), true) == None);
-    // A router is told by its link-local address alone.
+    // A router is named by its link-local address alone.
     puts(
         &rt,
         &mut routes,

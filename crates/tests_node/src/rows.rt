@@ -63,7 +63,7 @@ fn packet(rt: &(impl Abort + AllocGlobal), bytes: &[u8]) -> Packet<Global> {
     Packet::new(frame).expect(rt, "too short")
 }
 
-/// This text is told of one thing that happened at a moment.
+/// This text is written for one thing that happened at a moment.
 fn is_told(rt: &(impl Abort + AllocGlobal), at: u64, out: Out<Global>, text: &str) {
     let mut told = String::new(rt.alloc());
     write_outs(&mut told, &[(at, out)]).expect(rt, "memory");
@@ -238,7 +238,7 @@ fn a_prefix_is_shown(rt: HostRuntime) {
     );
 }
 
-/// Tells that a router has a link-layer address.
+/// Says that a router has a link-layer address.
 fn given(addr: Addr, last: u8) -> News {
     News::Given {
         addr,
@@ -476,7 +476,7 @@ fn what_a_router_advertises_is_shown(rt: HostRuntime) {
     );
 }
 
-/// A route is put.
+/// Puts a route.
 fn put_route(routes: &mut Routes<Global>, prefix: Option<Prefix>, route: Route) -> bool {
     let Some(prefix) = prefix else {
         return false;

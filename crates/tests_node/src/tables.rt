@@ -115,7 +115,7 @@ fn a_host_knows_what_it_heard(rt: HostRuntime) {
     let mut routers = host.default_routers(6000);
     assert!(rt; routers.next() == Some(router));
     assert!(rt; routers.next() == None);
-    // A lifetime that has ended has no row, though the router hasn't been told to have left.
+    // A lifetime that has ended has no row, though the end of the router hasn't been reported.
     assert!(rt; host.default_routers(1_802_999).next().is_some());
     assert!(rt; host.default_routers(1_803_000).next().is_none());
     let mut n = 0u8;
@@ -355,7 +355,7 @@ fn a_router_knows_what_it_was_told(rt: HostRuntime) {
     assert!(rt; router.offers().next() == Some(offer));
 }
 
-/// A cache of one, whose neighbour is answered and in DELAY, has no place for a router, whose advertisement is refused as a whole.
+/// A cache of one, whose neighbour is answered and in DELAY, has no room for a router, whose advertisement is refused as a whole.
 #[test]
 fn a_full_table_has_as_many_rows_as_its_limit(rt: HostRuntime) {
     let limits = Limits::new(1, 1).expect(&rt, "limits");

@@ -21,7 +21,7 @@ const ADVERTISEMENT_WITH_FULL_SUM: &str =
     "33330000000102000000000186dd6000000000103afffe80000000000000000000fffe000001ff020000000000000000\
     0000000000018600ffff0000000000007d2f00000000";
 
-/// The advertisement with a prefix, and behind it an option of length 0.
+/// The advertisement with a prefix, and after it an option of length 0.
 const ADVERTISEMENT_WITH_ZERO_OPTION: &str =
     "33330000000102000000000186dd6000000000403afffe80000000000000000000fffe000001ff020000000000000000\
     0000000000018600f4c64000070800000000000000000101020000000001030440c000278d0000093a80000000002001\
@@ -70,7 +70,7 @@ const DATAGRAM: &str =
     "0200000000013456789abcde86dd6000000000011140fe80000000000000365678fffe9abcdefe800000000000000000\
     00fffe00000100";
 
-/// The other frames of a host and of a router, each told in its comment.
+/// The other frames of a host and of a router, each named in its comment.
 const MORE_FRAMES: [&str; 17] = [
     // a probe for a global address
     "3333ff9abcde3456789abcde86dd6000000000183aff00000000000000000000000000000000ff020000000000000000\
@@ -147,7 +147,7 @@ fn expect(
     Ok(())
 }
 
-/// The letters of preferences (RFC 4191, section 2.1): the reserved value has none, and they are told with a lifetime of 0 too.
+/// The letters of preferences (RFC 4191, section 2.1): the reserved value has none, and they are written with a lifetime of 0 too.
 #[test]
 fn preferences_are_told(rt: HostRuntime) -> Result<(), Fail> {
     let input =
@@ -247,7 +247,7 @@ fn each_option_is_told(rt: HostRuntime) -> Result<(), Fail> {
     expect(&rt, REDIRECT_WITH_PACKET, 65536, redirect, Ok(()))
 }
 
-/// A frame with other digits from a place on.
+/// Returns a frame with other digits from a place on.
 fn put(
     rt: &(impl Abort + AllocGlobal),
     frame: &str,
@@ -415,7 +415,7 @@ fn lines_of_beginnings(rt: &(impl Abort + AllocGlobal), frame: &[u8]) -> Result<
     Ok(lines)
 }
 
-/// How many lines are in some bytes.
+/// The number of lines in some bytes.
 fn count(bytes: &[u8]) -> usize {
     let mut lines: usize = 0;
     for byte in bytes {
@@ -442,7 +442,7 @@ fn expect_one_each(rt: &(impl Abort + AllocGlobal), lines: &[u8]) -> Result<(), 
     Ok(())
 }
 
-/// What has to be answered where one byte of a frame is another one.
+/// The required answer if one byte of a frame is another one.
 enum Foretold {
     /// The byte isn't looked at.
     AsBefore,
@@ -450,7 +450,7 @@ enum Foretold {
     Drop(&'static str),
     /// A packet of this next header that is no message.
     Other(u8),
-    /// That depends on the bytes behind a shorter payload.
+    /// That depends on the bytes after a shorter payload.
     Nothing,
 }
 

@@ -243,8 +243,8 @@ fn a_solicitation_too_many_is_refused(rt: HostRuntime) {
     }
 }
 
-/// 300 neighbours ask a host for its address, and then one that doesn't give its link-layer address: the host asks for that before it answers (RFC 4861,
-/// section 7.2.4).
+/// 300 neighbours ask a host for its address, and then one that doesn't give its link-layer address: the host asks for that before it answers (RFC
+/// 4861, section 7.2.4).
 fn of_an_unknown_asker(flood: &mut Flood) -> Result<(), AllocError> {
     flood.push("10000 at\n", ALONE)?;
     for n in 1..=300 {

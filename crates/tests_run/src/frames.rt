@@ -1,10 +1,10 @@
-//! Frames that come to a host, and what it tells: worked rows of frames and texts, and frames that a program apart from this one wrote.
+//! Frames that a host receives, and what it reports: worked rows of frames and texts, and frames that a program apart from this one wrote.
 
 use crate::tested::{host, told, told_in_pieces};
 use std::fmt::Write;
 use std::test::*;
 
-/// What a host tells up to its first Router Solicitation.
+/// What a host reports up to its first Router Solicitation.
 pub(crate) const STARTED: &str =
     "0 tx 3333ff9abcde3456789abcde86dd6000000000183aff00000000000000000000000000000000ff0200000000000000000001ff9abcde870053df00000000fe80000000000000365678fffe9abcde\n1000 assigned fe80::3656:78ff:fe9a:bcde\n1000 tx 3333000000023456789abcde86dd6000000000103afffe80000000000000365678fffe9abcdeff0200000000000000000000000000028500a78f0000000001013456789abcde\n";
 
@@ -25,7 +25,7 @@ fn an_advertisement_forms_an_address(rt: HostRuntime) {
     );
 }
 
-/// An advertisement with a prefix, and what a host tells of it up to the end of its router.
+/// An advertisement with a prefix, and what a host reports of it up to the end of its router.
 const ADVERTISED: &str =
     "1200 rx 33330000000102000000000186dd6000000000383afffe80000000000000000000fffe000001ff0200000000000000000000000000018600f9ce4000070800000000000000000101020000000001030440c000278d0000093a800000000020010db8000000000000000000000000\n";
 
@@ -147,7 +147,7 @@ fn a_redirect_of_another_node_is_dropped(rt: HostRuntime) {
     );
 }
 
-/// Another node tries the tentative link-local address: it is a duplicate, and nothing is heard any more (RFC 4862, section 5.4.3).
+/// Another node tries the tentative link-local address: it is a duplicate, and nothing is heard from then on (RFC 4862, section 5.4.3).
 #[test]
 fn a_tried_address_is_a_duplicate(rt: HostRuntime) {
     told(
@@ -180,7 +180,8 @@ fn an_asker_is_answered(rt: HostRuntime) {
     );
 }
 
-/// The answer to an asker whose link-layer address isn't known waits for it, and goes out with the advertisement that gives it (RFC 4861, sections 7.2.2 and 7.2.5).
+/// The answer to an asker whose link-layer address isn't known waits for it, and goes out with the advertisement that gives it (RFC 4861, sections
+/// 7.2.2 and 7.2.5).
 #[test]
 fn an_answer_waits_for_the_asker(rt: HostRuntime) {
     told(
@@ -228,7 +229,7 @@ fn what_is_for_others_is_dropped(rt: HostRuntime) {
     );
 }
 
-/// A packet that is no message goes up without the padding behind it, once its destination is assigned.
+/// A packet that is no message goes up without the padding after it, once its destination is assigned.
 #[test]
 fn other_packets_go_up_without_padding(rt: HostRuntime) {
     told(

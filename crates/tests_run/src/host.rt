@@ -12,11 +12,11 @@ use std::test::*;
 const ADVERTISED: &str =
     "33330000000102000000000186dd6000000000383afffe80000000000000000000fffe000001ff0200000000000000000000000000018600f9ce4000070800000000000000000101020000000001030440c000278d0000093a800000000020010db8000000000000000000000000";
 
-/// What it tells of the advertisement, and of the address that it forms.
+/// What it reports of the advertisement, and of the address that it forms.
 const FORMED: &str =
     "1200 heard ra\n1200 tx 3333ff9abcde3456789abcde86dd6000000000183aff00000000000000000000000000000000ff0200000000000000000001ff9abcde870024a70000000020010db800000000365678fffe9abcde\n2200 assigned 2001:db8::3656:78ff:fe9a:bcde\n";
 
-/// Three packets wait for an address, a fourth one replaces the oldest, and all are lost where nobody answers (RFC 4861, section 7.2.2).
+/// Three packets wait for an address, a fourth one replaces the oldest, and all are lost if nobody answers (RFC 4861, section 7.2.2).
 #[test]
 fn a_fourth_packet_replaces_the_oldest(rt: HostRuntime) {
     told(
@@ -224,7 +224,7 @@ fn a_known_router_is_used(rt: HostRuntime) {
     );
 }
 
-/// Cleared routers leave the list, the redirects end with them, and a Redirect doesn't come from the first hop any more (RFC 4861, sections
+/// Cleared routers leave the list, the redirects end with them, and a Redirect is no longer from the first hop (RFC 4861, sections
 /// 6.3.5 and 8.1).
 #[test]
 fn cleared_routers_end_the_redirects(rt: HostRuntime) {

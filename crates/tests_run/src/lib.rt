@@ -1,4 +1,4 @@
-//! Tests of `check` and of `run` over readers and writers, by lines and the text that they make. They stand here, so that no crate is
+//! Tests of `check` and of `run` over readers and writers, by lines and the text that they make. They are here, so that no crate is
 //! proved a second time for its tests. There is nothing here but tests.
 #![tactic(auto)]
 

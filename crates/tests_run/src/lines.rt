@@ -63,7 +63,7 @@ fn at(moment: u64) -> Option<(u64, Said)> {
     Some((moment, Said::Settles))
 }
 
-/// The frame of a line that says that one comes at 10 ms, in lower case digits.
+/// The frame of a line that says that one is received at 10 ms, in lower case digits.
 fn received(rt: &impl Abort, alloc: Global, line: &[u8], digits: &str) -> Result<(), Fail> {
     match reading(alloc, line)? {
         Some((10, Said::Receives(frame))) => assert!(rt; frame.as_str() == digits),
@@ -412,7 +412,7 @@ const ASSIGNED: &str = "1000 assigned fe80::3656:78ff:fe9a:bcde\n";
 const SOLICITED: &str =
     " tx 3333000000023456789abcde86dd6000000000103afffe80000000000000365678fffe9abcdeff0200000000000000000000000000028500a78f0000000001013456789abcde\n";
 
-/// What a host tells in its first 10 seconds.
+/// What a host reports in its first 10 seconds.
 const STARTS: [&str; 8] = [
     STARTED, ASSIGNED, "1000", SOLICITED, "5000", SOLICITED, "9000", SOLICITED,
 ];
@@ -425,7 +425,7 @@ fn a_host_starts(rt: HostRuntime) {
     told(&rt, rt.alloc(), &["10000 at\n"], Ok(()), &STARTS);
 }
 
-/// A line for each second tells the same bytes.
+/// A line for each second writes the same bytes.
 #[test]
 fn each_second_tells_the_same(rt: HostRuntime) -> Result<(), Fail> {
     let mut script = String::new(rt.alloc());
@@ -436,7 +436,7 @@ fn each_second_tells_the_same(rt: HostRuntime) -> Result<(), Fail> {
     Ok(())
 }
 
-/// A past moment is told alone, and a malformed line ends the run.
+/// A past moment is only reported as past, and a malformed line ends the run.
 #[test]
 fn past_moments_and_malformed_lines(rt: HostRuntime) {
     told(

@@ -9,7 +9,7 @@ use std::test::*;
 const ADVERTISEMENTS: u64 = 65_600;
 
 /// A router of short intervals is left alone for two days, and advertises each 3 s from the assignment of its address on (RFC 4861, section 6.2.4):
-/// one event tells 65,600 frames, and the next line is answered.
+/// one event reports 65,600 frames, and the next line is answered.
 #[test]
 fn a_line_of_many_rows_and_a_line_behind_it(rt: HostRuntime) {
     let last = 1000 + 3000 * (ADVERTISEMENTS - 1);

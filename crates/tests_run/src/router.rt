@@ -35,7 +35,7 @@ fn a_preference_is_advertised(rt: HostRuntime) {
     );
 }
 
-/// The least interval, and a solicitation that is answered by the advertisement that comes first: a worked row.
+/// The least interval, and a solicitation that is answered by the advertisement that is first: a worked row.
 #[test]
 fn a_solicitation_is_answered_by_the_next_advertisement(rt: HostRuntime) {
     told_by_router(
@@ -71,7 +71,7 @@ fn a_redirect_waits_for_an_address(rt: HostRuntime) {
     );
 }
 
-/// A packet is sent on with a hop limit that is lower by one, and is lost where it is spent or no route is there (RFC 8200, section 3); one to a
+/// A packet is sent on with a hop limit that is lower by one, and is lost if that would be 0 or there is no route (RFC 8200, section 3); one to a
 /// link-local address stays on its link (RFC 4291, section 2.5.6).
 #[test]
 fn a_packet_is_sent_on(rt: HostRuntime) {
@@ -84,7 +84,7 @@ fn a_packet_is_sent_on(rt: HostRuntime) {
     );
 }
 
-/// Redirects are 100 ms apart at least, and tell the link-layer address of their target once that is known (RFC 4861, section 8.2).
+/// Redirects are 100 ms apart at least, and give the link-layer address of their target once that is known (RFC 4861, section 8.2).
 #[test]
 fn redirects_are_apart(rt: HostRuntime) {
     told_by_router(
@@ -121,7 +121,7 @@ fn a_routers_own_packets_go_by_its_routes(rt: HostRuntime) {
     );
 }
 
-/// The seventeenth prefix, and the sixty-fifth route, are one too many; one that is there may be put again (our limits).
+/// The seventeenth prefix, and the sixty-fifth route, are one too many; an existing one may be put again (our limits).
 #[test]
 fn offers_and_routes_are_limited(rt: HostRuntime) -> Result<(), Fail> {
     let mut script = String::new(rt.alloc());

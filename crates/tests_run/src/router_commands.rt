@@ -72,7 +72,7 @@ fn other_words_are_malformed(rt: HostRuntime) -> Result<(), Fail> {
     Ok(())
 }
 
-/// The letters of the flags, and behind them that of the preference, spell a line; what they say of it is a clause of `read_line`.
+/// The letters of the flags, and after them that of the preference, spell a line; what they say of it is a clause of `read_line`.
 #[test]
 fn flags_and_preferences_are_read(rt: HostRuntime) -> Result<(), Fail> {
     for line in [

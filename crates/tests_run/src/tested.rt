@@ -82,7 +82,7 @@ pub(crate) fn told_by(
     }
 }
 
-/// These parts, one behind the other.
+/// Returns these parts, one after the other.
 fn joined(rt: &impl Abort, alloc: Global, parts: &[&str]) -> String {
     let mut text = String::new(alloc);
     for part in parts {

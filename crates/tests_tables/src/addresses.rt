@@ -71,7 +71,7 @@ fn default_option(n: u16) -> Option<PrefixInfo> {
     option(n, 2_592_000, 604_800)
 }
 
-/// This falls due next, at this moment.
+/// This is due next, at this moment.
 fn falls_due(rt: &impl Abort, addresses: &mut Addresses<Global>, now: u64, wanted: Due)
     requires { now < 2 ^ 62 }
 {
@@ -79,7 +79,7 @@ fn falls_due(rt: &impl Abort, addresses: &mut Addresses<Global>, now: u64, wante
     assert_eq!(rt; addresses.turn(now), Some(wanted));
 }
 
-/// An option comes, and is taken so.
+/// Takes an option, with this result.
 fn hears(
     rt: &impl Abort,
     addresses: &mut Addresses<Global>,
@@ -304,7 +304,7 @@ fn some_options_say_nothing_of_an_address(rt: HostRuntime) {
     assert!(rt; addresses.len() == 1);
 }
 
-/// The 64 addresses are shown in the order of their numbers, the link-local one behind those of 2001:db8::/32.
+/// The 64 addresses are shown in the order of their numbers, the link-local one after those of 2001:db8::/32.
 fn all_are_shown(rt: &impl Abort, addresses: &Addresses<Global>) {
     let mut n = 0u16;
     for row in addresses.rows(1200) {
@@ -330,7 +330,7 @@ fn the_65th_address_has_no_room(rt: HostRuntime) {
     }
     assert!(rt; addresses.fits(two.options));
     assert!(rt; hear_option(&mut addresses, 61) == Some(Ok(Taken::Formed)));
-    // One place is left. Two options that form one address need one place.
+    // There is room for one. Two options that form one address need room for one.
     assert!(rt; addresses.fits(twice.options));
     assert!(rt; !addresses.fits(two.options));
     assert!(rt; hear_option(&mut addresses, 62) == Some(Ok(Taken::Formed)));

@@ -21,14 +21,14 @@ fn hear(dns: &mut Dns<Global>, now: u64, options: Options<'_>) -> Result<(), Tab
     dns.heard_ra(now, options, names)
 }
 
-/// What an option tells: a server or a name by a byte, and for how many seconds.
+/// What an option announces: a server or a name by a byte, and its lifetime in seconds.
 #[derive(Clone, Copy)]
 struct Told {
     n: u8,
     lifetime: [u8; 4],
 }
 
-/// It is told for some seconds, less than 256.
+/// It is announced for some seconds, less than 256.
 fn lasting(n: u8, seconds: u8) -> Told {
     Told {
         n,
@@ -92,7 +92,7 @@ fn left_at(now: u64, end: Option<u64>) -> Option<u64> {
     }
 }
 
-/// The servers that stand, each by its last byte, with their ends.
+/// The servers that haven't ended, each by its last byte, with their ends.
 fn servers_are(rt: &impl Abort, dns: &Dns<Global>, now: u64, wanted: &[(u8, Option<u64>)]) {
     let mut rest = wanted;
     for entry in dns.servers(now) {
@@ -108,7 +108,7 @@ fn servers_are(rt: &impl Abort, dns: &Dns<Global>, now: u64, wanted: &[(u8, Opti
     assert!(rt; rest.is_empty());
 }
 
-/// The names that stand, each by the second byte of its one label, with their ends.
+/// The names that haven't ended, each by the second byte of its one label, with their ends.
 fn names_are(rt: &impl Abort, dns: &Dns<Global>, now: u64, wanted: &[(u8, Option<u64>)]) {
     let mut rest = wanted;
     for entry in dns.search_names(now) {
@@ -176,7 +176,7 @@ fn keeps_servers_in_the_order_of_coming(rt: HostRuntime) {
     // A refreshed one keeps its place; a new one with a lifetime of 0 is ignored.
     takes_servers(&rt, &mut dns, 2_000, lasting(2, 10), lasting(3, 0));
     servers_are(&rt, &dns, 2_000, &[(2, Some(12_000)), (1, None)]);
-    // One that is removed and comes again in the same message is last.
+    // One that is removed and added again in the same message is last.
     takes_servers(&rt, &mut dns, 3_000, lasting(2, 0), lasting(2, 100));
     servers_are(&rt, &dns, 3_000, &[(1, None), (2, Some(103_000))]);
     // So is one that is announced exactly at its end.
@@ -206,7 +206,7 @@ fn keeps_names_in_the_order_of_coming(rt: HostRuntime) {
         2_000,
         &[(b'b', Some(12_000)), (b'a', Some(101_000))],
     );
-    // One that is removed and comes again in the same message is last.
+    // One that is removed and added again in the same message is last.
     takes_names(&rt, &mut dns, 3_000, lasting(b'B', 0), lasting(b'b', 100));
     names_are(
         &rt,
@@ -226,7 +226,7 @@ fn keeps_names_in_the_order_of_coming(rt: HostRuntime) {
     names_are(&rt, &dns, 101_000, &[]);
 }
 
-/// How many servers stand.
+/// The number of servers that haven't ended.
 fn count_servers(dns: &Dns<Global>, now: u64) -> usize {
     let mut count = 0usize;
     for _ in dns.servers(now) {
@@ -235,7 +235,7 @@ fn count_servers(dns: &Dns<Global>, now: u64) -> usize {
     count
 }
 
-/// How many names stand.
+/// The number of names that haven't ended.
 fn count_names(dns: &Dns<Global>, now: u64) -> usize {
     let mut count = 0usize;
     for _ in dns.search_names(now) {

@@ -1,4 +1,4 @@
-//! Tests of the tables, over their public calls alone, and at their limits. They stand here, so that no table is proved a second time
+//! Tests of the tables, over their public calls alone, and at their limits. They are here, so that no table is proved a second time
 //! for its tests. There is nothing here but tests.
 #![tactic(auto)]
 

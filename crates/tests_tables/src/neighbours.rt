@@ -16,7 +16,7 @@ const TIMES: Times = Times {
     reachable: 15_000,
 };
 
-/// What a turn told, and how many packets came with it.
+/// What a turn returned, and the number of packets with it.
 #[derive(Clone, Copy, Debug, PartialEq, Eq)]
 enum Told {
     Nothing,
@@ -49,7 +49,7 @@ fn tell(due: Option<Due<Global>>) -> Told {
     }
 }
 
-/// This falls due next, at this moment.
+/// This is due next, at this moment.
 fn falls_due(rt: &impl Abort, cache: &mut Cache<Global>, now: u64, wanted: Told)
     requires { now < 2 ^ 62 }
 {
@@ -69,7 +69,7 @@ fn state(cache: &Cache<Global>, now: u64, a: Addr) -> Option<Reachability> {
     cache.entry(now, a).map(|neighbour| neighbour.state)
 }
 
-/// Whether the packet waits, and whether a solicitation is to be sent. No packet was replaced.
+/// Returns `Some` if the packet waits and replaced none, with true if a solicitation is sent.
 fn is_queued(sent: Result<Use<Global>, (CacheRefusal, Packet<Global>)>) -> Option<bool> {
     match sent {
         Ok(
@@ -105,7 +105,7 @@ fn refusal(
     }
 }
 
-/// The first byte of the packet that had to make place.
+/// The first byte of the packet that was replaced.
 fn replaced(sent: Result<Use<Global>, (CacheRefusal, Packet<Global>)>) -> Option<u8> {
     match sent {
         Ok(
@@ -126,7 +126,7 @@ fn given(n: u16) -> News {
     }
 }
 
-/// The address of a neighbour is told.
+/// The address of a neighbour is given.
 fn is_given(rt: &impl Abort, cache: &mut Cache<Global>, now: u64, n: u16)
     requires { now < 2 ^ 62 }
 {
@@ -273,7 +273,7 @@ fn a_router_that_is_none_any_more_is_told(rt: HostRuntime) {
     assert!(rt; !touched.ends_router);
 }
 
-/// The address that an advertisement gives, beside the one that is known.
+/// The address that an advertisement gives, besides the known one.
 #[derive(Clone, Copy, Debug, PartialEq, Eq)]
 enum Gives {
     No,
@@ -377,7 +377,7 @@ fn cache_with(
     cache
 }
 
-/// Whether one row holds, with R set or not, for an entry that was marked otherwise.
+/// Returns true if one row holds, with R set or not, for an entry that was marked otherwise.
 fn row_holds(
     rt: &(impl Abort + AllocGlobal),
     before: Reachability,
@@ -443,7 +443,7 @@ fn an_advertisement_makes_no_entry(rt: HostRuntime) {
     assert!(rt; cache.entry(20_000, addr(1)) == None);
 }
 
-/// Whether an address that is given, the same one or another one, leads to a state.
+/// Returns true if a given address, the same one or another one, leads to a state.
 fn given_makes(
     rt: &(impl Abort + AllocGlobal),
     before: Reachability,
@@ -493,7 +493,7 @@ fn room_is_for_a_new_neighbour_and_for_a_second_one_after_it(rt: HostRuntime) {
     assert!(rt; cache.room(0, addr(1), Some(addr(1))));
     assert!(rt; !cache.room(0, addr(1), Some(addr(2))));
     is_given(&rt, &mut cache, 0, 1);
-    // It is stale: it makes place, but only until it is used, and it is then not there any more.
+    // It is stale: it can be evicted, but only until it is used, and then it is gone.
     assert!(rt; cache.room(5, addr(2), None));
     assert!(rt; cache.room(5, addr(1), Some(addr(1))));
     assert!(rt; !cache.room(5, addr(1), Some(addr(2))));
@@ -513,7 +513,7 @@ fn the_first_of_two_may_push_out_the_second(rt: HostRuntime) {
     assert!(rt; cache.room(5, addr(3), Some(addr(2))));
     let sent = cache.used(5, addr(2), packet(&rt, 1), TIMES);
     assert!(rt; sent_to(sent) == Some(MAC));
-    // One is left that is stale: it goes for the third, and then there is no place for it.
+    // One is left that is stale: it is evicted for the third, and then there is no room for it.
     assert!(rt; cache.room(5, addr(3), Some(addr(2))));
     assert!(rt; !cache.room(5, addr(3), Some(addr(1))));
     assert!(rt; !cache.room(5, addr(3), Some(addr(4))));

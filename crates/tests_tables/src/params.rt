@@ -11,12 +11,12 @@ const EVERY_PARAMETER: [u8; 24] = [
     0x05, 0x01, 0x00, 0x00, 0x00, 0x00, 0x05, 0x00,
 ];
 
-/// An advertisement that tells nothing.
+/// An advertisement that says nothing.
 const NOTHING: [u8; 16] = [
     0x86, 0x00, 0x00, 0x00, 0x00, 0x00, 0x00, 0x00, 0x00, 0x00, 0x00, 0x00, 0x00, 0x00, 0x00, 0x00,
 ];
 
-/// An advertisement with an MTU of 1501 bytes and, behind it, one of 1400.
+/// An advertisement with an MTU of 1501 bytes and, after it, one of 1400.
 const MTU_TOO_LARGE: [u8; 32] = [
     0x86, 0x00, 0x00, 0x00, 0x00, 0x00, 0x00, 0x00, 0x00, 0x00, 0x00, 0x00, 0x00, 0x00, 0x00, 0x00,
     0x05, 0x01, 0x00, 0x00, 0x00, 0x00, 0x05, 0xdd, 0x05, 0x01, 0x00, 0x00, 0x00, 0x00, 0x05, 0x78,
@@ -39,7 +39,7 @@ const DNS_ADVERTISEMENT: [u8; 72] = [
     0x6c, 0x65, 0x00, 0x00, 0x00, 0x00, 0x00, 0x00,
 ];
 
-/// Hears an advertisement, and draws this value where one is drawn. It tells whether it was.
+/// Hears an advertisement, and draws this value if one is drawn. Returns true if it was.
 fn hear(params: &mut Params, now: u64, message: MessageRef<'_>, value: u64) -> bool
     requires moment { now < 2 ^ 62 }
     requires span { value < 2 ^ 62 }
@@ -97,7 +97,7 @@ fn takes_what_is_told(rt: HostRuntime) {
     params.redrawn(7_201_200, 17_000);
     assert!(rt; params.reachable_time() == 17_000);
     assert!(rt; params.next_due() == 14_401_200);
-    // What tells nothing leaves all but the flags.
+    // An advertisement that says nothing leaves all but the flags.
     let nothing = advertisement(&NOTHING).expect(&rt, "message");
     assert!(rt; !hear(&mut params, 7_201_300, nothing, 1));
     assert!(rt; params.hop_limit() == 32);

@@ -13,7 +13,7 @@ fn addr(n: u8) -> Addr {
     Addr([0xfe, 0x80, 0, 0, 0, 0, 0, 0, 0, 0, 0, 0, 0, 0, 0, n])
 }
 
-/// Hears a router where no router's end is still to be told.
+/// Hears a router where no router's end is still to be reported.
 fn hear(
     routers: &mut Routers<Global>,
     now: u64,
@@ -29,7 +29,7 @@ fn hear(
     }
 }
 
-/// A router is heard that says no preference, with this change.
+/// Hears a router that says no preference, with this change.
 fn hears(
     rt: &impl Abort,
     routers: &mut Routers<Global>,
@@ -53,7 +53,7 @@ fn turn_next(routers: &mut Routers<Global>) -> Option<(u64, Addr)> {
     Some((next, source))
 }
 
-/// The addresses of the routers that stand at a moment, with what is left of their lifetimes then.
+/// The addresses of the routers in the list at a moment, with what is left of their lifetimes then.
 fn listed(rt: &impl Abort, routers: &Routers<Global>, now: u64, wanted: &[(Addr, Option<u64>)]) {
     let mut rest = wanted;
     for entry in routers.rows(now) {
@@ -82,7 +82,7 @@ fn keeps_the_order_of_coming(rt: HostRuntime) {
         3_000,
         &[(addr(2), Some(10_000)), (addr(1), Some(1_799_000))],
     );
-    // One that is removed and comes again is last.
+    // One that is removed and added again is last.
     hears(&rt, &mut routers, 4_000, addr(2), 0, Change::Removed);
     hears(&rt, &mut routers, 4_000, addr(2), 0, Change::Nothing);
     hears(&rt, &mut routers, 4_000, addr(2), 1_800, Change::Entered);
@@ -103,7 +103,7 @@ fn ends_to_the_millisecond(rt: HostRuntime) {
     assert!(rt; routers.holds(1_801_199, addr(2)));
     assert!(rt; !routers.holds(1_801_200, addr(2)));
     assert!(rt; routers.next_due() == Some(1_801_200));
-    // Those that end in one millisecond are told by address.
+    // Those that end in one millisecond are reported by address.
     assert!(rt; turn_next(&mut routers) == Some((1_801_200, addr(1))));
     assert!(rt; turn_next(&mut routers) == Some((1_801_200, addr(2))));
     assert!(rt; turn_next(&mut routers).is_none());
@@ -192,7 +192,7 @@ fn orders_failures_by_the_last_one(rt: HostRuntime) {
     routers.failed(addr(1));
     assert!(rt; failed_at(&routers, 0) == Some(0));
     assert!(rt; failed_at(&routers, 1) == Some(1));
-    // One that left and came again never failed.
+    // One that left and entered again never failed.
     assert!(rt; routers.ended(addr(0)));
     assert!(rt; !routers.ended(addr(0)));
     hears(&rt, &mut routers, 1_500, addr(0), 1_800, Change::Entered);
@@ -231,7 +231,7 @@ fn preferences(rt: &impl Abort, routers: &Routers<Global>, wanted: &[(Addr, Pref
     assert!(rt; routers.at(wanted.len()).is_none());
 }
 
-/// A router is preferred as its last advertisement says that has a lifetime (RFC 4191, section 2.2).
+/// A router has the preference of its last advertisement that has a lifetime (RFC 4191, section 2.2).
 #[test]
 fn the_last_preference_holds(rt: HostRuntime) {
     let (high, medium, low) = (Preference::High, Preference::Medium, Preference::Low);
@@ -280,7 +280,7 @@ fn clears_in_the_order_of_the_list(rt: HostRuntime) {
 #[test]
 fn sixteen_routers_are_shown_and_cleared_in_order(rt: HostRuntime) {
     let mut routers = Routers::new(rt.alloc(), 16).expect(&rt, "memory");
-    // They come in another order than that of their addresses.
+    // They enter in another order than that of their addresses.
     for n in (0..16u8).rev() {
         hears(&rt, &mut routers, 1_000, addr(n), 1_800, Change::Entered);
     }
@@ -368,7 +368,7 @@ fn takes_both(rt: &impl Abort, prefixes: &mut Prefixes<Global>, now: u64, a: Tol
     assert!(rt; hear_both(prefixes, now, a, b) == TAKEN);
 }
 
-/// The prefixes that stand, each by its byte n, with their ends.
+/// The prefixes that haven't ended, each by its byte n, with their ends.
 fn standing(rt: &impl Abort, prefixes: &Prefixes<Global>, now: u64, wanted: &[(u8, u64)]) {
     let mut rest = wanted;
     for entry in prefixes.rows(now) {
@@ -384,7 +384,7 @@ fn standing(rt: &impl Abort, prefixes: &Prefixes<Global>, now: u64, wanted: &[(u
     assert!(rt; rest.is_empty());
 }
 
-/// How many prefixes stand.
+/// The number of prefixes that haven't ended.
 fn count_at(prefixes: &Prefixes<Global>, now: u64) -> usize {
     let mut count = 0usize;
     for _ in prefixes.rows(now) {
@@ -408,10 +408,10 @@ fn keeps_prefixes_in_the_order_of_coming(rt: HostRuntime) {
     takes_both(&rt, &mut prefixes, 2_000, lasting(2, 10), lasting(3, 0));
     standing(&rt, &prefixes, 2_000, &[(2, 12_000), (1, 51_000)]);
     assert!(rt; prefixes.least_end(2_000) == Some(12_000));
-    // One that is removed and comes again in the same message is last.
+    // One that is removed and added again in the same message is last.
     takes_both(&rt, &mut prefixes, 3_000, lasting(2, 0), lasting(2, 100));
     standing(&rt, &prefixes, 3_000, &[(1, 51_000), (2, 103_000)]);
-    // They end silently, and one that is announced exactly at its end comes last.
+    // They end silently, and one that is announced exactly at its end is last.
     standing(&rt, &prefixes, 50_999, &[(1, 51_000), (2, 103_000)]);
     standing(&rt, &prefixes, 51_000, &[(2, 103_000)]);
     assert!(rt; prefixes.least_end(51_000) == Some(103_000));

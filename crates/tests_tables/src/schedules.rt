@@ -1,4 +1,4 @@
-//! What falls due next, over many drawn sequences of calls: it is the least date of all, and of those at one moment that of the lowest
+//! What is due next, over many drawn sequences of calls: it is the least date of all, and of those at one moment that of the lowest
 //! address, as a scan of tables with one entry each finds it.
 
 ghost use Rattle.std.specs.Prelude.{◌<◌, ◌^◌};
@@ -12,7 +12,7 @@ use std::alloc::Global;
 use std::process::Abort;
 use std::test::*;
 
-/// How many sequences of calls are drawn for a table, and how many calls each has.
+/// The number of sequences of calls that are drawn for a table, and the number of calls of each.
 const SEQUENCES: u64 = 300;
 
 const CALLS: u64 = 60;
@@ -104,7 +104,7 @@ fn call(
     }
 }
 
-/// What a turn told: the address, and what happened to it.
+/// What a turn returned: the address, and what happened to it.
 fn told(due: Option<nd_neighbour::Due<Global>>) -> Option<(u8, Addr, usize)> {
     match due {
         None => None,
@@ -115,7 +115,7 @@ fn told(due: Option<nd_neighbour::Due<Global>>) -> Option<(u8, Addr, usize)> {
     }
 }
 
-/// What falls due next is the least of what does for each neighbour.
+/// What is due next is the least of what does for each neighbour.
 fn is_least(rt: &impl Abort, cache: &Cache<Global>, singles: &[Cache<Global>]) {
     let mut least = None;
     for single in singles {
@@ -124,7 +124,7 @@ fn is_least(rt: &impl Abort, cache: &Cache<Global>, singles: &[Cache<Global>]) {
     assert_eq!(rt; cache.next_due(), least);
 }
 
-/// A turn at the moment that is next is that of the first neighbour for which something falls due at it.
+/// A turn at the moment that is next is that of the first neighbour for which something is due at it.
 fn turn_next(rt: &impl Abort, cache: &mut Cache<Global>, singles: &mut [Cache<Global>]) {
     let Some(now) = cache.next_due() else {
         return;
@@ -171,7 +171,7 @@ fn neighbours_fall_due_as_each_alone(rt: HostRuntime) {
 
 const NEIGHBOURS: u16 = 2048;
 
-/// How long a neighbour is kept after it was last REACHABLE, in milliseconds.
+/// The time for which a neighbour is kept after it was last REACHABLE, in milliseconds.
 const DAY: u64 = 86_400_000;
 
 /// fe80::n.
@@ -219,7 +219,7 @@ fn age_all(rt: &impl Abort, cache: &mut Cache<Global>, wanted: &[(u64, Addr)]) {
 }
 
 /// The neighbours are heard, confirmed with their dates close together in another order, and confirmed again, which moves each date
-/// behind all others. Some are forgotten.
+/// to the end. Some are forgotten.
 #[test]
 fn many_neighbours_age_in_the_order_of_their_dates(rt: HostRuntime) {
     let mut cache = Cache::new(rt.alloc(), usize::from(NEIGHBOURS)).expect(&rt, "memory");
@@ -269,7 +269,7 @@ fn least_end(routers: &Routers<Global>) -> Option<(u64, Addr)> {
     least
 }
 
-/// A router is heard where no router's end is still to be told, or it leaves.
+/// Hears a router where no router's end is still to be reported, or it leaves.
 fn hear(routers: &mut Routers<Global>, now: u64, source: Addr, lifetime: u16, leaves: bool)
     requires { now < 2 ^ 62 }
 {
@@ -347,7 +347,7 @@ fn lifetime(variant: u8) -> u32 {
     }
 }
 
-/// What falls due next is the least of what does for each address.
+/// What is due next is the least of what does for each address.
 fn is_least_of(rt: &impl Abort, addresses: &Addresses<Global>, singles: &[Addresses<Global>]) {
     let mut least = None;
     for single in singles {
@@ -356,7 +356,7 @@ fn is_least_of(rt: &impl Abort, addresses: &Addresses<Global>, singles: &[Addres
     assert_eq!(rt; addresses.next_due(), least);
 }
 
-/// The order of what falls due at one moment: ends come before steps, and each in the order of the addresses.
+/// The order of what is due at one moment: ends come before steps, and each in the order of the addresses.
 fn place_of(due: nd_slaac::Due) -> (u8, Addr) {
     match due {
         nd_slaac::Due::End(addr) => (0, addr),
@@ -364,7 +364,7 @@ fn place_of(due: nd_slaac::Due) -> (u8, Addr) {
     }
 }
 
-/// All that falls due at the moment that is next falls due in its order, and is what each address alone has.
+/// All that is due at the moment that is next is done in its order, and is what each address alone has.
 fn turn_all(rt: &impl Abort, addresses: &mut Addresses<Global>, singles: &mut [Addresses<Global>]) {
     let Some(now) = addresses.next_due() else {
         return;

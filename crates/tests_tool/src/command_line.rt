@@ -19,7 +19,7 @@ fn read(rt: &(impl Abort + AllocGlobal), words: &[&str]) -> Result<Asked, Refuse
     read_words(rt.alloc(), all.as_slice())
 }
 
-/// `clap` tells of the words, with this status.
+/// `clap` finds a fault in the words, with this status.
 fn is_told(rt: &(impl Abort + AllocGlobal), words: &[&str], status: i32) {
     match read(rt, words) {
         Err(Refused::Told(error)) => assert!(rt; error.exit_code() == status),
@@ -106,7 +106,7 @@ fn refused(rt: &(impl Abort + AllocGlobal), words: &[&str]) -> &'static str {
     }
 }
 
-/// The first bad value is refused, in the order of the options, whatever the order of the words.
+/// The first bad value is refused, in the order of the options, for any order of the words.
 #[test]
 fn values_are_judged_in_their_order(rt: HostRuntime) {
     for (mac, draws, transmits, neighbours, routers, wanted) in [

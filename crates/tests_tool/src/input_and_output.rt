@@ -374,7 +374,7 @@ fn each_line_failing_in_turn(rt: HostRuntime) -> Result<(), Fail> {
     Ok(())
 }
 
-/// Where a write fails too, its fault is told, and the wire has counted its own.
+/// If a write fails too, its fault is returned, and the wire has counted its own.
 #[test]
 fn a_write_failing_after_the_wire(rt: HostRuntime) -> Result<(), Fail> {
     let mut reader = Pieces::new(b"1\n2\n3\n", 100);

@@ -1,5 +1,5 @@
-//! Tests of the tool: of lines between any reader and writer, of the words of its command line, and of the whole program. They stand here, so that no crate is
-//! proved a second time for its tests. There is nothing here but tests.
+//! Tests of the tool: of lines between any reader and writer, of the words of its command line, and of the whole program. They are here, so that no
+//! crate is proved a second time for its tests. There is nothing here but tests.
 #![tactic(auto)]
 
 #[cfg(test)]

@@ -25,9 +25,9 @@ struct Fake<'a> {
     words: &'a str,
     /// The word with this number is one byte that is no UTF-8.
     not_text: Option<usize>,
-    /// Whether standard output takes nothing.
+    /// Standard output takes nothing.
     is_closed: bool,
-    /// What happened: a read is a `?`, what comes on standard output is as it is, and on standard error behind a `!`.
+    /// What happened: a read is a `?`, text on standard output is as it is, and on standard error after a `!`.
     transcript: &'a RefCell<String>,
 }
 
@@ -207,7 +207,7 @@ fn ends<N: Net>(
     assert_eq!(rt; transcript.into_inner().as_str(), wanted);
 }
 
-/// Each answer is written before the next read, and complaints go to standard error, behind the answers.
+/// Each answer is written before the next read, and complaints go to standard error, after the answers.
 #[test]
 fn streams_and_statuses(rt: HostRuntime) {
     let done = case_of("ndpctl check", "\n\n");

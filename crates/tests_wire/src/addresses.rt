@@ -286,7 +286,7 @@ fn interfaces_have_their_addresses(rt: HostRuntime) -> Result<(), Fail> {
     Ok(())
 }
 
-/// The address of an interface, where the prefix has 64 bits.
+/// The address of an interface, if the prefix has 64 bits.
 fn interface_address(prefix: Prefix, mac: Mac) -> Addr {
     if prefix.length() == 64 {
         Addr::from_mac(&prefix, mac)

@@ -16,7 +16,7 @@ const ADVERTISEMENT: [u8; 56] = [
     0x00, 0x00, 0x00, 0x00, 0x00, 0x00, 0x00, 0x00,
 ];
 
-/// The same, with an option of length 0 behind it.
+/// The same, with an option of length 0 after it.
 const ADVERTISEMENT_AND_ZERO: [u8; 64] = [
     0x86, 0x00, 0xf4, 0xc6, 0x40, 0x00, 0x07, 0x08, 0x00, 0x00, 0x00, 0x00, 0x00, 0x00, 0x00, 0x00,
     0x01, 0x01, 0x02, 0x00, 0x00, 0x00, 0x00, 0x01, 0x03, 0x04, 0x40, 0xc0, 0x00, 0x27, 0x8d, 0x00,
@@ -24,7 +24,7 @@ const ADVERTISEMENT_AND_ZERO: [u8; 64] = [
     0x00, 0x00, 0x00, 0x00, 0x00, 0x00, 0x00, 0x00, 0x05, 0x00, 0x00, 0x00, 0x00, 0x00, 0x00, 0x00,
 ];
 
-/// An advertisement that tells a reachable time alone.
+/// An advertisement that announces a reachable time alone.
 const REACHABLE_TIME: [u8; 16] = [
     0x86, 0x00, 0xff, 0xff, 0x00, 0x00, 0x00, 0x00, 0x00, 0x00, 0x7d, 0x2f, 0x00, 0x00, 0x00, 0x00,
 ];
@@ -135,7 +135,7 @@ fn reads_reachable_time(rt: HostRuntime) -> Result<(), Fail> {
     Ok(())
 }
 
-/// The preference is told by two bits of the byte of flags (RFC 4191, section 2.1), whatever the router lifetime.
+/// The preference is in two bits of the byte of flags (RFC 4191, section 2.1), whatever the router lifetime.
 #[test]
 fn reads_preferences(rt: HostRuntime) -> Result<(), Fail> {
     for (flags, managed, preference) in [
@@ -297,7 +297,7 @@ fn reads_servers_and_names(rt: HostRuntime) -> Result<(), Fail> {
     Ok(())
 }
 
-/// Whether the last option of an advertisement reads as Other of this type.
+/// Returns true if the last option of an advertisement reads as Other of this type.
 fn ends_in_other(bytes: &[u8], kind: u8) -> bool {
     if bytes.is_empty() || bytes[0] != ICMPV6_ROUTER_ADVERTISEMENT {
         return false;
