@@ -73,6 +73,7 @@ mod shown;
 mod static_route;
 mod tables;
 mod time;
+mod version;
 
 pub use clearing::Clearable;
 pub use counts::Counts;
@@ -80,3 +81,4 @@ pub use event::{Event, Table};
 pub use limits::{Limits, USUAL_NEIGHBOURS, USUAL_ROUTERS};
 pub use nd_steps::{OutgoingPacket, Turned};
 pub use node::Node;
+pub use version::{VERSION, VERSION_NUMBER};

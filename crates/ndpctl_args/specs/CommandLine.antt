@@ -66,10 +66,10 @@ wire_option wires = record (option_with_default (codes "wire") (codes "memory"))
 abbrev pub the_link : NameList → App
 the_link wires = with_rule (new_app (codes "link")) (wire_option wires)
 
--- `ndpctl` takes one subcommand, which is `check`, `run` or `link`
+-- `ndpctl` takes one subcommand, which is `check`, `run` or `link`, and has a version
 abbrev pub the_command : NameList → NameList → App
 the_command roles wires =
-    let top = on_top (λ s. record s { subcommand_required = true }) (new_app (codes "ndpctl")) in
+    let top = on_top (λ s. record s { subcommand_required = true; has_version = true }) (new_app (codes "ndpctl")) in
     with_subcommand (with_subcommand (with_subcommand top (new_shape (codes "check"))) (the_run roles).top) (the_link wires).top
 
 -- the names of the roles that a node may have, and of the wires of a link, wherever they lie in memory

@@ -6,6 +6,7 @@ ghost use Rattle.clap.specs.declared.builder.command.Command.TheViews.{out-Comma
 ghost use Rattle.ndpctl_args.specs.CommandLine.{option_with_default, the_command, the_link, the_run};
 
 use clap::{Arg, Command};
+use nd_node::VERSION;
 use std::alloc::{AllocError, Global};
 
 /// The values of `--role`.
@@ -19,6 +20,10 @@ pub(crate) static WIRES: [&str; 2] = ["memory", UDP];
 
 /// The value of `--wire` for datagrams between sockets of this machine.
 pub(crate) const UDP: &str = "udp";
+
+/// What the help ends with: a line for each command, to be tried at the top of the repository.
+const EXAMPLES: &str =
+    "Examples:\n  ndpctl check < examples/link.hex\n  ndpctl run --role host --mac 34:56:78:9a:bc:de < examples/scripts/host.script\n  ndpctl link < examples/scripts/two_hosts.script\n\nThe manual page docs/ndpctl.1 says what the lines mean.";
 
 /// The default of `--wire`.
 const DEFAULT_WIRE: &str = "memory";
@@ -85,7 +90,9 @@ fn run_command<'a>(alloc: Global, roles: &'a [&'a str]) -> Result<Command<'a>, A
         "How many default routers it keeps at most, 1 to 64",
     );
     Command::new(alloc, "run")
-        .about("Answers each line, an event at a moment, with what a node does")
+        .about(
+            "Reads an event with its moment a line, and writes what one host or router sends and reports",
+        )
         .arg(role)?
         .arg(mac)?
         .arg(draws)?
@@ -103,7 +110,9 @@ fn link_command<'a>(alloc: Global, wires: &'a [&'a str]) -> Result<Command<'a>, 
         wires,
     );
     Command::new(alloc, "link")
-        .about("Answers each line, an event at a moment, with what the nodes of a link do")
+        .about(
+            "Reads an event with its moment a line, and writes what the nodes of one link send and report",
+        )
         .arg(wire)
 }
 
@@ -116,12 +125,16 @@ pub(crate) fn command<'a>(
     ensures { IfOk result (λ command. app_of command ≡ the_command roles.entry wires.entry) }
 {
     let check = Command::new(alloc, "check").about(
-        "Tells of each line, a frame in hexadecimal, what the frame is",
+        "Reads a frame in hexadecimal digits a line, and writes its message or the reason to drop it",
     );
     let run = run_command(alloc, roles)?;
     let link = link_command(alloc, wires)?;
     Command::new(alloc, "ndpctl")
-        .about("IPv6 Neighbor Discovery on one link")
+        .about(
+            "IPv6 Neighbor Discovery on one link: judges frames, and runs hosts and routers on scripted events",
+        )
+        .version(VERSION)
+        .after_help(EXAMPLES)
         .subcommand_required(true)
         .subcommand(check)?
         .subcommand(run)?

@@ -315,19 +315,20 @@ fn helps(rt: HostRuntime) {
     for (words, wanted) in [
         (
             "ndpctl --help",
-            "IPv6 Neighbor Discovery on one link\n\nUsage: ndpctl <COMMAND>\n\nCommands:\n  check  Tells of each line, a frame in hexadecimal, what the frame is\n  run    Answers each line, an event at a moment, with what a node does\n  link   Answers each line, an event at a moment, with what the nodes of a link do\n  help   Print this message or the help of the given subcommand(s)\n\nOptions:\n  -h, --help  Print help\n",
+            "IPv6 Neighbor Discovery on one link: judges frames, and runs hosts and routers on scripted events\n\nUsage: ndpctl <COMMAND>\n\nCommands:\n  check  Reads a frame in hexadecimal digits a line, and writes its message or the reason to drop it\n  run    Reads an event with its moment a line, and writes what one host or router sends and reports\n  link   Reads an event with its moment a line, and writes what the nodes of one link send and report\n  help   Print this message or the help of the given subcommand(s)\n\nOptions:\n  -h, --help     Print help\n  -V, --version  Print version\n\nExamples:\n  ndpctl check < examples/link.hex\n  ndpctl run --role host --mac 34:56:78:9a:bc:de < examples/scripts/host.script\n  ndpctl link < examples/scripts/two_hosts.script\n\nThe manual page docs/ndpctl.1 says what the lines mean.\n",
         ),
+        ("ndpctl --version", "ndpctl 0.1.0\n"),
         (
             "ndpctl check --help",
-            "Tells of each line, a frame in hexadecimal, what the frame is\n\nUsage: ndpctl check\n\nOptions:\n  -h, --help  Print help\n",
+            "Reads a frame in hexadecimal digits a line, and writes its message or the reason to drop it\n\nUsage: ndpctl check\n\nOptions:\n  -h, --help  Print help\n",
         ),
         (
             "ndpctl run --help",
-            "Answers each line, an event at a moment, with what a node does\n\nUsage: ndpctl run [OPTIONS] --role <role> --mac <mac>\n\nOptions:\n      --role <role>              What the node is [possible values: host, router]\n      --mac <mac>                Its Ethernet address, as 02:00:00:00:00:01\n      --draws <draws>            Where its random words come from: seed:<number> or word:<number> [default: seed:0]\n      --transmits <transmits>    How many solicitations it sends for an address, 1 to 8 [default: 1]\n      --neighbours <neighbours>  How many neighbours it keeps at most, 1 to 2048 [default: 512]\n      --routers <routers>        How many default routers it keeps at most, 1 to 64 [default: 16]\n  -h, --help                     Print help\n",
+            "Reads an event with its moment a line, and writes what one host or router sends and reports\n\nUsage: ndpctl run [OPTIONS] --role <role> --mac <mac>\n\nOptions:\n      --role <role>              What the node is [possible values: host, router]\n      --mac <mac>                Its Ethernet address, as 02:00:00:00:00:01\n      --draws <draws>            Where its random words come from: seed:<number> or word:<number> [default: seed:0]\n      --transmits <transmits>    How many solicitations it sends for an address, 1 to 8 [default: 1]\n      --neighbours <neighbours>  How many neighbours it keeps at most, 1 to 2048 [default: 512]\n      --routers <routers>        How many default routers it keeps at most, 1 to 64 [default: 16]\n  -h, --help                     Print help\n",
         ),
         (
             "ndpctl link --help",
-            "Answers each line, an event at a moment, with what the nodes of a link do\n\nUsage: ndpctl link [OPTIONS]\n\nOptions:\n      --wire <wire>  What carries its frames [default: memory] [possible values: memory, udp]\n  -h, --help         Print help\n",
+            "Reads an event with its moment a line, and writes what the nodes of one link send and report\n\nUsage: ndpctl link [OPTIONS]\n\nOptions:\n      --wire <wire>  What carries its frames [default: memory] [possible values: memory, udp]\n  -h, --help         Print help\n",
         ),
     ] {
         ends(&rt, &rt, case_of(words, ""), 0, wanted);
