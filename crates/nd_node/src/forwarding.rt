@@ -153,8 +153,8 @@ impl<R: Rng + Drop, A: Allocator + Clone> Node<R, A> {
         let (first, second) = ready_for_two(&mut self.neighbours, outs)?;
         self.last = now;
         self.router.routes.redirected(now);
-        self.go(now, source, redirect, first, outs);
-        self.go(now, hop, frame, second, outs);
+        self.go(now, source, redirect, Some(first), outs);
+        self.go(now, hop, frame, Some(second), outs);
         Ok(())
     }
 }

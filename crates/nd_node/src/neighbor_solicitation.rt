@@ -1,6 +1,6 @@
 //! Handles a Neighbor Solicitation (RFC 4861, sections 7.2.3 and 7.2.4; RFC 4862, section 5.4.3).
 
-ghost use Rattle.std.specs.Prelude.{◌≡◌, ◌∷◌, ◌+◌, ◌<◌, ◌≤◌, List, None, Some, IsOk, OnOk, OnErr, bytes_eq, false, true, vec_len, vec_capacity};
+ghost use Rattle.std.specs.Prelude.{◌≡◌, ◌∷◌, ◌+◌, ◌<◌, ◌≤◌, List, None, Some, IfOk, IsOk, OnOk, OnErr, bytes_eq, false, true, is_some, vec_len, vec_capacity};
 ghost use Rattle.nd_addr.specs.Kind.{unspecified_address};
 ghost use Rattle.nd_addr.specs.Number.{number_of};
 ghost use Rattle.nd_decode.specs.Option.{Said};
@@ -23,7 +23,7 @@ use nd_decode::{Body, NeighborSolicitation, Options};
 use nd_neighbour::{Cache, News};
 use nd_out::{Limit, Out, Refusal};
 use nd_packet::MAX_WAITING;
-use nd_steps::{hear_conflict, hear_of_neighbour, news_of, times_in_force};
+use nd_steps::{hear_conflict, hear_of_neighbour, news_of, ready_for, times_in_force};
 use rand_core::Rng;
 use std::alloc::{AllocError, Allocator};
 
@@ -33,7 +33,7 @@ struct AnswerRoom<A: Allocator> {
     /// For the advertisement.
     answer: FrameRoom<A>,
     /// For the solicitation of the asker's link-layer address, if that isn't known.
-    solicitation: FrameRoom<A>,
+    solicitation: Option<FrameRoom<A>>,
 }
 
 impl<R: Rng + Drop, A: Allocator + Clone> Node<R, A> {
@@ -151,8 +151,8 @@ impl<R: Rng + Drop, A: Allocator + Clone> Node<R, A> {
     }
 }
 
-/// Makes room for an answer and for all that is reported with it: the frames, the rows of the list, and a ring for an asker that has no entry and
-/// doesn't give its link-layer address. Returns an error if out of memory.
+/// Makes room for an answer and for the rows that come with it: the frame, the rows, and what an asker needs that isn't there and doesn't give its
+/// link-layer address. Returns an error if out of memory; no more than room has been made then.
 fn make_room<A: Allocator + Clone>(
     neighbours: &mut Cache<A>,
     now: u64,
@@ -162,17 +162,17 @@ fn make_room<A: Allocator + Clone>(
 ) -> Result<AnswerRoom<A>, AllocError>
     ensures places { OnOk result (vec_len outs.new + max_waiting + 2 ≤ vec_capacity outs.new) }
     ensures ring { OnOk result (news ≡ None → entry_in (number_of asker.0) neighbours.old.entries ≡ None → 0 < neighbours.new.rings) }
+    ensures solicitation { IfOk result (λ room. news ≡ None → entry_in (number_of asker.0) neighbours.old.entries ≡ None → is_some room.solicitation ≡ true) }
     ensures entries { neighbours.new.entries ≡ neighbours.old.entries }
     ensures limit { neighbours.new.limit ≡ neighbours.old.limit }
     ensures same { outs.new.items ≡ outs.old.items }
 {
+    let solicitation = match news {
+        Some(_) => None,
+        None => ready_for(neighbours, now, asker, outs)?,
+    };
     let answer = FrameRoom::new(outs.allocator().clone()?)?;
-    let solicitation = FrameRoom::new(outs.allocator().clone()?)?;
     outs.reserve(MAX_WAITING + MOST_ROWS)?;
-    let unknown = news.is_none() && neighbours.entry(now, asker).is_none();
-    if unknown && neighbours.ready(1).is_err() {
-        return Err(AllocError);
-    }
     Ok(AnswerRoom {
         answer,
         solicitation,

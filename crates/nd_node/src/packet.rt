@@ -27,13 +27,14 @@ impl<R: Rng + Drop, A: Allocator + Clone> Node<R, A> {
         now: u64,
         to: Addr,
         packet: Packet<A>,
-        solicitation: FrameRoom<A>,
+        solicitation: Option<FrameRoom<A>>,
         outs: &mut Vec<(u64, Out<A>), A>,
     )
         requires moment { IsMoment now }
         requires last { self.old.last ≡ now }
         requires place { has_room self.old.neighbours.limit now (number_of to.0) None self.old.neighbours.entries ≡ true }
         requires ring { entry_in (number_of to.0) self.old.neighbours.entries ≡ None → 0 < self.old.neighbours.rings }
+        requires solicitation { entry_in (number_of to.0) self.old.neighbours.entries ≡ None → is_some solicitation ≡ true }
         requires room { vec_len outs.old < vec_capacity outs.old }
         ensures leads { Leads R.stream self.old self.new outs.old.items outs.new.items (PacketGoes now (number_of to.0) packet) }
 

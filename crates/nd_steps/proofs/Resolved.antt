@@ -163,3 +163,12 @@ packet_may_remember old_choice new_choice limit at key retrans packet old new se
     by : (o : Option NeighbourEntry) → entry_in key old ≡ o → MayRemember old_choice new_choice old new
     by None e = Forgets (choice_is ∙ ap (λ (x : Sending). if begins x then record old_choice { memory = forgotten old_choice.memory } else old_choice) (is ∙ ap (λ (o : Option NeighbourEntry). sending_in o packet) e))
     by (Some n) e = by_stage n e n.stage refl
+
+-- a resolution begins only of a neighbour that isn't there
+begins_of : (s : Stage) (packet : List ℕ) → begins (sending_to s packet) ≡ true → ⊥
+begins_of (Resolving retrans sent waiting) packet h = let never : ⊥ = cc in never
+begins_of (Known mac confirmed since probing) packet h = let never : ⊥ = cc in never
+
+pub begins_absent : (found : Option NeighbourEntry) (packet : List ℕ) → begins (sending_in found packet) ≡ true → found ≡ None
+begins_absent None packet h = refl
+begins_absent (Some n) packet h = absurd (begins_of n.stage packet h)

@@ -1,6 +1,6 @@
 //! The Neighbor Cache (RFC 4861, section 5.1): what messages and packets do to it, and what the node reports of them.
 
-ghost use Rattle.std.specs.Prelude.{◌≡◌, List, Some, None, true, ◌+◌, ◌<◌, ◌≤◌, length, OnOk, vec_capacity, vec_len, ◌-◌, ◌++◌, ◌^◌, IfSome, if◌then◌else◌, is_some, map};
+ghost use Rattle.std.specs.Prelude.{◌≡◌, List, Some, None, true, ◌+◌, ◌<◌, ◌≤◌, length, IfOk, OnOk, vec_capacity, vec_len, ◌-◌, ◌++◌, ◌^◌, IfSome, if◌then◌else◌, is_some, map};
 ghost use Rattle.std.specs.Option.{option_map};
 ghost use Rattle.nd_neighbour.specs.declared.news.Times.{Times};
 ghost use Rattle.nd_neighbour.specs.History.{Row};
@@ -56,26 +56,30 @@ pub fn has_place<A: Allocator>(neighbours: &Cache<A>, now: u64, news: Option<New
     }
 }
 
-/// Makes room for a packet to a neighbour at `now`, in milliseconds: for the solicitation of its link-layer address, for what is reported, and for
-/// the ring of a neighbour that has no entry. Returns an error if out of memory; no more than room has been made then.
+/// Makes room for a packet to a neighbour at `now`, in milliseconds: for one row and, if the neighbour isn't there, for the solicitation of its
+/// link-layer address, which is returned, and a ring. Returns an error if out of memory; no more than room has been made then.
 pub fn ready_for<A: Allocator + Clone>(
     neighbours: &mut Cache<A>,
     now: u64,
     to: Addr,
     outs: &mut Vec<(u64, Out<A>), A>,
-) -> Result<FrameRoom<A>, AllocError>
+) -> Result<Option<FrameRoom<A>>, AllocError>
     ensures place { OnOk result (vec_len outs.new < vec_capacity outs.new) }
     ensures ring { OnOk result (entry_in (number_of to.0) neighbours.old.entries ≡ None → 0 < neighbours.new.rings) }
+    ensures solicitation { IfOk result (λ room. entry_in (number_of to.0) neighbours.old.entries ≡ None → is_some room ≡ true) }
     ensures entries { neighbours.new.entries ≡ neighbours.old.entries }
     ensures limit { neighbours.new.limit ≡ neighbours.old.limit }
     ensures same { outs.new.items ≡ outs.old.items }
 {
-    let solicitation = FrameRoom::new(outs.allocator().clone()?)?;
     outs.reserve(1)?;
-    if neighbours.entry(now, to).is_none() && neighbours.ready(1).is_err() {
+    if neighbours.entry(now, to).is_some() {
+        return Ok(None);
+    }
+    let solicitation = FrameRoom::new(outs.allocator().clone()?)?;
+    if neighbours.ready(1).is_err() {
         return Err(AllocError);
     }
-    Ok(solicitation)
+    Ok(Some(solicitation))
 }
 
 /// Makes room for a packet to one neighbour and then one to a second: for each, the solicitation of its link-layer address, what is reported, and a
@@ -225,13 +229,14 @@ pub fn note_use<A: Allocator>(choice: &mut Choice<A>, used: &Use<A>)
 pub fn tell_use<A: Allocator>(
     outs: &mut Vec<(u64, Out<A>), A>,
     at: u64,
-    room: FrameRoom<A>,
+    room: Option<FrameRoom<A>>,
     mac: Mac,
     own: Addr,
     to: Addr,
     used: Use<A>,
 )
-    requires { vec_len outs.old < vec_capacity outs.old }
+    requires room { vec_len outs.old < vec_capacity outs.old }
+    requires ready { begins (sending_of used) ≡ true → is_some room ≡ true }
     ensures told { happenings outs.new.items ≡ happenings outs.old.items ++ at_moment at (told_of_packet mac own (number_of to.0) (sending_of used)) }
     ensures one { vec_len outs.new ≤ vec_len outs.old + 1 }
     ensures capacity { vec_capacity outs.new ≡ vec_capacity outs.old }
@@ -242,10 +247,13 @@ pub fn tell_use<A: Allocator>(
             let _bytes = destination.as_bytes();
             outs.push_reserved((at, Out::Frame(packet.addressed(destination))));
         }
-        Use::Queued { solicit: true, .. } => {
-            let _bytes = to.as_bytes();
-            outs.push_reserved((at, Out::Frame(room.resolution(mac, own, to))));
-        }
+        Use::Queued { solicit: true, .. } => match room {
+            Some(room) => {
+                let _bytes = to.as_bytes();
+                outs.push_reserved((at, Out::Frame(room.resolution(mac, own, to))));
+            }
+            None => unreachable!(),
+        },
         Use::Queued {
             replaced: Some(oldest),
             ..

@@ -16,12 +16,12 @@ returns-in-Send-clause-told g c =
     rw c.in-Send.is (one_told c.args.outs.now.items _ c.args.at _ _ c.push_reserved.ensures.items
     (ap Sent (c.addressed.ensures ∙ sym (ap (λ (m : Mac). addressed m c.in-Send.packet) (c.addresses_are_told_by_numbers.ensures.mac c.in-Send.destination c.as_bytes-bytes.ensures.bytes)))))
 
-pub returns-in-Queued-true-default-clause-told : goal.returns-in-Queued-true-default-clause-told
-returns-in-Queued-true-default-clause-told g c =
+pub returns-in-Some-clause-told : goal.returns-in-Some-clause-told
+returns-in-Some-clause-told g c =
     let q = c.in-Queued-true-default in
-    let new = c.push_reserved-in-Queued-true-default.new.self.items in
+    let new = c.push_reserved-in-Some.new.self.items in
     rw q.is (subst
     (λ (b : Bool). happenings new ≡ happenings c.args.outs.now.items ++ at_moment c.args.at (told_of_packet c.args.mac c.args.own (number_of c.args.to.0) (Queues b q.replaced)))
     (sym q.solicit-test)
-    (one_told c.args.outs.now.items new c.args.at _ _ c.push_reserved-in-Queued-true-default.ensures.items
-    (ap Sent (c.resolution.ensures ∙ sym (ap (λ (a : Addr). resolution_frame c.args.mac c.args.own a) (c.addresses_are_told_by_numbers.ensures.addr c.args.to c.as_bytes-bytes-in-Queued-true-default.ensures.bytes))))))
+    (one_told c.args.outs.now.items new c.args.at _ _ c.push_reserved-in-Some.ensures.items
+    (ap Sent (c.resolution.ensures ∙ sym (ap (λ (a : Addr). resolution_frame c.args.mac c.args.own a) (c.addresses_are_told_by_numbers.ensures.addr c.args.to c.as_bytes-bytes-in-Some.ensures.bytes))))))

@@ -15,7 +15,7 @@ pub returns : goal.returns
 returns c =
     let check_is : shape_of c.about-check.result ≡ new_shape (codes "check") = ap shape_of_fields c.about-check.ensures ∙ ap (λ (a : App). a.top) c.new.ensures.app in
     let check_local : (out-Command c.about-check.result).has_globals ≡ false = ap (λ f. f.has_globals) c.about-check.ensures ∙ c.new.ensures.local in
-    let top_is : app_of c.subcommand_required.result ≡ needs_subcommand (new_app (codes "ndpctl")) =
+    let top_is : app_of c.subcommand_required.result ≡ needs_subcommand (has_a_version (new_app (codes "ndpctl"))) =
     ap app_of_fields c.subcommand_required.ensures ∙ ap needs_subcommand (ap app_of_fields c.after_help.ensures ∙ ap app_of_fields c.version.ensures ∙ ap has_a_version (ap app_of_fields c.about.ensures ∙ c.new-2.ensures.app)) in
     let run_is : shape_of c.in_ok-run.run' ≡ (the_run c.args.roles).top = ap (λ (a : App). a.top) c.in_ok-run.ensures.shape in
     let link_is : shape_of c.in_ok-link.link ≡ (the_link c.args.wires).top = ap (λ (a : App). a.top) c.in_ok-link.ensures.shape in
