@@ -1,4 +1,4 @@
-//! A host on its link: it starts, hears a Router Advertisement, and has an address and a default router then. The README shows it.
+//! A host on its link: it starts, hears a Router Advertisement, and has an address and a default router then.
 #![tactic(auto)]
 
 use nd_addr::{Mac, Role};
