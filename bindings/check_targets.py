@@ -1,6 +1,7 @@
 """check_targets: the library on other processors. The targets of the Makefile are built, and on each the example of a host and the program `trace` print
 what they print on this machine: over the scripts of the repository, and over a longer one for a host and for a router. Programs for other
 processors run under qemu."""
+import json
 import os
 import shutil
 import sys
@@ -23,8 +24,11 @@ TARGETS = [
     ("nd.c on this machine", "gcc", None, None),
     ("nd.c on arm, 32 bits", "arm-linux-gnueabihf-gcc", "qemu-arm", None),
     ("nd.c on s390x, big-endian", "s390x-linux-gnu-gcc", "qemu-s390x", None),
+    ("nd.c on mips, 32 bits, big-endian", "mips-linux-gnu-gcc", "qemu-mips", None),
+    ("nd.c on powerpc, 32 bits, big-endian", "powerpc-linux-gnu-gcc", "qemu-ppc", None),
 ]
-PACKAGES = {"qemu-aarch64": "qemu-user", "qemu-riscv64": "qemu-user", "qemu-arm": "qemu-user", "qemu-s390x": "qemu-user"}
+PACKAGES = {"qemu-aarch64": "qemu-user", "qemu-riscv64": "qemu-user", "qemu-arm": "qemu-user", "qemu-s390x": "qemu-user",
+            "qemu-mips": "qemu-user", "qemu-ppc": "qemu-user"}
 
 
 def runs():
@@ -95,7 +99,7 @@ def check_hear(what, words):
     report_if(f"{what}: the example hear", is_same, "\n".join(said))
 
 
-def check_wasm64():
+def check_wasm64(wanted):
     what = "wasm64: the example of a host in node"
     if not os.path.exists(f"{OUT}/nd.wasm") or not has("node", what):
         return
@@ -104,6 +108,12 @@ def check_wasm64():
     if said.returncode == 9 or "CompileError" in said.stderr:
         return skip(what, "node has no 64-bit memory")
     report_if(what, said.stdout == read(f"{TOP}/examples/host.txt"), said.stdout + said.stderr)
+    words = ["node", "--experimental-wasm-memory64", f"{TESTS}/runs.mjs", f"{TOP}/docs/try/index.html", f"{OUT}/nd.wasm"]
+    said = run(words, input=json.dumps(runs()))
+    wrong = [difference(one, other) for one, other in zip(json.loads(said.stdout or "[]"), wanted) if one != other]
+    lines = sum(text.count("\n") for text in wanted)
+    report_if(f"wasm64 in node: {len(wanted)} scripts, {lines} lines as on this machine", said.stdout and not wrong, said.stderr + "\n".join(wrong[:4]))
+    return None
 
 
 def check_targets(room, archive):
@@ -130,4 +140,4 @@ def check_targets(room, archive):
             skip(what, why or "it was not built")
         else:
             check_target(room, target, wanted)
-    return check_wasm64()
+    return check_wasm64(wanted)

@@ -1,6 +1,6 @@
 #!/usr/bin/env python3
-"""bitcode OUT: builds the archive of crates/nd_c for aarch64 as `rt lib --target` does, over what `rt lib` keeps, and leaves it in OUT as nd.a. OUT/nd.bc
-is the LLVM module that Rattle passed to clang for it. A folder of a toolchain whose clang copies its input stands in for the kit's."""
+"""bitcode OUT [CRATE]: builds the archive of crates/nd_c, or of the crate that is named, for aarch64 as `rt lib --target` does, over what `rt lib` keeps,
+and leaves it in OUT as nd.a. OUT/nd.bc is the LLVM module that Rattle passed to clang for it. A folder of a toolchain whose clang copies its input stands in for the kit's."""
 import importlib.machinery
 import importlib.util
 import os
@@ -9,7 +9,7 @@ import subprocess
 import sys
 
 TARGET = "aarch64-unknown-linux-gnu"
-CRATE = os.path.realpath(f"{os.path.dirname(__file__)}/../../crates/nd_c")
+CRATES = os.path.realpath(f"{os.path.dirname(__file__)}/../../crates")
 # Rattle clears the environment of clang, so that the paths are in the text.
 CLANG = """#!/bin/sh
 for word in "$@"; do
@@ -48,14 +48,14 @@ def keeping_toolchain(kit, out):
     return folder
 
 
-def main(out):
+def main(out, name="nd_c"):
     sys.dont_write_bytecode = True
-    out = os.path.realpath(out)
+    out, crate = os.path.realpath(out), f"{CRATES}/{name}"
     os.makedirs(out, exist_ok=True)
     kit = kit_of(shutil.which("rt"))
     rtlib = library(kit)
-    os.chdir(CRATE)
-    words = rtlib.Crate(CRATE, rtlib.root_above(CRATE) or CRATE, {}).words(["--jobs", "1"])
+    os.chdir(crate)
+    words = rtlib.Crate(crate, rtlib.root_above(crate) or crate, {}).words(["--jobs", "1"])
     made = subprocess.run([f"{kit}/bin/rattle", "build", *words, "--incremental", "out/incremental", "--target", TARGET,
                            "--toolchain", keeping_toolchain(kit, out), "-o", f"{out}/nd.a"], capture_output=True, text=True, check=False)
     said = (made.stdout + made.stderr).strip().splitlines()
@@ -64,4 +64,4 @@ def main(out):
     print(said[-1])
 
 
-main(sys.argv[1])
+main(*sys.argv[1:])

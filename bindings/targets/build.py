@@ -88,21 +88,22 @@ def made_once(path, paths, make, words=()):
     write(stamp, wanted)
 
 
-def bitcode():
-    """Makes Rattle's LLVM module for aarch64, and returns its path."""
+def bitcode(out=OUT, crate="nd_c"):
+    """Makes Rattle's LLVM module of a crate for aarch64, and returns its path."""
     need("rt")
+    os.makedirs(out, exist_ok=True)
     tool = f"{HERE}/bitcode.py"
-    made_once(f"{OUT}/nd.bc", [*sources(), f"{TOP}/crates.txt", tool], lambda: print(run(sys.executable, tool, OUT), end="", flush=True))
-    return f"{OUT}/nd.bc"
+    made_once(f"{out}/nd.bc", [*sources(), f"{TOP}/crates.txt", tool], lambda: print(run(sys.executable, tool, out, crate), end="", flush=True))
+    return f"{out}/nd.bc"
 
 
 def clang():
     return f"{kit()}/toolchain/bin/clang"
 
 
-def compiled(target, out, *flags):
+def compiled(target, out, *flags, of=bitcode):
     """Compiles Rattle's module for a target."""
-    module, tool = bitcode(), f"{HERE}/retarget.py"
+    module, tool = of(), f"{HERE}/retarget.py"
     words = [target, out, *flags]
     made_once(out, [module, tool], lambda: run(sys.executable, tool, clang(), module, *words), words)
 
@@ -128,17 +129,17 @@ def functions():
     return re.findall(r"^[a-z]\w* (?:\*)?(nd_\w+)\(", text, re.M)
 
 
-def module(name, memory, *flags):
-    """Makes a module of WebAssembly with a 64-bit memory of so many bytes."""
+def module(name, memory, *flags, of=bitcode, exported=functions):
+    """Makes a module of WebAssembly with a 64-bit memory of so many bytes, of Rattle's module that `of` makes."""
     need("rt", "gcc")
-    compiled(WASM, f"{OUT}/{name}.o", "-mcpu=lime1", *flags)
+    compiled(WASM, f"{OUT}/{name}.o", "-mcpu=lime1", *flags, of=of)
     # gcc's headers that need no C library stand in for clang's, which the kit lacks.
     words = [f"--target={WASM}", "-mcpu=lime1", *flags, "-std=c11", "-O2", "-ffreestanding", "-fno-builtin", "-DND_POOL_GIVEN", "-Wall", "-Wextra", "-Werror",
              "-nostdinc", "-isystem", run("gcc", "-print-file-name=include").strip(), f"-I{TOP}/include"]
     others = {f"{OUT}/{name}.module.o": f"{HERE}/module.c", f"{OUT}/{name}.pool.o": f"{BINDINGS}/c/pool.c"}
     for to, source in others.items():
         run(clang(), *words, "-c", source, "-o", to)
-    exports = [f"--export={it}" for it in [*functions(), "nd_free_memory", "nd_give_pool"]]
+    exports = [f"--export={it}" for it in [*exported(), "nd_free_memory", "nd_give_pool"]]
     # The stack comes first, so that one that is too short leaves the memory, which is a trap.
     sizes = ["-z", f"stack-size={STACK}", f"--initial-memory={memory}"]
     run(f"{OUT}/wasm-ld", "-mwasm64", "--no-entry", "--stack-first", *sizes, "--gc-sections", *exports, f"{OUT}/{name}.o", *others, "-o", f"{OUT}/{name}.wasm")
@@ -182,15 +183,21 @@ def make(name):
         print(f"skipped: {name}: {why}", flush=True)
 
 
-def main(names):
+def prepare():
+    """Makes the folder of what is built, with the kit's clang under the name by which it is a linker of WebAssembly."""
     sys.dont_write_bytecode = True
     os.makedirs(OUT, exist_ok=True)
+    if shutil.which("rt") and not os.path.lexists(f"{OUT}/wasm-ld"):
+        os.symlink(clang(), f"{OUT}/wasm-ld")
+
+
+def main(names):
+    prepare()
     if shutil.which("rt"):
         bitcode()
-        if not os.path.lexists(f"{OUT}/wasm-ld"):
-            os.symlink(clang(), f"{OUT}/wasm-ld")
     with ThreadPoolExecutor(2) as pool:
         list(pool.map(make, names))
 
 
-main(sys.argv[1:])
+if __name__ == "__main__":
+    main(sys.argv[1:])

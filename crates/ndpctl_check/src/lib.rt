@@ -9,3 +9,4 @@ mod telling;
 mod words;
 
 pub use check::run_check;
+pub use telling::tell;

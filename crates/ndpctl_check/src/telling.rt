@@ -9,7 +9,7 @@ use nd_validity::{Hearing, hear_in_some_role};
 use std::alloc::{AllocError, Allocator};
 
 /// Writes what a frame is. Returns an error if out of memory.
-fn tell<A: Allocator>(text: &mut String<A>, hearing: &Hearing<'_>) -> Result<(), AllocError>
+pub fn tell<A: Allocator>(text: &mut String<A>, hearing: &Hearing<'_>) -> Result<(), AllocError>
     ensures { OnOk result (string_bytes text.new ≡ string_bytes text.old ++ told (outcome hearing.now)) }
 {
     match hearing {

@@ -1,0 +1,286 @@
+"""check_page: docs/try/index.html. It is what bindings/page makes of its modules, and these are the ones that are made of the proved crates by the same
+tools. Rows of `ndpctl check`, and frames that are cut and changed, have the lines that they are to have, and scripts of `ndpctl run` their texts: by
+node, and in a browser without a window."""
+import ast
+import base64
+import html
+import json
+import os
+import re
+import shutil
+import struct
+import sys
+
+from check_programs import BINDINGS, NDPCTL, TESTS, difference
+from checking import TOP, has, read, report_if, run, skip
+
+sys.path.insert(0, f"{BINDINGS}/targets")
+import frames  # noqa: E402
+import hostile  # noqa: E402
+import page  # noqa: E402
+import rules  # noqa: E402
+import scripts  # noqa: E402
+
+ROLES = ("host", "router")
+BROWSERS = ("chromium", "chromium-browser", "google-chrome", "google-chrome-stable")
+# Of the frames that are cut and changed, so many are passed over before the next one: in node, and in the browser.
+STEP, BROWSER_STEP = 29, 1499
+WORDS = {number: f"drop {number} {name}" for number, name in rules.REASONS.items()} | hostile.MESSAGES
+
+
+def rows_of_link():
+    return list(zip(read(f"{TOP}/examples/link.hex").splitlines(), read(f"{TOP}/examples/link.txt").splitlines()))
+
+
+def value_of(text, known):
+    return ast.literal_eval(text) if text[0] == '"' else known.get(text)
+
+
+def changed(frame, place, digits, checksum):
+    """Returns a frame with other digits at a place, and with another checksum."""
+    summed = frame[:place] + digits + frame[place + len(digits):]
+    return summed[:112] + checksum + summed[116:]
+
+
+def rows_of_tests():
+    """Returns frames and lines of the tests of `ndpctl check`, which were written by hand or by another program."""
+    text = re.sub(r"\\\n\s*", "", read(f"{scripts.TESTS}/check.rt"))
+    numbers = {name: int(value) for name, value in re.findall(r"const (\w+): usize = (\d+);", text)}
+    rows, word = [], rf"(\w+|{scripts.TEXT})"
+    for body in re.split(r"^fn ", text, flags=re.M):
+        known = scripts.constants(text) | {name: ast.literal_eval(value) for name, value in re.findall(rf"let (\w+) =\s*({scripts.TEXT});", body)}
+        for frames, answers in re.findall(rf"\bexpect\(\s*&rt,\s*(\w+),\s*\d+,\s*{word},\s*Ok\(\(\)\),?\s*\)", body):
+            lines = (value_of(frames, known) or "").split(), (value_of(answers, known) or "").splitlines()
+            rows += zip(*lines) if len(lines[0]) == len(lines[1]) else []
+        for frame, place, digits, checksum, answer in re.findall(
+                rf"\bexpect_changed\(\s*&rt,\s*(\w+),\s*\((\w+), {word}\),\s*{word},\s*{word},?\s*\)", body):
+            at = numbers.get(place) or int(place)
+            rows.append((changed(known[frame], at, value_of(digits, known), value_of(checksum, known)), value_of(answer, known).strip()))
+    return rows
+
+
+def changed_frames(step):
+    """Returns frames of hostile.hex that are cut and changed, half of them with the checksum made good, and what the rules say to a host and to a
+    router: the whole line of a frame that is dropped, and the first word of another."""
+    rows, number = [], 0
+    for base in hostile.named()[1]:
+        for at, frame in enumerate(hostile.variants(base)):
+            if number % step == 0 and frame:
+                frame = hostile.mended(frame, at < len(base)) if number // step % 2 else frame
+                rows.append((frame.hex(), [WORDS[hearing] for hearing in rules.heard_by_both(frame)]))
+            number += 1
+    return rows
+
+
+def wrong_rows(rows, lines):
+    """Returns what is wrong with the lines of rows. Of a line that is not of a dropped frame, what is wanted may be the beginning."""
+    wrong = [f"{frame[:80]}: {line!r}, not {wanted!r}" for (frame, wanted), line in zip(rows, lines)
+             if line != wanted and (wanted.startswith("drop") or not line.startswith(f"{wanted} "))]
+    return wrong if len(rows) == len(lines) else [*wrong, f"{len(lines)} lines for {len(rows)} frames"]
+
+
+def report_rows(what, rows, lines):
+    wrong = wrong_rows(rows, lines)
+    report_if(f"{what}: {len(rows)} frames, of each the line", rows and not wrong, "\n".join(wrong[:4]))
+
+
+def all_rows(step):
+    """Returns what is run: names, roles and rows."""
+    frames = changed_frames(step)
+    yield "the rows of ndpctl check", "either", rows_of_link() + rows_of_tests()
+    for number, role in enumerate(ROLES):
+        yield f"frames that are cut and changed, to a {role}", role, [(frame, wanted[number]) for frame, wanted in frames]
+
+
+def has_node(what):
+    """Returns true if node is there, and has what the page's script asks of a browser."""
+    if not has("node", f"{what} in node"):
+        return False
+    if run(["node", "-e", "new DecompressionStream('gzip'); new Response('')"]).returncode == 0:
+        return True
+    skip(f"{what} in node", "node is older than 18")
+    return False
+
+
+def check_in_node(what, path):
+    if not has_node(what):
+        return
+    for name, role, rows in all_rows(STEP):
+        said = run(["node", f"{TESTS}/lines.mjs", path, role], input="".join(f"{frame}\n" for frame, _ in rows))
+        report_rows(f"{what} in node, {name}", rows, said.stdout.splitlines() or [said.stderr])
+    if not os.path.exists(NDPCTL):
+        return skip(f"{what} beside ndpctl check", "crates/ndpctl/out/ndpctl is not there")
+    text = "".join(f"{frame}\n" for frame, _ in changed_frames(STEP))
+    said, wanted = run(["node", f"{TESTS}/lines.mjs", path, "either"], input=text), run([NDPCTL, "check"], input=text)
+    report_if(f"{what} in node: as ndpctl check, {len(wanted.stdout.splitlines())} lines", said.stdout == wanted.stdout != "", said.stderr)
+    return None
+
+
+def traced(room, words, script):
+    """Returns what the program `trace` prints, which is built over the archive for this machine."""
+    return run([f"{room}/trace", *words], input=script).stdout
+
+
+def known_runs(room):
+    """Returns names, words, scripts and texts of `ndpctl run`: those of its tests, and longer ones with the text of `trace`, if it was built."""
+    yield from scripts.scripts()
+    if os.path.exists(f"{room}/trace"):
+        for role in ROLES:
+            words, script = ["run", "--role", role, "--mac", frames.HOST_MAC, "--draws", "seed:1"], scripts.long(1, 1000)
+            yield f"a long script of a {role}", words, script, traced(room, words, script)
+
+
+def check_runs_in_node(what, path, room):
+    if not has_node(what):
+        return
+    known = list(known_runs(room))
+    said = run(["node", f"{TESTS}/runs.mjs", path], input=json.dumps([[words, script] for _, words, script, _ in known]))
+    texts = json.loads(said.stdout or "[]")
+    wrong = [f"{name}: {difference(text, wanted)}" for text, (name, _, _, wanted) in zip(texts, known) if text != wanted]
+    lines = sum(wanted.count("\n") for *_, wanted in known)
+    are_same = len(texts) == len(known) and not wrong
+    report_if(f"{what} in node: {len(known)} scripts of ndpctl run, {lines} lines", are_same, said.stderr + "\n".join(wrong[:4]))
+
+
+class Browser:
+    """A browser without a window, with a profile of its own. Its clock runs ahead, so that a page that is waited for is not kept long."""
+
+    def __init__(self, program, room):
+        self.room = room
+        self.words = [program, "--headless", "--no-sandbox", "--disable-gpu", "--disable-dev-shm-usage", f"--user-data-dir={room}/profile",
+                      "--virtual-time-budget=600000", "--dump-dom"]
+
+    def page(self, address, until=""):
+        """Returns the page as it is once its script has run. It is opened again if it does not have the words `until`: on a busy machine the clock may
+        run out before a module is compiled."""
+        for _ in range(4):
+            text = run([*self.words, address], timeout=180).stdout
+            if until in text:
+                break
+        return text
+
+    def after(self, path, script, fragment=""):
+        """Returns a page, of a copy, once a script has run behind its own."""
+        copy = f"{self.room}/page.html"
+        with open(copy, "w", encoding="utf-8") as file:
+            file.write(f"""{read(path)}<script type="module">
+const go = () => new Promise((then) => setTimeout(then, 10));
+while (!document.body.dataset.ready) await go();
+{script}
+document.body.dataset.done = 'yes';
+</script>
+""")
+        return self.page(f"file://{copy}{fragment}", 'data-done="yes"')
+
+
+def lines_in(text):
+    """Returns the lines of a page in the order of their frames."""
+    pattern = r'<details class="\w+" data-index="(\d+)"><summary><span class="nr">\d+</span><span><span class="line"><b>(.*?)</b>(.*?)</span>'
+    rows = re.findall(pattern, text, re.S)
+    return [html.unescape(bold + behind) for _, bold, behind in sorted(rows, key=lambda row: int(row[0]))]
+
+
+def pcap_of(frames):
+    """Returns a capture of frames, as tcpdump writes it."""
+    return struct.pack("<IHHiIII", 0xA1B2C3D4, 2, 4, 0, 0, 65535, 1) + b"".join(struct.pack("<IIII", 0, 0, len(it), len(it)) + it for it in frames)
+
+
+def block(kind, body):
+    padded = body + bytes(-len(body) % 4)
+    return struct.pack(">II", kind, len(padded) + 12) + padded + struct.pack(">I", len(padded) + 12)
+
+
+def pcapng_of(frames):
+    """Returns a capture of frames, as Wireshark writes it on a big-endian processor."""
+    head = block(0x0A0D0D0A, struct.pack(">IHHq", 0x1A2B3C4D, 1, 0, -1)) + block(1, struct.pack(">HHI", 1, 0, 65535))
+    return head + b"".join(block(6, struct.pack(">IIIII", 0, 0, 0, len(it), len(it)) + it) for it in frames)
+
+
+def dump_of(frames):
+    """Returns frames as tcpdump -xx prints them."""
+    lines = []
+    for number, frame in enumerate(frames):
+        lines.append(f"10:00:{number:02}.000000 IP6 fe80::1 > ff02::1: ICMP6, length {len(frame) - 54}")
+        for at in range(0, len(frame), 16):
+            lines.append(f"\t0x{at:04x}:  " + " ".join(frame[i:i + 2].hex() for i in range(at, min(at + 16, len(frame)), 2)))
+    return ("\n".join(lines) + "\n").encode()
+
+
+def dropped(data, name):
+    """Returns a script that drops a file on the page."""
+    return f"""const file = new DataTransfer(), bytes = Uint8Array.from(atob('{base64.b64encode(data).decode()}'), (it) => it.charCodeAt(0));
+file.items.add(new File([bytes], '{name}'));
+dispatchEvent(new DragEvent('drop', {{ dataTransfer: file, cancelable: true }}));
+while (!document.querySelector('#lists details')) await go();"""
+
+
+def check_runs_in_browser(browser, path, room):
+    """Chooses each script of the page, and compares what is shown with what `trace` prints."""
+    if not os.path.exists(f"{room}/trace"):
+        return skip("the scripts of the page in a browser", "trace was not built")
+    for index, it in enumerate(page.scripts()):
+        words = ["run", "--role", it["role"], "--mac", it["mac"], "--draws", it["draws"]]
+        wanted = traced(room, words, "".join(f"{line}\n" for line in it["lines"])).splitlines()
+        text = browser.after(path, f"""document.getElementById('tab-node').click();
+document.querySelectorAll('#scripts button')[{index}].click();
+while (document.querySelectorAll('.step').length !== {len(it["lines"])}) await go();""")
+        shown = [html.unescape(line) for line in re.findall(r' data-line="(.*?)"', text)]
+        report_if(f"the page in a browser, {it['title']!r}: {len(wanted)} lines", wanted and shown == wanted, "\n".join(shown[:4]))
+    said = browser.after(path, "while (!document.querySelector('#diagram svg')) await go();", "#pair")
+    report_if("the page in a browser: of two hosts one uses the address", "Host 1 uses the address." in said, said[-2000:])
+    return None
+
+
+def check_in_browser(path, room):
+    program = next(filter(None, map(shutil.which, BROWSERS)), None)
+    if not program:
+        return skip("the page in a browser", "chromium is not there (Debian: chromium)")
+    browser = Browser(program, room)
+    if "it runs" not in browser.page("data:text/html,<p>it runs</p>"):
+        return skip("the page in a browser", f"{os.path.basename(program)} shows no page here")
+    for name, role, rows in all_rows(BROWSER_STEP):
+        before = "" if role == "either" else f"{role}:"
+        text = browser.after(path, "", f"#{before}{','.join(frame for frame, _ in rows)}")
+        report_rows(f"the page in a browser, {name}", rows, lines_in(text))
+    rows = rows_of_link()
+    frames = [bytes.fromhex(frame) for frame, _ in rows]
+    text = read(f"{TOP}/examples/link.hex").encode()
+    files = {"link.pcap": pcap_of(frames), "link.pcapng": pcapng_of(frames), "link.hex": text, "link.xx": dump_of(frames)}
+    for name, data in files.items():
+        report_rows(f"the page in a browser, {name} dropped on it", rows, lines_in(browser.after(path, dropped(data, name))))
+    return check_runs_in_browser(browser, path, room)
+
+
+def check_made_again(room):
+    """Makes the modules of the page again, that of a node with ND_TARGETS=1. Their bytes are compared if the tools are those that the page names: others
+    may make other bytes of the same code."""
+    again, names = f"{room}/index.html", list(page.MODULES) if os.environ.get("ND_TARGETS") else ["tell"]
+    if "node" not in names:
+        skip("the page's module of a node is made again", "ND_TARGETS=1 makes it, which takes some minutes")
+    said = run([sys.executable, f"{BINDINGS}/targets/page.py", again, *names])
+    print("".join(f"{line}\n" for line in said.stdout.splitlines() if line.startswith("skipped: ")), end="")
+    if not report_if("targets/page.py", said.returncode == 0, said.stdout + said.stderr) or not os.path.exists(again):
+        return
+    (committed, named), (made, here) = (page.parts_of(read(path)) for path in (page.PAGE, again))
+    if named == here:
+        for name in names:
+            is_same = page.unpacked(committed[name]) == page.unpacked(made[name])
+            report_if(f"the page's module {name!r} is what its crate is made into", is_same, "make -C bindings page makes it again")
+    else:
+        skip("the bytes of the page's modules", f"they were made with {named}, and here is {here}")
+        check_in_node("the page that is made here", again)
+        check_runs_in_node("the page that is made here", again, room)
+
+
+def check_page(room):
+    if not os.path.exists(page.PAGE):
+        return report_if("docs/try/index.html is there", False, "make -C bindings page makes it")
+    text = read(page.PAGE)
+    report_if("docs/try/index.html is what bindings/page makes of its modules", page.page_of(*page.parts_of(text)) == text,
+              "make -C bindings page makes it again")
+    shown = dict(re.findall(r'<tr id="reason-(\d+)"><td><code>\d+ (\w+)</code>', text))
+    report_if("the page has each reason of ndpctl check", shown == {str(number): name for number, name in rules.REASONS.items() if number < 20})
+    check_made_again(room)
+    check_in_node("the page", page.PAGE)
+    check_runs_in_node("the page", page.PAGE, room)
+    return check_in_browser(page.PAGE, room)

@@ -1,0 +1,100 @@
+// The tab of a node: a script on one side, and on the other what the node says to each line, with its tables.
+
+const SCRIPTS = @SCRIPTS@;
+const SHOWN_DIGITS = 40;
+const MOST_LINES = 400;
+const SHOWN_TABLES = ['addresses', 'neighbours', 'routers', 'prefixes', 'dns', 'redirects', 'advertise', 'routes', 'params'];
+let runs = 0;
+
+// Digits, cut if they are many.
+const cut = (digits) => (digits.length > SHOWN_DIGITS ? `${digits.slice(0, SHOWN_DIGITS)}..` : digits);
+
+// What a frame says, as a quiet line.
+function meaning(digits) {
+    return made('span', 'quiet', lineOf(Uint8Array.from(digits.match(/../g) ?? [], (it) => parseInt(it, 16)), 'either'));
+}
+
+// The element of a line of output: its moment, its text with few digits, and of a frame what it says.
+function outputLine(line) {
+    const [moment, word, ...rest] = line.split(' '), element = made('div', `said ${word}`);
+    const short = word === 'tx' || word === 'up' ? cut(rest[0]) : rest.join(' ');
+    element.dataset.line = line;
+    element.append(made('span', 'moment', moment), made('span', 'line', made('b', '', word), ` ${short}`));
+    if (word === 'tx') element.append(meaning(rest[0]));
+    return element;
+}
+
+// The tables of a node at a moment, as they are now. Those without rows are left out.
+function tablesNow(node, now) {
+    return SHOWN_TABLES.map((name) => [name, TABLES[name](node, now)]).filter(([, rows]) => rows.length > 0);
+}
+
+function tablesElement(tables) {
+    return made('div', 'frame', ...tables.map(([name, rows]) => made('div', '', made('b', '', name), ...rows.map((it) => made('div', 'line', it)))));
+}
+
+// The element of a line of the script.
+function commandLine(line) {
+    const frame = /^(\d+ rx )([0-9a-f]+)$/i.exec(line);
+    return frame ? made('div', 'command', made('span', 'line', frame[1], cut(frame[2])), ' ', meaning(frame[2])) : made('div', 'line command', line);
+}
+
+function step(line, lines, tables) {
+    const details = made('details', 'tables', made('summary', '', 'tables after this line'), tablesElement(tables));
+    return made('div', 'step', commandLine(line), ...lines.map(outputLine), details);
+}
+
+// Runs the script from its beginning, up to the first line that is malformed.
+async function runScript() {
+    const mine = ++runs, steps = [], module = await compiled();
+    try {
+        const node = await opened(module, { role: find('node-role').value, mac: find('node-mac').value, draws: find('node-draws').value });
+        for (const line of find('script').value.split('\n').map((it) => it.trim()).filter((it) => it !== '').slice(0, MOST_LINES)) {
+            steps.push(made('div', 'step', commandLine(line)));
+            const { now, lines } = answer(node, line);
+            steps.splice(-1, 1, step(line, lines, tablesNow(node, node.lastMoment() > now ? node.lastMoment() : now)));
+        }
+    } catch (fault) {
+        steps.push(made('div', 'fault', fault instanceof Malformed ? `malformed: ${fault.message}` : String(fault.message)));
+    }
+    // A later run may have ended before this one.
+    if (mine !== runs) return;
+    find('said-lines').replaceChildren(...steps);
+    const last = [...document.querySelectorAll('#said-lines .tables')].at(-1);
+    if (last) last.open = true;
+}
+
+function takeScript({ role, mac: own, draws, lines }) {
+    find('node-role').value = role;
+    find('node-mac').value = own;
+    find('node-draws').value = draws;
+    find('script').value = lines.join('\n');
+    runScript();
+}
+
+function showTab(name) {
+    for (const tab of document.querySelectorAll('[role=tab]')) {
+        tab.setAttribute('aria-selected', tab.id === `tab-${name}`);
+        find(tab.getAttribute('aria-controls')).hidden = tab.id !== `tab-${name}`;
+    }
+    if (name === 'node' && find('script').value === '') takeScript(SCRIPTS[0]);
+    if (name === 'pair') showPair();
+}
+
+function startRun() {
+    const tabs = [...document.querySelectorAll('[role=tab]')];
+    for (const [at, tab] of tabs.entries()) {
+        tab.addEventListener('click', () => showTab(tab.id.slice(4)));
+        tab.addEventListener('keydown', ({ key }) => tabs[at + ({ ArrowLeft: -1, ArrowRight: 1 }[key] ?? tabs.length)]?.focus());
+    }
+    for (const script of SCRIPTS) {
+        const button = made('button', '', script.title);
+        button.addEventListener('click', () => takeScript(script));
+        find('scripts').append(button);
+    }
+    for (const id of ['script', 'node-role', 'node-mac', 'node-draws']) find(id).addEventListener('input', runScript);
+    for (const id of ['pair-start', 'pair-delay', 'pair-lost']) find(id).addEventListener('input', showPair);
+    if (location.hash === '#node' || location.hash === '#pair') showTab(location.hash.slice(1));
+}
+
+startRun();

@@ -1,0 +1,223 @@
+// A script of `ndpctl run`: its lines, done at a node, and the texts of what the node reports and of its tables (docs/FORMATS.md). The node is proved; its
+// records are put into words here.
+
+const KINDS = ['', 'tx', 'heard', 'drop', 'up', 'duplicate', 'assigned', 'ended address', 'ended router', 'failed', 'lost', 'refused'];
+const [TX, HEARD, DROP, UP, LOST, REFUSAL] = [1, 2, 3, 4, 10, 11];
+const MESSAGE_NAMES = ['rs', 'ra', 'ns', 'na', 'redirect'];
+const LOSSES = ['', 'unreachable', 'replaced', 'forgotten', 'no-route', 'hop-limit'];
+const REFUSALS = ['', 'wrong-role', 'disabled', 'not-ours', 'too-long', 'full'];
+const LIMITS = ['', 'neighbours', 'routers', 'prefixes', 'addresses', 'servers', 'names', 'offers', 'routes'];
+const REACHABILITIES = ['', 'incomplete', 'reachable', 'stale', 'delay', 'probe'];
+const STATES = ['', 'tentative', 'preferred', 'deprecated', 'duplicate'];
+const PREFERENCES = ['medium', 'high', 'low'];
+const CLEARABLES = ['', 'neighbours', 'routers', 'prefixes', 'redirects', 'dns'];
+const REASONS = @REASONS@;
+const FOREVER = 2n ** 64n - 1n, MOMENT_LIMIT = 2n ** 62n;
+
+// What is wrong with a line.
+class Malformed extends Error {}
+
+// ---- words of a line
+
+class Words {
+    constructor(line) {
+        this.words = line.split(' ');
+    }
+    next() {
+        if (this.words.length === 0) throw new Malformed('a word is missing');
+        return this.words.shift();
+    }
+    // Reads a number below a limit, or takes another one for `-`.
+    number(limit = 2n ** 32n, other = null) {
+        const word = this.next();
+        if (word === '-' && other !== null) return BigInt(other);
+        if (!/^(0|[1-9][0-9]*)$/.test(word) || BigInt(word) >= limit) throw new Malformed(`“${word}” is no such number`);
+        return BigInt(word);
+    }
+    address() {
+        return addressOf(this.next());
+    }
+    prefix() {
+        const [address, bits, more] = this.next().split('/');
+        if (more !== undefined || !/^(0|[1-9][0-9]{0,2})$/.test(bits ?? '') || Number(bits) > 128) throw new Malformed('a prefix is address/length');
+        return { prefix: addressOf(address), bits: Number(bits) };
+    }
+    hex() {
+        const word = this.next();
+        if (word !== '-' && !/^([0-9a-f]{2})+$/i.test(word)) throw new Malformed('bytes are hexadecimal digits, or - for none');
+        return Uint8Array.from(word === '-' ? [] : word.match(/../g), (byte) => parseInt(byte, 16));
+    }
+    // Reads flags: `-`, or letters in their order.
+    flags(letters) {
+        const word = this.next();
+        const allowed = new RegExp(`^(-|${[...letters].map((it) => `${it}?`).join('')})$`);
+        if (word === '' || !allowed.test(word)) throw new Malformed(`“${word}” are no flags`);
+        return word;
+    }
+    end() {
+        if (this.words.length > 0) throw new Malformed(`“${this.words[0]}” is too much`);
+    }
+}
+
+function addressOf(text) {
+    const [before, after, more] = text.split('::').map((half) => (half === '' ? [] : half.split(':')));
+    const groups = [...before, ...(after ?? [])], zeros = 8 - groups.length;
+    if (more || groups.some((it) => !/^[0-9a-f]{1,4}$/i.test(it)) || (after ? zeros < 1 : zeros !== 0)) throw new Malformed(`“${text}” is no address`);
+    const all = [...before, ...Array(after ? zeros : 0).fill('0'), ...(after ?? [])];
+    return Uint8Array.from(all.flatMap((it) => [parseInt(it, 16) >> 8, parseInt(it, 16) & 255]));
+}
+
+function macOf(text) {
+    if (!/^([0-9a-f]{2}:){5}[0-9a-f]{2}$/i.test(text)) throw new Malformed(`“${text}” is no Ethernet address`);
+    return Uint8Array.from(text.split(':'), (byte) => parseInt(byte, 16));
+}
+
+// ---- texts
+
+const hexOf = (bytes) => [...bytes].map((byte) => byte.toString(16).padStart(2, '0')).join('');
+const leftOf = (left) => (left === FOREVER ? 'inf' : String(left));
+
+// The text of an address by RFC 5952.
+function addressText(bytes) {
+    const groups = Array.from({ length: 8 }, (_, i) => bytes[2 * i] * 256 + bytes[2 * i + 1]);
+    let at = 8, length = 1;
+    for (let i = 0; i < 8; i++) {
+        let zeros = 0;
+        while (i + zeros < 8 && groups[i + zeros] === 0) zeros++;
+        if (zeros > length) [at, length] = [i, zeros];
+    }
+    const text = (from, to) => groups.slice(from, to).map((it) => it.toString(16)).join(':');
+    return at === 8 ? text(0, 8) : `${text(0, at)}::${text(at + length, 8)}`;
+}
+
+// The text of a record, without its moment.
+function recordText(record) {
+    const word = KINDS[record.kind];
+    switch (record.kind) {
+        case TX: case UP: return `${word} ${hexOf(record.bytes)}`;
+        case HEARD: return `${word} ${MESSAGE_NAMES[record.code - 133]}`;
+        case DROP: return `${word} ${record.code} ${REASONS[record.code]}`;
+        case LOST: return `${word} ${LOSSES[record.code]} ${addressText(record.bytes.subarray(8, 24))} ${addressText(record.bytes.subarray(24, 40))}`;
+        case REFUSAL: return refusalText(record);
+        default: return `${word} ${addressText(record.address)}`;
+    }
+}
+
+function refusalText(record) {
+    const why = REFUSALS[record.code];
+    return `refused ${why}${why === 'not-ours' ? ` ${addressText(record.address)}` : ''}${why === 'full' ? ` ${LIMITS[record.limit]}` : ''}`;
+}
+
+// ---- tables
+
+const TABLES = {
+    neighbours: (node, now) => node.rows('nd_neighbour_at', 'neighbour', now).map((it) =>
+        `neighbour ${addressText(it.address)} ${it.has_mac ? mac(it.mac) : '-'} ${REACHABILITIES[it.state]} ${it.is_router ? 'router' : 'host'}`),
+    routers: (node, now) => node.rows('nd_router_at', 'router', now).map((it) =>
+        `router ${addressText(it.address)} ${leftOf(it.left)} ${PREFERENCES[it.preference]}`),
+    prefixes: (node, now) => node.rows('nd_prefix_at', 'prefix', now).map((it) => `prefix ${addressText(it.prefix)}/${it.bits} ${leftOf(it.left)}`),
+    addresses: (node, now) => node.rows('nd_address_at', 'address', now).map((it) =>
+        `address ${addressText(it.address)} ${STATES[it.state]} ${leftOf(it.preferred_left)} ${leftOf(it.valid_left)}`),
+    dns: (node, now) => [...node.rows('nd_server_at', 'server', now).map((it) => `server ${addressText(it.address)} ${leftOf(it.left)}`),
+        ...node.rows('nd_name_at', 'name', now).map((it) => `search ${new TextDecoder().decode(it.text.subarray(0, it.length))} ${leftOf(it.left)}`)],
+    redirects: (node, now) => node.rows('nd_redirect_at', 'redirect', now).map((it) =>
+        `redirect ${addressText(it.destination)} ${addressText(it.target)}`),
+    params: (node, now) => [node.row('nd_parameters_of', 'parameters', now)].map((it) =>
+        `params hop ${it.hop_limit} mtu ${it.mtu} reachable ${it.base_reachable_time} ${it.reachable_time} retrans ${it.retrans_timer} `
+        + `managed ${it.managed} other ${it.other}`),
+    advertise: (node, now) => (node.role === 'host' ? [] : [`advertise ${node.row('nd_advertising_of', 'advertising', now) ? 'on' : 'off'}`,
+        ...node.rows('nd_offer_at', 'offer', now).map(offerText)]),
+    routes: (node, now) => node.rows('nd_route_at', 'route', now).map((it) =>
+        `route ${addressText(it.prefix)}/${it.bits} ${it.hop === 1 ? 'direct' : addressText(it.router)}`),
+};
+
+function offerText(offer) {
+    const flags = `${offer.on_link ? 'l' : ''}${offer.autonomous ? 'a' : ''}`;
+    return `offer ${addressText(offer.prefix)}/${offer.bits} ${offer.valid_lifetime} ${offer.preferred_lifetime} ${flags || '-'}`;
+}
+
+// ---- events
+
+const hasLetter = (flags, letter) => (flags.includes(letter) ? 1 : 0);
+
+const ofAddress = (call) => (node, now, words) => {
+    const address = words.address();
+    words.end();
+    return node.call(call, now, node.place(address));
+};
+
+const EVENTS = {
+    at: (node, now, words) => (words.end(), node.call('nd_turn', now)),
+    rx: (node, now, words) => {
+        const frame = words.hex();
+        words.end();
+        return node.receive(now, frame);
+    },
+    send: (node, now, words) => {
+        const source = words.address(), destination = words.address(), next = new Narrow(Number(words.number(256n))), payload = words.hex();
+        words.end();
+        return node.call('nd_send', now, node.place(source), node.place(destination, 16), next, node.place(payload, 32), payload.length);
+    },
+    confirm: ofAddress('nd_confirm'),
+    forget: ofAddress('nd_forget'),
+    clear: (node, now, words) => {
+        const table = CLEARABLES.indexOf(words.next());
+        words.end();
+        if (table < 1) throw new Malformed('no such table can be cleared');
+        return node.call('nd_clear', now, new Narrow(table));
+    },
+    advertise: (node, now, words) => {
+        const min_interval = words.number(), max_interval = words.number(undefined, 600), lifetime = words.number(undefined, 3n * max_interval);
+        const hop_limit = Number(words.number(256n)), flags = words.flags('mohl');
+        const [reachable_time, retrans_timer, mtu] = [words.number(), words.number(), words.number()];
+        words.end();
+        const preference = hasLetter(flags, 'h') + 2 * hasLetter(flags, 'l');
+        node.write('advertising', { min_interval, max_interval, lifetime, hop_limit, managed: hasLetter(flags, 'm'), other: hasLetter(flags, 'o'), preference,
+            reachable_time, retrans_timer, mtu });
+        return node.call('nd_advertise', now, node.at);
+    },
+    prefix: (node, now, words) => {
+        const prefix = words.prefix(), valid_lifetime = words.number(undefined, 2592000), preferred_lifetime = words.number(undefined, 604800);
+        const flags = words.flags('la');
+        words.end();
+        node.write('offer', { ...prefix, valid_lifetime, preferred_lifetime, on_link: hasLetter(flags, 'l'), autonomous: hasLetter(flags, 'a') });
+        return node.call('nd_offer', now, node.at);
+    },
+    route: (node, now, words) => {
+        const prefix = words.prefix(), hop = words.next();
+        words.end();
+        node.write('route', { ...prefix, ...(hop === 'direct' ? { hop: 1 } : { hop: 2, router: addressOf(hop) }) });
+        return node.call('nd_route', now, node.at);
+    },
+    stop: (node, now, words) => (words.end(), node.call('nd_stop', now)),
+};
+
+// ---- a run
+
+// Opens a node with the words of the command line of `ndpctl run`, and the moment of its start.
+async function opened(module, { role, mac: address, draws = 'seed:0', transmits = 1, neighbours = 512, routers = 16, start = 0 }) {
+    const [, source, seed] = /^(seed|word):(\d+)$/.exec(draws) ?? [];
+    if (!source) throw new Malformed('draws are seed:<n> or word:<n>');
+    const { exports } = await WebAssembly.instantiate(module, {});
+    const draw = { draws: source === 'word' ? 1 : 0, seed };
+    const node = new NdNode(exports, { role: role === 'router' ? 1 : 0, mac: macOf(address), transmits, neighbours, routers, start, ...draw });
+    node.role = role;
+    return node;
+}
+
+// Does a line at a node. Returns its moment, the records, and the lines of its output.
+function answer(node, line) {
+    const words = new Words(line), now = words.number(MOMENT_LIMIT), verb = words.next(), last = node.lastMoment();
+    const table = verb === 'show' ? words.next() : null;
+    if (verb === 'show' ? !(table in TABLES) : !(verb in EVENTS)) throw new Malformed(`“${table ?? verb}” is unknown`);
+    const status = (EVENTS[verb] ?? EVENTS.at)(node, now, words);
+    if (status === NO_MEMORY) throw new Error('the memory of the module is full');
+    if (status === INVALID) throw new Malformed('a value is outside its range');
+    const records = node.records(), lines = records.map((it) => `${it.moment} ${recordText(it)}`);
+    if (status === PAST) lines.push(`${now} refused past ${last}`);
+    if (table && status !== PAST) {
+        const rows = TABLES[table](node, now);
+        lines.push(...rows.map((it) => `${now} ${it}`), `${now} end ${rows.length}`);
+    }
+    return { now, records, lines };
+}

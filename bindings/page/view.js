@@ -1,0 +1,192 @@
+// The page: what is typed, dropped or in the link is read, and each frame's line is shown, with its fields when it is opened.
+
+const EXAMPLES = @EXAMPLES@;
+const MOST_ROWS = 500;
+const LONGEST_LINK = 60000;
+// The fields that a reason to drop a frame looks at, by the reason's number.
+const LOOKED_AT = { 2: ['type'], 4: ['version, traffic class, flow label'], 5: ['payload length'], 6: ['code'], 7: ['message type'], 8: ['option length'],
+    9: ['option length'], 10: ['hop limit'], 11: ['checksum'], 12: ['source'], 13: ['target'], 14: ['source'], 15: ['destination'],
+    16: ['flags', 'destination'], 17: ['target'], 18: ['redirected destination'], 19: ['message type'] };
+
+const find = (id) => document.getElementById(id);
+const role = () => document.querySelector('input[name=role]:checked').value;
+let frames = [];
+
+// Returns an element with a class, a text or elements in it.
+function made(tag, name, ...inside) {
+    const element = document.createElement(tag);
+    if (name) element.className = name;
+    element.append(...inside);
+    return element;
+}
+
+// Returns what a frame is: its kind, its line, and the number of the reason to drop it.
+function tell(frame) {
+    if (typeof frame === 'string') return { kind: 'unread', line: frame };
+    const line = lineOf(frame, role());
+    if (line === null) return { kind: 'unread', line: `a frame of ${frame.length} bytes is too long for this page` };
+    const [word, reason] = line.split(' ');
+    return { kind: word === 'drop' || word === 'other' ? word : 'message', line, reason: word === 'drop' ? reason : null };
+}
+
+// The part of a reason in the table below, as text.
+function reasonText(number) {
+    return find(`reason-${number}`)?.cells[1].textContent ?? '';
+}
+
+function fieldTable(frame, reason) {
+    const table = made('table', '');
+    const looked = LOOKED_AT[reason] ?? [], rows = fieldsOf(frame);
+    // Of several options the last one that was reached is the bad one.
+    const last = rows.findLast((it) => looked.includes(it.name));
+    for (const row of rows) {
+        const line = table.insertRow();
+        if (row.heading) {
+            const heading = made('th', '', row.heading);
+            heading.colSpan = 4;
+            line.append(heading);
+            continue;
+        }
+        const bytes = [...row.bytes].map((byte) => byte.toString(16).padStart(2, '0')).join(' ');
+        const isMarked = looked[0] === 'option length' ? row === last : looked.includes(row.name);
+        if (isMarked) line.className = 'marked';
+        line.append(made('td', 'at', String(row.at)), made('td', 'bytes', bytes), made('td', '', row.name), made('td', '', row.value));
+    }
+    return table;
+}
+
+function openedRow(frame, told) {
+    const inside = made('div', 'frame');
+    if (typeof frame !== 'string' && frame.length > 0) inside.append(fieldTable(frame, told.reason));
+    return inside;
+}
+
+function rowOf(frame, told, index) {
+    const [first, ...rest] = told.kind === 'unread' ? ['not read'] : told.line.split(' ');
+    const bold = told.kind === 'drop' ? told.line : first;
+    const behind = told.kind === 'unread' ? `: ${told.line}` : told.kind === 'drop' ? '' : ` ${rest.join(' ')}`;
+    const line = made('span', 'line', made('b', '', bold), behind), meaning = made('span', 'quiet', told.reason ? `it ${reasonText(told.reason)}` : '');
+    const row = made('details', told.kind, made('summary', '', made('span', 'nr', String(index + 1)), made('span', '', line, ' ', meaning)));
+    row.dataset.index = index;
+    row.addEventListener('toggle', () => {
+        if (row.open && row.children.length === 1) row.append(openedRow(frame, told));
+    });
+    return row;
+}
+
+// Shows a list of rows under a heading, the first ones at once and the others when a button asks for them.
+function list(heading, rows) {
+    const section = made('section', '', made('h2', '', `${heading} (${rows.length})`));
+    let shown = 0;
+    const more = made('button', '', '');
+    const show = () => {
+        more.before(...rows.slice(shown, shown + MOST_ROWS).map(([frame, told, index]) => rowOf(frame, told, index)));
+        shown += MOST_ROWS;
+        more.textContent = `Show more: ${rows.length - shown} are left`;
+        more.hidden = shown >= rows.length;
+    };
+    section.append(more);
+    more.addEventListener('click', show);
+    show();
+    return section;
+}
+
+// Returns how often each reason occurs, as links to the reasons.
+function reasonCounts(dropped) {
+    const counts = new Map();
+    for (const [, told] of dropped) counts.set(told.line, (counts.get(told.line) ?? 0) + 1);
+    return [...counts].sort(([, a], [, b]) => b - a).map(([line, count]) => {
+        const chip = made('a', 'chip', `${line.slice(5)} (${count})`), reason = line.split(' ')[1];
+        chip.href = `#reason-${reason}`;
+        chip.title = reasonText(reason);
+        return chip;
+    });
+}
+
+const counted = (count, what) => `${count} ${what}${count === 1 ? '' : 's'}`;
+
+function show() {
+    const rows = frames.map((frame, index) => [frame, tell(frame), index]);
+    const of = (...kinds) => rows.filter(([, told]) => kinds.includes(told.kind));
+    const [messages, others, dropped, unread] = [of('message'), of('other'), of('drop'), of('unread')];
+    const parts = [counted(messages.length, 'message'), counted(others.length, 'other packet'), `${dropped.length} dropped`];
+    if (unread.length > 0) parts.push(`${unread.length} not read`);
+    const sum = `${counted(frames.length, 'frame')}: ${parts.join(', ')}`;
+    find('sum').textContent = frames.length === 0 ? 'No frames yet. Paste some, or press an example.' : sum;
+    const lists = [];
+    if (dropped.length > 0) lists.push(made('p', 'counts', ...reasonCounts(dropped)));
+    if (unread.length > 0) lists.push(list('Not read', unread));
+    if (dropped.length > 0) lists.push(list('Dropped', dropped));
+    if (messages.length + others.length > 0) lists.push(list('Heard', of('message', 'other')));
+    find('lists').replaceChildren(...lists);
+}
+
+function takeText() {
+    frames = framesOfText(find('text').value);
+    show();
+}
+
+function take(text) {
+    find('text').value = text;
+    takeText();
+}
+
+async function takeFile(file) {
+    frames = framesOfFile(await file.arrayBuffer());
+    find('text').value = '';
+    say(`${file.name}: ${counted(frames.length, 'frame')}`);
+    show();
+}
+
+function say(text) {
+    find('said').textContent = text;
+}
+
+// Puts the frames and the role into the link, and copies it.
+async function copyLink() {
+    const digits = frames.filter((it) => typeof it !== 'string').map(hexOf).join(',');
+    if (digits.length > LONGEST_LINK) return say(`Too many frames for a link: it would have ${digits.length} digits.`);
+    history.replaceState(null, '', `#${role() === 'either' ? '' : `${role()}:`}${digits}`);
+    try {
+        await navigator.clipboard.writeText(location.href);
+        return say('Copied.');
+    } catch {
+        return say('The link is in the address bar.');
+    }
+}
+
+// Takes the frames of the link, if it has any. A link to a reason has none.
+function takeLink() {
+    const linked = /^#(?:(host|router):)?([0-9a-f]+(?:,[0-9a-f]*)*)$/i.exec(location.hash);
+    if (!linked) return;
+    document.querySelector(`input[value=${linked[1] ?? 'either'}]`).checked = true;
+    take(linked[2].replaceAll(',', '\n'));
+}
+
+function start() {
+    for (const { title, digits } of EXAMPLES) {
+        const button = made('button', '', title);
+        button.addEventListener('click', () => take(digits.join('\n')));
+        find('examples').append(button);
+    }
+    find('text').addEventListener('input', takeText);
+    find('file').addEventListener('change', () => takeFile(find('file').files[0]));
+    find('role').addEventListener('change', show);
+    find('link').addEventListener('click', copyLink);
+    find('clear').addEventListener('click', () => take(''));
+    addEventListener('hashchange', takeLink);
+    addEventListener('dragover', (event) => {
+        event.preventDefault();
+        document.body.classList.add('dropping');
+    });
+    addEventListener('dragleave', () => document.body.classList.remove('dropping'));
+    addEventListener('drop', (event) => {
+        event.preventDefault();
+        document.body.classList.remove('dropping');
+        if (event.dataTransfer.files.length > 0) takeFile(event.dataTransfer.files[0]);
+    });
+    takeLink();
+    document.body.dataset.ready = 'yes';
+}
+
+start();

@@ -1,0 +1,106 @@
+#!/usr/bin/env python3
+"""page [FILE [MODULE..]]: makes docs/try/index.html, or FILE, of its source in bindings/page and of the proved crates nd_tell_c and nd_c, as modules of
+WebAssembly with a 32-bit memory. If modules are named, `tell` or `node`, the others are those of docs/try/index.html. Where a tool is missing nothing
+is made, with a line 'skipped: ..'. The page names the tools that made its modules: others may make other bytes of the same code."""
+import base64
+import gzip
+import json
+import os
+import re
+import subprocess
+import sys
+
+import build
+from build import BINDINGS, OUT, TOP, Skipped, need, read
+
+sys.path.insert(0, f"{BINDINGS}/tests")
+import rules  # noqa: E402
+
+SOURCE = f"{BINDINGS}/page"
+PAGE = f"{TOP}/docs/try/index.html"
+# The parts of the page's script. Those before view.js need no browser.
+SCRIPTS = ["tell.js", "capture.js", "fields.js", "node.js", "script.js", "view.js", "pair.js", "run.js"]
+# The modules: the crate, where Rattle's module of it is, its memory, and its functions.
+MODULES = {"tell": ("nd_tell_c", f"{OUT}/tell", 32 * build.PAGE, lambda: ["nd_tell"]), "node": ("nd_c", OUT, 16 * build.PAGE, build.functions)}
+
+
+def tools():
+    """Returns the names of the tools that make the module."""
+    need("rt", "wasm-opt")
+    binaryen = re.search(r"\d+", subprocess.run(["wasm-opt", "--version"], capture_output=True, text=True, check=True).stdout)[0]
+    return f"{read(f'{build.kit()}/KIT-ID').strip()}, binaryen {binaryen}"
+
+
+def module(name):
+    """Makes a module and returns its bytes. It has no names, since these say nothing of what it does."""
+    need("rt", "gcc", "wasm-opt")
+    build.prepare()
+    crate, out, memory, exported = MODULES[name]
+    build.run("rt", "lib", cwd=f"{TOP}/crates/{crate}")
+    wide = build.module(f"page_{name}", memory, of=lambda: build.bitcode(out, crate), exported=exported)
+    build.run("wasm-opt", *build.LOWER, "--memory64-lowering", "--strip-debug", "--strip-producers", wide, "-o", f"{OUT}/page_{name}_low.wasm")
+    with open(f"{OUT}/page_{name}_low.wasm", "rb") as file:
+        return file.read()
+
+
+def packed(made):
+    """Returns a module as text, packed by gzip without a date."""
+    return base64.b64encode(gzip.compress(made, 9, mtime=0)).decode()
+
+
+def unpacked(text):
+    return gzip.decompress(base64.b64decode(text))
+
+
+def examples():
+    """Returns the examples of the page: titles and lines of digits."""
+    blocks = re.split(r"\n\n+", re.sub(r"^#.*\n", "", read(f"{SOURCE}/examples.txt"), flags=re.M).strip())
+    found = [{"title": title, "digits": digits} for title, *digits in (block.split("\n") for block in blocks)]
+    return [*found, {"title": "Fourteen frames of a link", "digits": read(f"{TOP}/examples/link.hex").split()}]
+
+
+def scripts():
+    """Returns the scripts of the page: titles, options and lines."""
+    blocks = re.split(r"\n\n+", re.sub(r"^#.*\n", "", read(f"{SOURCE}/scripts.txt"), flags=re.M).strip())
+    for title, options, *lines in (block.split("\n") for block in blocks):
+        role, mac, draws = options.split()
+        yield {"title": title, "role": role, "mac": mac, "draws": draws, "lines": lines}
+
+
+def on_one_line(value):
+    return json.dumps(value, indent=0).replace("\n", "")
+
+
+def page_of(modules, by):
+    """Returns the page with its packed modules, by their names, and the tools that made them."""
+    parts = {"TELL": modules["tell"], "NODE": modules["node"], "EXAMPLES": on_one_line(examples()), "SCRIPTS": on_one_line(list(scripts())),
+             "REASONS": on_one_line(["", *rules.REASONS.values()]), "TOOLS": by,
+             "SIZES": " and ".join(f"{len(unpacked(it)):,}" for it in modules.values()), "STYLE": read(f"{SOURCE}/page.css").rstrip("\n")}
+    parts["SCRIPT"] = filled("\n\n".join(read(f"{SOURCE}/{name}").rstrip("\n") for name in SCRIPTS), parts)
+    return filled(read(f"{SOURCE}/page.html"), parts)
+
+
+def filled(text, parts):
+    return re.sub(r"@([A-Z]+)@", lambda it: parts[it[1]], text)
+
+
+def parts_of(page):
+    """Returns the packed modules of a page by their names, and the tools that made them."""
+    found = {name: re.search(rf"const {name.upper()}_MODULE = '([\w+/=]+)';", page)[1] for name in MODULES}
+    return found, re.search(r"Modules made with: (.*) -->", page)[1]
+
+
+def main(path=PAGE, *names):
+    kept = parts_of(read(PAGE))[0] if names else {}
+    try:
+        by, made = tools(), {name: module(name) if name in (names or MODULES) else unpacked(kept[name]) for name in MODULES}
+    except Skipped as why:
+        print(f"skipped: page: {why}")
+        return
+    os.makedirs(os.path.dirname(path), exist_ok=True)
+    build.write(path, page_of({name: packed(it) for name, it in made.items()}, by))
+    print(f"made: {os.path.basename(path)}, with modules of {' and '.join(str(len(it)) for it in made.values())} bytes by {by}")
+
+
+if __name__ == "__main__":
+    main(*sys.argv[1:])
