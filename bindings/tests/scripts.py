@@ -1,5 +1,5 @@
 """scripts: the scripts of `ndpctl run` in this repository with their expected texts: those of the tests of crates/tests_run, whose texts were
-written by hand or by another program, and the stored run of crates/ndpctl_stored_run. Each is a name, arguments, a script and a text. `long` is a script without a text, for two programs side by
+written by hand or by another program, and one of the runs of crates/tests_hostile. Each is a name, arguments, a script and a text. `long` is a script without a text, for two programs side by
 side."""
 import ast
 import os
@@ -66,8 +66,10 @@ def of_next_hops():
 
 
 def of_stored_run():
-    crate = f"{TOP}/crates/ndpctl_stored_run"
-    yield "ndpctl_stored_run", read(f"{crate}/args").split(), read(f"{crate}/stdin"), read(f"{crate}/stdout")
+    name = "another router is taken"
+    row = re.search(rf"^row {name}\nwords ndpctl (.*)\n((?:[<>].*\n)+)", read(f"{TOP}/crates/tests_hostile/stdin"), flags=re.M)
+    script, wanted = ("".join(line[1:] for line in row[2].splitlines(True) if line[0] == mark) for mark in "><")
+    yield f"tests_hostile: {name}", row[1].split(), script, wanted
 
 
 def scripts():

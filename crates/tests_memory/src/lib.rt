@@ -8,8 +8,6 @@ mod addresses;
 #[cfg(test)]
 mod dns;
 #[cfg(test)]
-mod full;
-#[cfg(test)]
 mod links;
 #[cfg(test)]
 mod memo;

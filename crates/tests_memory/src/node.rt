@@ -5,7 +5,7 @@ use nd_addr::{Addr, Mac, Preference, Prefix, Role};
 use nd_advertiser::{Config, ConfigFlags};
 use nd_forwarding::{KeptRoute, Route};
 use nd_node::{Clearable, Event, Limits, Node, OutgoingPacket, Table};
-use nd_out::{Out, write_outs};
+use nd_out::Out;
 use nd_slaac::Transmits;
 use rand_core::SeedableRng;
 use rand_pcg::Pcg32;
@@ -176,62 +176,6 @@ fn shown<'h>(
         }
     }
     text
-}
-
-/// Passes the events that ask for no memory, while there is none left.
-fn take_without_memory<'h>(
-    rt: &impl Abort,
-    heap: &'h LocalHeap,
-    node: &mut Node<Pcg32, &'h LocalHeap>,
-    advertisement: &Event<&'h LocalHeap>,
-    empty: &Event<&'h LocalHeap>,
-    outs: &mut Vec<(u64, Out<&'h LocalHeap>), &'h LocalHeap>,
-) {
-    let blocks = exhaust(rt, heap);
-    assert!(rt; node.settle(3000, outs).is_ok());
-    assert!(rt; come(node, 3000, &Event::Passes, outs).is_ok());
-    assert!(rt; come(node, 3000, empty, outs).is_ok());
-    assert!(rt; come(node, 3000, advertisement, outs).is_ok());
-    assert!(rt; come(node, 3000, &Event::Confirms(ROUTER), outs).is_ok());
-    assert!(rt; come(node, 3000, &Event::Forgets(STRANGER), outs).is_ok());
-    assert!(rt; come(node, 3000, &Event::Clears(Clearable::Prefixes), outs).is_ok());
-    assert!(rt; come(node, 3000, &Event::Clears(Clearable::Redirects), outs).is_ok());
-    assert!(rt; come(node, 3000, &Event::Clears(Clearable::Dns), outs).is_ok());
-    assert!(rt; come(node, 2999, &Event::Passes, outs).is_ok());
-    // What a node knows is asked without memory.
-    assert!(rt; node.neighbours(3000).next().is_some());
-    assert!(rt; node.default_routers(3000).next().is_some());
-    assert!(rt; node.addresses(3000).next().is_some());
-    assert!(rt; node.prefixes(3000).next().is_none());
-    assert!(rt; node.servers(3000).next().is_none());
-    assert!(rt; node.search_names(3000).next().is_none());
-    assert!(rt; node.redirects().next().is_none());
-    assert!(rt; node.neighbour(3000, ROUTER).is_some());
-    assert!(rt; !blocks.is_empty());
-}
-
-/// The events that ask for no memory: time that passes, a frame that is dropped, an advertisement that adds nothing, a confirmation, a
-/// neighbour that isn't known and is forgotten, tables that are cleared without a word, and an event that is too late.
-#[test]
-fn a_host_without_memory_takes_what_asks_for_none(rt: HostRuntime) {
-    let heap = LocalHeap::new(rt.alloc(), AMPLE).expect(&rt, "memory");
-    let mut node = host(&rt, &heap);
-    let advertisement = receives(&heap, &ADVERTISEMENT).expect(&rt, "memory");
-    let empty = receives(&heap, &EMPTY).expect(&rt, "memory");
-    let mut outs = Vec::with_capacity(&heap, 8).expect(&rt, "memory");
-    come(&mut node, 3000, &advertisement, &mut outs).expect(&rt, "memory");
-    take_without_memory(&rt, &heap, &mut node, &advertisement, &empty, &mut outs);
-    let mut text = String::new(&heap);
-    write_outs(&mut text, &outs).expect(&rt, "memory");
-    assert_eq!(rt;
-        text.as_str(),
-        "3000 heard ra\n3000 drop 3 HeaderShort\n3000 heard ra\n2999 refused past 3000\n"
-    );
-    let tables = shown(&rt, &node, &heap);
-    assert_eq!(rt;
-        tables.as_str(),
-        "neighbour fe80::ff:fe00:1 02:00:00:00:00:01 reachable router\nrouter fe80::ff:fe00:1 1800000 medium\naddress fe80::3656:78ff:fe9a:bcde preferred inf inf\nparams hop 64 mtu 1500 reachable 30000 28151 retrans 1000 managed 0 other 0\n"
-    );
 }
 
 /// Passes an event while this number of blocks of 16 bytes is left.

@@ -18,5 +18,3 @@ mod node_lines;
 mod routes;
 #[cfg(test)]
 mod rows;
-#[cfg(test)]
-mod tables;

@@ -6,7 +6,7 @@ ghost use Rattle.nd_lines.specs.EachLaws.{each_too_long};
 
 use nd_lines::answering::{Answering, LONGEST_LINE, Unanswered};
 use nd_lines::each::{AnsweringEach, Each};
-use nd_lines::input::{Input, Pieces, ReadFault, Reading};
+use nd_lines::input::{Input, Pieces, Reading};
 use nd_lines::output::{Output, WriteFault, Writing, write_whole};
 use nd_lines::run::run_lines;
 use nd_lines::tool_fault::ToolFault;
@@ -131,36 +131,6 @@ impl Answering for Stopping {
     ghost too_long = { λ _ _ _ _ _. tt };
 }
 
-/// Bytes in pieces of one, with one read that fails.
-#[derive(Drop)]
-struct FailingReader<'a> {
-    pieces: Pieces<'a>,
-    calls: u64,
-    failing: u64,
-    failures: u64,
-}
-
-impl Input for FailingReader<'_> {
-    ghost remaining = { λ _. None };
-
-    ghost given = { λ reader. reader.pieces.given };
-
-    ghost failed = { λ reader. reader.failures };
-
-    fn read(&mut self, buffer: &mut [u8]) -> Result<usize, ReadFault> {
-        self.calls = self.calls.saturating_add(1);
-        if self.calls == self.failing {
-            self.failures = self.failures.saturating_add(1);
-            return Err(ReadFault);
-        }
-        self.pieces.read(buffer)
-    }
-
-    fn failures(&self) -> u64 {
-        self.failures
-    }
-}
-
 /// Takes one byte a write, with one write that fails.
 #[derive(Drop)]
 struct FailingWriter {
@@ -279,55 +249,6 @@ fn more_than_the_buffer_holds(rt: HostRuntime) -> Result<(), Fail> {
         let (ended, told) = answers(&rt, input.as_slice(), piece)?;
         assert!(rt; ended == Ok(()));
         assert!(rt; told.as_slice() == input.as_slice());
-    }
-    Ok(())
-}
-
-#[test]
-fn each_read_failing_in_turn(rt: HostRuntime) -> Result<(), Fail> {
-    // Read n + 1 fails after n bytes came, one at a time.
-    for (failing, wanted) in [
-        (1, b"".as_slice()),
-        (2, b"".as_slice()),
-        (3, b"a\n".as_slice()),
-        (4, b"a\n".as_slice()),
-        (5, b"a\nb\n".as_slice()),
-        (6, b"a\nb\n".as_slice()),
-    ] {
-        let mut reader = FailingReader {
-            pieces: Pieces::new(b"a\nb\nc", 1),
-            calls: 0,
-            failing,
-            failures: 0,
-        };
-        let mut writer = Writing::new(Vec::new(rt.alloc()));
-        let ended = run_lines(rt.alloc(), &mut reader, &mut writer, &mut Each::new(Echo));
-        assert!(rt; ended == Err(ToolFault::Read));
-        assert!(rt; reader.failures() == 1);
-        assert!(rt; writer.into_inner().as_slice() == wanted);
-    }
-    Ok(())
-}
-
-#[test]
-fn each_write_failing_in_turn(rt: HostRuntime) -> Result<(), Fail> {
-    for (failing, wanted) in [
-        (1, b"".as_slice()),
-        (2, b"a".as_slice()),
-        (3, b"a\n".as_slice()),
-        (4, b"a\nb".as_slice()),
-    ] {
-        let mut reader = Pieces::new(b"a\nb\nbad\n", 100);
-        let mut writer = FailingWriter {
-            bytes: Vec::new(rt.alloc()),
-            calls: 0,
-            failing,
-            failures: 0,
-        };
-        let ended = run_lines(rt.alloc(), &mut reader, &mut writer, &mut Each::new(Echo));
-        assert!(rt; ended == Err(ToolFault::Write));
-        assert!(rt; writer.failures() == 1);
-        assert!(rt; writer.bytes.as_slice() == wanted);
     }
     Ok(())
 }
