@@ -1,6 +1,7 @@
 #!/usr/bin/env python3
 """proved: lets `rt lib` build the archives over the libraries that `rt ci` has just proved in this checkout. Without it `rt lib` proves them again. It is
 for `check` alone, which calls it right after `rt ci` has passed: it notes at each library that was made then that its sources are those of today."""
+import functools
 import importlib.machinery
 import importlib.util
 import os
@@ -22,6 +23,8 @@ def main():
     sys.dont_write_bytecode = True
     os.chdir(TOP)
     rt = kit()
+    # A crate's sum is made of those below it: each is made once.
+    rt.rtlib.Crate.stamp = functools.cache(rt.rtlib.Crate.stamp)
     rt.rtlib.Crate = rt.Crate
     for crate in rt.rtlib.crates_below(TOP):
         stamp = f"{crate.folder}/out/rlib/stamp"
