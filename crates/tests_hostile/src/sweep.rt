@@ -31,10 +31,10 @@ pub(crate) fn refuse_each(room: Room<'_>, row: &Row) -> Result<Option<Refused>, 
         if room.heap.held() != 0 {
             return Ok(None);
         }
+        if !was_made {
+            return Ok(is_whole(row, &ended).then_some(refused));
+        }
         if is_whole(row, &ended) {
-            if !was_made {
-                return Ok(Some(refused));
-            }
             refused.without_effect = refused.without_effect.saturating_add(1);
         } else if !is_out_of_memory(room, row, &ended)? {
             return Ok(None);
