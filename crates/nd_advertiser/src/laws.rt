@@ -8,7 +8,7 @@ ghost use Rattle.nd_advertiser.specs.History.{Row};
 ghost use Rattle.nd_advertiser.specs.Overdue.{IsOf, IsSpaced};
 ghost use Rattle.nd_advertiser.specs.Table.{Stands, Table};
 
-/// A history gives one state of the advertising.
+/// Two tables that stand for one history are equal.
 pub fn one_answer()
     ensures { (history : List Row) (a b : Table) → Stands a history → Stands b history → a ≡ b }
 {}

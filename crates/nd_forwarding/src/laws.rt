@@ -11,7 +11,7 @@ ghost use Rattle.nd_forwarding.specs.Routes.{AllShorter, NoneHolds, NoneLonger, 
 ghost use Rattle.nd_forwarding.specs.Table.{Stands, Table};
 ghost use Rattle.nd_forwarding.specs.declared.route.Route.{Route};
 
-/// A history gives one table, in which each prefix has the route that was put last for it.
+/// Two tables that stand for one history are equal, and each prefix has the route that was put last for it.
 pub fn one_answer()
     ensures table { (history : List Row) (a b : Table) → Stands a history → Stands b history → a ≡ b }
     ensures found { (history : List Row) (prefix : PrefixValue) → lookup (same_prefix prefix) (routes history) ≡ route_of prefix history }

@@ -6,8 +6,8 @@ ghost use Rattle.nd_nexthop.specs.History.{RedirectRow, kept, redirects, max_red
 ghost use Rattle.nd_nexthop.specs.Choice.{Stands, Table, target_in};
 ghost use Rattle.nd_nexthop.specs.DefaultRouter.{DefaultRouter, chosen_router, AllLater, AllLessPreferred, NoneBefore, NonePreferred, NoneUsable};
 
-/// A history gives one table, in which a look-up finds the kept redirect of each destination; and one list, which has the kept redirect of each
-/// destination, and 64 at most.
+/// Two tables that stand for one history have the same redirects, and a look-up finds the redirect of a destination that is kept. The list of a
+/// history has it too, and at most 64 redirects.
 pub fn one_answer()
     ensures table { (history : List RedirectRow) (a b : Table) → Stands a history → Stands b history → a.redirects ≡ b.redirects }
     ensures found { (history : List RedirectRow) (choice : Table) (key : ℕ) → Stands choice history → target_in key choice.redirects ≡ kept key history }

@@ -4,7 +4,7 @@ ghost use Rattle.std.specs.Prelude.{◌≡◌, List};
 ghost use Rattle.nd_params.specs.History.{Row};
 ghost use Rattle.nd_params.specs.Params.{Values, Stands};
 
-/// A history gives one value of each parameter.
+/// Each parameter has exactly one value after a history.
 pub fn one_answer()
     ensures { (history : List Row) (a b : Values) → Stands a history → Stands b history → a ≡ b }
 {}

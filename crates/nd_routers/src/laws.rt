@@ -11,8 +11,8 @@ ghost use Rattle.nd_routers.specs.Routers.{Table, same, Stands};
 ghost use Rattle.nd_routers.specs.RouterFailures.{Failures};
 ghost use Rattle.nd_routers.specs.Due.{FirstDue};
 
-/// A history gives one list of routers and one of prefixes at each moment, one table of routers for any limit, one order of failures, and one
-/// router that leaves first.
+/// At each moment a history has exactly one list of routers, one of prefixes and one router that leaves first. It has one table of routers,
+/// whatever the limit, and one order of failures.
 pub fn one_answer()
     ensures list { (history : List (Row ℕ)) (moment : ℕ) (a b : List (Lasting ℕ)) → Lists same history moment a → Lists same history moment b → a ≡ b }
     ensures prefixes { (history : List (Row PrefixValue)) (moment : ℕ) (a b : List (Lasting PrefixValue)) → Lists same_prefix history moment a → Lists same_prefix history moment b → a ≡ b }
