@@ -1,6 +1,6 @@
 //! The Neighbor Cache (RFC 4861, section 5.1): what messages and packets do to it, and what the node reports of them.
 
-ghost use Rattle.std.specs.Prelude.{◌≡◌, List, Some, None, true, ◌+◌, ◌<◌, ◌≤◌, length, IfOk, OnOk, vec_capacity, vec_len, ◌-◌, ◌++◌, ◌^◌, IfSome, if◌then◌else◌, is_some, map};
+ghost use Rattle.std.specs.Prelude.{◌≡◌, List, Some, None, true, false, ◌+◌, ◌<◌, ◌≤◌, length, IfOk, OnOk, vec_capacity, vec_len, ◌-◌, ◌++◌, ◌^◌, IfSome, if◌then◌else◌, is_some, map};
 ghost use Rattle.std.specs.Option.{option_map};
 ghost use Rattle.nd_neighbour.specs.declared.news.Times.{Times};
 ghost use Rattle.nd_neighbour.specs.History.{Row};
@@ -67,6 +67,7 @@ pub fn ready_for<A: Allocator + Clone>(
     ensures place { OnOk result (vec_len outs.new < vec_capacity outs.new) }
     ensures ring { OnOk result (entry_in (number_of to.0) neighbours.old.entries ≡ None → 0 < neighbours.new.rings) }
     ensures solicitation { IfOk result (λ room. entry_in (number_of to.0) neighbours.old.entries ≡ None → is_some room ≡ true) }
+    ensures none { IfOk result (λ room. is_some (entry_in (number_of to.0) neighbours.old.entries) ≡ true → is_some room ≡ false) }
     ensures entries { neighbours.new.entries ≡ neighbours.old.entries }
     ensures limit { neighbours.new.limit ≡ neighbours.old.limit }
     ensures same { outs.new.items ≡ outs.old.items }
