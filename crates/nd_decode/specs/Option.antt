@@ -5,7 +5,8 @@ use Rattle.byteorder.specs.Endian.{big_number}
 use Rattle.nd_addr.specs.Prefix.{prefix_at}
 use Rattle.nd_addr.specs.declared.addr.Addr.{Addr}
 use Rattle.nd_addr.specs.declared.mac.Mac.{Mac}
-use Rattle.nd_search_list.specs.Names.{SpellsNames, spells_names, names_in, names_left}
+use Rattle.nd_search_list.specs.Names.{SpellsNames, spells_names, names_in}
+use Rattle.nd_search_list.specs.NamesLeft.{names_left}
 use Rattle.nd_decode.specs.declared.option_ref.OptionRef.{OptionRef}
 use Rattle.nd_decode.specs.declared.option_ref.OptionRef.TheVariants.{Slla, Tlla, Prefix, Redirected, Mtu, Rdnss, Dnssl, Other}
 use Rattle.nd_decode.specs.declared.prefix_info.PrefixInfo.{PrefixInfo}

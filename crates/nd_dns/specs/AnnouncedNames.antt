@@ -1,7 +1,7 @@
 -- Which search names a Router Advertisement tells, and for how long (RFC 8106, section 5.2).
 use Rattle.std.specs.Prelude.{ℕ, Bool, bytes_eq, List, [], ◌∷◌, ◌++◌, map, Option, Some, None}
 use Rattle.nd_search_list.specs.declared.names.Names.{Names}
-use Rattle.nd_search_list.specs.Names.{names_left}
+use Rattle.nd_search_list.specs.NamesLeft.{names_left}
 use Rattle.nd_decode.specs.Option.{Said, slla, tlla, prefix, redirected, mtu, rdnss, dnssl, other}
 use Rattle.nd_decode.specs.Pieces.{options_left}
 use Rattle.nd_dns.specs.declared.announced_names.AnnouncedNames.{AnnouncedNames}

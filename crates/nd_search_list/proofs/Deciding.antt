@@ -7,7 +7,8 @@ use Rattle.std.proofs.lemmas.Bool.{cases_lt, and_parts, and_from, eqb-true, eqb-
 use Rattle.std.proofs.lemmas.List.{length-drop, take_at, drop_at, length-append}
 use Rattle.nd_search_list.specs.Name.{lowered}
 use Rattle.nd_search_list.specs.Reading.{name_length, are_zeros}
-use Rattle.nd_search_list.specs.Names.{SpellsBefore, SpellsNames, names_in, rest_in, spells_names, names_left}
+use Rattle.nd_search_list.specs.Names.{SpellsBefore, SpellsNames, names_in, rest_in, spells_names}
+use Rattle.nd_search_list.specs.NamesLeft.{names_left}
 use Rattle.nd_search_list.specs.declared.names.Names.{Names}
 use Rattle.nd_search_list.proofs.Walk.{first_is, name_first, name_none, names_in_step, names_in_stop, rest_in_step, rest_in_stop, rest_in_less}
 use Rattle.nd_search_list.proofs.Labels.{spelled_some}

@@ -1,8 +1,9 @@
 -- Labels that are counted are spelled, and what is spelled is counted.
-use Rattle.std.proofs.Common.{◌≡◌, ℕ, suc, ◌+◌, ◌-◌, ◌≤◌, true, false, leb, eqb, ◌&&◌, List, [], ◌∷◌, ◌++◌, length, refl, sym, ap, ◌∙◌, arith, inl, inr, append_assoc}
-use Rattle.std.specs.List.{flat_map, AllByRecursion}
-use Rattle.std.proofs.lemmas.Bool.{cases_Bool, and_parts, and_from, leb-true, le-leb, eq-eqb, ne_eqb, eqb-true, eqb-false}
-use Rattle.std.proofs.lemmas.List.{length-append, append-nil, nil_from_length}
+use Rattle.std.proofs.Common.{◌≡◌, ℕ, zero, suc, ◌+◌, ◌-◌, ◌<◌, ◌≤◌, Bool, true, false, cond, leb, eqb, ◌&&◌, ◌⊎◌, List, [], ◌∷◌, ◌++◌, length, take, drop, slice_index, refl, sym, ap, ◌∙◌, arith, inl, inr, append_assoc}
+use Rattle.std.specs.List.{flat_map, list_all, AllByRecursion}
+use Rattle.std.proofs.lemmas.Bool.Decides.{nat_tests}
+use Rattle.std.proofs.lemmas.Bool.{cases_Bool, cond-true, cond-false, and_parts, and_from, leb-true, le-leb, eq-eqb, ne_eqb, eqb-true, eqb-false}
+use Rattle.std.proofs.lemmas.List.{length-append, append-nil, drop_more, nil_from_length}
 use Rattle.nd_search_list.specs.Label.{IsSign, IsLabel, is_sign}
 use Rattle.nd_search_list.specs.Name.{label_bytes, IsSpelled}
 use Rattle.nd_search_list.specs.Reading.{labels_from, labels_length, is_spelled}
@@ -141,3 +142,53 @@ unfolding is_spelled
 spelled_tests bytes s =
     let len : labels_length bytes ≡ length bytes = ap labels_length (sym (append-nil bytes)) ∙ length_spelled bytes [] s (λ n. refl) in
     and_from (leb 1 (length bytes) && leb (length bytes) 254) (eqb (labels_length bytes) (length bytes)) (and_from (leb 1 (length bytes)) (leb (length bytes) 254) (le-leb _ _ (spelled_some bytes s)) (le-leb _ _ s.short)) (eq-eqb _ _ len)
+
+-- ---- a label at once
+
+from_label : (bytes : List ℕ) (before left : ℕ) → labels_from before left bytes ≡ cond (leb left (length bytes) && list_all is_sign (take left bytes)) (labels_from (before + left) 0 (drop left bytes)) 0
+from_label [] before zero = omega arith
+from_label [] before (suc left) =
+    let some : eqb (suc left) 0 ≡ false = ne_eqb _ _ (λ e. omega arith) in
+    let over : leb (suc left) 0 ≡ false = grind (arith, nat_tests) in
+    rw (some, over) refl
+from_label (byte ∷ bytes) before zero =
+    let same : before ≡ before + 0 = omega arith in
+    let none : leb 0 (length (byte ∷ bytes)) ≡ true = grind (arith, nat_tests) in
+    rw none (ap (λ (n : ℕ). labels_from n 0 (byte ∷ bytes)) same)
+from_label (byte ∷ bytes) before (suc left) =
+    let some : eqb (suc left) 0 ≡ false = ne_eqb _ _ (λ e. omega arith) in
+    let less : suc left - 1 ≡ left = omega arith in
+    let more : before + 1 + left ≡ before + suc left = omega arith in
+    let step : leb (suc left) (suc (length bytes)) ≡ leb left (length bytes) = grind (arith, nat_tests) in
+    elim (cases_Bool (is_sign byte)) [
+      | inl sign ↦ rw (some, sign, less, step) (from_label bytes (before + 1) left ∙ ap (λ (n : ℕ). cond (leb left (length bytes) && list_all is_sign (take left bytes)) (labels_from n 0 (drop left bytes)) 0) more)
+      | inr bad ↦ rw (some, bad) (none (leb (suc left) (suc (length bytes))) (labels_from (before + suc left) 0 (drop left bytes)))
+    ]
+  where
+    none : (b : Bool) (n : ℕ) → 0 ≡ cond (b && false) n 0
+    none true n = refl
+    none false n = refl
+
+-- a length byte: what its label leads to
+begun : (before byte : ℕ) (bytes : List ℕ) → 1 ≤ byte → byte ≤ 63 → labels_from before 0 (byte ∷ bytes) ≡ labels_from (before + 1) byte bytes
+begun before byte bytes some low = let t : (leb 1 byte && leb byte 63) ≡ true = and_from (leb 1 byte) (leb byte 63) (le-leb _ _ some) (le-leb _ _ low) in rw t refl
+
+-- in front of some bytes: the length byte, and what is behind it
+parted : (bytes after : List ℕ) → 1 ≤ length bytes → after ≡ drop 1 bytes → bytes ≡ slice_index bytes 0 ∷ after
+parted bytes after some e = rw e (drop_more bytes 0 0 some)
+
+abbrev whole : ℕ → List ℕ → Bool
+whole count bytes = leb count (length bytes) && list_all is_sign (take count bytes)
+
+pub label_read : (before : ℕ) (bytes after behind : List ℕ) → 1 ≤ length bytes → 1 ≤ slice_index bytes 0 → slice_index bytes 0 ≤ 63 → after ≡ drop 1 bytes → whole (slice_index bytes 0) after ≡ true → behind ≡ drop (slice_index bytes 0) after
+    → labels_from (before + (1 + slice_index bytes 0)) 0 behind ≡ labels_from before 0 bytes
+label_read before bytes after behind some least most a test b =
+    let count = slice_index bytes 0 in
+    let sum : before + (1 + count) ≡ before + 1 + count = omega arith in
+    let all : labels_from (before + 1) count after ≡ labels_from (before + 1 + count) 0 (drop count after) = from_label after (before + 1) count ∙ cond-true _ _ _ test in
+    rw (b, sum) (sym all ∙ sym (begun before count after least most) ∙ ap (labels_from before 0) (sym (parted bytes after some a)))
+
+pub label_bad : (before : ℕ) (bytes after : List ℕ) → 1 ≤ length bytes → 1 ≤ slice_index bytes 0 → slice_index bytes 0 ≤ 63 → after ≡ drop 1 bytes → whole (slice_index bytes 0) after ≡ false → labels_from before 0 bytes ≡ 0
+label_bad before bytes after some least most a test =
+    let count = slice_index bytes 0 in
+    ap (labels_from before 0) (parted bytes after some a) ∙ begun before count after least most ∙ from_label after (before + 1) count ∙ cond-false _ _ _ test

@@ -1,11 +1,13 @@
 -- Going over names: the first name, a step, the end.
-use Rattle.std.proofs.Common.{◌≡◌, ℕ, zero, suc, ◌+◌, ◌-◌, ◌<◌, ◌≤◌, Bool, true, false, cond, ltb, leb, eqb, ◌&&◌, List, [], ◌∷◌, ◌++◌, length, take, drop, slice_index, refl, sym, ap, ◌∙◌, arith, inl, inr}
+use Rattle.std.proofs.Common.{◌≡◌, ℕ, zero, suc, ◌+◌, ◌-◌, ◌<◌, ◌≤◌, Bool, true, false, cond, ltb, leb, eqb, ◌&&◌, List, [], ◌∷◌, ◌++◌, length, take, drop, slice_index, refl, sym, ap, ◌∙◌, arith, inl, inr, append_assoc}
 use Rattle.std.specs.List.{AllByRecursion}
 use Rattle.std.proofs.lemmas.Bool.{cases_Bool, cases_lt, and_parts, and_from, leb-true, le-leb, ltb-true, lt-ltb, eq-eqb, ne_eqb, eqb-true}
-use Rattle.std.proofs.lemmas.List.{length-append, length-drop, nil_from_length, take_at, get_or-append_right, take-append-drop, drop_more}
+use Rattle.std.proofs.lemmas.List.{length-append, length-drop, length-take-le, nil_from_length, take_at, get_or-append_right, take-append-drop, drop_more}
+use Rattle.nd_search_list.specs.Label.{IsSign, IsLabel}
 use Rattle.nd_search_list.specs.Name.{IsSpelled, lowered}
-use Rattle.nd_search_list.specs.Reading.{labels_length, name_length, is_spelled}
+use Rattle.nd_search_list.specs.Reading.{labels_length, name_length, are_zeros, first_zero, is_spelled}
 use Rattle.nd_search_list.specs.Names.{names_behind, names_in, rest_behind, rest_in}
+use Rattle.nd_search_list.proofs.Signs.{sign_some}
 use Rattle.nd_search_list.proofs.Labels.{joined, counted, nothing_joined, length_spelled, spelled_tests}
 
 -- a name in front, with its zero byte
@@ -146,3 +148,39 @@ rest_in_less bytes some =
     let after = length-drop (name_length bytes + 1) bytes in
     let le = rest_in-le (length bytes) (drop (name_length bytes + 1) bytes) (omega (arith, after)) in
     omega (arith, ap length (rest_in_step bytes some), le, after, f.within)
+
+-- ---- bytes that were read before
+
+-- a spelled name has no zero byte
+no_zero_text : (text bytes : List ℕ) → AllByRecursion IsSign text → first_zero (text ++ bytes) ≡ length text + first_zero bytes
+no_zero_text [] bytes h = omega arith
+no_zero_text (byte ∷ text) bytes h =
+    let some : eqb byte 0 ≡ false = ne_eqb _ _ (sign_some byte h.0) in
+    rw some (omega (arith, no_zero_text text bytes h.1))
+
+no_zero_labels : (labels : List (List ℕ)) (bytes : List ℕ) → AllByRecursion IsLabel labels → first_zero (joined labels ++ bytes) ≡ length (joined labels) + first_zero bytes
+no_zero_labels [] bytes h = omega arith
+no_zero_labels (label ∷ labels) bytes h =
+    let some : eqb (length label) 0 ≡ false = ne_eqb _ _ (λ e. omega (arith, e, h.0.some)) in
+    let parts : (label ++ joined labels) ++ bytes ≡ label ++ (joined labels ++ bytes) = append_assoc label (joined labels) bytes in
+    let text = no_zero_text label (joined labels ++ bytes) h.0.signs in
+    rw (some, parts) (omega (arith, text, no_zero_labels labels bytes h.1, length-append label (joined labels)))
+
+-- in front of zeros, a name ends at the first zero byte
+pub zero_ends : (bytes : List ℕ) → are_zeros (rest_in bytes) ≡ true → first_zero bytes ≡ name_length bytes
+zero_ends bytes padded = elim (cases_lt 0 (name_length bytes)) [
+  | inl some ↦
+      let f = first_is bytes some in
+      let taken : length (take (name_length bytes) bytes) ≡ name_length bytes = length-take-le _ _ (omega (arith, f.within)) in
+      let here : first_zero (joined f.spelled.labels ++ 0 ∷ drop (name_length bytes + 1) bytes) ≡ length (joined f.spelled.labels) + 0 = no_zero_labels f.spelled.labels (0 ∷ drop (name_length bytes + 1) bytes) f.spelled.each in
+      ap first_zero f.parts ∙ ap (λ (t : List ℕ). first_zero (t ++ 0 ∷ drop (name_length bytes + 1) bytes)) f.spelled.joined ∙ here
+      ∙ omega (arith, ap length f.spelled.joined, taken)
+  | inr none ↦ none_first bytes (ap are_zeros (sym (rest_in_stop bytes (omega arith))) ∙ padded) ∙ omega arith
+]
+  where
+    none_first : (bytes : List ℕ) → are_zeros bytes ≡ true → first_zero bytes ≡ 0
+    none_first [] h = refl
+    none_first (byte ∷ bytes) h = let a = and_parts (eqb byte 0) (are_zeros bytes) h in rw a.0 refl
+
+pub padded_behind : (bytes rest : List ℕ) → 0 < name_length bytes → rest ≡ drop (name_length bytes + 1) bytes → are_zeros (rest_in bytes) ≡ true → are_zeros (rest_in rest) ≡ true
+padded_behind bytes rest some e padded = ap (λ (t : List ℕ). are_zeros (rest_in t)) e ∙ ap are_zeros (sym (rest_in_step bytes some)) ∙ padded

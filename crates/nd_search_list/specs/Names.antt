@@ -3,7 +3,6 @@ use Rattle.std.specs.Prelude.{◌≡◌, ℕ, ◌-◌, ◌≤◌, Bool, ◌&&◌
 use Rattle.std.specs.List.{AllByRecursion}
 use Rattle.nd_search_list.specs.Name.{IsSpelled, lowered}
 use Rattle.nd_search_list.specs.Reading.{name_length, are_zeros}
-use Rattle.nd_search_list.specs.declared.names.Names.{Names}
 
 -- the bytes are names, each with a zero byte behind it, which in small letters are these; and then zeros to the end
 abbrev pub SpellsBefore : List ℕ → List (List ℕ) → Type 0
@@ -27,10 +26,6 @@ names_behind skipped (byte ∷ bytes) =
 -- the names in some bytes, up to where none begins
 unfoldable pub names_in : List ℕ → List (List ℕ)
 names_in bytes = names_behind 0 bytes
-
--- what an iterator over names has left
-abbrev pub names_left : Names → List (List ℕ)
-names_left n = names_in n.rest.now
 
 -- the bytes where no more name begins, behind the first few
 abbrev pub rest_behind : ℕ → List ℕ → List ℕ

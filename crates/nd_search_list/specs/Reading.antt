@@ -27,6 +27,11 @@ abbrev pub are_zeros : List ℕ → Bool
 are_zeros [] = true
 are_zeros (byte ∷ bytes) = nat_eq byte 0 && are_zeros bytes
 
+-- how many bytes there are before the first zero
+abbrev pub first_zero : List ℕ → ℕ
+first_zero [] = 0
+first_zero (byte ∷ bytes) = if nat_eq byte 0 then 0 else first_zero bytes + 1
+
 -- no capital letters
 abbrev pub are_small : List ℕ → Bool
 are_small [] = true

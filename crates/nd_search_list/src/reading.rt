@@ -1,7 +1,9 @@
-ghost use Rattle.std.specs.Prelude.{◌≡◌, ◌↔◌, ◌<◌, IsTrue, length};
+ghost use Rattle.std.specs.Prelude.{◌≡◌, ◌↔◌, ◌<◌, ◌&&◌, IsTrue, length, nat_le, take, true};
+ghost use Rattle.std.specs.List.{list_all};
 ghost use Rattle.nd_search_list.specs.Label.{is_sign};
 ghost use Rattle.nd_search_list.specs.Name.{IsName, lowered};
-ghost use Rattle.nd_search_list.specs.Reading.{labels_length, name_length, are_small, are_zeros, lowers_to, is_spelled};
+ghost use Rattle.nd_search_list.specs.Names.{rest_in};
+ghost use Rattle.nd_search_list.specs.Reading.{labels_length, name_length, are_small, are_zeros, first_zero, lowers_to, is_spelled};
 
 /// The most bytes of a label (RFC 1035, section 2.3.4).
 const LONGEST_LABEL: u8 = 63;
@@ -21,29 +23,47 @@ fn is_sign(byte: u8) -> bool
     byte.is_ascii_alphanumeric() || byte == b'-' || byte == b'_'
 }
 
+/// Returns true if a label may have all of these bytes.
+fn are_signs(bytes: &[u8]) -> bool
+    ensures { result ≡ list_all is_sign bytes.now }
+{
+    for byte in bytes {
+        if !is_sign(*byte) {
+            return false;
+        }
+    }
+    true
+}
+
+/// Returns true if the bytes begin with a label of this length, after its length byte.
+fn begins_with_label(bytes: &[u8], count: usize) -> bool
+    ensures { result ≡ (nat_le count (length bytes.now) && list_all is_sign (take count bytes.now)) }
+{
+    count <= bytes.len() && are_signs(&bytes[..count])
+}
+
 /// Returns the number of bytes of the whole labels at the beginning of some bytes, or 0 if a label has another byte or is not complete.
 #[tactic(auto, unfolding(crate::specs::Reading::labels_length))]
 fn labels_length(bytes: &[u8]) -> usize
     ensures { result ≡ labels_length bytes.now }
 {
     let mut before = 0;
-    let mut left = 0;
     let mut rest = bytes;
-    while let [byte, after @ ..] = rest {
-        if left > 0 {
-            if !is_sign(*byte) {
-                return 0;
-            }
-            left -= 1;
-        } else if *byte >= 1 && *byte <= LONGEST_LABEL {
-            left = *byte;
-        } else {
+    while !rest.is_empty() {
+        let byte = rest[0];
+        if byte < 1 || byte > LONGEST_LABEL {
             return before;
         }
-        before += 1;
-        rest = after;
+        let length = usize::from(byte);
+        let (_, after) = rest.split_at(1);
+        if !begins_with_label(after, length) {
+            return 0;
+        }
+        let (_, behind) = after.split_at(length);
+        before += 1 + length;
+        rest = behind;
     }
-    if left == 0 { before } else { 0 }
+    before
 }
 
 /// Returns the number of bytes of the labels of the first name, before its zero byte, or 0 if the bytes begin with none.
@@ -58,6 +78,29 @@ pub(crate) fn name_length(bytes: &[u8]) -> usize
     } else {
         0
     }
+}
+
+/// Returns the same of bytes that are names and then zeros: no byte of a name is zero.
+pub(crate) fn known_length(bytes: &[u8]) -> usize
+    requires { are_zeros (rest_in bytes.now) ≡ true }
+    ensures value { result ≡ name_length bytes.now }
+    ensures within { 0 < result → result < length bytes.now }
+{
+    first_zero(bytes)
+}
+
+/// Returns the place of the first zero byte, or the number of bytes if there is none.
+fn first_zero(bytes: &[u8]) -> usize
+    ensures { result ≡ first_zero bytes.now }
+{
+    let mut before = 0;
+    for byte in bytes {
+        if *byte == 0 {
+            return before;
+        }
+        before += 1;
+    }
+    before
 }
 
 /// Returns true if there are no capital letters.
@@ -122,6 +165,14 @@ pub(crate) fn lowers_to(bytes: &[u8], others: &[u8]) -> bool
 
 /// Returns true if both are the same in small letters.
 pub(crate) fn are_same(bytes: &[u8], others: &[u8]) -> bool
+    ensures { result ≡ lowers_to bytes.now (lowered others.now) }
+{
+    // Mostly both are in small letters.
+    bytes == others || are_same_lowered(bytes, others)
+}
+
+/// Returns the same, each letter in small.
+fn are_same_lowered(bytes: &[u8], others: &[u8]) -> bool
     ensures { result ≡ lowers_to bytes.now (lowered others.now) }
 {
     let mut first = bytes;

@@ -1,6 +1,6 @@
 ghost use Rattle.std.specs.Prelude.{◌≡◌, ◌++◌, OnOk, string_bytes};
 ghost use Rattle.std.specs.List.{flat_map};
-ghost use Rattle.nd_search_list.specs.Names.{names_left};
+ghost use Rattle.nd_search_list.specs.NamesLeft.{names_left};
 ghost use Rattle.nd_decode.specs.Option.{view};
 ghost use Rattle.nd_decode.specs.Option as options;
 ghost use Rattle.nd_decode.specs.Pieces.{options_left};

@@ -3,7 +3,8 @@ use Rattle.std.specs.Prelude.{MatchOption}
 use Rattle.std.specs.Option.{is_some}
 use Rattle.std.proofs.lemmas.Bool.{le-leb}
 use Rattle.std.proofs.lemmas.List.{length-drop, take_all}
-use Rattle.nd_search_list.specs.Names.{spells_names, names_in, names_left}
+use Rattle.nd_search_list.specs.Names.{spells_names, names_in}
+use Rattle.nd_search_list.specs.NamesLeft.{names_left}
 use Rattle.nd_search_list.specs.declared.names.Names.{Names}
 use Rattle.nd_decode.specs.Option.{known_of}
 use Rattle.nd_message.specs.Spelling.{other_piece}

@@ -1,7 +1,7 @@
 use Rattle.std.proofs.Common.{◌≡◌, ◌++◌}
 use Rattle.std.specs.Prelude.{string_bytes}
 use Rattle.std.specs.List.{flat_map}
-use Rattle.nd_search_list.specs.Names.{names_left}
+use Rattle.nd_search_list.specs.NamesLeft.{names_left}
 use Rattle.ndpctl_check.specs.OptionText.{search_text}
 use Rattle.ndpctl_check.proofs.option_text.write_each_name.Given as goal
 
