@@ -106,3 +106,11 @@ pub servers_one : (bytes : List ℕ) (servers : List Addr) → SpellsServers byt
 servers_one bytes servers h =
     let read : servers_in bytes ≡ servers = ap servers_in h.concatenated ∙ servers_again servers h.each in
     (ap (λ (ss : List Addr). list_all is_server ss) read ∙ all_servers servers h.each, read)
+
+-- the bytes of servers are 16 for each
+pub spelled_length : (bytes : List ℕ) (servers : List Addr) → SpellsServers bytes servers → length bytes ≡ 16 * length servers
+spelled_length bytes servers s = ap length s.concatenated ∙ joined_length servers s.each
+  where
+    joined_length : (servers : List Addr) → AllByRecursion IsServer servers → length (flat_map (λ (s : Addr). s.0) servers) ≡ 16 * length servers
+    joined_length [] h = refl
+    joined_length (server ∷ servers) h = omega (arith, length-append server.0 (flat_map (λ (s : Addr). s.0) servers), h.0.len, joined_length servers h.1)

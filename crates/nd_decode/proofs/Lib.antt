@@ -4,4 +4,5 @@ pub mod Addresses
 pub mod Says
 pub mod OfType
 pub mod Spelling
+pub mod Sizes
 pub mod Deciding

@@ -2,6 +2,7 @@ pub mod Servers
 pub mod Option
 pub mod Pieces
 pub mod OfType
+pub mod Sizes
 pub mod Options
 pub mod MessageType
 pub mod Message

@@ -38,4 +38,4 @@ pub use options::Options;
 pub use prefix_info::PrefixInfo;
 pub use redirect::Redirect;
 pub use router_advertisement::RouterAdvertisement;
-pub use servers::{Servers, is_server};
+pub use servers::{SERVER_BYTES, Servers, is_server};

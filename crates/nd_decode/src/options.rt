@@ -1,4 +1,4 @@
-ghost use Rattle.std.specs.Prelude.{◌≡◌, MatchOption, take, drop, true, false, [], ◌∷◌, ◌<◌, length, IfSome};
+ghost use Rattle.std.specs.Prelude.{◌≡◌, MatchOption, take, drop, true, false, [], ◌∷◌, ◌<◌, ◌≤◌, length, IfSome};
 ghost use Rattle.nd_decode.specs.Option.{view};
 ghost use Rattle.nd_decode.specs.Pieces.{begins_whole, piece_length, options_in, rest_in, fault_of};
 
@@ -14,12 +14,22 @@ pub struct Options<'a> {
 impl<'a> Options<'a> {
     ghost use Rattle.nd_decode.specs.Pieces.{options_left};
     ghost use Rattle.nd_decode.specs.OfType.{from_kind};
+    ghost use Rattle.nd_decode.specs.Sizes.{sizes};
 
     /// Returns the options in these bytes.
     pub(crate) fn new(bytes: &'a [u8]) -> Self
         ensures { options_left result ≡ options_in bytes.entry.now }
     {
         Options { rest: bytes }
+    }
+
+    /// Returns the number of bytes that the options take, with those after the last whole one: 32 for each Prefix Information, 16 for each DNS
+    /// server, and some for each search name and for the others.
+    pub fn byte_len(&self) -> usize
+        ensures value { result ≡ length self.now.rest.now }
+        ensures enough { sizes (options_left self.now) ≤ result }
+    {
+        self.rest.len()
     }
 
     /// Returns the next option of type `kind`. Options of other types are skipped; only their type and length are read.

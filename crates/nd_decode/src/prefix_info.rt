@@ -24,6 +24,9 @@ impl PrefixInfo {
     /// Its length in units of 8 bytes.
     pub const UNITS: u8 = 4;
 
+    /// Its length in bytes.
+    pub const BYTES: usize = 32;
+
     /// The place of Prefix Length.
     pub const PREFIX_LENGTH_AT: usize = 2;
 

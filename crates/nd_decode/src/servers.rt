@@ -5,6 +5,9 @@ ghost use Rattle.nd_decode.specs.Servers.{servers_in, servers_left, is_server};
 
 use nd_addr::Addr;
 
+/// The number of bytes that a server takes: an address (RFC 8106, section 5.1).
+pub const SERVER_BYTES: usize = 16;
+
 /// The addresses of DNS servers in some bytes, one after the other (RFC 8106, section 5.1).
 #[derive(Clone, Copy, Debug)]
 pub struct Servers<'a> {
@@ -32,7 +35,7 @@ impl<'a> Servers<'a> {
     pub fn len(&self) -> usize
         ensures { result ≡ length (servers_left self.now) }
     {
-        self.rest.len() / 16
+        self.rest.len() / SERVER_BYTES
     }
 }
 
@@ -59,10 +62,10 @@ fn split_server(bytes: &[u8]) -> Option<(Addr, &[u8])>
     ensures { MatchOption result (length bytes.now < 16) (λ p. (16 ≤ length bytes.now)
         × (p.0.0 ≡ take 16 bytes.now) × (p.1.now ≡ drop 16 bytes.now)) }
 {
-    if bytes.len() < 16 {
+    if bytes.len() < SERVER_BYTES {
         return None;
     }
-    let (first, rest) = bytes.split_at(16);
+    let (first, rest) = bytes.split_at(SERVER_BYTES);
     Some((Addr::at(first, 0), rest))
 }
 

@@ -1,25 +1,27 @@
-ghost use Rattle.std.specs.Prelude.{◌≡◌, ◌≤◌, ◌<◌, ◌↔◌, ℕ, List, [], IfOk, IfErr, OnOk, OnErr, IsErr, IsOk, true, false, ◌&&◌, ◌⊎◌, if◌then◌else◌};
+ghost use Rattle.std.specs.Prelude.{◌≡◌, ◌≤◌, ◌<◌, ◌↔◌, ℕ, List, [], length, IfOk, IfErr, OnOk, OnErr, IsErr, IsOk, true, false, ◌&&◌, ◌⊎◌, if◌then◌else◌};
 ghost use Rattle.std.specs.Result.{IsErrAnd};
 ghost use Rattle.nd_addr.specs.declared.addr.Addr.{Addr};
 ghost use Rattle.nd_addr.specs.Same.{same_addr};
 ghost use Rattle.nd_decode.specs.Pieces.{options_left};
 ghost use Rattle.nd_table.specs.declared.lasting.Lasting.{Lasting};
 ghost use Rattle.nd_table.specs.Announcements.{Row, last_moment};
-ghost use Rattle.nd_table.specs.Listing.{fits, then_announced, Lists};
+ghost use Rattle.nd_table.specs.Listing.{Distinct, fits, then_announced, Lists};
 ghost use Rattle.nd_table.specs.Moment.{IsMoment};
+ghost use Rattle.nd_table.specs.Refreshing.{only_refreshes};
+ghost use Rattle.nd_dns.specs.Dns.{max_servers};
+ghost use Rattle.nd_dns.specs.AnnouncedServers.{servers_told};
 
 use crate::announced_names::AnnouncedNames;
 use crate::announced_servers::AnnouncedServers;
 use crate::dns::{Dns, MAX_NAMES, MAX_SERVERS};
 use crate::new_names::{NewNames, announce_names, copies};
 use nd_addr::Addr;
-use nd_decode::Options;
-use nd_table::{Lasting, Limit, TableRefusal, announce_all, fits_all};
+use nd_decode::{Options, SERVER_BYTES};
+use nd_table::{Lasting, Limit, TableRefusal, announce_all, fits_all, only_refreshes};
 use std::alloc::{AllocError, Allocator};
 
 impl<A: Allocator> Dns<A> {
-    ghost use Rattle.nd_dns.specs.Dns.{max_servers, max_names, Stands, after, new_names};
-    ghost use Rattle.nd_dns.specs.AnnouncedServers.{servers_told};
+    ghost use Rattle.nd_dns.specs.Dns.{max_names, Stands, after, new_names};
     ghost use Rattle.nd_dns.specs.AnnouncedNames.{same_name, names_told};
 
     /// Returns true if there is room for the servers that the options of a Router Advertisement announce at `now`, in milliseconds, taken in order.
@@ -29,8 +31,7 @@ impl<A: Allocator> Dns<A> {
         ensures by_history { (history : List (Row Addr)) (names : List (Row (List ℕ))) (es : List (Lasting Addr)) → Stands self.now history names → last_moment history ≤ now → Lists same_addr history now es
             → result ≡ fits same_addr max_servers now (servers_told (options_left options.entry)) es }
     {
-        let told = AnnouncedServers::new(options);
-        fits_all(&self.servers, MAX_SERVERS, now, told)
+        servers_fit(&self.servers, now, options)
     }
 
     /// Returns true if there is room for the search names that they announce, taken in order. It takes no memory.
@@ -93,6 +94,19 @@ impl<A: Allocator> Dns<A> {
     }
 }
 
+/// Returns true if there is room for the servers that the options announce, taken in order.
+fn servers_fit(entries: &[Lasting<Addr>], now: u64, options: Options<'_>) -> bool
+    requires distinct { Distinct same_addr entries.now }
+    requires few { length entries.now ≤ max_servers }
+    ensures { result ≡ fits same_addr max_servers now (servers_told (options_left options.entry)) entries.now }
+{
+    // Mostly there is room for as many as the bytes of the options could be.
+    if entries.len() + options.byte_len() / SERVER_BYTES <= MAX_SERVERS {
+        return true;
+    }
+    fits_all(entries, MAX_SERVERS, now, AnnouncedServers::new(options))
+}
+
 impl<A: Allocator + Clone> Dns<A> {
     ghost use Rattle.nd_dns.specs.Dns.{max_names, new_names};
     ghost use Rattle.nd_dns.specs.AnnouncedNames.{same_name, names_told};
@@ -112,19 +126,40 @@ impl<A: Allocator + Clone> Dns<A> {
         if !self.fits_names(now, options) {
             return Err(TableRefusal::Full(Limit::Names));
         }
-        match self.new_names(now, options) {
+        match self.new_names(now, options, false) {
             Ok(names) => Ok(names),
             Err(_) => Err(TableRefusal::Memory),
         }
     }
 
-    /// Copies the search names that they add, without asking for room. Returns an error if out of memory. If they add none it takes no memory.
-    pub fn new_names(&self, now: u64, options: Options<'_>) -> Result<NewNames<A>, AllocError>
+    /// Copies the search names that they add, without asking for room. `known`: they add none, since they only refresh what is known. Returns an
+    /// error if out of memory. If they add none it takes no memory.
+    pub fn new_names(
+        &self,
+        now: u64,
+        options: Options<'_>,
+        known: bool,
+    ) -> Result<NewNames<A>, AllocError>
+        requires { known ≡ true → new_names now (options_left options) self.now ≡ [] }
         ensures value { IfOk result (λ names. names ≡ new_names now (options_left options.entry) self.now) }
 
         // If no name is added it succeeds, even if no memory is left.
         ensures quiet { new_names now (options_left options.entry) self.now ≡ [] → IsOk result }
     {
+        if known {
+            return Ok(NewNames::none());
+        }
         copies(&self.alloc, &self.names, now, AnnouncedNames::new(options))
+    }
+
+    /// Returns true if the options only refresh search names that are known at `now`, in milliseconds: each is, and no lifetime is 0. It takes no memory.
+    pub fn only_refreshes_names(&self, now: u64, options: Options<'_>) -> bool
+        ensures value { result ≡ only_refreshes same_name now (names_told (options_left options.entry)) self.now.names }
+
+        // Then none is added, and there is room for them.
+        ensures none { result ≡ true → new_names now (options_left options.entry) self.now ≡ [] }
+        ensures fits { result ≡ true → fits same_name max_names now (names_told (options_left options.entry)) self.now.names ≡ true }
+    {
+        only_refreshes(&self.names, now, AnnouncedNames::new(options))
     }
 }

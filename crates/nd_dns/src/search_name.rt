@@ -54,7 +54,7 @@ impl<A: Allocator> NamesKey<SearchName<A>> for NameRef<'_> {
     ghost same = { same_name };
 
     fn names(&self, key: &SearchName<A>) -> bool {
-        self.is(&key.bytes)
+        self.is_same_as(&key.as_name())
     }
 
     fn names_same(&self, other: &Self) -> bool {

@@ -1,8 +1,11 @@
 //! Which table of a node is full for a Router Advertisement. The definition is in `specs/Fullness.antt`.
 
-ghost use Rattle.std.specs.Prelude.{◌≡◌, ◌≤◌, None};
+ghost use Rattle.std.specs.Prelude.{◌≡◌, ◌≤◌, None, true};
 ghost use Rattle.std.specs.Option.{option_map};
 ghost use Rattle.nd_decode.specs.Pieces.{options_left};
+ghost use Rattle.nd_table.specs.Listing.{fits};
+ghost use Rattle.nd_dns.specs.AnnouncedNames.{same_name, names_told};
+ghost use Rattle.nd_dns.specs.Dns.{max_names};
 ghost use Rattle.nd_out.specs.Out.{limit_of};
 ghost use Rattle.nd_chronicle.specs.Full.{first_full, needs, Placed, AdvertisementFills};
 
@@ -21,7 +24,8 @@ impl<R: Rng + Drop, A: Allocator + Clone> Node<R, A> {
     ghost use Rattle.nd_node.specs.RouterAdvertisement.{advertised};
 
     /// Returns the first table, in the order of their limits, that has no room for a Router Advertisement received at `now`, in milliseconds, or
-    /// `None` if all have room. `place`: there is room for its sender among the neighbours. It asks no table after a full one.
+    /// `None` if all have room. `place`: there is room for its sender among the neighbours. `known`: its search names only refresh known ones. It asks no
+    /// table after a full one.
     pub(crate) fn first_full(
         &self,
         now: u64,
@@ -29,7 +33,9 @@ impl<R: Rng + Drop, A: Allocator + Clone> Node<R, A> {
         ra: &RouterAdvertisement,
         options: Options<'_>,
         place: bool,
+        known: bool,
     ) -> Option<Limit>
+        requires { known ≡ true → fits same_name max_names now (names_told (options_left options)) self.now.dns.names ≡ true }
         ensures fills { let message = advertised ra.now (options_left options.entry) in (start : Start) (c : Chronicle) → Stands R.stream start self.now c → last_moment start.at c ≤ now
             → Placed start c now (needs c source message message.body) place → AdvertisementFills start c now source ra.now message (option_map limit_of result) }
         ensures room { result ≡ None → HasRoom self.now now source ra.now (options_left options.entry) place }
@@ -49,7 +55,7 @@ impl<R: Rng + Drop, A: Allocator + Clone> Node<R, A> {
         if !self.dns.fits_servers(now, options) {
             return Some(Limit::Servers);
         }
-        if !self.dns.fits_names(now, options) {
+        if !known && !self.dns.fits_names(now, options) {
             return Some(Limit::Names);
         }
         None

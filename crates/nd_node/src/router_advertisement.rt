@@ -152,11 +152,12 @@ impl<R: Rng + Drop, A: Allocator + Clone> Node<R, A> {
     {
         let news = news_of(source, &Body::Ra(*ra), options);
         let place = has_place(&self.neighbours, now, news);
-        match self.first_full(now, source, ra, options, place) {
+        let known = self.dns.only_refreshes_names(now, options);
+        match self.first_full(now, source, ra, options, place, known) {
             Some(limit) => return self.refuse(now, Refusal::Full(limit), outs),
             None => {}
         }
-        let names = self.dns.new_names(now, options)?;
+        let names = self.dns.new_names(now, options, known)?;
         let waiting = waiting_for(&self.neighbours, news);
         outs.reserve(waiting + BESIDE_FRAMES)?;
         let heard = Advertisement {

@@ -4,7 +4,6 @@ pub mod History
 pub mod Preferences
 pub mod OnLink
 pub mod OnLinkPrefixes
-pub mod Refreshing
 pub mod RouterAdvertisement
 pub mod Routers
 pub mod Planned

@@ -1,24 +1,22 @@
-ghost use Rattle.std.specs.Prelude.{◌≡◌, ◌≤◌, ◌<◌, ◌↔◌, List, IfErr, OnOk, OnErr, IsErr, true, false};
+ghost use Rattle.std.specs.Prelude.{◌≡◌, ◌≤◌, ◌<◌, ◌↔◌, List, IfErr, OnOk, OnErr, IsErr, length, true, false};
 ghost use Rattle.nd_routers.specs.OnLinkPrefixes.{is_on_link, max_prefixes};
 ghost use Rattle.nd_addr.specs.Prefix.{PrefixValue};
 ghost use Rattle.nd_addr.specs.Same.{same_prefix};
 ghost use Rattle.nd_decode.specs.Pieces.{options_left};
 ghost use Rattle.nd_table.specs.Announcements.{Row, last_moment};
-ghost use Rattle.nd_table.specs.Listing.{fits, announced_all, then_announced, Lists, Stands};
+ghost use Rattle.nd_table.specs.Listing.{fits, announced_all, then_announced, Distinct, Lists, Stands};
 ghost use Rattle.nd_table.specs.declared.lasting.Lasting.{Lasting as Entry};
 ghost use Rattle.nd_table.specs.Moment.{IsMoment};
-ghost use Rattle.nd_routers.specs.OnLinkPrefixes.{prefixes_left};
-ghost use Rattle.nd_routers.specs.Refreshing.{only_refreshes};
+ghost use Rattle.nd_routers.specs.OnLinkPrefixes.{prefixes_in, prefixes_left};
+ghost use Rattle.nd_table.specs.Refreshing.{only_refreshes};
 
 use crate::prefixes::{MAX_PREFIXES, Prefixes};
 use nd_addr::Prefix;
 use nd_decode::{OPTION_PREFIX_INFORMATION, OptionRef, Options, PrefixInfo};
-use nd_table::{Announces, Lasting, Limit, TableRefusal, announce_all, fits_all, stands};
+use nd_table::{Announces, Lasting, Limit, TableRefusal, announce_all, fits_all, only_refreshes};
 use std::alloc::Allocator;
 
 impl<A: Allocator> Prefixes<A> {
-    ghost use Rattle.nd_routers.specs.OnLinkPrefixes.{prefixes_in};
-
     /// Returns true if there is room for the prefixes that the options of a Router Advertisement announce at `now`, in milliseconds, taken in
     /// order: then `heard_ra` isn't refused. It takes no memory.
     pub fn fits(&self, now: u64, options: Options<'_>) -> bool
@@ -26,7 +24,7 @@ impl<A: Allocator> Prefixes<A> {
         ensures by_history { (history : List (Row PrefixValue)) (es : List (Entry PrefixValue)) → Stands same_prefix self.now history → last_moment history ≤ now → Lists same_prefix history now es
             → result ≡ fits same_prefix max_prefixes now (prefixes_in (options_left options.entry)) es }
     {
-        fits_all(&self.entries, MAX_PREFIXES, now, OnLink { options })
+        fits(&self.entries, now, options)
     }
 
     /// Returns true if the options of a Router Advertisement only refresh prefixes that are on the link at `now`, in milliseconds: they add none
@@ -71,17 +69,17 @@ impl<A: Allocator> Prefixes<A> {
     }
 }
 
-/// Returns true if each announced prefix is on the link and its lifetime isn't 0.
-fn only_refreshes(entries: &[Lasting<Prefix>], now: u64, announced: OnLink<'_>) -> bool
-    ensures { result ≡ only_refreshes same_prefix now (prefixes_left announced.entry) entries.now }
+/// Returns true if there is room for the prefixes that the options announce, taken in order.
+fn fits(entries: &[Lasting<Prefix>], now: u64, options: Options<'_>) -> bool
+    requires distinct { Distinct same_prefix entries.now }
+    requires few { length entries.now ≤ max_prefixes }
+    ensures { result ≡ fits same_prefix max_prefixes now (prefixes_in (options_left options.entry)) entries.now }
 {
-    let mut rest = announced;
-    while let Some((prefix, lifetime)) = rest.next_told() {
-        if lifetime == 0 || !stands(entries, now, &prefix) {
-            return false;
-        }
+    // Mostly there is room for as many as the bytes of the options could be.
+    if entries.len() + options.byte_len() / PrefixInfo::BYTES <= MAX_PREFIXES {
+        return true;
     }
-    true
+    fits_all(entries, MAX_PREFIXES, now, OnLink { options })
 }
 
 /// The prefixes that the options of a Router Advertisement say are on the link, with their valid lifetimes (RFC 4861, sections 4.6.2 and
@@ -92,7 +90,7 @@ pub(crate) struct OnLink<'a> {
 }
 
 impl Announces<Prefix, Prefix> for OnLink<'_> {
-    ghost use Rattle.nd_routers.specs.OnLinkPrefixes.{prefixes_left};
+    ghost use Rattle.nd_routers.specs.OnLinkPrefixes.{prefixes_in, prefixes_left};
 
     ghost told = { prefixes_left };
 

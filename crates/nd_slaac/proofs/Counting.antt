@@ -1,17 +1,19 @@
 -- Whether there is room for the addresses that options would form.
-use Rattle.std.proofs.Common.{◌≡◌, ℕ, ◌+◌, ◌<◌, ◌≤◌, Bool, true, false, cond, eqb, ltb, leb, List, [], ◌∷◌, length, Some, refl, sym, ◌∙◌, ap, arith, suc, inl, inr}
+use Rattle.std.proofs.Common.{◌≡◌, ℕ, ◌+◌, ◌*◌, ◌/◌, ◌<◌, ◌≤◌, Bool, true, false, cond, eqb, ltb, leb, List, [], ◌∷◌, length, Some, refl, sym, ◌∙◌, ap, arith, suc, inl, inr}
 use Rattle.std.specs.Prelude.{is_some, ◌&&◌, ◌||◌, not, IsOk, IfSome, Result, Ok, Err}
 use Rattle.std.proofs.lemmas.Bool.Decides.{nat_tests}
-use Rattle.std.proofs.lemmas.Bool.{true≢false, eqb-true, eq-eqb, cases_Bool}
+use Rattle.std.proofs.lemmas.Bool.{true≢false, eqb-true, eq-eqb, le-leb, cases_Bool}
 use Rattle.nd_addr.specs.declared.mac.Mac.{Mac}
 use Rattle.nd_decode.specs.declared.prefix_info.PrefixInfo.{PrefixInfo}
+use Rattle.nd_decode.specs.Option.{Said, slla, tlla, prefix, redirected, mtu, rdnss, dnssl, other}
+use Rattle.nd_decode.specs.Sizes.{sizes}
 use Rattle.nd_table.proofs.Keyed.{put_in}
 use Rattle.nd_slaac.specs.declared.prefix_option.Taken.{Taken}
 use Rattle.nd_slaac.specs.declared.prefix_option.Taken.TheVariants.{Formed, Renewed, Ignored}
 use Rattle.nd_slaac.specs.declared.prefix_option.Full.{Full}
 use Rattle.nd_slaac.specs.Address.{Address}
 use Rattle.nd_slaac.specs.Table.{key_of, address_in}
-use Rattle.nd_slaac.specs.PrefixOption.{is_taken, named_by, lifetimes_of, is_forming}
+use Rattle.nd_slaac.specs.PrefixOption.{is_taken, named_by, lifetimes_of, is_forming, prefixes_in}
 use Rattle.nd_slaac.specs.Room.{is_among, would_form, fits_in, is_formed_by, new_in}
 use Rattle.nd_slaac.specs.Calls.{keys_in, formed, announced, taken_by, Changes, row_taken, GainsRowIfAny}
 use Rattle.nd_slaac.specs.History.{Row, story}
@@ -212,3 +214,31 @@ fits_not mac entries count info behind rest all few full rest_is new is =
     let gt : 64 < length (keys_in entries) + new_in mac (keys_in entries) all = omega (arith, is, one, len) in
     let no' : leb (length (keys_in entries) + new_in mac (keys_in entries) all) 64 ≡ false = grind (arith, nat_tests, gt) in
     sym (fits_count mac (keys_in entries) all (omega (arith, len)) ∙ no')
+
+-- ---- by the bytes of the options
+
+new_few : (mac : Mac) (keys : List ℕ) (infos : List PrefixInfo) → new_in mac keys infos ≤ length infos
+new_few mac keys [] = omega arith
+new_few mac keys (info ∷ infos) = elim (cases_Bool (would_form mac keys info && not (is_formed_by mac (named_by mac info) infos))) [
+  | inl one ↦ rw one (omega (arith, new_few mac keys infos))
+  | inr none ↦ rw none (omega (arith, new_few mac keys infos))
+]
+
+prefixes_few : (options : List Said) → 32 * length (prefixes_in options) ≤ sizes options
+prefixes_few [] = omega arith
+prefixes_few (prefix p ∷ options) = omega (arith, prefixes_few options)
+prefixes_few (slla _ ∷ options) = omega (arith, prefixes_few options)
+prefixes_few (tlla _ ∷ options) = omega (arith, prefixes_few options)
+prefixes_few (redirected _ ∷ options) = omega (arith, prefixes_few options)
+prefixes_few (mtu _ ∷ options) = omega (arith, prefixes_few options)
+prefixes_few (rdnss _ _ ∷ options) = omega (arith, prefixes_few options)
+prefixes_few (dnssl _ _ ∷ options) = omega (arith, prefixes_few options)
+prefixes_few (other _ _ ∷ options) = omega (arith, prefixes_few options)
+
+-- there is room for as many addresses as the bytes could form
+pub fits_bytes : (mac : Mac) (entries : List Address) (options : List Said) (bytes : ℕ) → sizes options ≤ bytes → length entries + bytes / 32 ≤ 64 → fits_in mac (keys_in entries) (prefixes_in options) ≡ true
+fits_bytes mac entries options bytes enough few =
+    let keys = keys-length entries in
+    let most = prefixes_few options in
+    let new = new_few mac (keys_in entries) (prefixes_in options) in
+    fits_count mac (keys_in entries) (prefixes_in options) (omega (arith, keys, few)) ∙ le-leb _ _ (omega (arith, keys, most, new, enough, few))

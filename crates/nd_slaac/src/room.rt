@@ -99,6 +99,10 @@ pub(crate) fn fits(entries: &[Entry], mac: Mac, options: Options<'_>) -> bool
     ensures { result ≡ fits_in mac (keys_in entries.now) (prefixes_in (options_left options.entry)) }
 {
     let mut count = entries.len();
+    // Mostly there is room for as many as the bytes of the options could form.
+    if count + options.byte_len() / PrefixInfo::BYTES <= MAX_ADDRESSES {
+        return true;
+    }
     let mut rest = options;
     while let Some(option) = rest.next_of_type(OPTION_PREFIX_INFORMATION) {
         let OptionRef::Prefix(info) = option else {

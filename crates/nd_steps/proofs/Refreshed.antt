@@ -10,11 +10,12 @@ use Rattle.nd_table.proofs.Behind.{open_all}
 use Rattle.nd_addr.specs.declared.preference.Preference.{Preference}
 use Rattle.nd_routers.specs.declared.preferred.Preferred.{Preferred}
 use Rattle.nd_routers.specs.Preferences.{preference_among, with_preference}
-use Rattle.nd_routers.specs.Refreshing.{only_refreshes}
+use Rattle.nd_table.specs.Refreshing.{only_refreshes}
 use Rattle.nd_routers.specs.Routers as routers
 use Rattle.nd_routers.specs.Routers.{same, IsSettled}
 use Rattle.nd_routers.proofs.Preferring.{same_preferences}
-use Rattle.nd_routers.proofs.Refreshing.{announced_keys, held_by_keys, keys_of, refreshed_keys}
+use Rattle.nd_table.proofs.Refreshing.{announced_keys, keys_of, refreshed_keys}
+use Rattle.nd_routers.proofs.Refreshing.{held_by_keys}
 use Rattle.nd_routers.proofs.Settled.{open_each}
 use Rattle.nd_nexthop.specs.Choice.{Table}
 use Rattle.nd_nexthop.specs.Memo.{Memory, forgotten}

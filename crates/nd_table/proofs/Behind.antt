@@ -200,3 +200,7 @@ module _ {K : Type 0} (same : K → K → Bool) (tells : Tells same) where
       let first : nat_le (length (announced same now key w es)) limit ≡ true = le-leb _ _ (omega (arith, le, longer)) in
       let rest : fits same limit now more (announced same now key w es) ≡ true = fits_few limit now more (announced same now key w es) (omega (arith, le, longer, opened)) in
       rw (first, rest) refl
+
+  -- the same if the entries that have ended are counted, too
+  pub fits_beside : (limit now : ℕ) (more : List (K × ℕ)) (es : List (Lasting K)) → length es + length more ≤ limit → fits same limit now more es ≡ true
+  fits_beside limit now more es le = fits_few limit now more es (omega (arith, le, fewer_open (λ e. is_before now e.end) es))

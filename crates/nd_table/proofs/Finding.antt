@@ -1,7 +1,8 @@
 -- An entry found by its key, in lists that are changed.
-use Rattle.std.proofs.Common.{length, ◌+◌, ◌≡◌, ◌≢◌, ℕ, Bool, true, false, cond, List, [], ◌∷◌, ◌++◌, Option, Some, None, refl, arith, ◌⊎◌}
+use Rattle.std.proofs.Common.{length, ◌+◌, ◌≡◌, ◌≢◌, ℕ, Bool, true, false, cond, List, [], ◌∷◌, ◌++◌, Option, Some, None, refl, ap, ◌∙◌, arith, ◌⊎◌}
 use Rattle.std.specs.Prelude.{map, filter, is_some}
-use Rattle.std.proofs.lemmas.Bool.{true≢false}
+use Rattle.std.specs.List.{list_all}
+use Rattle.std.proofs.lemmas.Bool.{true≢false, and_parts, cond-true}
 use Rattle.nd_table.specs.declared.lasting.Lasting.{Lasting}
 use Rattle.nd_table.specs.Ends.{is_before}
 use Rattle.nd_table.specs.Announcements.{is_open}
@@ -14,6 +15,13 @@ Tells {K} same = (a b : K) → ((same a b ≡ true) × (a ≡ b)) ⊎ ((same a b
 pub absent_of : (o : Option (Option ℕ)) → is_some o ≡ false → o ≡ None
 absent_of None h = refl
 absent_of (Some x) h = absurd (true≢false h)
+
+-- a list each of whose elements passes the test
+pub filter_all : {X : Type 0} (p : X → Bool) (xs : List X) → list_all p xs ≡ true → filter p xs ≡ xs
+filter_all p [] h = refl
+filter_all {X} p (x ∷ xs) h =
+    let parts = and_parts (p x) (list_all p xs) h in
+    cond-true (p x) (x ∷ filter p xs) (filter p xs) parts.0 ∙ ap (λ (rest : List X). x ∷ rest) (filter_all p xs parts.1)
 
 pub one_longer : {K : Type 0} (es : List (Lasting K)) (e : Lasting K) → length (es ++ e ∷ []) ≡ length es + 1
 one_longer [] e = refl

@@ -16,3 +16,4 @@ pub mod Behind
 pub mod LastingOrder
 pub mod Steps
 pub mod UniqueKeys
+pub mod Refreshing

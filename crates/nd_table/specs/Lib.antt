@@ -9,3 +9,4 @@ pub mod Listing
 pub mod Left
 pub mod Shown
 pub mod Moment
+pub mod Refreshing

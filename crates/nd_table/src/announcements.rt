@@ -1,6 +1,7 @@
 ghost use Rattle.std.specs.Prelude.{◌≡◌, ◌≤◌, ◌<◌, ◌^◌, true, false, is_some, if◌then◌else◌, not, ◌&&◌, ◌==◌, ◌+◌, ◌-◌, length, take, vec_len, vec_capacity};
 ghost use Rattle.nd_table.specs.Listing.{end_in, fits, behind, announced_all, Distinct, count_after};
 ghost use Rattle.nd_table.specs.Moment.{IsMoment};
+ghost use Rattle.nd_table.specs.Refreshing.{only_refreshes};
 
 use crate::announces::Announces;
 use crate::lasting::Lasting;
@@ -96,6 +97,24 @@ pub fn fits_all<K, Q: NamesKey<K> + Drop, I: Announces<K, Q> + Copy>(
             return false;
         }
         taken += 1;
+    }
+    true
+}
+
+/// Returns true if the announcements of a message only refresh what is listed at `now`, in milliseconds: each key is, and no lifetime is 0. It takes no
+/// memory.
+pub fn only_refreshes<K, Q: NamesKey<K> + Drop, I: Announces<K, Q> + Drop>(
+    entries: &[Lasting<K>],
+    now: u64,
+    announced: I,
+) -> bool
+    ensures { result ≡ only_refreshes Q.same now (I.told announced) entries.now }
+{
+    let mut rest = announced;
+    while let Some((name, lifetime)) = rest.next_told() {
+        if lifetime == 0 || !stands(entries, now, &name) {
+            return false;
+        }
     }
     true
 }

@@ -1,4 +1,6 @@
 ghost use Rattle.std.specs.Prelude.{◌≡◌, ◌≤◌, ◌<◌, Some, false, MatchOption, length, map, is_some, vec_len, vec_capacity};
+ghost use Rattle.std.specs.List.{list_all};
+ghost use Rattle.nd_table.specs.Ends.{is_before};
 ghost use Rattle.nd_table.specs.Listing.{end_in, renewed, without, open_at, announced, enters};
 ghost use Rattle.nd_table.specs.Moment.{IsMoment};
 
@@ -57,12 +59,28 @@ pub fn remove<K: Drop, Q: NamesKey<K>, A: Allocator>(entries: &mut Vec<Lasting<K
     entries.retain(|entry| !name.names(&entry.key));
 }
 
+/// Returns true if no entry has ended at `now`, in milliseconds.
+fn none_ended<K>(entries: &[Lasting<K>], now: u64) -> bool
+    ensures { result ≡ list_all (λ e. is_before now e.end) entries.now }
+{
+    for entry in entries {
+        if !is_before(now, entry.end) {
+            return false;
+        }
+    }
+    true
+}
+
 /// Removes the entries that have ended at `now`, in milliseconds.
 pub fn drop_ended<K: Drop, A: Allocator>(entries: &mut Vec<Lasting<K>, A>, now: u64)
     ensures items { entries.new.items ≡ open_at now entries.old.items }
     ensures shorter { vec_len entries.new ≤ vec_len entries.old }
     ensures capacity { vec_capacity entries.new ≡ vec_capacity entries.old }
 {
+    // Mostly none has ended.
+    if none_ended(entries, now) {
+        return;
+    }
     entries.retain(|entry| is_before(now, entry.end));
 }
 

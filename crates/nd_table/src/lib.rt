@@ -28,7 +28,7 @@ mod table;
 mod with_lifetime;
 
 pub use addressed::Addressed;
-pub use announcements::{announce_all, enters_behind, fits_all};
+pub use announcements::{announce_all, enters_behind, fits_all, only_refreshes};
 pub use announces::Announces;
 pub use binary_search::search;
 pub use date::Date;

@@ -1,10 +1,10 @@
-use Rattle.std.proofs.Common.{◌≡◌, ◌∷◌, ◌∙◌, ap}
+use Rattle.std.proofs.Common.{◌≡◌, ◌∷◌, ◌∙◌, sym, ap}
 use Rattle.nd_decode.specs.declared.option_ref.OptionRef.{OptionRef}
 use Rattle.nd_decode.specs.Option.{view}
 use Rattle.nd_decode.specs.Pieces.{options_left}
 use Rattle.nd_slaac.specs.PrefixOption.{prefixes_in}
 use Rattle.nd_slaac.proofs.OfType.{prefixes_from}
-use Rattle.nd_slaac.proofs.Counting.{fits_all, fits_not}
+use Rattle.nd_slaac.proofs.Counting.{fits_all, fits_bytes, fits_not}
 use Rattle.nd_slaac.proofs.room.fits.Goals as goal
 
 pub returns-then-count-ge-MAX_ADDRESSES : goal.returns-then-count-ge-MAX_ADDRESSES
@@ -19,3 +19,7 @@ pub returns : goal.returns
 returns c =
     fits_all c.args.mac c.args.entries.now c.loop-option.count (prefixes_in (options_left c.loop-option.rest)) (prefixes_in (options_left c.args.options))
     c.requires.few c.loop-option.invariant.few (prefixes_from (options_left c.loop-option.rest) ∙ ap prefixes_in c.in_default.ensures.value) c.loop-option.invariant.all
+
+pub returns-then-count-byte_len-le-MAX_ADDRESSES : goal.returns-then-count-byte_len-le-MAX_ADDRESSES
+returns-then-count-byte_len-le-MAX_ADDRESSES c =
+    sym (fits_bytes c.args.mac c.args.entries.now (options_left c.args.options) c.byte_len.result c.byte_len.ensures.enough c.if-count-byte_len-le-MAX_ADDRESSES.true)

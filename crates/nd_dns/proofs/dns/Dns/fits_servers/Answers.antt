@@ -1,5 +1,4 @@
-use Rattle.std.proofs.Common.{◌∙◌, sym, ap, arith, length, List, ℕ}
-use Rattle.nd_addr.specs.declared.addr.Addr.{Addr}
+use Rattle.std.proofs.Common.{◌∙◌, sym, ap}
 use Rattle.nd_addr.specs.Same.{same_addr, addrs_tell}
 use Rattle.nd_decode.specs.Pieces.{options_left}
 use Rattle.nd_table.specs.Listing.{fits}
@@ -7,19 +6,13 @@ use Rattle.nd_table.proofs.Behind.{fits_open}
 use Rattle.nd_table.proofs.UniqueKeys.{one_listing}
 use Rattle.nd_dns.specs.Dns.{Table}
 use Rattle.nd_dns.specs.AnnouncedServers.{servers_told}
-use Rattle.nd_dns.proofs.Few.{few_servers}
 use Rattle.nd_dns.proofs.dns.Dns.fits_servers.Goals as goal
-
-pub fits_all-requires-clause-bounded : goal.fits_all-requires-clause-bounded
-fits_all-requires-clause-bounded g c =
-    let few = few_servers c.args.options.rest.now in omega (arith, few, ap length c.new-told.ensures, c.ranges.options.0)
 
 pub returns-clause-by_history : goal.returns-clause-by_history
 returns-clause-by_history g c = λ history names es s le l.
     let now = c.args.now in
     let told = servers_told (options_left c.args.options) in
-    c.fits_all.ensures
-    ∙ (ap (λ (t : List (Addr × ℕ)). fits same_addr 32 now t c.deref.result.now) c.new-told.ensures
+    c.servers_fit.ensures
     ∙ (ap (λ xs. fits same_addr 32 now told xs) (c.deref.ensures.value ∙ ap (λ (h : Table). h.servers) c.self.view_is)
     ∙ (sym (fits_open same_addr addrs_tell 32 now told c.args.self.now.servers)
-    ∙ ap (λ xs. fits same_addr 32 now told xs) (one_listing same_addr addrs_tell history now _ _ (s.servers_stand.lists now le) l))))
+    ∙ ap (λ xs. fits same_addr 32 now told xs) (one_listing same_addr addrs_tell history now _ _ (s.servers_stand.lists now le) l)))

@@ -1,7 +1,11 @@
-use Rattle.std.proofs.Common.{sym, ◌∙◌}
+use Rattle.std.proofs.Common.{◌≡◌, true, sym, ◌∙◌}
 use Rattle.nd_decode.specs.Pieces.{options_left}
 use Rattle.nd_node.proofs.Filling.{advertisement_fills, at_neighbours, at_routers, at_prefixes, at_addresses, at_servers, at_names, at_none}
+use Rattle.nd_table.specs.Listing.{fits}
+use Rattle.nd_dns.specs.Dns.{max_names}
+use Rattle.nd_dns.specs.AnnouncedNames.{same_name, names_told}
 use Rattle.nd_node.proofs.node.Node.first_full.Goals as goal
+use Rattle.nd_node.proofs.node.Node.first_full.Goals.{else-not-known-via-then-not-known+else-not-fits_names, else-not-known-via-else-not-known}
 
 pub returns-then-not-place-clause-fills : goal.returns-then-not-place-clause-fills
 returns-then-not-place-clause-fills g c = λ start c' s le.
@@ -37,6 +41,10 @@ returns-then-not-fits_names-clause-fills g c = λ start c' s le.
 
 pub returns-clause-fills : goal.returns-clause-fills
 returns-clause-fills g c = λ start c' s le.
+    let names_fit : fits same_name max_names c.args.now (names_told (options_left c.args.options)) c.args.self.now.dns.names ≡ true = elim c.else-not-known.branch [
+      | else-not-known-via-then-not-known+else-not-fits_names w ↦ sym w.fits_names.ensures.value ∙ w.if-not-fits_names.false
+      | else-not-known-via-else-not-known w ↦ c.requires w.if-not-known.false
+    ] in
     advertisement_fills g.R.Rng.stream c.args.self.now c.args.now c.args.source c.args.ra.now (options_left c.args.options) c.args.place _
     (at_none g.R.Rng.stream c.args.self.now c.args.now c.args.source c.args.ra.now (options_left c.args.options) c.args.place c.if-not-place.false (sym c.fits.ensures.value ∙ c.if-not-fits.false) (sym c.fits-2.ensures.value ∙ c.if-not-fits-2.false) (sym c.fits-3.ensures.value ∙ c.if-not-fits-3.false)
-    (sym c.fits_servers.ensures.value ∙ c.if-not-fits_servers.false) (sym c.fits_names.ensures.value ∙ c.if-not-fits_names.false)) start c' s le
+    (sym c.fits_servers.ensures.value ∙ c.if-not-fits_servers.false) names_fit) start c' s le

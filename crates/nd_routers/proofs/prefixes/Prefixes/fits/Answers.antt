@@ -1,22 +1,17 @@
-use Rattle.std.proofs.Common.{◌∙◌, sym, ap, arith}
+use Rattle.std.proofs.Common.{◌∙◌, sym, ap}
 use Rattle.nd_addr.specs.Same.{same_prefix, prefixes_tell}
 use Rattle.nd_decode.specs.Pieces.{options_left}
 use Rattle.nd_table.specs.Listing.{fits}
 use Rattle.nd_table.proofs.Behind.{fits_open}
 use Rattle.nd_table.proofs.UniqueKeys.{one_listing}
 use Rattle.nd_routers.specs.OnLinkPrefixes.{max_prefixes, prefixes_in}
-use Rattle.nd_routers.proofs.Told.{told_few}
 use Rattle.nd_routers.proofs.prefixes.Prefixes.fits.Goals as goal
-
-pub fits_all-requires-clause-bounded : goal.fits_all-requires-clause-bounded
-fits_all-requires-clause-bounded g c =
-    let few = told_few c.args.options.rest.now in omega (arith, few, c.ranges.options.0)
 
 pub returns-clause-by_history : goal.returns-clause-by_history
 returns-clause-by_history g c = λ history es s le l.
     let now = c.args.now in
     let announced = prefixes_in (options_left c.args.options) in
-    c.fits_all.ensures
+    c.fits.ensures
     ∙ (ap (λ xs. fits same_prefix max_prefixes now announced xs) (c.deref.ensures.value ∙ c.self.view_is)
     ∙ (sym (fits_open same_prefix prefixes_tell max_prefixes now announced c.args.self.now)
     ∙ ap (λ xs. fits same_prefix max_prefixes now announced xs) (one_listing same_prefix prefixes_tell history now _ _ (s.lists now le) l)))
