@@ -78,6 +78,10 @@ impl<A: Allocator> Choice<A> {
     fn target(&self, destination: Addr) -> Option<Addr>
         ensures { option_map (λ a. number_of a.0) result ≡ target_in (number_of destination.0) self.now.redirects }
     {
+        // Mostly there is none, and a look-up has to make a hash.
+        if self.redirects.is_empty() {
+            return None;
+        }
         match self.redirects.peek(&destination.to_bits()) {
             Some(target) => target.addr(),
             None => None,

@@ -40,6 +40,22 @@ impl<R: Rng + Drop, A: Allocator + Clone> Node<R, A> {
         self.choice.next_hop(at, destination, &tables)
     }
 
+    /// Returns the next hop that a host chooses for `destination` at `now`, in milliseconds, up to which nothing is due. It is determined anew: what is
+    /// remembered is neither read nor changed. It takes no memory.
+    pub(crate) fn determined_hop(&self, now: u64, destination: Addr) -> Hop
+        requires settled { now < next_of self.now }
+        ensures { (start : Start) (c : Chronicle) → Stands R.stream start self.now c → last_moment start.at c ≤ now → IsNextHop c now destination (hop_of result) }
+    {
+        let tables = Tables {
+            now,
+            routers: &self.routers,
+            prefixes: &self.prefixes,
+            addresses: &self.addresses,
+            neighbours: &self.neighbours,
+        };
+        self.choice.determine(destination, &tables)
+    }
+
     /// Returns the next hop of this node's packet to `destination` at `now`, in milliseconds, up to which nothing is due: a host chooses from its
     /// tables, a router takes its longest route (RFC 4861, section 5.2).
     pub(crate) fn hop_of_packet(&mut self, now: u64, destination: Addr) -> Hop

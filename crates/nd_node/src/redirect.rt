@@ -43,7 +43,8 @@ impl<R: Rng + Drop, A: Allocator + Clone> Node<R, A> {
         ensures full { (limit : Table) (start : Start) (c : Chronicle) → Stands R.stream start self.old c → last_moment start.at c ≤ now → Fills start ((now, Passed) ∷ c) now source (record { body = bodies.Redirect redirect.now; options = options_left options.entry }) (bodies.Redirect redirect.now) (Some limit) → vec_len outs.old < vec_capacity outs.old → IsOk result }
         ensures misdirected { (start : Start) (c : Chronicle) → Stands R.stream start self.old c → last_moment start.at c ≤ now → NotFromFirstHop ((now, Passed) ∷ c) now source (bodies.Redirect redirect.now) → vec_len outs.old < vec_capacity outs.old → IsOk result }
     {
-        let hop = self.next_hop(now, redirect.destination);
+        // A Redirect that is taken forgets what is remembered.
+        let hop = self.determined_hop(now, redirect.destination);
         if !is_via(hop, source) {
             return self.drop_frame(now, Why::NotFirstHop, outs);
         }

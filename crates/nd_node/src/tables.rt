@@ -40,7 +40,6 @@ use nd_nexthop::{Hop, KeptRedirects};
 use nd_params::Params;
 use nd_routers::DefaultRouters;
 use nd_slaac::{Counted, OwnAddresses};
-use nd_steps::Tables;
 use rand_core::Rng;
 use std::alloc::Allocator;
 
@@ -147,16 +146,7 @@ impl<R: Rng + Drop, A: Allocator + Clone> Node<R, A> {
         ensures { (start : Start) (c : Chronicle) → Stands R.stream start self.now c → last_moment start.at c ≤ now → IsHopOf start.role c now destination (hop_of result) }
     {
         match self.role {
-            Role::Host => {
-                let tables = Tables {
-                    now,
-                    routers: &self.routers,
-                    prefixes: &self.prefixes,
-                    addresses: &self.addresses,
-                    neighbours: &self.neighbours,
-                };
-                self.choice.determine(destination, &tables)
-            }
+            Role::Host => self.determined_hop(now, destination),
             Role::Router => {
                 let is_own = self.addresses.counts(Counted::Own, destination);
                 self.router.routes.next_hop(destination, is_own)

@@ -1,13 +1,10 @@
 use Rattle.nd_nexthop.specs.NextHop.{hop_of}
-use Rattle.nd_chronicle.specs.Histories.{redirect_history}
-use Rattle.nd_node.proofs.NextHops.{hop_of_host, hop_of_router, next_hop_is}
+use Rattle.nd_node.proofs.NextHops.{hop_of_host, hop_of_router}
 use Rattle.nd_node.proofs.node.Node.next_hop_to.Goals as goal
 
 pub returns-in-Host : goal.returns-in-Host
 returns-in-Host g c = λ start c' s le.
-    let node = c.args.self.now in
-    hop_of_host node.role start.role s.role c.in-Host.is c' c.args.now c.args.destination (hop_of c.determine.result)
-    (next_hop_is g.R.Rng.stream start node c' c.args.now s le c.requires.settled c.args.destination (hop_of c.determine.result) (c.determine.ensures.by_history (redirect_history c') s.redirects))
+    hop_of_host c.args.self.now.role start.role s.role c.in-Host.is c' c.args.now c.args.destination (hop_of c.determined_hop.result) (c.determined_hop.ensures start c' s le)
 
 pub returns-in-Router : goal.returns-in-Router
 returns-in-Router g c = λ start c' s le.
