@@ -5,6 +5,7 @@ pub mod Quiet
 pub mod Turns
 pub mod Beginning
 pub mod Walks
+pub mod Reporting
 pub mod Steps
 pub mod Rows
 pub mod Beside

@@ -40,8 +40,8 @@ impl<R: Rng + Drop, A: Allocator + Clone> Node<R, A> {
             Role::Host => return self.refuse(now, Refusal::WrongRole, outs),
             Role::Router => {}
         }
-        self.last = now;
         self.router.advertiser.begin(now, config);
+        self.advance_to(now);
         Ok(())
     }
 
@@ -65,7 +65,7 @@ impl<R: Rng + Drop, A: Allocator + Clone> Node<R, A> {
         }
         match self.router.advertiser.put(offer) {
             Ok(()) => {
-                self.last = now;
+                self.advance_to(now);
                 Ok(())
             }
             Err(_) => self.refuse(now, Refusal::Full(Limit::Offers), outs),
@@ -94,8 +94,9 @@ impl<R: Rng + Drop, A: Allocator + Clone> Node<R, A> {
         let alloc = outs.allocator().clone()?;
         let last = self.router.last_advertisement(alloc, self.mac, own)?;
         outs.reserve(1)?;
-        self.last = now;
-        if self.router.advertiser.stop(now) {
+        let stopped = self.router.advertiser.stop(now);
+        self.advance_to(now);
+        if stopped {
             tell_advertisement(outs, now, last);
         }
         Ok(())

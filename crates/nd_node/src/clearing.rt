@@ -45,8 +45,8 @@ impl<R: Rng + Drop, A: Allocator + Clone> Node<R, A> {
         outs.reserve(waiting)?;
         let packets = self.neighbours.clear()?;
         self.choice.changed();
-        self.last = now;
         tell_packets(outs, now, packets);
+        self.advance_to(now);
         Ok(())
     }
 
@@ -66,8 +66,8 @@ impl<R: Rng + Drop, A: Allocator + Clone> Node<R, A> {
         outs.reserve(count)?;
         let routers = self.routers.clear()?;
         self.choice.clear();
-        self.last = now;
         tell_routers(outs, now, &routers);
+        self.advance_to(now);
         Ok(())
     }
 
@@ -87,25 +87,17 @@ impl<R: Rng + Drop, A: Allocator + Clone> Node<R, A> {
         ensures quiet { TellsNothing (clearable_of table) → IsOk result }
     {
         match table {
-            Clearable::Neighbours => self.clear_neighbours(now, outs),
-            Clearable::Routers => self.clear_routers(now, outs),
+            Clearable::Neighbours => return self.clear_neighbours(now, outs),
+            Clearable::Routers => return self.clear_routers(now, outs),
             Clearable::Prefixes => {
                 self.prefixes.clear();
                 self.choice.changed();
                 self.choice.until(None);
-                self.last = now;
-                Ok(())
             }
-            Clearable::Redirects => {
-                self.choice.clear();
-                self.last = now;
-                Ok(())
-            }
-            Clearable::Dns => {
-                self.dns.clear();
-                self.last = now;
-                Ok(())
-            }
+            Clearable::Redirects => self.choice.clear(),
+            Clearable::Dns => self.dns.clear(),
         }
+        self.advance_to(now);
+        Ok(())
     }
 }

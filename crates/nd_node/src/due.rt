@@ -59,7 +59,19 @@ impl<R: Rng + Drop, A: Allocator + Clone> Node<R, A> {
         ensures stands { (start : Start) (c : Chronicle) → Stands R.stream start self.old c → Stands R.stream start self.new (comes start now (what_of result) c) }
         ensures fewer { (end : ℕ) → now ≤ end → turns_left end self.new < turns_left end self.old }
     {
-        self.last = now;
+        let turned = self.do_first_due(now);
+        self.advance_to(now);
+        turned
+    }
+
+    /// Does what `take_turn` does, but leaves the clock.
+    fn do_first_due(&mut self, now: u64) -> Turned<A>
+        requires moment { IsMoment now }
+        requires due { now ≡ next_of self.old }
+        ensures due { (start : Start) (c : Chronicle) → Stands R.stream start self.old c → Due start c now (Some (what_of result)) }
+        ensures stands { (start : Start) (c : Chronicle) → Stands R.stream start self.old c → Stands R.stream start (record self.new { last = now }) (comes start now (what_of result) c) }
+        ensures fewer { (end : ℕ) → now ≤ end → turns_left end self.new < turns_left end self.old }
+    {
         match self.routers.turn(now) {
             Some(addr) => {
                 // "all entries in the Destination Cache that use that router" go with it (RFC 4861, section 6.3.5).

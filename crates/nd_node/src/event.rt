@@ -192,9 +192,7 @@ impl<R: Rng + Drop, A: Allocator + Clone> Node<R, A> {
             Event::Clears(table) => self.clear(now, *table, outs),
             Event::Shows(table) => {
                 let rows = self.rows(outs.allocator(), now, *table)?;
-                outs.push((now, Out::Shown(rows)))?;
-                self.last = now;
-                Ok(())
+                self.report(now, Out::Shown(rows), outs)
             }
             Event::Advertises(config) => self.advertise(now, *config, outs),
             Event::Offers(offer) => self.offer(now, *offer, outs),

@@ -151,8 +151,8 @@ impl<R: Rng + Drop, A: Allocator + Clone> Node<R, A> {
         )?;
         let frame = frame_sent_on(alloc, self.mac, packet)?;
         let (first, second) = ready_for_two(&mut self.neighbours, outs)?;
-        self.last = now;
         self.router.routes.redirected(now);
+        self.advance_to(now);
         self.go(now, source, redirect, Some(first), outs);
         self.go(now, hop, frame, Some(second), outs);
         Ok(())

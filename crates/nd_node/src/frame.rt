@@ -55,9 +55,7 @@ impl<R: Rng + Drop, A: Allocator + Clone> Node<R, A> {
         }
         let mut up = Vec::new(outs.allocator().clone()?);
         up.extend_from_slice(packet_in(frame, packet.payload.len()))?;
-        outs.push((now, Out::Up(up)))?;
-        self.last = now;
-        Ok(())
+        self.report(now, Out::Up(up), outs)
     }
 
     /// Handles a valid message if it is for this node.

@@ -47,6 +47,7 @@
 
 mod advertising;
 mod clearing;
+mod clock;
 mod counts;
 mod due;
 mod event;

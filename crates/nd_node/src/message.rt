@@ -49,6 +49,26 @@ pub(crate) fn push_heard<A: Allocator>(
 impl<R: Rng + Drop, A: Allocator + Clone> Node<R, A> {
     ghost use Rattle.nd_node.specs.Node.{Stands, next_of};
 
+    /// Reports a valid message for this node, at `now` in milliseconds, into room that was made before, and advances the clock: the message can no
+    /// longer fail. The caller applies what it says.
+    pub(crate) fn report_heard(
+        &mut self,
+        now: u64,
+        source: Addr,
+        destination: Addr,
+        body: Body,
+        outs: &mut Vec<(u64, Out<A>), A>,
+    )
+        requires { vec_len outs.old < vec_capacity outs.old }
+        ensures clock { self.new ≡ record self.old { last = now } }
+        ensures items { outs.new.items ≡ outs.old.items ++ (now, reports.Heard source destination body) ∷ [] }
+        ensures len { vec_len outs.new ≡ vec_len outs.old + 1 }
+        ensures capacity { vec_capacity outs.new ≡ vec_capacity outs.old }
+    {
+        self.advance_to(now);
+        push_heard(outs, now, source, destination, body);
+    }
+
     /// Reports at `now`, in milliseconds, that a frame is dropped, with the reason `why`. Returns an error if out of memory; nothing has changed
     /// then.
     pub(crate) fn drop_frame(
@@ -65,9 +85,7 @@ impl<R: Rng + Drop, A: Allocator + Clone> Node<R, A> {
         // If the list has room for the report it succeeds, even if no memory is left.
         ensures quiet { vec_len outs.old < vec_capacity outs.old → IsOk result }
     {
-        outs.push((now, Out::Dropped(why)))?;
-        self.last = now;
-        Ok(())
+        self.report(now, Out::Dropped(why), outs)
     }
 
     /// Handles a valid message for this node at `now`, in milliseconds (RFC 4861, sections 6.2.6, 6.3.4, 7.2.3, 7.2.5 and 8.3). Returns an error if

@@ -9,7 +9,7 @@ ghost use Rattle.nd_chronicle.specs.Happening.{Chronicle, Limit as Table, Passed
 ghost use Rattle.nd_chronicle.specs.Start.{Start};
 ghost use Rattle.nd_node.specs.Hearing.{AddsMessage};
 
-use crate::message::{MOST_ROWS, push_heard};
+use crate::message::MOST_ROWS;
 use crate::node::Node;
 use nd_addr::Addr;
 use nd_decode::{Body, NeighborAdvertisement, Options};
@@ -48,8 +48,7 @@ impl<R: Rng + Drop, A: Allocator + Clone> Node<R, A> {
         let body = Body::Na(*na);
         let news = news_of(source, &body, options);
         outs.reserve(MAX_WAITING + MOST_ROWS)?;
-        self.last = now;
-        push_heard(outs, now, source, destination, body);
+        self.report_heard(now, source, destination, body, outs);
         // RFC 4862, section 5.4.4: an advertisement for a tentative address shows that this address is not unique.
         hear_holder(&mut self.addresses, &mut self.choice, now, na.target, outs);
         // RFC 4861, section 7.2.5: the entry of the target, and the packets that waited for its link-layer address.

@@ -15,7 +15,7 @@ ghost use Rattle.nd_chronicle.specs.Happening.{Chronicle, Limit as Table, Passed
 ghost use Rattle.nd_chronicle.specs.Start.{Start};
 ghost use Rattle.nd_node.specs.Hearing.{AddsMessage, Keeps};
 
-use crate::message::{MOST_ROWS, push_heard};
+use crate::message::MOST_ROWS;
 use crate::node::Node;
 use nd_addr::{Addr, Role};
 use nd_compose::FrameRoom;
@@ -86,9 +86,8 @@ impl<R: Rng + Drop, A: Allocator + Clone> Node<R, A> {
         nd_slaac::laws::none_overdue();
         let room = FrameRoom::new(outs.allocator().clone()?)?;
         outs.reserve(MOST_ROWS)?;
-        self.last = now;
         let body = Body::Ns(*ns);
-        push_heard(outs, now, source, destination, body);
+        self.report_heard(now, source, destination, body, outs);
         // RFC 4862, section 5.4.3: the target is tentative, and another node tries it, too.
         if hear_conflict(&mut self.addresses, &mut self.choice, ns.target) {
             outs.push_reserved((now, Out::Duplicate(ns.target)));
@@ -131,8 +130,7 @@ impl<R: Rng + Drop, A: Allocator + Clone> Node<R, A> {
         let body = Body::Ns(*ns);
         let news = news_of(source, &body, options);
         let room = make_room(&mut self.neighbours, now, source, news, outs)?;
-        self.last = now;
-        push_heard(outs, now, source, destination, body);
+        self.report_heard(now, source, destination, body, outs);
         let times = times_in_force(&self.params);
         // RFC 4861, section 7.2.3: the asker's link-layer address.
         hear_of_neighbour(

@@ -67,9 +67,7 @@ impl<R: Rng + Drop, A: Allocator + Clone> Node<R, A> {
         ensures keeps { OnErr result (Keeps self.old self.new) }
         ensures told { OnErr result (outs.new.items ≡ outs.old.items) }
     {
-        outs.push((now, Out::Lost(why, packet)))?;
-        self.last = now;
-        Ok(())
+        self.report(now, Out::Lost(why, packet), outs)
     }
 
     /// Sends a packet whose Ethernet destination is known (RFC 2464, section 7). Returns an error if out of memory; nothing has changed then.
@@ -84,9 +82,7 @@ impl<R: Rng + Drop, A: Allocator + Clone> Node<R, A> {
         ensures keeps { OnErr result (Keeps self.old self.new) }
         ensures told { OnErr result (outs.new.items ≡ outs.old.items) }
     {
-        outs.push((now, Out::Frame(packet)))?;
-        self.last = now;
-        Ok(())
+        self.report(now, Out::Frame(packet), outs)
     }
 
     /// Refuses a packet to a neighbour for which there is no room. Returns an error if out of memory; nothing has changed then.
@@ -126,7 +122,7 @@ impl<R: Rng + Drop, A: Allocator + Clone> Node<R, A> {
         nd_neighbour::laws::room_is_place();
         nd_neighbour::laws::full_by_history();
         let solicitation = ready_for(&mut self.neighbours, now, to, outs)?;
-        self.last = now;
+        self.advance_to(now);
         self.go(now, to, packet, solicitation, outs);
         Ok(())
     }

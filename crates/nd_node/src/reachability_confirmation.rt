@@ -25,6 +25,6 @@ impl<R: Rng + Drop, A: Allocator + Clone> Node<R, A> {
         nd_neighbour::laws::none_overdue();
         let times = times_in_force(&self.params);
         self.neighbours.confirmed(now, neighbour, times.reachable);
-        self.last = now;
+        self.advance_to(now);
     }
 }

@@ -11,7 +11,7 @@ ghost use Rattle.nd_chronicle.specs.Hearing.{NotFromFirstHop};
 ghost use Rattle.nd_node.specs.Frame.{AddsJudged, Stays};
 ghost use Rattle.nd_node.specs.Hearing.{AddsMessage};
 
-use crate::message::{MOST_ROWS, push_heard};
+use crate::message::MOST_ROWS;
 use crate::node::Node;
 use nd_addr::{Addr, Why};
 use nd_decode::{Body, Options, Redirect};
@@ -81,8 +81,7 @@ impl<R: Rng + Drop, A: Allocator + Clone> Node<R, A> {
         // Section 8.3: the Destination Cache: "so that subsequent traffic will go to the specified target".
         self.choice
             .redirected(redirect.destination, redirect.target)?;
-        self.last = now;
-        push_heard(outs, now, source, destination, body);
+        self.report_heard(now, source, destination, body, outs);
         let times = times_in_force(&self.params);
         // Section 8.3: the target's link-layer address, and that it is a router if it is not the destination.
         hear_of_neighbour(

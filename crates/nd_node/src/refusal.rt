@@ -29,8 +29,6 @@ impl<R: Rng + Drop, A: Allocator + Clone> Node<R, A> {
         // If the list has room for the report it succeeds, even if no memory is left.
         ensures ready { vec_len outs.old < vec_capacity outs.old → IsOk result }
     {
-        outs.push((now, Out::Refused(refusal)))?;
-        self.last = now;
-        Ok(())
+        self.report(now, Out::Refused(refusal), outs)
     }
 }

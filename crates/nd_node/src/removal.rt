@@ -36,10 +36,10 @@ impl<R: Rng + Drop, A: Allocator + Clone> Node<R, A> {
         nd_neighbour::laws::none_overdue();
         let waiting = self.neighbours.waiting_at(neighbour);
         outs.reserve(waiting)?;
-        self.last = now;
         let packets = self.neighbours.forget(neighbour);
         self.choice.changed();
         tell_lost(outs, now, Loss::Forgotten, packets);
+        self.advance_to(now);
         Ok(())
     }
 }

@@ -51,8 +51,8 @@ struct Advertisement<'a> {
 impl<R: Rng + Drop, A: Allocator + Clone> Node<R, A> {
     ghost use Rattle.nd_node.specs.Node.{Stands, next_of};
 
-    /// Applies a Router Advertisement for which there is room in all tables. The caller passes its news of the sender and the search names that it
-    /// adds. It takes no memory.
+    /// Applies a Router Advertisement for which there is room in all tables, and advances the clock. The caller passes its news of the sender and the
+    /// search names that it adds. It takes no memory.
     fn take_router_advertisement(
         &mut self,
         now: u64,
@@ -73,7 +73,6 @@ impl<R: Rng + Drop, A: Allocator + Clone> Node<R, A> {
         one_is_pushed_out();
         nd_neighbour::laws::none_overdue();
         nd_slaac::laws::none_overdue();
-        self.last = now;
         let own = none_forms(&self.addresses, heard.options);
         // RFC 4861, section 6.3.4: "If the received Cur Hop Limit value is non-zero, the host SHOULD set its CurHopLimit variable to the received
         // value", and so for Reachable Time, Retrans Timer and the MTU option.
@@ -126,6 +125,7 @@ impl<R: Rng + Drop, A: Allocator + Clone> Node<R, A> {
         // RFC 8106, sections 5 and 6: servers and search names.
         hear_dns(&mut self.dns, now, heard.options, names);
         keep_until_a_prefix_ends(&mut self.choice, &self.prefixes, now, own);
+        self.advance_to(now);
     }
 
     /// Handles a Router Advertisement at `now`, in milliseconds, up to which nothing is due (RFC 4861, section 6.3.4; RFC 4862, section 5.5.3; RFC

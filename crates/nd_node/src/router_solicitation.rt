@@ -9,7 +9,7 @@ ghost use Rattle.nd_chronicle.specs.Happening.{Chronicle, Limit as Table, Passed
 ghost use Rattle.nd_chronicle.specs.Start.{Start};
 ghost use Rattle.nd_node.specs.Hearing.{AddsMessage};
 
-use crate::message::{MOST_ROWS, push_heard};
+use crate::message::MOST_ROWS;
 use crate::node::Node;
 use nd_addr::Addr;
 use nd_decode::{Body, Options};
@@ -48,8 +48,7 @@ impl<R: Rng + Drop, A: Allocator + Clone> Node<R, A> {
             return self.refuse(now, Refusal::Full(Limit::Neighbours), outs);
         }
         outs.reserve(MAX_WAITING + MOST_ROWS)?;
-        self.last = now;
-        push_heard(outs, now, source, destination, body);
+        self.report_heard(now, source, destination, body, outs);
         let times = times_in_force(&self.params);
         // Section 6.2.6: the sender's link-layer address, "the Neighbor Cache entry's IsRouter flag MUST be set to FALSE".
         hear_of_neighbour(

@@ -39,7 +39,7 @@ impl<R: Rng + Drop, A: Allocator + Clone> Node<R, A> {
         }
         match self.router.routes.put(kept.prefix, kept.route) {
             Ok(()) => {
-                self.last = now;
+                self.advance_to(now);
                 Ok(())
             }
             Err(_) => self.refuse(now, Refusal::Full(Limit::StaticRoutes), outs),

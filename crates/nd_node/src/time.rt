@@ -1,9 +1,7 @@
-//! Lets time pass at a node.
+//! Does what is due at a node as time passes.
 
-ghost use Rattle.std.specs.Prelude.{◌≡◌, ◌∷◌, ℕ, ◌<◌, ◌≤◌, Ok, OnOk, OnErr};
+ghost use Rattle.std.specs.Prelude.{◌≡◌, ℕ, ◌<◌, ◌≤◌, Ok, OnOk, OnErr};
 ghost use Rattle.nd_table.specs.Moment.{IsMoment};
-ghost use Rattle.nd_chronicle.specs.Happening.{Chronicle, Passed, last_moment};
-ghost use Rattle.nd_chronicle.specs.Start.{Start};
 ghost use Rattle.nd_node.specs.Time.{Leads, Comes, Passes, Onward};
 
 use crate::node::Node;
@@ -15,7 +13,7 @@ use rand_core::Rng;
 use std::alloc::{AllocError, Allocator};
 
 impl<R: Rng + Drop, A: Allocator + Clone> Node<R, A> {
-    ghost use Rattle.nd_node.specs.Node.{Stands, next_of, turns_left};
+    ghost use Rattle.nd_node.specs.Node.{next_of, turns_left};
 
     /// Does the first thing that is due at `now`, in milliseconds, and reports it; the caller passes the moment that `next_due` returns. The order
     /// is: ends of routers, ends of own addresses, duplicate address detection, neighbours, Router Solicitations, Router Advertisements, a redraw
@@ -57,18 +55,6 @@ impl<R: Rng + Drop, A: Allocator + Clone> Node<R, A> {
                 return Ok(());
             }
             self.turn(next, outs)?;
-        }
-    }
-
-    /// Lets time pass up to `now`, in milliseconds, before which nothing is due. If `now` is in the past, nothing changes. It takes no memory.
-    pub fn pass(&mut self, now: u64)
-        requires settled { now < next_of self.old }
-        ensures passes { (start : Start) (c : Chronicle) → Stands R.stream start self.old c → last_moment start.at c ≤ now → Stands R.stream start self.new ((now, Passed) ∷ c) }
-        ensures moves { self.old.last ≤ now → self.new ≡ record self.old { last = now } }
-        ensures past { now ≤ self.old.last → self.new ≡ self.old }
-    {
-        if self.last < now {
-            self.last = now;
         }
     }
 }

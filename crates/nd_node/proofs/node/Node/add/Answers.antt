@@ -2,6 +2,7 @@ use Rattle.std.proofs.Common.{refl, map, string_bytes, ℕ, List, sym, subst}
 use Rattle.std.proofs.lemmas.Result.{on_err_weaker, on_ok_weaker}
 use Rattle.nd_node.specs.Event.{event_of, table_of, clearable_of}
 use Rattle.nd_node.proofs.Judging.{stays_same}
+use Rattle.nd_node.proofs.Reporting.{on_ok_both}
 use Rattle.nd_node.proofs.Steps.{not_past, passing, showing}
 use Rattle.nd_node.proofs.Refusals.{clears_left, forgets_left}
 use Rattle.nd_chronicle.specs.Event as events
@@ -12,9 +13,13 @@ use Rattle.nd_node.proofs.node.Node.add.Goals as goal
 pub returns-in-Passes-clause-adds : goal.returns-in-Passes-clause-adds
 returns-in-Passes-clause-adds g c = rw c.in-Passes.is (passing g.R.Rng.stream c.args.self.now c.pass.new.self c.args.outs.now.items c.args.now c.requires.settled (c.pass.ensures.moves c.if-now-self.false))
 
-pub returns-in_ok-push-in-Shows-clause-adds : goal.returns-in_ok-push-in-Shows-clause-adds
-returns-in_ok-push-in-Shows-clause-adds g c =
-    rw c.in-Shows.is (showing g.R.Rng.stream c.args.self.now _ c.args.outs.now.items c.push.new.self.items c.args.now (table_of c.in-Shows.table) (map string_bytes c.in_ok-rows-in-Shows.rows.items) _ refl c.in_ok-rows-in-Shows.ensures c.requires.settled refl c.in_ok-push-in-Shows.ensures.items)
+pub returns-in_ok-rows-in-Shows-clause-adds : goal.returns-in_ok-rows-in-Shows-clause-adds
+returns-in_ok-rows-in-Shows-clause-adds g c =
+    rw c.in-Shows.is (on_ok_both c.report.result c.report.ensures.clock c.report.ensures.items
+    (λ clock items. showing g.R.Rng.stream c.args.self.now c.report.new.self c.args.outs.now.items c.report.new.outs.items c.args.now (table_of c.in-Shows.table) (map string_bytes c.in_ok-rows-in-Shows.rows.items) _ refl c.in_ok-rows-in-Shows.ensures c.requires.settled clock items))
+
+pub returns-in_ok-rows-in-Shows-clause-stays : goal.returns-in_ok-rows-in-Shows-clause-stays
+returns-in_ok-rows-in-Shows-clause-stays g c = on_err_weaker c.report.result (stays_same g.R.Rng.stream c.args.self.now c.report.new.self) c.report.ensures.keeps
 
 pub returns-in-Forgets-clause-stays : goal.returns-in-Forgets-clause-stays
 returns-in-Forgets-clause-stays g c = on_err_weaker c.forget.result (stays_same g.R.Rng.stream c.args.self.now c.forget.new.self) c.forget.ensures.keeps

@@ -8,6 +8,6 @@ use Rattle.nd_node.proofs.node.Node.confirm.Goals as goal
 
 pub returns : goal.returns
 returns g c =
-    confirms g.R.Rng.stream c.args.self.now _ c.args.now c.args.neighbour c.requires.settled c.none_overdue.ensures.still c.none_overdue.ensures.table
+    rw c.advance_to.ensures (confirms g.R.Rng.stream c.args.self.now _ c.args.now c.args.neighbour c.requires.settled c.none_overdue.ensures.still c.none_overdue.ensures.table
     (record { role = refl; mac = refl; generator = refl; last = refl; params = refl; routers = refl; prefixes = refl; dns = refl; redirects = refl; solicitations = refl; router = refl; address_mac = refl; address_transmits = refl; neighbour_limit = c.confirmed.ensures.limit })
-    refl (Keeps refl (gains_as_resolved c.args.now (number_of c.args.neighbour.0) (Confirmed c.times_in_force-times.result.reachable) c.args.self.now.neighbours.entries c.confirmed.new.self.entries refl (λ s. refl) c.confirmed.ensures.stands)) c.times_in_force-times.result.reachable c.times_in_force-times.ensures.reachable c.confirmed.ensures.stands
+    refl (Keeps refl (gains_as_resolved c.args.now (number_of c.args.neighbour.0) (Confirmed c.times_in_force-times.result.reachable) c.args.self.now.neighbours.entries c.confirmed.new.self.entries refl (λ s. refl) c.confirmed.ensures.stands)) c.times_in_force-times.result.reachable c.times_in_force-times.ensures.reachable c.confirmed.ensures.stands)

@@ -23,25 +23,27 @@ pub hear_of_neighbour-requires-clause-place : goal.hear_of_neighbour-requires-cl
 hear_of_neighbour-requires-clause-place g c =
     let times : Times = c.times_in_force-times.result in
     let of = of_asker times c.args.source c.args.ns.now (options_left c.args.options) c.news_of-news.result (c.news_of-news.ensures times) in
-    rw (c.make_room.ensures.limit, c.make_room.ensures.entries) (place_for_news c.room_is_place.ensures c.args.self.now.neighbours.limit c.args.now (number_of c.args.source.0) c.args.self.now.neighbours.entries c.news_of-news.result of (sym c.if-not-room.ensures.value))
+    rw (c.report_heard.ensures.clock, c.make_room.ensures.limit, c.make_room.ensures.entries) (place_for_news c.room_is_place.ensures c.args.self.now.neighbours.limit c.args.now (number_of c.args.source.0) c.args.self.now.neighbours.entries c.news_of-news.result of (sym c.if-not-room.ensures.value))
 
 pub returns-clause-adds : goal.returns-clause-adds
 returns-clause-adds g c =
     let times : Times = c.times_in_force-times.result in
+    let e = c.report_heard.ensures.clock in
     let heard = c.hear_of_neighbour in
-    let before = c.push_heard.new.outs.items in
+    let hears = rw e at c.hear_of_neighbour.ensures in
+    let before = c.report_heard.new.outs.items in
     let after = heard.new.outs.items in
     answered g.R.Rng.stream c.args.self.now (record c.args.self.now { last = c.args.now; neighbours = heard.new.neighbours; choice = heard.new.choice }) c.args.outs.now.items c.make_room.new.outs.items before after
     c.args.now c.args.source c.args.destination c.args.ns.now (options_left c.args.options) c.requires.settled times c.news_of-news.result heard.result _
     c.none_overdue.ensures.still c.none_overdue.ensures.table c.one_is_pushed_out.ensures
-    (record { role = refl; mac = refl; generator = refl; last = refl; params = refl; routers = refl; prefixes = refl; dns = refl; redirects = may_redirects c.args.self.now.choice heard.new.choice c.make_room.new.neighbours.entries heard.new.neighbours.entries heard.ensures.remembers; solicitations = refl; router = refl; address_mac = refl; address_transmits = refl; neighbour_limit = heard.ensures.limit ∙ c.make_room.ensures.limit })
-    refl (subst (λ (entries : List neighbour_entries.NeighbourEntry). MayRemember c.args.self.now.choice heard.new.choice entries heard.new.neighbours.entries) c.make_room.ensures.entries heard.ensures.remembers)
-    (c.news_of-news.ensures times) c.times_in_force-times.ensures.reachable
+    (record { role = refl; mac = refl; generator = refl; last = refl; params = refl; routers = refl; prefixes = refl; dns = refl; redirects = may_redirects c.args.self.now.choice heard.new.choice c.make_room.new.neighbours.entries heard.new.neighbours.entries hears.remembers; solicitations = refl; router = refl; address_mac = refl; address_transmits = refl; neighbour_limit = hears.limit ∙ c.make_room.ensures.limit })
+    refl (subst (λ (entries : List neighbour_entries.NeighbourEntry). MayRemember c.args.self.now.choice heard.new.choice entries heard.new.neighbours.entries) c.make_room.ensures.entries hears.remembers)
+    (c.news_of-news.ensures times) (rw e at c.times_in_force-times.ensures.reachable)
     (subst (λ (limit : ℕ). HearsOf limit c.args.now (option_map (said_by times) c.news_of-news.result) c.args.self.now.neighbours.entries heard.new.neighbours.entries before after heard.result) c.make_room.ensures.limit
-    (subst (λ (entries : List neighbour_entries.NeighbourEntry). HearsOf c.make_room.new.neighbours.limit c.args.now (option_map (said_by times) c.news_of-news.result) entries heard.new.neighbours.entries before after heard.result) c.make_room.ensures.entries heard.ensures.hears))
-    c.make_room.ensures.same c.push_heard.ensures.items refl
+    (subst (λ (entries : List neighbour_entries.NeighbourEntry). HearsOf c.make_room.new.neighbours.limit c.args.now (option_map (said_by times) c.news_of-news.result) entries heard.new.neighbours.entries before after heard.result) c.make_room.ensures.entries hears.hears))
+    c.make_room.ensures.same c.report_heard.ensures.items refl
     c.go.new.self c.go.new.outs.items c.requires.specified c.room_is_place.ensures c.full_by_history.ensures (sym c.if-not-room.ensures.value)
-    c.is_router-router.result c.is_router-router.ensures _ c.answer-answer.ensures c.go.ensures.leads
+    c.is_router-router.result (rw e at c.is_router-router.ensures) _ (rw e at c.answer-answer.ensures) (rw e at c.go.ensures.leads)
 
 pub returns-in_err-room-clause-full : goal.returns-in_err-room-clause-full
 returns-in_err-room-clause-full g c = λ limit start c' s le fills place.

@@ -4,6 +4,7 @@ use Rattle.nd_addr.specs.Ip6.{PacketParts, packet_parts, ipv6_header_length, pay
 use Rattle.nd_addr.specs.Places.{packet_in}
 use Rattle.nd_chronicle.specs.Happening.{Up, Passed}
 use Rattle.nd_chronicle.specs.Hearing.{IsPacketForUs}
+use Rattle.nd_node.proofs.Reporting.{on_ok_both}
 use Rattle.nd_node.proofs.Judging.{goes_up, in_transit_later, is_not, packet_goes_on, packet_goes_up, packet_is_strange, up_to_payload, stays_keeps, stays_same}
 use Rattle.nd_node.proofs.Memory.{packet_stays, passing_stays}
 use Rattle.nd_node.proofs.Refusals.{ours_left, passing_refused}
@@ -46,9 +47,13 @@ returns-clause-adds g c =
     c.in_ok-extend_from_slice.ensures.items ∙ (ap (λ (l : List ℕ). l ++ c.packet_in.result.now) c.new-up.ensures.items
     ∙ (c.packet_in.ensures ∙ (ap (λ (l : List ℕ). take (40 + length l) bytes) payload_is ∙ up_to_payload bytes (payload_length_of bytes)))) in
     let packet : List ℕ = take (ipv6_header_length + payload_length_of bytes) bytes in
-    packet_goes_up g.R.Rng.stream c.args.self.now _ c.args.outs.now.items c.push.new.self.items c.args.now c.args.frame.now
+    on_ok_both c.report.result c.report.ensures.clock c.report.ensures.items
+    (λ clock items'. packet_goes_up g.R.Rng.stream c.args.self.now c.report.new.self c.args.outs.now.items c.report.new.outs.items c.args.now c.args.frame.now
     (packet_parts c.args.packet) c.requires.by_frame c.is_packet_for_us.result (λ start c' s. c.is_packet_for_us.ensures start c' (packet_parts c.args.packet) s refl) c.if-not-is_packet_for_us.false
-    (goes_up g.R.Rng.stream c.args.self.now _ c.args.outs.now.items c.push.new.self.items c.args.now _ c.requires.settled refl c.in_ok-push.ensures.items packet (ap Up up_is))
+    (goes_up g.R.Rng.stream c.args.self.now c.report.new.self c.args.outs.now.items c.report.new.outs.items c.args.now _ c.requires.settled clock items' packet (ap Up up_is)))
+
+pub returns-clause-stays : goal.returns-clause-stays
+returns-clause-stays g c = on_err_weaker c.report.result (λ same. stays_same g.R.Rng.stream c.args.self.now c.report.new.self same) c.report.ensures.keeps
 
 pub returns-in_err-clone-clause-quiet : goal.returns-in_err-clone-clause-quiet
 returns-in_err-clone-clause-quiet g c = λ why start c' s le judged place.
@@ -57,11 +62,6 @@ returns-in_err-clone-clause-quiet g c = λ why start c' s le judged place.
 
 pub returns-in_err-extend_from_slice-clause-quiet : goal.returns-in_err-extend_from_slice-clause-quiet
 returns-in_err-extend_from_slice-clause-quiet g c = λ why start c' s le judged place.
-    let ours = (c.is_packet_for_us.ensures start c' (packet_parts c.args.packet) s refl).0 c.if-not-is_packet_for_us.false in
-    absurd (packet_stays start ((c.args.now, Passed) ∷ c') c.args.now (packet_parts c.args.packet) why (record { destination_is = ours.destination_is; up = ours.up }) judged)
-
-pub returns-in_err-push-clause-quiet : goal.returns-in_err-push-clause-quiet
-returns-in_err-push-clause-quiet g c = λ why start c' s le judged place.
     let ours = (c.is_packet_for_us.ensures start c' (packet_parts c.args.packet) s refl).0 c.if-not-is_packet_for_us.false in
     absurd (packet_stays start ((c.args.now, Passed) ∷ c') c.args.now (packet_parts c.args.packet) why (record { destination_is = ours.destination_is; up = ours.up }) judged)
 

@@ -21,16 +21,18 @@ returns-then-not-has_place-clause-adds g c =
 pub returns-clause-adds : goal.returns-clause-adds
 returns-clause-adds g c =
     let times : Times = c.times_in_force-times.result in
-    adds_message g.R.Rng.stream c.args.self.now c.args.now c.args.source c.args.destination (bodies.Redirect c.args.redirect.now) (options_left c.args.options) nothing (plain_redirect c.args.now c.args.source c.args.destination c.args.redirect.now (options_left c.args.options)) c.requires.settled times c.news_of-news.result
-    (c.news_of-news.ensures times) c.times_in_force-times.ensures.reachable (record c.args.self.now { last = c.args.now; neighbours = c.hear_of_neighbour.new.neighbours; choice = c.hear_of_neighbour.new.choice }) _ c.args.outs.now.items c.reserve.new.self.items c.push_heard.new.outs.items c.hear_of_neighbour.new.outs.items c.hear_of_neighbour.result _
+    let e = c.report_heard.ensures.clock in
+    let heard = rw e at c.hear_of_neighbour.ensures in
+    rw e (adds_message g.R.Rng.stream c.args.self.now c.args.now c.args.source c.args.destination (bodies.Redirect c.args.redirect.now) (options_left c.args.options) nothing (plain_redirect c.args.now c.args.source c.args.destination c.args.redirect.now (options_left c.args.options)) c.requires.settled times c.news_of-news.result
+    (c.news_of-news.ensures times) (rw e at c.times_in_force-times.ensures.reachable) (record c.args.self.now { last = c.args.now; neighbours = c.hear_of_neighbour.new.neighbours; choice = c.hear_of_neighbour.new.choice }) _ c.args.outs.now.items c.reserve.new.self.items c.report_heard.new.outs.items c.hear_of_neighbour.new.outs.items c.hear_of_neighbour.result _
     c.none_overdue.ensures.still c.none_overdue.ensures.table c.one_is_pushed_out.ensures
-    (record { role = refl; mac = refl; generator = refl; params = refl; prefixes = refl; dns = refl; solicitations = refl; router = refl; address_mac = refl; address_transmits = refl; neighbour_limit = c.hear_of_neighbour.ensures.limit; router_limit = refl; last = refl })
+    (record { role = refl; mac = refl; generator = refl; params = refl; prefixes = refl; dns = refl; solicitations = refl; router = refl; address_mac = refl; address_transmits = refl; neighbour_limit = heard.limit; router_limit = refl; last = refl })
     refl refl
     (λ start c' s le. forgets c.args.self.now (record c.args.self.now { last = c.args.now; neighbours = c.hear_of_neighbour.new.neighbours; choice = c.hear_of_neighbour.new.choice }) c.args.self.now.last c.args.now (omega (arith, s.last, le)) s.memo refl
-    (may_nothing c.redirected.new.self c.hear_of_neighbour.new.choice c.args.self.now.neighbours.entries c.hear_of_neighbour.new.neighbours.entries c.hear_of_neighbour.ensures.remembers (ap (λ m. m.hops) c.in_ok-redirected.ensures.memory))
-    (may_until c.redirected.new.self c.hear_of_neighbour.new.choice c.args.self.now.neighbours.entries c.hear_of_neighbour.new.neighbours.entries c.hear_of_neighbour.ensures.remembers ∙ ap (λ m. m.until) c.in_ok-redirected.ensures.memory))
+    (may_nothing c.redirected.new.self c.hear_of_neighbour.new.choice c.args.self.now.neighbours.entries c.hear_of_neighbour.new.neighbours.entries heard.remembers (ap (λ m. m.hops) c.in_ok-redirected.ensures.memory))
+    (may_until c.redirected.new.self c.hear_of_neighbour.new.choice c.args.self.now.neighbours.entries c.hear_of_neighbour.new.neighbours.entries heard.remembers ∙ ap (λ m. m.until) c.in_ok-redirected.ensures.memory))
     (λ start c' s. subst (λ (b : Bool). Placed start c' c.args.now (entering (option_map (said_by times) c.news_of-news.result)) b) c.if-not-has_place.false (c.has_place.ensures.placed start c' times s.neighbour_limit s.neighbours))
-    c.reserve.ensures.items c.push_heard.ensures.items refl (λ history h. redirects_stand c.redirected.new.self c.hear_of_neighbour.new.choice _ (may_redirects c.redirected.new.self c.hear_of_neighbour.new.choice c.args.self.now.neighbours.entries c.hear_of_neighbour.new.neighbours.entries c.hear_of_neighbour.ensures.remembers) ((c.in_ok-redirected.ensures.stands c.args.now).stands history h)) c.hear_of_neighbour.ensures.hears (λ start before d same at s. s) (λ start before d. refl)
+    c.reserve.ensures.items c.report_heard.ensures.items refl (λ history h. redirects_stand c.redirected.new.self c.hear_of_neighbour.new.choice _ (may_redirects c.redirected.new.self c.hear_of_neighbour.new.choice c.args.self.now.neighbours.entries c.hear_of_neighbour.new.neighbours.entries heard.remembers) ((c.in_ok-redirected.ensures.stands c.args.now).stands history h)) heard.hears (λ start before d same at s. s) (λ start before d. refl))
 
 pub returns-in_err-reserve-clause-full : goal.returns-in_err-reserve-clause-full
 returns-in_err-reserve-clause-full g c = λ limit start c' s le fills place.

@@ -15,24 +15,25 @@ returns-then-not-room-clause-adds g c =
     c.args.bytes.now c.args.bytes.now c.args.target c.room.result c.room.ensures.history c.if-not-room.true) c.refuse.ensures.adds
 
 pub go-requires-clause-ring : goal.go-requires-clause-ring
-go-requires-clause-ring g c = λ none.
-    let two : 2 ≤ c.ready_for_two.new.neighbours.rings = c.in_ok-first.ensures.rings in omega (arith, two)
+go-requires-clause-ring g c = rw c.advance_to.ensures (λ none.
+    let two : 2 ≤ c.ready_for_two.new.neighbours.rings = c.in_ok-first.ensures.rings in omega (arith, two))
 
 pub go-requires-clause-place : goal.go-requires-clause-place
 go-requires-clause-place g c =
-    rw (c.ready_for_two.ensures.limit, c.ready_for_two.ensures.entries)
+    rw (c.advance_to.ensures, c.ready_for_two.ensures.limit, c.ready_for_two.ensures.entries)
     (first_placed c.args.self.now.neighbours.limit c.args.now (number_of c.args.packet.now.header.source.0) (number_of c.args.hop.0) c.args.self.now.neighbours.entries (sym c.if-not-room.ensures.value))
 
 pub go-requires-2-clause-place : goal.go-requires-2-clause-place
 go-requires-2-clause-place g c =
-    rw c.go.ensures.limit (place_left c.ready_for_two.new.neighbours.limit c.args.now (number_of c.args.packet.now.header.source.0) (number_of c.args.hop.0) c.ready_for_two.new.neighbours.entries c.go.new.self.neighbours.entries c.go.ensures.leaves
+    let limit = rw c.advance_to.ensures at c.go.ensures.limit in
+    rw limit (place_left c.ready_for_two.new.neighbours.limit c.args.now (number_of c.args.packet.now.header.source.0) (number_of c.args.hop.0) c.ready_for_two.new.neighbours.entries c.go.new.self.neighbours.entries (rw c.advance_to.ensures at c.go.ensures.leaves)
     (subst (λ (limit : ℕ). has_room limit c.args.now (number_of c.args.packet.now.header.source.0) (Some (number_of c.args.hop.0)) c.ready_for_two.new.neighbours.entries ≡ true) (sym (c.ready_for_two.ensures.limit))
     (subst (λ (entries : List NeighbourEntry). has_room c.args.self.now.neighbours.limit c.args.now (number_of c.args.packet.now.header.source.0) (Some (number_of c.args.hop.0)) entries ≡ true) (sym (c.ready_for_two.ensures.entries))
     (sym c.if-not-room.ensures.value))))
 
 pub go-requires-2-clause-ring : goal.go-requires-2-clause-ring
 go-requires-2-clause-ring g c = λ none.
-    one_left _ c.ready_for_two.new.neighbours.rings c.go.new.self.neighbours.rings c.in_ok-first.ensures.rings c.go.ensures.rings
+    one_left _ c.ready_for_two.new.neighbours.rings c.go.new.self.neighbours.rings c.in_ok-first.ensures.rings (rw c.advance_to.ensures at c.go.ensures.rings)
 
 pub returns-clause-adds : goal.returns-clause-adds
 returns-clause-adds g c =
@@ -45,7 +46,7 @@ returns-clause-adds g c =
     (record { role = refl; mac = refl; generator = refl; last = refl; params = refl; routers = refl; prefixes = refl; addresses = refl; entries = c.ready_for_two.ensures.entries; limit = c.ready_for_two.ensures.limit; dns = refl; choice = refl; solicitations = refl; router = refl })
     c.ready_for_two.ensures.same
     (record c.args.self.now.router { routes = c.redirected.new.self }) refl refl c.redirected.ensures.stands
-    c.link_local-own.ensures c.in_ok-redirect.ensures.by_history c.in_ok-frame.ensures c.go.ensures.leads c.go-2.ensures.leads
+    c.link_local-own.ensures c.in_ok-redirect.ensures.by_history c.in_ok-frame.ensures (rw c.advance_to.ensures at c.go.ensures.leads) c.go-2.ensures.leads
 
 pub returns-in_err-redirect-clause-refused : goal.returns-in_err-redirect-clause-refused
 returns-in_err-redirect-clause-refused g c = λ came start c' s adds place.
