@@ -72,30 +72,21 @@ impl<R: Rng + Drop, A: Allocator + Clone> Node<R, A> {
         ensures stands { (start : Start) (c : Chronicle) → Stands R.stream start self.old c → Stands R.stream start (record self.new { last = now }) (comes start now (what_of result) c) }
         ensures fewer { (end : ℕ) → now ≤ end → turns_left end self.new < turns_left end self.old }
     {
-        match self.routers.turn(now) {
-            Some(addr) => {
-                // "all entries in the Destination Cache that use that router" go with it (RFC 4861, section 6.3.5).
-                self.choice.target_gone(addr);
-                return Turned::EndedRouter(addr);
-            }
-            None => {}
+        if let Some(addr) = self.routers.turn(now) {
+            // "all entries in the Destination Cache that use that router" go with it (RFC 4861, section 6.3.5).
+            self.choice.target_gone(addr);
+            return Turned::EndedRouter(addr);
         }
-        match self.addresses.turn(now) {
-            Some(due) => {
-                forget_if_ended(&mut self.choice, due);
-                let own = self.addresses.link_local();
-                note_address(&mut self.solicitations, own, now, due);
-                self.router.note_address(own, now, due);
-                return Turned::Address(due);
-            }
-            None => {}
+        if let Some(due) = self.addresses.turn(now) {
+            forget_if_ended(&mut self.choice, due);
+            let own = self.addresses.link_local();
+            note_address(&mut self.solicitations, own, now, due);
+            self.router.note_address(own, now, due);
+            return Turned::Address(due);
         }
-        match self.neighbours.turn(now) {
-            Some(due) => {
-                note_failure(&mut self.routers, &mut self.choice, &due);
-                return Turned::Neighbour(due);
-            }
-            None => {}
+        if let Some(due) = self.neighbours.turn(now) {
+            note_failure(&mut self.routers, &mut self.choice, &due);
+            return Turned::Neighbour(due);
         }
         if self.solicitations.turn(self.role, now) {
             return Turned::SolicitedRouters;

@@ -24,15 +24,15 @@ returns-in-Some-clause-stands g c = λ start c' s.
 
 pub returns-in-Some-turn-clause-due : goal.returns-in-Some-turn-clause-due
 returns-in-Some-turn-clause-due g c = λ start c' s. (
-  c.in-None.ensures.due (router_history c') s.routers,
+  c.in_default.ensures.due (router_history c') s.routers,
   subst (λ (n : ℕ). FirstDue n (address_history c') c.args.now (Some (addresses.falls_of c.in-Some-turn.due))) s.address_transmits (c.in-Some-turn.ensures.due (address_history c') s.addresses),
 )
 
 pub returns-in-Some-turn-clause-stands : goal.returns-in-Some-turn-clause-stands
 returns-in-Some-turn-clause-stands g c = λ start c' s.
     address_fell g.R.Rng.stream start c.args.self.now _ c' c.args.now s c.requires.due
-    (record { role = refl; mac = refl; prefixes = refl; dns = refl; address_mac = c.in-Some-turn.ensures.mac; address_transmits = c.in-Some-turn.ensures.transmits; neighbour_limit = refl; router_limit = c.in-None.ensures.limit; last = refl })
-    (addresses.falls_of c.in-Some-turn.due) c.in-None.ensures.same c.forget_if_ended.ensures c.in-Some-turn.ensures.gains c.in-Some-turn.ensures.later refl refl
+    (record { role = refl; mac = refl; prefixes = refl; dns = refl; address_mac = c.in-Some-turn.ensures.mac; address_transmits = c.in-Some-turn.ensures.transmits; neighbour_limit = refl; router_limit = c.in_default.ensures.limit; last = refl })
+    (addresses.falls_of c.in-Some-turn.due) c.in_default.ensures.same c.forget_if_ended.ensures c.in-Some-turn.ensures.gains c.in-Some-turn.ensures.later refl refl
     (c.note_address.ensures ∙ ap (λ (k : ℕ). after_address k c.args.now (addresses.falls_of c.in-Some-turn.due) c.args.self.now.solicitations)
     (c.link_local-own.ensures ∙ ap link_local_of (c.in-Some-turn.ensures.mac ∙ s.address_mac)))
     (subst (λ (k : ℕ). NotesAddress k c.args.now (addresses.falls_of c.in-Some-turn.due) c.args.self.now.router c.note_address-in-Some-turn.new.self)
@@ -42,29 +42,29 @@ returns-in-Some-turn-clause-stands g c = λ start c' s.
 pub returns-in-Some-turn-2-clause-stands : goal.returns-in-Some-turn-2-clause-stands
 returns-in-Some-turn-2-clause-stands g c = λ start c' s.
     neighbour_fell g.R.Rng.stream start c.args.self.now _ c' c.args.now s c.requires.due
-    (record { role = refl; mac = refl; prefixes = refl; dns = refl; address_mac = c.in-None-turn.ensures.mac; address_transmits = c.in-None-turn.ensures.transmits; neighbour_limit = c.in-Some-turn-2.ensures.limit; router_limit = c.note_failure.ensures.limit ∙ c.in-None.ensures.limit; last = refl })
-    (neighbours.falls_of c.in-Some-turn-2.due) _ _ c.in-None.ensures.same refl (c.note_failure.ensures.notes c.args.now) c.note_failure.ensures.entries c.note_failure.ensures.remembers c.in-None-turn.ensures.same c.in-Some-turn-2.ensures.gains c.in-Some-turn-2.ensures.later refl refl refl refl
+    (record { role = refl; mac = refl; prefixes = refl; dns = refl; address_mac = c.in_default-turn.ensures.mac; address_transmits = c.in_default-turn.ensures.transmits; neighbour_limit = c.in-Some-turn-2.ensures.limit; router_limit = c.note_failure.ensures.limit ∙ c.in_default.ensures.limit; last = refl })
+    (neighbours.falls_of c.in-Some-turn-2.due) _ _ c.in_default.ensures.same refl (c.note_failure.ensures.notes c.args.now) c.note_failure.ensures.entries c.note_failure.ensures.remembers c.in_default-turn.ensures.same c.in-Some-turn-2.ensures.gains c.in-Some-turn-2.ensures.later refl refl refl refl
 
 pub returns-then-turn-clause-stands : goal.returns-then-turn-clause-stands
 returns-then-turn-clause-stands g c = λ start c' s.
     routers_solicited g.R.Rng.stream start c.args.self.now _ c' c.args.now s c.requires.due
-    (record { role = refl; mac = refl; prefixes = refl; dns = refl; address_mac = c.in-None-turn.ensures.mac; address_transmits = c.in-None-turn.ensures.transmits; neighbour_limit = c.in-None-turn-2.ensures.limit; router_limit = c.in-None.ensures.limit; last = refl })
-    (c.if-turn.ensures.due refl) (c.if-turn.ensures.sent refl) c.in-None.ensures.same refl c.in-None-turn.ensures.same c.in-None-turn-2.ensures.same refl refl refl
+    (record { role = refl; mac = refl; prefixes = refl; dns = refl; address_mac = c.in_default-turn.ensures.mac; address_transmits = c.in_default-turn.ensures.transmits; neighbour_limit = c.in_default-turn-2.ensures.limit; router_limit = c.in_default.ensures.limit; last = refl })
+    (c.if-turn.ensures.due refl) (c.if-turn.ensures.sent refl) c.in_default.ensures.same refl c.in_default-turn.ensures.same c.in_default-turn-2.ensures.same refl refl refl
 
 pub returns-then-turn-2-clause-stands : goal.returns-then-turn-2-clause-stands
 returns-then-turn-2-clause-stands g c = λ start c' s.
     router_advertised g.R.Rng.stream start c.args.self.now _ c' c.args.now s c.requires.due
-    (record { role = refl; mac = refl; prefixes = refl; dns = refl; address_mac = c.in-None-turn.ensures.mac; address_transmits = c.in-None-turn.ensures.transmits; neighbour_limit = c.in-None-turn-2.ensures.limit; router_limit = c.in-None.ensures.limit; last = refl })
-    (c.if-turn-2.ensures.due refl) c.in-None.ensures.same refl c.in-None-turn.ensures.same c.in-None-turn-2.ensures.same refl (c.if-turn.ensures.same refl) (c.if-turn-2.ensures.sent refl)
+    (record { role = refl; mac = refl; prefixes = refl; dns = refl; address_mac = c.in_default-turn.ensures.mac; address_transmits = c.in_default-turn.ensures.transmits; neighbour_limit = c.in_default-turn-2.ensures.limit; router_limit = c.in_default.ensures.limit; last = refl })
+    (c.if-turn-2.ensures.due refl) c.in_default.ensures.same refl c.in_default-turn.ensures.same c.in_default-turn-2.ensures.same refl (c.if-turn.ensures.same refl) (c.if-turn-2.ensures.sent refl)
 
 pub returns-clause-due : goal.returns-clause-due
 returns-clause-due g c = λ start c' s. (
-  c.in-None.ensures.due (router_history c') s.routers,
-  subst (λ (n : ℕ). FirstDue n (address_history c') c.args.now None) s.address_transmits (c.in-None-turn.ensures.due (address_history c') s.addresses),
-  c.in-None-turn-2.ensures.due (neighbour_history c') s.neighbours,
+  c.in_default.ensures.due (router_history c') s.routers,
+  subst (λ (n : ℕ). FirstDue n (address_history c') c.args.now None) s.address_transmits (c.in_default-turn.ensures.due (address_history c') s.addresses),
+  c.in_default-turn-2.ensures.due (neighbour_history c') s.neighbours,
   subst (λ (o : Option ℕ). o ≢ Some c.args.now) (solicitation_date g.R.Rng.stream start c.args.self.now c' s) (c.if-turn.ensures.none refl),
   subst (λ (o : Option ℕ). o ≢ Some c.args.now) (advertisement_date start c.args.self.now.role c.args.self.now.router c' s.role s.router) (c.if-turn-2.ensures.none refl),
-  redraw_is_due g.R.Rng.stream start c.args.self.now c' c.args.now s c.requires.due c.in-None.ensures.none c.in-None-turn.ensures.none c.in-None-turn-2.ensures.none (c.if-turn.ensures.none refl)
+  redraw_is_due g.R.Rng.stream start c.args.self.now c' c.args.now s c.requires.due c.in_default.ensures.none c.in_default-turn.ensures.none c.in_default-turn-2.ensures.none (c.if-turn.ensures.none refl)
       (c.if-turn-2.ensures.none refl),
 )
 
@@ -73,7 +73,7 @@ returns-clause-stands g c = λ start c' s.
     let stream = g.R.Rng.stream in
     let left = c.if-turn-2.ensures.left refl in
     redrawn stream start c.args.self.now _ c' c.args.now s c.requires.due
-    (record { role = refl; mac = refl; prefixes = refl; dns = refl; address_mac = c.in-None-turn.ensures.mac; address_transmits = c.in-None-turn.ensures.transmits; neighbour_limit = c.in-None-turn-2.ensures.limit; router_limit = c.in-None.ensures.limit; last = refl })
-    c.in-None.ensures.same refl c.in-None-turn.ensures.same c.in-None-turn-2.ensures.same (c.if-turn.ensures.same refl) (c.if-turn-2.ensures.same refl)
+    (record { role = refl; mac = refl; prefixes = refl; dns = refl; address_mac = c.in_default-turn.ensures.mac; address_transmits = c.in_default-turn.ensures.transmits; neighbour_limit = c.in_default-turn-2.ensures.limit; router_limit = c.in_default.ensures.limit; last = refl })
+    c.in_default.ensures.same refl c.in_default-turn.ensures.same c.in_default-turn-2.ensures.same (c.if-turn.ensures.same refl) (c.if-turn-2.ensures.same refl)
     (subst (λ (words : Stream). parameters.GainsRows c.args.self.now.params c.redraw.new.params (λ history. Drew c.args.now (reachable_drawn c.args.self.now.params.base_reachable_time words) ∷ history)) left c.redraw.ensures.stands)
     c.redraw.ensures.drawn_at (c.redraw.ensures.left ∙ ap (λ (words : Stream). (next_u32 words).1) left)
