@@ -1,5 +1,5 @@
-//! The clock of a node: the moment up to which time has passed, in milliseconds. A node reads no other clock. Every event advances this one, by a
-//! call of this file: nothing else writes it once the node has started.
+//! The clock of a node: the moment up to which time has passed, in milliseconds. It does not run by itself: each turn advances it, and each event
+//! that is not too late. Once the node has started, only `advance_to` writes it.
 
 ghost use Rattle.std.specs.Prelude.{◌≡◌, ◌++◌, [], ◌∷◌, ◌<◌, ◌≤◌, IsOk, OnOk, OnErr, vec_len, vec_capacity};
 ghost use Rattle.nd_chronicle.specs.Happening.{Chronicle, Passed, last_moment};

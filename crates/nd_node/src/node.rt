@@ -24,7 +24,7 @@ pub struct Node<R, A: Allocator> {
     pub(crate) role: Role,
     pub(crate) mac: Mac,
     pub(crate) generator: R,
-    /// The moment up to which time has passed.
+    /// The moment up to which time has passed. Only `advance_to` of `clock.rt` changes it.
     pub(crate) last: u64,
     pub(crate) params: Params,
     pub(crate) routers: Routers<A>,
