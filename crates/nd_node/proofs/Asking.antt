@@ -43,7 +43,7 @@ use Rattle.nd_steps.specs.NeighbourCache.{said_by, HasPlace, HearsOf, released_f
 use Rattle.nd_steps.specs.Outputs.{at_moment, happenings, Tells}
 use Rattle.nd_steps.proofs.Quiet.{Quiet}
 use Rattle.nd_steps.proofs.Saying.{NoneOverdueStill, OneGoes, Others, OverdueByTable, none_before_said, placed_by, released_kept, releasing_is_quiet, releasing_items}
-use Rattle.nd_steps.proofs.Telling.{handed_out, Tells-then, one_told}
+use Rattle.nd_steps.proofs.Telling.{handed_out, Tells-then}
 use Rattle.nd_node.specs.declared.node.Node.{Node}
 use Rattle.nd_node.specs.Node.{Stands, next_of}
 use Rattle.nd_node.specs.Packet.{PacketGoes}
@@ -53,7 +53,7 @@ use Rattle.nd_node.specs.Frame.{AddsAlone}
 use Rattle.nd_steps.specs.DestinationCache.{MayRemember}
 use Rattle.nd_node.proofs.Beside.{Beside, Same, beside_then, stands_neighbours}
 use Rattle.nd_node.proofs.Detections.{solicitation}
-use Rattle.nd_node.proofs.Quiet.{stands_quiet, refused_is_quiet}
+use Rattle.nd_node.proofs.Quiet.{stands_quiet}
 use Rattle.nd_node.proofs.Steps.{passed}
 use Rattle.nd_node.proofs.Turns.{neighbours_before}
 

@@ -5,34 +5,26 @@ use Rattle.rand_core.specs.Stream.{Stream}
 use Rattle.nd_addr.specs.declared.addr.Addr.{Addr}
 use Rattle.nd_addr.specs.declared.mac.Mac.{Mac}
 use Rattle.nd_addr.specs.Number.{number_of}
-use Rattle.nd_addr.specs.Prefix.{PrefixValue}
 use Rattle.nd_addr.specs.Same.{same_addr, same_prefix, addrs_tell, prefixes_tell, bytes_tell}
 use Rattle.nd_decode.specs.Option.{Said}
 use Rattle.nd_decode.specs.Message.{Parts}
 use Rattle.nd_decode.specs.declared.router_advertisement.RouterAdvertisement.{RouterAdvertisement}
-use Rattle.nd_table.specs.declared.lasting.Lasting.{Lasting}
-use Rattle.nd_table.specs.Announcements as lifetimes
 use Rattle.nd_table.specs.Listing.{Lists, open_at, fits}
-use Rattle.nd_table.specs.Listing as lists
 use Rattle.nd_table.proofs.Behind.{fits_open}
 use Rattle.nd_table.proofs.Steps.{lists_at}
-use Rattle.nd_routers.specs.History.{RouterRow, announcements}
-use Rattle.nd_routers.specs.Routers as routers
+use Rattle.nd_routers.specs.History.{announcements}
 use Rattle.nd_routers.specs.Routers.{same}
 use Rattle.nd_routers.specs.OnLinkPrefixes as on_link
-use Rattle.nd_slaac.specs.History.{Row}
-use Rattle.nd_slaac.specs.Table as addresses
 use Rattle.nd_slaac.specs.PrefixOption.{prefixes_in}
 use Rattle.nd_slaac.specs.Calls.{keys_in}
 use Rattle.nd_slaac.specs.Room.{fits_in}
-use Rattle.nd_dns.specs.Dns as dns
 use Rattle.nd_dns.specs.Dns.{max_servers, max_names}
 use Rattle.nd_dns.specs.AnnouncedNames.{same_name, names_told}
 use Rattle.nd_dns.specs.AnnouncedServers.{servers_told}
 use Rattle.nd_chronicle.specs.Start.{Start}
 use Rattle.nd_chronicle.specs.Happening as happenings
 use Rattle.nd_chronicle.specs.Happening.{Chronicle, last_moment}
-use Rattle.nd_chronicle.specs.Histories.{router_history, prefix_history, address_history, server_history, name_history}
+use Rattle.nd_chronicle.specs.Histories.{router_history, prefix_history, server_history, name_history}
 use Rattle.nd_chronicle.specs.Full.{first_full, needs, Placed, AdvertisementFills}
 use Rattle.nd_node.specs.declared.node.Node.{Node}
 use Rattle.nd_node.specs.Node.{Stands}

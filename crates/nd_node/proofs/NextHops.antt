@@ -1,11 +1,10 @@
 -- The next hop by what a node keeps is that of the chronicle.
-use Rattle.std.proofs.Common.{◌≡◌, ◌<◌, ◌≤◌, ℕ, Bool, true, false, List, [], ◌∷◌, map, Option, Some, None, refl, sym, ◌∙◌, ap, subst, arith}
-use Rattle.std.specs.Prelude.{◌||◌, ◌+◌, IsTrue, is_some, if◌then◌else◌, bytes_eq}
+use Rattle.std.proofs.Common.{◌≡◌, ◌<◌, ◌≤◌, ℕ, Bool, List, [], ◌∷◌, map, Option, Some, None, refl, sym, ◌∙◌, ap, subst, arith}
+use Rattle.std.specs.Prelude.{◌+◌, IsTrue, is_some}
 use Rattle.std.proofs.lemmas.Bool.Decides.{eqb_tells}
 use Rattle.std.proofs.lemmas.Bool.{lt-ltb}
 use Rattle.nd_addr.specs.declared.addr.Addr.{Addr}
-use Rattle.nd_addr.specs.Kind.{multicast_prefix, unspecified_address, loopback_address}
-use Rattle.nd_addr.specs.Number.{number_of, holds}
+use Rattle.nd_addr.specs.Number.{number_of}
 use Rattle.nd_addr.specs.declared.preference.Preference.{Preference}
 use Rattle.nd_addr.specs.declared.role.Role.{Role}
 use Rattle.nd_addr.specs.declared.role.Role.TheVariants.{Host, Router}
@@ -16,7 +15,7 @@ use Rattle.nd_table.proofs.Finding.{Has, Has-head, Has-tail}
 use Rattle.nd_table.proofs.Steps.{lists_at}
 use Rattle.nd_neighbour.specs.Entry.{NeighbourEntry}
 use Rattle.nd_neighbour.specs.History as neighbour_rows
-use Rattle.nd_neighbour.specs.Story.{is_present, mac_of, entry_of}
+use Rattle.nd_neighbour.specs.Story.{mac_of}
 use Rattle.nd_neighbour.specs.Table as neighbours
 use Rattle.nd_neighbour.specs.Due as neighbour_dates
 use Rattle.nd_slaac.specs.Dates as address_dates
@@ -32,8 +31,7 @@ use Rattle.nd_routers.proofs.Settled.{open_each}
 use Rattle.nd_table.specs.Ends.{is_before}
 use Rattle.nd_nexthop.specs.DefaultRouter.{DefaultRouter}
 use Rattle.nd_nexthop.specs.History.{kept}
-use Rattle.nd_nexthop.specs.NextHop.{NextHop, hop, direct, no_route, unless_redirected, by_router}
-use Rattle.nd_nexthop.specs.DefaultRouter.{chosen_router}
+use Rattle.nd_nexthop.specs.NextHop.{NextHop, hop}
 use Rattle.nd_forwarding.specs.History as route_rows
 use Rattle.nd_forwarding.specs.NextHop as by_routes
 use Rattle.nd_forwarding.specs.Routes.{routes}

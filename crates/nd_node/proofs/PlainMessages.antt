@@ -45,17 +45,16 @@ use Rattle.nd_steps.specs.declared.router_tables.RouterTables.{RouterTables}
 use Rattle.nd_steps.specs.Outputs.{at_moment, happenings, Tells}
 use Rattle.nd_steps.proofs.Quiet.{Quiet}
 use Rattle.nd_steps.proofs.Saying.{NoneOverdueStill, OneGoes, Others, OverdueByTable, none_before_said, placed_by, released_kept, releasing_is_quiet, releasing_items}
-use Rattle.nd_steps.proofs.Telling.{one, above_silent, Tells-then, one_more}
+use Rattle.nd_steps.proofs.Telling.{one, Tells-then, one_more}
 use Rattle.nd_node.specs.declared.node.Node.{Node}
 use Rattle.nd_node.specs.Hearing.{AddsMessage}
 use Rattle.nd_node.specs.Node.{Stands, next_of}
 use Rattle.nd_node.specs.Frame.{AddsAlone}
-use Rattle.nd_node.proofs.Quiet.{stands_quiet, refused_is_quiet}
+use Rattle.nd_node.proofs.Quiet.{stands_quiet}
 use Rattle.nd_node.proofs.RouterRows.{DrawsDelay, PlansAnswer, aside, aside_same, aside_then, stands_advertising, stands_aside}
 use Rattle.nd_node.proofs.Recalling.{Recalls}
 use Rattle.nd_node.proofs.Standing.{Apart, Still, apart_then, stands_at}
 use Rattle.nd_chronicle.proofs.Events.{one_placed}
-use Rattle.nd_node.proofs.Steps.{passed}
 use Rattle.nd_node.proofs.Turns.{addresses_before, advertisement_before, neighbours_before, routers_before}
 
 -- a message

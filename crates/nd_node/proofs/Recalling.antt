@@ -1,18 +1,17 @@
 -- What a node's choice remembers is what its tables say, whatever changes.
-use Rattle.std.proofs.Common.{◌≡◌, ◌≤◌, ℕ, Bool, true, false, List, [], ◌∷◌, Option, Some, None, refl, sym, ◌∙◌, ap, subst, arith}
-use Rattle.std.specs.Prelude.{◌&&◌, ◌||◌, not, ◌==◌, if◌then◌else◌, is_some, MatchBool}
-use Rattle.std.proofs.lemmas.Bool.{cond-true, cond-false, eqb-true}
+use Rattle.std.proofs.Common.{◌≡◌, ◌≤◌, ℕ, Bool, true, false, List, [], ◌∷◌, Option, refl, sym, ◌∙◌, ap, subst}
+use Rattle.std.specs.Prelude.{◌&&◌, ◌||◌, not, ◌==◌, if◌then◌else◌, MatchBool}
+use Rattle.std.proofs.lemmas.Bool.{cond-true, cond-false}
 use Rattle.nd_addr.specs.Prefix.{PrefixValue}
 use Rattle.nd_table.specs.declared.lasting.Lasting.{Lasting}
 use Rattle.nd_neighbour.specs.Entry as neighbour_entries
 use Rattle.nd_neighbour.specs.History as neighbour_rows
 use Rattle.nd_neighbour.specs.Table as neighbours
 use Rattle.nd_neighbour.specs.Table.{entry_in}
-use Rattle.nd_routers.specs.Routers as routers
 use Rattle.nd_slaac.specs.Address.{Address}
 use Rattle.nd_slaac.specs.History as address_rows
 use Rattle.nd_slaac.specs.History.{story}
-use Rattle.nd_slaac.specs.State.{has_conflict, is_assigned, is_known, is_tentative, was_assigned}
+use Rattle.nd_slaac.specs.State.{has_conflict, is_known, was_assigned}
 use Rattle.nd_slaac.specs.declared.destination.Counted.TheVariants.{Own}
 use Rattle.nd_slaac.specs.Destination.{counted_in, counts}
 use Rattle.nd_slaac.specs.Table as addresses
@@ -23,7 +22,7 @@ use Rattle.nd_nexthop.specs.Choice.{Table}
 use Rattle.nd_nexthop.specs.History.{RedirectRow}
 use Rattle.nd_nexthop.specs.Memo.{Memory, forgotten}
 use Rattle.nd_steps.specs.NextHop.{is_resolved}
-use Rattle.nd_steps.specs.DestinationCache.{AsResolved, Forgets, Keeps, MayRemember, Remembers}
+use Rattle.nd_steps.specs.DestinationCache.{Forgets, Keeps, MayRemember, Remembers}
 use Rattle.nd_steps.proofs.Remembering.{StandUntil, remembers_later, remembers_nothing, remembers_same}
 use Rattle.nd_node.specs.declared.node.Node.{Node}
 

@@ -1,5 +1,5 @@
 -- A Router Advertisement is heard at a node: it is taken, or refused.
-use Rattle.std.proofs.Common.{◌≡◌, ℕ, ◌<◌, ◌≤◌, Bool, List, [], ◌∷◌, ◌++◌, append-nil, Option, Some, None, refl, sym, ◌∙◌, ap, subst}
+use Rattle.std.proofs.Common.{◌≡◌, ℕ, ◌≤◌, Bool, List, [], ◌∷◌, ◌++◌, append-nil, Option, Some, None, refl, sym, ◌∙◌, ap, subst}
 use Rattle.std.specs.Option.{option_map}
 use Rattle.rand_core.specs.Stream.{Stream}
 use Rattle.nd_addr.specs.declared.addr.Addr.{Addr}
@@ -26,11 +26,9 @@ use Rattle.nd_steps.specs.Outputs as told
 use Rattle.nd_steps.proofs.Telling.{above_silent, handed_out, Tells-then}
 use Rattle.nd_node.specs.declared.node.Node.{Node}
 use Rattle.nd_node.specs.Hearing.{AddsMessage}
-use Rattle.nd_node.specs.Node.{Stands, next_of}
+use Rattle.nd_node.specs.Node.{Stands}
 use Rattle.nd_node.specs.RouterAdvertisement.{advertised, TakesAdvertisement}
 use Rattle.nd_node.specs.Frame.{AddsAlone}
-use Rattle.nd_node.proofs.Quiet.{stands_quiet, refused_is_quiet}
-use Rattle.nd_node.proofs.Steps.{passed}
 
 -- one is handed out, which is told as this
 tells_one : {A : Type 0} (c : Chronicle) (now : ℕ) (told_is what : Happening) (x y : List (ℕ × Out A)) (out : Out A) → happening out ≡ told_is → items_at (now, what) ≡ items_at (now, told_is) → y ≡ x ++ (now, out) ∷ []

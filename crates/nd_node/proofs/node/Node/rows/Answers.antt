@@ -1,4 +1,4 @@
-use Rattle.std.proofs.Common.{◌≡◌, ◌++◌, List, ℕ, map, refl, ap, ◌∙◌}
+use Rattle.std.proofs.Common.{◌++◌, List, map, refl, ap, ◌∙◌}
 use Rattle.nd_addr.specs.Prefix.{PrefixValue}
 use Rattle.nd_addr.specs.declared.role.Role.{Role}
 use Rattle.nd_table.specs.Left.{lifetimes_left}

@@ -1,4 +1,4 @@
-use Rattle.std.proofs.Common.{sym, ◌∙◌, ap, ◌≡◌}
+use Rattle.std.proofs.Common.{sym, ◌≡◌}
 use Rattle.std.proofs.lemmas.Result.{on_ok_weaker}
 use Rattle.nd_compose.specs.Frames.{open_mac}
 use Rattle.nd_steps.specs.Packets.{frame_of}
