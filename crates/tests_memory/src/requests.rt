@@ -181,10 +181,10 @@ fn how_much_a_host_asks_for(rt: HostRuntime) {
         (receives(&rt, &heap, &EMPTY), 1, 0, 0),
         // It adds nothing more.
         (receives(&rt, &heap, &ADVERTISEMENT), 1, 0, 0),
-        // The answer, and room for a solicitation of the asker.
-        (receives(&rt, &heap, &SOLICITATION), 2, 2, 2 * FRAME),
-        // The packet, which is two headers, and room for a solicitation of its neighbour.
-        (packet, 1, 2, 14 + 40 + FRAME),
+        // The answer.
+        (receives(&rt, &heap, &SOLICITATION), 2, 1, FRAME),
+        // The packet, which is two headers.
+        (packet, 1, 1, 14 + 40),
         // Two rows.
         (
             Event::Shows(Table::Neighbours),
@@ -252,8 +252,8 @@ fn how_much_a_router_asks_for(rt: HostRuntime) {
     }
     assert!(rt; heap.held() == held);
     for (event, told, requests, bytes) in [
-        // The packet, and room for a solicitation of its next hop. The Redirect went before the first one.
-        (receives(&rt, &heap, &TRANSIT), 1, 2, 54 + FRAME),
+        // The packet, which is two headers. The Redirect went before the first one, and its next hop is being resolved.
+        (receives(&rt, &heap, &TRANSIT), 1, 1, 14 + 40),
         // An answer is planned.
         (receives(&rt, &heap, &ROUTER_SOLICITATION), 1, 0, 0),
     ] {
