@@ -44,15 +44,15 @@ header_of bytes = record {
   destination = record { 0 = slice_range bytes 24 40 };
 }
 
--- the number of payload bytes that a header tells
+-- the number of payload bytes that a header says
 abbrev pub payload_length_of : List ℕ → ℕ
 payload_length_of bytes = big_number 2 (drop 4 bytes)
 
--- as many bytes behind the header as it tells
+-- as many bytes behind the header as it says
 abbrev pub payload_of : List ℕ → List ℕ
 payload_of bytes = slice_range bytes ipv6_header_length (ipv6_header_length + payload_length_of bytes)
 
--- the header at its place, and as many bytes behind it as it tells; what follows is padding
+-- the header at its place, and as many bytes behind it as it says; what follows is padding
 abbrev pub packet_of : List ℕ → Result PacketParts Why
 packet_of bytes =
     if nat_lt (length bytes) ipv6_header_length then Err HeaderShort else

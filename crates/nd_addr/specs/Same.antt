@@ -1,4 +1,4 @@
--- When two addresses or two prefixes are the same, and what the test of it tells.
+-- When two addresses or two prefixes are the same, and what the test of it returns.
 use Rattle.std.proofs.Common.{◌≡◌, ◌≢◌, ℕ, Bool, true, false, List, refl, sym, ◌∙◌, ap, ◌⊎◌, inl, inr, ⊎_elim}
 use Rattle.std.specs.Prelude.{◌&&◌, nat_eq, bytes_eq}
 use Rattle.std.proofs.lemmas.Bool.Decides.{eqb_tells}

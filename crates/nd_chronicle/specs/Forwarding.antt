@@ -1,4 +1,4 @@
--- A router sends a packet on, and tells its sender of a better first hop (RFC 8200, section 3; RFC 4861, section 8.2).
+-- A router forwards a packet, and sends its sender a Redirect to a better first hop (RFC 8200, section 3; RFC 4861, section 8.2).
 use Rattle.std.specs.Prelude.{◌≡◌, ℕ, ◌-◌, Bool, List, ◌∷◌, Option, Some, None}
 use Rattle.std.specs.Option.{option_map}
 use Rattle.nd_addr.specs.declared.addr.Addr.{Addr}

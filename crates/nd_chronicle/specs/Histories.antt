@@ -28,7 +28,7 @@ use Rattle.nd_chronicle.specs.Start.{Start, link_local_key}
 use Rattle.nd_chronicle.specs.Happening.{ForReachableTime, Drew, Heard, Neighbour, Address, LeftRouter, ClearedPrefixes, ClearedRedirects, ClearedDns, Configured, Offered, Ceased, Advertised, Planned, RoutePut, RedirectMade, Chronicle}
 use Rattle.nd_chronicle.specs.LinkLayerAddress.{first_slla, first_tlla}
 
--- ---- the parameters of the link: what Router Advertisements tell, and the draws of ReachableTime (RFC 4861, section 6.3.4)
+-- ---- the parameters of the link: what Router Advertisements announce, and the draws of ReachableTime (RFC 4861, section 6.3.4)
 
 abbrev pub then_parameters : Body → List Said → List parameters.Row → List parameters.Row
 then_parameters (bodies.Ra ra) options history = parameters.Heard ra options ∷ history

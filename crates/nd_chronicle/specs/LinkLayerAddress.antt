@@ -1,4 +1,4 @@
--- The link-layer addresses that a message tells (RFC 4861, section 4.6.1): the first option of its kind counts.
+-- The link-layer addresses that a message gives (RFC 4861, section 4.6.1): the first option of its kind counts.
 use Rattle.std.specs.Prelude.{List, [], ◌∷◌, Option, Some, None}
 use Rattle.nd_addr.specs.declared.mac.Mac.{Mac}
 use Rattle.nd_decode.specs.Option.{Said, slla, tlla}

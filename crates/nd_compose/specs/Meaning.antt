@@ -21,7 +21,7 @@ pub record IsDetection (frame : List ℕ) (address : Addr) : Type 0 where
   pub body_is : message.body ≡ bodies.Ns (record { target = address })
   pub no_slla : list_any is_slla message.options ≡ false
 
--- the frame tells all nodes that the address is held: an advertisement for it (RFC 4861, section 7.2.4)
+-- the frame announces to all nodes that the address is held: an advertisement for it (RFC 4861, section 7.2.4)
 pub record IsDefence (frame : List ℕ) (address : Addr) : Type 0 where
   pub message : Parts
   pub router : Bool

@@ -28,8 +28,8 @@ pub fn sent_as_meant()
         → Carries (addressed to (answer_frame router mac target asker)) target asker (advertisement router true mac target) }
 {}
 
-/// A frame that tries an address, and one that says to all nodes who has it, are understood so by hosts and by routers, for every sender (RFC 4862,
-/// section 5.4).
+/// A frame that tries an address, and one that announces to all nodes that it is held, are understood so by hosts and by routers, for every sender
+/// (RFC 4862, section 5.4).
 pub fn heard_as_meant()
     ensures detection { (frame : List ℕ) (address : Addr) (role : Role) → IsUnicast address → (d : IsDetection frame address) → Hears frame role (valid unspecified (solicited_node address) d.message) }
     ensures defence { (frame : List ℕ) (address : Addr) (role : Role) → IsUnicast address → (d : IsDefence frame address) → Hears frame role (valid address all_nodes d.message) }

@@ -17,7 +17,7 @@ body_as NeighborSolicitation bytes = bodies.Ns (neighbor_solicitation_of bytes)
 body_as NeighborAdvertisement bytes = bodies.Na (neighbor_advertisement_of bytes)
 body_as Redirect bytes = bodies.Redirect (redirect_of bytes)
 
--- the fields of the type that the first byte tells (RFC 4861, sections 4.1 to 4.5)
+-- the fields of the type that the first byte names (RFC 4861, sections 4.1 to 4.5)
 abbrev pub body_of : List ℕ → Body
 body_of bytes =
     if nat_eq (slice_index bytes 0) 133 then bodies.Rs else

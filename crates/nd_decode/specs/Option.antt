@@ -99,7 +99,7 @@ Says piece option = SaysKnown piece option
 abbrev pub given : Bool → Said → Option Said
 given test option = if test then Some option else None
 
--- the row of the table that the type tells, as a function
+-- the row of the table that the type names, as a function
 unfoldable pub known_of : List ℕ → Option Said
 known_of piece =
     if nat_eq (slice_index piece 0) 1 then given (nat_eq (slice_index piece 1) 1) (slla (mac_of piece)) else

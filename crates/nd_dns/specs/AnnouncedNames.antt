@@ -1,4 +1,4 @@
--- Which search names a Router Advertisement tells, and for how long (RFC 8106, section 5.2).
+-- Which search names a Router Advertisement announces, and for how long (RFC 8106, section 5.2).
 use Rattle.std.specs.Prelude.{ℕ, Bool, bytes_eq, List, [], ◌∷◌, ◌++◌, map, Option, Some, None}
 use Rattle.nd_search_list.specs.declared.names.Names.{Names}
 use Rattle.nd_search_list.specs.NamesLeft.{names_left}

@@ -1,4 +1,4 @@
--- Which DNS servers a Router Advertisement tells, and for how long (RFC 8106, section 5.1).
+-- Which DNS servers a Router Advertisement announces, and for how long (RFC 8106, section 5.1).
 use Rattle.std.specs.Prelude.{ℕ, List, [], ◌∷◌, ◌++◌, map, Option, Some, None}
 use Rattle.nd_addr.specs.declared.addr.Addr.{Addr}
 use Rattle.nd_decode.specs.declared.servers.Servers.{Servers}

@@ -18,7 +18,7 @@ pub record NodeStands {R A : Type 0} (stream : R → Stream) (log : Log) (now i 
   pub by_then : chronicle.last_moment start.at (chronicle_of i log) ≤ now
   pub ahead : now ≤ next_of n
 
--- who isn't there has no row
+-- a node that isn't there has no row
 pub record IsAbsent (log : Log) (i : ℕ) : Type 0 where
   pub starts : start_of i log ≡ None
   pub rows : chronicle_of i log ≡ []

@@ -27,8 +27,8 @@ pub record Answers (log before : Log) (node at number : ℕ) (answer : List ℕ)
   pub rows : Chronicle
   pub sends : Past (Adds node at (Sent answer) ∷ answering node at number rows before) log
 
--- what comes of a frame that is carried to a node: who holds the address that it tries tells all nodes, and who tries the address itself finds
--- it a duplicate (RFC 4861, section 7.2.4; RFC 4862, sections 5.4.3 and 5.4.4)
+-- what a frame that is carried to a node leads to: a holder of the address that it tries announces it to all nodes, and a node that tries the
+-- address itself finds it a duplicate (RFC 4861, section 7.2.4; RFC 4862, sections 5.4.3 and 5.4.4)
 pub record Brings (log : Log) (node at number : ℕ) (before : Log) : Type 0 where
   pub sender : ℕ
   pub sent_at : ℕ
@@ -50,7 +50,7 @@ pub record IsSound (log : Log) : Type 0 where
   -- of two entries that of the earlier moment is below, and none is after the last moment
   pub in_order : (entry other : Entry) (a b : Log) (at when : ℕ) → Past (entry ∷ a) log → Past (other ∷ b) log → IsAt entry at → IsAt other when → at < when → Past (entry ∷ a) b
   pub by_then : (entry : Entry) (a : Log) (at : ℕ) → Past (entry ∷ a) log → IsAt entry at → at ≤ last_moment log
-  -- who has a row is there
+  -- a node that has a row is there
   pub there : (node at : ℕ) (what : Happening) (a : Log) → Past (Adds node at what ∷ a) log → is_some (start_of node a) ≡ true
   pub brings : (node at number : ℕ) (before : Log) → Past (Carries node at number ∷ before) log → Brings log node at number before
   pub tried : (node key : ℕ) (d : Log) → Past d log → Holds node key d → Tried node key d

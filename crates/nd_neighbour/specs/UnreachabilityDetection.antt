@@ -20,7 +20,7 @@ pub record Use : Type 0 where
   pub retrans : ℕ
   pub probes : ℕ
 
--- the first use at a moment at which the neighbour isn't reachable any more
+-- the first use at a moment at which the neighbour is no longer reachable
 abbrev pub begins_use : Option Evidence → ℕ → ℕ → Option Use
 begins_use None at retrans = None
 begins_use (Some evidence) at retrans = if nat_le (since evidence) at then Some (record { at = at; retrans = retrans; probes = 0 }) else None

@@ -1,4 +1,4 @@
--- Which events are taken whatever memory there is, once all that is due up to them is done: those that tell no more than there are places for.
+-- Which events are taken whatever memory there is, once all that is due up to them is done: those that report no more than there is room for.
 use Rattle.std.specs.Prelude.{◌≡◌, ℕ, ◌+◌, ◌≤◌, ◌⊎◌, List, [], ◌∷◌, length}
 use Rattle.nd_addr.specs.declared.addr.Addr.{Addr}
 use Rattle.nd_addr.specs.declared.why.Why.{Why}

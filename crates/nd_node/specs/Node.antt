@@ -47,7 +47,7 @@ next_of node =
     earliest (routers.next_end node.routers.entries) (address_dates.next_in node.addresses.addresses) (neighbour_dates.next_in node.neighbours.entries)
     (next_solicitation node.role node.solicitations) (next_advertisement node.role node.router) (node.params.drawn_at + redraw_after)
 
--- Each table of the node stands for what the chronicle tells it, the generator is that of the start after as many words as were drawn,
+-- Each table of the node stands for what the chronicle says of it, the generator is that of the start after as many words as were drawn,
 -- and nothing that is due has been passed over.
 pub record Stands {R A : Type 0} (stream : R → Stream) (start : Start) (node : Node R A) (c : Chronicle) : Type 0 where
   pub role : node.role ≡ start.role

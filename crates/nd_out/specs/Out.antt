@@ -1,4 +1,4 @@
--- What a node tells: what happened, as values of Rust, with their moments, the oldest first, and their text.
+-- What a node reports: what happened, as values of Rust, with their moments, the oldest first, and their text.
 use Rattle.std.specs.Prelude.{ℕ, List, [], map, string_bytes}
 use Rattle.std.specs.List.{flat_map}
 use Rattle.nd_addr.specs.Number.{number_of}

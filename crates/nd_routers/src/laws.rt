@@ -12,7 +12,7 @@ ghost use Rattle.nd_routers.specs.RouterFailures.{Failures};
 ghost use Rattle.nd_routers.specs.Due.{FirstDue};
 
 /// At each moment a history has exactly one list of routers, one of prefixes and one router that leaves first. It has one table of routers,
-/// whatever the limit, and one order of failures.
+/// for any limit, and one order of failures.
 pub fn one_answer()
     ensures list { (history : List (Row ℕ)) (moment : ℕ) (a b : List (Lasting ℕ)) → Lists same history moment a → Lists same history moment b → a ≡ b }
     ensures prefixes { (history : List (Row PrefixValue)) (moment : ℕ) (a b : List (Lasting PrefixValue)) → Lists same_prefix history moment a → Lists same_prefix history moment b → a ≡ b }

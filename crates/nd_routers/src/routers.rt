@@ -13,7 +13,7 @@ use std::marker::Model;
 /// The greatest limit on default routers (our choice).
 pub const MAX_ROUTERS: usize = 64;
 
-/// The default routers, in the order in which they arrived (RFC 4861, section 5.1).
+/// The default routers, in the order in which they entered the list (RFC 4861, section 5.1).
 #[derive(Drop)]
 pub struct Routers<A: Allocator> {
     pub(crate) entries: Vec<Lasting<Router>, A>,
@@ -63,7 +63,7 @@ impl<A: Allocator + Clone> Routers<A> {
         })
     }
 
-    /// Removes all routers and returns their addresses, in the order in which they arrived. Out of memory: nothing has changed.
+    /// Removes all routers and returns their addresses, in the order in which they entered the list. Out of memory: nothing has changed.
     pub fn clear(&mut self) -> Result<Vec<Addr, A>, AllocError>
         ensures routers { IfOk result (λ routers. map (λ a. number_of a.0) routers.items ≡ keys self.old.entries) }
         ensures stands { OnOk result ((at : ℕ) (history : List RouterRow) → Stands self.old history → Stands self.new (then_left at (keys self.old.entries) history)) }

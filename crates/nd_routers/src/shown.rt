@@ -26,7 +26,7 @@ impl<A: Allocator> Routers<A> {
     ghost use Rattle.nd_routers.specs.Routers.{Stands};
     ghost use Rattle.nd_routers.specs.Shown.{Shows};
 
-    /// Returns the routers in the list as they are at `now`, in milliseconds, in the order in which they arrived. It takes no memory.
+    /// Returns the routers in the list as they are at `now`, in milliseconds, in the order in which they entered it. It takes no memory.
     pub fn rows(&self, now: u64) -> DefaultRouters<'_>
         ensures value { routers_left result ≡ seen_beside now self.now.entries self.now.preferences }
         ensures lists { (history : List RouterRow) → Stands self.now history → Shows history now (routers_left result) }
@@ -35,7 +35,7 @@ impl<A: Allocator> Routers<A> {
     }
 }
 
-/// The default routers as they are at a moment, in the order in which they arrived.
+/// The default routers as they are at a moment, in the order in which they entered the list.
 #[derive(Clone, Copy)]
 pub struct DefaultRouters<'a> {
     entries: &'a [Lasting<Router>],

@@ -31,7 +31,7 @@ abbrev pub next_advertisement : {A : Type 0} → Role → RouterTables A → Opt
 next_advertisement role tables =
     if is_host role then None else next tables.advertiser.assigned tables.advertiser.last tables.advertiser.advertising
 
--- They stand for what the chronicle tells them, and the next advertisement comes after the last one.
+-- They stand for what the chronicle says of them, and the next advertisement is due after the last one.
 pub record Stands {A : Type 0} (start : Start) (tables : RouterTables A) (c : Chronicle) : Type 0 where
   pub advertiser : advertising.Stands tables.advertiser (advertising_history start c)
   pub routes : routes.Stands tables.routes (route_history c)

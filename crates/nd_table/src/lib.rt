@@ -1,6 +1,6 @@
 //! What the tables of a node share: search by address, the dates at which something is due, the ends of lifetimes, and the announcements whose
 //! lifetime hasn't ended: one definition for routers, prefixes, DNS servers and search names (RFC 4861, section 6.3.4; RFC 8106, section 6). Each
-//! table keeps its entries in the order of their addresses, or in the order in which they arrived.
+//! table keeps its entries in the order of their addresses, or in the order in which they entered.
 #![tactic(auto)]
 
 mod addr;

@@ -1,4 +1,4 @@
--- Why a frame is dropped: one statement for each reason, over the frame and the role of who hears it, and their order.
+-- Why a frame is dropped: one statement for each reason, over the frame and the role of the node that hears it, and their order.
 use Rattle.std.specs.Prelude.{◌≡◌, ◌≢◌, ℕ, ◌+◌, ◌/◌, ◌^◌, ◌<◌, ◌⊎◌, IsTrue, List, [], ◌∷◌, length, drop}
 use Rattle.std.specs.List.{AllByRecursion}
 use Rattle.byteorder.specs.Endian.{big_number}

@@ -20,7 +20,7 @@ use Rattle.nd_link.specs.Time as time
 use Rattle.ndpctl_link.specs.Answer.{Passes}
 use Rattle.ndpctl_link.specs.Line.{IsLinkLine}
 
--- From a log on, what the lines say leads to one that tells this more. That of no event is the empty one.
+-- From a log on, what the lines say leads to one that adds these reports. That of no event is the empty one.
 pub record RunsOn (log : Log) (n : ℕ) (lines : List (List ℕ)) (told : List ℕ) (found : Option ℕ) : Type 0 where
   pub said : List (ℕ × Event)
   pub say : Say IsLinkLine n lines said found

@@ -11,7 +11,7 @@ use Rattle.nd_node.specs.Node.{Stands}
 use Rattle.ndpctl_run.specs.Line.{IsLine}
 use Rattle.ndpctl_run.specs.Said.{Say}
 
--- from a chronicle on, what the lines say leads to one that tells this more
+-- from a chronicle on, what the lines say leads to one that adds these reports
 pub record RunsOn (start : Start) (c : Chronicle) (n : ℕ) (lines : List (List ℕ)) (told : List ℕ) (found : Option ℕ) : Type 0 where
   pub said : List (ℕ × Event)
   pub say : Say IsLine n lines said found

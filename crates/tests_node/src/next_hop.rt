@@ -174,7 +174,7 @@ fn via(n: u8) -> Option<Hop> {
 #[test]
 fn chooses_a_router(rt: HostRuntime) {
     let mut choice = Choice::new(rt.alloc()).expect(&rt, "memory");
-    // The first that is usable, whatever failed.
+    // The first one that is usable, whichever failed.
     let routers = [unusable(2, None), usable(3, Some(1)), usable(4, None)];
     assert!(rt; off_link(&routers, &mut choice) == via(3));
     // None is usable: one that never failed, and the first of those.

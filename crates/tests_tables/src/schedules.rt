@@ -115,7 +115,7 @@ fn told(due: Option<nd_neighbour::Due<Global>>) -> Option<(u8, Addr, usize)> {
     }
 }
 
-/// What is due next is the least of what does for each neighbour.
+/// `next_due` is the earliest moment at which something is due for a neighbour alone.
 fn is_least(rt: &impl Abort, cache: &Cache<Global>, singles: &[Cache<Global>]) {
     let mut least = None;
     for single in singles {
@@ -347,7 +347,7 @@ fn lifetime(variant: u8) -> u32 {
     }
 }
 
-/// What is due next is the least of what does for each address.
+/// `next_due` is the earliest moment at which something is due for an address alone.
 fn is_least_of(rt: &impl Abort, addresses: &Addresses<Global>, singles: &[Addresses<Global>]) {
     let mut least = None;
     for single in singles {
