@@ -1,9 +1,10 @@
 -- Going over the options of one type.
-use Rattle.std.proofs.Common.{◌≡◌, ℕ, suc, ◌<◌, ◌≤◌, true, false, eqb, List, [], ◌∷◌, length, take, drop, slice_index, refl, sym, ap, ◌∙◌, arith, inl, inr, eq-eqb, ne_eqb}
+use Rattle.std.proofs.Common.{◌≡◌, ℕ, suc, ◌<◌, ◌≤◌, true, false, eqb, List, [], ◌∷◌, length, take, drop, slice_index, Option, Some, None, refl, sym, ap, ◌∙◌, arith, inl, inr, eq-eqb, ne_eqb}
 use Rattle.std.proofs.lemmas.Bool.{cases_Bool}
 use Rattle.nd_decode.specs.Option.{Said, slla, tlla, prefix, redirected, mtu, rdnss, dnssl, other, IsPiece, Says, option_of}
 use Rattle.nd_decode.specs.Pieces.{piece_length, begins_whole, options_in}
-use Rattle.nd_decode.specs.OfType.{kind_of, from_kind}
+use Rattle.nd_decode.specs.declared.prefix_info.PrefixInfo.{PrefixInfo}
+use Rattle.nd_decode.specs.OfType.{kind_of, from_kind, prefix_said, or_later, first_prefix}
 use Rattle.nd_decode.proofs.Walk.{front_is, options_in_step, options_in_stop}
 use Rattle.nd_decode.proofs.Says.{option_says}
 use Rattle.nd_decode.proofs.Spelling.{front_piece}
@@ -57,3 +58,23 @@ fewer_left kind before after option e =
     let few : length (from_kind kind before) ≤ length before = from_kind_few kind before in
     let len : length (from_kind kind before) ≡ suc (length after) = ap length e in
     omega (arith, few, len)
+
+-- ---- Prefix Informations
+
+pub first_prefix_step : (bytes piece rest : List ℕ) → IsSplit bytes piece rest → first_prefix (options_in bytes) ≡ or_later (prefix_said (option_of piece)) (options_in rest) (first_prefix (options_in rest))
+first_prefix_step bytes piece rest s = ap first_prefix (split_step bytes piece rest s)
+
+pub first_prefix_none : (bytes : List ℕ) → begins_whole bytes ≡ false → first_prefix (options_in bytes) ≡ None
+first_prefix_none bytes over = ap first_prefix (options_in_stop bytes over)
+
+abbrev behind : Option (PrefixInfo × List Said) → List Said
+behind None = []
+behind (Some found) = found.1
+
+pub first_prefix_fewer : (options rest : List Said) (info : PrefixInfo) → first_prefix options ≡ Some (info, rest) → length rest < length options
+first_prefix_fewer [] rest info e = absurd cc
+first_prefix_fewer (option ∷ options) rest info e = by_said (prefix_said option) e (first_prefix_fewer options rest info)
+  where
+    by_said : (said : Option PrefixInfo) → or_later said options (first_prefix options) ≡ Some (info, rest) → (first_prefix options ≡ Some (info, rest) → length rest < length options) → length rest < length (option ∷ options)
+    by_said (Some found) e later = omega (arith, ap length (ap behind e))
+    by_said None e later = omega (arith, later e)

@@ -1,8 +1,10 @@
-ghost use Rattle.std.specs.Prelude.{◌≡◌, MatchOption, take, drop, true, false, [], ◌∷◌, ◌<◌, ◌≤◌, length, IfSome};
-ghost use Rattle.nd_decode.specs.Option.{view};
+ghost use Rattle.std.specs.Prelude.{◌≡◌, None, Some, MatchOption, take, drop, true, false, [], ◌∷◌, ◌<◌, ◌≤◌, length, IfSome};
+ghost use Rattle.nd_decode.specs.Option.{IsPiece, option_of, view};
+ghost use Rattle.nd_decode.specs.OfType.{prefix_said};
 ghost use Rattle.nd_decode.specs.Pieces.{begins_whole, piece_length, options_in, rest_in, fault_of};
 
-use crate::option_ref::OptionRef;
+use crate::option_ref::{OPTION_PREFIX_INFORMATION, OptionRef};
+use crate::prefix_info::PrefixInfo;
 use nd_addr::Why;
 
 /// The options in some bytes, up to the first that is not whole (RFC 4861, section 4.6).
@@ -46,6 +48,38 @@ impl<'a> Options<'a> {
         }
         None
     }
+}
+
+impl Options<'_> {
+    ghost use Rattle.nd_decode.specs.Pieces.{options_left};
+    ghost use Rattle.nd_decode.specs.OfType.{first_prefix};
+
+    /// Returns the next Prefix Information (RFC 4861, section 4.6.2). Other options are skipped, and those of its type that are too short or too long,
+    /// or whose prefix length is above 128.
+    pub fn next_prefix(&mut self) -> Option<PrefixInfo>
+        ensures value { MatchOption result (first_prefix (options_left self.old) ≡ None) (λ info. first_prefix (options_left self.old) ≡ Some (info, options_left self.new)) }
+        ensures fewer { IfSome result (λ _. length (options_left self.new) < length (options_left self.old)) }
+    {
+        while let Some((piece, rest)) = split_piece(self.rest) {
+            self.rest = rest;
+            if let Some(info) = prefix_in(piece) {
+                return Some(info);
+            }
+        }
+        None
+    }
+}
+
+/// Returns the Prefix Information that a piece spells, if it spells one.
+#[tactic(auto, unfolding(crate::specs::Option::option_of, crate::specs::Option::known_of))]
+fn prefix_in(piece: &[u8]) -> Option<PrefixInfo>
+    requires { IsPiece piece.now }
+    ensures { result ≡ prefix_said (option_of piece.now) }
+{
+    if piece[0] == OPTION_PREFIX_INFORMATION && piece[1] == PrefixInfo::UNITS {
+        return PrefixInfo::read(piece);
+    }
+    None
 }
 
 impl<'a> Iterator for Options<'a> {

@@ -12,7 +12,7 @@ ghost use Rattle.nd_table.specs.Refreshing.{only_refreshes};
 
 use crate::prefixes::{MAX_PREFIXES, Prefixes};
 use nd_addr::Prefix;
-use nd_decode::{OPTION_PREFIX_INFORMATION, OptionRef, Options, PrefixInfo};
+use nd_decode::{Options, PrefixInfo};
 use nd_table::{Announces, Lasting, Limit, TableRefusal, announce_all, fits_all, only_refreshes};
 use std::alloc::Allocator;
 
@@ -94,13 +94,11 @@ impl Announces<Prefix, Prefix> for OnLink<'_> {
 
     ghost told = { prefixes_left };
 
-    #[tactic(auto, using(crate::proofs::OfType::prefixes_from))]
+    #[tactic(auto, using(crate::proofs::OfType::prefixes_by_first))]
     fn next_told(&mut self) -> Option<(Prefix, u32)> {
-        while let Some(option) = self.options.next_of_type(OPTION_PREFIX_INFORMATION) {
-            if let OptionRef::Prefix(info) = option {
-                if is_on_link(&info) {
-                    return Some((info.prefix, info.valid_lifetime));
-                }
+        while let Some(info) = self.options.next_prefix() {
+            if is_on_link(&info) {
+                return Some((info.prefix, info.valid_lifetime));
             }
         }
         None

@@ -1,21 +1,21 @@
--- What the options tell, those of their type tell.
-use Rattle.std.proofs.Common.{◌≡◌, eqb, List, [], ◌∷◌, refl, inl, inr}
-use Rattle.std.proofs.lemmas.Bool.{cases_Bool}
+-- The prefix options of a message, by the first of them.
+use Rattle.std.proofs.Common.{◌≡◌, List, [], ◌∷◌, Option, Some, None, refl, ap, ◌∙◌}
+use Rattle.nd_decode.specs.declared.prefix_info.PrefixInfo.{PrefixInfo}
 use Rattle.nd_decode.specs.Option.{Said, slla, tlla, prefix, redirected, mtu, rdnss, dnssl, other}
-use Rattle.nd_decode.specs.OfType.{from_kind}
+use Rattle.nd_decode.specs.OfType.{first_prefix}
 use Rattle.nd_slaac.specs.PrefixOption.{prefixes_in}
 
-pub prefixes_from : (options : List Said) → prefixes_in options ≡ prefixes_in (from_kind 3 options)
-prefixes_from [] = refl
-prefixes_from (slla _ ∷ options) = prefixes_from options
-prefixes_from (tlla _ ∷ options) = prefixes_from options
-prefixes_from (prefix _ ∷ options) = refl
-prefixes_from (redirected _ ∷ options) = prefixes_from options
-prefixes_from (mtu _ ∷ options) = prefixes_from options
-prefixes_from (rdnss _ _ ∷ options) = prefixes_from options
-prefixes_from (dnssl _ _ ∷ options) = prefixes_from options
-prefixes_from (other kind rest ∷ options) =
-    elim (cases_Bool (eqb kind 3)) [
-      | inl e ↦ rw e refl
-      | inr e ↦ rw e (prefixes_from options)
-    ]
+abbrev pub from_first : Option (PrefixInfo × List Said) → List PrefixInfo
+from_first None = []
+from_first (Some (info, options)) = info ∷ prefixes_in options
+
+pub prefixes_by_first : (options : List Said) → prefixes_in options ≡ from_first (first_prefix options)
+prefixes_by_first [] = refl
+prefixes_by_first (prefix _ ∷ options) = refl
+prefixes_by_first (slla _ ∷ options) = prefixes_by_first options
+prefixes_by_first (tlla _ ∷ options) = prefixes_by_first options
+prefixes_by_first (redirected _ ∷ options) = prefixes_by_first options
+prefixes_by_first (mtu _ ∷ options) = prefixes_by_first options
+prefixes_by_first (rdnss _ _ ∷ options) = prefixes_by_first options
+prefixes_by_first (dnssl _ _ ∷ options) = prefixes_by_first options
+prefixes_by_first (other _ _ ∷ options) = prefixes_by_first options

@@ -14,7 +14,7 @@ use crate::addresses::{Addresses, MAX_ADDRESSES};
 use crate::entry::Entry;
 use crate::prefix_option::{is_taken, named_by};
 use nd_addr::{Addr, Mac};
-use nd_decode::{OPTION_PREFIX_INFORMATION, OptionRef, Options, PrefixInfo};
+use nd_decode::{Options, PrefixInfo};
 use nd_table::{compare, find};
 use std::alloc::Allocator;
 
@@ -76,15 +76,13 @@ fn forms(info: &PrefixInfo, mac: Mac, addr: Addr) -> bool
 }
 
 /// Returns true if some option forms this address unless that is known.
-#[tactic(auto, using(crate::proofs::OfType::prefixes_from))]
+#[tactic(auto, using(crate::proofs::OfType::prefixes_by_first))]
 fn is_formed_by(options: Options<'_>, mac: Mac, addr: Addr) -> bool
     ensures { result ≡ is_formed_by mac (number_of addr.0) (prefixes_in (options_left options.entry)) }
 {
     let mut rest = options;
-    while let Some(option) = rest.next_of_type(OPTION_PREFIX_INFORMATION) {
-        if let OptionRef::Prefix(info) = option
-            && forms(&info, mac, addr)
-        {
+    while let Some(info) = rest.next_prefix() {
+        if forms(&info, mac, addr) {
             return true;
         }
     }
@@ -92,7 +90,7 @@ fn is_formed_by(options: Options<'_>, mac: Mac, addr: Addr) -> bool
 }
 
 /// Returns true if there is room for each address that the options would form.
-#[tactic(auto, using(crate::proofs::OfType::prefixes_from))]
+#[tactic(auto, using(crate::proofs::OfType::prefixes_by_first))]
 pub(crate) fn fits(entries: &[Entry], mac: Mac, options: Options<'_>) -> bool
     requires few { length entries.now ≤ max_addresses }
     requires order { Rises key_of entries.now }
@@ -104,10 +102,7 @@ pub(crate) fn fits(entries: &[Entry], mac: Mac, options: Options<'_>) -> bool
         return true;
     }
     let mut rest = options;
-    while let Some(option) = rest.next_of_type(OPTION_PREFIX_INFORMATION) {
-        let OptionRef::Prefix(info) = option else {
-            continue;
-        };
+    while let Some(info) = rest.next_prefix() {
         // An address that several options would form is counted at the last of them.
         if is_new(entries, mac, &info, rest) {
             if count >= MAX_ADDRESSES {

@@ -28,7 +28,7 @@ use crate::destination_cache::keep_if;
 use crate::draws::{MAX_RTR_SOLICITATION_DELAY, drawn_from};
 use nd_addr::laws::addresses_are_told_by_numbers;
 use nd_addr::{Addr, Role};
-use nd_decode::{Body, OPTION_PREFIX_INFORMATION, OptionRef, Options, PrefixInfo};
+use nd_decode::{Body, Options, PrefixInfo};
 use nd_nexthop::Choice;
 use nd_out::Out;
 use nd_slaac::{Addresses, Counted};
@@ -143,16 +143,14 @@ fn hear_prefix_option<R: Rng, A: Allocator>(
 }
 
 /// Returns true if none of the prefix options of a Router Advertisement would form an address.
-#[tactic(auto, using(nd_slaac::proofs::OfType::prefixes_from))]
+#[tactic(auto, using(nd_slaac::proofs::OfType::prefixes_by_first))]
 pub fn none_forms<A: Allocator>(addresses: &Addresses<A>, options: Options<'_>) -> bool
     ensures { result ≡ forms_none addresses.now.mac (keys_in addresses.now.addresses) (prefixes_in (options_left options.entry)) }
 {
     let mut rest = options;
-    while let Some(option) = rest.next_of_type(OPTION_PREFIX_INFORMATION) {
-        if let OptionRef::Prefix(info) = option {
-            if addresses.would_form(&info) {
-                return false;
-            }
+    while let Some(info) = rest.next_prefix() {
+        if addresses.would_form(&info) {
+            return false;
         }
     }
     true
@@ -160,7 +158,7 @@ pub fn none_forms<A: Allocator>(addresses: &Addresses<A>, options: Options<'_>) 
 
 /// Takes the prefix options of a Router Advertisement in their order. They may form addresses; there is room for these (RFC 4862, section 5.5.3).
 /// `now` and `retrans`, the RetransTimer in force, are in milliseconds.
-#[tactic(auto, using(nd_slaac::proofs::OfType::prefixes_from))]
+#[tactic(auto, using(nd_slaac::proofs::OfType::prefixes_by_first))]
 pub fn hear_prefix_options<R: Rng, A: Allocator>(
     addresses: &mut Addresses<A>,
     generator: &mut R,
@@ -174,10 +172,8 @@ pub fn hear_prefix_options<R: Rng, A: Allocator>(
     ensures forms { (start : Start) (c : Chronicle) → Forms start addresses.old (R.stream generator.old) retrans c → Forms start addresses.new (R.stream generator.new) retrans (then_options start now to_all (prefixes_in (options_left options.entry)) c) }
 {
     let mut rest = options;
-    while let Some(option) = rest.next_of_type(OPTION_PREFIX_INFORMATION) {
-        if let OptionRef::Prefix(info) = option {
-            hear_prefix_option(addresses, generator, now, &info, to_all, retrans);
-        }
+    while let Some(info) = rest.next_prefix() {
+        hear_prefix_option(addresses, generator, now, &info, to_all, retrans);
     }
 }
 

@@ -1,24 +1,22 @@
 use Rattle.std.proofs.Common.{◌≡◌, ◌∷◌, ◌∙◌, sym, ap}
-use Rattle.nd_decode.specs.declared.option_ref.OptionRef.{OptionRef}
-use Rattle.nd_decode.specs.Option.{view}
 use Rattle.nd_decode.specs.Pieces.{options_left}
 use Rattle.nd_slaac.specs.PrefixOption.{prefixes_in}
-use Rattle.nd_slaac.proofs.OfType.{prefixes_from}
+use Rattle.nd_slaac.proofs.OfType.{from_first, prefixes_by_first}
 use Rattle.nd_slaac.proofs.Counting.{fits_all, fits_bytes, fits_not}
 use Rattle.nd_slaac.proofs.room.fits.Goals as goal
 
 pub returns-then-count-ge-MAX_ADDRESSES : goal.returns-then-count-ge-MAX_ADDRESSES
 returns-then-count-ge-MAX_ADDRESSES c =
-    let behind = prefixes_in (options_left c.next_of_type.new.self) in
-    let rest_is : prefixes_in (options_left c.loop-option.rest) ≡ c.in-Prefix.info ∷ behind =
-    prefixes_from (options_left c.loop-option.rest) ∙ ap prefixes_in c.in-Some.ensures.value ∙ ap (λ (o : OptionRef). prefixes_in (view o ∷ options_left c.next_of_type.new.self)) c.in-Prefix.is in
-    fits_not c.args.mac c.args.entries.now c.loop-option.count c.in-Prefix.info behind (prefixes_in (options_left c.loop-option.rest)) (prefixes_in (options_left c.args.options))
-    c.requires.few c.if-count-ge-MAX_ADDRESSES.true rest_is c.if-is_new.ensures c.loop-option.invariant.all
+    let behind = prefixes_in (options_left c.next_prefix.new.self) in
+    let rest_is : prefixes_in (options_left c.loop-info.rest) ≡ c.in-Some.info ∷ behind =
+    prefixes_by_first (options_left c.loop-info.rest) ∙ ap from_first c.in-Some.ensures.value in
+    fits_not c.args.mac c.args.entries.now c.loop-info.count c.in-Some.info behind (prefixes_in (options_left c.loop-info.rest)) (prefixes_in (options_left c.args.options))
+    c.requires.few c.if-count-ge-MAX_ADDRESSES.true rest_is c.if-is_new.ensures c.loop-info.invariant.all
 
 pub returns : goal.returns
 returns c =
-    fits_all c.args.mac c.args.entries.now c.loop-option.count (prefixes_in (options_left c.loop-option.rest)) (prefixes_in (options_left c.args.options))
-    c.requires.few c.loop-option.invariant.few (prefixes_from (options_left c.loop-option.rest) ∙ ap prefixes_in c.in_default.ensures.value) c.loop-option.invariant.all
+    fits_all c.args.mac c.args.entries.now c.loop-info.count (prefixes_in (options_left c.loop-info.rest)) (prefixes_in (options_left c.args.options))
+    c.requires.few c.loop-info.invariant.few (prefixes_by_first (options_left c.loop-info.rest) ∙ ap from_first c.in_default.ensures.value) c.loop-info.invariant.all
 
 pub returns-then-count-byte_len-le-MAX_ADDRESSES : goal.returns-then-count-byte_len-le-MAX_ADDRESSES
 returns-then-count-byte_len-le-MAX_ADDRESSES c =

@@ -6,11 +6,11 @@ use Rattle.nd_slaac.specs.Calls.{keys_in}
 use Rattle.nd_slaac.proofs.room.fits.Given as goal
 
 -- those so far and those of the rest are all that would be new
-abbrev pub invariant-loop-option : goal.invariant-loop-option
-invariant-loop-option l = record {
+abbrev pub invariant-loop-info : goal.invariant-loop-info
+invariant-loop-info l = record {
   all : l.count + new_in l.mac (keys_in l.entries) (prefixes_in (options_left l.rest)) ≡ length l.entries + new_in l.mac (keys_in l.entries) (prefixes_in (options_left l.initial.rest));
   few : l.count ≤ 64;
 }
 
-abbrev pub decreases-loop-option : goal.decreases-loop-option
-decreases-loop-option l = length (options_left l.rest)
+abbrev pub decreases-loop-info : goal.decreases-loop-info
+decreases-loop-info l = length (options_left l.rest)

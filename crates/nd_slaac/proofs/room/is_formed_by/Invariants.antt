@@ -6,9 +6,9 @@ use Rattle.nd_slaac.specs.Room.{is_formed_by}
 use Rattle.nd_slaac.proofs.room.is_formed_by.Given as goal
 
 -- the address is formed by the rest where it is by any
-abbrev pub invariant-loop-option : goal.invariant-loop-option
-invariant-loop-option l =
+abbrev pub invariant-loop-info : goal.invariant-loop-info
+invariant-loop-info l =
     is_formed_by l.mac (number_of l.addr.0) (prefixes_in (options_left l.rest)) ≡ is_formed_by l.mac (number_of l.addr.0) (prefixes_in (options_left l.initial.rest))
 
-abbrev pub decreases-loop-option : goal.decreases-loop-option
-decreases-loop-option l = length (options_left l.rest)
+abbrev pub decreases-loop-info : goal.decreases-loop-info
+decreases-loop-info l = length (options_left l.rest)

@@ -10,11 +10,11 @@ use Rattle.nd_steps.specs.OwnAddresses.{Forms}
 use Rattle.nd_steps.proofs.own_addresses.hear_prefix_options.Given as goal
 
 -- there is room for the options that are left, and what they add where the code is, all of them add from the start
-abbrev pub invariant-loop-option : goal.invariant-loop-option
-invariant-loop-option g l =
+abbrev pub invariant-loop-info : goal.invariant-loop-info
+invariant-loop-info g l =
     (fits_in l.addresses.mac (keys_in l.addresses.addresses) (prefixes_in (options_left l.rest)) ≡ true) ×
     ((start : Start) (c : Chronicle) → Forms start l.fn.addresses (g.R.Rng.stream l.fn.generator) l.retrans c → (mid : Chronicle) × Forms start l.addresses (g.R.Rng.stream l.generator) l.retrans mid
     × (then_options start l.now l.to_all (prefixes_in (options_left l.options)) c ≡ then_options start l.now l.to_all (prefixes_in (options_left l.rest)) mid))
 
-abbrev pub decreases-loop-option : goal.decreases-loop-option
-decreases-loop-option g l = length (options_left l.rest)
+abbrev pub decreases-loop-info : goal.decreases-loop-info
+decreases-loop-info g l = length (options_left l.rest)

@@ -6,9 +6,9 @@ use Rattle.nd_steps.specs.DestinationCache.{forms_none}
 use Rattle.nd_steps.proofs.own_addresses.none_forms.Given as goal
 
 -- what is left decides
-abbrev pub invariant-loop-option : goal.invariant-loop-option
-invariant-loop-option g l =
+abbrev pub invariant-loop-info : goal.invariant-loop-info
+invariant-loop-info g l =
     forms_none l.addresses.mac (keys_in l.addresses.addresses) (prefixes_in (options_left l.rest)) ≡ forms_none l.addresses.mac (keys_in l.addresses.addresses) (prefixes_in (options_left l.initial.rest))
 
-abbrev pub decreases-loop-option : goal.decreases-loop-option
-decreases-loop-option g l = length (options_left l.rest)
+abbrev pub decreases-loop-info : goal.decreases-loop-info
+decreases-loop-info g l = length (options_left l.rest)
