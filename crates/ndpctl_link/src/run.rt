@@ -53,6 +53,9 @@ pub fn run_link<I: Input, O: Output, W: Wire, A: Allocator + Copy>(
     // The link stands for the log of what the lines said, so that it can run on.
     ensures stands { IsFaithful W.arrives → (log : Log) → Stands stream_of_source script.old.link log → OnOk result (TellsAll (RunsTo stream_of_source log script.new.link) (I.remaining reader.old) (O.contents writer.old) (O.contents writer.new) None) }
     ensures one_holder { IsFaithful W.arrives → (before : List (ℕ × Event)) (log : Log) → StandsForEvents stream_of_source script.old.link before log → OnOk result (TellsAll (KeepsOneHolder stream_of_source before script.new.link) (I.remaining reader.old) (O.contents writer.old) (O.contents writer.new) None) }
+    // The same at a malformed line, of the lines before it.
+    ensures stands_at_line { (n : ℕ) → IsErrOf result (ToolFault.Line n) → IsFaithful W.arrives → (log : Log) → Stands stream_of_source script.old.link log → TellsAll (RunsTo stream_of_source log script.new.link) (I.remaining reader.old) (O.contents writer.old) (O.contents writer.new) (Some n) }
+    ensures one_holder_at_line { (n : ℕ) → IsErrOf result (ToolFault.Line n) → IsFaithful W.arrives → (before : List (ℕ × Event)) (log : Log) → StandsForEvents stream_of_source script.old.link before log → TellsAll (KeepsOneHolder stream_of_source before script.new.link) (I.remaining reader.old) (O.contents writer.old) (O.contents writer.new) (Some n) }
 {
     run_lines(alloc, reader, writer, script)
 }

@@ -18,6 +18,14 @@ pub returns-clause-one_holder : goal.returns-clause-one_holder
 returns-clause-one_holder g c = λ faithful before log s.
     on_ok_weaker c.run_lines.result (tells_all_by _ _ (keeps_one g.W.Wire.arrives stream_of_source c.args.script.now.link log faithful c.run_lines.new.answering.link before s) _ _ _ None) c.run_lines.ensures.ok
 
+pub returns-clause-stands_at_line : goal.returns-clause-stands_at_line
+returns-clause-stands_at_line g c = λ n is faithful log s.
+    tells_all_by _ _ (to_link g.W.Wire.arrives stream_of_source c.args.script.now.link log faithful c.run_lines.new.answering.link s) _ _ _ (Some n) (c.run_lines.ensures.line n is)
+
+pub returns-clause-one_holder_at_line : goal.returns-clause-one_holder_at_line
+returns-clause-one_holder_at_line g c = λ n is faithful before log s.
+    tells_all_by _ _ (keeps_one g.W.Wire.arrives stream_of_source c.args.script.now.link log faithful c.run_lines.new.answering.link before s) _ _ _ (Some n) (c.run_lines.ensures.line n is)
+
 pub returns-clause-front : goal.returns-clause-front
 returns-clause-front g c = λ faithful log s.
     on_err_weaker c.run_lines.result (tells_front_by _ _ (λ n lines told found given. from_log g.W.Wire.arrives stream_of_source c.args.script.now.link log faithful given.0.link s n lines told found given.1) _ _ _) c.run_lines.ensures.front
