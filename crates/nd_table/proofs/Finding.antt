@@ -1,12 +1,31 @@
 -- An entry found by its key, in lists that are changed.
-use Rattle.std.proofs.Common.{length, ◌+◌, ◌≡◌, ◌≢◌, ℕ, Bool, true, false, cond, List, [], ◌∷◌, ◌++◌, Option, Some, None, refl, ap, ◌∙◌, arith, ◌⊎◌}
-use Rattle.std.specs.Prelude.{map, filter, is_some}
+use Rattle.std.proofs.Common.{length, ◌+◌, ◌≡◌, ◌≢◌, ℕ, Bool, true, false, cond, List, [], ◌∷◌, ◌++◌, Option, Some, None, refl, sym, ap, ◌∙◌, arith, ◌⊎◌}
+use Rattle.std.specs.Prelude.{map, filter, is_some, ◌||◌, if◌then◌else◌}
 use Rattle.std.specs.List.{list_all}
 use Rattle.std.proofs.lemmas.Bool.{true≢false, and_parts, cond-true}
 use Rattle.nd_table.specs.declared.lasting.Lasting.{Lasting}
 use Rattle.nd_table.specs.Ends.{is_before}
 use Rattle.nd_table.specs.Announcements.{is_open}
 use Rattle.nd_table.specs.Listing.{open_at, end_in, renewed, without, Distinct}
+
+-- a key that is among entries is the first one's or among the others
+pub there_more : {K : Type 0} (same : K → K → Bool) (key : K) (e : Lasting K) (es : List (Lasting K)) → is_some (end_in same key (e ∷ es)) ≡ (same e.key key || is_some (end_in same key es))
+there_more same key e es = by (same e.key key)
+  where
+    by : (b : Bool) → is_some (if b then Some e.end else end_in same key es) ≡ (b || is_some (end_in same key es))
+    by true = refl
+    by false = refl
+
+-- renewing an entry that isn't there changes none
+pub renewed_absent : {K : Type 0} (same : K → K → Bool) (key : K) (end : Option ℕ) (es : List (Lasting K)) → is_some (end_in same key es) ≡ false → map (renewed same key end) es ≡ es
+renewed_absent same key end [] h = refl
+renewed_absent {K} same key end (e ∷ es) h = by (same e.key key) refl (renewed_absent same key end es)
+  where
+    by : (b : Bool) → same e.key key ≡ b → (is_some (end_in same key es) ≡ false → map (renewed same key end) es ≡ es) → map (renewed same key end) (e ∷ es) ≡ e ∷ es
+    by true is rest = let no : ⊥ = cc in absurd no
+    by false is rest =
+        ap (λ (b : Bool). record { key = e.key; end = if b then end else e.end } ∷ map (renewed same key end) es) is
+        ∙ ap (λ (l : List (Lasting K)). e ∷ l) (rest (sym (there_more same key e es ∙ ap (λ (b : Bool). b || is_some (end_in same key es)) is) ∙ h))
 
 -- what the test of two keys tells
 abbrev pub Tells : {K : Type 0} → (K → K → Bool) → Type 0

@@ -88,6 +88,14 @@ module _ {K : Type 0} (same : K → K → Bool) where
         ap (λ (l : List (Lasting K)). keys_of (open_at now l)) is ∙ (ap (λ (l : List (Lasting K)). keys_of l) (open_renewed now key end (lasts now lifetime goes_on) es) ∙ keys_renewed key end (open_at now es)),
       )
 
+  -- what is announced behind it only refreshes where the whole does
+  pub refreshes_behind : (now : ℕ) (key : K) (lifetime : ℕ) (more : List (K × ℕ)) (es : List (Lasting K)) → (not (lifetime == 0) && is_some (end_in same key (open_at now es))) ≡ true
+      → only_refreshes same now more (announced same now key lifetime es) ≡ only_refreshes same now ((key, lifetime) ∷ more) es
+  refreshes_behind now key lifetime more es h =
+      let parts = and_parts (not (lifetime == 0)) (is_some (end_in same key (open_at now es))) h in
+      let step = announced_keys now key lifetime es parts.0 parts.1 in
+      refreshes_by_keys now more (announced same now key lifetime es) es step.1 ∙ ap (λ (first : Bool). first && only_refreshes same now more es) (sym h)
+
   -- the same of a whole message
   pub refreshed_keys : (now : ℕ) (all : List (K × ℕ)) (es : List (Lasting K)) → only_refreshes same now all es ≡ true → keys_of (open_at now (announced_all same now all es)) ≡ keys_of (open_at now es)
   refreshed_keys now [] es h = refl

@@ -132,24 +132,30 @@ fn count_after(standing: usize, before: bool, after: bool) -> usize
     }
 }
 
-/// Takes the announcements of a message in order. There is room for them.
+/// Takes the announcements of a message in order. There is room for them. Returns true if they only refresh what is listed at `now`, in
+/// milliseconds: each key is, and no lifetime is 0.
 pub fn announce_all<K: NamesKey<K> + Copy + Drop, I: Announces<K, K> + Drop, A: Allocator>(
     entries: &mut Vec<Lasting<K>, A>,
     limit: usize,
     now: u64,
     announced: I,
-)
+) -> bool
     requires moment { IsMoment now }
     requires itself { (k : K) → K.named k ≡ k }
     requires fits { fits K.same limit now (I.told announced) entries.old.items ≡ true }
     requires few { vec_len entries.old ≤ limit }
     requires room { limit ≤ vec_capacity entries.old }
+    ensures refreshes { result ≡ only_refreshes K.same now (I.told announced) entries.old.items }
     ensures items { entries.new.items ≡ announced_all K.same now (I.told announced) entries.old.items }
     ensures few { vec_len entries.new ≤ limit }
     ensures capacity { vec_capacity entries.new ≡ vec_capacity entries.old }
 {
     let mut rest = announced;
+    let mut refreshes = true;
     while let Some((key, lifetime)) = rest.next_told() {
-        announce(entries, now, &key, Some(key), lifetime);
+        if !announce(entries, now, &key, Some(key), lifetime) {
+            refreshes = false;
+        }
     }
+    refreshes
 }

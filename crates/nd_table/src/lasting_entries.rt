@@ -1,4 +1,4 @@
-ghost use Rattle.std.specs.Prelude.{◌≡◌, ◌≤◌, ◌<◌, Some, false, MatchOption, length, map, is_some, vec_len, vec_capacity};
+ghost use Rattle.std.specs.Prelude.{◌≡◌, ◌≤◌, ◌<◌, ◌&&◌, ◌==◌, not, Some, false, MatchOption, length, map, is_some, vec_len, vec_capacity};
 ghost use Rattle.std.specs.List.{list_all};
 ghost use Rattle.nd_table.specs.Ends.{is_before};
 ghost use Rattle.nd_table.specs.Listing.{end_in, renewed, without, open_at, announced, enters};
@@ -21,33 +21,44 @@ pub fn has<K, Q: NamesKey<K>>(entries: &[Lasting<K>], name: &Q) -> bool
     false
 }
 
-fn renew_one<K, Q: NamesKey<K>>(entry: &mut Lasting<K>, name: &Q, end: Option<u64>)
-    ensures { entry.new ≡ renewed Q.same (Q.named name.now) end entry.old }
+/// Sets the end of an entry if it is the key's, and returns whether it is.
+fn renew_one<K, Q: NamesKey<K>>(entry: &mut Lasting<K>, name: &Q, end: Option<u64>) -> bool
+    ensures renews { entry.new ≡ renewed Q.same (Q.named name.now) end entry.old }
+    ensures named { result ≡ Q.same entry.old.key (Q.named name.now) }
 {
     if name.names(&entry.key) {
         entry.end = end;
+        return true;
     }
+    false
 }
 
-fn renew_each<K, Q: NamesKey<K>>(entries: &mut [Lasting<K>], name: &Q, end: Option<u64>)
-    ensures { entries.new ≡ map (renewed Q.same (Q.named name.now) end) entries.old }
+/// Sets the end of each entry that is the key's, and returns whether there is one.
+fn renew_each<K, Q: NamesKey<K>>(entries: &mut [Lasting<K>], name: &Q, end: Option<u64>) -> bool
+    ensures items { entries.new ≡ map (renewed Q.same (Q.named name.now) end) entries.old }
+    ensures there { result ≡ is_some (end_in Q.same (Q.named name.now) entries.old) }
 {
+    let mut there = false;
     for entry in entries.iter_mut() {
-        renew_one(entry, name, end);
+        if renew_one(entry, name, end) {
+            there = true;
+        }
     }
+    there
 }
 
-/// Sets the end of the key's entry.
-pub fn renew<K, Q: NamesKey<K>, A: Allocator>(
+/// Sets the end of the key's entry. Returns true if there is one.
+fn renew<K, Q: NamesKey<K>, A: Allocator>(
     entries: &mut Vec<Lasting<K>, A>,
     name: &Q,
     end: Option<u64>,
-)
+) -> bool
     ensures items { entries.new.items ≡ map (renewed Q.same (Q.named name.now) end) entries.old.items }
+    ensures there { result ≡ is_some (end_in Q.same (Q.named name.now) entries.old.items) }
     ensures len { vec_len entries.new ≡ vec_len entries.old }
     ensures capacity { vec_capacity entries.new ≡ vec_capacity entries.old }
 {
-    renew_each(entries, name, end);
+    renew_each(entries, name, end)
 }
 
 /// Removes the entry of the key.
@@ -85,33 +96,35 @@ pub fn drop_ended<K: Drop, A: Allocator>(entries: &mut Vec<Lasting<K>, A>, now: 
 }
 
 /// Takes an announcement of a key by its name, for a lifetime in seconds, and removes the entries that have ended. There is room for it, and `key`
-/// is given if the announcement adds it.
+/// is given if the announcement adds it. Returns true if it only refreshes an entry.
+#[tactic(auto, using(crate::proofs::Finding::renewed_absent))]
 pub fn announce<K: Drop, Q: NamesKey<K>, A: Allocator>(
     entries: &mut Vec<Lasting<K>, A>,
     now: u64,
     name: &Q,
     key: Option<K>,
     lifetime: u32,
-)
+) -> bool
     requires moment { IsMoment now }
     requires named { MatchOption key (enters Q.same now (Q.named name.now) lifetime entries.old.items ≡ false) (λ k. k ≡ Q.named name.now) }
     requires room { length (announced Q.same now (Q.named name.now) lifetime entries.old.items) ≤ vec_capacity entries.old }
+    ensures refreshes { result ≡ (not (lifetime == 0) && is_some (end_in Q.same (Q.named name.now) (open_at now entries.old.items))) }
     ensures items { entries.new.items ≡ announced Q.same now (Q.named name.now) lifetime entries.old.items }
     ensures capacity { vec_capacity entries.new ≡ vec_capacity entries.old }
 {
     drop_ended(entries, now);
     if lifetime == 0 {
         remove(entries, name);
-        return;
+        return false;
     }
     let end = end_time(now, lifetime);
-    if has(entries, name) {
-        renew(entries, name, end);
-        return;
+    if renew(entries, name, end) {
+        return true;
     }
     if let Some(key) = key {
         entries.push_reserved(Lasting { key, end });
     }
+    false
 }
 
 /// Returns true if an announcement adds the key that it names.

@@ -1,12 +1,14 @@
 use Rattle.std.proofs.Common.{◌≡◌, ◌≤◌, true, length}
-use Rattle.std.specs.Prelude.{vec_len, vec_capacity}
+use Rattle.std.specs.Prelude.{◌&&◌, vec_len, vec_capacity}
 use Rattle.nd_table.specs.Listing.{announced_all, fits}
+use Rattle.nd_table.specs.Refreshing.{only_refreshes}
 use Rattle.nd_table.proofs.announcements.announce_all.Given as goal
 
--- what is left leads from what there is to the same end, and fits
+-- so far nothing but refreshes, and what is left leads from what there is to the same end, and fits
 abbrev pub invariant-loop-key : goal.invariant-loop-key
 invariant-loop-key g l =
-    (announced_all g.K.NamesKey.same l.now (g.I.Announces.told l.rest) l.entries.items ≡ announced_all g.K.NamesKey.same l.now (g.I.Announces.told l.initial.rest) l.initial.entries.items)
+    ((l.refreshes && only_refreshes g.K.NamesKey.same l.now (g.I.Announces.told l.rest) l.entries.items) ≡ only_refreshes g.K.NamesKey.same l.now (g.I.Announces.told l.initial.rest) l.initial.entries.items)
+    × (announced_all g.K.NamesKey.same l.now (g.I.Announces.told l.rest) l.entries.items ≡ announced_all g.K.NamesKey.same l.now (g.I.Announces.told l.initial.rest) l.initial.entries.items)
     × (fits g.K.NamesKey.same l.limit l.now (g.I.Announces.told l.rest) l.entries.items ≡ true)
     × (vec_len l.entries ≤ l.limit) × (vec_capacity l.entries ≡ vec_capacity l.initial.entries)
 
