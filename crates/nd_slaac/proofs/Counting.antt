@@ -141,6 +141,20 @@ refused_parts false valid count full h = elim (cases_Bool (eqb valid 0)) [
   ]
 ]
 
+-- an option that would form no address leaves the addresses that are known
+pub keys_on : (now : ℕ) (mac : Mac) (info : PrefixInfo) (delay retrans : ℕ) (r : Result Taken Full) (old new : List Address) → is_taken info ≡ true → r ≡ taken_by (is_some (address_in (named_by mac info) old)) info.valid_lifetime (length old) → Changes now (named_by mac info) (lifetimes_of info) delay retrans r old new → would_form mac (keys_in old) info ≡ false → keys_in new ≡ keys_in old
+keys_on now mac info delay retrans (Ok Formed) old new taken is changes idle =
+    let key = named_by mac info in
+    let parts = formed_parts (is_some (address_in key old)) info.valid_lifetime (length old) is in
+    let nz : eqb info.valid_lifetime 0 ≡ false = parts.1 in
+    let free : is_among key (keys_in old) ≡ false = sym (known_among key old) ∙ parts.0 in
+    let no : true ≡ false = rw (taken, nz, free) at idle in
+    absurd (true≢false no)
+keys_on now mac info delay retrans (Ok Renewed) old new taken is changes idle =
+    ap keys_in changes.new_is ∙ keys-set old changes.at (announced now (lifetimes_of info) changes.address) changes.address (ap key_of (sym changes.is))
+keys_on now mac info delay retrans (Ok Ignored) old new taken is changes idle = ap keys_in changes
+keys_on now mac info delay retrans (Err full) old new taken is changes idle = ap keys_in changes
+
 -- where an option and those behind it fit, it isn't refused, and they still fit
 pub fits_on : (now : ℕ) (mac : Mac) (info : PrefixInfo) (delay retrans : ℕ) (r : Result Taken Full) (old new : List Address) (infos : List PrefixInfo) → is_taken info ≡ true → r ≡ taken_by (is_some (address_in (named_by mac info) old)) info.valid_lifetime (length old) → Changes now (named_by mac info) (lifetimes_of info) delay retrans r old new → fits_in mac (keys_in old) (info ∷ infos) ≡ true → IsOk r × (fits_in mac (keys_in new) infos ≡ true)
 fits_on now mac info delay retrans (Ok Formed) old new infos taken is changes h =

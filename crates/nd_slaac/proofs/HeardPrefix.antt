@@ -1,5 +1,5 @@
 -- What a prefix option does, said of the table as contracts see it.
-use Rattle.std.proofs.Common.{◌≡◌, ◌∙◌, ap, subst, ℕ, ◌<◌, List, ◌∷◌, length, true}
+use Rattle.std.proofs.Common.{◌≡◌, ◌∙◌, ap, subst, ℕ, ◌<◌, List, ◌∷◌, length, true, false}
 use Rattle.std.specs.Prelude.{is_some, Result, IsOk, IfSome}
 use Rattle.nd_addr.specs.declared.mac.Mac.{Mac}
 use Rattle.nd_decode.specs.declared.prefix_info.PrefixInfo.{PrefixInfo}
@@ -8,14 +8,14 @@ use Rattle.nd_slaac.specs.declared.prefix_option.Full.{Full}
 use Rattle.nd_slaac.specs.Address.{Address}
 use Rattle.nd_slaac.specs.Table.{Table, address_in}
 use Rattle.nd_slaac.specs.PrefixOption.{is_taken, named_by, lifetimes_of}
-use Rattle.nd_slaac.specs.Room.{fits_in}
+use Rattle.nd_slaac.specs.Room.{fits_in, would_form}
 use Rattle.nd_slaac.specs.Calls.{keys_in, taken_by, Changes, row_taken, GainsRowIfAny}
 use Rattle.nd_slaac.specs.History.{Row, story}
 use Rattle.nd_slaac.specs.State.{is_known}
 use Rattle.nd_slaac.specs.Table.{Stands}
 use Rattle.nd_slaac.specs.MayCome.{MayCome}
 use Rattle.nd_slaac.proofs.Stories.{known_story}
-use Rattle.nd_slaac.proofs.Counting.{gains_taken, comes_taken, fits_on}
+use Rattle.nd_slaac.proofs.Counting.{gains_taken, comes_taken, fits_on, keys_on}
 
 module _ (now : ℕ) (info : PrefixInfo) (delay retrans key : ℕ) (r : Result Taken Full) (t : Table) (mac : Mac) (inside new : List Address) (mac_is : mac ≡ t.mac) (same : inside ≡ t.addresses) (named : key ≡ named_by mac info) (changes : Changes now key (lifetimes_of info) delay retrans r inside new) where
   changed : Changes now (named_by t.mac info) (lifetimes_of info) delay retrans r t.addresses new
@@ -41,3 +41,6 @@ module _ (now : ℕ) (info : PrefixInfo) (delay retrans key : ℕ) (r : Result T
   fits_heard taken value infos fit =
       let both = fits_on now t.mac info delay retrans r t.addresses new infos taken (valued value) changed fit in
       (both.0, ap (λ m. fits_in m (keys_in new) infos) mac_is ∙ both.1)
+
+  pub keys_heard : is_taken info ≡ true → r ≡ taken_by (is_some (address_in key inside)) info.valid_lifetime (length inside) → would_form t.mac (keys_in t.addresses) info ≡ false → keys_in new ≡ keys_in t.addresses
+  keys_heard taken value idle = keys_on now t.mac info delay retrans r t.addresses new taken (valued value) changed idle

@@ -1,6 +1,6 @@
 //! Prefix options form and renew addresses (RFC 4862, section 5.5.3). The definitions are in `specs/PrefixOption.antt`.
 
-ghost use Rattle.std.specs.Prelude.{◌≡◌, true, ◌+◌, ◌<◌, ◌∷◌, List, IsOk, IfSome, None, is_some, length, ◌≤◌, vec_len, vec_capacity, Ok};
+ghost use Rattle.std.specs.Prelude.{◌≡◌, true, false, ◌+◌, ◌<◌, ◌∷◌, List, IsOk, IfSome, None, is_some, length, ◌≤◌, vec_len, vec_capacity, Ok};
 ghost use Rattle.nd_addr.specs.Number.{number_of};
 ghost use Rattle.nd_slaac.specs.PrefixOption.{is_taken, named_by, lifetimes_of};
 ghost use Rattle.nd_decode.specs.declared.prefix_info.PrefixInfo.{PrefixInfo};
@@ -40,7 +40,7 @@ impl<A: Allocator> Addresses<A> {
     ghost use Rattle.nd_slaac.specs.State.{is_known};
     ghost use Rattle.nd_slaac.specs.Table.{address_in, Stands};
     ghost use Rattle.nd_slaac.specs.PrefixOption.{named_by};
-    ghost use Rattle.nd_slaac.specs.Room.{fits_in};
+    ghost use Rattle.nd_slaac.specs.Room.{fits_in, would_form};
     ghost use Rattle.nd_slaac.specs.Calls.{keys_in, taken_of, row_taken, GainsRowIfAny, TakenBy};
     ghost use Rattle.nd_slaac.specs.MayCome.{MayCome};
 
@@ -63,6 +63,9 @@ impl<A: Allocator> Addresses<A> {
         ensures comes { (history : List Row) → Stands self.old.addresses history → 0 < retrans → IfSome (row_taken now self.old.mac info.now delay retrans result) (λ row. MayCome self.old.transmits row history) }
         ensures mac { self.new.mac ≡ self.old.mac }
         ensures transmits { self.new.transmits ≡ self.old.transmits }
+
+        // If it would form no address, the same ones are known.
+        ensures keys { would_form self.old.mac (keys_in self.old.addresses) info.now ≡ false → keys_in self.new.addresses ≡ keys_in self.old.addresses }
 
         // If the options fit, the first isn't refused, and the others still fit.
         ensures fits { (infos : List PrefixInfo) → fits_in self.old.mac (keys_in self.old.addresses) (info.now ∷ infos) ≡ true → IsOk result × (fits_in self.new.mac (keys_in self.new.addresses) infos ≡ true) }

@@ -1,6 +1,6 @@
 use Rattle.std.proofs.Common.{◌∙◌, ap, sym}
 use Rattle.nd_slaac.specs.Table.{Table}
-use Rattle.nd_slaac.proofs.HeardPrefix.{gains_heard, comes_heard, fits_heard}
+use Rattle.nd_slaac.proofs.HeardPrefix.{gains_heard, comes_heard, fits_heard, keys_heard}
 use Rattle.nd_slaac.proofs.addresses.Addresses.heard_prefix.Goals as goal
 
 pub returns-clause-gains : goal.returns-clause-gains
@@ -19,3 +19,9 @@ returns-clause-comes g c =
     comes_heard c.args.now c.args.info.now c.args.delay c.args.retrans _ c.take.result c.args.self.now _ _ _
     (ap (λ (t : Table). t.mac) c.self.view_is) (ap (λ (t : Table). t.addresses) c.self.view_is) c.named_by-addr.ensures c.take.ensures.changes
     c.take.ensures.value
+
+pub returns-clause-keys : goal.returns-clause-keys
+returns-clause-keys g c =
+    keys_heard c.args.now c.args.info.now c.args.delay c.args.retrans _ c.take.result c.args.self.now _ _ _
+    (ap (λ (t : Table). t.mac) c.self.view_is) (ap (λ (t : Table). t.addresses) c.self.view_is) c.named_by-addr.ensures c.take.ensures.changes
+    (sym c.is_taken.ensures ∙ c.if-not-is_taken.false) c.take.ensures.value

@@ -1,4 +1,4 @@
-use Rattle.std.proofs.Common.{◌≡◌, ◌∙◌, ap, map}
+use Rattle.std.proofs.Common.{◌∙◌, ap, map}
 use Rattle.nd_slaac.specs.Left.{addresses_left}
 use Rattle.nd_slaac.specs.Shown.{seen}
 use Rattle.nd_slaac.specs.Table.{Table}
