@@ -42,14 +42,13 @@ fn has_room<A: Allocator>(
     requires { Rises entries.now }
     ensures { result ≡ has_room limit now (number_of addr.0) (option_map (λ next. number_of next.0) then) entries.now }
 {
-    let here = holds(entries, addr);
-    if !here && !has_place(entries, limit, now) {
-        return false;
-    }
     match then {
-        None => true,
-        Some(next) if here => place_beside(entries, limit, now, addr, next),
-        Some(next) => place_behind(entries, limit, now, addr, next),
+        // Mostly the table isn't full, and the neighbour need not be looked for.
+        None => entries.len() < limit || holds(entries, addr) || has_place(entries, limit, now),
+        Some(next) if holds(entries, addr) => place_beside(entries, limit, now, addr, next),
+        Some(next) => {
+            has_place(entries, limit, now) && place_behind(entries, limit, now, addr, next)
+        }
     }
 }
 
