@@ -67,17 +67,19 @@ fn any_is_to(entries: &[Entry], counted: Counted, destination: Addr) -> bool
 {
     addresses_are_told_by_numbers();
     let _bytes = destination.as_bytes();
-    if entry_counts(entries, counted, destination) {
-        return true;
-    }
-    if destination == destination.solicited_node() {
-        return any_is_asked(entries, counted, destination);
-    }
-    false
+    // Most multicast messages are solicitations, whose destination is the solicited-node address of one of a few.
+    any_is_asked(entries, counted, destination) || entry_counts(entries, counted, destination)
 }
 
 /// Returns true if the destination is the solicited-node address of an entry that counts.
 fn any_is_asked(entries: &[Entry], counted: Counted, destination: Addr) -> bool
+    ensures { result ≡ list_any (is_asked counted destination) entries.now }
+{
+    destination == destination.solicited_node() && any_ends_alike(entries, counted, destination)
+}
+
+/// Returns true if an entry that counts ends in the 24 bits of this solicited-node address.
+fn any_ends_alike(entries: &[Entry], counted: Counted, destination: Addr) -> bool
     requires { destination.0 ≡ solicited_node_of destination.0 }
     ensures { result ≡ list_any (is_asked counted destination) entries.now }
 {

@@ -1,7 +1,7 @@
 use Rattle.std.proofs.Common.{◌≡◌, drop}
 use Rattle.std.specs.List.{list_any}
 use Rattle.nd_slaac.specs.Destination.{is_asked}
-use Rattle.nd_slaac.proofs.destination.any_is_asked.Given as goal
+use Rattle.nd_slaac.proofs.destination.any_ends_alike.Given as goal
 
 -- the rest has one where there is one
 abbrev pub invariant-loop-entry : goal.invariant-loop-entry
