@@ -13,7 +13,7 @@ ghost use Rattle.nd_table.specs.Refreshing.{only_refreshes};
 use crate::prefixes::{MAX_PREFIXES, Prefixes};
 use nd_addr::Prefix;
 use nd_decode::{Options, PrefixInfo};
-use nd_table::{Announces, Lasting, Limit, TableRefusal, announce_all, fits_all, only_refreshes};
+use nd_table::{Announces, Lasting, Limit, TableRefusal, announce_all, fits_all};
 use std::alloc::Allocator;
 
 impl<A: Allocator> Prefixes<A> {
@@ -25,14 +25,6 @@ impl<A: Allocator> Prefixes<A> {
             → result ≡ fits same_prefix max_prefixes now (prefixes_in (options_left options.entry)) es }
     {
         fits(&self.entries, now, options)
-    }
-
-    /// Returns true if the options of a Router Advertisement only refresh prefixes that are on the link at `now`, in milliseconds: they add none
-    /// and remove none. It takes no memory.
-    pub fn only_refreshes(&self, now: u64, options: Options<'_>) -> bool
-        ensures { result ≡ only_refreshes same_prefix now (prefixes_in (options_left options.entry)) self.now }
-    {
-        only_refreshes(&self.entries, now, OnLink { options })
     }
 
     /// Takes the options of a Router Advertisement at `now`, in milliseconds, in order (RFC 4861, section 6.3.4): a prefix that is on the link
@@ -56,16 +48,18 @@ impl<A: Allocator> Prefixes<A> {
         Ok(())
     }
 
-    /// Does what `heard_ra` does, for options that fit. It takes no memory.
-    pub fn take_ra(&mut self, now: u64, options: Options<'_>)
+    /// Does what `heard_ra` does, for options that fit. Returns true if they only refresh prefixes that are on the link: they add none and remove
+    /// none. It takes no memory.
+    pub fn take_ra(&mut self, now: u64, options: Options<'_>) -> bool
         requires moment { IsMoment now }
         requires fits { fits same_prefix max_prefixes now (prefixes_in (options_left options)) self.old ≡ true }
 
+        ensures refreshes { result ≡ only_refreshes same_prefix now (prefixes_in (options_left options.entry)) self.old }
         ensures stands { (history : List (Row PrefixValue)) → last_moment history ≤ now → Stands same_prefix self.old history
             → Stands same_prefix self.new (then_announced now (prefixes_in (options_left options.entry)) history) }
         ensures value { self.new ≡ announced_all same_prefix now (prefixes_in (options_left options.entry)) self.old }
     {
-        announce_all(&mut self.entries, MAX_PREFIXES, now, OnLink { options });
+        announce_all(&mut self.entries, MAX_PREFIXES, now, OnLink { options })
     }
 }
 

@@ -31,7 +31,6 @@ pub fn hear_prefixes<A: Allocator>(
     ensures recollects { Recollects choice.old choice.new (AsStanding now prefixes.old prefixes.new) }
     ensures redirects { choice.new.redirects ≡ choice.old.redirects }
 {
-    let refreshes = prefixes.only_refreshes(now, options);
-    prefixes.take_ra(now, options);
+    let refreshes = prefixes.take_ra(now, options);
     keep_if(choice, refreshes);
 }

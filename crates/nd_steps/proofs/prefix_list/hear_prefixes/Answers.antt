@@ -5,7 +5,7 @@ use Rattle.nd_steps.proofs.prefix_list.hear_prefixes.Goals as goal
 
 pub returns-clause-recollects : goal.returns-clause-recollects
 returns-clause-recollects g c =
-    linked c.only_refreshes-refreshes.result c.args.now (prefixes_in (options_left c.args.options)) c.args.choice.now c.keep_if.new.choice c.args.prefixes.now c.take_ra.new.self c.only_refreshes-refreshes.ensures c.keep_if.ensures c.take_ra.ensures.value
+    linked c.take_ra-refreshes.result c.args.now (prefixes_in (options_left c.args.options)) c.args.choice.now c.keep_if.new.choice c.args.prefixes.now c.take_ra-refreshes.new.self c.take_ra-refreshes.ensures.refreshes c.keep_if.ensures c.take_ra-refreshes.ensures.value
 
 pub returns-clause-redirects : goal.returns-clause-redirects
-returns-clause-redirects g c = kept_redirects c.only_refreshes-refreshes.result c.args.choice.now c.keep_if.new.choice c.keep_if.ensures
+returns-clause-redirects g c = kept_redirects c.take_ra-refreshes.result c.args.choice.now c.keep_if.new.choice c.keep_if.ensures
