@@ -1,5 +1,6 @@
-ghost use Rattle.std.specs.Prelude.{◌≡◌, ◌<◌, ◌^◌, [], IfOk, IsOk, length, ◌≤◌, true, vec_len, vec_capacity};
-ghost use Rattle.nd_table.specs.Listing.{entered, fits, announced_all};
+ghost use Rattle.std.specs.Prelude.{◌≡◌, ◌<◌, ◌^◌, [], IfOk, IsOk, length, ◌≤◌, true, false, vec_len, vec_capacity};
+ghost use Rattle.nd_search_list.specs.NameRef.{name_of};
+ghost use Rattle.nd_table.specs.Listing.{entered, enters, fits, announced_all};
 ghost use Rattle.nd_table.specs.Moment.{IsMoment};
 ghost use Rattle.nd_dns.specs.AnnouncedNames.{same_name, names_to_come};
 
@@ -28,13 +29,23 @@ impl<A: Allocator> Model for NewNames<A> {
 }
 
 impl<A: Allocator> NewNames<A> {
-    ghost use Rattle.std.specs.Prelude.{◌≡◌, ◌∷◌, [], MatchOption};
+    ghost use Rattle.std.specs.Prelude.{◌≡◌, ◌↔◌, ◌∷◌, [], true, MatchOption};
 
-    /// Returns an empty list.
-    pub(crate) fn none() -> Self
+    /// Returns an empty list, for a message that adds no search name (`Dns::only_refreshes_names`). It takes no memory.
+    pub fn none() -> Self
         ensures { result ≡ [] }
     {
         NewNames { names: None }
+    }
+
+    /// Returns true if there is no name in it.
+    pub(crate) fn is_empty(&self) -> bool
+        ensures { result ≡ true ↔ (self.now ≡ []) }
+    {
+        match &self.names {
+            Some(names) => names.is_empty(),
+            None => true,
+        }
     }
 
     /// Removes and returns the first name.
@@ -91,6 +102,21 @@ pub(crate) fn copies<A: Allocator + Clone>(
     Ok(copies)
 }
 
+/// Returns true if an announcement adds its name, of which there is a copy among `copies` then.
+fn is_added<A: Allocator>(
+    entries: &[Lasting<SearchName<A>>],
+    now: u64,
+    name: &NameRef<'_>,
+    lifetime: u32,
+    copies: &NewNames<A>,
+) -> bool
+    requires { copies.now ≡ [] → enters same_name now (name_of name.now) lifetime entries.now ≡ false }
+    ensures { result ≡ enters same_name now (name_of name.now) lifetime entries.now }
+{
+    // Mostly a message adds no name, and none is looked for.
+    !copies.is_empty() && enters(entries, now, name, lifetime)
+}
+
 /// Takes the announcements of names of a message in order, with copies of those that enter. There is room for them.
 pub(crate) fn announce_names<A: Allocator>(
     entries: &mut Vec<Lasting<SearchName<A>>, A>,
@@ -111,7 +137,7 @@ pub(crate) fn announce_names<A: Allocator>(
     let mut rest = announced;
     let mut copies = copies;
     while let Some((name, lifetime)) = rest.next_name() {
-        let key = if enters(entries, now, &name, lifetime) {
+        let key = if is_added(entries, now, &name, lifetime, &copies) {
             copies.next()
         } else {
             None

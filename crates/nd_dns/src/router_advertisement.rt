@@ -126,29 +126,19 @@ impl<A: Allocator + Clone> Dns<A> {
         if !self.fits_names(now, options) {
             return Err(TableRefusal::Full(Limit::Names));
         }
-        match self.new_names(now, options, false) {
+        match self.new_names(now, options) {
             Ok(names) => Ok(names),
             Err(_) => Err(TableRefusal::Memory),
         }
     }
 
-    /// Copies the search names that they add, without asking for room. `known`: they add none, since they only refresh what is known. Returns an
-    /// error if out of memory. If they add none it takes no memory.
-    pub fn new_names(
-        &self,
-        now: u64,
-        options: Options<'_>,
-        known: bool,
-    ) -> Result<NewNames<A>, AllocError>
-        requires { known ≡ true → new_names now (options_left options) self.now ≡ [] }
+    /// Copies the search names that they add, without asking for room. Returns an error if out of memory. If they add none it takes no memory.
+    pub fn new_names(&self, now: u64, options: Options<'_>) -> Result<NewNames<A>, AllocError>
         ensures value { IfOk result (λ names. names ≡ new_names now (options_left options.entry) self.now) }
 
         // If no name is added it succeeds, even if no memory is left.
         ensures quiet { new_names now (options_left options.entry) self.now ≡ [] → IsOk result }
     {
-        if known {
-            return Ok(NewNames::none());
-        }
         copies(&self.alloc, &self.names, now, AnnouncedNames::new(options))
     }
 

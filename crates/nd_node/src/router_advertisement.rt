@@ -27,7 +27,7 @@ use nd_neighbour::{News, Times};
 use nd_out::{Out, Refusal};
 use nd_steps::{
     has_place, hear_dns, hear_of_neighbour, hear_parameters, hear_prefix_options, hear_prefixes,
-    hear_router, keep_until_a_prefix_ends, news_of, none_forms, tell_left, waiting_for,
+    hear_router, keep_until_a_prefix_ends, news_of, tell_left, waiting_for,
 };
 use rand_core::Rng;
 use std::alloc::{AllocError, Allocator};
@@ -73,7 +73,6 @@ impl<R: Rng + Drop, A: Allocator + Clone> Node<R, A> {
         one_is_pushed_out();
         nd_neighbour::laws::none_overdue();
         nd_slaac::laws::none_overdue();
-        let own = none_forms(&self.addresses, heard.options);
         // RFC 4861, section 6.3.4: "If the received Cur Hop Limit value is non-zero, the host SHOULD set its CurHopLimit variable to the received
         // value", and so for Reachable Time, Retrans Timer and the MTU option.
         hear_parameters(
@@ -114,7 +113,7 @@ impl<R: Rng + Drop, A: Allocator + Clone> Node<R, A> {
         // Section 6.3.4, "each Prefix Information option with the on-link flag set".
         hear_prefixes(&mut self.prefixes, &mut self.choice, now, heard.options);
         // RFC 4862, section 5.5.3: the options with the autonomous flag form addresses, or renew them.
-        hear_prefix_options(
+        let none_formed = hear_prefix_options(
             &mut self.addresses,
             &mut self.generator,
             now,
@@ -124,7 +123,7 @@ impl<R: Rng + Drop, A: Allocator + Clone> Node<R, A> {
         );
         // RFC 8106, sections 5 and 6: servers and search names.
         hear_dns(&mut self.dns, now, heard.options, names);
-        keep_until_a_prefix_ends(&mut self.choice, &self.prefixes, now, own);
+        keep_until_a_prefix_ends(&mut self.choice, &self.prefixes, now, none_formed);
         self.advance_to(now);
     }
 
@@ -153,11 +152,14 @@ impl<R: Rng + Drop, A: Allocator + Clone> Node<R, A> {
         let news = news_of(source, &Body::Ra(*ra), options);
         let place = has_place(&self.neighbours, now, news);
         let known = self.dns.only_refreshes_names(now, options);
-        match self.first_full(now, source, ra, options, place, known) {
-            Some(limit) => return self.refuse(now, Refusal::Full(limit), outs),
-            None => {}
+        if let Some(limit) = self.first_full(now, source, ra, options, place, known) {
+            return self.refuse(now, Refusal::Full(limit), outs);
         }
-        let names = self.dns.new_names(now, options, known)?;
+        let names = if known {
+            NewNames::none()
+        } else {
+            self.dns.new_names(now, options)?
+        };
         let waiting = waiting_for(&self.neighbours, news);
         outs.reserve(waiting + BESIDE_FRAMES)?;
         let heard = Advertisement {

@@ -18,20 +18,20 @@ pub fn keep_if<A: Allocator>(choice: &mut Choice<A>, keep: bool)
 }
 
 /// Sets the last moment at which remembered next hops may be used, in milliseconds: the one before the next prefix on the link ends, since prefixes
-/// end silently. `own`: none of the node's own addresses was formed. If one was, or if the former last moment has passed, the remembered next
+/// end silently. `none_formed`: no address of the node was formed. If one was, or if the former last moment has passed, the remembered next
 /// hops are forgotten.
 pub fn keep_until_a_prefix_ends<A: Allocator>(
     choice: &mut Choice<A>,
     prefixes: &Prefixes<A>,
     now: u64,
-    own: bool,
+    none_formed: bool,
 )
     ensures redirects { choice.new.redirects ≡ choice.old.redirects }
-    ensures hops { choice.new.memory.hops ≡ (if own && is_asked now choice.old.memory.until then choice.old.memory.hops else []) }
+    ensures hops { choice.new.memory.hops ≡ (if none_formed && is_asked now choice.old.memory.until then choice.old.memory.hops else []) }
     ensures until { choice.new.memory.until ≡ last_before_end now prefixes.now }
 {
     let asked = choice.is_asked(now);
-    keep_if(choice, own && asked);
+    keep_if(choice, none_formed && asked);
     match prefixes.least_end(now) {
         Some(end) => choice.until(Some(end.saturating_sub(1))),
         None => choice.until(None),

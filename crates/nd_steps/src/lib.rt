@@ -38,7 +38,7 @@ pub use news::news_of;
 pub use next_hop::{Tables, is_via};
 pub use own_addresses::{
     hear_conflict, hear_holder, hear_prefix_options, is_awake, is_to_nodes, is_to_routers,
-    link_local, none_forms, takes_target,
+    link_local, takes_target,
 };
 pub use packets::{OutgoingPacket, is_too_long, packet_in};
 pub use parameters::{hear_parameters, times_in_force};

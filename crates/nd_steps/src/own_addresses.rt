@@ -12,7 +12,7 @@ ghost use Rattle.nd_chronicle.specs.Histories.{address_history};
 ghost use Rattle.nd_chronicle.specs.Start.{Start};
 ghost use Rattle.nd_decode.specs.declared.prefix_info.PrefixInfo.{PrefixInfo};
 ghost use Rattle.nd_decode.specs.Pieces.{options_left};
-ghost use Rattle.nd_slaac.specs.Room.{fits_in};
+ghost use Rattle.nd_slaac.specs.Room.{fits_in, would_form};
 ghost use Rattle.nd_slaac.specs.Calls.{keys_in};
 ghost use Rattle.nd_chronicle.specs.RouterAdvertisement.{then_option, then_options};
 ghost use Rattle.nd_steps.specs.DestinationCache.{forms_none};
@@ -120,7 +120,7 @@ fn delay<R: Rng>(generator: &mut R, to_all: bool, forms: bool) -> u32
 }
 
 /// Takes a prefix option of a Router Advertisement, which may form an address; there is room for it (RFC 4862, section 5.5.3). `now` and `retrans`,
-/// the RetransTimer in force, are in milliseconds.
+/// the RetransTimer in force, are in milliseconds. Returns true if it forms one.
 fn hear_prefix_option<R: Rng, A: Allocator>(
     addresses: &mut Addresses<A>,
     generator: &mut R,
@@ -128,36 +128,25 @@ fn hear_prefix_option<R: Rng, A: Allocator>(
     info: &PrefixInfo,
     to_all: bool,
     retrans: u32,
-)
+) -> bool
     requires moment { IsMoment now }
     requires fits { fits_in addresses.old.mac (keys_in addresses.old.addresses) (info.now ∷ []) ≡ true }
     ensures forms { (start : Start) (c : Chronicle) → Forms start addresses.old (R.stream generator.old) retrans c → Forms start addresses.new (R.stream generator.new) retrans (then_option start now to_all info.now c) }
     ensures fits { (infos : List PrefixInfo) → fits_in addresses.old.mac (keys_in addresses.old.addresses) (info.now ∷ infos) ≡ true → fits_in addresses.new.mac (keys_in addresses.new.addresses) infos ≡ true }
+    ensures value { result ≡ would_form addresses.old.mac (keys_in addresses.old.addresses) info.now }
+    ensures same { result ≡ false → keys_in addresses.new.addresses ≡ keys_in addresses.old.addresses }
+    ensures mac { addresses.new.mac ≡ addresses.old.mac }
 {
     let forms = addresses.would_form(info);
     let delay = delay(generator, to_all, forms);
     match addresses.heard_prefix(now, info, delay, retrans) {
-        Ok(_) => {}
+        Ok(_) => forms,
         Err(_) => unreachable!(),
     }
 }
 
-/// Returns true if none of the prefix options of a Router Advertisement would form an address.
-#[tactic(auto, using(nd_slaac::proofs::OfType::prefixes_by_first))]
-pub fn none_forms<A: Allocator>(addresses: &Addresses<A>, options: Options<'_>) -> bool
-    ensures { result ≡ forms_none addresses.now.mac (keys_in addresses.now.addresses) (prefixes_in (options_left options.entry)) }
-{
-    let mut rest = options;
-    while let Some(info) = rest.next_prefix() {
-        if addresses.would_form(&info) {
-            return false;
-        }
-    }
-    true
-}
-
 /// Takes the prefix options of a Router Advertisement in their order. They may form addresses; there is room for these (RFC 4862, section 5.5.3).
-/// `now` and `retrans`, the RetransTimer in force, are in milliseconds.
+/// `now` and `retrans`, the RetransTimer in force, are in milliseconds. Returns true if they form none.
 #[tactic(auto, using(nd_slaac::proofs::OfType::prefixes_by_first))]
 pub fn hear_prefix_options<R: Rng, A: Allocator>(
     addresses: &mut Addresses<A>,
@@ -166,15 +155,20 @@ pub fn hear_prefix_options<R: Rng, A: Allocator>(
     options: Options<'_>,
     to_all: bool,
     retrans: u32,
-)
+) -> bool
     requires moment { IsMoment now }
     requires fits { fits_in addresses.old.mac (keys_in addresses.old.addresses) (prefixes_in (options_left options)) ≡ true }
     ensures forms { (start : Start) (c : Chronicle) → Forms start addresses.old (R.stream generator.old) retrans c → Forms start addresses.new (R.stream generator.new) retrans (then_options start now to_all (prefixes_in (options_left options.entry)) c) }
+    ensures none { result ≡ forms_none addresses.old.mac (keys_in addresses.old.addresses) (prefixes_in (options_left options.entry)) }
 {
     let mut rest = options;
+    let mut none_formed = true;
     while let Some(info) = rest.next_prefix() {
-        hear_prefix_option(addresses, generator, now, &info, to_all, retrans);
+        if hear_prefix_option(addresses, generator, now, &info, to_all, retrans) {
+            none_formed = false;
+        }
     }
+    none_formed
 }
 
 /// Makes a tentative address a duplicate, since another node has it or tries it (RFC 4862, sections 5.4.3 and 5.4.4), and forgets remembered next

@@ -5,7 +5,7 @@ use Rattle.nd_search_list.specs.NameRef.{name_of}
 use Rattle.nd_table.specs.Listing.{fits, announced, announced_all, entered, enters}
 use Rattle.nd_dns.specs.AnnouncedNames.{same_name, names_to_come}
 use Rattle.nd_dns.proofs.new_names.announce_names.Goals as goal
-use Rattle.nd_dns.proofs.new_names.announce_names.Goals.{then-enters, else-enters}
+use Rattle.nd_dns.proofs.new_names.announce_names.Goals.{then-is_added, else-is_added}
 
 pub loop-name-preserved : goal.loop-name-preserved
 loop-name-preserved g c =
@@ -16,7 +16,7 @@ loop-name-preserved g c =
     let left = names_to_come c.next_name.new.self in
     let next = announced same_name now named w es in
     let fit = and_parts (nat_le (length next) c.args.limit) (fits same_name c.args.limit now left next) (ap (λ (l : List (List ℕ × ℕ)). fits same_name c.args.limit now l es) (sym c.in-Some.ensures) ∙ c.loop-name.invariant.1) in
-    let entering : c.enters.result ≡ enters same_name now named w es = c.enters.ensures ∙ ap (λ xs. enters same_name now named w xs) c.deref.ensures.value in
+    let entering : c.is_added.result ≡ enters same_name now named w es = c.is_added.ensures ∙ ap (λ xs. enters same_name now named w xs) c.deref.ensures.value in
     let from : c.loop-name.copies ≡ cond (enters same_name now named w es) (named ∷ entered same_name now left next) (entered same_name now left next) =
     c.loop-name.invariant.4 ∙ ap (λ (l : List (List ℕ × ℕ)). entered same_name now l es) c.in-Some.ensures in
     let items = c.announce.ensures.items in (
@@ -24,8 +24,8 @@ loop-name-preserved g c =
       ap (λ xs. fits same_name c.args.limit now left xs) items ∙ fit.1,
       omega (arith, leb-true _ _ fit.0, ap length items),
       c.announce.ensures.capacity ∙ c.loop-name.invariant.3,
-      elim c.if-enters.branch [
-        | then-enters w ↦ let e = sym entering ∙ w.if-enters.true in grind (arith, e, items, from, w.copies-is, w.next-key.ensures)
-        | else-enters w ↦ let e = sym entering ∙ w.if-enters.false in grind (arith, e, items, from, w.copies-is)
+      elim c.if-is_added.branch [
+        | then-is_added w ↦ let e = sym entering ∙ w.if-is_added.true in grind (arith, e, items, from, w.copies-is, w.next-key.ensures)
+        | else-is_added w ↦ let e = sym entering ∙ w.if-is_added.false in grind (arith, e, items, from, w.copies-is)
       ],
     )

@@ -1,8 +1,6 @@
-use Rattle.std.proofs.Common.{◌∙◌, sym, ap, arith, length, List, ℕ}
-use Rattle.nd_addr.specs.declared.addr.Addr.{Addr}
+use Rattle.std.proofs.Common.{sym, ap, arith, length}
 use Rattle.nd_addr.specs.Same.{same_addr, addrs_tell}
 use Rattle.nd_decode.specs.Pieces.{options_left}
-use Rattle.nd_table.specs.Listing.{fits}
 use Rattle.nd_table.proofs.Behind.{fits_beside}
 use Rattle.nd_dns.specs.Dns.{max_servers}
 use Rattle.nd_dns.specs.AnnouncedServers.{servers_told}

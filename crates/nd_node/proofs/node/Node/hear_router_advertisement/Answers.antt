@@ -23,14 +23,14 @@ returns-in-Some-clause-adds g c =
     (c.first_full.ensures.fills start c' s le (sender_placed stream c.args.now c.args.source c.args.destination c.args.ra.now options c.args.self.now c.news_of-news.result c.has_place-place.result c.news_of-news.ensures c.has_place-place.ensures.placed start c' s)))) c.refuse.ensures.adds
 
 pub take_router_advertisement-requires-clause-place : goal.take_router_advertisement-requires-clause-place
-take_router_advertisement-requires-clause-place g c = c.has_place-place.ensures.room (c.first_full.ensures.room c.in-None.is).neighbours
+take_router_advertisement-requires-clause-place g c = c.has_place-place.ensures.room (c.first_full.ensures.room c.in_default.is).neighbours
 
 pub returns-clause-adds : goal.returns-clause-adds
 returns-clause-adds g c =
     let stream = g.R.Rng.stream in
     let options = options_left c.args.options in
     takes stream c.args.now c.args.source c.args.destination c.args.ra.now options c.args.self.now _ c.args.outs.now.items c.reserve.new.self.items c.push_heard.new.outs.items c.take_router_advertisement.new.outs.items _ refl
-    (λ start c' s le. subst (λ (limit : Option Limit). AdvertisementFills start c' c.args.now c.args.source c.args.ra.now (advertised c.args.ra.now options) limit) (ap (option_map limit_of) c.in-None.is)
+    (λ start c' s le. subst (λ (limit : Option Limit). AdvertisementFills start c' c.args.now c.args.source c.args.ra.now (advertised c.args.ra.now options) limit) (ap (option_map limit_of) c.in_default.is)
     (c.first_full.ensures.fills start c' s le (sender_placed stream c.args.now c.args.source c.args.destination c.args.ra.now options c.args.self.now c.news_of-news.result c.has_place-place.result c.news_of-news.ensures c.has_place-place.ensures.placed start c' s)))
     c.in_ok-reserve.ensures.items c.push_heard.ensures.items
     c.take_router_advertisement.ensures
@@ -47,13 +47,13 @@ returns-in_err-names-clause-quiet g c = λ adds. let refused = c.in_err-names.en
 pub returns-in_err-names-clause-full : goal.returns-in_err-names-clause-full
 returns-in_err-names-clause-full g c = λ limit start c' s le fills place.
     let options = options_left c.args.options in
-    let none = subst (λ (limit' : Option Limit). AdvertisementFills start c' c.args.now c.args.source c.args.ra.now (advertised c.args.ra.now options) limit') (ap (option_map limit_of) c.in-None.is)
+    let none = subst (λ (limit' : Option Limit). AdvertisementFills start c' c.args.now c.args.source c.args.ra.now (advertised c.args.ra.now options) limit') (ap (option_map limit_of) c.in_default.is)
     (c.first_full.ensures.fills start c' s le (sender_placed g.R.Rng.stream c.args.now c.args.source c.args.destination c.args.ra.now options c.args.self.now c.news_of-news.result c.has_place-place.result c.news_of-news.ensures c.has_place-place.ensures.placed start c' s)) in
     absurd (router_advertisement_left start c.args.now c.args.source options ((c.args.now, Passed) ∷ c') limit c.args.ra.now c' refl none fills)
 
 pub returns-in_err-reserve-clause-full : goal.returns-in_err-reserve-clause-full
 returns-in_err-reserve-clause-full g c = λ limit start c' s le fills place.
     let options = options_left c.args.options in
-    let none = subst (λ (limit' : Option Limit). AdvertisementFills start c' c.args.now c.args.source c.args.ra.now (advertised c.args.ra.now options) limit') (ap (option_map limit_of) c.in-None.is)
+    let none = subst (λ (limit' : Option Limit). AdvertisementFills start c' c.args.now c.args.source c.args.ra.now (advertised c.args.ra.now options) limit') (ap (option_map limit_of) c.in_default.is)
     (c.first_full.ensures.fills start c' s le (sender_placed g.R.Rng.stream c.args.now c.args.source c.args.destination c.args.ra.now options c.args.self.now c.news_of-news.result c.has_place-place.result c.news_of-news.ensures c.has_place-place.ensures.placed start c' s)) in
     absurd (router_advertisement_left start c.args.now c.args.source options ((c.args.now, Passed) ∷ c') limit c.args.ra.now c' refl none fills)
