@@ -50,7 +50,7 @@ use Rattle.nd_steps.proofs.Quiet.{sent_is_quiet, losing_is_quiet}
 use Rattle.nd_node.specs.declared.node.Node.{Node}
 use Rattle.nd_node.specs.Moments.{earlier}
 use Rattle.nd_node.specs.Node.{ends, Stands, NextDue, next_of}
-use Rattle.nd_node.proofs.Moments.{no_router, no_address, no_neighbour, none_at, before_second, none_before, before_routers, before_addresses, before_neighbours, before_solicitation, before_advertisement, before_redraw, at_redraw}
+use Rattle.nd_node.proofs.Moments.{no_router, no_address, no_neighbour, none_at, before_second, none_before, before_routers, before_addresses, before_neighbours, before_solicitation, before_advertisement, before_redraw, at_redraw, earlier_at}
 use Rattle.nd_node.proofs.Quiet.{stands_quiet}
 
 -- ---- the dates of a node
@@ -376,7 +376,7 @@ module _ {R A : Type 0} (stream : R → Stream) (start : Start) (old : Node R A)
       let at = at_redraw now (routers.next_end old.routers.entries) (address_dates.next_in old.addresses.addresses) (neighbours_due.next_in old.neighbours.entries) (next_solicitation old.role old.solicitations) (next_advertisement old.role old.router) (old.params.drawn_at + redraw_after) is hr ha hn hs hv in
       omega (arith, at, s.params.drawn_at)
 
--- before the earliest of the dates nothing is due
+-- before the earliest of the dates nothing is due, and at it something is
 pub next_due_at : {R A : Type 0} (stream : R → Stream) (start : Start) (node : Node R A) (c : Chronicle) → Stands stream start node c
     → (r a n : Option ℕ) → r ≡ routers.next_end node.routers.entries → a ≡ address_dates.next_in node.addresses.addresses → n ≡ neighbours_due.next_in node.neighbours.entries
     → routers_due.NextDue (router_history c) r → addresses_due.NextDue node.addresses.transmits (address_history c) a → neighbours_due.NextDue (neighbour_history c) n
@@ -401,4 +401,18 @@ next_due_at stream start node c s r a n r_is a_is n_is r_due a_due n_due next is
         subst (λ (o : Option ℕ). o ≢ Some moment) (advertisement_date start node.role node.router c s.role s.router) (none_at moment advertisement redraw lt5),
         λ at. absurd (omega (arith, lt6, at, s.params.drawn_at)),
       );
+  something_then = λ none.
+      let date = next_solicitation node.role node.solicitations in
+      let advertisement = next_advertisement node.role node.router in
+      let redraw = node.params.drawn_at + redraw_after in
+      let rest = earlier date (earlier advertisement redraw) in
+      let at1 : next ≡ earlier r (earlier a (earlier n rest)) = rw (r_is, a_is, n_is) is in
+      let at2 = earlier_at next r (earlier a (earlier n rest)) at1 (λ e. let due = subst (λ (o : Option ℕ). routers_due.NextDue (router_history c) o) e r_due in none.0 due.0.0 due.0.1) in
+      let at3 = earlier_at next a (earlier n rest) at2 (λ e.
+        let due = subst (λ (k : ℕ). addresses_due.NextDue k (address_history c) (Some next)) s.address_transmits (subst (λ (o : Option ℕ). addresses_due.NextDue node.addresses.transmits (address_history c) o) e a_due) in
+        none.1 due.0.0 due.0.1) in
+      let at4 = earlier_at next n rest at3 (λ e. let due = subst (λ (o : Option ℕ). neighbours_due.NextDue (neighbour_history c) o) e n_due in none.2 due.0.0 due.0.1) in
+      let at5 = earlier_at next date (earlier advertisement redraw) at4 (λ e. none.3 (sym (solicitation_date stream start node c s) ∙ e)) in
+      let at6 = earlier_at next advertisement redraw at5 (λ e. none.4 (sym (advertisement_date start node.role node.router c s.role s.router) ∙ e)) in
+      none.5 (omega (arith, at6, s.params.drawn_at));
 }

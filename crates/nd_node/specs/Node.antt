@@ -73,10 +73,11 @@ pub record Stands {R A : Type 0} (stream : R → Stream) (start : Start) (node :
   pub memo : Remembers node.last node.choice node.addresses.addresses node.prefixes node.neighbours.entries node.routers
   pub in_time : last_moment start.at c ≤ next_of node
 
--- Nothing is due before the moment, which isn't past.
+-- Nothing is due before the moment, which isn't past, and something is due at it.
 pub record NextDue (start : Start) (c : Chronicle) (next : ℕ) : Type 0 where
   pub not_past : last_moment start.at c ≤ next
   pub nothing_before : (moment : ℕ) → moment < next → Due start c moment None
+  pub something_then : Due start c next None → ⊥
 
 -- one of the node's own addresses ends
 abbrev pub ends : Falls → Bool

@@ -115,6 +115,11 @@ impl<R: Rng + Drop, A: Allocator + Clone> Node<R, A> {
         requires { IsMoment now }
         ensures follows { OnOk result (Leads R.stream self.old self.new outs.old.items outs.new.items (FollowsBy now (events.Receives frame.now))) }
         ensures onward { OnErr result (Leads R.stream self.old self.new outs.old.items outs.new.items (Onward now)) }
+
+        // As `event`: it succeeds even if no memory is left, if nothing is due and the frame asks for none or is refused, or if it is too late.
+        ensures quiet { (start : Start) (c : Chronicle) → Stands R.stream start self.old c → last_moment start.at c ≤ now → now < next_of self.old → AsksForNone start c self.old now (vec_capacity outs.old - vec_len outs.old) (events.Receives frame.now) → IsOk result }
+        ensures late { now < self.old.last → vec_len outs.old < vec_capacity outs.old → IsOk result }
+        ensures refused { (start : Start) (c : Chronicle) → Stands R.stream start self.old c → last_moment start.at c ≤ now → now < next_of self.old → AddsRefusal now c (EventAdds start now (events.Receives frame.now)) → vec_len outs.old < vec_capacity outs.old → IsOk result }
     {
         if now < self.last {
             return self.refuse_past(now, outs);

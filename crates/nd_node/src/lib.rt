@@ -36,8 +36,8 @@
 //! table refuses (`Out::Refused`) or evicts an entry as RFC 4861, section 5.3, suggests.
 //!
 //! Memory is taken for frames that are sent, packets that wait for a neighbour's link-layer address, new search names, a redirect or a next hop
-//! that is new, the list of outputs and text. If the list has room, none is taken for a frame that is dropped, an advertisement that adds no search name, a refusal, `Passes` and
-//! `Confirms` (the clauses `quiet`, `late` and `refused` of `event`), nor for any question.
+//! that is new, the list of outputs and text. If the list has room, none is taken for a frame that is dropped, a Router Advertisement that adds no
+//! search name, a refusal, `Passes` and `Confirms` (the clauses `quiet`, `late` and `refused` of `event` and `receive`), nor for any question.
 //!
 //! # What is proved
 //!

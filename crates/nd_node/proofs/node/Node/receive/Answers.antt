@@ -1,5 +1,9 @@
+use Rattle.std.proofs.Common.{◌-◌, subst, sym}
+use Rattle.std.specs.Prelude.{vec_len, vec_capacity}
 use Rattle.std.proofs.lemmas.Result.{on_ok_weaker}
 use Rattle.nd_chronicle.specs.Event as events
+use Rattle.nd_node.specs.Memory.{AsksForNone}
+use Rattle.nd_node.specs.Node.{Stands}
 use Rattle.nd_node.proofs.Steps.{follows}
 use Rattle.nd_node.proofs.node.Node.receive.Goals as goal
 
@@ -9,3 +13,12 @@ returns-then-now-self-clause-follows g c = on_ok_weaker c.refuse_past.result (λ
 pub returns-clause-follows : goal.returns-clause-follows
 returns-clause-follows g c =
     on_ok_weaker c.judge_frame.result (λ adds. follows g.R.Rng.stream c.args.self.now _ _ _ _ _ c.args.now (events.Receives c.args.frame.now) c.if-now-self.false c.in_ok-settle.ensures.passes adds) c.judge_frame.ensures.adds
+
+pub returns-clause-quiet : goal.returns-clause-quiet
+returns-clause-quiet g c = λ start c' s le lt asks.
+    let idle = c.in_ok-settle.ensures.idle lt in
+    let now = c.args.now in
+    let frame = events.Receives c.args.frame.now in
+    c.judge_frame.ensures.quiet start c' (subst (λ node. Stands g.R.Rng.stream start node c') (sym idle.1) s) le
+    (subst (λ node. AsksForNone start c' node now (vec_capacity c.settle.new.outs - vec_len c.settle.new.outs) frame) (sym idle.1)
+    (subst (λ outs. AsksForNone start c' c.args.self.now now (vec_capacity outs - vec_len outs) frame) (sym idle.2) asks))
