@@ -21,6 +21,7 @@ POOL = f"{BINDINGS}/c/pool.c"
 COUNTING = f"{TESTS}/heap.c"
 VALGRIND = ["valgrind", "-q", "--error-exitcode=99", "--leak-check=full", "--errors-for-leak-kinds=definite"]
 HOST = ["34:56:78:9a:bc:de", "word:0"]
+ROUTER = ["02:00:00:00:00:01", "word:0"]
 NDPCTL = f"{TOP}/crates/ndpctl/out/ndpctl"
 MIXED = "\n".join(frames.mixed(300)) + "\n"
 FEW = "\n".join(frames.mixed(40)) + "\n"
@@ -80,6 +81,14 @@ def check_host(what, program):
     """Requires that a host of the examples prints the expected text for its frames."""
     said = check_runs(what, [program, *HOST], read(f"{TOP}/examples/host.hex"))
     report_if(f"{what} prints the expected text", said == read(f"{TOP}/examples/host.txt"), said)
+
+
+def check_router(program):
+    """Requires that the router of the examples sends for its frames what the same router sends by `ndpctl run`."""
+    said = check_runs("router", [program, *ROUTER], read(f"{TOP}/examples/router.hex"))
+    sent = [line for line in read(f"{TOP}/examples/scripts/router.output").splitlines() if line.split()[1] == "tx"]
+    wanted = read(f"{TOP}/examples/router.txt")
+    report_if("router sends the expected frames", said == wanted and wanted.splitlines() == sent, said)
 
 
 def check_traces(program):
@@ -161,6 +170,9 @@ def check_examples(room, archive):
     in_pool = build(room, "host_in_a_pool", [f"{TOP}/examples/c/host.c", POOL, archive])
     if in_pool:
         check_host("host in a pool", in_pool)
+    router = build(room, "router", [f"{TOP}/examples/c/router.c", HEAP, archive])
+    if router:
+        check_router(router)
     loop = build(room, "loop", [f"{TOP}/examples/c/loop.c", HEAP, archive])
     if loop and not os.environ.get("ND_LIVE"):
         skip("loop on a TAP device", "it takes the kernel's time: ND_LIVE=1 runs it")
