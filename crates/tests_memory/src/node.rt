@@ -44,15 +44,16 @@ pub(crate) const STRANGER: Addr = Addr([0xfe, 0x80, 0, 0, 0, 0, 0, 0, 0, 0, 0, 0
 /// Which says nothing: the Ethernet type of IPv6, and no packet.
 pub(crate) const EMPTY: [u8; 14] = [0, 0, 0, 0, 0, 0, 0, 0, 0, 0, 0, 0, 0x86, 0xdd];
 
-/// A Router Advertisement of `ROUTER` with its link-layer address, the prefix 2001:db8::/64 on the link for 30 days, and the server
-/// 2001:db8::53 for 1800 s.
-pub(crate) const ADVERTISEMENT: [u8; 134] = [
-    0x33, 0x33, 0, 0, 0, 1, 2, 0, 0, 0, 0, 1, 0x86, 0xdd, 0x60, 0, 0, 0, 0, 0x50, 0x3a, 0xff, 0xfe,
+/// A Router Advertisement of `ROUTER` with its link-layer address, the prefix 2001:db8::/64 on the link for 30 days, the server 2001:db8::53 and the
+/// search name example.com for 1800 s.
+pub(crate) const ADVERTISEMENT: [u8; 158] = [
+    0x33, 0x33, 0, 0, 0, 1, 2, 0, 0, 0, 0, 1, 0x86, 0xdd, 0x60, 0, 0, 0, 0, 0x68, 0x3a, 0xff, 0xfe,
     0x80, 0, 0, 0, 0, 0, 0, 0, 0, 0, 0xff, 0xfe, 0, 0, 1, 0xff, 2, 0, 0, 0, 0, 0, 0, 0, 0, 0, 0, 0,
-    0, 0, 1, 0x86, 0, 0xab, 0xdf, 0x40, 0, 7, 8, 0, 0, 0, 0, 0, 0, 0, 0, 1, 1, 2, 0, 0, 0, 0, 1, 3,
+    0, 0, 1, 0x86, 0, 0xb9, 0x4f, 0x40, 0, 7, 8, 0, 0, 0, 0, 0, 0, 0, 0, 1, 1, 2, 0, 0, 0, 0, 1, 3,
     4, 0x40, 0x80, 0, 0x27, 0x8d, 0, 0, 9, 0x3a, 0x80, 0, 0, 0, 0, 0x20, 1, 0x0d, 0xb8, 0, 0, 0, 0,
     0, 0, 0, 0, 0, 0, 0, 0, 0x19, 3, 0, 0, 0, 0, 7, 8, 0x20, 1, 0x0d, 0xb8, 0, 0, 0, 0, 0, 0, 0, 0,
-    0, 0, 0, 0x53,
+    0, 0, 0, 0x53, 0x1f, 3, 0, 0, 0, 0, 7, 8, 7, 0x65, 0x78, 0x61, 0x6d, 0x70, 0x6c, 0x65, 3, 0x63,
+    0x6f, 0x6d, 0, 0, 0, 0,
 ];
 
 /// A Redirect of `ROUTER`: 2001:db8:1::5 by fe80::2, with the link-layer address of that.

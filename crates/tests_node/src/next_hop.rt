@@ -17,6 +17,14 @@ fn global(net: u8, n: u8) -> Addr {
     Addr([0x20, 0x01, 0x0d, 0xb8, 0, net, 0, 0, 0, 0, 0, 0, 0, 0, 0, n])
 }
 
+/// 2001:db8::n.
+fn on_link(n: u16) -> Addr {
+    let [high, low] = n.to_be_bytes();
+    Addr([
+        0x20, 0x01, 0x0d, 0xb8, 0, 0, 0, 0, 0, 0, 0, 0, 0, 0, high, low,
+    ])
+}
+
 /// A node with one address of its own, one prefix on its link, and some default routers.
 #[derive(Clone, Copy, Debug)]
 struct Node<'a> {
@@ -298,24 +306,24 @@ fn keeps_64_redirects(rt: HostRuntime) {
     assert!(rt; choice.next_hop(0, global(1, 4), &view) == Hop::Via(link_local(4)));
 }
 
+/// 257 destinations on the link are asked for at one moment.
 #[test]
 fn remembers_256_destinations(rt: HostRuntime) {
-    let routers = [usable(9, None)];
-    let Some(view) = make_node(&routers) else {
+    let none: [Candidate; 0] = [];
+    let Some(view) = make_node(&none) else {
         panic!(rt; "no node");
     };
     let mut choice = Choice::new(rt.alloc()).expect(&rt, "memory");
     assert!(rt; choice.remembered() == 0);
-    for n in 0..128u8 {
-        assert!(rt; choice.next_hop(0, global(1, n), &view) == Hop::Via(link_local(9)));
-        assert!(rt; choice.next_hop(0, global(2, n), &view) == Hop::Via(link_local(9)));
+    for n in 0..256u16 {
+        assert!(rt; choice.next_hop(0, on_link(n), &view) == Hop::Direct);
     }
     assert!(rt; choice.remembered() == 256);
     // The one that was looked up least recently is evicted.
-    assert!(rt; choice.next_hop(0, global(3, 0), &view) == Hop::Via(link_local(9)));
+    assert!(rt; choice.next_hop(0, on_link(256), &view) == Hop::Direct);
     assert!(rt; choice.remembered() == 256);
     // A destination that is asked for again takes no other place.
-    assert!(rt; choice.next_hop(0, global(3, 0), &view) == Hop::Via(link_local(9)));
+    assert!(rt; choice.next_hop(0, on_link(256), &view) == Hop::Direct);
     assert!(rt; choice.remembered() == 256);
     choice.changed();
     assert!(rt; choice.remembered() == 0);

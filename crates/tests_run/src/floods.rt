@@ -1,4 +1,4 @@
-//! Floods of a node: one neighbour or one default router more than its limits allow, for any limits.
+//! Floods of a node: one neighbour, one default router or one prefix more than its limits allow; of the first two for any limits.
 //!
 //! Neighbour `n` has the address fe80::1:n and an Ethernet address whose last two bytes are those of 0xffff - n, so the words that depend on `n`
 //! cancel in the checksum of a message that has both.
@@ -62,6 +62,24 @@ fn of_routers(flood: &mut Flood, limit: u16) -> Result<(), AllocError> {
     }
     writeln!(flood.wanted, "10000 end {limit}")?;
     Ok(())
+}
+
+/// One advertisement says that 65 prefixes are on the link for 30 days, from 2001:db8:1::/64 to 2001:db8:41::/64: one more than a node keeps.
+fn of_prefixes(flood: &mut Flood) -> Result<(), AllocError> {
+    flood.push("10000 at\n", ALONE)?;
+    flood.script.push_str(
+        "10000 rx 33330000000102000000000186dd6000000008303afffe800000000000000000000000000001ff0200000000000000000000000000018600b029400007080000000000000000",
+    )?;
+    for n in 1..=65u16 {
+        write!(
+            flood.script,
+            "0304408000278d0000093a800000000020010db8{n:04x}00000000000000000000"
+        )?;
+    }
+    flood.push(
+        "\n10000 show prefixes\n",
+        "10000 refused full prefixes\n10000 end 0\n",
+    )
 }
 
 /// Neighbour `n` asks a host for its address at 10 s and `n` ms, and gives its link-layer address.
@@ -232,6 +250,13 @@ fn a_router_too_many_is_refused(rt: HostRuntime) {
         of_routers(&mut flood, u16::from(routers)).expect(&rt, "memory");
         ends(&rt, rt.alloc(), &node, &flood);
     }
+}
+
+#[test]
+fn a_prefix_too_many_is_refused(rt: HostRuntime) {
+    let (node, mut flood) = limited(&rt, rt.alloc(), host(), 512, 16);
+    of_prefixes(&mut flood).expect(&rt, "memory");
+    ends(&rt, rt.alloc(), &node, &flood);
 }
 
 #[test]

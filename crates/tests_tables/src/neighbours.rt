@@ -427,20 +427,29 @@ fn every_advertisement_makes_of_an_entry_what_the_table_says(rt: HostRuntime) {
     }
 }
 
-#[test]
-fn an_advertisement_makes_no_entry(rt: HostRuntime) {
-    let mut cache = cache_with(&rt, None, true);
+/// Returns true if an advertisement of a neighbour that isn't known makes no entry.
+fn makes_no_entry(rt: &(impl Abort + AllocGlobal), flags: Flags, mac: Option<Mac>) -> bool {
+    let mut cache = cache_with(rt, None, true);
     let news = News::Advert {
         addr: addr(1),
-        flags: Flags {
-            router: true,
-            solicited: true,
-            overrides: true,
-        },
-        mac: Some(MAC),
+        flags,
+        mac,
     };
-    assert!(rt; cache.heard(20_000, news, TIMES).is_ok());
-    assert!(rt; cache.entry(20_000, addr(1)) == None);
+    cache.heard(20_000, news, TIMES).is_ok() && cache.entry(20_000, addr(1)) == None
+}
+
+/// With any flags, and with a link-layer address or none (RFC 4861, section 7.2.5).
+#[test]
+fn an_advertisement_makes_no_entry(rt: HostRuntime) {
+    for bits in 0..8u8 {
+        let flags = Flags {
+            router: bits & 1 != 0,
+            solicited: bits & 2 != 0,
+            overrides: bits & 4 != 0,
+        };
+        assert!(rt; makes_no_entry(&rt, flags, Some(MAC)));
+        assert!(rt; makes_no_entry(&rt, flags, None));
+    }
 }
 
 /// Returns true if a given address, the same one or another one, leads to a state.
