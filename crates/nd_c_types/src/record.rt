@@ -1,9 +1,9 @@
 //! What a node reports, as C sees it. The definitions are in `specs/Record.antt`.
 
 ghost use Rattle.std.specs.Prelude.{◌≡◌};
-ghost use Rattle.nd_c_types.specs.Record.{bytes_in, contents_of, limit_number, loss_number, of_refusal, record_of, type_of};
+ghost use Rattle.nd_c_types.specs.Record.{bytes_in, contents_of, limit_number, loss_number, nothing, of_refusal, record_of, type_of};
 
-use nd_addr::ETHERNET_HEADER_LENGTH;
+use nd_addr::{Addr, ETHERNET_HEADER_LENGTH};
 use nd_decode::Body;
 use nd_out::{Limit, Loss, Out, Refusal};
 use std::alloc::Allocator;
@@ -57,49 +57,19 @@ impl Record {
         ensures { result ≡ contents_of out.now }
     {
         match out {
-            Out::Frame(_) => Record { kind: 1, ..NOTHING },
+            Out::Frame(_) => Record::with_code(1, 0),
             Out::Heard { source, body, .. } => Record {
-                kind: 2,
                 code: type_of(body),
-                address: source.0,
-                ..NOTHING
+                ..Record::about(2, *source)
             },
-            Out::Dropped(why) => Record {
-                kind: 3,
-                code: u32::from(why.number()),
-                ..NOTHING
-            },
-            Out::Up(_) => Record { kind: 4, ..NOTHING },
-            Out::Duplicate(address) => Record {
-                kind: 5,
-                address: address.0,
-                ..NOTHING
-            },
-            Out::Assigned(address) => Record {
-                kind: 6,
-                address: address.0,
-                ..NOTHING
-            },
-            Out::EndedAddress(address) => Record {
-                kind: 7,
-                address: address.0,
-                ..NOTHING
-            },
-            Out::EndedRouter(router) => Record {
-                kind: 8,
-                address: router.0,
-                ..NOTHING
-            },
-            Out::Failed(neighbour) => Record {
-                kind: 9,
-                address: neighbour.0,
-                ..NOTHING
-            },
-            Out::Lost(why, _) => Record {
-                kind: 10,
-                code: loss_number(*why),
-                ..NOTHING
-            },
+            Out::Dropped(why) => Record::with_code(3, u32::from(why.number())),
+            Out::Up(_) => Record::with_code(4, 0),
+            Out::Duplicate(address) => Record::about(5, *address),
+            Out::Assigned(address) => Record::about(6, *address),
+            Out::EndedAddress(address) => Record::about(7, *address),
+            Out::EndedRouter(router) => Record::about(8, *router),
+            Out::Failed(neighbour) => Record::about(9, *neighbour),
+            Out::Lost(why, _) => Record::with_code(10, loss_number(*why)),
             Out::Refused(why) => Record::of_refusal(why),
             Out::Shown(_) | Out::Past(_) => NOTHING,
         }
@@ -110,33 +80,40 @@ impl Record {
         ensures { result ≡ of_refusal why.now }
     {
         match why {
-            Refusal::WrongRole => Record {
-                kind: 11,
-                code: 1,
-                ..NOTHING
-            },
-            Refusal::Disabled => Record {
-                kind: 11,
-                code: 2,
-                ..NOTHING
-            },
+            Refusal::WrongRole => Record::with_code(11, 1),
+            Refusal::Disabled => Record::with_code(11, 2),
             Refusal::NotOurs(source) => Record {
-                kind: 11,
                 code: 3,
-                address: source.0,
-                ..NOTHING
+                ..Record::about(11, *source)
             },
-            Refusal::TooLong => Record {
-                kind: 11,
-                code: 4,
-                ..NOTHING
-            },
+            Refusal::TooLong => Record::with_code(11, 4),
             Refusal::Full(full) => Record {
-                kind: 11,
-                code: 5,
                 limit: limit_number(*full),
-                ..NOTHING
+                ..Record::with_code(11, 5)
             },
+        }
+    }
+
+    /// Returns the contents of a kind that has a code, or none.
+    fn with_code(kind: u32, code: u32) -> Record
+        ensures { result ≡ record nothing { kind = kind; code = code } }
+    {
+        Record {
+            kind,
+            code,
+            ..NOTHING
+        }
+    }
+
+    /// Returns the contents of a kind that names an address.
+    fn about(kind: u32, address: Addr) -> Record
+        ensures { result ≡ record nothing { kind = kind; address = address.0 } }
+    {
+        let bytes = address.0;
+        Record {
+            kind,
+            address: bytes,
+            ..NOTHING
         }
     }
 }
