@@ -409,8 +409,8 @@ next_due_at stream start node c s r a n r_is a_is n_is r_due a_due n_due next is
       let at1 : next ≡ earlier r (earlier a (earlier n rest)) = rw (r_is, a_is, n_is) is in
       let at2 = earlier_at next r (earlier a (earlier n rest)) at1 (λ e. let due = subst (λ (o : Option ℕ). routers_due.NextDue (router_history c) o) e r_due in none.0 due.0.0 due.0.1) in
       let at3 = earlier_at next a (earlier n rest) at2 (λ e.
-        let due = subst (λ (k : ℕ). addresses_due.NextDue k (address_history c) (Some next)) s.address_transmits (subst (λ (o : Option ℕ). addresses_due.NextDue node.addresses.transmits (address_history c) o) e a_due) in
-        none.1 due.0.0 due.0.1) in
+      let due = subst (λ (k : ℕ). addresses_due.NextDue k (address_history c) (Some next)) s.address_transmits (subst (λ (o : Option ℕ). addresses_due.NextDue node.addresses.transmits (address_history c) o) e a_due) in
+      none.1 due.0.0 due.0.1) in
       let at4 = earlier_at next n rest at3 (λ e. let due = subst (λ (o : Option ℕ). neighbours_due.NextDue (neighbour_history c) o) e n_due in none.2 due.0.0 due.0.1) in
       let at5 = earlier_at next date (earlier advertisement redraw) at4 (λ e. none.3 (sym (solicitation_date stream start node c s) ∙ e)) in
       let at6 = earlier_at next advertisement redraw at5 (λ e. none.4 (sym (advertisement_date start node.role node.router c s.role s.router) ∙ e)) in
