@@ -8,7 +8,7 @@ use crate::due::NextStep;
 use crate::entry::Entry;
 use crate::link_local::link_local;
 use crate::transmits::Transmits;
-use nd_addr::Mac;
+use nd_addr::{Addr, Mac};
 use nd_table::{Dated, Schedule};
 use std::alloc::{AllocError, Allocator};
 use std::marker::Model;
@@ -48,6 +48,8 @@ impl<A: Allocator + Clone> AddressRoom<A> {
 #[derive(Drop)]
 pub struct Addresses<A: Allocator> {
     pub(crate) mac: Mac,
+    /// The link-local address (RFC 4862, section 5.3), which nearly every event asks for.
+    pub(crate) own: Addr,
     /// The number of solicitations that each detection sends.
     pub(crate) transmits: Transmits,
     pub(crate) entries: Vec<Entry, A>,
@@ -58,17 +60,19 @@ pub struct Addresses<A: Allocator> {
 }
 
 impl<A: Allocator> Model for Addresses<A> {
-    ghost use Rattle.std.specs.Prelude.{◌≤◌};
+    ghost use Rattle.std.specs.Prelude.{◌≡◌, ◌≤◌};
     ghost use Rattle.std.specs.Vec.{vec_len, vec_capacity};
     ghost use Rattle.nd_slaac.specs.Table.{Table};
     ghost use Rattle.nd_slaac.specs.Room.{max_addresses};
     ghost use Rattle.nd_slaac.specs.Planned.{IsPlanned};
+    ghost use Rattle.nd_slaac.specs.PrefixOption.{link_local_of};
+    ghost use Rattle.nd_addr.specs.Number.{number_of};
 
     ghost Value = { Table };
 
     ghost view = { λ a. record { mac = a.mac; transmits = a.transmits; addresses = a.entries.items } };
 
-    ghost invariant = { λ a. (vec_len a.entries ≤ max_addresses) × (max_addresses ≤ vec_capacity a.entries) × IsPlanned a.entries.items a.ends a.steps };
+    ghost invariant = { λ a. (vec_len a.entries ≤ max_addresses) × (max_addresses ≤ vec_capacity a.entries) × IsPlanned a.entries.items a.ends a.steps × (number_of a.own.0 ≡ link_local_of a.mac) };
 }
 
 impl<A: Allocator> Addresses<A> {
@@ -102,6 +106,7 @@ impl<A: Allocator> Addresses<A> {
         steps.change(None, step, addr);
         Addresses {
             mac,
+            own: addr,
             transmits,
             entries,
             ends,

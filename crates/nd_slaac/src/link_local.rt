@@ -13,7 +13,7 @@ impl<A: Allocator> Addresses<A> {
     pub fn link_local(&self) -> Addr
         ensures { number_of result.0 ≡ link_local_of self.now.mac }
     {
-        link_local(self.mac)
+        self.own
     }
 }
 

@@ -28,4 +28,5 @@ invariant_of-self g c =
         room_for_ends = planned.room_for_ends;
         room_for_steps = subst (λ (n : ℕ). max_addresses ≤ n) (sym c.fail.ensures.room) planned.room_for_steps;
       },
+      c.self.invariant.3,
     )
