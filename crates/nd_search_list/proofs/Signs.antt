@@ -40,14 +40,6 @@ sign_tests byte (inl h) = or_left (is_ascii_alphanumeric byte || eqb byte 45) (e
 sign_tests byte (inr (inl h)) = or_left (is_ascii_alphanumeric byte || eqb byte 45) (eqb byte 95) (or_right (is_ascii_alphanumeric byte) (eqb byte 45) (eq-eqb _ _ h))
 sign_tests byte (inr (inr h)) = or_right (is_ascii_alphanumeric byte || eqb byte 45) (eqb byte 95) (eq-eqb _ _ h)
 
--- a sign is no zero byte
-pub sign_some : (byte : ℕ) → IsSign byte → byte ≡ 0 → ⊥
-sign_some byte (inl (inl (inl h))) e = omega (arith, h.0, e)
-sign_some byte (inl (inl (inr h))) e = omega (arith, h.0, e)
-sign_some byte (inl (inr h)) e = omega (arith, h.0, e)
-sign_some byte (inr (inl h)) e = omega (arith, h, e)
-sign_some byte (inr (inr h)) e = omega (arith, h, e)
-
 -- a sign is below 128
 pub sign_low : (byte : ℕ) → IsSign byte → byte < 128
 sign_low byte (inl (inl (inl h))) = omega (arith, h.1)

@@ -3,11 +3,10 @@ use Rattle.std.proofs.Common.{◌≡◌, ℕ, zero, suc, ◌+◌, ◌-◌, ◌<�
 use Rattle.std.specs.List.{AllByRecursion}
 use Rattle.std.proofs.lemmas.Bool.{cases_Bool, cases_lt, and_parts, and_from, leb-true, le-leb, ltb-true, lt-ltb, eq-eqb, ne_eqb, eqb-true}
 use Rattle.std.proofs.lemmas.List.{length-append, length-drop, length-take-le, nil_from_length, take_at, get_or-append_right, take-append-drop, drop_more}
-use Rattle.nd_search_list.specs.Label.{IsSign, IsLabel}
+use Rattle.nd_search_list.specs.Label.{IsLabel}
 use Rattle.nd_search_list.specs.Name.{IsSpelled, lowered}
-use Rattle.nd_search_list.specs.Reading.{labels_length, name_length, are_zeros, first_zero, is_spelled}
+use Rattle.nd_search_list.specs.Reading.{labels_length, name_length, are_zeros, end_from, is_spelled}
 use Rattle.nd_search_list.specs.Names.{names_behind, names_in, rest_behind, rest_in}
-use Rattle.nd_search_list.proofs.Signs.{sign_some}
 use Rattle.nd_search_list.proofs.Labels.{joined, counted, nothing_joined, length_spelled, spelled_tests}
 
 -- a name in front, with its zero byte
@@ -151,34 +150,49 @@ rest_in_less bytes some =
 
 -- ---- bytes that were read before
 
--- a spelled name has no zero byte
-no_zero_text : (text bytes : List ℕ) → AllByRecursion IsSign text → first_zero (text ++ bytes) ≡ length text + first_zero bytes
-no_zero_text [] bytes h = omega arith
-no_zero_text (byte ∷ text) bytes h =
-    let some : eqb byte 0 ≡ false = ne_eqb _ _ (sign_some byte h.0) in
-    rw some (omega (arith, no_zero_text text bytes h.1))
+-- the bytes of a label are passed over, where there are so many
+pub passed : (n : ℕ) (bytes : List ℕ) → n ≤ length bytes → end_from n bytes ≡ n + end_from 0 (drop n bytes)
+passed zero bytes le = omega arith
+passed (suc n) [] le = absurd (omega arith)
+passed (suc n) (byte ∷ bytes) le =
+    let step : end_from (suc n) (byte ∷ bytes) ≡ end_from n bytes + 1 = refl in
+    omega (arith, step, passed n bytes (omega arith))
 
-no_zero_labels : (labels : List (List ℕ)) (bytes : List ℕ) → AllByRecursion IsLabel labels → first_zero (joined labels ++ bytes) ≡ length (joined labels) + first_zero bytes
-no_zero_labels [] bytes h = omega arith
-no_zero_labels (label ∷ labels) bytes h =
+-- and otherwise no label ends
+pub none_ends : (n : ℕ) (bytes : List ℕ) → length bytes < n → end_from n bytes ≡ length bytes
+none_ends n [] lt = refl
+none_ends zero (byte ∷ bytes) lt = absurd (omega arith)
+none_ends (suc n) (byte ∷ bytes) lt =
+    let step : end_from (suc n) (byte ∷ bytes) ≡ end_from n bytes + 1 = refl in
+    omega (arith, step, none_ends n bytes (omega arith))
+
+text_passed : (text bytes : List ℕ) → end_from (length text) (text ++ bytes) ≡ length text + end_from 0 bytes
+text_passed [] bytes = omega arith
+text_passed (byte ∷ text) bytes =
+    let step : end_from (length (byte ∷ text)) ((byte ∷ text) ++ bytes) ≡ end_from (length text) (text ++ bytes) + 1 = refl in
+    omega (arith, step, text_passed text bytes)
+
+labels_passed : (labels : List (List ℕ)) (bytes : List ℕ) → AllByRecursion IsLabel labels → end_from 0 (joined labels ++ bytes) ≡ length (joined labels) + end_from 0 bytes
+labels_passed [] bytes h = omega arith
+labels_passed (label ∷ labels) bytes h =
     let some : eqb (length label) 0 ≡ false = ne_eqb _ _ (λ e. omega (arith, e, h.0.some)) in
     let parts : (label ++ joined labels) ++ bytes ≡ label ++ (joined labels ++ bytes) = append_assoc label (joined labels) bytes in
-    let text = no_zero_text label (joined labels ++ bytes) h.0.signs in
-    rw (some, parts) (omega (arith, text, no_zero_labels labels bytes h.1, length-append label (joined labels)))
+    let text = text_passed label (joined labels ++ bytes) in
+    rw (some, parts) (omega (arith, text, labels_passed labels bytes h.1, length-append label (joined labels)))
 
--- in front of zeros, a name ends at the first zero byte
-pub zero_ends : (bytes : List ℕ) → are_zeros (rest_in bytes) ≡ true → first_zero bytes ≡ name_length bytes
+-- in front of zeros, a name ends at the first zero byte in the place of a label's length
+pub zero_ends : (bytes : List ℕ) → are_zeros (rest_in bytes) ≡ true → end_from 0 bytes ≡ name_length bytes
 zero_ends bytes padded = elim (cases_lt 0 (name_length bytes)) [
   | inl some ↦
       let f = first_is bytes some in
       let taken : length (take (name_length bytes) bytes) ≡ name_length bytes = length-take-le _ _ (omega (arith, f.within)) in
-      let here : first_zero (joined f.spelled.labels ++ 0 ∷ drop (name_length bytes + 1) bytes) ≡ length (joined f.spelled.labels) + 0 = no_zero_labels f.spelled.labels (0 ∷ drop (name_length bytes + 1) bytes) f.spelled.each in
-      ap first_zero f.parts ∙ ap (λ (t : List ℕ). first_zero (t ++ 0 ∷ drop (name_length bytes + 1) bytes)) f.spelled.joined ∙ here
+      let here : end_from 0 (joined f.spelled.labels ++ 0 ∷ drop (name_length bytes + 1) bytes) ≡ length (joined f.spelled.labels) + 0 = labels_passed f.spelled.labels (0 ∷ drop (name_length bytes + 1) bytes) f.spelled.each in
+      ap (end_from 0) f.parts ∙ ap (λ (t : List ℕ). end_from 0 (t ++ 0 ∷ drop (name_length bytes + 1) bytes)) f.spelled.joined ∙ here
       ∙ omega (arith, ap length f.spelled.joined, taken)
   | inr none ↦ none_first bytes (ap are_zeros (sym (rest_in_stop bytes (omega arith))) ∙ padded) ∙ omega arith
 ]
   where
-    none_first : (bytes : List ℕ) → are_zeros bytes ≡ true → first_zero bytes ≡ 0
+    none_first : (bytes : List ℕ) → are_zeros bytes ≡ true → end_from 0 bytes ≡ 0
     none_first [] h = refl
     none_first (byte ∷ bytes) h = let a = and_parts (eqb byte 0) (are_zeros bytes) h in rw a.0 refl
 

@@ -1,5 +1,5 @@
 -- Reading a name as functions of the bytes, which decide the relations of `Name`.
-use Rattle.std.specs.Prelude.{ℕ, ◌+◌, ◌-◌, Bool, true, false, ◌&&◌, not, nat_eq, nat_le, nat_lt, List, [], ◌∷◌, length, slice_index, if◌then◌else◌}
+use Rattle.std.specs.Prelude.{ℕ, zero, suc, ◌+◌, ◌-◌, Bool, true, false, ◌&&◌, not, nat_eq, nat_le, nat_lt, List, [], ◌∷◌, length, slice_index, if◌then◌else◌}
 use Rattle.std.specs.Char.{is_ascii_uppercase, to_ascii_lowercase}
 use Rattle.nd_search_list.specs.Label.{is_sign}
 
@@ -27,10 +27,12 @@ abbrev pub are_zeros : List ℕ → Bool
 are_zeros [] = true
 are_zeros (byte ∷ bytes) = nat_eq byte 0 && are_zeros bytes
 
--- how many bytes there are before the first zero
-abbrev pub first_zero : List ℕ → ℕ
-first_zero [] = 0
-first_zero (byte ∷ bytes) = if nat_eq byte 0 then 0 else first_zero bytes + 1
+-- How many bytes there are before the first zero byte in the place of a label's length, where so many bytes of a label are still to come. The
+-- bytes of a label are passed over.
+abbrev pub end_from : ℕ → List ℕ → ℕ
+end_from left [] = 0
+end_from zero (byte ∷ bytes) = if nat_eq byte 0 then 0 else end_from byte bytes + 1
+end_from (suc left) (byte ∷ bytes) = end_from left bytes + 1
 
 -- no capital letters
 abbrev pub are_small : List ℕ → Bool

@@ -3,7 +3,7 @@ ghost use Rattle.std.specs.List.{list_all};
 ghost use Rattle.nd_search_list.specs.Label.{is_sign};
 ghost use Rattle.nd_search_list.specs.Name.{IsName, lowered};
 ghost use Rattle.nd_search_list.specs.Names.{rest_in};
-ghost use Rattle.nd_search_list.specs.Reading.{labels_length, name_length, are_small, are_zeros, first_zero, lowers_to, is_spelled};
+ghost use Rattle.nd_search_list.specs.Reading.{labels_length, name_length, are_small, are_zeros, end_from, lowers_to, is_spelled};
 
 /// The most bytes of a label (RFC 1035, section 2.3.4).
 const LONGEST_LABEL: u8 = 63;
@@ -80,25 +80,35 @@ pub(crate) fn name_length(bytes: &[u8]) -> usize
     }
 }
 
-/// Returns the same of bytes that are names and then zeros: no byte of a name is zero.
+/// Returns the same of bytes that are names and then zeros: a name ends at the first zero byte in the place of a label's length.
 pub(crate) fn known_length(bytes: &[u8]) -> usize
     requires { are_zeros (rest_in bytes.now) ≡ true }
     ensures value { result ≡ name_length bytes.now }
     ensures within { 0 < result → result < length bytes.now }
 {
-    first_zero(bytes)
+    end_of_labels(bytes)
 }
 
-/// Returns the place of the first zero byte, or the number of bytes if there is none.
-fn first_zero(bytes: &[u8]) -> usize
-    ensures { result ≡ first_zero bytes.now }
+/// Returns the number of bytes before the first zero byte in the place of a label's length, or of all bytes if there is none. It looks at the
+/// lengths of labels alone.
+#[tactic(auto, using(crate::proofs::Walk::passed, crate::proofs::Walk::none_ends))]
+fn end_of_labels(bytes: &[u8]) -> usize
+    ensures { result ≡ end_from 0 bytes.now }
 {
     let mut before = 0;
-    for byte in bytes {
-        if *byte == 0 {
+    let mut rest = bytes;
+    while !rest.is_empty() {
+        let length = usize::from(rest[0]);
+        if length == 0 {
             return before;
         }
-        before += 1;
+        let (_, after) = rest.split_at(1);
+        if length > after.len() {
+            return bytes.len();
+        }
+        let (_, behind) = after.split_at(length);
+        before += 1 + length;
+        rest = behind;
     }
     before
 }

@@ -1,5 +1,5 @@
 use Rattle.std.proofs.Common.{arith}
-use Rattle.nd_search_list.proofs.Walk.{first_is, first_tests}
+use Rattle.nd_search_list.proofs.Walk.{first_tests}
 use Rattle.nd_search_list.proofs.names.split_behind.Goals as goal
 
 pub new-requires : goal.new-requires
