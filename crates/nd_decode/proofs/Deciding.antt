@@ -9,7 +9,8 @@ use Rattle.nd_addr.specs.declared.why.Why.TheVariants.{Code, Length, OptionZero,
 use Rattle.nd_decode.specs.declared.body.Body.{Body}
 use Rattle.nd_decode.specs.declared.body.Body.TheVariants as bodies
 use Rattle.nd_decode.specs.declared.message_ref.MessageRef.{MessageRef}
-use Rattle.nd_decode.specs.Pieces.{begins_whole, options_in, rest_in, fault_of}
+use Rattle.nd_decode.specs.Whole.{begins_whole, rest_in}
+use Rattle.nd_decode.specs.Pieces.{options_in, fault_of}
 use Rattle.nd_decode.specs.Options.{SpellsOptions, BehindPieces, IsZeroOption, IsOverOption}
 use Rattle.nd_decode.specs.Message.{Parts, parts, HasKnownKind, least_length, HasBody, HasFields, behind_fields, Spells, IsRefused}
 use Rattle.nd_decode.specs.Decoding.{body_of, unless, decode_of}

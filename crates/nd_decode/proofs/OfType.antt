@@ -2,7 +2,8 @@
 use Rattle.std.proofs.Common.{◌≡◌, ℕ, suc, ◌<◌, ◌≤◌, true, false, eqb, List, [], ◌∷◌, length, take, drop, slice_index, Option, Some, None, refl, sym, ap, ◌∙◌, arith, inl, inr, eq-eqb, ne_eqb}
 use Rattle.std.proofs.lemmas.Bool.{cases_Bool}
 use Rattle.nd_decode.specs.Option.{Said, slla, tlla, prefix, redirected, mtu, rdnss, dnssl, other, IsPiece, Says, option_of}
-use Rattle.nd_decode.specs.Pieces.{piece_length, begins_whole, options_in}
+use Rattle.nd_decode.specs.Whole.{piece_length, begins_whole}
+use Rattle.nd_decode.specs.Pieces.{options_in}
 use Rattle.nd_decode.specs.declared.prefix_info.PrefixInfo.{PrefixInfo}
 use Rattle.nd_decode.specs.OfType.{kind_of, from_kind, prefix_said, or_later, first_prefix}
 use Rattle.nd_decode.proofs.Walk.{front_is, options_in_step, options_in_stop}

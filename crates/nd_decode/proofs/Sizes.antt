@@ -1,11 +1,11 @@
 -- Options take no more bytes than there are.
-use Rattle.std.proofs.Common.{◌≡◌, ℕ, zero, suc, ◌*◌, ◌/◌, ◌≤◌, true, List, [], ◌∷◌, length, take, drop, slice_index, ap, arith, inl, inr}
+use Rattle.std.proofs.Common.{ℕ, zero, suc, ◌≤◌, List, [], ◌∷◌, length, take, drop, ap, arith, inl, inr}
 use Rattle.std.proofs.lemmas.Bool.{cases_Bool}
 use Rattle.std.proofs.lemmas.List.{length-append, length-drop, length-take-le}
 use Rattle.nd_search_list.specs.Names.{SpellsBefore}
 use Rattle.nd_decode.specs.Option.{Said, slla, tlla, prefix, redirected, mtu, rdnss, dnssl, other, IsPiece, Says, option_of}
-use Rattle.nd_decode.specs.Pieces.{piece_length, begins_whole, options_from, options_in}
-use Rattle.nd_decode.specs.Servers.{SpellsServers, IsServer}
+use Rattle.nd_decode.specs.Whole.{piece_length, begins_whole}
+use Rattle.nd_decode.specs.Pieces.{options_from, options_in}
 use Rattle.nd_decode.specs.Sizes.{size, sizes}
 use Rattle.nd_decode.proofs.Addresses.{spelled_length}
 use Rattle.nd_decode.proofs.Says.{option_says}

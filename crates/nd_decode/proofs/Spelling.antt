@@ -3,7 +3,8 @@ use Rattle.std.proofs.Common.{◌≡◌, ℕ, zero, suc, ◌≤◌, true, false,
 use Rattle.std.proofs.lemmas.Bool.{cases_Bool}
 use Rattle.std.proofs.lemmas.List.{length-drop, length-append, length-take-le, get_or-take, get_or_append_left, take-append-drop, take_at, drop_at}
 use Rattle.nd_decode.specs.Option.{Said, option_of, IsPiece}
-use Rattle.nd_decode.specs.Pieces.{piece_length, begins_whole, options_in, rest_in}
+use Rattle.nd_decode.specs.Whole.{piece_length, begins_whole, rest_in}
+use Rattle.nd_decode.specs.Pieces.{options_in}
 use Rattle.nd_decode.specs.Options.{SpellsOptions}
 use Rattle.nd_decode.proofs.Walk.{IsFront, front_is, begins, options_in_step, options_in_stop, rest_in_step, rest_in_stop}
 use Rattle.nd_decode.proofs.Says.{option_says, says_one}

@@ -3,7 +3,8 @@ use Rattle.std.proofs.Common.{◌≡◌, ℕ, zero, suc, ◌*◌, ◌-◌, ◌�
 use Rattle.std.proofs.lemmas.Bool.{cases_Bool, and_parts, and_from, leb-true, le-leb}
 use Rattle.std.proofs.lemmas.List.{length-drop, nil_from_length}
 use Rattle.nd_decode.specs.Option.{Said, option_of}
-use Rattle.nd_decode.specs.Pieces.{piece_length, begins_whole, options_from, options_in, rest_from, rest_in}
+use Rattle.nd_decode.specs.Whole.{piece_length, begins_whole, rest_from, rest_in}
+use Rattle.nd_decode.specs.Pieces.{options_from, options_in}
 
 -- a whole piece in front
 pub record IsFront (bytes : List ℕ) : Type 0 where
@@ -98,3 +99,16 @@ rest_from-stops (suc n) bytes h =
 pub rest_in_stops : (bytes : List ℕ) → begins_whole (rest_in bytes) ≡ false
 unfolding rest_in
 rest_in_stops bytes = rest_from-stops (length bytes) bytes (omega arith)
+
+-- ---- bytes that are whole pieces
+
+-- one is in front, unless there are none
+pub whole_front : (bytes : List ℕ) → rest_in bytes ≡ [] → 1 ≤ length bytes → IsFront bytes
+whole_front bytes all some = elim (cases_Bool (begins_whole bytes)) [
+  | inl whole ↦ front_is bytes whole
+  | inr over ↦ absurd (let rest : length (rest_in bytes) ≡ length bytes = ap length (rest_in_stop bytes over) in omega (arith, rest, ap length all, some))
+]
+
+-- those behind it are whole
+pub whole_behind : (bytes rest : List ℕ) → rest_in bytes ≡ [] → begins_whole bytes ≡ true → rest ≡ drop (piece_length bytes) bytes → rest_in rest ≡ []
+whole_behind bytes rest all whole e = ap rest_in e ∙ sym (rest_in_step bytes whole) ∙ all

@@ -6,7 +6,8 @@ use Rattle.nd_decode.specs.declared.body.Body.{Body}
 use Rattle.nd_decode.specs.declared.body.Body.TheVariants as bodies
 use Rattle.nd_decode.specs.declared.message_type.MessageType.{MessageType}
 use Rattle.nd_decode.specs.declared.message_type.MessageType.TheVariants.{RouterSolicitation, RouterAdvertisement, NeighborSolicitation, NeighborAdvertisement, Redirect}
-use Rattle.nd_decode.specs.Pieces.{options_in, rest_in, fault_of}
+use Rattle.nd_decode.specs.Whole.{rest_in}
+use Rattle.nd_decode.specs.Pieces.{options_in, fault_of}
 use Rattle.nd_decode.specs.Message.{Parts, router_advertisement_of, neighbor_solicitation_of, neighbor_advertisement_of, redirect_of, least_length, behind_fields}
 
 -- the fields of a message of a type (RFC 4861, sections 4.1 to 4.5)

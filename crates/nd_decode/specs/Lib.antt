@@ -1,5 +1,6 @@
 pub mod Servers
 pub mod Option
+pub mod Whole
 pub mod Pieces
 pub mod OfType
 pub mod Sizes

@@ -7,7 +7,8 @@ ghost use Rattle.nd_decode.specs.Decoding.{decode_of};
 use crate::body::Body;
 use crate::message_ref::MessageRef;
 use crate::message_type::MessageType;
-use crate::options::{Options, fault_in};
+use crate::options::Options;
+use crate::pieces::fault_in;
 use nd_addr::Why;
 
 /// Returns the message that some bytes spell. The caller passes its type, which it knows from asking if the bytes are a message at all. The errors
