@@ -7,7 +7,7 @@ ghost use Rattle.nd_table.specs.Keyed.{binary_digits};
 use crate::entry::Entry;
 use nd_addr::Addr;
 use nd_packet::Ring;
-use nd_table::{Probes, Schedule, search};
+use nd_table::{Probes, Schedule, find, search};
 use std::alloc::{AllocError, Allocator};
 use std::marker::Model;
 
@@ -26,6 +26,8 @@ pub struct Cache<A: Allocator> {
     pub(crate) dates: Schedule<A>,
     pub(crate) rings: Vec<Ring<A>, A>,
     pub(crate) limit: usize,
+    /// Where an entry was found last. A packet mostly goes to the neighbour that a message or a search was about, and is looked for there first.
+    pub(crate) near: usize,
 }
 
 impl<A: Allocator> Model for Cache<A> {
@@ -59,6 +61,7 @@ impl<A: Allocator + Clone> Cache<A> {
             dates,
             rings,
             limit,
+            near: 0,
         })
     }
 }
@@ -78,6 +81,20 @@ impl<A: Allocator> Cache<A> {
     {
         let number = addr.to_bits();
         search(&self.entries, &number, probes).is_ok()
+    }
+
+    /// Returns true if a neighbour is present, as `find` does, and keeps its place: if the next call is `used` for it, it needs no search.
+    pub fn seek(&mut self, addr: Addr) -> bool
+        ensures value { result ≡ is_some (entry_in (number_of addr.0) self.old.entries) }
+        ensures same { self.new ≡ self.old }
+    {
+        match find(&self.entries, addr) {
+            Some(i) => {
+                self.near = i;
+                true
+            }
+            None => false,
+        }
     }
 
     /// Returns the number of neighbours, at most as many as the cache has room for.

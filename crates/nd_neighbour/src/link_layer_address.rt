@@ -20,7 +20,7 @@ use nd_table::{Addressed, Dated, Schedule, locate};
 use std::alloc::Allocator;
 
 /// Records the link-layer address that a message gives (RFC 4861, sections 6.2.6, 6.3.4, 7.2.3 and 8.3): changes the existing entry, or adds one
-/// that is STALE. Returns `Full` if there is no room for it; the table is unchanged.
+/// that is STALE. Returns `Full` if there is no room for it; the table is unchanged. `near` is where an existing one was found.
 pub(crate) fn give_or_enter<A: Allocator>(
     entries: &mut Vec<Entry<A>, A>,
     dates: &mut Schedule<A>,
@@ -29,6 +29,7 @@ pub(crate) fn give_or_enter<A: Allocator>(
     addr: Addr,
     mac: Mac,
     mark: Option<bool>,
+    near: &mut usize,
 ) -> Result<Touched<A>, CacheRefusal>
     requires moment { IsMoment now }
     requires few { vec_len entries.old ≤ limit }
@@ -48,7 +49,10 @@ pub(crate) fn give_or_enter<A: Allocator>(
     ensures capacity { vec_capacity entries.new ≡ vec_capacity entries.old }
 {
     let at = match locate(entries, addr) {
-        Ok(i) => return Ok(give(entries, dates, now, addr, i, mac, mark)),
+        Ok(i) => {
+            *near = i;
+            return Ok(give(entries, dates, now, addr, i, mac, mark));
+        }
         Err(at) => at,
     };
     if !has_place(entries, limit, now) {

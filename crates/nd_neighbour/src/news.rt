@@ -167,6 +167,7 @@ impl<A: Allocator> Cache<A> {
                     addr,
                     mac,
                     mark,
+                    &mut self.near,
                 )
             }
             News::Advert { addr, flags, mac } => {

@@ -18,7 +18,7 @@ use crate::rings::take_ring;
 use crate::unreachability_detection::Probing;
 use nd_addr::{Addr, Mac};
 use nd_packet::Packet;
-use nd_table::{Dated, Schedule, locate};
+use nd_table::{Dated, Schedule, locate_near};
 use std::alloc::Allocator;
 
 /// What becomes of a packet for a neighbour.
@@ -76,7 +76,7 @@ impl<A: Allocator + Clone> Cache<A> {
         // Only a new neighbour takes a ring, one in reserve if there is one.
         ensures rings { OnOk result (self.new.rings ≡ (if is_some (entry_in (number_of addr.0) self.old.entries) then self.old.rings else self.old.rings - 1)) }
     {
-        let at = match locate(&self.entries, addr) {
+        let at = match locate_near(&self.entries, addr, self.near) {
             Ok(i) => {
                 return Ok(pass(
                     &mut self.entries,

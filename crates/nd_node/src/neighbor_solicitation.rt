@@ -129,7 +129,7 @@ impl<R: Rng + Drop, A: Allocator + Clone> Node<R, A> {
         }
         let body = Body::Ns(*ns);
         let news = news_of(source, &body, options);
-        let room = make_room(&mut self.neighbours, now, source, news, outs)?;
+        let room = make_room(&mut self.neighbours, source, news, outs)?;
         self.report_heard(now, source, destination, body, outs);
         let times = times_in_force(&self.params);
         // RFC 4861, section 7.2.3: the asker's link-layer address.
@@ -153,7 +153,6 @@ impl<R: Rng + Drop, A: Allocator + Clone> Node<R, A> {
 /// link-layer address. Returns an error if out of memory; no more than room has been made then.
 fn make_room<A: Allocator + Clone>(
     neighbours: &mut Cache<A>,
-    now: u64,
     asker: Addr,
     news: Option<News>,
     outs: &mut Vec<(u64, Out<A>), A>,
@@ -167,7 +166,7 @@ fn make_room<A: Allocator + Clone>(
 {
     let solicitation = match news {
         Some(_) => None,
-        None => ready_for(neighbours, now, asker, outs)?,
+        None => ready_for(neighbours, asker, outs)?,
     };
     let answer = FrameRoom::new(outs.allocator().clone()?)?;
     outs.reserve(MAX_WAITING + MOST_ROWS)?;

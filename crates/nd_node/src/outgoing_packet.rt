@@ -121,7 +121,7 @@ impl<R: Rng + Drop, A: Allocator + Clone> Node<R, A> {
     {
         nd_neighbour::laws::room_is_place();
         nd_neighbour::laws::full_by_history();
-        let solicitation = ready_for(&mut self.neighbours, now, to, outs)?;
+        let solicitation = ready_for(&mut self.neighbours, to, outs)?;
         self.advance_to(now);
         self.go(now, to, packet, solicitation, outs);
         Ok(())

@@ -56,11 +56,10 @@ pub fn has_place<A: Allocator>(neighbours: &Cache<A>, now: u64, news: Option<New
     }
 }
 
-/// Makes room for a packet to a neighbour at `now`, in milliseconds: for one row and, if the neighbour isn't there, for the solicitation of its
-/// link-layer address, which is returned, and a ring. Returns an error if out of memory; no more than room has been made then.
+/// Makes room for a packet to a neighbour: for one row and, if the neighbour isn't there, for the solicitation of its link-layer address, which is
+/// returned, and a ring. Returns an error if out of memory; no more than room has been made then.
 pub fn ready_for<A: Allocator + Clone>(
     neighbours: &mut Cache<A>,
-    now: u64,
     to: Addr,
     outs: &mut Vec<(u64, Out<A>), A>,
 ) -> Result<Option<FrameRoom<A>>, AllocError>
@@ -73,7 +72,7 @@ pub fn ready_for<A: Allocator + Clone>(
     ensures same { outs.new.items ≡ outs.old.items }
 {
     outs.reserve(1)?;
-    if neighbours.entry(now, to).is_some() {
+    if neighbours.seek(to) {
         return Ok(None);
     }
     let solicitation = FrameRoom::new(outs.allocator().clone()?)?;

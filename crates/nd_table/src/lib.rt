@@ -44,5 +44,5 @@ pub use ranked::Ranked;
 pub use refusal::{Limit, TableRefusal};
 pub use schedule::Schedule;
 pub use standing::Standing;
-pub use table::{find, holds, locate, put};
+pub use table::{find, holds, locate, locate_near, put};
 pub use with_lifetime::{WithLifetime, WithLifetimes};

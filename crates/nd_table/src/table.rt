@@ -7,6 +7,7 @@ ghost use Rattle.nd_table.specs.Keyed.{at_key, Rises, place_of};
 
 use crate::addressed::Addressed;
 use crate::binary_search::search;
+use crate::order::compare;
 use crate::probes::Uncounted;
 use nd_addr::Addr;
 use std::alloc::Allocator;
@@ -22,6 +23,21 @@ pub fn locate<E: Addressed>(entries: &[E], addr: Addr) -> Result<usize, usize>
 {
     let number = addr.to_bits();
     search(entries, &number, &mut Uncounted)
+}
+
+/// Returns the same, but looks at the entry at place `near` before it searches: the last one that was found, perhaps.
+pub fn locate_near<E: Addressed>(entries: &[E], addr: Addr, near: usize) -> Result<usize, usize>
+    requires { Rises E.key entries.now }
+    ensures within { IfOk result (λ i. i < length entries.now) }
+    ensures found { IfOk result (λ i. at_key E.key (number_of addr.0) entries.now ≡ slice_get entries.now i) }
+    ensures absent { IfErr result (λ _. at_key E.key (number_of addr.0) entries.now ≡ None) }
+    ensures place { IfErr result (λ i. i ≡ place_of E.key (number_of addr.0) entries.now) }
+    ensures fits { IfErr result (λ i. i ≤ length entries.now) }
+{
+    if near < entries.len() && compare(entries[near].addr(), addr).is_eq() {
+        return Ok(near);
+    }
+    locate(entries, addr)
 }
 
 /// Returns the place of the entry of an address, if there is one.
