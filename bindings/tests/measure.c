@@ -1,10 +1,12 @@
-/* measure: a host receives frames and empties its queue after each. The arguments are the limit of neighbours and a moment; frames come one a
- * line behind their moments, those up to that moment prepare the tables. Run it under callgrind with --toggle-collect=measured, which then counts the
- * others alone, with what the memory functions take. */
+/* measure: a host receives frames and sends packets, and empties its queue after each. The arguments are the limit of neighbours and a moment; frames
+ * come one a line behind their moments, those up to that moment prepare the tables. A line with a '>' before its digits is a packet to send: its
+ * destination, and then its payload. Run it under callgrind with --toggle-collect=measured, which then counts the others alone, with what the memory
+ * functions take. */
 #include "tested.h"
 
 static struct frame frames[MOST_FRAMES];
 static uint64_t moments[MOST_FRAMES];
+static bool sends[MOST_FRAMES];
 
 static size_t read_moments(void)
 {
@@ -14,7 +16,10 @@ static size_t read_moments(void)
     while (count < MOST_FRAMES && fgets(line, sizeof line, stdin) != NULL) {
         char *digits;
         moments[count] = strtoull(line, &digits, 10);
-        frames[count].length = bytes_of(digits + (*digits == ' '), bytes, sizeof bytes);
+        digits += *digits == ' ';
+        sends[count] = *digits == '>';
+        frames[count].length = bytes_of(digits + sends[count], bytes, sizeof bytes);
+        require(!sends[count] || frames[count].length >= sizeof(nd_addr), "a destination");
         frames[count].bytes = malloc(frames[count].length + 1);
         require(frames[count].bytes != NULL, "memory for a frame");
         memcpy(frames[count].bytes, bytes, frames[count].length);
@@ -23,13 +28,22 @@ static size_t read_moments(void)
     return count;
 }
 
-static size_t receive(nd_node *node, size_t from, size_t end)
+static int32_t pass(nd_node *node, uint64_t now, const struct frame *frame, bool send)
+{
+    nd_addr to;
+    if (!send)
+        return nd_receive(node, now, frame->bytes, frame->length);
+    memcpy(to.bytes, frame->bytes, sizeof to.bytes);
+    return nd_send(node, now, &LINK_LOCAL, &to, 17, frame->bytes + sizeof to.bytes, frame->length - sizeof to.bytes);
+}
+
+static size_t run(nd_node *node, size_t from, size_t end)
 {
     static uint8_t buffer[LONGEST_FRAME];
     nd_out out;
     size_t refused = 0;
     for (size_t i = from; i < end; i++) {
-        refused += nd_receive(node, moments[i], frames[i].bytes, frames[i].length) != ND_DONE;
+        refused += pass(node, moments[i], &frames[i], sends[i]) != ND_DONE;
         while (nd_poll(node, &out, buffer, sizeof buffer) == ND_DONE)
             refused += out.kind == ND_OUT_REFUSED || out.kind == ND_OUT_DROPPED;
     }
@@ -40,7 +54,7 @@ __attribute__((noinline)) size_t measured(nd_node *node, size_t from, size_t end
 
 __attribute__((noinline)) size_t measured(nd_node *node, size_t from, size_t end)
 {
-    return receive(node, from, end);
+    return run(node, from, end);
 }
 
 int main(int argc, char **argv)
@@ -56,7 +70,7 @@ int main(int argc, char **argv)
     drain(&node, FIRST_HASH);
     while (from < count && moments[from] <= prepared)
         from++;
-    require(receive(&node, 0, from) == 0, "no frame that prepares is refused");
+    require(run(&node, 0, from) == 0, "no frame that prepares is refused");
     refused = measured(&node, from, count);
     printf("%zu frames, %zu refused or dropped\n", count - from, refused);
     nd_close(&node);
