@@ -1,6 +1,6 @@
 /* measure: a host receives frames and sends packets, and empties its queue after each. The arguments are the limit of neighbours and a moment; frames
- * come one a line behind their moments, those up to that moment prepare the tables. A line with a '>' before its digits is a packet to send: its
- * destination, and then its payload. Run it under callgrind with --toggle-collect=measured, which then counts the others alone, with what the memory
+ * come one a line behind their moments, those up to that moment prepare the tables. The others may be packets to send: a '>', the destination, and
+ * then the payload. Run it under callgrind with --toggle-collect=measured, which then counts the others alone, with what the memory
  * functions take. */
 #include "tested.h"
 
@@ -28,22 +28,29 @@ static size_t read_moments(void)
     return count;
 }
 
-static int32_t pass(nd_node *node, uint64_t now, const struct frame *frame, bool send)
-{
-    nd_addr to;
-    if (!send)
-        return nd_receive(node, now, frame->bytes, frame->length);
-    memcpy(to.bytes, frame->bytes, sizeof to.bytes);
-    return nd_send(node, now, &LINK_LOCAL, &to, 17, frame->bytes + sizeof to.bytes, frame->length - sizeof to.bytes);
-}
-
-static size_t run(nd_node *node, size_t from, size_t end)
+static size_t receive(nd_node *node, size_t from, size_t end)
 {
     static uint8_t buffer[LONGEST_FRAME];
     nd_out out;
     size_t refused = 0;
     for (size_t i = from; i < end; i++) {
-        refused += pass(node, moments[i], &frames[i], sends[i]) != ND_DONE;
+        refused += nd_receive(node, moments[i], frames[i].bytes, frames[i].length) != ND_DONE;
+        while (nd_poll(node, &out, buffer, sizeof buffer) == ND_DONE)
+            refused += out.kind == ND_OUT_REFUSED || out.kind == ND_OUT_DROPPED;
+    }
+    return refused;
+}
+
+static size_t send(nd_node *node, size_t from, size_t end)
+{
+    static uint8_t buffer[LONGEST_FRAME];
+    nd_out out;
+    size_t refused = 0;
+    for (size_t i = from; i < end; i++) {
+        nd_addr to;
+        const uint8_t *payload = frames[i].bytes + sizeof to.bytes;
+        memcpy(to.bytes, frames[i].bytes, sizeof to.bytes);
+        refused += nd_send(node, moments[i], &LINK_LOCAL, &to, 17, payload, frames[i].length - sizeof to.bytes) != ND_DONE;
         while (nd_poll(node, &out, buffer, sizeof buffer) == ND_DONE)
             refused += out.kind == ND_OUT_REFUSED || out.kind == ND_OUT_DROPPED;
     }
@@ -54,7 +61,7 @@ __attribute__((noinline)) size_t measured(nd_node *node, size_t from, size_t end
 
 __attribute__((noinline)) size_t measured(nd_node *node, size_t from, size_t end)
 {
-    return run(node, from, end);
+    return sends[from] ? send(node, from, end) : receive(node, from, end);
 }
 
 int main(int argc, char **argv)
@@ -70,7 +77,7 @@ int main(int argc, char **argv)
     drain(&node, FIRST_HASH);
     while (from < count && moments[from] <= prepared)
         from++;
-    require(run(&node, 0, from) == 0, "no frame that prepares is refused");
+    require(receive(&node, 0, from) == 0, "no frame that prepares is refused");
     refused = measured(&node, from, count);
     printf("%zu frames, %zu refused or dropped\n", count - from, refused);
     nd_close(&node);
