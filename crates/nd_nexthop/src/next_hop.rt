@@ -47,7 +47,7 @@ impl<A: Allocator + Clone> Choice<A> {
     {
         addresses_are_told_by_numbers();
         let _bytes = destination.as_bytes();
-        // fe80::/64 is always on the link: to determine this next hop costs less than to remember it.
+        // fe80::/64 is always on the link, and the rest of fe80::/10 is no node's: to determine this next hop costs less than to remember it.
         if destination.is_link_local() {
             return determine(self.target(destination), destination, view);
         }
