@@ -22,7 +22,7 @@ fn word(high: u8, low: u8) -> u64
 const PIECE: usize = 65536;
 
 /// Returns a sum plus the words of some bytes, two words a step. The carries are left in it.
-fn add_last(start: u64, bytes: &[u8]) -> u64
+fn add_piece(start: u64, bytes: &[u8]) -> u64
     requires start { start < 2 ^ 62 }
     requires piece { length bytes.now ≤ 2 ^ 16 }
     ensures rest { HasRestOf result (start + word_sum bytes.now) }
@@ -40,23 +40,6 @@ fn add_last(start: u64, bytes: &[u8]) -> u64
         [a] => so_far + word(*a, 0),
         _ => so_far,
     }
-}
-
-/// Returns the same, four words a step, as long as there are so many.
-fn add_piece(start: u64, bytes: &[u8]) -> u64
-    requires start { start < 2 ^ 61 }
-    requires piece { length bytes.now ≤ 2 ^ 16 }
-    ensures rest { HasRestOf result (start + word_sum bytes.now) }
-    ensures small { result ≤ start + 2 ^ 30 * length bytes.now }
-{
-    let mut so_far = start;
-    let mut rest = bytes;
-    while let [a, b, c, d, e, f, g, h, after @ ..] = rest {
-        so_far += word(*a, *b) * 65536 + word(*c, *d);
-        so_far += word(*e, *f) * 65536 + word(*g, *h);
-        rest = after;
-    }
-    add_last(so_far, rest)
 }
 
 /// Returns a sum plus the words of any number of bytes.
