@@ -1,5 +1,5 @@
 -- What a search by halves keeps in a list in the order of its numbers.
-use Rattle.std.proofs.Common.{Ordering, Less, Equal, Greater, Bool, true, pow-suc, ◌≡◌, ℕ, ◌+◌, ◌*◌, ◌^◌, ◌/◌, ◌-◌, ◌<◌, ◌≤◌, cond, eqb, ltb, List, [], ◌∷◌, length, get_or, drop, Some, None, refl, sym, ◌∙◌, ap, subst, arith, suc, zero, add-one, inl, inr}
+use Rattle.std.proofs.Common.{Ordering, Less, Equal, Greater, Bool, true, false, pow-suc, ◌≡◌, ℕ, ◌+◌, ◌*◌, ◌^◌, ◌/◌, ◌-◌, ◌<◌, ◌≤◌, cond, eqb, ltb, List, [], ◌∷◌, length, get_or, drop, Some, None, refl, sym, ◌∙◌, ap, subst, arith, suc, zero, add-one, inl, inr}
 use Rattle.std.specs.Ordering.{is_eq, is_lt, MatchOrdering, nat_cmp}
 use Rattle.std.specs.Prelude.{slice_get}
 use Rattle.std.proofs.lemmas.Cmp.{ranked}
@@ -19,22 +19,29 @@ module _ (a b : ℕ) where
       by Equal m y = absurd (true≢false (sym y))
       by Greater m y = absurd (true≢false (sym y))
 
-  pub equal : (o : Ordering) (is : Bool) → o ≡ nat_cmp a b → is ≡ is_eq o → is ≡ true → a ≡ b
-  equal o is e t h = by o (ranked a b o e) (sym t ∙ h)
+  pub not_lower : (o : Ordering) (is : Bool) → o ≡ nat_cmp a b → is ≡ is_lt o → is ≡ false → b ≤ a
+  not_lower o is e t h = by o (ranked a b o e) (sym t ∙ h)
+    where
+      by : (o : Ordering) → MatchOrdering o (a < b) (a ≡ b) (b < a) → is_lt o ≡ false → b ≤ a
+      by Less m n = absurd (true≢false n)
+      by Equal m n = omega (arith, m)
+      by Greater m n = omega (arith, m)
+
+  pub same : (o : Ordering) (is : Bool) → o ≡ nat_cmp a b → is ≡ is_eq o → is ≡ true → a ≡ b
+  same o is e t h = by o (ranked a b o e) (sym t ∙ h)
     where
       by : (o : Ordering) → MatchOrdering o (a < b) (a ≡ b) (b < a) → is_eq o ≡ true → a ≡ b
       by Less m y = absurd (true≢false (sym y))
       by Equal m y = m
       by Greater m y = absurd (true≢false (sym y))
 
-  pub is_lower : (o : Ordering) → o ≡ nat_cmp a b → o ≡ Less → a < b
-  is_lower o e h = subst (λ (p : Ordering). MatchOrdering p (a < b) (a ≡ b) (b < a)) h (ranked a b o e)
-
-  pub is_same : (o : Ordering) → o ≡ nat_cmp a b → o ≡ Equal → a ≡ b
-  is_same o e h = subst (λ (p : Ordering). MatchOrdering p (a < b) (a ≡ b) (b < a)) h (ranked a b o e)
-
-  pub is_higher : (o : Ordering) → o ≡ nat_cmp a b → o ≡ Greater → b < a
-  is_higher o e h = subst (λ (p : Ordering). MatchOrdering p (a < b) (a ≡ b) (b < a)) h (ranked a b o e)
+  pub other : (o : Ordering) (is : Bool) → o ≡ nat_cmp a b → is ≡ is_eq o → is ≡ false → (a ≡ b) → ⊥
+  other o is e t h = by o (ranked a b o e) (sym t ∙ h)
+    where
+      by : (o : Ordering) → MatchOrdering o (a < b) (a ≡ b) (b < a) → is_eq o ≡ false → (a ≡ b) → ⊥
+      by Less m n at = absurd (omega (arith, m, at))
+      by Equal m n at = absurd (true≢false n)
+      by Greater m n at = absurd (omega (arith, m, at))
 
 module _ {N : Type 0} (key : N → ℕ) (k : ℕ) where
   -- all up to a lower one are lower
@@ -93,16 +100,19 @@ module _ {N : Type 0} (key : N → ℕ) (k : ℕ) where
       let here : suc i ≤ place_of key k (m ∷ ns) = seen_low (m ∷ ns) i n (cc) lt r low in
       omega (arith, here, place_of-le key k (m ∷ ns))
 
-  pub seen_high : (ns : List N) (i : ℕ) (n : N) → n ≡ get_or ns i n → i < length ns → k < key n → place_of key k ns ≤ i
-  seen_high ns i n is lt high = place_below ns i n lt (subst (λ (m : N). k < key m) is high)
+  pub seen_high : (ns : List N) (i : ℕ) (n : N) → n ≡ get_or ns i n → i < length ns → k ≤ key n → place_of key k ns ≤ i
+  seen_high ns i n is lt high = place_until ns i n lt (subst (λ (m : N). k ≤ key m) is high)
 
-  -- and from one that is higher on there is none of the number
-  pub none_behind : (ns : List N) (i : ℕ) (n : N) → n ≡ get_or ns i n → i < length ns → Rises key ns → k < key n → at_key key k (drop i ns) ≡ None
-  none_behind ns i n is lt r high = none_from ns i n r lt (subst (λ (m : N). k < key m) is high)
-
-  -- so that there is none in the list where its place is there
-  pub none_there : (ns : List N) (i : ℕ) → i ≡ place_of key k ns → at_key key k (drop i ns) ≡ None → at_key key k ns ≡ None
-  none_there ns i at none = none_at_place ns (subst (λ (j : ℕ). at_key key k (drop j ns) ≡ None) at none)
+  -- the entry at its place has another number
+  pub seen_other : (ns : List N) (i : ℕ) (n : N) → n ≡ get_or ns i n → i < length ns → Rises key ns → i ≡ place_of key k ns → ((key n ≡ k) → ⊥) → at_key key k ns ≡ None
+  seen_other ns i n is lt r at other = elim (cases_Bool (ltb (key n) k)) [
+    | inl low ↦
+        let before : suc i ≤ place_of key k ns = seen_low ns i n is lt r (grind (arith, nat_tests, low)) in
+        absurd (omega (arith, at, before))
+    | inr high ↦
+        let above : k < key n = grind (arith, nat_tests, high, other) in
+        none_at_place ns (subst (λ (j : ℕ). at_key key k (drop j ns) ≡ None) at (none_from ns i n r lt (subst (λ (m : N). k < key m) is above)))
+  ]
 
   -- the entry that was looked at is found
   pub found_at : (ns : List N) (i : ℕ) (n : N) → Rises key ns → i < length ns → n ≡ get_or ns i n → key n ≡ k → at_key key k ns ≡ slice_get ns i

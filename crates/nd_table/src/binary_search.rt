@@ -5,10 +5,9 @@ ghost use Rattle.nd_table.specs.Keyed.{at_key, Rises, place_of, binary_digits};
 
 use crate::probes::Counter;
 use crate::ranked::Ranked;
-use std::cmp::Ordering;
 
 /// Returns the place of a key in a list in the order of keys, or the place where it belongs. It looks at no more entries than their
-/// number has binary digits, and counts each in `probes`.
+/// number has binary digits, and counts each in `probes`. The last of those that aren't lower is compared a second time, at the end.
 pub fn search<K, E: Ranked<K>, C: Counter>(
     entries: &[E],
     sought: &K,
@@ -28,11 +27,14 @@ pub fn search<K, E: Ranked<K>, C: Counter>(
     while low < high {
         let middle = low + (high - low) / 2;
         probes.look();
-        match entries[middle].compare(sought) {
-            Ordering::Less => low = middle + 1,
-            Ordering::Equal => return Ok(middle),
-            Ordering::Greater => high = middle,
+        if entries[middle].compare(sought).is_lt() {
+            low = middle + 1;
+        } else {
+            high = middle;
         }
+    }
+    if low < entries.len() && entries[low].compare(sought).is_eq() {
+        return Ok(low);
     }
     Err(low)
 }

@@ -1,15 +1,14 @@
-use Rattle.std.proofs.Common.{◌≡◌, ◌-◌, ◌≤◌, None, drop, length}
-use Rattle.nd_table.specs.Keyed.{at_key, place_of}
+use Rattle.std.proofs.Common.{◌-◌, ◌≤◌, length}
+use Rattle.nd_table.specs.Keyed.{place_of}
 use Rattle.nd_table.proofs.Searching.{Enough}
 use Rattle.nd_table.proofs.binary_search.search.Given as goal
 
--- the place of the key isn't before the low end nor behind the high one, from which on there is no entry of the key
+-- the place of the key isn't before the low end nor behind the high one
 abbrev pub invariant-loop-low : goal.invariant-loop-low
 invariant-loop-low g l = record {
   low : l.low ≤ place_of g.E.Ranked.key (g.E.Ranked.number l.sought) l.entries;
   high : place_of g.E.Ranked.key (g.E.Ranked.number l.sought) l.entries ≤ l.high;
   within : l.high ≤ length l.entries;
-  behind : at_key g.E.Ranked.key (g.E.Ranked.number l.sought) (drop l.high l.entries) ≡ None;
   counts : g.C.Counter.count l.fn.probes ≤ g.C.Counter.count l.probes;
   looks : Enough (g.C.Counter.count l.fn.probes) (length l.entries) (g.C.Counter.count l.probes) (l.high - l.low);
 }
