@@ -600,7 +600,8 @@ fn looks_at_no_more_entries_than_their_number_has_binary_digits(
         let mut probes = Probes::new();
         assert!(rt; cache.find(addr(n * 2), &mut probes));
         assert!(rt; !cache.find(addr(n * 2 + 1), &mut probes));
-        assert!(rt; probes.looks <= 20);
+        // Nine or ten looks halve 512 entries to none.
+        assert!(rt; probes.looks >= 18 && probes.looks <= 20);
     }
     Ok(())
 }
