@@ -20,9 +20,10 @@ pub const IPV6_HEADER_LENGTH: usize = 40;
 /// The version of IPv6, in the first four bits (RFC 8200, section 3).
 const VERSION: u32 = 6;
 
-/// The places of the fields after the first four bytes, which are version, traffic class and flow label.
-const PAYLOAD_LENGTH_AT: usize = 4;
+/// The place of Payload Length in the header, in 2 bytes. Version, traffic class and flow label precede it.
+pub const IPV6_PAYLOAD_LENGTH_AT: usize = 4;
 
+/// The places of the next two fields.
 const NEXT_HEADER_AT: usize = 6;
 
 const HOP_LIMIT_AT: usize = 7;
@@ -72,7 +73,7 @@ impl Ip6 {
         if first / (1 << 28) != VERSION {
             return Err(Why::Version);
         }
-        let length = BigEndian::read_u16(&bytes[PAYLOAD_LENGTH_AT..]) as usize;
+        let length = BigEndian::read_u16(&bytes[IPV6_PAYLOAD_LENGTH_AT..]) as usize;
         if bytes.len() < IPV6_HEADER_LENGTH + length {
             return Err(Why::PayloadShort);
         }

@@ -27,8 +27,8 @@ pub use frame::{
     put_headers, write_frame,
 };
 pub use ip6::{
-    IPV6_DESTINATION_AT, IPV6_HEADER_LENGTH, IPV6_SOURCE_AT, Ip6, Ip6Ref, LEAST_MTU,
-    NEXT_HEADER_ICMPV6,
+    IPV6_DESTINATION_AT, IPV6_HEADER_LENGTH, IPV6_PAYLOAD_LENGTH_AT, IPV6_SOURCE_AT, Ip6, Ip6Ref,
+    LEAST_MTU, NEXT_HEADER_ICMPV6,
 };
 pub use mac::Mac;
 pub use parse::TextFault;

@@ -1,6 +1,6 @@
 ghost use Rattle.std.specs.Prelude.{◌≡◌, ◌≤◌, length};
 ghost use Rattle.nd_decode.specs.Message.{least_length};
-ghost use Rattle.nd_decode.specs.MessageType.{type_number};
+ghost use Rattle.nd_decode.specs.MessageType.{type_number, type_of};
 ghost use Rattle.nd_decode.specs.Decoding.{body_as};
 
 use crate::message_type::MessageType;
@@ -25,6 +25,19 @@ pub enum Body {
 }
 
 impl Body {
+    /// Returns the type of the message.
+    pub fn message_type(&self) -> MessageType
+        ensures { result ≡ type_of self.now }
+    {
+        match self {
+            Body::Rs => MessageType::RouterSolicitation,
+            Body::Ra(_) => MessageType::RouterAdvertisement,
+            Body::Ns(_) => MessageType::NeighborSolicitation,
+            Body::Na(_) => MessageType::NeighborAdvertisement,
+            Body::Redirect(_) => MessageType::Redirect,
+        }
+    }
+
     /// Returns the fields of a message of a type.
     pub(crate) fn read(kind: MessageType, bytes: &[u8]) -> Body
         requires { least_length (type_number kind) ≤ length bytes.now }

@@ -53,8 +53,22 @@ impl MessageType {
         }
     }
 
-    /// Returns the least number of bytes of a message of the type, which is where its options begin (RFC 4861, sections 4.1 to 4.5).
-    pub(crate) fn least_length(self) -> usize
+    /// Returns the number of the type, 133 to 137.
+    pub fn number(self) -> u8
+        ensures { result ≡ type_number self }
+    {
+        match self {
+            MessageType::RouterSolicitation => ICMPV6_ROUTER_SOLICITATION,
+            MessageType::RouterAdvertisement => ICMPV6_ROUTER_ADVERTISEMENT,
+            MessageType::NeighborSolicitation => ICMPV6_NEIGHBOR_SOLICITATION,
+            MessageType::NeighborAdvertisement => ICMPV6_NEIGHBOR_ADVERTISEMENT,
+            MessageType::Redirect => ICMPV6_REDIRECT,
+        }
+    }
+
+    /// Returns the least number of bytes of a message of the type, which is where its options begin (RFC 4861, sections 4.1 to 4.5). A shorter
+    /// message is refused for `Length`.
+    pub fn least_length(self) -> usize
         ensures { result ≡ least_length (type_number self) }
     {
         match self {

@@ -5,7 +5,7 @@ ghost use Rattle.nd_table.specs.Ends.{end_time, is_before, time_left};
 ghost use Rattle.nd_table.specs.Moment.{IsMoment};
 
 /// A lifetime without an end, in seconds (RFC 4861, section 4.6.2).
-const INFINITY: u32 = 0xffff_ffff;
+pub const INFINITY: u32 = 0xffff_ffff;
 
 /// Returns the end of a lifetime in seconds that begins at `now`; moments are in milliseconds. A lifetime of all ones has no end (RFC 4861,
 /// section 4.6.2).

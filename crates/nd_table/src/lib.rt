@@ -33,7 +33,7 @@ pub use announces::Announces;
 pub use binary_search::search;
 pub use date::Date;
 pub use dated::Dated;
-pub use ends::{end_time, is_before, time_left};
+pub use ends::{INFINITY, end_time, is_before, time_left};
 pub use lasting::Lasting;
 pub use lasting_entries::{announce, count, drop_ended, enters, has, remove, stands};
 pub use moments::{is_at, lesser};
