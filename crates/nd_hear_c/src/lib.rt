@@ -7,8 +7,9 @@ ghost use Rattle.nd_heard.specs.Heard.{heard_of, role_of};
 
 use nd_heard::{Heard, write_heard};
 
-/// Returns ND_DONE and writes what the frame is to a host (`role` 0) or to a router (1): its message, or the first reason to drop it. `frame` is the
-/// whole frame, from its Ethernet destination on. Returns ND_INVALID for another role; nothing is written then. It takes no memory.
+/// Returns ND_DONE and writes what the frame is to a host (`role` is ND_ROLE_HOST) or to a router (ND_ROLE_ROUTER): its message, or the first reason
+/// to drop it. `frame` is the whole frame, from its Ethernet destination on. Returns ND_INVALID for another role; nothing is written then. It takes no
+/// memory.
 #[unsafe(no_mangle)]
 pub extern "C" fn nd_hear(frame: &[u8], role: u32, heard: &mut Heard) -> i32
     ensures done { role ≤ 1 → (result ≡ pos 0) × (heard.new ≡ heard_of frame.now (hearing_of frame.now (role_of role))) }

@@ -7,7 +7,13 @@ ghost use Rattle.nd_addr.specs.Places.{packet_in};
 ghost use Rattle.nd_decode.specs.Message.{least_length};
 ghost use Rattle.nd_heard.specs.Heard.{heard_of, with_body, preference_number};
 
-use nd_addr::{Addr, Preference};
+use crate::header::{
+    HEARING_DROP, HEARING_OTHER, HEARING_VALID, PREFERENCE_HIGH, PREFERENCE_LOW, PREFERENCE_MEDIUM,
+};
+use nd_addr::{
+    Addr, ETHERNET_HEADER_LENGTH, HEADERS_LENGTH, IPV6_PAYLOAD_LENGTH_AT, NEXT_HEADER_ICMPV6,
+    Preference,
+};
 use nd_decode::Body;
 use nd_validity::Hearing;
 
@@ -19,7 +25,7 @@ pub struct Heard {
     pub destination: [u8; 16],
     pub target: [u8; 16],
     pub redirected: [u8; 16],
-    /// 1: a valid message of Neighbor Discovery; 2: another IPv6 packet; 3: a frame to be dropped.
+    /// ND_HEARING_VALID, ND_HEARING_OTHER or ND_HEARING_DROP.
     pub hearing: u32,
     /// The number of the first reason to drop it.
     pub why: u32,
@@ -39,7 +45,7 @@ pub struct Heard {
     pub hop_limit: u8,
     pub managed: u8,
     pub other: u8,
-    /// 0: Medium; 1: High; 2: Low.
+    /// ND_PREFERENCE_MEDIUM, ND_PREFERENCE_HIGH or ND_PREFERENCE_LOW.
     pub preference: u8,
     pub router: u8,
     pub solicited: u8,
@@ -80,26 +86,26 @@ impl Heard {
         match hearing {
             Hearing::Valid(heard) => {
                 let message = Heard::of_body(&heard.message.body);
-                let begins = 54 + options_at(message.message_type);
+                let fields = fields_length(&heard.message.body);
                 Heard {
                     source: heard.source.0,
                     destination: heard.destination.0,
-                    hearing: 1,
-                    next_header: 58,
-                    options: begins,
-                    options_bytes: payload_length(frame).saturating_sub(begins - 54),
+                    hearing: HEARING_VALID,
+                    next_header: u32::from(NEXT_HEADER_ICMPV6),
+                    options: HEADERS_LENGTH as u32 + fields,
+                    options_bytes: payload_length(frame).saturating_sub(fields),
                     ..message
                 }
             }
             Hearing::Other(packet) => Heard {
                 source: packet.header.source.0,
                 destination: packet.header.destination.0,
-                hearing: 2,
+                hearing: HEARING_OTHER,
                 next_header: u32::from(packet.header.next_header),
                 ..NOTHING
             },
             Hearing::Drop(why) => Heard {
-                hearing: 3,
+                hearing: HEARING_DROP,
                 why: u32::from(why.number()),
                 ..NOTHING
             },
@@ -110,13 +116,14 @@ impl Heard {
     fn of_body(body: &Body) -> Heard
         ensures { result ≡ with_body body.now }
     {
+        let message_type = u32::from(body.message_type().number());
         match body {
             Body::Rs => Heard {
-                message_type: 133,
+                message_type,
                 ..NOTHING
             },
             Body::Ra(ra) => Heard {
-                message_type: 134,
+                message_type,
                 reachable_time: ra.reachable_time,
                 retrans_timer: ra.retrans_timer,
                 router_lifetime: u32::from(ra.router_lifetime),
@@ -127,12 +134,12 @@ impl Heard {
                 ..NOTHING
             },
             Body::Ns(ns) => Heard {
-                message_type: 135,
+                message_type,
                 target: ns.target.0,
                 ..NOTHING
             },
             Body::Na(na) => Heard {
-                message_type: 136,
+                message_type,
                 target: na.target.0,
                 router: u8::from(na.router),
                 solicited: u8::from(na.solicited),
@@ -140,7 +147,7 @@ impl Heard {
                 ..NOTHING
             },
             Body::Redirect(redirect) => Heard {
-                message_type: 137,
+                message_type,
                 target: redirect.target.0,
                 redirected: redirect.destination.0,
                 ..NOTHING
@@ -154,29 +161,25 @@ pub fn preference_number(preference: Preference) -> u8
     ensures { result ≡ preference_number preference }
 {
     match preference {
-        Preference::Medium => 0,
-        Preference::High => 1,
-        Preference::Low => 2,
+        Preference::Medium => PREFERENCE_MEDIUM,
+        Preference::High => PREFERENCE_HIGH,
+        Preference::Low => PREFERENCE_LOW,
     }
 }
 
-/// Returns the number of bytes of a message of a type before its options (RFC 4861, section 4).
-fn options_at(message_type: u32) -> u32
-    ensures { result ≡ least_length message_type }
+/// Returns the number of bytes of a message before its options (RFC 4861, section 4).
+fn fields_length(body: &Body) -> u32
+    ensures { result ≡ least_length (with_body body.now).message_type }
 {
-    match message_type {
-        133 => 8,
-        134 => 16,
-        137 => 40,
-        _ => 24,
-    }
+    body.message_type().least_length() as u32
 }
 
 /// Returns the payload length of a packet in a frame, in bytes (RFC 8200, section 3).
 fn payload_length(frame: &[u8]) -> u32
     ensures { result ≡ payload_length_of (packet_in frame.now) }
 {
-    u32::from(byte(frame, 18)) * 256 + u32::from(byte(frame, 19))
+    let at = ETHERNET_HEADER_LENGTH + IPV6_PAYLOAD_LENGTH_AT;
+    u32::from(byte(frame, at)) * 256 + u32::from(byte(frame, at + 1))
 }
 
 /// Returns a byte of a frame, or 0 after its end.
