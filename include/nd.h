@@ -62,8 +62,10 @@
  * place. Below 0: it did not, and it has changed nothing, but for ND_NO_MEMORY. If several hold,
  * the first in this order is returned: ND_INVALID, ND_CLOSED, ND_PAST, ND_NO_MEMORY.
  *   ND_NO_MEMORY: the event has added nothing. A part of what was due may have been done, and is
- *   reported. Poll, which frees memory, and make the same call again: the result is as if it had
- *   not been refused. A frame may also be given up, as if the link had lost it.
+ *   reported. Poll, and make the same call again: if memory is not refused then, the node is as if
+ *   it had not been refused before. If nothing is left to poll and memory is refused still, waiting
+ *   alone frees none: give the node more memory, or close it. A frame may also be given up, as if
+ *   the link had lost it.
  *
  * WHAT A NODE REPORTS. Each event appends records to the node's queue, in the order in which things
  * happened; nd_poll takes the oldest. Poll until ND_NOTHING after each call: records take memory,
@@ -96,10 +98,8 @@
  * One node is one interface; several nodes share nothing. When the link has been down, close the
  * node and open it again.
  *
- * DETERMINISM. Equal options and equal calls give equal statuses, records and rows, byte for byte,
- * also where memory was refused and the call was made again. Nothing else is read: no clock, no
- * environment, no global state. `ndpctl run` with the same options reports the same on the same
- * frames.
+ * DETERMINISM. A node reads its options, its calls and the answers of the memory functions, and
+ * nothing else: no clock, no environment, no global state. TESTED below says what that gives.
  *
  * NUMBERS. Addresses are bytes in network order, all other numbers are in the order of the machine.
  * Lifetimes left are in milliseconds. What a router announces is in the units of RFC 4861, 6.2.1.
@@ -114,13 +114,25 @@
  * (ND_INVALID).
  *
  * PROVED. Every call returns, reads no byte outside what it is passed, and writes none outside.
- * Every function has a clause that pins its status, the node afterwards, and what is written;
- * docs/PROVED.md lists them. For each event, ND_DONE and ND_REFUSED mean: from every history that
- * the node represents it goes to one that the RFCs' conceptual host or router has after the event,
- * and the queue gains exactly what is reported of the difference. TESTED: ND_BUFFER_BYTES and
- * nd_node_bytes are enough, equal calls report the same bytes, also after ND_NO_MEMORY, and a row
- * costs what its index is. TRUSTED: the duties above, the three memory functions, and the
- * toolchain. bindings/check compares this header with the library's source.
+ * Every function has a clause that says when it returns each status, and what the node is then and
+ * what is written; docs/PROVED.md lists them. ND_NO_MEMORY is allowed at any time where a call has
+ * it. For each event, ND_DONE and ND_REFUSED mean: from every history that the node represents it
+ * goes to one that the RFCs' conceptual host or router has after the event, and the queue gains
+ * exactly what is reported of the difference.
+ *
+ * TESTED, and not proved:
+ *   - ND_NO_MEMORY is returned only where a memory function refused a request.
+ *   - Equal options and equal calls give equal statuses, records and rows, byte for byte, as long
+ *     as no request is refused. Where some are, and each call that returned ND_NO_MEMORY is made
+ *     again, the records and the rows at the end are the same bytes. `ndpctl run` with the same
+ *     options reports the same on the same frames.
+ *   - nd_close, and an nd_open that returned ND_NO_MEMORY, give all memory of the node back, and
+ *     nd_poll that of the record that it takes.
+ *   - nd_poll, the questions (nd_.._at, nd_.._of), nd_last_moment and nd_next_due ask for no
+ *     memory.
+ *   - ND_BUFFER_BYTES and nd_node_bytes are enough, and a row costs what its index is.
+ * TRUSTED: the duties above, enough stack, the three memory functions, and the toolchain.
+ * bindings/check compares this header with the library's source.
  */
 #ifndef ND_H
 #define ND_H
@@ -220,19 +232,18 @@ typedef struct nd_options {
  *   ND_DONE        It is open at the moment `start`; nothing is reported yet.
  *   ND_INVALID     It is open already, `size` is not sizeof(nd_options), or a field is outside its
  *                  range. Nothing has changed.
- *   ND_NO_MEMORY   It is closed, and holds no memory. The same call again is as if it were the
- *                  first. */
+ *   ND_NO_MEMORY   It is closed. The same call again is as if it were the first. */
 int32_t nd_open(nd_node *node, const nd_options *options);
 
-/* Closes a node and gives its memory back. Nothing is sent (a router calls nd_stop and polls
- * first), and records that were not polled are lost. A closed node may be closed again, and opened
- * anew. */
+/* Closes a node. Nothing is sent (a router calls nd_stop and polls first), and records that were
+ * not polled are lost. A closed node may be closed again, and opened anew. */
 void nd_close(nd_node *node);
 
 /* ---- time ------------------------------------------------------------------------------------ */
 
-/* Returns the moment up to which time has passed: that of the start, of the last event, or, after
- * ND_NO_MEMORY, of the last thing that was done. UINT64_MAX if the node is closed. */
+/* Returns the moment up to which time has passed: that of the start, of the last event or
+ * nd_next_hop, or, after ND_NO_MEMORY, of the last thing that was done. UINT64_MAX if the node is
+ * closed. */
 uint64_t nd_last_moment(nd_node *node);
 
 /* Returns the earliest moment at which something is due; it is never before nd_last_moment. Call
@@ -261,7 +272,10 @@ int32_t nd_turn(nd_node *node, uint64_t now);
  *                  no such record: a router forwards it, which is ND_OUT_FRAME or ND_OUT_LOST, now
  *                  or once the link-layer address of its next hop is known (RFC 8200, 3).
  *   ND_REFUSED     ND_REFUSAL_FULL: a part of the message would pass a limit. No part of it was
- *                  taken. */
+ *                  taken. So once 32 DNS servers without end are known, an advertisement of another
+ *                  server is refused whole, with its router and its prefixes. For a new neighbour
+ *                  the one that is STALE for longest is evicted; it is refused if none is STALE,
+ *                  as where all entries are INCOMPLETE, REACHABLE, DELAY or PROBE. */
 int32_t nd_receive(nd_node *node, uint64_t now, const uint8_t *frame, size_t length);
 
 /* Sends a packet of an upper layer (RFC 4861, 5.2, 7.2.2 and 7.3.3). `source` is an assigned
@@ -374,7 +388,9 @@ typedef struct nd_route_row {
 } nd_route_row;
 
 /* Puts a static route (RFC 4861, 5.2). A route of the same prefix and length is replaced in its
- * place. None can be removed. Packets to fe80::/64 and to multicast addresses need no route.
+ * place. None can be removed. Packets to fe80::/64 and to multicast addresses need no route. The
+ * router's address is not checked: a multicast address, :: and ::1 are taken too, and resolved as
+ * any other.
  *   ND_DONE        It is there.
  *   ND_REFUSED     ND_REFUSAL_FULL: there are 64 others.
  *   ND_INVALID     Also if `bits` or `hop` is outside its range. */
@@ -443,8 +459,7 @@ typedef struct nd_out {
     nd_addr address;  /* as the kind or the refusal says; else :: */
 } nd_out;
 
-/* Takes the oldest record, and copies its bytes to the beginning of `buffer`, of `size` bytes. It
- * takes no memory, and gives that of the record back.
+/* Takes the oldest record, and copies its bytes to the beginning of `buffer`, of `size` bytes.
  *   ND_DONE        `out` and the first `out->length` bytes of `buffer` are written; the record is
  *                  gone.
  *   ND_NOTHING     There is none; nothing is written.
@@ -456,7 +471,7 @@ int32_t nd_poll(nd_node *node, nd_out *out, uint8_t *buffer, size_t size);
 
 /* ---- what a node knows ----------------------------------------------------------------------- */
 
-/* Questions change nothing and take no memory. `now` is not before nd_last_moment, and may be after
+/* Questions change nothing. `now` is not before nd_last_moment, and may be after
  * it: a row then says what holds at `now` if nothing is due before; call nd_turn first to be exact.
  * Where there are many rows, one is asked for by its index, from 0, in the order that the function
  * names:
@@ -547,7 +562,9 @@ typedef struct nd_name_row {
     uint32_t length; /* of the text, 1 to 253 */
     uint32_t reserved;
     char text[256]; /* labels joined by dots, then zeros. Only small letters, digits, hyphens and
-                       underscores are in a label, so it can be written to a file of a resolver */
+                       underscores are in a label, so it can be written to a file of a resolver. A
+                       label may begin with a hyphen, as in -rf.com: a program that is passed it as
+                       an argument may take it for an option */
 } nd_name_row;
 
 /* The DNS search names, in the order in which they entered the table (RFC 8106, 5.2 and 6.1). */
