@@ -14,6 +14,8 @@ import subprocess
 import sys
 from concurrent.futures import ThreadPoolExecutor
 
+from dist_headers import dist_headers
+
 HERE = os.path.dirname(os.path.realpath(__file__))
 BINDINGS = os.path.dirname(HERE)
 TOP = os.path.dirname(BINDINGS)
@@ -166,9 +168,12 @@ def dist():
     os.makedirs(DIST, exist_ok=True)
     parts = [read(f"{HERE}/runtime.h"), *(without_includes(read(f"{OUT}/nd_module.{end}")) for end in "hc"), read(f"{HERE}/front.c")]
     write(f"{DIST}/nd.c", "/* Made by `make -C bindings dist` of the proved library, by way of WebAssembly; see README.md. */\n" + "\n".join(parts))
-    for name in HEADERS:
-        text = read(f"{TOP}/include/{name}")
-        write(f"{DIST}/{name}", re.sub(r"^#if UINTPTR_MAX != UINT64_MAX\n#error .*\n#endif\n\n", "", text, flags=re.M))
+    try:
+        texts = dist_headers()
+    except ValueError as why:
+        sys.exit(f"FAILED: {why}")
+    for name, text in texts.items():
+        write(f"{DIST}/{name}", text)
     shutil.copy(f"{HERE}/dist.md", f"{DIST}/README.md")
 
 
