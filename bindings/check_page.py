@@ -12,7 +12,7 @@ import struct
 import sys
 
 from check_programs import BINDINGS, NDPCTL, TESTS, difference
-from checking import TOP, has, read, report_if, run, skip
+from checking import IS_FULL, TOP, has, read, report_if, run, skip
 
 sys.path.insert(0, f"{BINDINGS}/targets")
 import frames  # noqa: E402
@@ -254,13 +254,15 @@ def check_in_browser(path, room):
 def check_made_again(room):
     """Makes the modules of the page again, that of a node with ND_TARGETS=1. Their bytes are compared if the tools are those that the page names: others
     may make other bytes of the same code."""
+    if not IS_FULL:
+        return skip("the page's modules are made again", "`bindings/check full` makes them, which takes some minutes")
     again, names = f"{room}/index.html", list(page.MODULES) if os.environ.get("ND_TARGETS") else ["tell"]
     if "node" not in names:
         skip("the page's module of a node is made again", "ND_TARGETS=1 makes it, which takes some minutes")
     said = run([sys.executable, f"{BINDINGS}/targets/page.py", again, *names])
     print("".join(f"{line}\n" for line in said.stdout.splitlines() if line.startswith("skipped: ")), end="")
     if not report_if("targets/page.py", said.returncode == 0, said.stdout + said.stderr) or not os.path.exists(again):
-        return
+        return None
     (committed, named), (made, here) = (page.parts_of(read(path)) for path in (page.PAGE, again))
     if named == here:
         for name in names:
@@ -270,6 +272,7 @@ def check_made_again(room):
         skip("the bytes of the page's modules", f"they were made with {named}, and here is {here}")
         check_in_node("the page that is made here", again)
         check_runs_in_node("the page that is made here", again, room)
+    return None
 
 
 def check_page(room):

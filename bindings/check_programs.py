@@ -6,7 +6,7 @@ import shutil
 import sys
 
 from check_hostile import check_hostile
-from checking import INCLUDE, TOP, WARNINGS, has, read, report, report_if, run, skip
+from checking import INCLUDE, TOP, WARNINGS, has, read, report, report_if, run, skip, timed
 
 BINDINGS = f"{TOP}/bindings"
 TESTS = f"{BINDINGS}/tests"
@@ -147,7 +147,8 @@ def check_tests(room, archive):
     if trace:
         check_traces(trace)
         check_beside_ndpctl(trace)
-    check_hostile(room, archive, build, trace)
+    with timed("hostile input"):
+        check_hostile(room, archive, build, trace)
     build(room, "measure", [f"{TESTS}/measure.c", HEAP, archive])
 
 
@@ -202,16 +203,22 @@ def check_rust(room, archive):
 
 def check_programs(room):
     """Checks the programs for this machine, and returns the archive of a node, or None."""
-    check_hear(room)
-    archive = archive_of("nd_c", "ND_ARCHIVE")
+    with timed("the archive of nd_hear_c, and its example"):
+        check_hear(room)
+    with timed("the archive of nd_c"):
+        archive = archive_of("nd_c", "ND_ARCHIVE")
     if not archive or not os.path.exists(archive):
         return None
     archive = os.path.abspath(archive)
     check_symbols("the archive of nd_c", archive, NEEDED)
     if has("gcc", "the programs in C"):
-        check_examples(room, archive)
-        check_tests(room, archive)
-        check_bare(room, archive)
-        check_make(archive)
-    check_rust(room, archive)
+        with timed("the examples in C"):
+            check_examples(room, archive)
+        with timed("the tests in C"):
+            check_tests(room, archive)
+        with timed("bare, and the Makefile"):
+            check_bare(room, archive)
+            check_make(archive)
+    with timed("the crate for Rust"):
+        check_rust(room, archive)
     return archive

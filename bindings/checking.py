@@ -2,10 +2,16 @@
 import os
 import shutil
 import subprocess
+import sys
+import time
+from contextlib import contextmanager
 
 TOP = os.path.dirname(os.path.dirname(os.path.abspath(__file__)))
 INCLUDE = f"{TOP}/include"
 WARNINGS = ["-Wall", "-Wextra", "-Wpedantic", "-Werror"]
+
+# With the argument `full` what takes long is tried too.
+IS_FULL = "full" in sys.argv[1:]
 
 passed, failed = 0, 0
 
@@ -40,6 +46,14 @@ def has(tool, what):
         return True
     skip(what, f"{tool} is not there")
     return False
+
+
+@contextmanager
+def timed(what):
+    """Prints how long a part of the checks took by the clock."""
+    begun = time.monotonic()
+    yield
+    print(f"took {time.monotonic() - begun:.0f} seconds: {what}", flush=True)
 
 
 def read(path):
