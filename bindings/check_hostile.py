@@ -1,6 +1,6 @@
 """check_hostile: what hostile input does to the library: frames that are cut and changed, floods, random frames, and memory that is refused to an
 event. It also runs the scripts of `ndpctl run` with each request refused once. The counts are compared with tests/hostile.txt. `bindings/check full`
-takes all frames with a mended checksum, four seeds of random frames, and more frames under valgrind."""
+takes all frames with a mended checksum, and four seeds of random frames."""
 import os
 import subprocess
 import sys
@@ -111,7 +111,6 @@ def check_scarce(program):
 def check_hostile(room, archive, build, trace):
     """Builds the programs over the archive, and runs them side by side. `trace` is the program of that name, or None."""
     step, seeds = (1, 4) if IS_FULL else (5, 1)
-    sparse, few = ("499", "5000") if IS_FULL else ("1999", "1000")
     counting = f"{TESTS}/heap.c"
     program = build(room, "hostile", [f"{TESTS}/hostile.c", f"{TOP}/bindings/c/heap.c", archive])
     fuzz = build(room, "random", [f"{TESTS}/random.c", counting, archive])
@@ -137,7 +136,7 @@ def check_hostile(room, archive, build, trace):
     for name, process in random:
         check_random(room, name, process)
     if program:
-        under_valgrind(f"hostile, each {sparse}th frame", [program, "plain", sparse])
-        under_valgrind(f"hostile, each {sparse}th frame, mended", [program, "mended", sparse])
+        under_valgrind("hostile, each 499th frame", [program, "plain", "499"])
+        under_valgrind("hostile, each 499th frame, mended", [program, "mended", "499"])
     for number, role in ((0, "host"), (1, "router")) if fuzz else ():
-        under_valgrind(f"random: {role}, {few} frames", [fuzz, str(number), few, str(SEED), "0"])
+        under_valgrind(f"random: {role}, 5000 frames", [fuzz, str(number), "5000", str(SEED), "0"])
