@@ -273,9 +273,9 @@ int32_t nd_turn(nd_node *node, uint64_t now);
  *                  or once the link-layer address of its next hop is known (RFC 8200, 3).
  *   ND_REFUSED     ND_REFUSAL_FULL: a part of the message would pass a limit. No part of it was
  *                  taken. So once 32 DNS servers without end are known, an advertisement of another
- *                  server is refused whole, with its router and its prefixes. For a new neighbour
- *                  the one that is STALE for longest is evicted; it is refused if none is STALE,
- *                  as where all entries are INCOMPLETE, REACHABLE, DELAY or PROBE. */
+ *                  server is refused whole, with its router and its prefixes. Where the neighbours
+ *                  are at their limit, the one that is STALE for longest is evicted for a new one;
+ *                  if none is STALE, a message of a new neighbour is refused. */
 int32_t nd_receive(nd_node *node, uint64_t now, const uint8_t *frame, size_t length);
 
 /* Sends a packet of an upper layer (RFC 4861, 5.2, 7.2.2 and 7.3.3). `source` is an assigned
