@@ -1,31 +1,52 @@
-"""check_header: the headers against the sources. Each #[repr(C)] structure and each export of the library's crates, and of the declarations for Rust, is
-declared again in C behind the header, with sizes, places and types of the fields: a header that differs does not compile. A function that is on one
-side alone fails, and so does a number of an enumeration that the source has otherwise."""
+"""check_header: the headers against the sources. The numbers, structures and functions of both headers are those of the library's crates, by name and
+by value, and none is on one side alone. gcc compares them: what the sources have is declared once more behind the headers, with the value of each
+number, and with size, place and type of each field. The declarations for Rust are compared likewise. Then each number of the headers is changed in
+turn, in a copy, and each change has to be refused."""
 import glob
 import os
 import re
+import shutil
+import sys
+import tempfile
+from concurrent.futures import ThreadPoolExecutor
 
 from checking import INCLUDE, TOP, WARNINGS, has, read, report, report_if, run, skip
 
+sys.path.insert(0, f"{TOP}/bindings/targets")
+from dist_headers import dist_headers  # noqa: E402
+
+HEADERS = ["nd_hear.h", "nd.h"]
 # The structures of the library's crates, by their names in C.
 STRUCTS = {"Slot": "nd_node", "Options": "nd_options", "Record": "nd_out", "NeighbourRow": "nd_neighbour_row", "RouterRow": "nd_router_row",
            "PrefixRow": "nd_prefix_row", "AddressRow": "nd_address_row", "ServerRow": "nd_server_row", "NameRow": "nd_name_row",
            "RedirectRow": "nd_redirect_row", "ParametersRow": "nd_parameters_row", "OfferRow": "nd_offer_row", "RouteRow": "nd_route_row",
            "Advertising": "nd_advertising", "CountsRow": "nd_counts_row", "NextHopRow": "nd_next_hop_row", "Heard": "nd_heard"}
-# Their enumerations, by the beginnings of their names in C. A value `NotForUs` is ND_WHY_NOT_FOR_US.
-ENUMS = {"Why": "WHY", "Loss": "LOSS", "Refusal": "REFUSAL", "Limit": "LIMIT", "Role": "ROLE", "Preference": "PREFERENCE", "State": "STATE",
-         "Reachability": "REACHABILITY", "Hop": "HOP", "Clearable": "CLEARABLE", "Out": "OUT", "Draws": "DRAWS", "Event": "OUT"}
+# What the sources have as arrays, or have not: the memory functions are the toolchain's, which the archive calls.
+OTHER_STRUCTS = {"nd_addr", "nd_mac", "nd_block"}
+ALLOCATOR = """struct nd_block rattle_alloc(size_t, size_t);
+struct nd_block rattle_realloc(void *, size_t, size_t, size_t);
+void rattle_dealloc(void *);
+_Static_assert(sizeof(struct nd_block) == 16 && offsetof(struct nd_block, ok) == 0 && offsetof(struct nd_block, p) == 8, "nd_block");
+_Static_assert(_Generic(((struct nd_block *)0)->ok, bool: 1, default: 0) && _Generic(((struct nd_block *)0)->p, void *: 1, default: 0), "nd_block");
+_Static_assert(sizeof(nd_addr) == 16 && sizeof(((nd_addr *)0)->bytes) == 16, "nd_addr");
+_Static_assert(sizeof(nd_mac) == 6 && sizeof(((nd_mac *)0)->bytes) == 6, "nd_mac");
+"""
+# The enumerations of the sources, by the beginnings of their names in C. A value `NotForUs` is ND_WHY_NOT_FOR_US.
+ENUMS = {"WHY": "Why", "LOSS": "Loss", "REFUSAL": "Refusal", "LIMIT": "Limit", "ROLE": "Role", "PREFERENCE": "Preference", "STATE": "State",
+         "REACHABILITY": "Reachability", "HOP": "Hop|Route", "CLEARABLE": "Clearable", "OUT": "Out|Event", "HEARING": "Hearing"}
 NUMBERS = {"bool": ("bool", 1), "u8": ("uint8_t", 1), "u16": ("uint16_t", 2), "u32": ("uint32_t", 4), "u64": ("uint64_t", 8), "i32": ("int32_t", 4),
            "usize": ("size_t", 8), "*mut u8": ("void *", 8)}
 ARRAYS = {("u8", 16): "nd_addr", ("u8", 6): "nd_mac"}
 ALIASES = {"nd_addr": "[u8; 16]", "nd_mac": "[u8; 6]"}
-# The crates whose sources are compared. The first one has the exports.
-NODE = ["nd_c", "nd_c_types", "nd_heard", "nd_session"]
-HEAR = ["nd_hear_c", "nd_heard"]
+# The crates with the structures, those with the functions of each header, the files with the numbers, and those whose constants they name.
+CRATES = ["nd_c_types", "nd_heard", "nd_session"]
+EXPORTS = {"nd_hear.h": "nd_hear_c", "nd.h": "nd_c"}
+WITH_NUMBERS = ["nd_heard/src/header.rt", "nd_c_types/src/header.rt"]
+NAMED = ["nd_addr/src/ip6.rt", "nd_addr/src/frame.rt", "nd_table/src/ends.rt", "nd_node/src/version.rt"]
 
 
-def source(crates):
-    return "\n".join(read(path) for crate in crates for path in sorted(glob.glob(f"{TOP}/crates/{crate}/src/**/*.rt", recursive=True)))
+def source(crate):
+    return "\n".join(read(path) for path in sorted(glob.glob(f"{TOP}/crates/{crate}/src/**/*.rt", recursive=True)))
 
 
 def without_comments(text):
@@ -122,68 +143,203 @@ def functions_of(text, names, pattern=r'pub extern "C" fn (\w+)\((.*?)\)(?: -> (
     return functions
 
 
-def declared_in(*headers):
-    return set(re.findall(r"\b(nd_\w+)\([^;{]*\);", without_comments("".join(read(f"{INCLUDE}/{header}") for header in headers))))
-
-
-def values_in(*headers):
-    return {name: int(number) for header in headers for name, number in re.findall(r"\bND_(\w+) = (-?\d+)", read(f"{INCLUDE}/{header}"))}
-
-
 def upper(name):
     return re.sub(r"(?<!^)(?=[A-Z])", "_", name).upper()
 
 
-def numbers_of(text):
-    """Yields the numbers of statuses and of enumerations, by their names in C without ND_."""
+def value_of(expression, known):
+    """Returns the number of an expression of the source, in which known constants may be named, or None if it is none."""
+    text = re.sub(r"\bu(\d+)::MAX\b", lambda it: str(2 ** int(it[1]) - 1), re.sub(r" as \w+", "", expression))
+    text = re.sub(r"\b[A-Z]\w*\b", lambda it: str(known.get(it[0], it[0])), text)
+    return eval(text, {"__builtins__": {}}) if re.fullmatch(r"[\s\dxa-f_()+<\-]+", text) else None
+
+
+def constants_of(paths, known):
+    """Returns the constants of files that are numbers."""
+    found = {}
+    for path in paths:
+        for name, expression in re.findall(r"^(?:pub )?const (\w+): [iu]\w+ =\s+([^;]+);", without_comments(read(f"{TOP}/crates/{path}")), re.M):
+            value = value_of(expression, known | found)
+            if value is not None:
+                found[name] = value
+    return found
+
+
+def numbers_of_source():
+    """Returns the numbers of the sources, by their names in C without ND_."""
+    known = constants_of(NAMED, {})
+    numbers = constants_of(WITH_NUMBERS, known)
+    whys = re.search(r"\benum Why \{(.*?)\}", without_comments(read(f"{TOP}/crates/nd_addr/src/why.rt")), re.S)[1]
+    numbers |= {f"WHY_{upper(name)}": int(number) for name, number in re.findall(r"(\w+) = (\d+),", whys)}
+    version = re.search(r'VERSION: &str = "(\d+)\.(\d+)\.(\d+)"', read(f"{TOP}/crates/nd_node/src/version.rt"))
+    numbers |= {f"VERSION_{name}": int(version[i]) for i, name in enumerate(("MAJOR", "MINOR", "PATCH"), 1)}
+    return numbers | {"VERSION": known["VERSION_NUMBER"]}
+
+
+def names_of_numbers(text):
+    """Returns the names without ND_ that a header has for numbers: the values of its enumerations, and its #define lines, except for guards and
+    initializers."""
     text = without_comments(text)
-    for name, number in re.findall(r"\bconst (\w+): i32 = (-?\d+);", text):
-        yield name, int(number)
-    for enum, begin in ENUMS.items():
-        for value, number in re.findall(rf"\b{enum}::(\w+)(?:\([^()]*\)|\s*\{{[^{{}}]*\}})?\s*=> (\d+)\b", text):
-            yield f"{begin}_{upper(value)}", int(number)
-        for number, value in re.findall(rf"\b(\d+) => (?:Some\()?{enum}::(\w+)", text):
-            yield f"{begin}_{upper(value)}", int(number)
-        for body in re.findall(rf"\b(?:enum )?{enum} \{{(.*?)\}}", text, re.S):
-            for value, number in re.findall(r"\b([A-Z]\w*) = (\d+),", body):
-                yield f"{begin}_{upper(value)}", int(number)
+    names = [re.fullmatch(r"\s*ND_(\w+)(?:\s*=.*)?", value, re.S)[1] for body in re.findall(r"\benum\s+\w+\s*\{(.*?)\}", text, re.S)
+             for value in body.strip().rstrip(",").split(",")]
+    defined = re.findall(r"^\s*#\s*define\s+(?:ND_)?(\w+)(\(?)((?:\\\n|[^\n])*)$", text, re.M)
+    return names + [name for name, bracket, body in defined if bracket or body.strip(" \\\n") and not body.strip(" \\\n").startswith("{")]
 
 
-def check_numbers(what, text, header):
-    """Compares the numbers that the source has with those of the header."""
-    found = {(name, number) for name, number in numbers_of(text) if not name.endswith("_OTHER")}
-    wrong = sorted(f"ND_{name} is {number}, not {header.get(name)}" for name, number in found if header.get(name) != number)
-    report_if(f"{what}: {len(found)} of {len(header)} numbers", found and not wrong, "\n".join(wrong))
+def structs_in(text):
+    """Returns the structures of a header with the names of their fields."""
+    found = re.findall(r"\bstruct\s+(\w+)\s*\{(.*?)\}", without_comments(text), re.S)
+    return {name: re.findall(r"(\w+)(?:\[\d+\])*\s*(?=[,;])", body) for name, body in found}
 
 
-def compare(what, header, structs, names, functions, declared):
-    """Compares structures and functions with what a header declares."""
-    lines = [f'#include "{INCLUDE}/{header}"', *struct_lines(structs, names), *functions.values(), ""]
-    report(f"{what}: structures and functions", run(["gcc", "-std=c11", *WARNINGS, "-fsyntax-only", "-x", "c", "-"], input="\n".join(lines)))
-    both = f"on one side alone: {sorted(declared ^ set(functions))}"
-    report_if(f"{what}: {len(functions)} functions, {len(set(names) & set(structs))} structures", declared == set(functions), both)
+def functions_in(text):
+    return set(re.findall(r"\b(nd_\w+|rattle_\w+)\([^;{]*\);", without_comments(text)))
 
 
-def check_source(crates, *headers):
-    if not os.path.isdir(f"{TOP}/crates/{crates[0]}"):
-        return skip(f"{headers[0]} against the source", f"crates/{crates[0]} is not there")
-    text = source(crates)
-    what = f"{headers[0]} against {crates[0]}"
-    structs = structs_of(text)
-    missing = set(STRUCTS) - set(structs) if crates is NODE else set()
-    report_if(f"{what}: each structure has a source", not missing, f"no #[repr(C)] struct {sorted(missing)}\n")
-    compare(what, headers[0], structs, STRUCTS, functions_of(source(crates[:1]), STRUCTS), declared_in(*headers))
-    check_numbers(what, text + read(f"{TOP}/crates/nd_addr/src/why.rt"), values_in("nd_hear.h", "nd.h"))
+def differences(what, source_names, header_names):
+    """Returns what is on one side alone, or twice in the header."""
+    alone = [f"{what} {name} is in the {'sources' if name in source_names else 'headers'} alone"
+             for name in sorted(set(source_names) ^ set(header_names))]
+    return alone + [f"{what} {name} is twice in the headers" for name in sorted(set(header_names)) if list(header_names).count(name) > 1]
 
 
-def check_rust():
+class Sources:
+    """What the sources have for C."""
+
+    def __init__(self):
+        self.structs = structs_of("\n".join(source(crate) for crate in CRATES))
+        self.functions = {header: functions_of(source(crate), STRUCTS) for header, crate in EXPORTS.items()}
+        self.numbers = numbers_of_source()
+        size = constants_of(["nd_c_types/src/options.rt"], {})["SIZE"]
+        zeros = "offsetof(nd_options, role)"
+        self.program = f"""#undef ND_VERSION_MAJOR
+#undef ND_VERSION_MINOR
+#undef ND_VERSION_PATCH
+#define ND_VERSION_MAJOR 3
+#define ND_VERSION_MINOR 4
+#define ND_VERSION_PATCH 5
+_Static_assert(ND_VERSION == 0x30405, "ND_VERSION");
+#include <string.h>
+int main(void) {{
+    static const unsigned char none[sizeof(nd_options)];
+    nd_node node = ND_NODE_INIT;
+    nd_options options = ND_OPTIONS_INIT;
+    return node.is_open || node.at || options.size != {size}u || memcmp((unsigned char *)&options + {zeros}, none, sizeof options - {zeros});
+}}
+"""
+
+    def lines(self):
+        """Yields C that is compiled behind the headers where these are right."""
+        yield ALLOCATOR
+        yield from struct_lines(self.structs, STRUCTS)
+        yield from (line for functions in self.functions.values() for line in functions.values())
+        for name, number in self.numbers.items():
+            yield f'_Static_assert(ND_{name} == {number}{"" if number < 0 else "ull"}, "ND_{name}");'
+
+    def faults(self, include):
+        """Returns what is wrong with the headers of a folder."""
+        texts = {header: read(f"{include}/{header}") for header in HEADERS}
+        both = "\n".join(texts.values())
+        numbers = names_of_numbers(both)
+        faults = differences("the number", self.numbers, numbers)
+        declared = structs_in(both)
+        faults += differences("the structure", {*STRUCTS.values(), *OTHER_STRUCTS}, list(declared))
+        for name, c_name in STRUCTS.items():
+            fields = [field for field, _ in flat(self.structs[name], self.structs)] if name in self.structs else []
+            if fields != declared.get(c_name):
+                faults.append(f"{c_name} has the fields {declared.get(c_name)}, not {fields}")
+        allocator = functions_in(ALLOCATOR)
+        faults += differences("the function", set(self.functions["nd_hear.h"]), list(functions_in(texts["nd_hear.h"])))
+        faults += differences("the function", {*self.functions["nd.h"], *allocator}, list(functions_in(both)))
+        with tempfile.TemporaryDirectory() as room:
+            words = ["gcc", "-std=c11", *WARNINGS, f"-I{include}", "-x", "c", "-", "-o", f"{room}/program"]
+            made = run(words, input="\n".join(['#include "nd.h"', *self.lines(), self.program]))
+            if made.returncode:
+                faults.append(made.stderr)
+            elif run([f"{room}/program"]).returncode:
+                faults.append("ND_NODE_INIT or ND_OPTIONS_INIT is not what the sources take for it")
+        return faults
+
+    def wrong_arms(self):
+        """Returns the arms of a `match` in which a value has the number of another one, and the numbers that no arm has."""
+        text = without_comments("\n".join(source(crate) for crate in CRATES))
+        arms = []
+        for begin, enum in ENUMS.items():
+            arms += re.findall(rf"\b(?:{enum})::(\w+)\b(?:(?!=>|\n\n|\b{begin}_).)*=>(?:(?!=>|\n\n).)*?\b({begin})_([A-Z_]+)\b", text, re.S)
+            arms += [(value, begin, name) for name, value in re.findall(rf"\b{begin}_([A-Z_]+) => (?:Some\()?(?:{enum})::(\w+)", text)]
+        wrong = [f"{value} has the number ND_{begin}_{name}" for value, begin, name in arms if upper(value) != name]
+        seen = {f"{begin}_{name}" for _, begin, name in arms}
+        # An event that is refused has an arm for each reason.
+        unseen = [name for name in self.numbers if name.split("_")[0] in ENUMS and not name.startswith("WHY_") and name not in seen | {"OUT_REFUSED"}]
+        return wrong + [f"no arm has ND_{name}" for name in unseen]
+
+
+def changes(text):
+    """Yields a header with each of its numbers changed in turn, and with what was changed. A number is also the greatest of a type, by name."""
+    code = re.sub(r"/\*.*?\*/|//[^\n]*|#if[^\n]*|#error[^\n]*", lambda it: re.sub(r"[^\n]", " ", it[0]), text, flags=re.S)
+    for it in re.finditer(r"(?<![\w.])(?:\d+(?!\w)|UINT(?:32|64)_MAX)", code):
+        other = str(int(it[0]) + 1) if it[0].isdigit() else "INT32_MAX"
+        line = text.count("\n", 0, it.start()) + 1
+        yield f"line {line}: {text.splitlines()[line - 1].strip()[:60]}: {other}", text[:it.start()] + other + text[it.end():]
+
+
+def check_changes(sources):
+    """Changes each number of the headers in a copy, and requires that each change is refused."""
+    tried = [(header, what, text) for header in HEADERS for what, text in changes(read(f"{INCLUDE}/{header}"))]
+
+    def passes(one):
+        header, what, text = one
+        with tempfile.TemporaryDirectory() as room:
+            shutil.copytree(INCLUDE, f"{room}/include")
+            with open(f"{room}/include/{header}", "w", encoding="utf-8") as file:
+                file.write(text)
+            return None if sources.faults(f"{room}/include") else f"{header}, {what}"
+
+    with ThreadPoolExecutor(2) as pool:
+        passed = list(filter(None, pool.map(passes, tried)))
+    report_if(f"each of {len(tried)} changes of a number of the headers is refused", len(tried) > 100 and not passed, "\n".join(passed))
+
+
+def check_source():
+    crates = [*CRATES, *EXPORTS.values()]
+    missing = [crate for crate in crates if not os.path.isdir(f"{TOP}/crates/{crate}")]
+    if missing:
+        return skip("the headers against the sources", f"crates/{missing[0]} is not there")
+    sources = Sources()
+    faults = sources.faults(INCLUDE)
+    functions = set().union(*sources.functions.values())
+    what = f"{len(sources.numbers)} numbers, {len(STRUCTS)} structures, {len(functions)} functions"
+    is_same = report_if(f"nd_hear.h and nd.h are what the sources have: {what}", not faults, "\n".join(faults))
+    wrong = sources.wrong_arms()
+    report_if("each number that C sees stands at the value of its name", not wrong, "\n".join(wrong))
+    if is_same:
+        check_changes(sources)
+    return check_rust(sources)
+
+
+def check_rust(sources):
+    """Compares the declarations for Rust with the headers, and its enumerations with their numbers."""
     folder = f"{TOP}/bindings/rust/src"
     raw = read(f"{folder}/raw.rs")
     structs = structs_of(raw)
     names = {name: name for name in structs}
-    compare("raw.rs against nd.h", "nd.h", structs, names, functions_of(raw, names, r"pub fn (\w+)\((.*?)\)(?: -> (\w+))?;"),
-            declared_in("nd.h", "nd_hear.h"))
-    check_numbers("numbers.rs against nd.h", "".join(read(f"{folder}/{name}.rs") for name in ("numbers", "event")), values_in("nd_hear.h", "nd.h"))
+    functions = functions_of(raw, names, r"pub fn (\w+)\((.*?)\)(?: -> (\w+))?;")
+    lines = ['#include "nd.h"', *struct_lines(structs, names), *functions.values(), ""]
+    report("raw.rs against nd.h: structures and functions", run(["gcc", "-std=c11", *WARNINGS, f"-I{INCLUDE}", "-fsyntax-only", "-x", "c", "-"],
+                                                                 input="\n".join(lines)))
+    exported = {name for declared in sources.functions.values() for name in declared}
+    alone = differences("the function", exported, list(functions))
+    report_if(f"raw.rs against nd.h: {len(functions)} functions, {len(structs)} structures", not alone, "\n".join(alone))
+    text = without_comments("".join(read(f"{folder}/{name}.rs") for name in ("numbers", "event")))
+    found = set()
+    for begin, enum in ENUMS.items():
+        found |= {(f"{begin}_{upper(value)}", int(number)) for number, value in re.findall(rf"\b(\d+) => (?:{enum})::(\w+)", text)}
+        for body in re.findall(rf"\b(?:{enum}) \{{(.*?)\}}", text, re.S):
+            found |= {(f"{begin}_{upper(value)}", int(number)) for value, number in re.findall(r"\b([A-Z]\w*) = (\d+),", body)}
+    begins = {name.split("_")[0] for name, _ in found}
+    wanted = {(name, number) for name, number in sources.numbers.items() if name.split("_")[0] in begins}
+    wrong = [f"ND_{name} is {number} in the {'crate' if (name, number) in found else 'headers'} alone" for name, number in sorted(found ^ wanted)]
+    report_if(f"the enumerations of the crate for Rust: {len(found)} numbers", len(begins) >= 9 and not wrong, "\n".join(wrong))
 
 
 def check_compilers():
@@ -198,10 +354,22 @@ def check_compilers():
                 report(f"{' and '.join(headers)} as {standard}", run(words, input=text))
 
 
+def check_dist():
+    """Requires that each sentence that is untrue of nd.c is in the headers, and that the headers of nd.c compile."""
+    try:
+        texts = dist_headers()
+    except ValueError as why:
+        return report_if("the headers of nd.c", False, str(why))
+    with tempfile.TemporaryDirectory() as room:
+        for header, text in texts.items():
+            with open(f"{room}/{header}", "w", encoding="utf-8") as file:
+                file.write(text)
+        words = ["gcc", "-std=c11", *WARNINGS, f"-I{room}", "-fsyntax-only", "-x", "c", "-"]
+        return report("the headers of nd.c, with what differs from the archive", run(words, input='#include "nd.h"\n'))
+
+
 def check_headers():
     check_compilers()
-    if not has("gcc", "the headers against the sources"):
-        return
-    check_source(HEAR, "nd_hear.h")
-    check_source(NODE, "nd.h", "nd_hear.h")
-    check_rust()
+    if has("gcc", "the headers against the sources"):
+        check_source()
+        check_dist()

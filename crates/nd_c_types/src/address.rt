@@ -3,6 +3,7 @@
 ghost use Rattle.std.specs.Prelude.{◌≡◌};
 ghost use Rattle.nd_c_types.specs.Address.{address_row, state_number};
 
+use crate::header::{STATE_DEPRECATED, STATE_DUPLICATE, STATE_PREFERRED, STATE_TENTATIVE};
 use crate::numbers::left_number;
 use nd_slaac::{OwnAddress, State};
 
@@ -15,7 +16,7 @@ pub struct AddressRow {
     /// What is left of its valid lifetime, in milliseconds, or ND_FOREVER.
     pub valid_left: u64,
     pub address: [u8; 16],
-    /// ND_STATE_TENTATIVE to ND_STATE_DUPLICATE: 1 to 4.
+    /// ND_STATE_TENTATIVE to ND_STATE_DUPLICATE.
     pub state: u32,
     pub reserved: u32,
 }
@@ -40,9 +41,9 @@ fn state_number(state: State) -> u32
     ensures { result ≡ state_number state }
 {
     match state {
-        State::Tentative => 1,
-        State::Preferred => 2,
-        State::Deprecated => 3,
-        State::Duplicate => 4,
+        State::Tentative => STATE_TENTATIVE,
+        State::Preferred => STATE_PREFERRED,
+        State::Deprecated => STATE_DEPRECATED,
+        State::Duplicate => STATE_DUPLICATE,
     }
 }

@@ -5,6 +5,7 @@ ghost use Rattle.nd_c_types.specs.Advertising.{advertising_of, config_of, fits, 
 
 use crate::numbers::preference_in;
 use nd_advertiser::{Config, ConfigFlags};
+use nd_heard::header::PREFERENCE_LOW;
 use nd_heard::preference_number;
 
 /// What a router advertises of itself and of its link: `nd_advertising` of the header.
@@ -26,7 +27,7 @@ pub struct Advertising {
     pub hop_limit: u8,
     pub managed: u8,
     pub other: u8,
-    /// ND_PREFERENCE_MEDIUM, ND_PREFERENCE_HIGH or ND_PREFERENCE_LOW: 0 to 2.
+    /// ND_PREFERENCE_MEDIUM, ND_PREFERENCE_HIGH or ND_PREFERENCE_LOW.
     pub preference: u8,
     pub reserved: u32,
 }
@@ -85,11 +86,14 @@ impl Advertising {
         .ok()
     }
 
-    /// Returns true if the flags are 0 or 1, the preference is 0 to 2, and the reserved field is 0.
+    /// Returns true if the flags are 0 or 1, the preference is one of the header's, and the reserved field is 0.
     fn is_well_formed(&self) -> bool
         ensures { result ≡ is_well_formed self.now }
     {
-        self.managed <= 1 && self.other <= 1 && self.preference <= 2 && self.reserved == 0
+        self.managed <= 1
+            && self.other <= 1
+            && self.preference <= PREFERENCE_LOW
+            && self.reserved == 0
     }
 
     /// Returns true if the numbers of seconds are below 2^16.

@@ -3,6 +3,10 @@
 ghost use Rattle.std.specs.Prelude.{◌≡◌};
 ghost use Rattle.nd_c_types.specs.Neighbour.{mac_bytes, mac_flag, neighbour_row, reachability_number};
 
+use crate::header::{
+    REACHABILITY_DELAY, REACHABILITY_INCOMPLETE, REACHABILITY_PROBE, REACHABILITY_REACHABLE,
+    REACHABILITY_STALE,
+};
 use nd_addr::Mac;
 use nd_neighbour::{Neighbour, Reachability};
 
@@ -15,7 +19,7 @@ pub struct NeighbourRow {
     pub mac: [u8; 6],
     pub has_mac: u8,
     pub is_router: u8,
-    /// ND_REACHABILITY_INCOMPLETE to ND_REACHABILITY_PROBE: 1 to 5.
+    /// ND_REACHABILITY_INCOMPLETE to ND_REACHABILITY_PROBE.
     pub state: u32,
     pub reserved: u32,
 }
@@ -62,10 +66,10 @@ fn reachability_number(state: Reachability) -> u32
     ensures { result ≡ reachability_number state }
 {
     match state {
-        Reachability::Incomplete => 1,
-        Reachability::Reachable => 2,
-        Reachability::Stale => 3,
-        Reachability::Delay => 4,
-        Reachability::Probe => 5,
+        Reachability::Incomplete => REACHABILITY_INCOMPLETE,
+        Reachability::Reachable => REACHABILITY_REACHABLE,
+        Reachability::Stale => REACHABILITY_STALE,
+        Reachability::Delay => REACHABILITY_DELAY,
+        Reachability::Probe => REACHABILITY_PROBE,
     }
 }

@@ -3,6 +3,7 @@
 ghost use Rattle.std.specs.Prelude.{◌≡◌};
 ghost use Rattle.nd_c_types.specs.NextHop.{next_hop_row};
 
+use crate::header::{HOP_DIRECT, HOP_VIA};
 use nd_addr::Addr;
 use nd_nexthop::Hop;
 
@@ -12,7 +13,7 @@ use nd_nexthop::Hop;
 pub struct NextHopRow {
     /// The destination itself, or the router.
     pub address: [u8; 16],
-    /// ND_HOP_DIRECT or ND_HOP_VIA: 1 or 2.
+    /// ND_HOP_DIRECT or ND_HOP_VIA.
     pub hop: u32,
     pub reserved: u32,
 }
@@ -27,7 +28,7 @@ impl NextHopRow {
                 let address = destination.0;
                 Some(NextHopRow {
                     address,
-                    hop: 1,
+                    hop: HOP_DIRECT,
                     reserved: 0,
                 })
             }
@@ -35,7 +36,7 @@ impl NextHopRow {
                 let address = router.0;
                 Some(NextHopRow {
                     address,
-                    hop: 2,
+                    hop: HOP_VIA,
                     reserved: 0,
                 })
             }

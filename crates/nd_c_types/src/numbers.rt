@@ -3,7 +3,9 @@
 ghost use Rattle.std.specs.Prelude.{◌≡◌, ◌==◌};
 ghost use Rattle.nd_c_types.specs.Numbers.{left_number, preference_in};
 
+use crate::header::FOREVER;
 use nd_addr::Preference;
+use nd_heard::header::{PREFERENCE_HIGH, PREFERENCE_LOW};
 
 /// Returns what is left of a lifetime, in milliseconds: ND_FOREVER if it has no end.
 pub(crate) fn left_number(left: Option<u64>) -> u64
@@ -11,7 +13,7 @@ pub(crate) fn left_number(left: Option<u64>) -> u64
 {
     match left {
         Some(left) => left,
-        None => u64::MAX,
+        None => FOREVER,
     }
 }
 
@@ -20,8 +22,8 @@ pub(crate) fn preference_in(number: u8) -> Preference
     ensures { result ≡ preference_in number }
 {
     match number {
-        1 => Preference::High,
-        2 => Preference::Low,
+        PREFERENCE_HIGH => Preference::High,
+        PREFERENCE_LOW => Preference::Low,
         _ => Preference::Medium,
     }
 }

@@ -4,8 +4,10 @@ ghost use Rattle.std.specs.Prelude.{◌≡◌, ◌≤◌, ◌<◌, ◌^◌, IfSo
 ghost use Rattle.nd_node.specs.Limits.{AreLimits};
 ghost use Rattle.nd_c_types.specs.Options.{are_draws, draws_in, is_well_formed, limits_in, number_or, opening_of};
 
+use crate::header::{DRAWS_SEED, DRAWS_WORD, MOMENT_LIMIT};
 use crate::role::role_of;
 use nd_addr::{Mac, Role};
+use nd_heard::header::ROLE_ROUTER;
 use nd_neighbour::MAX_NEIGHBOURS;
 use nd_node::{USUAL_NEIGHBOURS, USUAL_ROUTERS};
 use nd_routers::MAX_ROUTERS;
@@ -13,9 +15,6 @@ use nd_slaac::Transmits;
 
 /// The number of bytes of the structure.
 const SIZE: u32 = 64;
-
-/// The limit that moments are below, in milliseconds.
-pub const MOMENT_LIMIT: u64 = 1 << 62;
 
 /// The greatest numbers of solicitations, neighbours and default routers.
 const MOST_TRANSMITS: u8 = 8;
@@ -33,12 +32,12 @@ const USUAL_TRANSMITS: u8 = 1;
 pub struct Options {
     /// The number of bytes of the structure, as the caller knows it.
     pub size: u32,
-    /// ND_ROLE_HOST or ND_ROLE_ROUTER: 0 or 1.
+    /// ND_ROLE_HOST or ND_ROLE_ROUTER.
     pub role: u32,
     pub mac: [u8; 6],
     /// 1 to 8, or 0 for 1.
     pub transmits: u8,
-    /// ND_DRAWS_SEED or ND_DRAWS_WORD: 0 or 1.
+    /// ND_DRAWS_SEED or ND_DRAWS_WORD.
     pub draws: u8,
     /// 1 to 2048, or 0 for 512.
     pub neighbours: u32,
@@ -104,7 +103,7 @@ impl Options {
         ensures { result ≡ is_well_formed self.now }
     {
         self.size == SIZE
-            && self.role <= 1
+            && self.role <= ROLE_ROUTER
             && self.transmits <= MOST_TRANSMITS
             && are_draws(self.draws, self.seed)
             && self.neighbours <= MOST_NEIGHBOURS
@@ -165,7 +164,7 @@ fn routers_of(number: u32) -> u8
 fn are_draws(draws: u8, seed: u64) -> bool
     ensures { result ≡ are_draws draws seed }
 {
-    draws == 0 || (draws == 1 && seed <= u64::from(u32::MAX))
+    draws == DRAWS_SEED || (draws == DRAWS_WORD && seed <= u64::from(u32::MAX))
 }
 
 /// Returns where the random words come from.
@@ -173,7 +172,7 @@ fn draws_of(draws: u8, seed: u64) -> Draws
     requires { IsTrue (are_draws draws seed) }
     ensures { result ≡ draws_in draws seed }
 {
-    if draws == 0 {
+    if draws == DRAWS_SEED {
         Draws::Seed(seed)
     } else {
         Draws::Word(seed as u32)

@@ -1,10 +1,16 @@
 //! What a node reports, as C sees it. The definitions are in `specs/Record.antt`.
 
 ghost use Rattle.std.specs.Prelude.{◌≡◌};
-ghost use Rattle.nd_c_types.specs.Record.{bytes_in, contents_of, limit_number, loss_number, nothing, of_refusal, record_of, type_of};
+ghost use Rattle.nd_c_types.specs.Record.{bytes_in, contents_of, limit_number, loss_number, nothing, of_refusal, record_of};
 
+use crate::header::{
+    LIMIT_ADDRESSES, LIMIT_NAMES, LIMIT_NEIGHBOURS, LIMIT_OFFERS, LIMIT_PREFIXES, LIMIT_ROUTERS,
+    LIMIT_SERVERS, LIMIT_STATIC_ROUTES, LOSS_FORGOTTEN, LOSS_HOP_LIMIT, LOSS_NO_ROUTE,
+    LOSS_REPLACED, LOSS_UNREACHABLE, OUT_ASSIGNED, OUT_DROPPED, OUT_DUPLICATE, OUT_ENDED_ADDRESS,
+    OUT_ENDED_ROUTER, OUT_FAILED, OUT_FRAME, OUT_HEARD, OUT_LOST, OUT_REFUSED, OUT_UP,
+    REFUSAL_DISABLED, REFUSAL_FULL, REFUSAL_NOT_OURS, REFUSAL_TOO_LONG, REFUSAL_WRONG_ROLE,
+};
 use nd_addr::{Addr, ETHERNET_HEADER_LENGTH};
-use nd_decode::Body;
 use nd_out::{Limit, Loss, Out, Refusal};
 use std::alloc::Allocator;
 
@@ -16,11 +22,11 @@ pub struct Record {
     pub moment: u64,
     /// The number of its bytes.
     pub length: usize,
-    /// ND_OUT_FRAME to ND_OUT_REFUSED: 1 to 11.
+    /// ND_OUT_FRAME to ND_OUT_REFUSED.
     pub kind: u32,
     /// Why a frame was dropped, a packet is not sent or an event was refused; or the ICMPv6 type of a message.
     pub code: u32,
-    /// ND_LIMIT_NEIGHBOURS to ND_LIMIT_STATIC_ROUTES, 1 to 8: the table that is full.
+    /// ND_LIMIT_NEIGHBOURS to ND_LIMIT_STATIC_ROUTES: the table that is full.
     pub limit: u32,
     pub reserved: u32,
     pub address: [u8; 16],
@@ -57,19 +63,19 @@ impl Record {
         ensures { result ≡ contents_of out.now }
     {
         match out {
-            Out::Frame(_) => Record::with_code(1, 0),
+            Out::Frame(_) => Record::with_code(OUT_FRAME, 0),
             Out::Heard { source, body, .. } => Record {
-                code: type_of(body),
-                ..Record::about(2, *source)
+                code: u32::from(body.message_type().number()),
+                ..Record::about(OUT_HEARD, *source)
             },
-            Out::Dropped(why) => Record::with_code(3, u32::from(why.number())),
-            Out::Up(_) => Record::with_code(4, 0),
-            Out::Duplicate(address) => Record::about(5, *address),
-            Out::Assigned(address) => Record::about(6, *address),
-            Out::EndedAddress(address) => Record::about(7, *address),
-            Out::EndedRouter(router) => Record::about(8, *router),
-            Out::Failed(neighbour) => Record::about(9, *neighbour),
-            Out::Lost(why, _) => Record::with_code(10, loss_number(*why)),
+            Out::Dropped(why) => Record::with_code(OUT_DROPPED, u32::from(why.number())),
+            Out::Up(_) => Record::with_code(OUT_UP, 0),
+            Out::Duplicate(address) => Record::about(OUT_DUPLICATE, *address),
+            Out::Assigned(address) => Record::about(OUT_ASSIGNED, *address),
+            Out::EndedAddress(address) => Record::about(OUT_ENDED_ADDRESS, *address),
+            Out::EndedRouter(router) => Record::about(OUT_ENDED_ROUTER, *router),
+            Out::Failed(neighbour) => Record::about(OUT_FAILED, *neighbour),
+            Out::Lost(why, _) => Record::with_code(OUT_LOST, loss_number(*why)),
             Out::Refused(why) => Record::of_refusal(why),
             Out::Shown(_) | Out::Past(_) => NOTHING,
         }
@@ -80,16 +86,16 @@ impl Record {
         ensures { result ≡ of_refusal why.now }
     {
         match why {
-            Refusal::WrongRole => Record::with_code(11, 1),
-            Refusal::Disabled => Record::with_code(11, 2),
+            Refusal::WrongRole => Record::with_code(OUT_REFUSED, REFUSAL_WRONG_ROLE),
+            Refusal::Disabled => Record::with_code(OUT_REFUSED, REFUSAL_DISABLED),
             Refusal::NotOurs(source) => Record {
-                code: 3,
-                ..Record::about(11, *source)
+                code: REFUSAL_NOT_OURS,
+                ..Record::about(OUT_REFUSED, *source)
             },
-            Refusal::TooLong => Record::with_code(11, 4),
+            Refusal::TooLong => Record::with_code(OUT_REFUSED, REFUSAL_TOO_LONG),
             Refusal::Full(full) => Record {
                 limit: limit_number(*full),
-                ..Record::with_code(11, 5)
+                ..Record::with_code(OUT_REFUSED, REFUSAL_FULL)
             },
         }
     }
@@ -130,29 +136,16 @@ pub fn bytes_of<A: Allocator>(out: &Out<A>) -> &[u8]
     }
 }
 
-/// Returns the ICMPv6 type of a message (RFC 4861, section 4).
-fn type_of(body: &Body) -> u32
-    ensures { result ≡ type_of body.now }
-{
-    match body {
-        Body::Rs => 133,
-        Body::Ra(_) => 134,
-        Body::Ns(_) => 135,
-        Body::Na(_) => 136,
-        Body::Redirect(_) => 137,
-    }
-}
-
 /// Returns the number of the reason why a packet is not sent.
 fn loss_number(why: Loss) -> u32
     ensures { result ≡ loss_number why }
 {
     match why {
-        Loss::Unreachable => 1,
-        Loss::Replaced => 2,
-        Loss::Forgotten => 3,
-        Loss::NoRoute => 4,
-        Loss::HopLimit => 5,
+        Loss::Unreachable => LOSS_UNREACHABLE,
+        Loss::Replaced => LOSS_REPLACED,
+        Loss::Forgotten => LOSS_FORGOTTEN,
+        Loss::NoRoute => LOSS_NO_ROUTE,
+        Loss::HopLimit => LOSS_HOP_LIMIT,
     }
 }
 
@@ -161,13 +154,13 @@ fn limit_number(full: Limit) -> u32
     ensures { result ≡ limit_number full }
 {
     match full {
-        Limit::Neighbours => 1,
-        Limit::Routers => 2,
-        Limit::Prefixes => 3,
-        Limit::Addresses => 4,
-        Limit::Servers => 5,
-        Limit::Names => 6,
-        Limit::Offers => 7,
-        Limit::StaticRoutes => 8,
+        Limit::Neighbours => LIMIT_NEIGHBOURS,
+        Limit::Routers => LIMIT_ROUTERS,
+        Limit::Prefixes => LIMIT_PREFIXES,
+        Limit::Addresses => LIMIT_ADDRESSES,
+        Limit::Servers => LIMIT_SERVERS,
+        Limit::Names => LIMIT_NAMES,
+        Limit::Offers => LIMIT_OFFERS,
+        Limit::StaticRoutes => LIMIT_STATIC_ROUTES,
     }
 }

@@ -4,14 +4,15 @@ ghost use Rattle.std.specs.Prelude.{◌≡◌};
 ghost use Rattle.nd_c_types.specs.Role.{role_of};
 
 use nd_addr::Role;
+use nd_heard::header::{ROLE_HOST, ROLE_ROUTER};
 
-/// Returns the role with the number ND_ROLE_HOST or ND_ROLE_ROUTER, 0 or 1. Returns `None` for another number.
+/// Returns the role with the number ND_ROLE_HOST or ND_ROLE_ROUTER. Returns `None` for another number.
 pub fn role_of(number: u32) -> Option<Role>
     ensures { result ≡ role_of number }
 {
     match number {
-        0 => Some(Role::Host),
-        1 => Some(Role::Router),
+        ROLE_HOST => Some(Role::Host),
+        ROLE_ROUTER => Some(Role::Router),
         _ => None,
     }
 }

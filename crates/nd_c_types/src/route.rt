@@ -3,6 +3,7 @@
 ghost use Rattle.std.specs.Prelude.{◌≡◌, Some};
 ghost use Rattle.nd_c_types.specs.Route.{hop_number, route_in, route_of, route_row, router_bytes};
 
+use crate::header::{HOP_DIRECT, HOP_VIA};
 use nd_addr::{Addr, Prefix};
 use nd_forwarding::{KeptRoute, Route};
 
@@ -15,7 +16,7 @@ pub struct RouteRow {
     pub router: [u8; 16],
     /// The prefix's length, 0 to 128.
     pub bits: u32,
-    /// ND_HOP_DIRECT or ND_HOP_VIA: 1 or 2.
+    /// ND_HOP_DIRECT or ND_HOP_VIA.
     pub hop: u32,
 }
 
@@ -54,8 +55,8 @@ impl RouteRow {
         ensures { result ≡ route_in self.now }
     {
         match self.hop {
-            1 => Some(Route::Direct),
-            2 => Some(Route::Via(Addr(self.router))),
+            HOP_DIRECT => Some(Route::Direct),
+            HOP_VIA => Some(Route::Via(Addr(self.router))),
             _ => None,
         }
     }
@@ -76,7 +77,7 @@ fn hop_number(route: Route) -> u32
     ensures { result ≡ hop_number route }
 {
     match route {
-        Route::Direct => 1,
-        Route::Via(_) => 2,
+        Route::Direct => HOP_DIRECT,
+        Route::Via(_) => HOP_VIA,
     }
 }

@@ -14,7 +14,7 @@ pub struct RouterRow {
     /// What is left of its lifetime, in milliseconds.
     pub left: u64,
     pub address: [u8; 16],
-    /// ND_PREFERENCE_MEDIUM, ND_PREFERENCE_HIGH or ND_PREFERENCE_LOW: 0 to 2.
+    /// ND_PREFERENCE_MEDIUM, ND_PREFERENCE_HIGH or ND_PREFERENCE_LOW.
     pub preference: u32,
     pub reserved: u32,
 }

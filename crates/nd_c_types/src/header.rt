@@ -1,0 +1,121 @@
+//! The numbers of `include/nd.h`, by their names there without `ND_`. Those of `include/nd_hear.h` are in `nd_heard::header`. `bindings/check` compares
+//! each with the header.
+
+use nd_addr::{ETHERNET_HEADER_LENGTH, ETHERNET_MTU};
+use nd_table::INFINITY;
+
+/// The limit that moments are below, in milliseconds.
+pub const MOMENT_LIMIT: u64 = 1 << 62;
+
+/// What is left of a lifetime without an end, in place of milliseconds.
+pub const FOREVER: u64 = u64::MAX;
+
+/// An announced lifetime without an end, in seconds (RFC 4861, section 4.6.2).
+pub const LIFETIME_INFINITE: u32 = INFINITY;
+
+/// The number of bytes of the longest frame of a link with the MTU of Ethernet.
+pub const BUFFER_BYTES: usize = ETHERNET_HEADER_LENGTH + ETHERNET_MTU as usize;
+
+/// Random words come from PCG32, seeded with `seed`.
+pub const DRAWS_SEED: u8 = 0;
+
+/// Each random word is `seed`.
+pub const DRAWS_WORD: u8 = 1;
+
+// What a node reports: `enum nd_kind`.
+pub const OUT_FRAME: u32 = 1;
+
+pub const OUT_HEARD: u32 = 2;
+
+pub const OUT_DROPPED: u32 = 3;
+
+pub const OUT_UP: u32 = 4;
+
+pub const OUT_DUPLICATE: u32 = 5;
+
+pub const OUT_ASSIGNED: u32 = 6;
+
+pub const OUT_ENDED_ADDRESS: u32 = 7;
+
+pub const OUT_ENDED_ROUTER: u32 = 8;
+
+pub const OUT_FAILED: u32 = 9;
+
+pub const OUT_LOST: u32 = 10;
+
+pub const OUT_REFUSED: u32 = 11;
+
+// Why a packet is not sent: `enum nd_loss`.
+pub const LOSS_UNREACHABLE: u32 = 1;
+
+pub const LOSS_REPLACED: u32 = 2;
+
+pub const LOSS_FORGOTTEN: u32 = 3;
+
+pub const LOSS_NO_ROUTE: u32 = 4;
+
+pub const LOSS_HOP_LIMIT: u32 = 5;
+
+// Why an event is refused: `enum nd_refusal`.
+pub const REFUSAL_WRONG_ROLE: u32 = 1;
+
+pub const REFUSAL_DISABLED: u32 = 2;
+
+pub const REFUSAL_NOT_OURS: u32 = 3;
+
+pub const REFUSAL_TOO_LONG: u32 = 4;
+
+pub const REFUSAL_FULL: u32 = 5;
+
+// The tables that have a limit: `enum nd_limit`.
+pub const LIMIT_NEIGHBOURS: u32 = 1;
+
+pub const LIMIT_ROUTERS: u32 = 2;
+
+pub const LIMIT_PREFIXES: u32 = 3;
+
+pub const LIMIT_ADDRESSES: u32 = 4;
+
+pub const LIMIT_SERVERS: u32 = 5;
+
+pub const LIMIT_NAMES: u32 = 6;
+
+pub const LIMIT_OFFERS: u32 = 7;
+
+pub const LIMIT_STATIC_ROUTES: u32 = 8;
+
+// The states of a neighbour: `enum nd_reachability`.
+pub const REACHABILITY_INCOMPLETE: u32 = 1;
+
+pub const REACHABILITY_REACHABLE: u32 = 2;
+
+pub const REACHABILITY_STALE: u32 = 3;
+
+pub const REACHABILITY_DELAY: u32 = 4;
+
+pub const REACHABILITY_PROBE: u32 = 5;
+
+// The states of an address of the node: `enum nd_state`.
+pub const STATE_TENTATIVE: u32 = 1;
+
+pub const STATE_PREFERRED: u32 = 2;
+
+pub const STATE_DEPRECATED: u32 = 3;
+
+pub const STATE_DUPLICATE: u32 = 4;
+
+// Where a packet is sent: `enum nd_hop`.
+pub const HOP_DIRECT: u32 = 1;
+
+pub const HOP_VIA: u32 = 2;
+
+// The tables that can be cleared: `enum nd_clearable`.
+pub const CLEARABLE_NEIGHBOURS: u32 = 1;
+
+pub const CLEARABLE_ROUTERS: u32 = 2;
+
+pub const CLEARABLE_PREFIXES: u32 = 3;
+
+pub const CLEARABLE_REDIRECTS: u32 = 4;
+
+pub const CLEARABLE_DNS: u32 = 5;
