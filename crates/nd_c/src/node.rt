@@ -75,7 +75,7 @@ fn source_of(draws: Draws) -> Source
     }
 }
 
-/// Closes a node and gives its memory back. Nothing is sent, and records that were not polled are lost.
+/// Closes a node. Nothing is sent, and records that were not polled are lost.
 #[unsafe(no_mangle)]
 pub extern "C" fn nd_close(alloc: Global, node: &mut Slot)
     ensures { node.new.handle.session ≡ None }

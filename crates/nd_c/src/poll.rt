@@ -11,7 +11,7 @@ use nd_c_types::{Record, bytes_of};
 use nd_session::{Session, Slot};
 use std::alloc::Global;
 
-/// Takes the oldest record, and copies its bytes to the beginning of `buffer`. It takes no memory, and gives that of the record back.
+/// Takes the oldest record, and copies its bytes to the beginning of `buffer`.
 #[unsafe(no_mangle)]
 pub extern "C" fn nd_poll(
     alloc: Global,
