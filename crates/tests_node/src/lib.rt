@@ -1,5 +1,5 @@
-//! Tests of a node, and of what it is made of besides its tables, over their public calls alone: messages, next hops, routes, what is
-//! advertised, frames, rows. They are here, so that nothing is proved a second time for its tests. There is nothing here but tests.
+//! Tests of a node, and of what it is made of besides its tables, over their public calls alone: the longest messages and Redirects, next hops, the
+//! ranges of settings. They are here, so that nothing is proved a second time for its tests. There is nothing here but tests.
 #![tactic(auto)]
 
 #[cfg(test)]
@@ -12,9 +12,3 @@ mod messages;
 mod next_hop;
 #[cfg(test)]
 mod node;
-#[cfg(test)]
-mod node_lines;
-#[cfg(test)]
-mod routes;
-#[cfg(test)]
-mod rows;

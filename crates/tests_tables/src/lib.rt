@@ -7,14 +7,8 @@ mod addresses;
 #[cfg(test)]
 mod dns;
 #[cfg(test)]
-mod entries;
-#[cfg(test)]
 mod messages;
 #[cfg(test)]
 mod neighbours;
 #[cfg(test)]
-mod params;
-#[cfg(test)]
 mod routers;
-#[cfg(test)]
-mod schedules;
