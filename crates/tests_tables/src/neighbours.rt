@@ -46,12 +46,62 @@ fn is_queued(sent: Result<Use<Global>, (CacheRefusal, Packet<Global>)>) -> Optio
     }
 }
 
+/// The first byte of a packet, or 0.
+fn byte_of(packet: &Packet<Global>) -> u8 {
+    packet.as_bytes().first().copied().unwrap_or(0)
+}
+
+/// Why a packet is refused, and its first byte.
+fn refusal(
+    sent: Result<Use<Global>, (CacheRefusal, Packet<Global>)>,
+) -> Option<(CacheRefusal, u8)> {
+    match sent {
+        Ok(_) => None,
+        Err((why, packet)) => Some((why, byte_of(&packet))),
+    }
+}
+
 fn given(n: u16) -> News {
     News::Given {
         addr: addr(n),
         mac: MAC,
         mark: None,
     }
+}
+
+/// The address of a neighbour is given.
+fn is_given(rt: &impl Abort, cache: &mut Cache<Global>, now: u64, n: u16)
+    requires { now < 2 ^ 62 }
+{
+    assert!(rt; cache.heard(now, given(n), TIMES).is_ok());
+}
+
+#[test]
+fn the_513th_neighbour_pushes_out_the_one_stale_for_longest(rt: HostRuntime) {
+    let mut cache = Cache::new(rt.alloc(), 512).expect(&rt, "memory");
+    for n in 0..512u16 {
+        is_given(&rt, &mut cache, u64::from(n), n);
+    }
+    is_given(&rt, &mut cache, 1000, 512);
+    assert!(rt; cache.entry(1000, addr(0)) == None);
+    assert!(rt; state(&cache, 1000, addr(1)) == Some(Reachability::Stale));
+    assert!(rt; state(&cache, 1000, addr(512)) == Some(Reachability::Stale));
+    assert!(rt; cache.len() == 512);
+}
+
+#[test]
+fn the_513th_neighbour_is_full_where_none_is_stale(rt: HostRuntime) {
+    let mut cache = Cache::new(rt.alloc(), 512).expect(&rt, "memory");
+    for n in 0..512u16 {
+        is_given(&rt, &mut cache, u64::from(n), n);
+        cache.confirmed(999, addr(n), 15_000);
+    }
+    assert!(rt; cache.heard(1000, given(512), TIMES).is_err());
+    let sent = cache.used(1000, addr(512), packet(&rt, 9), TIMES);
+    assert!(rt; refusal(sent) == Some((CacheRefusal::Full, 9)));
+    assert!(rt; state(&cache, 1000, addr(0)) == Some(Reachability::Reachable));
+    assert!(rt; cache.len() == 512);
+    assert!(rt; cache.entry(1000, addr(512)) == None);
 }
 
 /// The address that an advertisement gives, besides the known one.
