@@ -21,3 +21,4 @@ pub mod Holding
 pub mod Timely
 pub mod FewNodes
 pub mod NodeHistories
+pub mod Reports

@@ -3,10 +3,7 @@ use Rattle.std.proofs.Common.{◌≡◌, inl, inr, ℕ, suc, ◌<◌, ◌≤◌,
 use Rattle.std.specs.Prelude.{◌≢◌, ◌==◌, is_some, nat_lt, if◌then◌else◌, MatchBool}
 use Rattle.std.proofs.lemmas.Bool.{cases_lt, ltb-false, ltb-true, true≢false}
 use Rattle.std.proofs.lemmas.Bool.Decides.{Decides-eqb}
-use Rattle.rand_core.specs.Stream.{Stream}
-use Rattle.nd_addr.specs.declared.mac.Mac.{Mac}
-use Rattle.nd_addr.specs.declared.role.Role.{Role}
-use Rattle.nd_table.proofs.Tests.{by_either, by_false}
+use Rattle.nd_table.proofs.Tests.{by_false}
 use Rattle.nd_chronicle.specs.Start.{Limits, Start}
 use Rattle.nd_chronicle.specs.Happening as chronicle
 use Rattle.nd_chronicle.specs.Happening.{Chronicle, Passed, Sent}

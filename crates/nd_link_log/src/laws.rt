@@ -1,6 +1,7 @@
 //! Laws of the definitions, each the contract of a function that does nothing.
 
 ghost use Rattle.std.specs.Prelude.{◌≡◌, ◌≤◌, ◌*◌, ◌++◌, ◌∷◌, ℕ, List, [], Some};
+ghost use Rattle.std.specs.List.{flat_map};
 ghost use Rattle.nd_addr.specs.Bytes.{AreBytes};
 ghost use Rattle.nd_table.specs.History.{Past};
 ghost use Rattle.nd_chronicle.specs.Start.{Limits, Start};
@@ -8,6 +9,7 @@ ghost use Rattle.nd_chronicle.specs.Happening.{Sent};
 ghost use Rattle.nd_chronicle.specs.Event as chronicle;
 ghost use Rattle.nd_chronicle.specs.Event.{ComeAsBytes};
 ghost use Rattle.nd_chronicle.specs.History.{IsChronicle};
+ghost use Rattle.nd_chronicle.specs.Told.{items};
 ghost use Rattle.nd_link_log.specs.Log.{Adds, Carries, Entry, Log, chronicle_of, nodes, sent, start_of};
 ghost use Rattle.nd_link_log.specs.Event.{Event, max_nodes};
 ghost use Rattle.nd_link_log.specs.Bytes.{AreOfBytes, SendsBytes};
@@ -16,7 +18,7 @@ ghost use Rattle.nd_link_log.specs.NodeHistory.{IsHistoryOf};
 ghost use Rattle.nd_link_log.specs.Holding.{AllArrive, AllWait, Arrives, HasOneHolder, Holds, IsTimely};
 ghost use Rattle.nd_link_log.specs.Losing.{LosesLittle};
 ghost use Rattle.nd_link_log.specs.Sound.{IsSound};
-ghost use Rattle.nd_link_log.specs.Told.{text};
+ghost use Rattle.nd_link_log.specs.Told.{items_among, report_line, reports, text};
 
 /// A number names one frame: of two that were sent with the same number both are the same one, with its sender and its moment.
 pub fn one_frame()
@@ -42,6 +44,17 @@ pub fn few_nodes()
 /// The text of what is added to a log is after the text of what was there before.
 pub fn text_only_grows()
     ensures { (newer log : List Entry) → text (newer ++ log) ≡ text log ++ text newer }
+{}
+
+/// What is reported of a link determines its text: that is the lines of the reports.
+pub fn text_is_of_reports()
+    ensures { (log : Log) → text log ≡ flat_map report_line (reports log) }
+{}
+
+/// What is reported of a node on a link is what is reported of its own chronicle: the frames that it sent, the messages that it heard with their
+/// addresses and fields, the packets that it lost, and the words of all else.
+pub fn reports_are_the_nodes()
+    ensures { (log : Log) (node : ℕ) → items_among node (reports log) ≡ items (chronicle_of node log) }
 {}
 
 /// Each node of a link has a history of its own: its chronicle in the log is the one of that history, which is of bytes if the link's is.
