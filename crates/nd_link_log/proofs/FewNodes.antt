@@ -13,7 +13,7 @@ use Rattle.nd_link_log.proofs.Chronicles.{nodes_with}
 abbrev Few : Log → Type 0
 Few log = nodes log ≤ max_nodes
 
-few_walk : {log d : Log} {moment end : ℕ} → Walk log moment end d → nodes d ≡ nodes log
+pub few_walk : {log d : Log} {moment end : ℕ} → Walk log moment end d → nodes d ≡ nodes log
 few_walk (over lt) = refl
 few_walk {log = log} (adds node start what rows le is due idle gives w) = few_walk w ∙ nodes_with node rows log
 few_walk (passes le idle w) = few_walk w
