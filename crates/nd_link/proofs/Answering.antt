@@ -17,7 +17,7 @@ use Rattle.nd_node.specs.Node.{starting}
 use Rattle.nd_link_log.specs.Log.{Log, Carries, Refuses, TooLate, NoNode, NoFrame, Own, last_moment, nodes, sent}
 use Rattle.nd_link_log.specs.Event as links
 use Rattle.nd_link_log.specs.Event.{AddsRows, Event, max_nodes}
-use Rattle.nd_link_log.specs.Told.{lines_of, text}
+use Rattle.nd_link_log.specs.Told.{reports, reports_of}
 use Rattle.nd_wire.specs.Wire.{IsFaithfulTo}
 use Rattle.nd_link.specs.declared.fault.LinkFault.{LinkFault}
 use Rattle.nd_link.specs.declared.link.Link.{Link}
@@ -31,14 +31,14 @@ use Rattle.nd_link.specs.declared.sent_frame.SentFrame.{SentFrame}
 use Rattle.nd_link.specs.declared.refusal.Refusal.{Refusal}
 use Rattle.nd_link.specs.declared.refusal.Refusal.TheVariants as refusals
 use Rattle.nd_link.specs.Delivery.{Goes, IsKept, IsWay}
-use Rattle.nd_link.specs.Told.{Tells, TellsLines, refusal_of}
+use Rattle.nd_link.specs.Told.{Tells, TellsReports, refusal_of}
 use Rattle.nd_link.proofs.Lists.{get_same}
 use Rattle.nd_link.proofs.Standing.{apart}
 use Rattle.nd_link.proofs.Arriving.{nodes_refused}
-use Rattle.nd_link.proofs.Passage.{frames_reached, moment_reached, nodes_reached, text_reached}
+use Rattle.nd_link.proofs.Passage.{frames_reached, moment_reached, nodes_reached, reports_reached}
 use Rattle.nd_link.proofs.Sending.{count_frames, kept_at, kept_length, named}
-use Rattle.nd_link.proofs.Starting.{frames_started, nodes_started, started, text_started}
-use Rattle.nd_link.proofs.Walks.{told_lines_of, told_same, told_then}
+use Rattle.nd_link.proofs.Starting.{frames_started, nodes_started, started, reports_started}
+use Rattle.nd_link.proofs.Walks.{told_of_reports, told_same, told_then}
 
 -- what holds at an error holds at this one
 of_err : {T E : Type 0} (r : Result T E) (e : E) (P : Type 0) → IsErrOf r e → OnErr r P → P
@@ -64,7 +64,7 @@ module _ {W R A : Type 0} (stream : R → Stream) where
 
   pub passes_leads : (old new : Link W R A) (x : List (Told A)) (now : ℕ) → ((log : Log) → Stands stream old log → Stands stream new (reached now log)) → Leads stream old new x x (Happens now links.Passes)
   passes_leads old new x now reaches = record {
-    each = λ log s. (reached now log, refl, reaches log s, record { newer = []; told = text_reached now log ∙ sym (append-nil (text log)); all = sym (append-nil x) });
+    each = λ log s. (reached now log, refl, reaches log s, record { newer = []; told = reports_reached now log ∙ sym (append-nil (reports log)); all = sym (append-nil x) });
   }
 
   -- ---- a node starts
@@ -90,7 +90,7 @@ module _ {W R A : Type 0} (stream : R → Stream) where
             frames = ap (λ f. kept_frames f.items) frames_are ∙ (m.frames ∙ sym (frames_started (nodes base) start base));
             last = last_are ∙ (m.last ∙ at);
           },
-          record { newer = []; told = text_started (nodes base) start base ∙ (text_reached now log ∙ sym (append-nil (text log))); all = sym (append-nil x) },
+          record { newer = []; told = reports_started (nodes base) start base ∙ (reports_reached now log ∙ sym (append-nil (reports log))); all = sym (append-nil x) },
         );
   }
 
@@ -159,7 +159,7 @@ module _ {W R A : Type 0} (stream : R → Stream) where
 
   -- ---- the event
 
-  pub late_leads : (old : Link W R A) (x y : List (Told A)) (now : ℕ) (event : Event) → now < old.last → TellsLines x y (lines_of (Refuses now (TooLate old.last))) → Leads stream old old x y (FollowsBy now event)
+  pub late_leads : (old : Link W R A) (x y : List (Told A)) (now : ℕ) (event : Event) → now < old.last → TellsReports x y (reports_of (Refuses now (TooLate old.last))) → Leads stream old old x y (FollowsBy now event)
   late_leads old x y now event late t = record {
     each = λ log s.
         let is = s.last in
@@ -167,7 +167,7 @@ module _ {W R A : Type 0} (stream : R → Stream) where
           d,
           by_true (nat_lt now (last_moment log)) _ _ (lt-ltb now (last_moment log) (omega (arith, late, is))) refl,
           record { nodes = nodes_refused stream old.nodes.items log (last_moment log) (last_moment log) now (TooLate (last_moment log)) refl s.nodes; frames = s.frames; last = s.last },
-          told_lines_of log d x y (lines_of (Refuses now (TooLate (last_moment log)))) (subst (λ (m : ℕ). TellsLines x y (lines_of (Refuses now (TooLate m)))) is t) refl,
+          told_of_reports log d x y (reports_of (Refuses now (TooLate (last_moment log)))) (subst (λ (m : ℕ). TellsReports x y (reports_of (Refuses now (TooLate m)))) is t) refl,
         );
   }
 

@@ -8,7 +8,7 @@ use Rattle.nd_chronicle.specs.Event as events
 use Rattle.nd_chronicle.specs.Event.{EventAdds}
 use Rattle.nd_chronicle.specs.Happening as chronicle
 use Rattle.nd_chronicle.specs.Happening.{Chronicle, Passed}
-use Rattle.nd_chronicle.specs.Told.{items, items_at, node_lines}
+use Rattle.nd_chronicle.specs.Told.{items, items_at}
 use Rattle.nd_chronicle.proofs.Growth.{event_grows}
 use Rattle.nd_out.specs.declared.out.Out.{Out}
 use Rattle.nd_steps.specs.Outputs as effects
@@ -19,7 +19,7 @@ use Rattle.nd_node.specs.Node as node
 use Rattle.nd_node.specs.Node.{next_of}
 use Rattle.nd_link_log.specs.Log as logs
 use Rattle.nd_link_log.specs.Log.{Log, Refuses, adding, chronicle_of, last_moment, nodes, start_of}
-use Rattle.nd_link_log.specs.Told.{lines_of, text}
+use Rattle.nd_link_log.specs.Told.{node_reports, reports, reports_of}
 use Rattle.nd_link_log.proofs.Moments.{EachAt, each_in, moment_with, newest_moment}
 use Rattle.nd_link.specs.declared.link.Link.{Link}
 use Rattle.nd_link.specs.declared.told.Told.{Told}
@@ -30,11 +30,11 @@ use Rattle.nd_link.specs.Passing.{OthersPass}
 use Rattle.nd_link.specs.Time.{Leads}
 use Rattle.nd_link.specs.declared.refusal.Refusal.{Refusal}
 use Rattle.nd_link.specs.declared.refusal.Refusal.TheVariants as refusals
-use Rattle.nd_link.specs.Told.{Tells, TellsLines, refusal_of}
-use Rattle.nd_link.proofs.Passage.{chronicle_reached, frames_reached, moment_reached, others_reached, start_reached, text_reached}
+use Rattle.nd_link.specs.Told.{Tells, TellsReports, refusal_of}
+use Rattle.nd_link.proofs.Passage.{chronicle_reached, frames_reached, moment_reached, others_reached, start_reached, reports_reached}
 use Rattle.nd_link.proofs.Standing.{all_of, rows_stand}
-use Rattle.nd_link.proofs.Telling.{frames_of_rows, text_of_rows}
-use Rattle.nd_link.proofs.Walks.{told_lines_of}
+use Rattle.nd_link.proofs.Telling.{frames_of_rows, reports_of_rows}
+use Rattle.nd_link.proofs.Walks.{told_of_reports}
 
 -- time passes at all nodes
 pub all_reached : {W R A : Type 0} (stream : R → Stream) (old new : Link W R A) (now but : ℕ) → OthersPass stream now but old.nodes.items new.nodes.items → length new.nodes.items ≤ but → new.frames ≡ old.frames
@@ -80,7 +80,7 @@ nodes_refused stream list log last now at why same s = record {
 }
 
 pub refused_leads : {W R A : Type 0} (stream : R → Stream) (old new : Link W R A) (x y : List (Told A)) (now : ℕ) (why : logs.Refusal) → ((last : ℕ) → why ≢ logs.TooLate last)
-    → ((log : Log) → Stands stream old log → Stands stream new (reached now log)) → TellsLines x y (lines_of (Refuses now why)) → Leads stream old new x y (IsRefused now why)
+    → ((log : Log) → Stands stream old log → Stands stream new (reached now log)) → TellsReports x y (reports_of (Refuses now why)) → Leads stream old new x y (IsRefused now why)
 refused_leads stream old new x y now why not_late reaches t = record {
   each = λ log s.
       let r = reaches log s in
@@ -92,7 +92,7 @@ refused_leads stream old new x y now why not_late reaches t = record {
           frames = r.frames;
           last = r.last ∙ (moment_reached now log ∙ sym moment);
         },
-        told_lines_of log (Refuses now why ∷ reached now log) x y (lines_of (Refuses now why)) t (ap (λ l. l ++ lines_of (Refuses now why)) (text_reached now log)),
+        told_of_reports log (Refuses now why ∷ reached now log) x y (reports_of (Refuses now why)) t (ap (λ l. l ++ reports_of (Refuses now why)) (reports_reached now log)),
       );
 }
 
@@ -111,9 +111,9 @@ module _ (now node_number : ℕ) (log : Log) where
   frames_carrying None = refl
   frames_carrying (Some number) = refl
 
-  text_carrying : (carried : Option ℕ) → text (carrying now node_number carried log) ≡ text log
-  text_carrying None = refl
-  text_carrying (Some number) = append-nil (text log)
+  reports_carrying : (carried : Option ℕ) → reports (carrying now node_number carried log) ≡ reports log
+  reports_carrying None = refl
+  reports_carrying (Some number) = append-nil (reports log)
 
   moment_carrying : (carried : Option ℕ) → last_moment log ≡ now → last_moment (carrying now node_number carried log) ≡ now
   moment_carrying None e = e
@@ -132,7 +132,7 @@ module _ (now node_number : ℕ) (log : Log) where
 module _ {W R A : Type 0} (stream : R → Stream) (old new : Link W R A) (list : List (Node R A)) (n n' : Node R A) (x y : List (Told A)) (outs : List (ℕ × Out A)) (now place : ℕ) (event : events.Event)
     (p : OthersPass stream now place old.nodes.items list) (is : slice_get list place ≡ Some n) (adds : AddsEvent stream n n' [] outs now event) (nodes_are : new.nodes.items ≡ set list place n')
     (last_is : new.last ≡ now) (in_time : old.last ≤ now) (kept : kept_frames new.frames.items ≡ kept_frames old.frames.items ++ of_sender place (frames_in (happenings outs)))
-    (tells : TellsLines x y (flat_map (node_lines place) (happenings outs))) (carried : Option ℕ) where
+    (tells : TellsReports x y (flat_map (node_reports place) (happenings outs))) (carried : Option ℕ) where
   module _ (log : Log) (s : Stands stream old log) where
     before : last_moment log ≤ now
     before = subst (λ (m : ℕ). m ≤ now) s.last in_time
@@ -215,8 +215,8 @@ module _ {W R A : Type 0} (stream : R → Stream) (old new : Link W R A) (list :
     }
 
     tell : Tells log d x y
-    tell = told_lines_of log d x y (flat_map (node_lines place) (happenings outs)) tells
-        (text_of_rows place c rows outs base tells' ∙ ap (λ l. l ++ flat_map (node_lines place) (happenings outs)) (text_carrying now place (reached now log) carried ∙ text_reached now log))
+    tell = told_of_reports log d x y (flat_map (node_reports place) (happenings outs)) tells
+        (reports_of_rows place c rows outs base tells' ∙ ap (λ l. l ++ flat_map (node_reports place) (happenings outs)) (reports_carrying now place (reached now log) carried ∙ reports_reached now log))
 
   pub arrival_leads : Leads stream old new x y (Arrives now place event carried)
   arrival_leads = record { each = λ log s. (d log s, arrival log s, stand log s, tell log s) }

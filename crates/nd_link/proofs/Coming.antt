@@ -1,5 +1,5 @@
 -- Events that come to a link, one after the other.
-use Rattle.std.proofs.Common.{◌≡◌, ℕ, List, [], ◌∷◌, ◌++◌, append-nil, append_assoc, length, take, refl, sym, ◌∙◌, ap, subst}
+use Rattle.std.proofs.Common.{◌≡◌, ℕ, List, [], ◌∷◌, ◌++◌, append-nil, append_assoc, refl, sym, ◌∙◌, ap, subst}
 use Rattle.std.specs.Prelude.{Result, Ok, Err, IsErrAnd, IsErrOf}
 use Rattle.std.proofs.lemmas.List.{map-append}
 use Rattle.std.proofs.lemmas.List.Elements.{All-nil, All-push}
@@ -13,7 +13,7 @@ use Rattle.nd_link.specs.declared.event.LinkEvent.{LinkEvent}
 use Rattle.nd_link.specs.declared.link.Link.{Link}
 use Rattle.nd_link.specs.declared.told.Told.{Told}
 use Rattle.nd_link.specs.Event.{AreEarly, link_event, link_events}
-use Rattle.nd_link.specs.Run.{FollowsBy, RunsBy, RunsInPart, RunsUpTo}
+use Rattle.nd_link.specs.Run.{ComesNext, FollowsBy, IsDelivery, RunsBy, RunsInPart, RunsUpTo}
 use Rattle.nd_link.specs.Time.{Leads, Onward, Passes, TellsOf}
 use Rattle.nd_link.proofs.Walks.{told_same, told_then}
 
@@ -22,9 +22,9 @@ pub runs_then : (events more : List (ℕ × Event)) (log d e : Log) → Runs usu
 runs_then [] more log d e runs next = subst (λ (x : Log). Runs usual_limits x more e) runs next
 runs_then (first ∷ events) more log d e runs next = (runs.0, runs.1, runs_then events more runs.0 d e runs.2 next)
 
-take_front : {X : Type 0} (xs ys : List X) → take (length xs) (xs ++ ys) ≡ xs
-take_front [] ys = refl
-take_front (x ∷ xs) ys = ap (λ l. x ∷ l) (take_front xs ys)
+no_split : (first : List (ℕ × Event)) (event : ℕ × Event) (later : List (ℕ × Event)) → [] ≡ first ++ event ∷ later → ⊥
+no_split [] event later e = cc
+no_split (head ∷ first) event later e = cc
 
 early_rest : {R A : Type 0} (e : ℕ × LinkEvent R A) (rest all : List (ℕ × LinkEvent R A)) → all ≡ e ∷ rest → AreEarly all → AreEarly rest
 early_rest {R} {A} e rest all is early = (subst (λ (l : List (ℕ × LinkEvent R A)). AreEarly l) is early).1
@@ -47,8 +47,12 @@ pub record Came {W R A : Type 0} (Faithful : Type 0) (stream : R → Stream) (or
   pub sofar : Faithful → Leads stream origin link x y (RunsBy (link_events stream came))
 
 -- none of them came
+none_in_part : (events : List (ℕ × Event)) (log : Log) → RunsInPart events log log
+none_in_part [] log = refl
+none_in_part (event ∷ events) log = (event, log, record { first = []; later = events; split = refl; runs = refl }, λ e w. w)
+
 pub nothing_came : {W R A : Type 0} (stream : R → Stream) (link : Link W R A) (told : List (Told A)) (events : List (ℕ × Event)) → TellsOf stream link told told (RunsInPart events)
-nothing_came stream link told events = record { each = λ log s. (log, (0, 0, log, refl, λ e w. w), told_same log told) }
+nothing_came stream link told events = record { each = λ log s. (log, none_in_part events log, told_same log told) }
 
 module _ {W R A : Type 0} (Faithful : Type 0) (stream : R → Stream) where
   pub none_came : (link : Link W R A) (told : List (Told A)) (all rest : List (ℕ × LinkEvent R A)) → all ≡ rest → AreEarly all → Came Faithful stream link link told told all rest
@@ -83,13 +87,18 @@ module _ {W R A : Type 0} (Faithful : Type 0) (stream : R → Stream) where
       };
     }
 
-    -- those that came are the first ones
-    first_ones : (log d : Log) → Runs usual_limits log (link_events stream c.came) d → Runs usual_limits log (take (length (link_events stream c.came)) (link_events stream all)) d
-    first_ones log d runs =
-        let events = link_events stream c.came in
-        let split : link_events stream all ≡ events ++ link_events stream before = ap (link_events stream) c.all_is ∙ map-append (λ (v : ℕ × LinkEvent R A). (v.0, link_event stream v.1)) c.came before in
-        let few : events ≡ take (length events) (link_events stream all) = sym (take_front events (link_events stream before)) ∙ ap (take (length events)) (sym split) in
-        subst (λ (v : List (ℕ × Event)). Runs usual_limits log v d) few runs
+    -- the next one stands behind those that came
+    next_one : link_events stream all ≡ link_events stream c.came ++ (e.0, link_event stream e.1) ∷ link_events stream rest
+    next_one =
+        ap (link_events stream) (c.all_is ∙ ap (λ (l : List (ℕ × LinkEvent R A)). c.came ++ l) is)
+        ∙ map-append (λ (v : ℕ × LinkEvent R A). (v.0, link_event stream v.1)) c.came (e ∷ rest)
+
+    is_next : (log d : Log) → Runs usual_limits log (link_events stream c.came) d → ComesNext (link_events stream all) log (e.0, link_event stream e.1) d
+    is_next log d runs = record { first = link_events stream c.came; later = link_events stream rest; split = next_one; runs = runs }
+
+    in_part : (events : List (ℕ × Event)) (event : ℕ × Event) (log d before : Log) → ComesNext events log event before → Onward event.0 before d → RunsInPart events log d
+    in_part [] event log d before next onward = absurd (no_split next.first event next.later next.split)
+    in_part (head ∷ tail) event log d before next onward = (event, before, next, onward)
 
     pub came_in_part : Faithful → TellsOf stream old y z (Onward e.0) → TellsOf stream origin x z (RunsInPart (link_events stream all))
     came_in_part faithful next = record {
@@ -97,18 +106,18 @@ module _ {W R A : Type 0} (Faithful : Type 0) (stream : R → Stream) where
           let l = (c.sofar faithful).each log s in
           let n = next.each l.0 l.2 in (
             n.0,
-            (length (link_events stream c.came), e.0, l.0, first_ones log l.0 l.1, n.1),
+            in_part (link_events stream all) (e.0, link_event stream e.1) log n.0 l.0 (is_next log l.0 l.1) n.1,
             told_then log l.0 n.0 x y z l.3 n.2,
           );
     }
 
-    pub came_up_to : Faithful → Leads stream old new y z (Passes e.0) → Leads stream origin new x z (RunsUpTo (link_events stream all))
-    came_up_to faithful next = record {
+    pub came_up_to : Faithful → IsDelivery (link_event stream e.1) → Leads stream old new y z (Passes e.0) → Leads stream origin new x z (RunsUpTo (link_events stream all))
+    came_up_to faithful delivers next = record {
       each = λ log s.
           let l = (c.sofar faithful).each log s in
           let n = next.each l.0 l.2 in (
             n.0,
-            (length (link_events stream c.came), e.0, l.0, first_ones log l.0 l.1, n.1),
+            ((e.0, link_event stream e.1), l.0, is_next log l.0 l.1, delivers, n.1),
             n.2,
             told_then log l.0 n.0 x y z l.3 n.3,
           );

@@ -10,7 +10,7 @@ use Rattle.nd_node.specs.Node as node
 use Rattle.nd_node.specs.Node.{next_of}
 use Rattle.nd_link_log.specs.Log.{Log, Reaches, chronicle_of, last_moment, nodes, start_of}
 use Rattle.nd_link_log.specs.Event.{passing}
-use Rattle.nd_link_log.specs.Told.{text}
+use Rattle.nd_link_log.specs.Told.{reports}
 use Rattle.nd_link_log.proofs.Kept.{moment_passing, passed, start_passing, still}
 use Rattle.nd_link.specs.Arrival.{reached}
 use Rattle.nd_link.specs.Due.{AreSettled}
@@ -83,9 +83,9 @@ module _ (now : ℕ) (log : Log) where
   frames_passing zero = refl
   frames_passing (suc k) = append-nil (frames (passing now k log)) ∙ frames_passing k
 
-  text_passing : (k : ℕ) → text (passing now k log) ≡ text log
-  text_passing zero = refl
-  text_passing (suc k) = append-nil (text (passing now k log)) ∙ text_passing k
+  reports_passing : (k : ℕ) → reports (passing now k log) ≡ reports log
+  reports_passing zero = refl
+  reports_passing (suc k) = append-nil (reports (passing now k log)) ∙ reports_passing k
 
   nodes_passing : (k : ℕ) → nodes (passing now k log) ≡ nodes log
   nodes_passing zero = refl
@@ -94,8 +94,8 @@ module _ (now : ℕ) (log : Log) where
 pub frames_reached : (now : ℕ) (log : Log) → frames (reached now log) ≡ frames log
 frames_reached now log = frames_passing now (Reaches now ∷ log) (nodes log)
 
-pub text_reached : (now : ℕ) (log : Log) → text (reached now log) ≡ text log
-text_reached now log = text_passing now (Reaches now ∷ log) (nodes log) ∙ append-nil (text log)
+pub reports_reached : (now : ℕ) (log : Log) → reports (reached now log) ≡ reports log
+reports_reached now log = reports_passing now (Reaches now ∷ log) (nodes log) ∙ append-nil (reports log)
 
 pub moment_reached : (now : ℕ) (log : Log) → last_moment (reached now log) ≡ now
 moment_reached now log = moment_passing now (Reaches now ∷ log) (nodes log) refl

@@ -11,7 +11,7 @@ use Rattle.nd_chronicle.specs.History.{beginning}
 use Rattle.nd_node.specs.declared.node.Node.{Node}
 use Rattle.nd_node.specs.Node as node
 use Rattle.nd_link_log.specs.Log.{Log, Begins, adding, chronicle_of, nodes, start_of}
-use Rattle.nd_link_log.specs.Told.{text}
+use Rattle.nd_link_log.specs.Told.{reports}
 use Rattle.nd_link_log.proofs.Chronicles.{nodes_with, other_rows, own_rows, same_number, start_with}
 use Rattle.nd_link.specs.Frames.{frames}
 use Rattle.nd_link.specs.Link.{NodeStands, NodesStand}
@@ -85,9 +85,9 @@ module _ {R A : Type 0} (stream : R → Stream) (list : List (Node R A)) (new : 
         };
   }
 
--- a beginning tells nothing, and sends nothing
+-- a beginning reports nothing, and sends nothing
 pub frames_started : (i : ℕ) (start : Start) (log : Log) → frames (started i start log) ≡ frames log
 frames_started i start log = append-nil _ ∙ (append-nil _ ∙ append-nil (frames log))
 
-pub text_started : (i : ℕ) (start : Start) (log : Log) → text (started i start log) ≡ text log
-text_started i start log = append-nil _ ∙ (append-nil _ ∙ (append-nil _ ∙ append-nil (text log)))
+pub reports_started : (i : ℕ) (start : Start) (log : Log) → reports (started i start log) ≡ reports log
+reports_started i start log = append-nil _ ∙ (append-nil _ ∙ (append-nil _ ∙ append-nil (reports log)))

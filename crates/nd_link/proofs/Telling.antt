@@ -2,20 +2,20 @@
 use Rattle.std.proofs.Common.{◌≡◌, ℕ, List, [], ◌∷◌, ◌++◌, map, append-nil, append_assoc, refl, sym, ◌∙◌, ap}
 use Rattle.std.proofs.lemmas.List.{append_cancel_left, map-append}
 use Rattle.std.proofs.lemmas.Grind.{flat_map-append}
-use Rattle.std.specs.Prelude.{codes}
-use Rattle.std.specs.Fmt.{decimal}
 use Rattle.std.specs.List.{flat_map}
-use Rattle.nd_chronicle.specs.Happening.{Chronicle, Happening, Heard, Lost, Sent}
-use Rattle.nd_chronicle.specs.Told.{Told, Words, told_of, items_at, items, line_at, line_of, node_lines}
+use Rattle.nd_chronicle.specs.Happening.{Chronicle, Happening}
+use Rattle.nd_chronicle.specs.Told.{items_at, items, node_lines}
 use Rattle.nd_out.specs.declared.out.Out.{Out}
 use Rattle.nd_steps.specs.Outputs as effects
 use Rattle.nd_steps.specs.Outputs.{frame_sent, frames_in, happenings, sent_in}
 use Rattle.nd_steps.proofs.Reading.{Tells-frames}
-use Rattle.nd_link_log.specs.Log.{Log, Adds, adding}
-use Rattle.nd_link_log.specs.Told.{lines_of, text}
+use Rattle.nd_link_log.specs.Log.{Log, Adds, Refuses, adding}
+use Rattle.nd_link_log.specs.Told.{at_node, node_reports, report_line, reports, text}
+use Rattle.nd_link_log.proofs.Reports.{entry_lines, text_of_reports}
 use Rattle.nd_link.specs.Frames.{frames, of_sender}
 use Rattle.nd_link.specs.declared.told.Told.{Told as LinkTold}
-use Rattle.nd_link.specs.Told.{TellsLines}
+use Rattle.nd_link.specs.declared.told.Told.TheVariants.{Node, Refused}
+use Rattle.nd_link.specs.Told.{Tells, TellsReports, refusal_of, told_lines, told_reports, told_text}
 
 -- ---- rows on top of a chronicle
 
@@ -34,41 +34,24 @@ module _ {A : Type 0} (c rows : Chronicle) (outs : List (ℕ × Out A)) (t : eff
   rows_sent : sent_in rows ≡ frames_in (happenings outs)
   rows_sent = append_cancel_left (sent_in c) (sent_in rows) (frames_in (happenings outs)) (sym (sent_on rows c) ∙ Tells-frames c (rows ++ c) [] outs t ∙ ap (λ l. sent_in c ++ frames_in l) (sym t.outs))
 
--- ---- the text
+-- ---- the reports
 
-abbrev item_line : ℕ → ℕ × Told → List ℕ
-item_line node item = codes "n" ++ decimal node ++ codes " " ++ line_of item
+reports_with : (node : ℕ) (rows : Chronicle) (log : Log) → reports (adding node rows log) ≡ reports log ++ map (at_node node) (items rows)
+reports_with node [] log = sym (append-nil (reports log))
+reports_with node (row ∷ rows) log =
+    ap (λ l. l ++ node_reports node row) (reports_with node rows log)
+    ∙ (append_assoc (reports log) (map (at_node node) (items rows)) (node_reports node row)
+    ∙ ap (λ l. reports log ++ l) (sym (map-append (at_node node) (items rows) (items_at row))))
 
-words_lines : (node at : ℕ) (texts : List (List ℕ))
-    → flat_map (λ told. codes "n" ++ decimal node ++ codes " " ++ line_at at told) texts ≡ flat_map (item_line node) (map (λ t. (at, t)) (map (λ t. Words t) texts))
-words_lines node at [] = refl
-words_lines node at (t ∷ texts) = ap (λ l. (codes "n" ++ decimal node ++ codes " " ++ line_at at t) ++ l) (words_lines node at texts)
+reports_told : (node : ℕ) (told : List (ℕ × Happening)) → map (at_node node) (flat_map items_at told) ≡ flat_map (node_reports node) told
+reports_told node [] = refl
+reports_told node (row ∷ told) = map-append (at_node node) (items_at row) (flat_map items_at told) ∙ ap (λ l. node_reports node row ++ l) (reports_told node told)
 
-row_lines : (node at : ℕ) (what : Happening) → lines_of (Adds node at what) ≡ flat_map (item_line node) (items_at (at, what))
-row_lines node at (Sent frame) = refl
-row_lines node at (Heard source destination message) = refl
-row_lines node at (Lost why packet) = refl
-row_lines node at what = words_lines node at (told_of what)
-
-text_with : (node : ℕ) (rows : Chronicle) (log : Log) → text (adding node rows log) ≡ text log ++ flat_map (item_line node) (items rows)
-text_with node [] log = sym (append-nil (text log))
-text_with node (row ∷ rows) log =
-    ap (λ l. l ++ lines_of (Adds node row.0 row.1)) (text_with node rows log)
-    ∙ (append_assoc (text log) (flat_map (item_line node) (items rows)) (lines_of (Adds node row.0 row.1))
-    ∙ ap (λ l. text log ++ l)
-    (ap (λ l. flat_map (item_line node) (items rows) ++ l) (row_lines node row.0 row.1) ∙ sym (flat_map-append (item_line node) (items rows) (items_at row))))
-
-lines_told : (node : ℕ) (told : List (ℕ × Happening)) → flat_map (item_line node) (flat_map items_at told) ≡ flat_map (node_lines node) told
-lines_told node [] = refl
-lines_told node (row ∷ told) =
-    flat_map-append (item_line node) (items_at row) (flat_map items_at told)
-    ∙ (ap (λ l. l ++ flat_map (item_line node) (flat_map items_at told)) (sym (row_lines node row.0 row.1)) ∙ ap (λ l. node_lines node row ++ l) (lines_told node told))
-
--- what a node hands out with its rows is their text
-pub text_of_rows : {A : Type 0} (node : ℕ) (c rows : Chronicle) (outs : List (ℕ × Out A)) (log : Log) → effects.Tells c (rows ++ c) [] outs
-    → text (adding node rows log) ≡ text log ++ flat_map (node_lines node) (happenings outs)
-text_of_rows node c rows outs log t =
-    text_with node rows log ∙ ap (λ l. text log ++ l) (ap (flat_map (item_line node)) (rows_told c rows outs t) ∙ lines_told node (happenings outs))
+-- what a node hands out with its rows is what the link reports of them
+pub reports_of_rows : {A : Type 0} (node : ℕ) (c rows : Chronicle) (outs : List (ℕ × Out A)) (log : Log) → effects.Tells c (rows ++ c) [] outs
+    → reports (adding node rows log) ≡ reports log ++ flat_map (node_reports node) (happenings outs)
+reports_of_rows node c rows outs log t =
+    reports_with node rows log ∙ ap (λ l. reports log ++ l) (ap (map (at_node node)) (rows_told c rows outs t) ∙ reports_told node (happenings outs))
 
 -- ---- the frames
 
@@ -85,5 +68,31 @@ pub frames_of_rows : {A : Type 0} (node : ℕ) (c rows : Chronicle) (outs : List
 frames_of_rows node c rows outs log t = frames_with node rows log ∙ ap (λ l. frames log ++ of_sender node l) (rows_sent c rows outs t)
 
 -- nothing is told of nothing
-pub none_told : {A B : Type 0} (told : List (LinkTold B)) (node : ℕ) (outs : List (ℕ × Out A)) → outs ≡ [] → TellsLines told told (flat_map (node_lines node) (happenings outs))
-none_told told node outs e = record { newer = []; text_is = sym (ap (λ o. flat_map (node_lines node) (happenings o)) e); all = sym (append-nil told) }
+pub none_told : {A B : Type 0} (told : List (LinkTold B)) (node : ℕ) (outs : List (ℕ × Out A)) → outs ≡ [] → TellsReports told told (flat_map (node_reports node) (happenings outs))
+none_told told node outs e = record { newer = []; reports_are = sym (ap (λ o. flat_map (node_reports node) (happenings o)) e); all = sym (append-nil told) }
+
+-- ---- the text
+
+rows_lines : (node : ℕ) (told : List (ℕ × Happening)) → flat_map (node_lines node) told ≡ flat_map report_line (flat_map (node_reports node) told)
+rows_lines node [] = refl
+rows_lines node (row ∷ told) =
+    ap (λ l. l ++ flat_map (node_lines node) told) (entry_lines (Adds node row.0 row.1))
+    ∙ (ap (λ l. flat_map report_line (node_reports node row) ++ l) (rows_lines node told) ∙ sym (flat_map-append report_line (node_reports node row) (flat_map (node_reports node) told)))
+
+lines_told : {A : Type 0} (told : LinkTold A) → told_lines told ≡ flat_map report_line (told_reports told)
+lines_told (Node node outs) = rows_lines node (happenings outs.items)
+lines_told (Refused at why) = entry_lines (Refuses at (refusal_of why))
+
+text_told : {A : Type 0} (told : List (LinkTold A)) → told_text told ≡ flat_map report_line (flat_map told_reports told)
+text_told [] = refl
+text_told (one ∷ told) =
+    ap (λ l. l ++ told_text told) (lines_told one)
+    ∙ (ap (λ l. flat_map report_line (told_reports one) ++ l) (text_told told) ∙ sym (flat_map-append report_line (told_reports one) (flat_map told_reports told)))
+
+-- what is reported more has the text of the one log more than of the other
+pub tells_text : {A : Type 0} (log d : Log) (x y : List (LinkTold A)) → (t : Tells log d x y) → text d ≡ text log ++ told_text t.newer
+tells_text log d x y t =
+    text_of_reports d
+    ∙ (ap (flat_map report_line) t.told
+    ∙ (flat_map-append report_line (reports log) (flat_map told_reports t.newer)
+    ∙ (ap (λ l. l ++ flat_map report_line (flat_map told_reports t.newer)) (sym (text_of_reports log)) ∙ ap (λ l. text log ++ l) (sym (text_told t.newer)))))

@@ -6,7 +6,6 @@ use Rattle.rand_core.specs.Stream.{Stream}
 use Rattle.nd_chronicle.specs.Happening as chronicle
 use Rattle.nd_chronicle.specs.Happening.{Chronicle}
 use Rattle.nd_chronicle.specs.Due.{What, Due, comes}
-use Rattle.nd_chronicle.specs.Told.{node_lines}
 use Rattle.nd_chronicle.proofs.Growth.{comes_grows}
 use Rattle.nd_steps.specs.Outputs as effects
 use Rattle.nd_steps.specs.Outputs.{frames_in, happenings}
@@ -16,17 +15,18 @@ use Rattle.nd_node.specs.Node as node
 use Rattle.nd_node.specs.Time as nodes
 use Rattle.nd_node.proofs.Walks.{last_of}
 use Rattle.nd_link_log.specs.Log.{Log, adding, chronicle_of, last_moment}
+use Rattle.nd_link_log.specs.Told.{node_reports}
 use Rattle.nd_link_log.proofs.Moments.{EachAt, due_at}
 use Rattle.nd_link.specs.declared.link.Link.{Link}
 use Rattle.nd_link.specs.declared.told.Told.{Told}
 use Rattle.nd_link.specs.Due.{IsFirst}
 use Rattle.nd_link.specs.Frames.{kept_frames, of_sender}
 use Rattle.nd_link.specs.Link.{NodeStands, NodesStand, Stands}
-use Rattle.nd_link.specs.Told.{Tells, TellsLines}
+use Rattle.nd_link.specs.Told.{Tells, TellsReports}
 use Rattle.nd_link.specs.Time.{Leads, Turns, turns_left}
 use Rattle.nd_link.proofs.Standing.{idle_at, others_of, rows_stand}
-use Rattle.nd_link.proofs.Telling.{frames_of_rows, text_of_rows}
-use Rattle.nd_link.proofs.Walks.{told_lines_of}
+use Rattle.nd_link.proofs.Telling.{frames_of_rows, reports_of_rows}
+use Rattle.nd_link.proofs.Walks.{told_of_reports}
 
 -- the moment of a log with rows of one moment, of which there may be none where it is that moment already
 moment_on : (node at : ℕ) (rows : Chronicle) (log : Log) → EachAt at rows → (rows ≡ [] → last_moment log ≡ at) → last_moment (adding node rows log) ≡ at
@@ -37,7 +37,7 @@ module _ {W R A : Type 0} (stream : R → Stream) (old new : Link W R A) (n n' :
     (first : IsFirst stream old.nodes.items place due) (is : slice_get old.nodes.items place ≡ Some n) (leads : nodes.Leads stream n n' [] outs (nodes.Comes due))
     (nodes_are : new.nodes.items ≡ set old.nodes.items place n') (last_is : new.last ≡ due)
     (kept : kept_frames new.frames.items ≡ kept_frames old.frames.items ++ of_sender place (frames_in (happenings outs)))
-    (told : TellsLines x y (flat_map (node_lines place) (happenings outs))) where
+    (told : TellsReports x y (flat_map (node_reports place) (happenings outs))) where
   module _ (log : Log) (s : Stands stream old log) where
     abbrev o : NodeStands stream log (last_moment log) place n
     o = s.nodes.each place n is
@@ -113,7 +113,7 @@ module _ {W R A : Type 0} (stream : R → Stream) (old new : Link W R A) (n n' :
     }
 
     tell : Tells log d x y
-    tell = told_lines_of log d x y (flat_map (node_lines place) (happenings outs)) told (text_of_rows place (chronicle_of place log) rows outs log tells')
+    tell = told_of_reports log d x y (flat_map (node_reports place) (happenings outs)) told (reports_of_rows place (chronicle_of place log) rows outs log tells')
 
   pub turn_leads : Leads stream old new x y (Turns due)
   turn_leads = record { each = λ log s. (d log s, turned log s, stand log s, tell log s) }

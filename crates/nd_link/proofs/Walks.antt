@@ -2,32 +2,33 @@
 use Rattle.std.proofs.Common.{◌≡◌, ℕ, zero, suc, ◌+◌, ◌-◌, ◌<◌, ◌≤◌, List, [], ◌++◌, append-nil, append_assoc, sym, ◌∙◌, ap, subst, arith, ⊎_elim}
 use Rattle.std.proofs.lemmas.Bool.{cases_lt}
 use Rattle.std.proofs.lemmas.Grind.{flat_map-append}
+use Rattle.std.specs.List.{flat_map}
 use Rattle.rand_core.specs.Stream.{Stream}
 use Rattle.nd_link_log.specs.Log.{Log, adding, last_moment}
-use Rattle.nd_link_log.specs.Told.{text}
+use Rattle.nd_link_log.specs.Told.{Report, reports}
 use Rattle.nd_link_log.specs.History.{IsIdle, Walk, over, adds, passes}
 use Rattle.nd_link.specs.declared.link.Link.{Link}
 use Rattle.nd_link.specs.declared.told.Told.{Told}
 use Rattle.nd_link.specs.Due.{AreDated, AreSettled}
-use Rattle.nd_link.specs.Told.{Tells, TellsLines, told_lines, told_text}
+use Rattle.nd_link.specs.Told.{Tells, TellsReports, told_reports}
 use Rattle.nd_link.specs.Time.{Leads, Onward, Passes, Turns}
 use Rattle.nd_link.proofs.Standing.{idle_at}
 
 -- ---- what is told
 
 pub told_same : {A : Type 0} (log : Log) (told : List (Told A)) → Tells log log told told
-told_same log told = record { newer = []; told = sym (append-nil (text log)); all = sym (append-nil told) }
+told_same log told = record { newer = []; told = sym (append-nil (reports log)); all = sym (append-nil told) }
 
 pub told_then : {A : Type 0} (log d e : Log) (x y z : List (Told A)) → Tells log d x y → Tells d e y z → Tells log e x z
 told_then log d e x y z t u = record {
   newer = t.newer ++ u.newer;
-  told = u.told ∙ (ap (λ l. l ++ told_text u.newer) t.told ∙ (append_assoc (text log) (told_text t.newer) (told_text u.newer)
-      ∙ ap (λ l. text log ++ l) (sym (flat_map-append told_lines t.newer u.newer))));
+  told = u.told ∙ (ap (λ l. l ++ flat_map told_reports u.newer) t.told ∙ (append_assoc (reports log) (flat_map told_reports t.newer) (flat_map told_reports u.newer)
+      ∙ ap (λ l. reports log ++ l) (sym (flat_map-append told_reports t.newer u.newer))));
   all = u.all ∙ (ap (λ l. l ++ u.newer) t.all ∙ append_assoc x t.newer u.newer);
 }
 
-pub told_lines_of : {A : Type 0} (log d : Log) (x y : List (Told A)) (lines : List ℕ) → TellsLines x y lines → text d ≡ text log ++ lines → Tells log d x y
-told_lines_of log d x y lines t e = record { newer = t.newer; told = e ∙ ap (λ l. text log ++ l) (sym t.text_is); all = t.all }
+pub told_of_reports : {A : Type 0} (log d : Log) (x y : List (Told A)) (more : List Report) → TellsReports x y more → reports d ≡ reports log ++ more → Tells log d x y
+told_of_reports log d x y more t e = record { newer = t.newer; told = e ∙ ap (λ l. reports log ++ l) (sym t.reports_are); all = t.all }
 
 -- ---- time in which nothing is due
 

@@ -13,7 +13,7 @@ ghost use Rattle.nd_link.specs.Event.{AreEarly, link_event, link_events};
 ghost use Rattle.nd_link.specs.Holder.{KeepsOneHolder, KeepsOneHolderWithLosses};
 ghost use Rattle.nd_link.specs.Link.{Stands};
 ghost use Rattle.nd_link.specs.Memory.{AsksForNone};
-ghost use Rattle.nd_link.specs.Run.{FollowsBy, RunsBy, RunsInPart, RunsUpTo};
+ghost use Rattle.nd_link.specs.Run.{FollowsBy, IsDelivery, RunsBy, RunsInPart, RunsUpTo};
 ghost use Rattle.nd_link.specs.Time.{Leads, Onward, Passes, TellsOf};
 
 use crate::fault::LinkFault;
@@ -83,6 +83,8 @@ impl<W: Wire, R: Rng + Drop, A: Allocator + Copy> Link<W, R, A> {
         ensures stays_spent { self.old.spent ≡ true → result ≡ Err LinkFault.Memory }
         ensures unspent { OnOk result (self.new.spent ≡ self.old.spent) }
         ensures unspent_by_wire { IsErrOf result LinkFault.Wire → self.new.spent ≡ self.old.spent }
+        ensures stays_silent { self.old.spent ≡ true → told.new ≡ told.old }
+        ensures delivery { IsErrOf result LinkFault.Wire → IsDelivery (link_event R.stream event) }
         ensures bytes { IsOfBytes (link_event R.stream event) }
 
         // An event that is too late is refused even if no memory is left, if the list has room for the refusal.
@@ -127,6 +129,7 @@ impl<W: Wire, R: Rng + Drop, A: Allocator + Copy> Link<W, R, A> {
         ensures stays_spent { self.old.spent ≡ true → result ≡ Err LinkFault.Memory }
         ensures unspent { OnOk result (self.new.spent ≡ self.old.spent) }
         ensures unspent_by_wire { IsErrOf result LinkFault.Wire → self.new.spent ≡ self.old.spent }
+        ensures stays_silent { self.old.spent ≡ true → told.new ≡ told.old }
     {
         if self.spent {
             return Err(LinkFault::Memory);
@@ -151,6 +154,7 @@ impl<W: Wire, R: Rng + Drop, A: Allocator + Copy> Link<W, R, A> {
         ensures wire_failed { IsErrOf result LinkFault.Wire → W.failed self.new.wire ≡ one_more (W.failed self.old.wire) }
         ensures wire_carried { result ≢ Err LinkFault.Wire → W.failed self.new.wire ≡ W.failed self.old.wire }
         ensures spent { self.new.spent ≡ self.old.spent }
+        ensures delivery { IsErrOf result LinkFault.Wire → IsDelivery (link_event R.stream event) }
         ensures late { now < self.old.last → vec_len told.old < vec_capacity told.old → IsOk result }
         ensures quiet { (log : Log) → Stands R.stream self.old log → self.old.last ≤ now → AreSettled now self.old.nodes.items → AsksForNone now log (link_event R.stream event) (vec_capacity told.old - vec_len told.old) → IsOk result }
     {
@@ -178,6 +182,7 @@ impl<W: Wire, R: Rng + Drop, A: Allocator + Copy> Link<W, R, A> {
         ensures fault { IsErrOf result LinkFault.Wire → W.failed self.new.wire ≡ one_more (W.failed self.old.wire) }
         ensures no_fault { result ≢ Err LinkFault.Wire → W.failed self.new.wire ≡ W.failed self.old.wire }
         ensures spent { self.new.spent ≡ self.old.spent }
+        ensures delivery { IsErrOf result LinkFault.Wire → IsDelivery (link_event R.stream event) }
         ensures quiet { (log : Log) → Stands R.stream self.old log → AsksForNone now log (link_event R.stream event) (vec_capacity told.old - vec_len told.old) → IsOk result }
     {
         match event {

@@ -2,11 +2,10 @@
 
 ghost use Rattle.std.specs.Prelude.{◌≡◌, ◌<◌, IsOk, OnErr, OnOk, vec_capacity, vec_len};
 ghost use Rattle.std.specs.List.{flat_map};
-ghost use Rattle.nd_chronicle.specs.Told.{node_lines};
 ghost use Rattle.nd_steps.specs.Outputs.{happenings};
 ghost use Rattle.nd_link_log.specs.Log.{Refuses};
-ghost use Rattle.nd_link_log.specs.Told.{lines_of};
-ghost use Rattle.nd_link.specs.Told.{TellsLines, refusal_of};
+ghost use Rattle.nd_link_log.specs.Told.{node_reports, reports_of};
+ghost use Rattle.nd_link.specs.Told.{TellsReports, refusal_of};
 
 use crate::refusal::Refusal;
 use nd_out::Out;
@@ -27,7 +26,7 @@ pub(crate) fn tell<A: Allocator>(
     node: usize,
     outs: Vec<(u64, Out<A>), A>,
 ) -> Result<(), AllocError>
-    ensures tells { OnOk result (TellsLines told.old.items told.new.items (flat_map (node_lines node) (happenings outs.items))) }
+    ensures tells { OnOk result (TellsReports told.old.items told.new.items (flat_map (node_reports node) (happenings outs.items))) }
     ensures same { OnErr result (told.new.items ≡ told.old.items) }
 {
     if outs.is_empty() {
@@ -43,7 +42,7 @@ pub(crate) fn tell_refused<A: Allocator>(
     at: u64,
     why: Refusal,
 ) -> Result<(), AllocError>
-    ensures tells { OnOk result (TellsLines told.old.items told.new.items (lines_of (Refuses at (refusal_of why)))) }
+    ensures tells { OnOk result (TellsReports told.old.items told.new.items (reports_of (Refuses at (refusal_of why)))) }
     ensures same { OnErr result (told.new.items ≡ told.old.items) }
     ensures ready { vec_len told.old < vec_capacity told.old → IsOk result }
 {

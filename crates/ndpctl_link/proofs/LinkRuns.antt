@@ -32,6 +32,7 @@ use Rattle.nd_link.specs.Time as time
 use Rattle.nd_link.specs.Told.{told_text}
 use Rattle.nd_link.proofs.Coming.{runs_then}
 use Rattle.nd_link.proofs.Holder.{stands_for_bytes}
+use Rattle.nd_link.proofs.Telling.{tells_text}
 use Rattle.ndpctl_link.specs.Answer.{AnswersEvent, Passes}
 use Rattle.ndpctl_link.specs.Script.{FailsAt, KeepsOneHolder, Leads, RunsBetween, RunsOn, RunsTo, WireFailsAt}
 use Rattle.ndpctl_link.specs.Line.{IsLinkLine}
@@ -48,7 +49,7 @@ module _ {W R A : Type 0} (arrives : ℕ → List ℕ → List ℕ → Type 0) (
     bytes = bytes;
     each = λ faithful log s.
         let l = (leads faithful).each log s in
-        (l.0, l.1, l.2, l.3.told ∙ ap (λ t. text log ++ told_text t) (sym l.3.all));
+        (l.0, l.1, l.2, tells_text log l.0 [] told l.3 ∙ ap (λ t. text log ++ told_text t) (sym l.3.all));
   }
 
   -- what the link told of the time that passed is not asked for

@@ -37,6 +37,7 @@ pub returns-in_err-event-clause-passes : goal.returns-in_err-event-clause-passes
 returns-in_err-event-clause-passes g c = λ faithful wire.
     came_up_to (IsFaithful g.W.Wire.arrives) g.R.Rng.stream c.args.self.now c.loop-at.self c.event.new.self c.args.told.now.items c.loop-at.told.items c.event.new.told.items c.args.events.items
     (into_iter_items c.loop-at.at-iterator) (into_iter_items c.next.new.self) (c.in-Some.at, c.in-Some.event) c.in-Some.ensures.steps.0 c.loop-at.invariant.came faithful
+    (c.in_err-event.ensures.delivery (handed_on c.from_residual.result _ _ c.from_residual.ensures.1 wire))
     (c.in_err-event.ensures.passes (handed_on c.from_residual.result _ _ c.from_residual.ensures.1 wire))
 
 pub returns-in_err-event-clause-wire_carried : goal.returns-in_err-event-clause-wire_carried
