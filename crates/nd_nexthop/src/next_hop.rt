@@ -10,7 +10,6 @@ use crate::choice::Choice;
 use crate::default_router::chosen_router;
 use crate::view::View;
 use nd_addr::Addr;
-use nd_addr::laws::addresses_are_told_by_numbers;
 use nd_table::compare;
 use std::alloc::Allocator;
 
@@ -45,7 +44,7 @@ impl<A: Allocator + Clone> Choice<A> {
         ensures redirects { self.new.redirects ≡ self.old.redirects }
         ensures until { self.new.memory.until ≡ self.old.memory.until }
     {
-        addresses_are_told_by_numbers();
+        nd_addr::laws::addresses_are_told_by_numbers();
         let _bytes = destination.as_bytes();
         // fe80::/64 is always on the link, and the rest of fe80::/10 is no node's: to determine this next hop costs less than to remember it.
         if destination.is_link_local() {

@@ -49,7 +49,8 @@ use Rattle.nd_steps.proofs.RouterSide.{advertisement_date, later_row, side_stand
 use Rattle.nd_steps.proofs.Quiet.{sent_is_quiet, losing_is_quiet}
 use Rattle.nd_node.specs.declared.node.Node.{Node}
 use Rattle.nd_node.specs.Moments.{earlier}
-use Rattle.nd_node.specs.Node.{ends, Stands, NextDue, next_of}
+use Rattle.nd_steps.specs.DestinationCache.{ends}
+use Rattle.nd_node.specs.Node.{Stands, NextDue, next_of}
 use Rattle.nd_node.proofs.Moments.{no_router, no_address, no_neighbour, none_at, before_second, none_before, before_routers, before_addresses, before_neighbours, before_solicitation, before_advertisement, before_redraw, at_redraw, earlier_at}
 use Rattle.nd_node.proofs.Quiet.{stands_quiet}
 

@@ -1,5 +1,5 @@
 -- A node stands for a chronicle.
-use Rattle.std.specs.Prelude.{◌≡◌, ℕ, ◌+◌, ◌-◌, ◌<◌, ◌≤◌, Bool, true, false, length, Option, None}
+use Rattle.std.specs.Prelude.{◌≡◌, ℕ, ◌+◌, ◌-◌, ◌<◌, ◌≤◌, length, Option, None}
 use Rattle.rand_core.specs.Stream.{Stream}
 use Rattle.nd_addr.specs.declared.mac.Mac.{Mac}
 use Rattle.nd_addr.specs.declared.role.Role.{Role}
@@ -10,7 +10,6 @@ use Rattle.nd_neighbour.specs.Table as neighbours
 use Rattle.nd_neighbour.specs.Due as neighbour_dates
 use Rattle.nd_slaac.specs.Table as addresses
 use Rattle.nd_slaac.specs.Dates as address_dates
-use Rattle.nd_slaac.specs.Due.{Falls, Ends}
 use Rattle.nd_routers.specs.Routers as routers
 use Rattle.nd_params.specs.Params as parameters
 use Rattle.nd_params.specs.ReachableTime.{redraw_after}
@@ -78,11 +77,6 @@ pub record NextDue (start : Start) (c : Chronicle) (next : ℕ) : Type 0 where
   pub not_past : last_moment start.at c ≤ next
   pub nothing_before : (moment : ℕ) → moment < next → Due start c moment None
   pub something_then : Due start c next None → ⊥
-
--- one of the node's own addresses ends
-abbrev pub ends : Falls → Bool
-ends (Ends key) = true
-ends _ = false
 
 -- how many turns are left up to a moment, where nothing else happens, and the time since the last redraw and the last advertisement
 abbrev pub turns_left : {R A : Type 0} → ℕ → Node R A → ℕ

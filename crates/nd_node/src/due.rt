@@ -1,24 +1,11 @@
 //! What is due at a node, and when.
 
-ghost use Rattle.std.specs.Prelude.{◌≡◌, ℕ, if◌then◌else◌, ◌<◌, ◌≤◌, ◌↔◌, ◌∷◌, IsTrue, Some};
-ghost use Rattle.rand_core.specs.Stream.{next_u32};
-ghost use Rattle.nd_addr.specs.Number.{number_of};
+ghost use Rattle.std.specs.Prelude.{◌≡◌, ℕ, ◌<◌, ◌≤◌, ◌↔◌, IsTrue, Some};
 ghost use Rattle.nd_table.specs.Moment.{IsMoment};
-ghost use Rattle.nd_params.specs.History.{Drew};
-ghost use Rattle.nd_slaac.specs.View.{falls_of};
-ghost use Rattle.nd_params.specs.Params.{GainsRows};
-ghost use Rattle.nd_chronicle.specs.Generator.{reachable_drawn};
-ghost use Rattle.nd_steps.specs.SolicitRouters.{after_address};
-ghost use Rattle.nd_nexthop.specs.Memo.{forgotten};
 ghost use Rattle.nd_node.specs.Moments.{earlier};
-ghost use Rattle.nd_node.specs.Node.{ends};
 
 use crate::node::Node;
-use nd_addr::Addr;
-use nd_nexthop::Choice;
-use nd_params::Params;
-use nd_steps::{RouterSolicitations, Turned, note_failure, reachable_drawn};
-use nd_table::compare;
+use nd_steps::{Turned, forget_if_ended, note_failure, redraw_reachable_time};
 use rand_core::Rng;
 use std::alloc::Allocator;
 
@@ -80,7 +67,7 @@ impl<R: Rng + Drop, A: Allocator + Clone> Node<R, A> {
         if let Some(due) = self.addresses.turn(now) {
             forget_if_ended(&mut self.choice, due);
             let own = self.addresses.link_local();
-            note_address(&mut self.solicitations, own, now, due);
+            self.solicitations.note_address(own, now, due);
             self.router.note_address(own, now, due);
             return Turned::Address(due);
         }
@@ -94,50 +81,9 @@ impl<R: Rng + Drop, A: Allocator + Clone> Node<R, A> {
         if self.router.turn(self.role, now, &mut self.generator) {
             return Turned::RouterAdvertised;
         }
-        redraw(&mut self.params, &mut self.generator, now);
+        redraw_reachable_time(&mut self.params, &mut self.generator, now);
         Turned::Redrawn
     }
-}
-
-/// Forgets the remembered next hops if one of the node's own addresses has ended.
-fn forget_if_ended<A: Allocator>(choice: &mut Choice<A>, due: nd_slaac::Due)
-    ensures { choice.new ≡ (if ends (falls_of due) then record choice.old { memory = forgotten choice.old.memory } else choice.old) }
-{
-    match due {
-        nd_slaac::Due::End(_) => choice.changed(),
-        nd_slaac::Due::Solicit(_) | nd_slaac::Due::Assign(_) => {}
-    }
-}
-
-/// Plans the first Router Solicitation once the link-local address is assigned (RFC 4861, section 6.3.7).
-fn note_address(
-    solicitations: &mut RouterSolicitations,
-    link_local: Addr,
-    now: u64,
-    due: nd_slaac::Due,
-)
-    requires { IsMoment now }
-    ensures { solicitations.new ≡ after_address (number_of link_local.0) now (falls_of due) solicitations.old }
-{
-    match due {
-        nd_slaac::Due::Assign(addr) => {
-            if compare(addr, link_local).is_eq() {
-                solicitations.assigned(now);
-            }
-        }
-        nd_slaac::Due::End(_) | nd_slaac::Due::Solicit(_) => {}
-    }
-}
-
-/// Draws ReachableTime again from the base in force (RFC 4861, section 6.3.4).
-fn redraw<R: Rng>(params: &mut Params, generator: &mut R, now: u64)
-    requires { IsMoment now }
-    ensures stands { GainsRows params.old params.new (λ history. Drew now (reachable_drawn params.old.base_reachable_time (R.stream generator.old)) ∷ history) }
-    ensures drawn_at { params.new.drawn_at ≡ now }
-    ensures left { R.stream generator.new ≡ (next_u32 (R.stream generator.old)).1 }
-{
-    let value = reachable_drawn(generator, params.base_reachable_time());
-    params.redrawn(now, value);
 }
 
 /// Returns the earlier of two moments, of which `a` may be missing.

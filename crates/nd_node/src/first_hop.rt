@@ -5,7 +5,6 @@ ghost use Rattle.nd_chronicle.specs.Happening.{Chronicle, last_moment};
 ghost use Rattle.nd_chronicle.specs.Start.{Start};
 
 use crate::node::Node;
-use nd_addr::laws::addresses_are_told_by_numbers;
 use nd_addr::{Addr, Role};
 use nd_nexthop::Hop;
 use nd_slaac::Counted;
@@ -26,7 +25,7 @@ impl<R: Rng + Drop, A: Allocator + Clone> Node<R, A> {
         ensures stands { (start : Start) (c : Chronicle) → Stands R.stream start self.old c → Stands R.stream start self.new c }
         ensures due { next_of self.new ≡ next_of self.old }
     {
-        addresses_are_told_by_numbers();
+        nd_addr::laws::addresses_are_told_by_numbers();
         let _bytes = destination.as_bytes();
         // The tables are not asked about an earlier moment than the last one.
         let at = now.max(self.last);

@@ -7,7 +7,6 @@ ghost use Rattle.nd_chronicle.specs.Happening.{Chronicle};
 ghost use Rattle.nd_chronicle.specs.Start.{Start};
 
 use crate::node::Node;
-use nd_addr::laws::addresses_are_told_by_numbers;
 use nd_addr::{Addr, Ip6, Role};
 use nd_decode::Body;
 use nd_forwarding::may_be_forwarded;
@@ -27,7 +26,7 @@ impl<R: Rng + Drop, A: Allocator + Clone> Node<R, A> {
     fn is_ours(&self, counted: Counted, destination: Addr) -> bool
         ensures { (start : Start) (c : Chronicle) → Stands R.stream start self.now c → result ≡ true ↔ IsOurs start (counting counted c) destination }
     {
-        addresses_are_told_by_numbers();
+        nd_addr::laws::addresses_are_told_by_numbers();
         if is_to_nodes(destination) {
             return true;
         }

@@ -11,7 +11,6 @@ ghost use Rattle.nd_node.specs.Time.{Leads};
 use crate::node::Node;
 use nd_addr::Addr;
 use nd_compose::FrameRoom;
-use nd_neighbour::laws::{none_overdue, one_is_pushed_out, room_is_place};
 use nd_out::Out;
 use nd_packet::Packet;
 use nd_steps::{link_local, note_use, tell_use, times_in_force};
@@ -46,9 +45,9 @@ impl<R: Rng + Drop, A: Allocator + Clone> Node<R, A> {
         ensures capacity { vec_capacity outs.new ≡ vec_capacity outs.old }
         ensures last { self.new.last ≡ self.old.last }
     {
-        none_overdue();
-        one_is_pushed_out();
-        room_is_place();
+        nd_neighbour::laws::none_overdue();
+        nd_neighbour::laws::one_is_pushed_out();
+        nd_neighbour::laws::room_is_place();
         let own = link_local(&self.addresses);
         let times = times_in_force(&self.params);
         match self.neighbours.used(now, to, packet, times) {

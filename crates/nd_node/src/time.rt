@@ -5,7 +5,6 @@ ghost use Rattle.nd_table.specs.Moment.{IsMoment};
 ghost use Rattle.nd_node.specs.Time.{Leads, Comes, Passes, Onward};
 
 use crate::node::Node;
-use nd_chronicle::laws::idle_time_passes;
 use nd_compose::FrameRoom;
 use nd_out::Out;
 use nd_steps::{MOST_TOLD, link_local, tell};
@@ -48,7 +47,7 @@ impl<R: Rng + Drop, A: Allocator + Clone> Node<R, A> {
         // If nothing is due up to `now` nothing happens, even if no memory is left.
         ensures idle { now < next_of self.old → (result ≡ Ok tt) × (self.new ≡ self.old) × (outs.new ≡ outs.old) }
     {
-        idle_time_passes();
+        nd_chronicle::laws::idle_time_passes();
         loop {
             let next = self.next_due();
             if next > now {

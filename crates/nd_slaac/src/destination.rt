@@ -12,7 +12,6 @@ use crate::addresses::Addresses;
 use crate::entry::Entry;
 use crate::stage::Stage;
 use nd_addr::Addr;
-use nd_addr::laws::addresses_are_told_by_numbers;
 use nd_table::find;
 use std::alloc::Allocator;
 
@@ -43,7 +42,7 @@ impl<A: Allocator> Addresses<A> {
     pub fn is_to(&self, counted: Counted, destination: Addr) -> bool
         ensures { (history : List Row) → Stands self.now.addresses history → result ≡ true ↔ IsTo counted history destination }
     {
-        addresses_are_told_by_numbers();
+        nd_addr::laws::addresses_are_told_by_numbers();
         any_is_to(&self.entries, counted, destination)
     }
 }
@@ -65,7 +64,7 @@ fn any_is_to(entries: &[Entry], counted: Counted, destination: Addr) -> bool
     requires { Rises key_of entries.now }
     ensures { result ≡ list_any (is_to counted destination) entries.now }
 {
-    addresses_are_told_by_numbers();
+    nd_addr::laws::addresses_are_told_by_numbers();
     let _bytes = destination.as_bytes();
     // Most multicast messages are solicitations, whose destination is the solicited-node address of one of a few.
     any_is_asked(entries, counted, destination) || entry_counts(entries, counted, destination)
@@ -117,7 +116,7 @@ impl Entry {
         requires { destination.0 ≡ solicited_node_of destination.0 }
         ensures { result ≡ is_asked counted destination self.now }
     {
-        addresses_are_told_by_numbers();
+        nd_addr::laws::addresses_are_told_by_numbers();
         let _bytes = self.addr.as_bytes();
         self.counts(counted) && end_alike(self.addr, destination)
     }

@@ -15,6 +15,7 @@ use Rattle.nd_routers.specs.Preferences.{preference_among}
 use Rattle.nd_addr.specs.declared.mac.Mac.{Mac}
 use Rattle.nd_decode.specs.declared.prefix_info.PrefixInfo.{PrefixInfo}
 use Rattle.nd_slaac.specs.Address.{Address}
+use Rattle.nd_slaac.specs.Due.{Falls, Ends}
 use Rattle.nd_slaac.specs.Room.{would_form}
 use Rattle.nd_slaac.specs.declared.destination.Counted.TheVariants.{Own}
 use Rattle.nd_slaac.specs.Destination.{counted_in}
@@ -89,3 +90,8 @@ AsStanding now old new = (address : List ℕ) → is_held address (open_at now n
 abbrev pub forms_none : Mac → List ℕ → List PrefixInfo → Bool
 forms_none mac keys [] = true
 forms_none mac keys (info ∷ infos) = not (would_form mac keys info) && forms_none mac keys infos
+
+-- one of the node's own addresses ends
+abbrev pub ends : Falls → Bool
+ends (Ends key) = true
+ends _ = false

@@ -2,10 +2,12 @@
 
 ghost use Rattle.std.specs.Prelude.{◌≡◌, ◌&&◌, if◌then◌else◌, []};
 ghost use Rattle.nd_nexthop.specs.Memo.{forgotten, is_asked};
-ghost use Rattle.nd_steps.specs.DestinationCache.{last_before_end};
+ghost use Rattle.nd_slaac.specs.View.{falls_of};
+ghost use Rattle.nd_steps.specs.DestinationCache.{ends, last_before_end};
 
 use nd_nexthop::Choice;
 use nd_routers::Prefixes;
+use nd_slaac::Due;
 use std::alloc::Allocator;
 
 /// Keeps the remembered next hops if `keep`, and forgets them otherwise.
@@ -14,6 +16,16 @@ pub fn keep_if<A: Allocator>(choice: &mut Choice<A>, keep: bool)
 {
     if !keep {
         choice.changed();
+    }
+}
+
+/// Forgets the remembered next hops if one of the node's own addresses has ended.
+pub fn forget_if_ended<A: Allocator>(choice: &mut Choice<A>, due: Due)
+    ensures { choice.new ≡ (if ends (falls_of due) then record choice.old { memory = forgotten choice.old.memory } else choice.old) }
+{
+    match due {
+        Due::End(_) => choice.changed(),
+        Due::Solicit(_) | Due::Assign(_) => {}
     }
 }
 

@@ -12,7 +12,6 @@ ghost use Rattle.nd_slaac.specs.View as addresses;
 ghost use Rattle.nd_neighbour.specs.View as neighbours;
 
 use crate::turned::Turned;
-use nd_addr::laws::addresses_are_told_by_numbers;
 use nd_addr::{Addr, Mac};
 use nd_compose::FrameRoom;
 use nd_out::{Loss, Out};
@@ -26,7 +25,7 @@ pub const MOST_TOLD: usize = 4;
 fn detection<A: Allocator>(room: FrameRoom<A>, mac: Mac, addr: Addr) -> Packet<A>
     ensures { result ≡ detection_frame mac (addr_at (number_of addr.0)) }
 {
-    addresses_are_told_by_numbers();
+    nd_addr::laws::addresses_are_told_by_numbers();
     let _bytes = addr.as_bytes();
     room.detection(mac, addr)
 }
@@ -35,7 +34,7 @@ fn detection<A: Allocator>(room: FrameRoom<A>, mac: Mac, addr: Addr) -> Packet<A
 fn resolution<A: Allocator>(room: FrameRoom<A>, mac: Mac, own: Addr, addr: Addr) -> Packet<A>
     ensures { result ≡ resolution_frame mac own (addr_at (number_of addr.0)) }
 {
-    addresses_are_told_by_numbers();
+    nd_addr::laws::addresses_are_told_by_numbers();
     let _bytes = addr.as_bytes();
     room.resolution(mac, own, addr)
 }
@@ -44,7 +43,7 @@ fn resolution<A: Allocator>(room: FrameRoom<A>, mac: Mac, own: Addr, addr: Addr)
 fn probe<A: Allocator>(room: FrameRoom<A>, mac: Mac, own: Addr, to: Mac, addr: Addr) -> Packet<A>
     ensures { result ≡ probe_frame mac own (mac_at (number_of to.0)) (addr_at (number_of addr.0)) }
 {
-    addresses_are_told_by_numbers();
+    nd_addr::laws::addresses_are_told_by_numbers();
     let _bytes = addr.as_bytes();
     let _to = to.as_bytes();
     room.probe(mac, own, to, addr)

@@ -1,6 +1,11 @@
 //! The steps that make up a node's events: what a step does to one of the conceptual data structures of RFC 4861, section 5.1, and what the node
-//! reports of it. There is one file for each of these structures, and one each for the node's own addresses, the parameters, the DNS lists and what
-//! only a router has. nd_node says which steps an event takes, in which order, and what is refused; a table's crate says what the table is.
+//! reports of it. nd_node says which steps an event takes, in which order, and what is refused; a table's crate says what the table is.
+//!
+//! - The conceptual data structures: `neighbour_cache`, with what a message says of a neighbour in `news`; `destination_cache`, with the tables that
+//!   next-hop determination asks in `next_hop`; `prefix_list`; `default_router_list`.
+//! - The rest of what a host keeps: `own_addresses`, `parameters`, `dns`, `solicit_routers`.
+//! - What only a router has: `router_tables`, and a packet in transit in `transit`.
+//! - Packets of the upper layer in `packets`, random delays and times in `draws`, and what is due in `turned` with its report in `due_rows`.
 //!
 //! Each moment, `now` or `at`, is in milliseconds; the caller chooses where they begin. What is reported is appended to `outs`, with its moment,
 //! into room that was made before: only `ready_for`, `ready_for_two` and the functions that make a frame take memory.
@@ -24,7 +29,7 @@ mod transit;
 mod turned;
 
 pub use default_router_list::{end_router, hear_router, note_failure, tell_left, tell_routers};
-pub use destination_cache::keep_until_a_prefix_ends;
+pub use destination_cache::{forget_if_ended, keep_until_a_prefix_ends};
 pub use dns::hear_dns;
 pub use draws::{
     MAX_RTR_SOLICITATION_DELAY, answer_delay_drawn, drawn_from, interval_drawn, reachable_drawn,
@@ -41,7 +46,7 @@ pub use own_addresses::{
     link_local, takes_target,
 };
 pub use packets::{OutgoingPacket, is_too_long, packet_in};
-pub use parameters::{hear_parameters, times_in_force};
+pub use parameters::{hear_parameters, redraw_reachable_time, times_in_force};
 pub use prefix_list::hear_prefixes;
 pub use router_tables::RouterTables;
 pub use solicit_routers::RouterSolicitations;

@@ -14,7 +14,6 @@ ghost use Rattle.nd_addr.specs.Number.{number_of};
 ghost use Rattle.nd_addr.specs.Frame.{addressed};
 ghost use Rattle.nd_table.specs.Moment.{IsMoment};
 ghost use Rattle.nd_neighbour.specs.News.{lets_enter, news_key};
-ghost use Rattle.nd_neighbour.specs.Removal.{waiting_at};
 ghost use Rattle.nd_packet.specs.Waiting.{max_waiting};
 ghost use Rattle.nd_steps.specs.DestinationCache.{MayRemember, begins};
 ghost use Rattle.nd_steps.specs.Outputs.{at_moment, happenings};
@@ -22,10 +21,8 @@ ghost use Rattle.nd_neighbour.specs.View.{sending_of};
 ghost use Rattle.nd_nexthop.specs.Memo.{forgotten};
 
 use crate::destination_cache::keep_if;
-use nd_addr::laws::addresses_are_told_by_numbers;
 use nd_addr::{Addr, Mac};
 use nd_compose::FrameRoom;
-use nd_neighbour::laws::{full_by_history, released_to_the_given_address, room_is_place};
 use nd_neighbour::{Cache, News, Times, Use};
 use nd_nexthop::Choice;
 use nd_out::{Loss, Out};
@@ -37,8 +34,8 @@ fn has_place_with<A: Allocator>(neighbours: &Cache<A>, now: u64, news: &News) ->
     ensures room { result ≡ true → HasPlace neighbours.now.limit now (Some news.now) neighbours.now.entries }
     ensures placed { (history : List Row) → Stands neighbours.now.entries history → PlacedBy neighbours.now.limit now news.now history result }
 {
-    full_by_history();
-    room_is_place();
+    nd_neighbour::laws::full_by_history();
+    nd_neighbour::laws::room_is_place();
     match news {
         News::Given { addr, .. } => neighbours.room(now, *addr, None),
         News::Advert { .. } | News::Marked { .. } => true,
@@ -159,8 +156,8 @@ fn hear_news<A: Allocator>(
     ensures limit { neighbours.new.limit ≡ neighbours.old.limit }
     ensures rings { neighbours.new.rings ≡ neighbours.old.rings }
 {
-    addresses_are_told_by_numbers();
-    released_to_the_given_address();
+    nd_addr::laws::addresses_are_told_by_numbers();
+    nd_neighbour::laws::released_to_the_given_address();
     let mac = news.mac();
     match neighbours.heard(now, news, times) {
         Ok(touched) => {
@@ -241,7 +238,7 @@ pub fn tell_use<A: Allocator>(
     ensures one { vec_len outs.new ≤ vec_len outs.old + 1 }
     ensures capacity { vec_capacity outs.new ≡ vec_capacity outs.old }
 {
-    addresses_are_told_by_numbers();
+    nd_addr::laws::addresses_are_told_by_numbers();
     match used {
         Use::Send(destination, packet) => {
             let _bytes = destination.as_bytes();

@@ -26,7 +26,6 @@ ghost use Rattle.nd_slaac.specs.Table as own_addresses;
 
 use crate::destination_cache::keep_if;
 use crate::draws::{MAX_RTR_SOLICITATION_DELAY, drawn_from};
-use nd_addr::laws::addresses_are_told_by_numbers;
 use nd_addr::{Addr, Role};
 use nd_decode::{Body, Options, PrefixInfo};
 use nd_nexthop::Choice;
@@ -39,7 +38,7 @@ use std::alloc::Allocator;
 pub fn link_local<A: Allocator>(addresses: &Addresses<A>) -> Addr
     ensures { result ≡ addr_at (link_local_of addresses.now.mac) }
 {
-    addresses_are_told_by_numbers();
+    nd_addr::laws::addresses_are_told_by_numbers();
     let own = addresses.link_local();
     let _bytes = own.as_bytes();
     own
@@ -99,7 +98,7 @@ pub fn takes_target<A: Allocator>(addresses: &Addresses<A>, source: Addr, body: 
 pub fn is_awake<A: Allocator>(addresses: &Addresses<A>, source: Addr, body: &Body) -> bool
     ensures { (start : Start) (c : Chronicle) → own_addresses.Stands addresses.now.addresses (address_history c) → addresses.now.mac ≡ start.mac → result ≡ is_awake start c source body.now }
 {
-    addresses_are_told_by_numbers();
+    nd_addr::laws::addresses_are_told_by_numbers();
     let own = addresses.link_local();
     let _bytes = own.as_bytes();
     if addresses.counts(Counted::Assigned, own) {

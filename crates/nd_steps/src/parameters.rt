@@ -1,9 +1,12 @@
 //! The parameters of the link (RFC 4861, section 6.3.2).
 
-ghost use Rattle.std.specs.Prelude.{◌≡◌, ◌<◌, ◌^◌, IfSome, is_some};
+ghost use Rattle.std.specs.Prelude.{◌≡◌, ◌∷◌, ◌<◌, ◌^◌, IfSome, is_some};
+ghost use Rattle.rand_core.specs.Stream.{next_u32};
 ghost use Rattle.nd_decode.specs.Pieces.{options_left};
 ghost use Rattle.nd_table.specs.Moment.{IsMoment};
-ghost use Rattle.nd_params.specs.Params.{redraws};
+ghost use Rattle.nd_params.specs.History.{Drew};
+ghost use Rattle.nd_params.specs.Params.{GainsRows, redraws};
+ghost use Rattle.nd_chronicle.specs.Generator as drawn;
 ghost use Rattle.nd_steps.specs.Parameters.{redraw_from, HearsParameters};
 
 use crate::draws::reachable_drawn;
@@ -34,6 +37,17 @@ fn redraw<R: Rng>(generator: &mut R, params: &Params, ra: &RouterAdvertisement) 
         return None;
     }
     Some(reachable_drawn(generator, ra.reachable_time))
+}
+
+/// Draws ReachableTime again at `now`, in milliseconds, from the base in force (RFC 4861, section 6.3.4).
+pub fn redraw_reachable_time<R: Rng>(params: &mut Params, generator: &mut R, now: u64)
+    requires { IsMoment now }
+    ensures stands { GainsRows params.old params.new (λ history. Drew now (drawn.reachable_drawn params.old.base_reachable_time (R.stream generator.old)) ∷ history) }
+    ensures drawn_at { params.new.drawn_at ≡ now }
+    ensures left { R.stream generator.new ≡ (next_u32 (R.stream generator.old)).1 }
+{
+    let value = reachable_drawn(generator, params.base_reachable_time());
+    params.redrawn(now, value);
 }
 
 /// Takes the parameters that a Router Advertisement gives at `now`, in milliseconds. If it changes BaseReachableTime, ReachableTime is drawn from

@@ -1,11 +1,15 @@
 //! The Router Solicitations of a host (RFC 4861, section 6.3.7).
 
 ghost use Rattle.std.specs.Prelude.{◌≡◌, ◌≢◌, ◌+◌, ◌<◌, ◌==◌, ◌||◌, ◌^◌, not, Some, true, false};
+ghost use Rattle.nd_addr.specs.Number.{number_of};
+ghost use Rattle.nd_slaac.specs.View.{falls_of};
 ghost use Rattle.nd_table.specs.Moment.{IsMoment};
-ghost use Rattle.nd_steps.specs.SolicitRouters.{next_solicitation};
+ghost use Rattle.nd_steps.specs.SolicitRouters.{after_address, next_solicitation};
 ghost use Rattle.nd_chronicle.specs.Due.{max_rtr_solicitations};
 
-use nd_addr::Role;
+use nd_addr::{Addr, Role};
+use nd_slaac::Due;
+use nd_table::compare;
 use std::marker::Model;
 
 /// MAX_RTR_SOLICITATIONS (RFC 4861, section 10).
@@ -70,11 +74,27 @@ impl RouterSolicitations {
     }
 
     /// Notes that the link-local address is assigned at `now`, in milliseconds.
-    pub fn assigned(&mut self, now: u64)
+    fn assigned(&mut self, now: u64)
         requires { IsMoment now }
         ensures { self.new ≡ record self.old { assigned = Some now } }
     {
         self.assigned = Some(now);
+    }
+
+    /// Notes what was due at `now`, in milliseconds, for one of the node's own addresses: the first solicitation is sent once the link-local one is
+    /// assigned (RFC 4861, section 6.3.7).
+    pub fn note_address(&mut self, link_local: Addr, now: u64, due: Due)
+        requires { IsMoment now }
+        ensures { self.new ≡ after_address (number_of link_local.0) now (falls_of due) self.old }
+    {
+        match due {
+            Due::Assign(addr) => {
+                if compare(addr, link_local).is_eq() {
+                    self.assigned(now);
+                }
+            }
+            Due::End(_) | Due::Solicit(_) => {}
+        }
     }
 
     /// Takes a Router Advertisement with a lifetime, in seconds. One from a router ends the solicitations; with a lifetime of 0 the sender is no

@@ -13,7 +13,6 @@ ghost use Rattle.nd_chronicle.specs.Histories.{neighbour_history};
 ghost use Rattle.nd_chronicle.specs.Forwarding.{better_hop_frame};
 ghost use Rattle.nd_steps.specs.Transit.{mac_in};
 
-use nd_addr::laws::addresses_are_told_by_numbers;
 use nd_addr::{Addr, Ip6, Ip6Ref, Mac, write_frame};
 use nd_compose::{OPEN_MAC, redirect_frame};
 use nd_message::Redirect;
@@ -74,7 +73,7 @@ pub fn frame_sent_on<A: Allocator>(
 fn known_mac<A: Allocator>(neighbours: &Cache<A>, now: u64, addr: Addr) -> Option<Mac>
     ensures { result ≡ mac_in (entry_in (number_of addr.0) neighbours.now.entries) }
 {
-    addresses_are_told_by_numbers();
+    nd_addr::laws::addresses_are_told_by_numbers();
     let mac = neighbours.entry(now, addr)?.mac?;
     let _bytes = mac.as_bytes();
     Some(mac)

@@ -6,8 +6,6 @@ ghost use Rattle.nd_chronicle.specs.Start.{Start};
 ghost use Rattle.ndpctl_run.specs.Line.{IsLine};
 ghost use Rattle.ndpctl_run.specs.Script.{IsText};
 
-use nd_chronicle::laws::one_chronicle;
-
 /// A line spells at most one moment and one event.
 pub fn one_reading()
     ensures { (line : List ℕ) (at other_at : ℕ) (event other_event : Event) → IsLine line at event → IsLine line other_at other_event
@@ -20,5 +18,5 @@ pub fn one_text()
         → IsText start n lines other_told other_found → (told ≡ other_told) × (found ≡ other_found) }
 {
     one_reading();
-    one_chronicle();
+    nd_chronicle::laws::one_chronicle();
 }

@@ -9,10 +9,8 @@ ghost use Rattle.ndpctl_run.specs.Line.{IsLine};
 ghost use Rattle.ndpctl_run.specs.Said.{SaysNothing};
 ghost use Rattle.ndpctl_run.specs.Script.{IsText};
 
-use crate::laws::one_reading;
 use crate::options::RunOptions;
 use crate::script::Script;
-use nd_chronicle::laws::{one_chronicle, only_grows};
 use nd_lines::input::Input;
 use nd_lines::output::Output;
 use nd_lines::run::run_lines;
@@ -43,9 +41,9 @@ pub fn run_script<I: Input, O: Output, R: Rng + Drop, A: Allocator + Copy>(
     ensures memory { IsErrOf result ToolFault.Memory → TellsToMemory (IsText (starting 0 options.role options.mac options.transmits options.limits (R.stream options.generator))) (SaysNothing IsLine) (I.remaining reader.old) (I.remaining reader.new) (O.contents writer.old) (O.contents writer.new) }
     ensures never_wire { result ≢ Err ToolFault.Wire }
 {
-    one_reading();
-    one_chronicle();
-    only_grows();
+    crate::laws::one_reading();
+    nd_chronicle::laws::one_chronicle();
+    nd_chronicle::laws::only_grows();
     match start(alloc, options) {
         Ok(script) => {
             let mut script = script;

@@ -11,7 +11,6 @@ use nd_lines::input::Input;
 use nd_lines::output::Output;
 use nd_lines::tool_fault::ToolFault;
 use nd_link::{MAX_NODES, MemoryWire, UdpWire};
-use nd_wire::laws::memory_is_faithful;
 use ndpctl_link::{LinkScript, run_link};
 use std::alloc::Allocator;
 use std::io::ErrorKind;
@@ -33,7 +32,7 @@ pub(crate) fn link_over_memory<R: Input, W: Output, A: Allocator + Copy>(
     ensures memory { IsErrOf result ToolFault.Memory → TellsToMemory IsLinkText (SaysNothing IsLinkLine) (R.remaining reader.old) (R.remaining reader.new) (W.contents writer.old) (W.contents writer.new) }
     ensures never_wire { result ≢ Err ToolFault.Wire }
 {
-    memory_is_faithful();
+    nd_wire::laws::memory_is_faithful();
     let mut script = LinkScript::new(alloc, MemoryWire);
     run_link(alloc, reader, writer, &mut script)
 }

@@ -75,5 +75,5 @@ returns-clause-stands g c = λ start c' s.
     redrawn stream start c.args.self.now _ c' c.args.now s c.requires.due
     (record { role = refl; mac = refl; prefixes = refl; dns = refl; address_mac = c.in_default-turn.ensures.mac; address_transmits = c.in_default-turn.ensures.transmits; neighbour_limit = c.in_default-turn-2.ensures.limit; router_limit = c.in_default.ensures.limit; last = refl })
     c.in_default.ensures.same refl c.in_default-turn.ensures.same c.in_default-turn-2.ensures.same (c.if-turn.ensures.same refl) (c.if-turn-2.ensures.same refl)
-    (subst (λ (words : Stream). parameters.GainsRows c.args.self.now.params c.redraw.new.params (λ history. Drew c.args.now (reachable_drawn c.args.self.now.params.base_reachable_time words) ∷ history)) left c.redraw.ensures.stands)
-    c.redraw.ensures.drawn_at (c.redraw.ensures.left ∙ ap (λ (words : Stream). (next_u32 words).1) left)
+    (subst (λ (words : Stream). parameters.GainsRows c.args.self.now.params c.redraw_reachable_time.new.params (λ history. Drew c.args.now (reachable_drawn c.args.self.now.params.base_reachable_time words) ∷ history)) left c.redraw_reachable_time.ensures.stands)
+    c.redraw_reachable_time.ensures.drawn_at (c.redraw_reachable_time.ensures.left ∙ ap (λ (words : Stream). (next_u32 words).1) left)
