@@ -6,7 +6,7 @@ use Rattle.nd_node.specs.Time.{Onward, Passes}
 use Rattle.nd_session.specs.declared.session.Session.{Session}
 use Rattle.nd_c_types.specs.declared.next_hop.NextHopRow.{NextHopRow}
 use Rattle.nd_c.specs.Status.{no_memory, closed, invalid, past}
-use Rattle.nd_c.specs.Event.{LedBy}
+use Rattle.nd_session.specs.Event.{LedBy}
 use Rattle.nd_c.specs.Question.{Writes}
 use Rattle.nd_c.specs.Rows.{HopTo}
 

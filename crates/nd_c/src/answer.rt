@@ -1,17 +1,16 @@
 //! What an event does to the node in a slot, and the status that is returned. The definitions are in `specs/Event.antt` and `specs/Given.antt`.
 
-ghost use Rattle.std.specs.Prelude.{◌≡◌, ◌<◌, OnOk, OnErr};
+ghost use Rattle.std.specs.Prelude.{◌≡◌};
 ghost use Rattle.nd_table.specs.Moment.{IsMoment};
-ghost use Rattle.nd_node.specs.Event.{FollowsBy};
-ghost use Rattle.nd_node.specs.Time.{Onward};
-ghost use Rattle.nd_c.specs.Event.{Answers, Comes, LedBy, answer_of};
+ghost use Rattle.nd_node.specs.Answer.{answer_of};
+ghost use Rattle.nd_session.specs.Event.{Takes};
+ghost use Rattle.nd_c.specs.Event.{Answers, Comes, status_of};
 ghost use Rattle.nd_c.specs.Given.{event_given};
 
 use crate::status::{CLOSED, DONE, INVALID, NO_MEMORY, PAST, REFUSED};
 use nd_addr::Addr;
 use nd_c_types::MOMENT_LIMIT;
-use nd_node::Event;
-use nd_out::Out;
+use nd_node::{Answer, Event};
 use nd_session::{Session, Slot};
 use std::alloc::{AllocError, Global};
 
@@ -41,32 +40,27 @@ pub(crate) fn answer(alloc: Global, node: &mut Slot, now: u64, given: Given<'_>)
     let Some(mut session) = node.take(alloc) else {
         return CLOSED;
     };
-    let status = comes(alloc, &mut session, now, given);
+    let status = comes(&mut session, now, given);
     node.put(session);
     status
 }
 
 /// Gives an event to a session, at `now` in milliseconds, and returns the status.
-fn comes(alloc: Global, session: &mut Session, now: u64, given: Given<'_>) -> i32
+fn comes(session: &mut Session, now: u64, given: Given<'_>) -> i32
     requires { IsMoment now }
     ensures { Comes now (event_given given.entry) result session.old session.new }
 {
-    if now < session.last_moment() {
-        return PAST;
-    }
-    let before = session.reports();
-    match give(alloc, session, now, given) {
-        Ok(()) => answer_of(session, before),
+    match give(session, now, given) {
+        Ok(answer) => status_of(answer),
         Err(_) => NO_MEMORY,
     }
 }
 
 /// Gives an event to a session, at `now` in milliseconds. Returns an error if out of memory: a part of what is due may have been done and reported
 /// then, and the event has added nothing.
-fn give(alloc: Global, session: &mut Session, now: u64, given: Given<'_>) -> Result<(), AllocError>
+fn give(session: &mut Session, now: u64, given: Given<'_>) -> Result<Answer, AllocError>
     requires { IsMoment now }
-    ensures follows { OnOk result (LedBy session.old session.new (FollowsBy now (event_given given.entry))) }
-    ensures onward { OnErr result (LedBy session.old session.new (Onward now)) }
+    ensures { Takes now (event_given given.entry) result session.old session.new }
 {
     match given {
         Given::Event(event) => session.event(now, event),
@@ -76,19 +70,17 @@ fn give(alloc: Global, session: &mut Session, now: u64, given: Given<'_>) -> Res
             destination,
             next_header,
             payload,
-        } => session.send(alloc, now, source, destination, next_header, payload),
+        } => session.send(now, source, destination, next_header, payload),
     }
 }
 
-/// Returns ND_REFUSED if the newest report is a refusal after `before` others, and otherwise ND_DONE.
-fn answer_of(session: &Session, before: usize) -> i32
-    ensures { result ≡ answer_of before session.now.queue }
+/// Returns the status that says how the node took an event. Only the record of a lost packet says that it has no next hop.
+fn status_of(answer: Answer) -> i32
+    ensures { result ≡ status_of (answer_of answer) }
 {
-    if session.reports() <= before {
-        return DONE;
-    }
-    match session.newest() {
-        Some((_, Out::Refused(_))) => REFUSED,
-        _ => DONE,
+    match answer {
+        Answer::Done | Answer::NoRoute => DONE,
+        Answer::Refused(_) => REFUSED,
+        Answer::Past(_) => PAST,
     }
 }

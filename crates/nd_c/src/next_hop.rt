@@ -1,6 +1,5 @@
 //! Next-hop determination as a question (RFC 4861, section 5.2).
 
-ghost use Rattle.std.specs.Prelude.{◌<◌};
 ghost use Rattle.nd_table.specs.Moment.{IsMoment};
 ghost use Rattle.nd_c.specs.NextHop.{Hops, HopAnswer};
 
@@ -39,7 +38,7 @@ fn find_hop(session: &mut Session, now: u64, destination: Addr, row: &mut NextHo
     requires { IsMoment now }
     ensures { Hops now destination result session.old session.new row.old row.new }
 {
-    if now < session.last_moment() {
+    if session.is_past(now) {
         return PAST;
     }
     match session.settle(now) {

@@ -21,7 +21,7 @@ fn tell<R: Copy + Drop>(session: &Session, now: u64, found: Option<R>, row: &mut
     ensures early { now < last_of session.now.node → (result ≡ past) × (row.new ≡ row.old) }
     ensures row { last_of session.now.node ≤ now → Writes found result row.old row.new }
 {
-    if now < session.last_moment() {
+    if session.is_past(now) {
         return PAST;
     }
     write(found, row)

@@ -1,6 +1,6 @@
 //! Values that are numbers in several structures. Their definitions are in `specs/Numbers.antt`.
 
-ghost use Rattle.std.specs.Prelude.{◌≡◌, ◌==◌};
+ghost use Rattle.std.specs.Prelude.{◌≡◌};
 ghost use Rattle.nd_c_types.specs.Numbers.{left_number, preference_in};
 
 use crate::header::FOREVER;

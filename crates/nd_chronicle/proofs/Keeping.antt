@@ -251,7 +251,7 @@ module _ (start : Start) (at : ℕ) (Kept : Chronicle → Type 0) (plain : (what
               (by_target address ∙ false_unless (bytes_eq target.0 address)
               (λ same. true≢false (sym other ∙ (sym (ap (λ (a : List ℕ). is_tentative c a) (bytes_eq_true target.0 address same)) ∙ tentative))))
 
-      message_keeps : (body : Body) → message.body ≡ body → (c d : Chronicle) → MessageAdds start at source destination message body c d → Kept c → Kept d
+      pub message_keeps : (body : Body) → message.body ≡ body → (c d : Chronicle) → MessageAdds start at source destination message body c d → Kept c → Kept d
       message_keeps (bodies.Ns ns) is c d h k = solicited_keeps (bytes_eq source.0 unspecified_address) ns.target c d is refl h k
       message_keeps (bodies.Ra ra) is c d h k = kept_to h.2 (advertised_keeps ra is h.0 (place_for_keeps c (said c source message) h.0 h.1 k))
       message_keeps (bodies.Na na) is c d h k =

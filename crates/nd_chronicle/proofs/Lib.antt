@@ -16,3 +16,4 @@ pub mod Keeping
 pub mod Unrivalled
 pub mod Unchanged
 pub mod Refusals
+pub mod Answering

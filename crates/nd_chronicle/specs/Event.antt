@@ -27,7 +27,7 @@ use Rattle.nd_routers.specs.History.{announcements}
 use Rattle.nd_routers.specs.Routers.{same}
 use Rattle.nd_forwarding.specs.declared.route.Route.{Route}
 use Rattle.nd_chronicle.specs.Start.{Start}
-use Rattle.nd_chronicle.specs.Happening.{Chronicle, Heard, Dropped, Up, Neighbour, LeftRouter, ClearedPrefixes, ClearedRedirects, ClearedDns, Configured, Offered, RoutePut, Sent, Lost, Shown, Limit, Refusal, Disabled, NotOurs, TooLong, Routeless, Forgotten}
+use Rattle.nd_chronicle.specs.Happening.{Chronicle, Heard, Dropped, Up, Neighbour, LeftRouter, ClearedPrefixes, ClearedRedirects, ClearedDns, Configured, Offered, RoutePut, Sent, Lost, Shown, Limit, Refusal, Disabled, NotOurs, TooLong, NoRoute, Forgotten}
 use Rattle.nd_chronicle.specs.Histories.{neighbour_history, router_history}
 use Rattle.nd_chronicle.specs.InForce.{hop_limit, link_mtu, reachable_time}
 use Rattle.nd_chronicle.specs.OwnAddress.{is_assigned, is_disabled}
@@ -130,7 +130,7 @@ module _ (start : Start) (now : ℕ) where
   -- what goes to a multicast address goes out at once (RFC 2464, section 7)
   abbrev pub PacketAdds : NextHop → Addr → Addr → ℕ → List ℕ → Chronicle → Chronicle → Type 0
   PacketAdds no_route source destination next_header payload c d =
-      d ≡ (now, Lost Routeless (packet_frame open_mac source destination next_header payload c)) ∷ c
+      d ≡ (now, Lost NoRoute (packet_frame open_mac source destination next_header payload c)) ∷ c
   PacketAdds direct source destination next_header payload c d =
       MatchBool (holds multicast_prefix destination.0)
       (d ≡ (now, Sent (packet_frame (multicast_mac destination) source destination next_header payload c)) ∷ c)

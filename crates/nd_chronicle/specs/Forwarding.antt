@@ -15,7 +15,7 @@ use Rattle.nd_forwarding.specs.Forward.{Fate, lost_no_route, lost_hop_limit, sen
 use Rattle.nd_forwarding.specs.Redirect.{last_redirect, redirect}
 use Rattle.nd_forwarding.specs.Routes.{routes}
 use Rattle.nd_chronicle.specs.Start.{Start, link_local}
-use Rattle.nd_chronicle.specs.Happening.{Chronicle, Lost, Routeless, Spent, RedirectMade}
+use Rattle.nd_chronicle.specs.Happening.{Chronicle, Lost, NoRoute, HopLimit, RedirectMade}
 use Rattle.nd_chronicle.specs.Histories.{neighbour_history, route_history}
 use Rattle.nd_chronicle.specs.OwnAddress.{is_own}
 use Rattle.nd_chronicle.specs.Packet.{Goes, GoesIfPlaced, HavePlace, no_place}
@@ -61,8 +61,8 @@ module _ (start : Start) (now : ℕ) where
       × UnlessFull now (no_place place) (Redirects target packet bytes key c) c d
 
   abbrev pub FateAdds : Fate → PacketParts → List ℕ → Chronicle → Chronicle → Type 0
-  FateAdds lost_no_route packet bytes c d = d ≡ (now, Lost Routeless (frame_as_it_came packet)) ∷ c
-  FateAdds lost_hop_limit packet bytes c d = d ≡ (now, Lost Spent (frame_as_it_came packet)) ∷ c
+  FateAdds lost_no_route packet bytes c d = d ≡ (now, Lost NoRoute (frame_as_it_came packet)) ∷ c
+  FateAdds lost_hop_limit packet bytes c d = d ≡ (now, Lost HopLimit (frame_as_it_came packet)) ∷ c
   FateAdds (sent next) packet bytes c d =
       SendsOn (redirect (is_own c) (routes (route_history c)) (last_redirect (route_history c)) now packet.header) packet bytes (key_of next packet.header.destination) c d
 

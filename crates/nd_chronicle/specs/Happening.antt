@@ -25,8 +25,8 @@ pub data Loss : Type 0 where
   Unreachable : Loss
   Replaced : Loss
   Forgotten : Loss
-  Routeless : Loss
-  Spent : Loss
+  NoRoute : Loss
+  HopLimit : Loss
 
 -- the tables that have a limit, in the order in which they are asked for room
 pub data Limit : Type 0 where

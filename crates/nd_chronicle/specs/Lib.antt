@@ -18,6 +18,7 @@ pub mod Advertising
 pub mod Forwarding
 pub mod Shown
 pub mod Event
+pub mod Answer
 pub mod Told
 pub mod Growth
 pub mod Places

@@ -13,7 +13,7 @@ use Rattle.nd_decode.specs.declared.body.Body.TheVariants as bodies
 use Rattle.nd_text.specs.Digits.{hex_text}
 use Rattle.nd_neighbour.specs.History as neighbours
 use Rattle.nd_slaac.specs.History as addresses
-use Rattle.nd_chronicle.specs.Happening.{Happening, Passed, Drew, Heard, Dropped, Up, Neighbour, Address, LeftRouter, ClearedPrefixes, ClearedRedirects, ClearedDns, SolicitedRouters, Configured, Offered, Ceased, Advertised, Planned, RoutePut, RedirectMade, Sent, Lost, Refused, Shown, TooLate, Chronicle, Loss, Unreachable, Replaced, Forgotten, Routeless, Spent, Limit, Neighbours, Routers, Prefixes, Addresses, Servers, Names, Offers, StaticRoutes, Refusal, WrongRole, Disabled, NotOurs, TooLong, Full}
+use Rattle.nd_chronicle.specs.Happening.{Happening, Passed, Drew, Heard, Dropped, Up, Neighbour, Address, LeftRouter, ClearedPrefixes, ClearedRedirects, ClearedDns, SolicitedRouters, Configured, Offered, Ceased, Advertised, Planned, RoutePut, RedirectMade, Sent, Lost, Refused, Shown, TooLate, Chronicle, Loss, Unreachable, Replaced, Forgotten, NoRoute, HopLimit, Limit, Neighbours, Routers, Prefixes, Addresses, Servers, Names, Offers, StaticRoutes, Refusal, WrongRole, Disabled, NotOurs, TooLong, Full}
 use Rattle.nd_chronicle.specs.Shown.{key_text}
 
 abbrev pub kind_text : Body → List ℕ
@@ -27,8 +27,8 @@ abbrev pub loss_text : Loss → List ℕ
 loss_text Unreachable = codes "unreachable"
 loss_text Replaced = codes "replaced"
 loss_text Forgotten = codes "forgotten"
-loss_text Routeless = codes "no-route"
-loss_text Spent = codes "hop-limit"
+loss_text NoRoute = codes "no-route"
+loss_text HopLimit = codes "hop-limit"
 
 abbrev pub limit_text : Limit → List ℕ
 limit_text Neighbours = codes "neighbours"

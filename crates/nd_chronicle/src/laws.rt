@@ -12,7 +12,7 @@ ghost use Rattle.nd_slaac.specs.History.{Assigned, Row, RowKind, Solicited};
 ghost use Rattle.nd_slaac.specs.MayCome.{Held};
 ghost use Rattle.nd_slaac.specs.State.{is_assigned, is_known};
 ghost use Rattle.nd_chronicle.specs.Start.{Start, link_local_key};
-ghost use Rattle.nd_chronicle.specs.Happening.{Address, Chronicle, Happening, Heard, Passed};
+ghost use Rattle.nd_chronicle.specs.Happening.{Address, Chronicle, Happening, Heard, Passed, Refusal, Refused};
 ghost use Rattle.nd_chronicle.specs.Histories.{address_history};
 ghost use Rattle.nd_chronicle.specs.OwnAddress.{is_own, is_up, story_of};
 ghost use Rattle.nd_chronicle.specs.Event.{ComeAsBytes, Event, EventAdds, FrameAdds};
@@ -23,7 +23,9 @@ ghost use Rattle.nd_chronicle.specs.Due.{Due};
 ghost use Rattle.nd_chronicle.specs.Growth.{Grows};
 ghost use Rattle.nd_chronicle.specs.History.{IsChronicle, Runs, Walk};
 ghost use Rattle.nd_chronicle.specs.Told.{text};
-ghost use Rattle.nd_chronicle.specs.Refused.{RefusedOrNot};
+ghost use Rattle.nd_chronicle.specs.Refused.{GrowsUnrefused, RefusedOrNot};
+ghost use Rattle.nd_chronicle.specs.Answer as answers;
+ghost use Rattle.nd_chronicle.specs.Answer.{answer_after, is_packet};
 ghost use Rattle.nd_chronicle.specs.Places.{AssignedInRows, HeldInRows, PlaceOf, solicited_with};
 ghost use Rattle.nd_chronicle.specs.Unchanged.{IsUnchanged, changes_nothing};
 
@@ -68,6 +70,14 @@ pub fn refusals_change_nothing()
 /// A refused event adds its refusal alone, and any other adds no refusal: so a refusal is the last row that its event adds.
 pub fn refusals_come_alone()
     ensures { (start : Start) (now : ℕ) (event : Event) (c d : Chronicle) → EventAdds start now event c d → RefusedOrNot now c d }
+{}
+
+/// The answer to an event says what the event added: a refusal alone, or rows none of which is a refusal.
+pub fn answers_say_what_was_added()
+    ensures refused { (start : Start) (now : ℕ) (event : Event) (c d : Chronicle) (refusal : Refusal) → EventAdds start now event ((now, Passed) ∷ c) d
+        → answer_after d (is_packet event) ≡ answers.Refused refusal → d ≡ (now, Refused refusal) ∷ (now, Passed) ∷ c }
+    ensures taken { (start : Start) (now : ℕ) (event : Event) (c d : Chronicle) → EventAdds start now event ((now, Passed) ∷ c) d
+        → answer_after d (is_packet event) ≡ answers.Done → GrowsUnrefused ((now, Passed) ∷ c) d }
 {}
 
 /// The number of one of the node's own addresses is that of an address, and of no multicast address, for any bytes received as frames (RFC 4862,

@@ -43,7 +43,7 @@ use Rattle.nd_slaac.specs.Shown as shown_addresses
 use Rattle.nd_slaac.specs.Table.{key_of}
 use Rattle.nd_slaac.proofs.Showing as showing
 use Rattle.nd_chronicle.specs.Start.{Start}
-use Rattle.nd_chronicle.specs.Happening.{Chronicle, Heard, Dropped, Up, Neighbour, Configured, Offered, RoutePut, ClearedPrefixes, ClearedRedirects, ClearedDns, Sent, Lost, Routeless, Spent, RedirectMade, Shown, Refused, Refusal, WrongRole, Full, Limit, Neighbours}
+use Rattle.nd_chronicle.specs.Happening.{Chronicle, Heard, Dropped, Up, Neighbour, Configured, Offered, RoutePut, ClearedPrefixes, ClearedRedirects, ClearedDns, Sent, Lost, NoRoute, HopLimit, RedirectMade, Shown, Refused, Refusal, WrongRole, Full, Limit, Neighbours}
 use Rattle.nd_chronicle.specs.Histories.{neighbour_history, router_history, prefix_history, address_history, server_history, name_history, route_history, given_or_marked, then_neighbour}
 use Rattle.nd_chronicle.specs.LinkLayerAddress.{first_slla}
 use Rattle.nd_chronicle.specs.InForce.{reachable_time}
@@ -116,13 +116,13 @@ module _ (start : Start) (c : Chronicle) (now : ℕ) where
       abbrev heard_over : Chronicle → Chronicle
       heard_over made = (now, Heard source destination solicitation) ∷ made
 
-      abbrev AnswersBy : Option (ℕ × RowKind) → Chronicle → Type 0
-      AnswersBy news d = (made : Chronicle) × PlaceFor start c now news made
+      abbrev FollowsBy : Option (ℕ × RowKind) → Chronicle → Type 0
+      FollowsBy news d = (made : Chronicle) × PlaceFor start c now news made
           × Goes start (releasing now news (neighbour_history made) (heard_over made)) now (number_of source.0) (answer_frame (is_router start.role) start.mac target source) d
 
       module _ (never : WouldBeFull start.limits.neighbours now (number_of source.0) (neighbour_history c) → ⊥) where
         answered : (news : Option (ℕ × RowKind)) (made : Chronicle) → PlaceFor start c now news made
-            → (WouldBeFull start.limits.neighbours now (number_of source.0) (neighbour_history (heard_over made)) → ⊥) → (d : Chronicle) × AnswersBy news d
+            → (WouldBeFull start.limits.neighbours now (number_of source.0) (neighbour_history (heard_over made)) → ⊥) → (d : Chronicle) × FollowsBy news d
         answered news made place room =
             let g = packet_goes start (releasing now news (neighbour_history made) (heard_over made)) now (number_of source.0) (answer_frame (is_router start.role) start.mac target source)
             (λ full. room (subst (λ (h : List Row). WouldBeFull start.limits.neighbours now (number_of source.0) h) (releasing_rows now news (neighbour_history made) (heard_over made)) full)) in
@@ -130,7 +130,7 @@ module _ (start : Start) (c : Chronicle) (now : ℕ) where
 
         -- with the asker's link-layer address or without it
         answered_by : (mac : Option Mac) → said c source solicitation ≡ given_or_marked (number_of source.0) mac None
-            → (d : Chronicle) × AnswersBy (given_or_marked (number_of source.0) mac None) d
+            → (d : Chronicle) × FollowsBy (given_or_marked (number_of source.0) mac None) d
         answered_by None is = answered None c refl (λ full. never (subst (λ (h : List Row). WouldBeFull start.limits.neighbours now (number_of source.0) h) (heard_rows c None is) full))
           where
             heard_rows : (made : Chronicle) (news : Option (ℕ × RowKind)) → said c source solicitation ≡ news
@@ -151,7 +151,7 @@ module _ (start : Start) (c : Chronicle) (now : ℕ) where
           let news : said c source solicitation ≡ given_or_marked (number_of source.0) (first_slla options) None =
           cond-false (bytes_eq source.0 unspecified_address) None (given_or_marked (number_of source.0) (first_slla options) None) is in
           let a = answered_by (has refl) (first_slla options) news in
-          let b = subst (λ o. AnswersBy o a.0) (sym news) a.1 in
+          let b = subst (λ o. FollowsBy o a.0) (sym news) a.1 in
           (a.0, record { placed = b.0; place = b.1; answer = b.2 })
 
     -- ---- any message, which may have no room
@@ -248,8 +248,8 @@ module _ (start : Start) (c : Chronicle) (now : ℕ) where
       let p = second_told start c now (number_of packet.header.source.0) key in both_go packet bytes key target p.0 p.1
 
   fate_adds : (f : Fate) (packet : PacketParts) (bytes : List ℕ) → (d : Chronicle) × FateAdds start now f packet bytes c d
-  fate_adds lost_no_route packet bytes = ((now, Lost Routeless (frame_as_it_came start now packet)) ∷ c, refl)
-  fate_adds lost_hop_limit packet bytes = ((now, Lost Spent (frame_as_it_came start now packet)) ∷ c, refl)
+  fate_adds lost_no_route packet bytes = ((now, Lost NoRoute (frame_as_it_came start now packet)) ∷ c, refl)
+  fate_adds lost_hop_limit packet bytes = ((now, Lost HopLimit (frame_as_it_came start now packet)) ∷ c, refl)
   fate_adds (sent next) packet bytes =
       sends_on (redirect (is_own c) (routes (route_history c)) (last_redirect (route_history c)) now packet.header) packet bytes (hop_key next packet.header.destination)
 

@@ -14,6 +14,7 @@ use Rattle.nd_out.specs.declared.out.Out.{Out}
 use Rattle.nd_steps.specs.Outputs as effects
 use Rattle.nd_steps.specs.Outputs.{frames_in, happenings}
 use Rattle.nd_node.specs.declared.node.Node.{Node}
+use Rattle.nd_chronicle.specs.Answer.{Answer}
 use Rattle.nd_node.specs.Event.{AddsEvent}
 use Rattle.nd_node.specs.Node as node
 use Rattle.nd_node.specs.Node.{next_of}
@@ -130,7 +131,7 @@ module _ (now node_number : ℕ) (log : Log) where
   }
 
 module _ {W R A : Type 0} (stream : R → Stream) (old new : Link W R A) (list : List (Node R A)) (n n' : Node R A) (x y : List (Told A)) (outs : List (ℕ × Out A)) (now place : ℕ) (event : events.Event)
-    (p : OthersPass stream now place old.nodes.items list) (is : slice_get list place ≡ Some n) (adds : AddsEvent stream n n' [] outs now event) (nodes_are : new.nodes.items ≡ set list place n')
+    (p : OthersPass stream now place old.nodes.items list) (is : slice_get list place ≡ Some n) {answer : Answer} (adds : AddsEvent stream n n' [] outs now event answer) (nodes_are : new.nodes.items ≡ set list place n')
     (last_is : new.last ≡ now) (in_time : old.last ≤ now) (kept : kept_frames new.frames.items ≡ kept_frames old.frames.items ++ of_sender place (frames_in (happenings outs)))
     (tells : TellsReports x y (flat_map (node_reports place) (happenings outs))) (carried : Option ℕ) where
   module _ (log : Log) (s : Stands stream old log) where
@@ -150,7 +151,7 @@ module _ {W R A : Type 0} (stream : R → Stream) (old new : Link W R A) (list :
     base = carrying now place carried (reached now log)
 
     abbrev added : (d : Chronicle) × EventAdds o.start now event c d × node.Stands stream o.start n' d × effects.Tells (chronicle_of place log) d [] outs
-    added = adds.each o.start (chronicle_of place log) o.stands (let by = o.by_then in let more = before in omega (arith, by, more))
+    added = let a = adds.each o.start (chronicle_of place log) o.stands (let by = o.by_then in let more = before in omega (arith, by, more)) in (a.0, a.1, a.2, a.3)
 
     abbrev rows : Chronicle
     rows = (event_grows o.start now c event added.0 added.1).newer

@@ -23,8 +23,8 @@ pub fn each_link_has_a_log()
 /// one tries that address, and its first solicitation is carried to the first one in the millisecond in which it is sent; the first one answers it.
 /// The log of these events is timely for each time below 500 milliseconds, loses little, and one node holds an address in it.
 ///
-/// It ends with that answer. So it shows that the premises can be met where an address is held and a rival's frame arrives in time, and nothing of
-/// what comes later. Of a timely link on which more frames are carried it shows nothing.
+/// It ends with that answer. So it shows that the premises can be met where an address is held and a rival's frame arrives in time. It shows nothing
+/// of a longer run, nor of a timely link on which more frames are carried.
 pub fn premises_are_met_by_a_run()
     ensures { (limits : Limits) (mac : Mac) (transmits : ℕ) (words others : Stream) → AreBytes 6 mac.0 → 0 < transmits
         → (events : List (ℕ × Event)) × (log : Log) × MeetsPremises limits events log }

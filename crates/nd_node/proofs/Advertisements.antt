@@ -44,6 +44,8 @@ use Rattle.nd_steps.specs.Outputs.{at_moment, happenings, Tells}
 use Rattle.nd_steps.proofs.Quiet.{Quiet}
 use Rattle.nd_steps.proofs.Saying.{NoneOverdueStill, OneGoes, OverdueByTable, none_before_said, releasing_is_quiet, releasing_items}
 use Rattle.nd_steps.proofs.Telling.{one, above_silent, Tells-then, one_more}
+use Rattle.nd_chronicle.specs.Answer.{Done}
+use Rattle.nd_chronicle.proofs.Answering.{message_done}
 use Rattle.nd_node.specs.declared.node.Node.{Node}
 use Rattle.nd_node.specs.Hearing.{AddsMessage}
 use Rattle.nd_node.specs.Node.{next_of}
@@ -156,7 +158,7 @@ module _ {R A : Type 0} (stream : R → Stream) (old new : Node R A) (x room y1 
     (first second : choice.Table) (holds : first ≡ (if tentative then record old.choice { memory = forgotten old.choice.memory } else old.choice)) (may : MayRemember first second old.neighbours.entries new.neighbours.entries)
     (leaves : Leaves now (number_of na.target.0) ends old.routers new.routers second new.choice y3 z left)
     (routers_settled : IsSettled new.routers.entries now) where
-  pub adds_advertisement : AddsMessage stream old new x z now source destination (advertisement na options)
+  pub adds_advertisement : AddsMessage stream old new x z now source destination (advertisement na options) Done
   adds_advertisement = record {
     each = λ start c s le takes.
         let key : ℕ = number_of na.target.0 in
@@ -223,5 +225,6 @@ module _ {R A : Type 0} (stream : R → Stream) (old new : Node R A) (x room y1 
           ),
           stands',
           Tells-then c e0 d x y1 z heard_items (Tells-then e0 e1 d y1 y2 z conflict_items (Tells-then e1 e2 d y2 y3 z frames_items left_items)),
+          sym (message_done start now source destination message later d refl (later, record { pushed = None; place = refl; with_it = refl }, refl)),
         );
   }

@@ -44,6 +44,8 @@ use Rattle.nd_steps.specs.Outputs.{at_moment, happenings, Tells}
 use Rattle.nd_steps.proofs.Quiet.{Quiet}
 use Rattle.nd_steps.proofs.Saying.{NoneOverdueStill, OneGoes, Others, OverdueByTable, none_before_said, placed_by, released_kept, releasing_is_quiet, releasing_items}
 use Rattle.nd_steps.proofs.Telling.{handed_out, Tells-then}
+use Rattle.nd_chronicle.specs.Answer as answers
+use Rattle.nd_chronicle.proofs.Answering.{goes_done}
 use Rattle.nd_node.specs.declared.node.Node.{Node}
 use Rattle.nd_node.specs.Node.{Stands, next_of}
 use Rattle.nd_node.specs.Packet.{PacketGoes}
@@ -174,7 +176,7 @@ module _ (start : Start) (now : ℕ) (source destination : Addr) (ns : NeighborS
 module _ {R A : Type 0} (stream : R → Stream) (old new : Node R A) (x y : List (ℕ × Out A)) (now : ℕ) (source destination : Addr) (ns : NeighborSolicitation) (options : List Said)
     (from : bytes_eq source.0 unspecified_address ≡ false) (settled : now < next_of old) where
   pub refused : FullByHistory → has_room old.neighbours.limit now (number_of source.0) None old.neighbours.entries ≡ false
-      → AddsAlone stream old new x y now (Refused (Full Neighbours)) → AddsMessage stream old new x y now source destination (solicitation ns options)
+      → AddsAlone stream old new x y now (Refused (Full Neighbours)) → AddsMessage stream old new x y now source destination (solicitation ns options) (answers.Refused (Full Neighbours))
   refused law room adds = record {
     each = λ start c s le takes.
         let a = adds.each start c s le in
@@ -186,6 +188,7 @@ module _ {R A : Type 0} (stream : R → Stream) (old new : Node R A) (x y : List
           adds_refusal start now source destination ns options later d from (refl, would) refl,
           a.0,
           a.1,
+          refl,
         );
   }
 
@@ -254,7 +257,7 @@ module _ {R A : Type 0} (stream : R → Stream) (old mid : Node R A) (x room y z
       → has_room old.neighbours.limit now (number_of source.0) None old.neighbours.entries ≡ true
       → (router : Bool) → router ≡ is_router old.role → (packet : List ℕ) → packet ≡ answer_frame router old.mac ns.target source
       → Leads stream mid new z w (PacketGoes now (number_of source.0) packet)
-      → AddsMessage stream old new x w now source destination (solicitation ns options)
+      → AddsMessage stream old new x w now source destination (solicitation ns options) answers.Done
   answered new w from room_is_place full_by_history has router router_is packet packet_is goes = record {
     each = λ start c s le takes.
         let key : ℕ = number_of source.0 in
@@ -272,5 +275,6 @@ module _ {R A : Type 0} (stream : R → Stream) (old mid : Node R A) (x room y z
               (record { placed = t.placed; place = t.place; answer = subst (λ (f : List ℕ). Goes start after now key f g.0) frame_is g.1 }),
           g.2,
           Tells-then c after g.0 x z w t.tells g.3,
+          sym (goes_done start after now key packet g.0 false g.1),
         );
   }

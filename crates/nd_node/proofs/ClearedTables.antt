@@ -35,6 +35,8 @@ use Rattle.nd_steps.specs.Outputs.{happenings}
 use Rattle.nd_steps.specs.RouterTables.{router_side}
 use Rattle.nd_steps.proofs.Quiet.{losing_is_quiet}
 use Rattle.nd_steps.proofs.Telling.{lost_at, lost_items, left_at, numbers}
+use Rattle.nd_chronicle.specs.Answer.{Done}
+use Rattle.nd_chronicle.proofs.Answering.{clearing_done}
 use Rattle.nd_node.specs.declared.node.Node.{Node}
 use Rattle.nd_node.specs.Event.{AddsEvent}
 use Rattle.nd_node.specs.Node.{Stands, next_of}
@@ -112,7 +114,7 @@ cleared_dns now = record { parameters = λ c. refl; neighbours = λ c. refl; rou
 module _ {R A : Type 0} (stream : R → Stream) (old new : Node R A) (outs : List (ℕ × Out A)) (now : ℕ) (settled : now < next_of old) where
   pub clears_prefixes : (ps : List (Lasting PrefixValue)) (rs : choice.Table) → ps ≡ [] → rs ≡ record old.choice { memory = record { hops = []; until = None } } → new ≡ record old { last = now; prefixes = ps; choice = rs }
       → ((at : ℕ) (history : List (lifetimes.Row PrefixValue)) → lists.Stands same_prefix ps (lifetimes.Cleared at ∷ history))
-      → AddsEvent stream old new outs outs now (events.Clears events.ClearPrefixes)
+      → AddsEvent stream old new outs outs now (events.Clears events.ClearPrefixes) Done
   clears_prefixes ps rs none forgot is stands = record {
     each = λ start c s le.
         let later' : Chronicle = (now, Passed) ∷ c in (
@@ -122,11 +124,12 @@ module _ {R A : Type 0} (stream : R → Stream) (old new : Node R A) (outs : Lis
               (stands now (prefix_history c)) s.dns (redirects_stand old.choice rs (redirect_history c) (ap (λ (t : choice.Table). t.redirects) forgot) s.redirects) (omega arith) (omega (arith, s.servers_by_then, le)) (omega (arith, s.names_by_then, le))
               (rw (none, forgot) (remembers_nothing now _ old.addresses.addresses [] old.neighbours.entries old.routers refl (λ moment after asked. refl)))),
           record { newer = []; told = append-nil (items later'); outs = sym (append-nil (happenings outs)) },
+          refl,
         );
   }
 
   pub clears_redirects : (rs : choice.Table) → new ≡ record old { last = now; choice = rs } → choice.GainsRow old.choice rs (redirect_rows.Cleared now) → rs.memory ≡ forgotten old.choice.memory
-      → AddsEvent stream old new outs outs now (events.Clears events.ClearRedirects)
+      → AddsEvent stream old new outs outs now (events.Clears events.ClearRedirects) Done
   clears_redirects rs is gains forgot = record {
     each = λ start c s le.
         let later' : Chronicle = (now, Passed) ∷ c in (
@@ -137,12 +140,13 @@ module _ {R A : Type 0} (stream : R → Stream) (old new : Node R A) (outs : Lis
               (omega (arith, s.prefixes_by_then, le)) (omega (arith, s.servers_by_then, le)) (omega (arith, s.names_by_then, le))
               (forgets_all old (record old { last = now; choice = rs }) old.last now (omega (arith, s.last, le)) s.memo refl forgot)),
           record { newer = []; told = append-nil (items later'); outs = sym (append-nil (happenings outs)) },
+          refl,
         );
   }
 
   pub clears_dns : (ds : dns.Table) → new ≡ record old { last = now; dns = ds }
       → ((at : ℕ) (servers : List (lifetimes.Row Addr)) (names : List (lifetimes.Row (List ℕ))) → dns.Stands ds (lifetimes.Cleared at ∷ servers) (lifetimes.Cleared at ∷ names))
-      → AddsEvent stream old new outs outs now (events.Clears events.ClearDns)
+      → AddsEvent stream old new outs outs now (events.Clears events.ClearDns) Done
   clears_dns ds is stands = record {
     each = λ start c s le.
         let later' : Chronicle = (now, Passed) ∷ c in (
@@ -152,6 +156,7 @@ module _ {R A : Type 0} (stream : R → Stream) (old new : Node R A) (outs : Lis
               s.prefixes (stands now (server_history c) (name_history c)) s.redirects (omega (arith, s.prefixes_by_then, le)) (omega arith) (omega arith)
               (remembers_later old.last now old.choice old.addresses.addresses old.prefixes old.neighbours.entries old.routers (omega (arith, s.last, le)) s.memo)),
           record { newer = []; told = append-nil (items later'); outs = sym (append-nil (happenings outs)) },
+          refl,
         );
   }
 
@@ -210,7 +215,7 @@ module _ {R A : Type 0} (stream : R → Stream) (old new : Node R A) (x room y :
     (same : Same (record old { last = now }) new) (is : new.addresses ≡ old.addresses) (may : MayRemember old.choice new.choice old.neighbours.entries new.neighbours.entries) where
   pub clears_neighbours : ((at : ℕ) (history : List rows.Row) → neighbours.Stands old.neighbours.entries history → neighbours.Stands new.neighbours.entries (cleared at old.neighbours.entries history))
       → new.neighbours.entries ≡ [] → (packets : List (List ℕ)) → packets ≡ all_waiting old.neighbours.entries → room ≡ x → happenings y ≡ happenings room ++ lost_at now Forgotten packets
-      → AddsEvent stream old new x y now (events.Clears events.ClearNeighbours)
+      → AddsEvent stream old new x y now (events.Clears events.ClearNeighbours) Done
   clears_neighbours stands none packets packets_are reserved told = record {
     each = λ start c s le.
         let entries : List neighbour_entries.NeighbourEntry = old.neighbours.entries in
@@ -229,6 +234,7 @@ module _ {R A : Type 0} (stream : R → Stream) (old new : Node R A) (x room y :
             outs = told ∙ (ap (λ (r : List (ℕ × Out A)). happenings r ++ lost_at now Forgotten packets) reserved
                 ∙ ap (λ (p : List (List ℕ)). happenings x ++ lost_at now Forgotten p) packets_are);
           },
+          sym (clearing_done start now entries later' refl),
         );
   }
 
@@ -304,7 +310,7 @@ module _ {R A : Type 0} (stream : R → Stream) (old new : Node R A) (x room y :
   pub clears_routers : ((at : ℕ) (history : List router_rows.RouterRow) → routers.Stands old.routers history → routers.Stands new.routers (then_left at (keys old.routers.entries) history))
       → new.routers.entries ≡ [] → choice.GainsRow old.choice new.choice (redirect_rows.Cleared now) → new.choice.memory ≡ forgotten old.choice.memory
       → (addrs : List Addr) → numbers addrs ≡ keys old.routers.entries → room ≡ x → happenings y ≡ happenings room ++ left_at now (numbers addrs)
-      → AddsEvent stream old new x y now (events.Clears events.ClearRouters)
+      → AddsEvent stream old new x y now (events.Clears events.ClearRouters) Done
   clears_routers stands none gains forgot addrs addrs_are reserved told = record {
     each = λ start c s le.
         let es : List (Lasting ℕ) = old.routers.entries in
@@ -334,5 +340,6 @@ module _ {R A : Type 0} (stream : R → Stream) (old new : Node R A) (x room y :
             told = append-nil (items mid) ∙ (left.told ∙ ap (λ (t : List (ℕ × Told)). t ++ flat_map items_at (left_at now those)) (append-nil (items c)));
             outs = told ∙ (ap (λ (r : List (ℕ × Out A)). happenings r ++ left_at now (numbers addrs)) reserved ∙ ap (λ (l : List ℕ). happenings x ++ left_at now l) addrs_are);
           },
+          refl,
         );
   }

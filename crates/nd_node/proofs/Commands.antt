@@ -22,6 +22,8 @@ use Rattle.nd_steps.specs.Outputs.{happenings}
 use Rattle.nd_steps.proofs.Quiet.{losing_is_quiet}
 use Rattle.nd_steps.proofs.Saying.{NoneOverdueStill, OverdueByTable}
 use Rattle.nd_steps.proofs.Telling.{lost_at, lost_items}
+use Rattle.nd_chronicle.specs.Answer.{Done}
+use Rattle.nd_chronicle.proofs.Answering.{losing_done}
 use Rattle.nd_node.specs.declared.node.Node.{Node}
 use Rattle.nd_node.specs.Event.{AddsEvent}
 use Rattle.nd_node.specs.Node.{Stands, next_of}
@@ -53,7 +55,7 @@ module _ {R A : Type 0} (stream : R → Stream) (old new : Node R A) (now : ℕ)
   -- it is confirmed, at the ReachableTime in force
   pub confirms : (reachable : ℕ) → reachable ≡ old.params.reachable_time
       → neighbours.GainsRow old.neighbours.entries new.neighbours.entries (now, number_of neighbour.0, rows.Confirmed reachable)
-      → (outs : List (ℕ × Out A)) → AddsEvent stream old new outs outs now (events.Confirms neighbour)
+      → (outs : List (ℕ × Out A)) → AddsEvent stream old new outs outs now (events.Confirms neighbour) Done
   confirms reachable reachable_is gains outs = record {
     each = λ start c s le.
         let key : ℕ = number_of neighbour.0 in
@@ -66,13 +68,14 @@ module _ {R A : Type 0} (stream : R → Stream) (old new : Node R A) (now : ℕ)
           refl,
           row_stands kind (λ h. refl) (λ h. refl) start c s le stands',
           record { newer = []; told = append-nil (items later); outs = sym (append-nil (happenings outs)) },
+          refl,
         );
   }
 
   -- it is forgotten, and what waited for it is lost
   pub forgets : (x room y : List (ℕ × Out A)) (packets : List (List ℕ)) → neighbours.GainsRow old.neighbours.entries new.neighbours.entries (now, number_of neighbour.0, rows.Forgot rows.Removed)
       → ((history : List rows.Row) → neighbours.Stands old.neighbours.entries history → packets ≡ waits_of (story (number_of neighbour.0) history))
-      → room ≡ x → happenings y ≡ happenings room ++ lost_at now Forgotten packets → AddsEvent stream old new x y now (events.Forgets neighbour)
+      → room ≡ x → happenings y ≡ happenings room ++ lost_at now Forgotten packets → AddsEvent stream old new x y now (events.Forgets neighbour) Done
   forgets x room y packets gains packets_are reserved told = record {
     each = λ start c s le.
         let key : ℕ = number_of neighbour.0 in
@@ -90,5 +93,6 @@ module _ {R A : Type 0} (stream : R → Stream) (old new : Node R A) (now : ℕ)
             outs = told ∙ (ap (λ (r : List (ℕ × Out A)). happenings r ++ lost_at now Forgotten packets) reserved
                 ∙ ap (λ (p : List (List ℕ)). happenings x ++ lost_at now Forgotten p) (packets_are (neighbour_history c) s.neighbours));
           },
+          sym (losing_done now Forgotten waited row refl),
         );
   }

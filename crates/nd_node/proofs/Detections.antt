@@ -32,6 +32,7 @@ use Rattle.nd_out.specs.Out.{happening}
 use Rattle.nd_steps.specs.Outputs.{happenings, Tells}
 use Rattle.nd_steps.proofs.Quiet.{Quiet, sent_is_quiet}
 use Rattle.nd_steps.proofs.Telling.{handed_out}
+use Rattle.nd_chronicle.specs.Answer.{Done}
 use Rattle.nd_node.specs.declared.node.Node.{Node}
 use Rattle.nd_node.specs.Node.{Stands, next_of}
 use Rattle.nd_node.specs.Hearing.{AddsMessage}
@@ -138,7 +139,7 @@ module _ {R A : Type 0} (stream : R → Stream) (old new : Node R A) (x room y z
       → Same (record old { last = now }) new → new.choice ≡ record old.choice { memory = forgotten old.choice.memory } → new.neighbours ≡ old.neighbours
       → ((history : List rows.Row) → addresses.Stands old.addresses.addresses history → true ≡ states.is_tentative (story (number_of ns.target.0) history))
       → addresses.GainsRow old.addresses.addresses new.addresses.addresses (now, number_of ns.target.0, rows.Conflict)
-      → AddsMessage stream old new x z now source destination (solicitation ns options)
+      → AddsMessage stream old new x z now source destination (solicitation ns options) Done
   duplicates still table second_is same forgot others tentative gains = record {
     each = λ start c s le takes.
         let key : ℕ = number_of ns.target.0 in
@@ -158,6 +159,7 @@ module _ {R A : Type 0} (stream : R → Stream) (old new : Node R A) (x room y z
               (sym (ap (λ (b : Bool). if b then (now, Sent (defence_frame (is_router start.role) start.mac ns.target)) ∷ before else d) not_assigned)),
           stands_addresses stream start mid new before d now same (conflict_beside now key before) (heard_at start c mid refl s le) refl refl others refl stands' later forgot,
           tells start c (Address key rows.Conflict) second_is,
+          refl,
         );
   }
 
@@ -165,7 +167,7 @@ module _ {R A : Type 0} (stream : R → Stream) (old new : Node R A) (x room y z
   pub defends : (router : Bool) → router ≡ is_router old.role → happening second ≡ Sent (defence_frame router old.mac ns.target)
       → new ≡ record old { last = now }
       → ((history : List rows.Row) → addresses.Stands old.addresses.addresses history → false ≡ states.is_tentative (story (number_of ns.target.0) history))
-      → AddsMessage stream old new x z now source destination (solicitation ns options)
+      → AddsMessage stream old new x z now source destination (solicitation ns options) Done
   defends router router_is second_is is tentative = record {
     each = λ start c s le takes.
         let key : ℕ = number_of ns.target.0 in
@@ -181,5 +183,6 @@ module _ {R A : Type 0} (stream : R → Stream) (old new : Node R A) (x room y z
               (sym (ap (λ (b : Bool). if b then d else (now, Address key rows.Conflict) ∷ before) assigned)),
           stands_quiet stream start new before d (sent_is_quiet now frame before (λ a. refl)) (heard_at start c new is s le),
           tells start c (Sent frame) (second_is ∙ ap Sent frame_is),
+          refl,
         );
   }

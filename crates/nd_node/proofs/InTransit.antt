@@ -25,7 +25,7 @@ use Rattle.nd_forwarding.specs.Routes.{routes}
 use Rattle.nd_forwarding.specs.Table as route_tables
 use Rattle.nd_slaac.specs.PrefixOption.{link_local_of}
 use Rattle.nd_chronicle.specs.Start.{Start, link_local}
-use Rattle.nd_chronicle.specs.Happening.{Chronicle, Full, Loss, Lost, Neighbours, Passed, RedirectMade, Refused, Routeless, Spent, last_moment}
+use Rattle.nd_chronicle.specs.Happening.{Chronicle, Full, Loss, Lost, Neighbours, Passed, RedirectMade, Refused, NoRoute, HopLimit, last_moment}
 use Rattle.nd_chronicle.specs.Histories.{neighbour_history, route_history}
 use Rattle.nd_chronicle.specs.OwnAddress.{is_own}
 use Rattle.nd_chronicle.specs.Event.{packet_bytes}
@@ -36,6 +36,8 @@ use Rattle.nd_steps.specs.Outputs.{Tells, happenings}
 use Rattle.nd_steps.specs.declared.router_tables.RouterTables.{RouterTables}
 use Rattle.nd_steps.proofs.Telling.{Tells-then}
 use Rattle.nd_steps.proofs.InTransit.{as_it_came, payload_fits, sent_on}
+use Rattle.nd_chronicle.specs.Answer as answers
+use Rattle.nd_chronicle.proofs.Answering.{goes_done}
 use Rattle.nd_node.specs.declared.node.Node.{Node}
 use Rattle.nd_node.specs.Forwarding.{AddsForwarded, AddsLostInTransit, AddsOnward, AddsSentOn}
 use Rattle.nd_node.specs.Frame.{AddsAlone}
@@ -85,22 +87,23 @@ module _ {R A : Type 0} (stream : R → Stream) (old new : Node R A) (x y : List
   }
 
   module _ (key : ℕ) (bytes frame : List ℕ) where
-    pub sent_alone : frame ≡ written_frame open_mac old.mac (record packet.header { hop_limit = packet.header.hop_limit - 1 }) packet.payload → AddsToNeighbour stream old new x y now key frame
-        → AddsSentOn stream old new x y now key None packet bytes
-    sent_alone is adds = record {
+    pub sent_alone : {answer : answers.Answer} → frame ≡ written_frame open_mac old.mac (record packet.header { hop_limit = packet.header.hop_limit - 1 }) packet.payload → AddsToNeighbour stream old new x y now key frame answer
+        → AddsSentOn stream old new x y now key None packet bytes answer
+    sent_alone {answer} is adds = record {
       each = λ start c s le.
           let a = adds.each start c s le in (
             a.0,
             subst (λ (f : List ℕ). GoesIfPlaced start now key f ((now, Passed) ∷ c) a.0) (sent_on start now old.mac packet frame (sym s.mac) is) a.1,
             a.2,
             a.3,
+            a.4 false,
           );
     }
 
     -- ---- a Redirect and it are refused
 
     pub both_refused : (target : Addr) (room : Bool) → SaysRoom old now (number_of packet.header.source.0) key room → room ≡ false → AddsAlone stream old new x y now (Refused (Full Neighbours))
-        → AddsSentOn stream old new x y now key (Some target) packet bytes
+        → AddsSentOn stream old new x y now key (Some target) packet bytes (answers.Refused (Full Neighbours))
     both_refused target room says is adds = record {
       each = λ start c s le.
           let a = adds.each start c s le in
@@ -111,6 +114,7 @@ module _ {R A : Type 0} (stream : R → Stream) (old new : Node R A) (x y : List
             (false, no_room, refl),
             a.0,
             a.1,
+            refl,
           );
     }
 
@@ -127,7 +131,7 @@ module _ {R A : Type 0} (stream : R → Stream) (old mid made sent new : Node R 
       → redirecting ≡ better_hop_frame start moment target packet bytes c)
       → frame ≡ written_frame open_mac old.mac (record packet.header { hop_limit = packet.header.hop_limit - 1 }) packet.payload
       → Leads stream made sent w v (PacketGoes now (number_of packet.header.source.0) redirecting) → Leads stream sent new v y (PacketGoes now key frame)
-      → AddsSentOn stream old new x y now key (Some target) packet bytes
+      → AddsSentOn stream old new x y now key (Some target) packet bytes answers.Done
   both_go room says is keeps same tables made_is advertiser gains own_is redirecting_is frame_is redirect_goes goes = record {
     each = λ start c s le.
         let first : ℕ = number_of packet.header.source.0 in
@@ -157,6 +161,7 @@ module _ {R A : Type 0} (stream : R → Stream) (old mid made sent new : Node R 
           ),
           g.2,
           Tells-then c redirected d x w y nothing (Tells-then redirected told d w v y r.3 g.3),
+          sym (goes_done start told now key frame d false g.1),
         );
   }
 
@@ -168,8 +173,8 @@ module _ {R A : Type 0} (stream : R → Stream) (old new : Node R A) (x y : List
   SaysRedirect target = (is_mine : List ℕ → Bool) → is_mine packet.header.destination.0 ≡ own → (history : List route_rows.Row) → route_tables.Stands old.router.routes history
       → target ≡ redirect is_mine (routes history) (last_redirect history) now packet.header
 
-  pub onward : (key : ℕ) (target : Option Addr) → SaysRedirect target → AddsSentOn stream old new x y now key target packet bytes → AddsOnward stream old new x y now key own packet bytes
-  onward key target says adds = record {
+  pub onward : (key : ℕ) (target : Option Addr) {answer : answers.Answer} → SaysRedirect target → AddsSentOn stream old new x y now key target packet bytes answer → AddsOnward stream old new x y now key own packet bytes answer
+  onward key target {answer} says adds = record {
     each = λ start c s le mine.
         let a = adds.each start c s le in
         let later : Chronicle = (now, Passed) ∷ c in (
@@ -177,6 +182,7 @@ module _ {R A : Type 0} (stream : R → Stream) (old new : Node R A) (x y : List
           subst (λ (t : Option Addr). SendsOn start now t packet bytes key later a.0) (says (is_own c) mine (route_history c) s.router.routes) a.1,
           a.2,
           a.3,
+          a.4,
         );
   }
 
@@ -189,12 +195,12 @@ module _ {R A : Type 0} (stream : R → Stream) (old new : Node R A) (x y : List
   SaysOwn = (start : Start) (c : Chronicle) → Stands stream start old c → is_own c packet.header.destination.0 ≡ own
 
   -- what it adds by its fate
-  abbrev pub AddsFate : Fate → Type 0
-  AddsFate f = (start : Start) (c : Chronicle) → Stands stream start old c → last_moment start.at c ≤ now → is_own c packet.header.destination.0 ≡ own
-      → (d : Chronicle) × FateAdds start now f packet bytes ((now, Passed) ∷ c) d × Stands stream start new d × Tells c d x y
+  abbrev pub AddsFate : Fate → answers.Answer → Type 0
+  AddsFate f answer = (start : Start) (c : Chronicle) → Stands stream start old c → last_moment start.at c ≤ now → is_own c packet.header.destination.0 ≡ own
+      → (d : Chronicle) × FateAdds start now f packet bytes ((now, Passed) ∷ c) d × Stands stream start new d × Tells c d x y × (answer ≡ answers.answer_after d false)
 
-  pub forwarded : (f : Fate) → SaysFate f → SaysOwn → AddsFate f → AddsForwarded stream old new x y now packet bytes
-  forwarded f says owns adds = record {
+  pub forwarded : (f : Fate) {answer : answers.Answer} → SaysFate f → SaysOwn → AddsFate f answer → AddsForwarded stream old new x y now packet bytes answer
+  forwarded f {answer} says owns adds = record {
     each = λ start c s le.
         let mine = owns start c s in
         let a = adds start c s le mine in
@@ -203,23 +209,25 @@ module _ {R A : Type 0} (stream : R → Stream) (old new : Node R A) (x y : List
           subst (λ (f' : Fate). FateAdds start now f' packet bytes later a.0) (says (is_own c) mine (route_history c) s.router.routes) a.1,
           a.2,
           a.3,
+          a.4,
         );
   }
 
-  pub no_route : AddsLostInTransit stream old new x y now Routeless packet → AddsFate lost_no_route
-  no_route adds = λ start c s le mine. let a = adds.each start c s le in ((now, Lost Routeless (frame_as_it_came start now packet)) ∷ (now, Passed) ∷ c, refl, a.0, a.1)
+  pub no_route : AddsLostInTransit stream old new x y now NoRoute packet → AddsFate lost_no_route answers.Done
+  no_route adds = λ start c s le mine. let a = adds.each start c s le in ((now, Lost NoRoute (frame_as_it_came start now packet)) ∷ (now, Passed) ∷ c, refl, a.0, a.1, refl)
 
-  pub spent : AddsLostInTransit stream old new x y now Spent packet → AddsFate lost_hop_limit
-  spent adds = λ start c s le mine. let a = adds.each start c s le in ((now, Lost Spent (frame_as_it_came start now packet)) ∷ (now, Passed) ∷ c, refl, a.0, a.1)
+  pub spent : AddsLostInTransit stream old new x y now HopLimit packet → AddsFate lost_hop_limit answers.Done
+  spent adds = λ start c s le mine. let a = adds.each start c s le in ((now, Lost HopLimit (frame_as_it_came start now packet)) ∷ (now, Passed) ∷ c, refl, a.0, a.1, refl)
 
-  pub goes_on_to : (next : NextHop) (those : List ℕ) → those ≡ bytes → AddsOnward stream old new x y now (key_of next packet.header.destination) own packet those → AddsFate (sent next)
-  goes_on_to next those is adds = λ start c s le mine.
+  pub goes_on_to : (next : NextHop) (those : List ℕ) {answer : answers.Answer} → those ≡ bytes → AddsOnward stream old new x y now (key_of next packet.header.destination) own packet those answer → AddsFate (sent next) answer
+  goes_on_to next those {answer} is adds = λ start c s le mine.
       let a = adds.each start c s le mine in
       let later : Chronicle = (now, Passed) ∷ c in (
         a.0,
         subst (λ (b : List ℕ). SendsOn start now (redirect (is_own c) (routes (route_history c)) (last_redirect (route_history c)) now packet.header) packet b (key_of next packet.header.destination) later a.0) is a.1,
         a.2,
         a.3,
+        a.4,
       )
 
 -- ---- the bytes of a frame

@@ -29,6 +29,7 @@ use Rattle.nd_out.specs.Out.{happening}
 use Rattle.nd_steps.specs.Outputs.{happenings}
 use Rattle.nd_steps.proofs.Quiet.{Quiet}
 use Rattle.nd_steps.proofs.Telling.{above_silent, one_more}
+use Rattle.nd_chronicle.specs.Answer.{Answer, Done}
 use Rattle.nd_node.specs.declared.node.Node.{Node}
 use Rattle.nd_node.specs.Event.{AddsEvent}
 use Rattle.nd_node.specs.Forwarding.{AddsForwarded}
@@ -143,9 +144,9 @@ next_later c now destination next h = record {
 abbrev SameTarget : ℕ → Addr → Parts → Type 0
 SameTarget now source message = (c : Chronicle) → takes_target ((now, Passed) ∷ c) source message.body ≡ takes_target c source message.body
 
-pub judged : {R A : Type 0} (stream : R → Stream) (old new : Node R A) (x y : List (ℕ × Out A)) (now : ℕ) (source destination : Addr) (message : Parts) → SameTarget now source message
-    → ((c : Chronicle) → FromFirstHop ((now, Passed) ∷ c) now source message.body) → AddsMessage stream old new x y now source destination message → AddsJudged stream old new x y now source destination message
-judged stream old new x y now source destination message same from adds = record {
+pub judged : {R A : Type 0} (stream : R → Stream) (old new : Node R A) (x y : List (ℕ × Out A)) (now : ℕ) (source destination : Addr) (message : Parts) {answer : Answer} → SameTarget now source message
+    → ((c : Chronicle) → FromFirstHop ((now, Passed) ∷ c) now source message.body) → AddsMessage stream old new x y now source destination message answer → AddsJudged stream old new x y now source destination message answer
+judged stream old new x y now source destination message {answer} same from adds = record {
   each = λ frame start c s le ours.
       let a = adds.each start c s le (sym (same c) ∙ ours.target) in (
         verdicts.hears source destination message,
@@ -154,6 +155,7 @@ judged stream old new x y now source destination message same from adds = record
         a.1,
         a.2,
         a.3,
+        a.4,
       );
 }
 
@@ -164,8 +166,9 @@ module _ {R A : Type 0} (stream : R → Stream) (old mid new : Node R A) (x y : 
     (stands : (start : Start) (c : Chronicle) → Stands stream start old c → Stands stream start mid c)
     (next : (start : Start) (c : Chronicle) → Stands stream start old c → last_moment start.at c ≤ now → IsNextHop c now r.destination hop) where
   -- it comes from the current first hop
-  pub directed : hop ≡ via (number_of source.0) → AddsMessage stream mid new x y now source destination (redirection r options) → AddsJudged stream old new x y now source destination (redirection r options)
-  directed is adds = record {
+  pub directed : {answer : Answer} → hop ≡ via (number_of source.0) → AddsMessage stream mid new x y now source destination (redirection r options) answer
+      → AddsJudged stream old new x y now source destination (redirection r options) answer
+  directed {answer} is adds = record {
     each = λ frame start c s le ours.
         let a = adds.each start c (stands start c s) le ours.target in (
           verdicts.hears source destination (redirection r options),
@@ -174,11 +177,12 @@ module _ {R A : Type 0} (stream : R → Stream) (old mid new : Node R A) (x y : 
           a.1,
           a.2,
           a.3,
+          a.4,
         );
   }
 
   -- it comes from another node
-  pub misdirected : hop ≢ via (number_of source.0) → AddsAlone stream mid new x y now (Dropped NotFirstHop) → AddsJudged stream old new x y now source destination (redirection r options)
+  pub misdirected : hop ≢ via (number_of source.0) → AddsAlone stream mid new x y now (Dropped NotFirstHop) → AddsJudged stream old new x y now source destination (redirection r options) Done
   misdirected differs adds = record {
     each = λ frame start c s le ours.
         let a = adds.each start c (stands start c s) le in (
@@ -188,6 +192,7 @@ module _ {R A : Type 0} (stream : R → Stream) (old mid new : Node R A) (x y : 
           refl,
           a.0,
           a.1,
+          refl,
         );
   }
 
@@ -209,7 +214,7 @@ module _ {R A : Type 0} (stream : R → Stream) (old new : Node R A) (x y : List
   by_role start c outcome s h = subst (λ (r : Role). Hears frame r outcome) s.role h
 
   -- it is dropped for what it says by itself
-  pub dropped_by_frame : (why : Why) → Hears frame old.role (dropped why) → AddsAlone stream old new x y now (Dropped why) → AddsEvent stream old new x y now (events.Receives frame)
+  pub dropped_by_frame : (why : Why) → Hears frame old.role (dropped why) → AddsAlone stream old new x y now (Dropped why) → AddsEvent stream old new x y now (events.Receives frame) Done
   dropped_by_frame why h adds = record {
     each = λ start c s le.
         let a = adds.each start c s le in (
@@ -217,6 +222,7 @@ module _ {R A : Type 0} (stream : R → Stream) (old new : Node R A) (x y : List
           record { verdict = verdicts.drops why; heard = record { outcome = dropped why; by_frame = by_role start c (dropped why) s h; by_node = IsDropped }; adds = refl },
           a.0,
           a.1,
+          refl,
         );
   }
 
@@ -229,8 +235,8 @@ module _ {R A : Type 0} (stream : R → Stream) (old new : Node R A) (x y : List
     for_us_before : (start : Start) (c : Chronicle) → IsForUs start ((now, Passed) ∷ c) source destination message → IsForUs start c source destination message
     for_us_before start c f = record { destination_is = f.destination_is; target = sym (same c) ∙ f.target; awake = f.awake }
 
-    pub message_judged : ours ≡ true → AddsJudged stream old new x y now source destination message → AddsEvent stream old new x y now (events.Receives frame)
-    message_judged is adds = record {
+    pub message_judged : {answer : Answer} → ours ≡ true → AddsJudged stream old new x y now source destination message answer → AddsEvent stream old new x y now (events.Receives frame) answer
+    message_judged {answer} is adds = record {
       each = λ start c s le.
           let a = adds.each frame start c s le (for_us_later start c ((says start c s).0 is)) in (
             a.1,
@@ -241,10 +247,11 @@ module _ {R A : Type 0} (stream : R → Stream) (old new : Node R A) (x y : List
             },
             a.4,
             a.5,
+            a.6,
           );
     }
 
-    pub message_is_strange : ours ≡ false → AddsAlone stream old new x y now (Dropped NotForUs) → AddsEvent stream old new x y now (events.Receives frame)
+    pub message_is_strange : ours ≡ false → AddsAlone stream old new x y now (Dropped NotForUs) → AddsEvent stream old new x y now (events.Receives frame) Done
     message_is_strange is adds = record {
       each = λ start c s le.
           let a = adds.each start c s le in (
@@ -260,6 +267,7 @@ module _ {R A : Type 0} (stream : R → Stream) (old new : Node R A) (x y : List
             },
             a.0,
             a.1,
+            refl,
           );
     }
 
@@ -269,7 +277,7 @@ module _ {R A : Type 0} (stream : R → Stream) (old new : Node R A) (x y : List
       not_ours : (start : Start) (c : Chronicle) → Stands stream start old c → IsPacketForUs start c packet → ⊥
       not_ours start c s = is_not ours (IsPacketForUs start c packet) (says start c s) stranger
 
-      pub packet_is_strange : passes ≡ false → AddsAlone stream old new x y now (Dropped NotForUs) → AddsEvent stream old new x y now (events.Receives frame)
+      pub packet_is_strange : passes ≡ false → AddsAlone stream old new x y now (Dropped NotForUs) → AddsEvent stream old new x y now (events.Receives frame) Done
       packet_is_strange is adds = record {
         each = λ start c s le.
             let a = adds.each start c s le in (
@@ -286,11 +294,12 @@ module _ {R A : Type 0} (stream : R → Stream) (old new : Node R A) (x y : List
               },
               a.0,
               a.1,
+              refl,
             );
       }
 
-      pub packet_goes_on : passes ≡ true → AddsForwarded stream old new x y now packet (events.packet_bytes frame) → AddsEvent stream old new x y now (events.Receives frame)
-      packet_goes_on is adds = record {
+      pub packet_goes_on : {answer : Answer} → passes ≡ true → AddsForwarded stream old new x y now packet (events.packet_bytes frame) answer → AddsEvent stream old new x y now (events.Receives frame) answer
+      packet_goes_on {answer} is adds = record {
         each = λ start c s le.
             let a = adds.each start c s le in (
               a.0,
@@ -305,10 +314,11 @@ module _ {R A : Type 0} (stream : R → Stream) (old new : Node R A) (x y : List
               },
               a.2,
               a.3,
+              a.4,
             );
       }
 
-    pub packet_goes_up : ours ≡ true → AddsAlone stream old new x y now (Up (take (ipv6_header_length + payload_length_of (packet_in frame)) (packet_in frame))) → AddsEvent stream old new x y now (events.Receives frame)
+    pub packet_goes_up : ours ≡ true → AddsAlone stream old new x y now (Up (take (ipv6_header_length + payload_length_of (packet_in frame)) (packet_in frame))) → AddsEvent stream old new x y now (events.Receives frame) Done
     packet_goes_up is adds = record {
       each = λ start c s le.
           let a = adds.each start c s le in
@@ -325,6 +335,7 @@ module _ {R A : Type 0} (stream : R → Stream) (old new : Node R A) (x y : List
             },
             a.0,
             a.1,
+            refl,
           );
     }
 

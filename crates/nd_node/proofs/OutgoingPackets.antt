@@ -13,7 +13,7 @@ use Rattle.nd_neighbour.specs.Place.{WouldBeFull}
 use Rattle.nd_neighbour.specs.Room.{has_room}
 use Rattle.nd_nexthop.specs.NextHop.{NextHop, direct, no_route}
 use Rattle.nd_chronicle.specs.Start.{Start}
-use Rattle.nd_chronicle.specs.Happening.{Chronicle, Passed, Refused, Refusal, Full, Neighbours, Loss, Lost, Routeless, Sent, last_moment}
+use Rattle.nd_chronicle.specs.Happening.{Chronicle, Passed, Refused, Refusal, Full, Neighbours, Loss, Lost, NoRoute, Sent, last_moment}
 use Rattle.nd_chronicle.specs.Histories.{neighbour_history}
 use Rattle.nd_chronicle.specs.NextHop.{IsHopOf}
 use Rattle.nd_chronicle.specs.Event as events
@@ -26,6 +26,8 @@ use Rattle.nd_steps.specs.declared.packets.OutgoingPacket.{OutgoingPacket}
 use Rattle.nd_steps.specs.Packets.{frame_of}
 use Rattle.nd_steps.specs.Outputs.{Tells, happenings}
 use Rattle.nd_steps.proofs.Telling.{Tells-then}
+use Rattle.nd_chronicle.specs.Answer as answers
+use Rattle.nd_chronicle.proofs.Answering.{goes_done}
 use Rattle.nd_node.specs.declared.node.Node.{Node}
 use Rattle.nd_node.specs.Event.{AddsEvent}
 use Rattle.nd_node.specs.Frame.{AddsAlone}
@@ -88,7 +90,7 @@ module _ {R A : Type 0} (stream : R → Stream) (old new : Node R A) (x y : List
 module _ {R A : Type 0} (stream : R → Stream) (old new : Node R A) (x y : List (ℕ × Out A)) (now key : ℕ) (packet : List ℕ) (settled : now < next_of old) where
   -- it has no place
   pub refused_full : FullByHistory → has_room old.neighbours.limit now key None old.neighbours.entries ≡ false → AddsAlone stream old new x y now (Refused (Full Neighbours))
-      → AddsToNeighbour stream old new x y now key packet
+      → AddsToNeighbour stream old new x y now key packet (answers.Refused (Full Neighbours))
   refused_full law room adds = record {
     each = λ start c s le.
         let a = adds.each start c s le in
@@ -97,13 +99,14 @@ module _ {R A : Type 0} (stream : R → Stream) (old new : Node R A) (x y : List
           (false, (refl, would), refl),
           a.0,
           a.1,
+          λ sends. refl,
         );
   }
 
   -- it has place
   pub goes_to : (mid : Node R A) (room : List (ℕ × Out A)) → Keeps (record old { last = now }) mid → room ≡ x → RoomIsPlace → FullByHistory
       → has_room old.neighbours.limit now key None old.neighbours.entries ≡ true → Leads stream mid new room y (PacketGoes now key packet)
-      → AddsToNeighbour stream old new x y now key packet
+      → AddsToNeighbour stream old new x y now key packet answers.Done
   goes_to mid room keeps same room_is_place full_by_history has goes = record {
     each = λ start c s le.
         let later : Chronicle = (now, Passed) ∷ c in
@@ -115,6 +118,7 @@ module _ {R A : Type 0} (stream : R → Stream) (old new : Node R A) (x y : List
           (true, has_place_for stream start old c now key room_is_place full_by_history s has, g.1),
           g.2,
           Tells-then c later g.0 x room y nothing g.3,
+          λ sends. sym (goes_done start later now key packet g.0 sends g.1),
         );
   }
 
@@ -132,23 +136,9 @@ module _ {R A : Type 0} (stream : R → Stream) (old new : Node R A) (x y : List
         → frame ≡ packet_frame start now to packet.source packet.destination packet.next_header packet.payload.items ((now, Passed) ∷ c)
     frame_later start c s = is ∙ frame_is to start c s
 
-    -- there is none
-    pub goes_nowhere : to ≡ open_mac → AddsAlone stream old new x y now (Lost Routeless frame) → AddsPacket stream old new x y now no_route packet
-    goes_nowhere open' adds = record {
-      each = λ start c s le.
-          let a = adds.each start c s le in
-          let later : Chronicle = (now, Passed) ∷ c in (
-            (now, Lost Routeless frame) ∷ later,
-            ap (λ (f : List ℕ). (now, Lost Routeless f) ∷ later) (frame_later start c s
-                ∙ ap (λ (m : Mac). packet_frame start now m packet.source packet.destination packet.next_header packet.payload.items later) open'),
-            a.0,
-            a.1,
-          );
-    }
-
     -- the destination is multicast
     pub goes_to_all : to.0 ≡ multicast_mac_of packet.destination.0 → holds multicast_prefix packet.destination.0 ≡ true → AddsAlone stream old new x y now (Sent frame)
-        → AddsPacket stream old new x y now direct packet
+        → AddsPacket stream old new x y now direct packet answers.Done
     goes_to_all to_is multicast adds = record {
       each = λ start c s le.
           let a = adds.each start c s le in
@@ -164,6 +154,7 @@ module _ {R A : Type 0} (stream : R → Stream) (old new : Node R A) (x y : List
                 (sym multicast) sent,
             a.0,
             a.1,
+            refl,
           );
     }
 
@@ -174,29 +165,31 @@ pub hop_later : (role : Role) (c : Chronicle) (now : ℕ) (destination : Addr) (
 hop_later Host c now destination next h = next_later c now destination next h
 hop_later Router c now destination next h = h
 
-module _ {R A : Type 0} (stream : R → Stream) (old new : Node R A) (x y : List (ℕ × Out A)) (now : ℕ) (packet : OutgoingPacket A) where
-  -- it is refused
-  pub not_sent : (refusal : Refusal) → ((start : Start) (c : Chronicle) → Stands stream start old c → Some refusal ≡ refusal_of_packet start now packet.source packet.payload.items c)
-      → AddsAlone stream old new x y now (Refused refusal) → AddsEvent stream old new x y now (events.Sends packet.source packet.destination packet.next_header packet.payload.items)
+-- it is refused
+module _ {R A : Type 0} (stream : R → Stream) (old new : Node R A) (x y : List (ℕ × Out A)) (now : ℕ) (source destination : Addr) (next_header : ℕ) (payload : List ℕ) where
+  pub not_sent : (refusal : Refusal) → ((start : Start) (c : Chronicle) → Stands stream start old c → Some refusal ≡ refusal_of_packet start now source payload c)
+      → AddsAlone stream old new x y now (Refused refusal) → AddsEvent stream old new x y now (events.Sends source destination next_header payload) (answers.Refused refusal)
   not_sent refusal says adds = record {
     each = λ start c s le.
         let a = adds.each start c s le in
         let later : Chronicle = (now, Passed) ∷ c in
         let d : Chronicle = (now, Refused refusal) ∷ later in (
           d,
-          subst (λ (o : Option Refusal). UnlessRefused now o (λ e. (next : NextHop) × IsHopOf start.role later now packet.destination next
-              × PacketAdds start now next packet.source packet.destination packet.next_header packet.payload.items later e) later d) (says start c s) refl,
+          subst (λ (o : Option Refusal). UnlessRefused now o (λ e. (next : NextHop) × IsHopOf start.role later now destination next
+              × PacketAdds start now next source destination next_header payload later e) later d) (says start c s) refl,
           a.0,
           a.1,
+          refl,
         );
   }
 
+module _ {R A : Type 0} (stream : R → Stream) (old new : Node R A) (x y : List (ℕ × Out A)) (now : ℕ) (packet : OutgoingPacket A) where
   -- it goes to its next hop
-  pub sent : (mid : Node R A) (hop : NextHop) → ((start : Start) (c : Chronicle) → Stands stream start old c → None ≡ refusal_of_packet start now packet.source packet.payload.items c)
+  pub sent : (mid : Node R A) (hop : NextHop) {answer : answers.Answer} → ((start : Start) (c : Chronicle) → Stands stream start old c → None ≡ refusal_of_packet start now packet.source packet.payload.items c)
       → ((start : Start) (c : Chronicle) → Stands stream start old c → Stands stream start mid c)
       → ((start : Start) (c : Chronicle) → Stands stream start old c → last_moment start.at c ≤ now → IsHopOf start.role c now packet.destination hop)
-      → AddsPacket stream mid new x y now hop packet → AddsEvent stream old new x y now (events.Sends packet.source packet.destination packet.next_header packet.payload.items)
-  sent mid hop says stands next adds = record {
+      → AddsPacket stream mid new x y now hop packet answer → AddsEvent stream old new x y now (events.Sends packet.source packet.destination packet.next_header packet.payload.items) answer
+  sent mid hop {answer} says stands next adds = record {
     each = λ start c s le.
         let a = adds.each start c (stands start c s) le in
         let later : Chronicle = (now, Passed) ∷ c in
@@ -207,5 +200,10 @@ module _ {R A : Type 0} (stream : R → Stream) (old new : Node R A) (x y : List
               (hop, hop_later start.role c now packet.destination hop (next start c s le), a.1),
           a.2,
           a.3,
+          a.4,
         );
   }
+
+-- a packet that is not refused isn't refused for a reason
+pub refused_left : (o : Option Refusal) (refusal : Refusal) → None ≡ o → o ≡ Some refusal → ⊥
+refused_left o refusal none is = let never : ⊥ = cc in never

@@ -46,6 +46,8 @@ use Rattle.nd_steps.specs.Outputs.{at_moment, happenings, Tells}
 use Rattle.nd_steps.proofs.Quiet.{Quiet}
 use Rattle.nd_steps.proofs.Saying.{NoneOverdueStill, OneGoes, Others, OverdueByTable, none_before_said, placed_by, released_kept, releasing_is_quiet, releasing_items}
 use Rattle.nd_steps.proofs.Telling.{one, Tells-then, one_more}
+use Rattle.nd_chronicle.specs.Answer as answers
+use Rattle.nd_chronicle.proofs.Answering.{message_done}
 use Rattle.nd_node.specs.declared.node.Node.{Node}
 use Rattle.nd_node.specs.Hearing.{AddsMessage}
 use Rattle.nd_node.specs.Node.{Stands, next_of}
@@ -166,7 +168,7 @@ module _ {R A : Type 0} (stream : R → Stream) (old : Node R A) (now : ℕ) (so
   pub message_refused : (new : Node R A) (x y : List (ℕ × Out A))
       → ((start : Start) (c : Chronicle) → Stands stream start old c → Placed start c now (entering (option_map (said_by times) news)) false)
       → AddsAlone stream old new x y now (Refused (Full Neighbours))
-      → AddsMessage stream old new x y now source destination (message_of body options)
+      → AddsMessage stream old new x y now source destination (message_of body options) (answers.Refused (Full Neighbours))
   message_refused new x y placed adds = record {
     each = λ start c s le takes.
         let later : Chronicle = (now, Passed) ∷ c in
@@ -177,6 +179,7 @@ module _ {R A : Type 0} (stream : R → Stream) (old : Node R A) (now : ℕ) (so
           (Some Neighbours, plain.fills start later (Some Neighbours) (record { neighbours = false; placed = rw (plain.needs_is later) placed'; first = refl }), refl),
           a.0,
           a.1,
+          refl,
         );
   }
 
@@ -202,7 +205,7 @@ module _ {R A : Type 0} (stream : R → Stream) (old : Node R A) (now : ℕ) (so
       (hears : HearsOf old.neighbours.limit now (option_map (said_by times) news) old.neighbours.entries new.neighbours.entries y z ends)
       (follows : (start : Start) (before d : Chronicle) → advertising_history start d ≡ advertising_history start before → last_moment start.at d ≡ now → Stands stream start new d → Stands stream start final (behind start before d))
       (silent : (start : Start) (before d : Chronicle) → items (behind start before d) ≡ items d) where
-    pub adds_message : AddsMessage stream old final x z now source destination (message_of body options)
+    pub adds_message : AddsMessage stream old final x z now source destination (message_of body options) answers.Done
     adds_message = record {
       each = λ start c s le takes.
           let later : Chronicle = (now, Passed) ∷ c in
@@ -251,5 +254,6 @@ module _ {R A : Type 0} (stream : R → Stream) (old : Node R A) (now : ℕ) (so
             (None, plain.fills start later None (record { neighbours = true; placed = rw (plain.needs_is later) placed'; first = refl }), plain.adds start later p.placed p.place),
             follows start later after (ap (λ (p : List advertising_rows.Row × List route_rows.Row). p.0) (q.router start ∙ apart.router start)) (q.last start.at) (stands_quiet stream start new before after q stands_before),
             told_too {d = after} (behind start later after) (silent start later after) (Tells-then c before after x y z heard_items frames_items),
+            sym (message_done start now source destination message later (behind start later after) refl (plain.adds start later p.placed p.place)),
           );
     }

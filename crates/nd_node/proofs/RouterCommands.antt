@@ -37,6 +37,7 @@ use Rattle.nd_steps.specs.Outputs.{at_moment, happenings}
 use Rattle.nd_steps.specs.declared.router_tables.RouterTables.{RouterTables}
 use Rattle.nd_steps.proofs.Quiet.{Quiet, quiet_same, sent_is_quiet}
 use Rattle.nd_steps.proofs.Telling.{one}
+use Rattle.nd_chronicle.specs.Answer.{Done, answer_after}
 use Rattle.nd_node.specs.declared.node.Node.{Node}
 use Rattle.nd_node.specs.Event.{AddsEvent}
 use Rattle.nd_node.specs.Node.{next_of}
@@ -62,7 +63,7 @@ module _ {R A : Type 0} (stream : R → Stream) (old new : Node R A) (now : ℕ)
 
     -- it is to advertise
     pub configures : (settings : Settings) → advertising.GainsRow old.router.advertiser r.advertiser (advertising_rows.Advertises now settings) → r.routes ≡ old.router.routes
-        → AddsEvent stream old new outs outs now (events.Advertises settings)
+        → AddsEvent stream old new outs outs now (events.Advertises settings) Done
     configures settings gains same = record {
       each = λ start c s le.
           let later : Chronicle = (now, Passed) ∷ c in
@@ -72,13 +73,14 @@ module _ {R A : Type 0} (stream : R → Stream) (old new : Node R A) (now : ℕ)
             at_router now start.role (λ (e : Chronicle). e ≡ d) later d (sym s.role ∙ role) refl,
             rw is (stands_advertising stream start base later d (aside (Configures settings) now start.at later refl) p r old.generator (advertising_rows.Advertises now settings) refl gains same refl refl p.generator),
             record { newer = []; told = append-nil (items later); outs = sym (append-nil (happenings outs)) },
+            refl,
           );
     }
 
     -- a prefix is to be advertised, and is not one too many
     pub offers : (info : PrefixInfo) (answer : Result (Unit {0}) Full)
         → ((history : List advertising_rows.Row) → advertising.Stands old.router.advertiser history → answer ≡ answer_to info.prefix (prefixes history)) → is_ok answer ≡ true
-        → advertising.GainsRow old.router.advertiser r.advertiser (advertising_rows.Offered info) → r.routes ≡ old.router.routes → AddsEvent stream old new outs outs now (events.Offers info)
+        → advertising.GainsRow old.router.advertiser r.advertiser (advertising_rows.Offered info) → r.routes ≡ old.router.routes → AddsEvent stream old new outs outs now (events.Offers info) Done
     offers info answer by_history ok gains same = record {
       each = λ start c s le.
           let later : Chronicle = (now, Passed) ∷ c in
@@ -91,12 +93,13 @@ module _ {R A : Type 0} (stream : R → Stream) (old new : Node R A) (now : ℕ)
                 (subst (λ (b : Bool). UnlessFull now (if b then Some happening.Offers else None) (λ (x : Chronicle). x ≡ d) later d) (sym fits') refl),
             rw is (stands_advertising stream start base later d (aside (Offers info) now start.at later refl) p r old.generator (advertising_rows.Offered info) tt gains same refl refl p.generator),
             record { newer = []; told = append-nil (items later); outs = sym (append-nil (happenings outs)) },
+            refl,
           );
     }
 
     -- a route is put, and is not one too many
     pub puts_route : (prefix : PrefixValue) (route : Route) → ((history : List route_rows.Row) → routing.Stands old.router.routes history → true ≡ fits prefix (routes history))
-        → r.advertiser ≡ old.router.advertiser → routing.GainsRow old.router.routes r.routes (route_rows.RoutePut prefix route) → AddsEvent stream old new outs outs now (events.Routes prefix route)
+        → r.advertiser ≡ old.router.advertiser → routing.GainsRow old.router.routes r.routes (route_rows.RoutePut prefix route) → AddsEvent stream old new outs outs now (events.Routes prefix route) Done
     puts_route prefix route by_history same gains = record {
       each = λ start c s le.
           let later : Chronicle = (now, Passed) ∷ c in
@@ -109,6 +112,7 @@ module _ {R A : Type 0} (stream : R → Stream) (old new : Node R A) (now : ℕ)
                 (subst (λ (b : Bool). UnlessFull now (if b then None else Some happening.StaticRoutes) (λ (x : Chronicle). x ≡ d) later d) fits' refl),
             rw is (stands_routes stream start base later d (aside (PutsRoute prefix route) now start.at later refl) p r (route_rows.RoutePut prefix route) same gains refl refl refl),
             record { newer = []; told = append-nil (items later); outs = sym (append-nil (happenings outs)) },
+            refl,
           );
     }
 
@@ -129,12 +133,17 @@ items_of_end start at true (Some message) c = one (items c) (items_at (at, Sent 
 items_of_end start at true None c = sym (append-nil (items c))
 items_of_end start at false message c = sym (append-nil (items c))
 
+end_is_done : (start : Start) (at : ℕ) (tells : Bool) (message : Option Parts) (c : Chronicle) → answer_after c false ≡ Done → answer_after (telling_end start at tells message c) false ≡ Done
+end_is_done start at true (Some message) c done = refl
+end_is_done start at true None c done = done
+end_is_done start at false message c done = done
+
 pub ceases : {R A : Type 0} (stream : R → Stream) (old new : Node R A) (now : ℕ) → now < next_of old → old.role ≡ Router → (r : RouterTables A) → new ≡ record old { last = now; router = r } → (x y : List (ℕ × Out A))
     → (own : Addr) → ((start : Start) → old.addresses.mac ≡ start.mac → own ≡ link_local start) → (made : Option (List ℕ))
     → ((history : List advertising_rows.Row) → advertising.Stands old.router.advertiser history → made ≡ option_map (router_advertisement_frame old.mac own) (last_contents_of old.mac history))
     → (tells : Bool) → ((history : List advertising_rows.Row) → advertising.Stands old.router.advertiser history → tells ≡ tells_its_end history)
     → advertising.GainsRow old.router.advertiser r.advertiser (advertising_rows.Ceased now) → r.routes ≡ old.router.routes
-    → (newer : List Happening) → newer ≡ told_end tells made → happenings y ≡ happenings x ++ at_moment now newer → AddsEvent stream old new x y now events.Stops
+    → (newer : List Happening) → newer ≡ told_end tells made → happenings y ≡ happenings x ++ at_moment now newer → AddsEvent stream old new x y now events.Stops Done
 ceases {R} {A} stream old new now settled role r is x y own own_is made made_is tells tells_is gains same newer newer_is told = record {
   each = λ start c s le.
       let later : Chronicle = (now, Passed) ∷ c in
@@ -161,5 +170,6 @@ ceases {R} {A} stream old new now settled role r is x y own own_is made made_is 
               ∙ ap (λ (l : List Happening). items c ++ flat_map items_at (at_moment now l)) (sym those));
           outs = told;
         },
+        sym (end_is_done start now (tells_its_end history) message row refl),
       );
 }

@@ -1,6 +1,6 @@
 -- What an event does to the chronicle that a node stands for.
 use Rattle.std.proofs.Common.{◌≡◌, ℕ, suc, ◌<◌, ◌≤◌, false, List, [], ◌∷◌, ◌++◌, append-nil, refl, sym, ◌∙◌, ap, arith}
-use Rattle.std.specs.Prelude.{nat_lt}
+use Rattle.std.specs.Prelude.{Bool, nat_lt, if◌then◌else◌}
 use Rattle.std.proofs.lemmas.Bool.{lt-ltb}
 use Rattle.rand_core.specs.Stream.{Stream}
 use Rattle.nd_table.proofs.Tests.{by_true, by_false}
@@ -11,6 +11,7 @@ use Rattle.nd_chronicle.specs.Shown.{AreRows}
 use Rattle.nd_chronicle.specs.Told.{items_at, items}
 use Rattle.nd_chronicle.specs.Due.{comes}
 use Rattle.nd_chronicle.specs.Event as events
+use Rattle.nd_chronicle.specs.Answer as answers
 use Rattle.nd_chronicle.specs.History.{Walk, over, adds, passes}
 use Rattle.nd_out.specs.declared.out.Out.{Out}
 use Rattle.nd_out.specs.Out.{happening}
@@ -93,20 +94,21 @@ too_late_is_quiet at last c = record {
 -- ---- events
 
 -- only time passes
-pub passing : {R A : Type 0} (stream : R → Stream) (old new : Node R A) (outs : List (ℕ × Out A)) (now : ℕ) → now < next_of old → new ≡ record old { last = now } → AddsEvent stream old new outs outs now events.Passes
+pub passing : {R A : Type 0} (stream : R → Stream) (old new : Node R A) (outs : List (ℕ × Out A)) (now : ℕ) → now < next_of old → new ≡ record old { last = now } → AddsEvent stream old new outs outs now events.Passes answers.Done
 passing stream old new outs now settled is = record {
   each = λ start c s le. (
     (now, Passed) ∷ c,
     refl,
     passed stream start old new c now s le settled is,
     record { newer = []; told = refl; outs = sym (append-nil _) },
+    refl,
   );
 }
 
 -- a table is shown
 pub showing : {R A : Type 0} (stream : R → Stream) (old new : Node R A) (x y : List (ℕ × Out A)) (now : ℕ) (table : shown.Table) (rows : List (List ℕ)) (out : Out A) → happening out ≡ Shown rows
     → ((start : Start) (c : Chronicle) → Stands stream start old c → last_moment start.at c ≤ now → AreRows start c now table rows)
-    → now < next_of old → new ≡ record old { last = now } → y ≡ x ++ (now, out) ∷ [] → AddsEvent stream old new x y now (events.Shows table)
+    → now < next_of old → new ≡ record old { last = now } → y ≡ x ++ (now, out) ∷ [] → AddsEvent stream old new x y now (events.Shows table) answers.Done
 showing stream old new x y now table rows out out_is are settled is told = record {
   each = λ start c s le.
       let later = passed stream start old new c now s le settled is in (
@@ -118,6 +120,7 @@ showing stream old new x y now table rows out out_is are settled is told = recor
           told = above_silent (items c) (items_at (now, Shown rows));
           outs = one_more x y now out told ∙ ap (λ h. happenings x ++ (now, h) ∷ []) out_is;
         },
+        refl,
       );
 }
   where
@@ -145,14 +148,19 @@ walk_last start c d moment end (passes soon due rest) le = walk_last start c d (
 not_before : (now last : ℕ) → last ≤ now → nat_lt now last ≡ false
 not_before now last le = grind (arith, le)
 
--- one that comes too late is told alone
+-- what is asked of the last moment of a node is asked of its chronicle
+asked_of : (last now : ℕ) (event : events.Event) (start : Start) (c d : Chronicle) → last ≡ last_moment start.at c → now < last → answers.Past last ≡ answers.answer_to start c now event d
+asked_of last now event start c d is lt =
+    ap answers.Past is ∙ sym (ap (λ (late : Bool). if late then answers.Past (last_moment start.at c) else answers.answer_after d (answers.is_packet event)) (lt-ltb now (last_moment start.at c) (omega (arith, lt, is))))
+
+-- one that comes too late is told alone, and answered so
 pub too_late : {R A : Type 0} (stream : R → Stream) (node : Node R A) (x y : List (ℕ × Out A)) (now : ℕ) (event : events.Event) (out : Out A) → happening out ≡ TooLate node.last → now < node.last
-    → y ≡ x ++ (now, out) ∷ [] → Leads stream node node x y (FollowsBy now event)
+    → y ≡ x ++ (now, out) ∷ [] → Leads stream node node x y (FollowsBy now event (answers.Past node.last))
 too_late stream node x y now event out out_is lt told = record {
   each = λ start c s.
       let last = last_moment start.at c in (
         (now, TooLate last) ∷ c,
-        by_true (nat_lt now last) _ _ (lt-ltb now last (omega (arith, lt, s.last))) refl,
+        (by_true (nat_lt now last) _ _ (lt-ltb now last (omega (arith, lt, s.last))) refl, asked_of node.last now event start c ((now, TooLate last) ∷ c) s.last lt),
         stands_quiet stream start node _ _ (too_late_is_quiet now last c) s,
         record {
           newer = (now, TooLate last) ∷ [];
@@ -163,19 +171,22 @@ too_late stream node x y now event out out_is lt told = record {
 }
 
 -- one that comes too late comes at no moment of a chronicle
-pub not_past : {R A : Type 0} (stream : R → Stream) (old new : Node R A) (x y : List (ℕ × Out A)) (now : ℕ) (event : events.Event) → now < old.last → AddsEvent stream old new x y now event
-not_past stream old new x y now event lt = record { each = λ start c s le. absurd (omega (arith, lt, le, s.last)) }
+pub not_past : {R A : Type 0} (stream : R → Stream) (old new : Node R A) (x y : List (ℕ × Out A)) (now : ℕ) (event : events.Event) {answer : answers.Answer} → now < old.last → AddsEvent stream old new x y now event answer
+not_past stream old new x y now event {answer} lt = record { each = λ start c s le. absurd (omega (arith, lt, le, s.last)) }
 
 -- another one adds what it adds, once all that is due up to it is done
-pub follows : {R A : Type 0} (stream : R → Stream) (old mid new : Node R A) (x y z : List (ℕ × Out A)) (now : ℕ) (event : events.Event) → old.last ≤ now
-    → Leads stream old mid x y (Passes now) → AddsEvent stream mid new y z now event → Leads stream old new x z (FollowsBy now event)
-follows stream old mid new x y z now event le settled added = record {
+pub follows : {R A : Type 0} (stream : R → Stream) (old mid new : Node R A) (x y z : List (ℕ × Out A)) (now : ℕ) (event : events.Event) {answer : answers.Answer} → old.last ≤ now
+    → Leads stream old mid x y (Passes now) → AddsEvent stream mid new y z now event answer → Leads stream old new x z (FollowsBy now event answer)
+follows stream old mid new x y z now event {answer} le settled added = record {
   each = λ start c s.
       let came : last_moment start.at c ≤ now = omega (arith, le, s.last) in
       let e = settled.each start c s in
       let d = added.each start e.0 e.2 (walk_last start c e.0 (last_moment start.at c) now e.1 came) in (
         d.0,
-        by_false (nat_lt now (last_moment start.at c)) _ _ (not_before now (last_moment start.at c) came) (e.0, e.1, d.1),
+        (
+          by_false (nat_lt now (last_moment start.at c)) _ _ (not_before now (last_moment start.at c) came) (e.0, e.1, d.1),
+          d.4 ∙ sym (ap (λ (late : Bool). if late then answers.Past (last_moment start.at c) else answers.answer_after d.0 (answers.is_packet event)) (not_before now (last_moment start.at c) came)),
+        ),
         d.2,
         Tells-then c e.0 d.0 x y z e.3 d.3,
       );

@@ -24,6 +24,8 @@ use Rattle.nd_steps.specs.NeighbourCache.{said_by}
 use Rattle.nd_steps.specs.Outputs.{Tells}
 use Rattle.nd_steps.specs.Outputs as told
 use Rattle.nd_steps.proofs.Telling.{above_silent, handed_out, Tells-then}
+use Rattle.nd_chronicle.specs.Answer as answers
+use Rattle.nd_chronicle.proofs.Answering.{message_done}
 use Rattle.nd_node.specs.declared.node.Node.{Node}
 use Rattle.nd_node.specs.Hearing.{AddsMessage}
 use Rattle.nd_node.specs.Node.{Stands}
@@ -72,7 +74,7 @@ module _ {R A : Type 0} (stream : R → Stream) (now : ℕ) (source destination 
   -- it is refused, since a table has no room
   pub refuses : (old new : Node R A) (x y : List (ℕ × Out A)) (limit : happenings.Limit)
       → ((start : Start) (c : Chronicle) → Stands stream start old c → last_moment start.at c ≤ now → AdvertisementFills start c now source ra (advertised ra options) (Some limit))
-      → AddsAlone stream old new x y now (Refused (Full limit)) → AddsMessage stream old new x y now source destination (advertised ra options)
+      → AddsAlone stream old new x y now (Refused (Full limit)) → AddsMessage stream old new x y now source destination (advertised ra options) (answers.Refused (Full limit))
   refuses old new x y limit fills adds = record {
     each = λ start c s le target.
         let a = adds.each start c s le in (
@@ -80,6 +82,7 @@ module _ {R A : Type 0} (stream : R → Stream) (now : ℕ) (source destination 
           (Some limit, fills_later now source ra options start c (Some limit) (fills start c s le), refl),
           a.0,
           a.1,
+          refl,
         );
   }
 
@@ -87,7 +90,7 @@ module _ {R A : Type 0} (stream : R → Stream) (now : ℕ) (source destination 
   pub takes : (old new : Node R A) (x same y z : List (ℕ × Out A)) (out : Out A) → out ≡ outs.Heard source destination (bodies.Ra ra)
       → ((start : Start) (c : Chronicle) → Stands stream start old c → last_moment start.at c ≤ now → AdvertisementFills start c now source ra (advertised ra options) None)
       → same ≡ x → y ≡ same ++ (now, out) ∷ []
-      → TakesAdvertisement stream old new y z now source destination ra options → AddsMessage stream old new x z now source destination (advertised ra options)
+      → TakesAdvertisement stream old new y z now source destination ra options → AddsMessage stream old new x z now source destination (advertised ra options) answers.Done
   takes old new x same y z out out_is fills same_is told_is taken = record {
     each = λ start c s le target.
         let a = taken.each start c s le in (
@@ -97,5 +100,6 @@ module _ {R A : Type 0} (stream : R → Stream) (now : ℕ) (source destination 
           Tells-then c ((now, Heard source destination (advertised ra options)) ∷ (now, Passed) ∷ c) _ x y z
               (tells_one c now (Heard source destination (record { body = bodies.Ra ra; options = [] })) (Heard source destination (advertised ra options)) x y out (ap happening out_is) refl
               (told_is ∙ ap (λ (l : List (ℕ × Out A)). l ++ (now, out) ∷ []) same_is)) a.tells,
+          sym (message_done start now source destination (advertised ra options) ((now, Passed) ∷ c) _ refl (a.placed, a.place, refl)),
         );
   }

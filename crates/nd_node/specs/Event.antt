@@ -1,5 +1,5 @@
 -- What an event is to a node.
-use Rattle.std.specs.Prelude.{◌≤◌, ◌<◌, ◌^◌, ℕ, List, ◌∷◌, map, take}
+use Rattle.std.specs.Prelude.{◌≡◌, ◌≤◌, ◌<◌, ◌^◌, ℕ, List, ◌∷◌, ◌++◌, map}
 use Rattle.std.specs.List.{AllByRecursion}
 use Rattle.rand_core.specs.Stream.{Stream}
 use Rattle.nd_chronicle.specs.Start.{Start}
@@ -7,6 +7,7 @@ use Rattle.nd_chronicle.specs.Happening.{Chronicle, Passed, last_moment}
 use Rattle.nd_chronicle.specs.Shown as shown
 use Rattle.nd_chronicle.specs.Event as events
 use Rattle.nd_chronicle.specs.Event.{EventAdds}
+use Rattle.nd_chronicle.specs.Answer.{Answer, answer_after, answer_to, is_packet}
 use Rattle.nd_chronicle.specs.History.{Follows, Runs}
 use Rattle.nd_out.specs.declared.out.Out.{Out}
 use Rattle.nd_steps.specs.Outputs.{Tells}
@@ -59,19 +60,20 @@ events_of list = map (λ e. (e.0, event_of e.1)) list
 abbrev pub AreEarly : {A : Type 0} → List (ℕ × Event A) → Type 0
 AreEarly list = AllByRecursion (λ e. e.0 < 2 ^ 62) list
 
--- what follows from the event
-abbrev pub FollowsBy : ℕ → events.Event → Start → Chronicle → Chronicle → Type 0
-FollowsBy now event start c d = Follows start c now event d
+-- what follows from the event, with its answer
+abbrev pub FollowsBy : ℕ → events.Event → Answer → Start → Chronicle → Chronicle → Type 0
+FollowsBy now event answer start c d = Follows start c now event d × (answer ≡ answer_to start c now event d)
 
--- From each chronicle of earlier moments that the node stood for, the event leads to one with what it adds, and that is reported.
-pub record AddsEvent {R A : Type 0} (stream : R → Stream) (old new : Node R A) (before after : List (ℕ × Out A)) (now : ℕ) (event : events.Event) : Type 0 where
+-- From each chronicle of earlier moments that the node stood for, the event leads to one with what it adds, that is reported, and it is answered.
+pub record AddsEvent {R A : Type 0} (stream : R → Stream) (old new : Node R A) (before after : List (ℕ × Out A)) (now : ℕ) (event : events.Event) (answer : Answer) : Type 0 where
   pub each : (start : Start) (c : Chronicle) → Stands stream start old c → last_moment start.at c ≤ now
-      → (d : Chronicle) × EventAdds start now event ((now, Passed) ∷ c) d × Stands stream start new d × Tells c d before after
+      → (d : Chronicle) × EventAdds start now event ((now, Passed) ∷ c) d × Stands stream start new d × Tells c d before after × (answer ≡ answer_after d (is_packet event))
 
 -- what follows from the events, one after the other
 abbrev pub RunsBy : List (ℕ × events.Event) → Start → Chronicle → Chronicle → Type 0
 RunsBy list start c d = Runs start c list d
 
--- what follows where the first of them came, and a part of the time up to the next one has passed
+-- what follows where one of them wasn't finished: those before it came, and a part of the time up to its moment has passed
 abbrev pub RunsInPart : List (ℕ × events.Event) → Start → Chronicle → Chronicle → Type 0
-RunsInPart list start c d = (count : ℕ) × (now : ℕ) × (e : Chronicle) × Runs start c (take count list) e × Onward now start e d
+RunsInPart list start c d =
+    (first later : List (ℕ × events.Event)) × (event : ℕ × events.Event) × (e : Chronicle) × (list ≡ first ++ event ∷ later) × Runs start c first e × Onward event.0 start e d

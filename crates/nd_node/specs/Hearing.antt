@@ -1,5 +1,5 @@
 -- A message is heard at a node.
-use Rattle.std.specs.Prelude.{◌≡◌, ℕ, true, List, [], ◌∷◌, ◌≤◌}
+use Rattle.std.specs.Prelude.{◌≡◌, ℕ, true, false, List, [], ◌∷◌, ◌≤◌}
 use Rattle.rand_core.specs.Stream.{Stream}
 use Rattle.nd_addr.specs.declared.addr.Addr.{Addr}
 use Rattle.nd_decode.specs.Message.{Parts}
@@ -7,16 +7,18 @@ use Rattle.nd_chronicle.specs.Start.{Start}
 use Rattle.nd_chronicle.specs.Happening.{Chronicle, Passed, last_moment}
 use Rattle.nd_chronicle.specs.Hearing.{hears, takes_target}
 use Rattle.nd_chronicle.specs.Event.{VerdictAdds}
+use Rattle.nd_chronicle.specs.Answer.{Answer, answer_after}
 use Rattle.nd_out.specs.declared.out.Out.{Out}
 use Rattle.nd_steps.specs.Outputs.{Tells}
 use Rattle.nd_node.specs.declared.node.Node.{Node}
 use Rattle.nd_node.specs.Node.{Stands}
 
 -- From each chronicle of earlier moments that the node stood for, a message that is for it leads to one with what it adds, or with its
--- refusal where a table would be full, and that is reported.
-pub record AddsMessage {R A : Type 0} (stream : R → Stream) (old new : Node R A) (before after : List (ℕ × Out A)) (now : ℕ) (source destination : Addr) (message : Parts) : Type 0 where
+-- refusal where a table would be full, that is reported, and it is answered.
+pub record AddsMessage {R A : Type 0} (stream : R → Stream) (old new : Node R A) (before after : List (ℕ × Out A)) (now : ℕ) (source destination : Addr) (message : Parts) (answer : Answer) : Type 0 where
   pub each : (start : Start) (c : Chronicle) → Stands stream start old c → last_moment start.at c ≤ now → takes_target c source message.body ≡ true
       → (d : Chronicle) × VerdictAdds start now [] (hears source destination message) ((now, Passed) ∷ c) d × Stands stream start new d × Tells c d before after
+      × (answer ≡ answer_after d false)
 
 -- all is as before, except rings that may be in reserve
 pub record Keeps {R A : Type 0} (old new : Node R A) : Type 0 where

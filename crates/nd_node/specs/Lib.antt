@@ -8,6 +8,7 @@ pub mod Hearing
 pub mod Fullness
 pub mod RouterAdvertisement
 pub mod Memory
+pub mod Answer
 pub mod Event
 pub mod Frame
 pub mod OutgoingPacket

@@ -1,10 +1,11 @@
 -- A packet of the upper layer that is to be sent (RFC 4861, section 5.2).
-use Rattle.std.specs.Prelude.{ℕ, List, ◌∷◌, ◌≤◌}
+use Rattle.std.specs.Prelude.{◌≡◌, ℕ, Bool, true, List, ◌∷◌, ◌≤◌}
 use Rattle.rand_core.specs.Stream.{Stream}
 use Rattle.nd_nexthop.specs.NextHop.{NextHop}
 use Rattle.nd_chronicle.specs.Start.{Start}
 use Rattle.nd_chronicle.specs.Happening.{Chronicle, Passed, last_moment}
 use Rattle.nd_chronicle.specs.Event.{PacketAdds}
+use Rattle.nd_chronicle.specs.Answer.{Answer, answer_after}
 use Rattle.nd_chronicle.specs.Packet.{GoesIfPlaced}
 use Rattle.nd_out.specs.declared.out.Out.{Out}
 use Rattle.nd_steps.specs.declared.packets.OutgoingPacket.{OutgoingPacket}
@@ -13,14 +14,15 @@ use Rattle.nd_node.specs.declared.node.Node.{Node}
 use Rattle.nd_node.specs.Node.{Stands}
 
 -- From each chronicle of earlier moments that the node stood for, the call leads to one in which the packet goes to the neighbour, if there
--- is room for that, and that is reported.
-pub record AddsToNeighbour {R A : Type 0} (stream : R → Stream) (old new : Node R A) (before after : List (ℕ × Out A)) (now key : ℕ) (packet : List ℕ) : Type 0 where
+-- is room for that, that is reported, and its sender is answered.
+pub record AddsToNeighbour {R A : Type 0} (stream : R → Stream) (old new : Node R A) (before after : List (ℕ × Out A)) (now key : ℕ) (packet : List ℕ) (answer : Answer) : Type 0 where
   pub each : (start : Start) (c : Chronicle) → Stands stream start old c → last_moment start.at c ≤ now
       → (d : Chronicle) × GoesIfPlaced start now key packet ((now, Passed) ∷ c) d × Stands stream start new d × Tells c d before after
+      × ((sends : Bool) → answer ≡ answer_after d sends)
 
 -- From each chronicle of earlier moments that the node stood for, the call leads to one with what the packet adds whose next hop this is,
--- and that is reported.
-pub record AddsPacket {R A : Type 0} (stream : R → Stream) (old new : Node R A) (before after : List (ℕ × Out A)) (now : ℕ) (next : NextHop) (packet : OutgoingPacket A) : Type 0 where
+-- that is reported, and it is answered.
+pub record AddsPacket {R A : Type 0} (stream : R → Stream) (old new : Node R A) (before after : List (ℕ × Out A)) (now : ℕ) (next : NextHop) (packet : OutgoingPacket A) (answer : Answer) : Type 0 where
   pub each : (start : Start) (c : Chronicle) → Stands stream start old c → last_moment start.at c ≤ now
       → (d : Chronicle) × PacketAdds start now next packet.source packet.destination packet.next_header packet.payload.items ((now, Passed) ∷ c) d
-      × Stands stream start new d × Tells c d before after
+      × Stands stream start new d × Tells c d before after × (answer ≡ answer_after d true)

@@ -1,6 +1,6 @@
 //! Configures what a router advertises (RFC 4861, section 6.2).
 
-ghost use Rattle.std.specs.Prelude.{◌≡◌, ◌<◌, OnErr, OnOk, ◌≤◌, IsOk, vec_capacity, vec_len};
+ghost use Rattle.std.specs.Prelude.{◌≡◌, ◌<◌, OnErr, ◌≤◌, IsOk, vec_capacity, vec_len, IfOk};
 ghost use Rattle.nd_table.specs.Moment.{IsMoment};
 ghost use Rattle.nd_chronicle.specs.Event as events;
 ghost use Rattle.nd_chronicle.specs.Event.{EventAdds};
@@ -9,7 +9,9 @@ ghost use Rattle.nd_chronicle.specs.Start.{Start};
 ghost use Rattle.nd_node.specs.Event.{AddsEvent};
 ghost use Rattle.nd_node.specs.Frame.{Stays};
 ghost use Rattle.nd_node.specs.Memory.{AddsRefusal};
+ghost use Rattle.nd_node.specs.Answer.{answer_of};
 
+use crate::answer::Answer;
 use crate::node::Node;
 use nd_addr::Role;
 use nd_advertiser::{Config, Offer};
@@ -28,10 +30,10 @@ impl<R: Rng + Drop, A: Allocator + Clone> Node<R, A> {
         now: u64,
         config: Config,
         outs: &mut Vec<(u64, Out<A>), A>,
-    ) -> Result<(), AllocError>
+    ) -> Result<Answer, AllocError>
         requires moment { IsMoment now }
         requires settled { now < next_of self.old }
-        ensures adds { OnOk result (AddsEvent R.stream self.old self.new outs.old.items outs.new.items now (events.Advertises config)) }
+        ensures adds { IfOk result (λ answer. AddsEvent R.stream self.old self.new outs.old.items outs.new.items now (events.Advertises config) (answer_of answer)) }
         ensures stays { OnErr result (Stays R.stream self.old self.new) }
         ensures told { OnErr result (outs.new.items ≡ outs.old.items) }
         ensures refused { (start : Start) (c : Chronicle) → Stands R.stream start self.old c → last_moment start.at c ≤ now → AddsRefusal now c (EventAdds start now (events.Advertises config)) → vec_len outs.old < vec_capacity outs.old → IsOk result }
@@ -42,7 +44,7 @@ impl<R: Rng + Drop, A: Allocator + Clone> Node<R, A> {
         }
         self.router.advertiser.begin(now, config);
         self.advance_to(now);
-        Ok(())
+        Ok(Answer::Done)
     }
 
     /// Adds a prefix to those that a router advertises, or replaces its lifetimes (RFC 4861, section 6.2.1). A host refuses it, and so does a
@@ -52,9 +54,9 @@ impl<R: Rng + Drop, A: Allocator + Clone> Node<R, A> {
         now: u64,
         offer: Offer,
         outs: &mut Vec<(u64, Out<A>), A>,
-    ) -> Result<(), AllocError>
+    ) -> Result<Answer, AllocError>
         requires settled { now < next_of self.old }
-        ensures adds { OnOk result (AddsEvent R.stream self.old self.new outs.old.items outs.new.items now (events.Offers offer)) }
+        ensures adds { IfOk result (λ answer. AddsEvent R.stream self.old self.new outs.old.items outs.new.items now (events.Offers offer) (answer_of answer)) }
         ensures stays { OnErr result (Stays R.stream self.old self.new) }
         ensures told { OnErr result (outs.new.items ≡ outs.old.items) }
         ensures refused { (start : Start) (c : Chronicle) → Stands R.stream start self.old c → last_moment start.at c ≤ now → AddsRefusal now c (EventAdds start now (events.Offers offer)) → vec_len outs.old < vec_capacity outs.old → IsOk result }
@@ -66,7 +68,7 @@ impl<R: Rng + Drop, A: Allocator + Clone> Node<R, A> {
         match self.router.advertiser.put(offer) {
             Ok(()) => {
                 self.advance_to(now);
-                Ok(())
+                Ok(Answer::Done)
             }
             Err(_) => self.refuse(now, Refusal::Full(Limit::Offers), outs),
         }
@@ -78,10 +80,10 @@ impl<R: Rng + Drop, A: Allocator + Clone> Node<R, A> {
         &mut self,
         now: u64,
         outs: &mut Vec<(u64, Out<A>), A>,
-    ) -> Result<(), AllocError>
+    ) -> Result<Answer, AllocError>
         requires moment { IsMoment now }
         requires settled { now < next_of self.old }
-        ensures adds { OnOk result (AddsEvent R.stream self.old self.new outs.old.items outs.new.items now events.Stops) }
+        ensures adds { IfOk result (λ answer. AddsEvent R.stream self.old self.new outs.old.items outs.new.items now events.Stops (answer_of answer)) }
         ensures stays { OnErr result (Stays R.stream self.old self.new) }
         ensures told { OnErr result (outs.new.items ≡ outs.old.items) }
         ensures refused { (start : Start) (c : Chronicle) → Stands R.stream start self.old c → last_moment start.at c ≤ now → AddsRefusal now c (EventAdds start now events.Stops) → vec_len outs.old < vec_capacity outs.old → IsOk result }
@@ -99,6 +101,6 @@ impl<R: Rng + Drop, A: Allocator + Clone> Node<R, A> {
         if stopped {
             tell_advertisement(outs, now, last);
         }
-        Ok(())
+        Ok(Answer::Done)
     }
 }

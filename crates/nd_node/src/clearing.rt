@@ -1,10 +1,12 @@
 //! Clears a table, by a command.
 
-ghost use Rattle.std.specs.Prelude.{◌≡◌, ◌<◌, IsOk, OnErr, OnOk};
+ghost use Rattle.std.specs.Prelude.{◌≡◌, ◌<◌, IsOk, OnErr, IfOk};
 ghost use Rattle.nd_chronicle.specs.Event as events;
 ghost use Rattle.nd_node.specs.Event.{AddsEvent, clearable_of};
 ghost use Rattle.nd_node.specs.Memory.{TellsNothing};
+ghost use Rattle.nd_node.specs.Answer.{answer_of};
 
+use crate::answer::Answer;
 use crate::node::Node;
 use nd_out::Out;
 use nd_steps::{tell_packets, tell_routers};
@@ -35,9 +37,9 @@ impl<R: Rng + Drop, A: Allocator + Clone> Node<R, A> {
         &mut self,
         now: u64,
         outs: &mut Vec<(u64, Out<A>), A>,
-    ) -> Result<(), AllocError>
+    ) -> Result<Answer, AllocError>
         requires settled { now < next_of self.old }
-        ensures adds { OnOk result (AddsEvent R.stream self.old self.new outs.old.items outs.new.items now (events.Clears events.ClearNeighbours)) }
+        ensures adds { IfOk result (λ answer. AddsEvent R.stream self.old self.new outs.old.items outs.new.items now (events.Clears events.ClearNeighbours) (answer_of answer)) }
         ensures keeps { OnErr result (self.new ≡ self.old) }
         ensures told { OnErr result (outs.new.items ≡ outs.old.items) }
     {
@@ -47,7 +49,7 @@ impl<R: Rng + Drop, A: Allocator + Clone> Node<R, A> {
         self.choice.changed();
         tell_packets(outs, now, packets);
         self.advance_to(now);
-        Ok(())
+        Ok(Answer::Done)
     }
 
     /// Removes all routers from the list, in its order, and ends all redirects with them (RFC 4861, section 6.3.5). Returns an error if out of
@@ -56,9 +58,9 @@ impl<R: Rng + Drop, A: Allocator + Clone> Node<R, A> {
         &mut self,
         now: u64,
         outs: &mut Vec<(u64, Out<A>), A>,
-    ) -> Result<(), AllocError>
+    ) -> Result<Answer, AllocError>
         requires settled { now < next_of self.old }
-        ensures adds { OnOk result (AddsEvent R.stream self.old self.new outs.old.items outs.new.items now (events.Clears events.ClearRouters)) }
+        ensures adds { IfOk result (λ answer. AddsEvent R.stream self.old self.new outs.old.items outs.new.items now (events.Clears events.ClearRouters) (answer_of answer)) }
         ensures keeps { OnErr result (self.new ≡ self.old) }
         ensures told { OnErr result (outs.new.items ≡ outs.old.items) }
     {
@@ -68,7 +70,7 @@ impl<R: Rng + Drop, A: Allocator + Clone> Node<R, A> {
         self.choice.clear();
         tell_routers(outs, now, &routers);
         self.advance_to(now);
-        Ok(())
+        Ok(Answer::Done)
     }
 
     /// Clears a table at `now`, in milliseconds. Returns an error if out of memory; nothing has changed then.
@@ -77,9 +79,9 @@ impl<R: Rng + Drop, A: Allocator + Clone> Node<R, A> {
         now: u64,
         table: Clearable,
         outs: &mut Vec<(u64, Out<A>), A>,
-    ) -> Result<(), AllocError>
+    ) -> Result<Answer, AllocError>
         requires settled { now < next_of self.old }
-        ensures adds { OnOk result (AddsEvent R.stream self.old self.new outs.old.items outs.new.items now (events.Clears (clearable_of table))) }
+        ensures adds { IfOk result (λ answer. AddsEvent R.stream self.old self.new outs.old.items outs.new.items now (events.Clears (clearable_of table)) (answer_of answer)) }
         ensures keeps { OnErr result (self.new ≡ self.old) }
         ensures told { OnErr result (outs.new.items ≡ outs.old.items) }
 
@@ -98,6 +100,6 @@ impl<R: Rng + Drop, A: Allocator + Clone> Node<R, A> {
             Clearable::Dns => self.dns.clear(),
         }
         self.advance_to(now);
-        Ok(())
+        Ok(Answer::Done)
     }
 }

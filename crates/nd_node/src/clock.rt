@@ -1,7 +1,7 @@
 //! The clock of a node: the moment up to which time has passed, in milliseconds. It does not run by itself: each turn advances it, and each event
 //! that is not too late. Once the node has started, only `advance_to` writes it.
 
-ghost use Rattle.std.specs.Prelude.{◌≡◌, ◌++◌, [], ◌∷◌, ◌<◌, ◌≤◌, IsOk, OnOk, OnErr, vec_len, vec_capacity};
+ghost use Rattle.std.specs.Prelude.{◌≡◌, ◌++◌, [], ◌∷◌, ◌<◌, ◌≤◌, MatchBool, IsOk, OnOk, OnErr, vec_len, vec_capacity};
 ghost use Rattle.nd_chronicle.specs.Happening.{Chronicle, Passed, last_moment};
 ghost use Rattle.nd_chronicle.specs.Start.{Start};
 
@@ -19,6 +19,13 @@ impl<R: Rng + Drop, A: Allocator + Clone> Node<R, A> {
         ensures { self.new ≡ record self.old { last = now } }
     {
         self.last = now;
+    }
+
+    /// Returns true if `now`, in milliseconds, is earlier than the moment up to which time has passed.
+    pub fn is_past(&self, now: u64) -> bool
+        ensures { MatchBool result (now < self.now.last) (self.now.last ≤ now) }
+    {
+        now < self.last
     }
 
     /// Lets time pass up to `now`, in milliseconds, before which nothing is due. If `now` is in the past, nothing changes. It takes no memory.

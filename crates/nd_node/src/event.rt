@@ -1,16 +1,18 @@
 //! Events: what a node receives from outside, and what it does then.
 
-ghost use Rattle.std.specs.Prelude.{◌≡◌, ◌-◌, ◌<◌, ◌≤◌, IsOk, OnOk, OnErr, vec_len, vec_capacity};
+ghost use Rattle.std.specs.Prelude.{◌≡◌, ◌-◌, ◌<◌, ◌≤◌, Some, IsOk, OnOk, OnErr, vec_len, vec_capacity, IfOk};
 ghost use Rattle.nd_table.specs.Moment.{IsMoment};
 ghost use Rattle.nd_chronicle.specs.Event as events;
-ghost use Rattle.nd_chronicle.specs.Event.{EventAdds};
-ghost use Rattle.nd_chronicle.specs.Happening.{Chronicle, last_moment};
+ghost use Rattle.nd_chronicle.specs.Event.{EventAdds, refusal_of_packet};
+ghost use Rattle.nd_chronicle.specs.Happening.{Chronicle, Refusal as Why, last_moment};
 ghost use Rattle.nd_chronicle.specs.Start.{Start};
-ghost use Rattle.nd_node.specs.Event.{event_of, events_of, AddsEvent, AreEarly, FollowsBy, RunsBy, RunsInPart};
+ghost use Rattle.nd_node.specs.Event.{event_of, events_of, AddsEvent, FollowsBy, AreEarly, RunsBy, RunsInPart};
 ghost use Rattle.nd_node.specs.Frame.{Stays};
 ghost use Rattle.nd_node.specs.Memory.{AddsRefusal, AsksForNone};
 ghost use Rattle.nd_node.specs.Time.{Leads, Onward};
+ghost use Rattle.nd_node.specs.Answer.{answer_of};
 
+use crate::answer::Answer;
 use crate::clearing::Clearable;
 use crate::node::Node;
 use nd_addr::Addr;
@@ -75,7 +77,7 @@ impl<R: Rng + Drop, A: Allocator + Clone> Node<R, A> {
     ghost use Rattle.nd_node.specs.Node.{Stands, next_of};
 
     /// Passes an event to the node at `now`, in milliseconds. The node first does all that is due up to `now`, this millisecond included, and then
-    /// what the event adds. An event earlier than the node's last moment is only reported as past.
+    /// what the event adds. Returns how the node took the event. One earlier than the node's last moment is only reported as past.
     ///
     /// Returns an error if out of memory: a part of what is due may have been done and reported then, and the event has added nothing.
     pub fn event(
@@ -83,9 +85,9 @@ impl<R: Rng + Drop, A: Allocator + Clone> Node<R, A> {
         now: u64,
         event: &Event<A>,
         outs: &mut Vec<(u64, Out<A>), A>,
-    ) -> Result<(), AllocError>
+    ) -> Result<Answer, AllocError>
         requires { IsMoment now }
-        ensures follows { OnOk result (Leads R.stream self.old self.new outs.old.items outs.new.items (FollowsBy now (event_of event.now))) }
+        ensures follows { IfOk result (λ answer. Leads R.stream self.old self.new outs.old.items outs.new.items (FollowsBy now (event_of event.now) (answer_of answer))) }
         ensures onward { OnErr result (Leads R.stream self.old self.new outs.old.items outs.new.items (Onward now)) }
 
         // If nothing is due up to `now` and the event asks for no memory, or if the event is too late, it succeeds even if no memory is left.
@@ -95,7 +97,7 @@ impl<R: Rng + Drop, A: Allocator + Clone> Node<R, A> {
         // If nothing is due up to `now` and the event is refused, the refusal is reported even if no memory is left.
         ensures refused { (start : Start) (c : Chronicle) → Stands R.stream start self.old c → last_moment start.at c ≤ now → now < next_of self.old → AddsRefusal now c (EventAdds start now (event_of event.now)) → vec_len outs.old < vec_capacity outs.old → IsOk result }
     {
-        if now < self.last {
+        if self.is_past(now) {
             return self.refuse_past(now, outs);
         }
         self.settle(now, outs)?;
@@ -103,7 +105,7 @@ impl<R: Rng + Drop, A: Allocator + Clone> Node<R, A> {
     }
 
     /// Receives a frame that the caller keeps, from its Ethernet destination on (RFC 2464, section 3): the event `Receives` without a copy of the
-    /// frame. The node first does all that is due up to `now`, in milliseconds.
+    /// frame. The node first does all that is due up to `now`, in milliseconds. Returns as `event` does.
     ///
     /// Returns an error if out of memory: a part of what is due may have been done and reported then, and the frame has changed nothing.
     pub fn receive(
@@ -111,9 +113,9 @@ impl<R: Rng + Drop, A: Allocator + Clone> Node<R, A> {
         now: u64,
         frame: &[u8],
         outs: &mut Vec<(u64, Out<A>), A>,
-    ) -> Result<(), AllocError>
+    ) -> Result<Answer, AllocError>
         requires { IsMoment now }
-        ensures follows { OnOk result (Leads R.stream self.old self.new outs.old.items outs.new.items (FollowsBy now (events.Receives frame.now))) }
+        ensures follows { IfOk result (λ answer. Leads R.stream self.old self.new outs.old.items outs.new.items (FollowsBy now (events.Receives frame.now) (answer_of answer))) }
         ensures onward { OnErr result (Leads R.stream self.old self.new outs.old.items outs.new.items (Onward now)) }
 
         // As `event`: it succeeds even if no memory is left, if nothing is due and the frame asks for none or is refused, or if it is too late.
@@ -121,11 +123,40 @@ impl<R: Rng + Drop, A: Allocator + Clone> Node<R, A> {
         ensures late { now < self.old.last → vec_len outs.old < vec_capacity outs.old → IsOk result }
         ensures refused { (start : Start) (c : Chronicle) → Stands R.stream start self.old c → last_moment start.at c ≤ now → now < next_of self.old → AddsRefusal now c (EventAdds start now (events.Receives frame.now)) → vec_len outs.old < vec_capacity outs.old → IsOk result }
     {
-        if now < self.last {
+        if self.is_past(now) {
             return self.refuse_past(now, outs);
         }
         self.settle(now, outs)?;
         self.judge_frame(now, frame, outs)
+    }
+
+    /// Sends a packet of the upper layer whose payload the caller keeps (RFC 4861, section 5.2): the event `Sends`, with a copy of the payload that is
+    /// made once the packet is not refused. The node first does all that is due up to `now`, in milliseconds. Returns as `event` does.
+    ///
+    /// Returns an error if out of memory: a part of what is due may have been done and reported then, and the packet has changed nothing.
+    pub fn send(
+        &mut self,
+        now: u64,
+        source: Addr,
+        destination: Addr,
+        next_header: u8,
+        payload: &[u8],
+        outs: &mut Vec<(u64, Out<A>), A>,
+    ) -> Result<Answer, AllocError>
+        requires { IsMoment now }
+        ensures follows { IfOk result (λ answer. Leads R.stream self.old self.new outs.old.items outs.new.items (FollowsBy now (events.Sends source destination next_header payload.now) (answer_of answer))) }
+        ensures onward { OnErr result (Leads R.stream self.old self.new outs.old.items outs.new.items (Onward now)) }
+
+        // As `event`, if it is too late. If nothing is due up to `now` and the packet is refused before its next hop is determined, the refusal is
+        // reported even if no memory is left, however long the payload is.
+        ensures late { now < self.old.last → vec_len outs.old < vec_capacity outs.old → IsOk result }
+        ensures refused { (refusal : Why) (start : Start) (c : Chronicle) → Stands R.stream start self.old c → last_moment start.at c ≤ now → now < next_of self.old → refusal_of_packet start now source payload.now c ≡ Some refusal → vec_len outs.old < vec_capacity outs.old → IsOk result }
+    {
+        if self.is_past(now) {
+            return self.refuse_past(now, outs);
+        }
+        self.settle(now, outs)?;
+        self.send_copied(now, source, destination, next_header, payload, outs)
     }
 
     /// Passes events to the node in their order, each with its moment, in milliseconds.
@@ -149,15 +180,19 @@ impl<R: Rng + Drop, A: Allocator + Clone> Node<R, A> {
 
     /// Reports an event that is earlier than the node's last moment, and changes nothing else. Returns an error if out of memory; nothing is
     /// reported then.
-    fn refuse_past(&mut self, now: u64, outs: &mut Vec<(u64, Out<A>), A>) -> Result<(), AllocError>
+    fn refuse_past(
+        &mut self,
+        now: u64,
+        outs: &mut Vec<(u64, Out<A>), A>,
+    ) -> Result<Answer, AllocError>
         requires { now < self.old.last }
-        ensures past { OnOk result ((event : events.Event) → Leads R.stream self.old self.new outs.old.items outs.new.items (FollowsBy now event)) }
+        ensures past { IfOk result (λ answer. (event : events.Event) → Leads R.stream self.old self.new outs.old.items outs.new.items (FollowsBy now event (answer_of answer))) }
         ensures same { self.new ≡ self.old }
         ensures told { OnErr result (outs.new.items ≡ outs.old.items) }
         ensures ready { vec_len outs.old < vec_capacity outs.old → IsOk result }
     {
         outs.push((now, Out::Past(self.last)))?;
-        Ok(())
+        Ok(Answer::Past(self.last))
     }
 
     /// Adds what an event adds, once all that is due up to `now` is done. A link calls it, since its nodes take their turns together. An event
@@ -168,36 +203,37 @@ impl<R: Rng + Drop, A: Allocator + Clone> Node<R, A> {
         now: u64,
         event: &Event<A>,
         outs: &mut Vec<(u64, Out<A>), A>,
-    ) -> Result<(), AllocError>
+    ) -> Result<Answer, AllocError>
         requires moment { IsMoment now }
         requires settled { now < next_of self.old }
-        ensures adds { OnOk result (AddsEvent R.stream self.old self.new outs.old.items outs.new.items now (event_of event.now)) }
-        ensures past { now < self.old.last → OnOk result (Leads R.stream self.old self.new outs.old.items outs.new.items (FollowsBy now (event_of event.now))) }
+        ensures adds { IfOk result (λ answer. AddsEvent R.stream self.old self.new outs.old.items outs.new.items now (event_of event.now) (answer_of answer)) }
+        ensures past { now < self.old.last → IfOk result (λ answer. Leads R.stream self.old self.new outs.old.items outs.new.items (FollowsBy now (event_of event.now) (answer_of answer))) }
         ensures stays { OnErr result (Stays R.stream self.old self.new) }
         ensures told { OnErr result (outs.new.items ≡ outs.old.items) }
         ensures quiet { (start : Start) (c : Chronicle) → Stands R.stream start self.old c → last_moment start.at c ≤ now → AsksForNone start c self.old now (vec_capacity outs.old - vec_len outs.old) (event_of event.now) → IsOk result }
         ensures late { now < self.old.last → vec_len outs.old < vec_capacity outs.old → IsOk result }
         ensures refused { (start : Start) (c : Chronicle) → Stands R.stream start self.old c → last_moment start.at c ≤ now → AddsRefusal now c (EventAdds start now (event_of event.now)) → vec_len outs.old < vec_capacity outs.old → IsOk result }
     {
-        if now < self.last {
+        if self.is_past(now) {
             return self.refuse_past(now, outs);
         }
         match event {
             Event::Passes => {
                 self.pass(now);
-                Ok(())
+                Ok(Answer::Done)
             }
             Event::Receives(frame) => self.judge_frame(now, frame, outs),
-            Event::Sends(outgoing) => self.send(now, outgoing, outs),
+            Event::Sends(outgoing) => self.send_packet(now, outgoing, outs),
             Event::Confirms(neighbour) => {
                 self.confirm(now, *neighbour);
-                Ok(())
+                Ok(Answer::Done)
             }
             Event::Forgets(neighbour) => self.forget(now, *neighbour, outs),
             Event::Clears(table) => self.clear(now, *table, outs),
             Event::Shows(table) => {
                 let rows = self.rows(outs.allocator(), now, *table)?;
-                self.report(now, Out::Shown(rows), outs)
+                self.report(now, Out::Shown(rows), outs)?;
+                Ok(Answer::Done)
             }
             Event::Advertises(config) => self.advertise(now, *config, outs),
             Event::Offers(offer) => self.offer(now, *offer, outs),

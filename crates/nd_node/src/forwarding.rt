@@ -1,6 +1,6 @@
 //! A packet in transit, which a router sends on (RFC 8200, section 3; RFC 4861, section 8.2).
 
-ghost use Rattle.std.specs.Prelude.{◌≡◌, ◌<◌, ◌≤◌, ℕ, List, None, IsOk, OnErr, OnOk, Some, length, vec_capacity, vec_len};
+ghost use Rattle.std.specs.Prelude.{◌≡◌, ◌<◌, ◌≤◌, ℕ, List, None, IsOk, OnErr, OnOk, Some, length, vec_capacity, vec_len, IfOk};
 ghost use Rattle.nd_addr.specs.Ip6.{packet_parts};
 ghost use Rattle.nd_addr.specs.Number.{number_of};
 ghost use Rattle.nd_table.specs.Moment.{IsMoment};
@@ -17,7 +17,9 @@ ghost use Rattle.nd_out.specs.Out.{loss_of};
 ghost use Rattle.nd_forwarding.specs.Redirect.{last_redirect, redirect};
 ghost use Rattle.nd_forwarding.specs.Routes.{routes};
 ghost use Rattle.nd_validity.specs.Hearing.{Hears, other};
+ghost use Rattle.nd_node.specs.Answer.{answer_of};
 
+use crate::answer::Answer;
 use crate::node::Node;
 use nd_addr::{Addr, Ip6Ref};
 use nd_forwarding::Fate;
@@ -41,11 +43,11 @@ impl<R: Rng + Drop, A: Allocator + Clone> Node<R, A> {
         frame: &[u8],
         packet: &Ip6Ref<'_>,
         outs: &mut Vec<(u64, Out<A>), A>,
-    ) -> Result<(), AllocError>
+    ) -> Result<Answer, AllocError>
         requires moment { IsMoment now }
         requires settled { now < next_of self.old }
         requires by_frame { Hears frame.now self.old.role (other (packet_parts packet.now)) }
-        ensures adds { OnOk result (AddsForwarded R.stream self.old self.new outs.old.items outs.new.items now (packet_parts packet.now) (packet_bytes frame.now)) }
+        ensures adds { IfOk result (λ answer. AddsForwarded R.stream self.old self.new outs.old.items outs.new.items now (packet_parts packet.now) (packet_bytes frame.now) (answer_of answer)) }
         ensures keeps { OnErr result (Keeps self.old self.new) }
         ensures told { OnErr result (outs.new.items ≡ outs.old.items) }
         ensures refused { (came : List ℕ) (start : Start) (c : Chronicle) → Stands R.stream start self.old c → AddsRefusal now c (ForwardAdds start now (packet_parts packet.now) came) → vec_len outs.old < vec_capacity outs.old → IsOk result }
@@ -69,15 +71,17 @@ impl<R: Rng + Drop, A: Allocator + Clone> Node<R, A> {
         why: Loss,
         packet: &Ip6Ref<'_>,
         outs: &mut Vec<(u64, Out<A>), A>,
-    ) -> Result<(), AllocError>
+    ) -> Result<Answer, AllocError>
         requires settled { now < next_of self.old }
         requires short { length packet.now.payload.now ≤ 65535 }
         ensures adds { OnOk result (AddsLostInTransit R.stream self.old self.new outs.old.items outs.new.items now (loss_of why) (packet_parts packet.now)) }
+        ensures answer { IfOk result (λ answer. answer ≡ Answer.Done) }
         ensures keeps { OnErr result (Keeps self.old self.new) }
         ensures told { OnErr result (outs.new.items ≡ outs.old.items) }
     {
         let frame = frame_as_it_came(outs.allocator().clone()?, self.mac, packet)?;
-        self.lose(now, why, frame, outs)
+        self.lose(now, why, frame, outs)?;
+        Ok(Answer::Done)
     }
 
     /// Forwards a packet to `hop`, preceded by a Redirect if the sender has a better first hop (RFC 4861, section 8.2). `own`: its destination is
@@ -91,11 +95,11 @@ impl<R: Rng + Drop, A: Allocator + Clone> Node<R, A> {
         packet: &Ip6Ref<'_>,
         bytes: &[u8],
         outs: &mut Vec<(u64, Out<A>), A>,
-    ) -> Result<(), AllocError>
+    ) -> Result<Answer, AllocError>
         requires moment { IsMoment now }
         requires settled { now < next_of self.old }
         requires short { length packet.now.payload.now ≤ 65535 }
-        ensures adds { OnOk result (AddsOnward R.stream self.old self.new outs.old.items outs.new.items now (number_of hop.0) own (packet_parts packet.now) bytes.now) }
+        ensures adds { IfOk result (λ answer. AddsOnward R.stream self.old self.new outs.old.items outs.new.items now (number_of hop.0) own (packet_parts packet.now) bytes.now (answer_of answer)) }
         ensures keeps { OnErr result (Keeps self.old self.new) }
         ensures told { OnErr result (outs.new.items ≡ outs.old.items) }
         ensures refused { (came : List ℕ) (start : Start) (c : Chronicle) → Stands R.stream start self.old c → is_own c packet.now.header.destination.0 ≡ own → AddsRefusal now c (SendsOn start now (redirect (is_own c) (routes (route_history c)) (last_redirect (route_history c)) now packet.now.header) (packet_parts packet.now) came (number_of hop.0)) → vec_len outs.old < vec_capacity outs.old → IsOk result }
@@ -124,11 +128,11 @@ impl<R: Rng + Drop, A: Allocator + Clone> Node<R, A> {
         packet: &Ip6Ref<'_>,
         bytes: &[u8],
         outs: &mut Vec<(u64, Out<A>), A>,
-    ) -> Result<(), AllocError>
+    ) -> Result<Answer, AllocError>
         requires moment { IsMoment now }
         requires settled { now < next_of self.old }
         requires short { length packet.now.payload.now ≤ 65535 }
-        ensures adds { OnOk result (AddsSentOn R.stream self.old self.new outs.old.items outs.new.items now (number_of hop.0) (Some target) (packet_parts packet.now) bytes.now) }
+        ensures adds { IfOk result (λ answer. AddsSentOn R.stream self.old self.new outs.old.items outs.new.items now (number_of hop.0) (Some target) (packet_parts packet.now) bytes.now (answer_of answer)) }
         ensures keeps { OnErr result (Keeps self.old self.new) }
         ensures told { OnErr result (outs.new.items ≡ outs.old.items) }
         ensures refused { (came : List ℕ) (start : Start) (c : Chronicle) → Stands R.stream start self.old c → AddsRefusal now c (SendsOn start now (Some target) (packet_parts packet.now) came (number_of hop.0)) → vec_len outs.old < vec_capacity outs.old → IsOk result }
@@ -155,6 +159,6 @@ impl<R: Rng + Drop, A: Allocator + Clone> Node<R, A> {
         self.advance_to(now);
         self.go(now, source, redirect, Some(first), outs);
         self.go(now, hop, frame, Some(second), outs);
-        Ok(())
+        Ok(Answer::Done)
     }
 }

@@ -1,6 +1,6 @@
 //! Receives a frame.
 
-ghost use Rattle.std.specs.Prelude.{◌≡◌, ◌∷◌, ◌-◌, ◌<◌, ◌≤◌, ℕ, List, IsOk, OnOk, OnErr, vec_len, vec_capacity};
+ghost use Rattle.std.specs.Prelude.{◌≡◌, ◌∷◌, ◌-◌, ◌<◌, ◌≤◌, ℕ, List, IsOk, OnErr, vec_len, vec_capacity, IfOk};
 ghost use Rattle.nd_addr.specs.Ip6.{packet_parts};
 ghost use Rattle.nd_decode.specs.Message.{parts};
 ghost use Rattle.nd_decode.specs.Pieces.{options_left};
@@ -17,7 +17,9 @@ ghost use Rattle.nd_chronicle.specs.Event.{EventAdds, VerdictAdds};
 ghost use Rattle.nd_node.specs.Event.{AddsEvent};
 ghost use Rattle.nd_node.specs.Frame.{Stays};
 ghost use Rattle.nd_node.specs.Memory.{AddsNoName, AddsRefusal, AsksForNone};
+ghost use Rattle.nd_node.specs.Answer.{answer_of};
 
+use crate::answer::Answer;
 use crate::node::Node;
 use nd_addr::{Ip6Ref, Why};
 use nd_out::Out;
@@ -37,11 +39,11 @@ impl<R: Rng + Drop, A: Allocator + Clone> Node<R, A> {
         frame: &[u8],
         packet: Ip6Ref<'_>,
         outs: &mut Vec<(u64, Out<A>), A>,
-    ) -> Result<(), AllocError>
+    ) -> Result<Answer, AllocError>
         requires moment { IsMoment now }
         requires settled { now < next_of self.old }
         requires by_frame { Hears frame.now self.old.role (other (packet_parts packet)) }
-        ensures adds { OnOk result (AddsEvent R.stream self.old self.new outs.old.items outs.new.items now (events.Receives frame.now)) }
+        ensures adds { IfOk result (λ answer. AddsEvent R.stream self.old self.new outs.old.items outs.new.items now (events.Receives frame.now) (answer_of answer)) }
         ensures stays { OnErr result (Stays R.stream self.old self.new) }
         ensures told { OnErr result (outs.new.items ≡ outs.old.items) }
         ensures refused { (verdict : Verdict) (start : Start) (c : Chronicle) → Stands R.stream start self.old c → last_moment start.at c ≤ now → Judges start ((now, Passed) ∷ c) now (other (packet_parts packet.entry)) verdict → AddsRefusal now c (VerdictAdds start now frame.now verdict) → vec_len outs.old < vec_capacity outs.old → IsOk result }
@@ -55,7 +57,8 @@ impl<R: Rng + Drop, A: Allocator + Clone> Node<R, A> {
         }
         let mut up = Vec::new(outs.allocator().clone()?);
         up.extend_from_slice(packet_in(frame, packet.payload.len()))?;
-        self.report(now, Out::Up(up), outs)
+        self.report(now, Out::Up(up), outs)?;
+        Ok(Answer::Done)
     }
 
     /// Handles a valid message if it is for this node.
@@ -64,30 +67,20 @@ impl<R: Rng + Drop, A: Allocator + Clone> Node<R, A> {
         now: u64,
         heard: &Heard<'_>,
         outs: &mut Vec<(u64, Out<A>), A>,
-    ) -> Result<(), AllocError>
+    ) -> Result<Answer, AllocError>
         requires moment { IsMoment now }
         requires settled { now < next_of self.old }
-        ensures adds { OnOk result ((frame : List ℕ) → Hears frame self.old.role (valid heard.now.source heard.now.destination (parts heard.now.message)) → AddsEvent R.stream self.old self.new outs.old.items outs.new.items now (events.Receives frame)) }
+        ensures adds { IfOk result (λ answer. (frame : List ℕ) → Hears frame self.old.role (valid heard.now.source heard.now.destination (parts heard.now.message)) → AddsEvent R.stream self.old self.new outs.old.items outs.new.items now (events.Receives frame) (answer_of answer)) }
         ensures stays { OnErr result (Stays R.stream self.old self.new) }
         ensures told { OnErr result (outs.new.items ≡ outs.old.items) }
         ensures refused { (frame : List ℕ) (verdict : Verdict) (start : Start) (c : Chronicle) → Stands R.stream start self.old c → last_moment start.at c ≤ now → Judges start ((now, Passed) ∷ c) now (valid heard.now.source heard.now.destination (parts heard.now.message)) verdict → AddsRefusal now c (VerdictAdds start now frame verdict) → vec_len outs.old < vec_capacity outs.old → IsOk result }
         ensures quiet { (ra : RouterAdvertisement) → heard.now.message.body ≡ bodies.Ra ra → AddsNoName self.old now heard.now.source (options_left heard.now.message.options) (vec_capacity outs.old - vec_len outs.old) → IsOk result }
         ensures dropped { (why : Why) (start : Start) (c : Chronicle) → Stands R.stream start self.old c → last_moment start.at c ≤ now → Judges start ((now, Passed) ∷ c) now (valid heard.now.source heard.now.destination (parts heard.now.message)) (drops why) → vec_len outs.old < vec_capacity outs.old → IsOk result }
     {
-        let source = heard.source;
-        let destination = heard.destination;
-        let message = heard.message;
-        if !self.is_for_us(source, destination, &message.body) {
+        if !self.is_for_us(heard.source, heard.destination, &heard.message.body) {
             return self.drop_frame(now, Why::NotForUs, outs);
         }
-        self.hear_message(
-            now,
-            source,
-            destination,
-            &message.body,
-            message.options,
-            outs,
-        )
+        self.hear_message(now, heard, outs)
     }
 
     /// Receives a frame at `now`, in milliseconds, up to which nothing is due. The frame is dropped for the first reason that holds; a message for
@@ -98,10 +91,10 @@ impl<R: Rng + Drop, A: Allocator + Clone> Node<R, A> {
         now: u64,
         frame: &[u8],
         outs: &mut Vec<(u64, Out<A>), A>,
-    ) -> Result<(), AllocError>
+    ) -> Result<Answer, AllocError>
         requires moment { IsMoment now }
         requires settled { now < next_of self.old }
-        ensures adds { OnOk result (AddsEvent R.stream self.old self.new outs.old.items outs.new.items now (events.Receives frame.now)) }
+        ensures adds { IfOk result (λ answer. AddsEvent R.stream self.old self.new outs.old.items outs.new.items now (events.Receives frame.now) (answer_of answer)) }
         ensures stays { OnErr result (Stays R.stream self.old self.new) }
         ensures told { OnErr result (outs.new.items ≡ outs.old.items) }
         ensures refused { (start : Start) (c : Chronicle) → Stands R.stream start self.old c → last_moment start.at c ≤ now → AddsRefusal now c (EventAdds start now (events.Receives frame.now)) → vec_len outs.old < vec_capacity outs.old → IsOk result }

@@ -19,9 +19,9 @@
 //! # What each call does
 //!
 //! - `Node::new` starts a node: its link-local address is tentative, and duplicate address detection is due (RFC 4862, sections 5.3 and 5.4).
-//! - `event` does all that is due up to a moment, then what the event asks for, and appends what the node sends and reports to a list of
-//!   `Out`, each with its moment. `receive` does so for a frame that the caller keeps, `run` for a list of events. A refused event adds its
-//!   reason alone (`Out::Refused`).
+//! - `event` does all that is due up to a moment, then what the event asks for. It appends what the node sends and reports to a list of `Out`, each
+//!   with its moment, and returns how the node took the event (`Answer`). `receive` does so for a frame and `send` for a packet that the caller
+//!   keeps, `run` for a list of events. A refused event adds its reason alone (`Out::Refused`).
 //! - `settle` and `turn` do what is due without an event. `add` adds an event where nothing is due, for callers whose nodes take turns.
 //! - `next_due` returns the moment at which something is due next, `settled` whether nothing is due up to a moment, and `last_moment` the moment
 //!   up to which time has passed.
@@ -47,6 +47,7 @@
 #![tactic(auto)]
 
 mod advertising;
+mod answer;
 mod clearing;
 mod clock;
 mod counts;
@@ -77,6 +78,7 @@ mod tables;
 mod time;
 mod version;
 
+pub use answer::Answer;
 pub use clearing::Clearable;
 pub use counts::Counts;
 pub use event::{Event, Table};

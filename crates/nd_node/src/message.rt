@@ -1,6 +1,7 @@
 //! Handles a valid message for this node.
 
-ghost use Rattle.std.specs.Prelude.{◌≡◌, ◌+◌, ◌++◌, [], ◌∷◌, ◌-◌, ◌<◌, ◌≤◌, ℕ, List, IsOk, OnOk, OnErr, vec_len, vec_capacity};
+ghost use Rattle.std.specs.Prelude.{◌≡◌, ◌+◌, ◌++◌, [], ◌∷◌, ◌-◌, ◌<◌, ◌≤◌, ℕ, List, IsOk, OnOk, OnErr, vec_len, vec_capacity, IfOk};
+ghost use Rattle.nd_decode.specs.Message.{parts};
 ghost use Rattle.nd_decode.specs.Pieces.{options_left};
 ghost use Rattle.nd_decode.specs.declared.body.Body.TheVariants as bodies;
 ghost use Rattle.nd_decode.specs.declared.router_advertisement.RouterAdvertisement.{RouterAdvertisement};
@@ -13,11 +14,14 @@ ghost use Rattle.nd_chronicle.specs.Hearing.{Judges, NotFromFirstHop, Verdict};
 ghost use Rattle.nd_out.specs.declared.out.Out.TheVariants as reports;
 ghost use Rattle.nd_node.specs.Frame.{AddsAlone, AddsJudged, Stays};
 ghost use Rattle.nd_node.specs.Memory.{AddsNoName, AddsRefusal};
+ghost use Rattle.nd_node.specs.Answer.{answer_of};
 
+use crate::answer::Answer;
 use crate::node::Node;
-use nd_addr::{Addr, Why};
-use nd_decode::{Body, Options};
+use nd_addr::Why;
+use nd_decode::Body;
 use nd_out::Out;
+use nd_validity::Heard;
 use rand_core::Rng;
 use std::alloc::{AllocError, Allocator};
 
@@ -29,21 +33,19 @@ pub(crate) const MOST_ROWS: usize = 3;
 pub(crate) fn push_heard<A: Allocator>(
     outs: &mut Vec<(u64, Out<A>), A>,
     now: u64,
-    source: Addr,
-    destination: Addr,
-    body: Body,
+    heard: &Heard<'_>,
 )
     requires { vec_len outs.old < vec_capacity outs.old }
-    ensures items { outs.new.items ≡ outs.old.items ++ (now, reports.Heard source destination body) ∷ [] }
+    ensures items { outs.new.items ≡ outs.old.items ++ (now, reports.Heard heard.now.source heard.now.destination heard.now.message.body) ∷ [] }
     ensures len { vec_len outs.new ≡ vec_len outs.old + 1 }
     ensures capacity { vec_capacity outs.new ≡ vec_capacity outs.old }
 {
-    let heard = Out::Heard {
-        source,
-        destination,
-        body,
+    let report = Out::Heard {
+        source: heard.source,
+        destination: heard.destination,
+        body: heard.message.body,
     };
-    outs.push_reserved((now, heard));
+    outs.push_reserved((now, report));
 }
 
 impl<R: Rng + Drop, A: Allocator + Clone> Node<R, A> {
@@ -54,19 +56,17 @@ impl<R: Rng + Drop, A: Allocator + Clone> Node<R, A> {
     pub(crate) fn report_heard(
         &mut self,
         now: u64,
-        source: Addr,
-        destination: Addr,
-        body: Body,
+        heard: &Heard<'_>,
         outs: &mut Vec<(u64, Out<A>), A>,
     )
         requires { vec_len outs.old < vec_capacity outs.old }
         ensures clock { self.new ≡ record self.old { last = now } }
-        ensures items { outs.new.items ≡ outs.old.items ++ (now, reports.Heard source destination body) ∷ [] }
+        ensures items { outs.new.items ≡ outs.old.items ++ (now, reports.Heard heard.now.source heard.now.destination heard.now.message.body) ∷ [] }
         ensures len { vec_len outs.new ≡ vec_len outs.old + 1 }
         ensures capacity { vec_capacity outs.new ≡ vec_capacity outs.old }
     {
         self.advance_to(now);
-        push_heard(outs, now, source, destination, body);
+        push_heard(outs, now, heard);
     }
 
     /// Reports at `now`, in milliseconds, that a frame is dropped, with the reason `why`. Returns an error if out of memory; nothing has changed
@@ -76,16 +76,18 @@ impl<R: Rng + Drop, A: Allocator + Clone> Node<R, A> {
         now: u64,
         why: Why,
         outs: &mut Vec<(u64, Out<A>), A>,
-    ) -> Result<(), AllocError>
+    ) -> Result<Answer, AllocError>
         requires settled { now < next_of self.old }
         ensures adds { OnOk result (AddsAlone R.stream self.old self.new outs.old.items outs.new.items now (Dropped why)) }
+        ensures answer { IfOk result (λ answer. answer ≡ Answer.Done) }
         ensures keeps { OnErr result (self.new ≡ self.old) }
         ensures told { OnErr result (outs.new.items ≡ outs.old.items) }
 
         // If the list has room for the report it succeeds, even if no memory is left.
         ensures quiet { vec_len outs.old < vec_capacity outs.old → IsOk result }
     {
-        self.report(now, Out::Dropped(why), outs)
+        self.report(now, Out::Dropped(why), outs)?;
+        Ok(Answer::Done)
     }
 
     /// Handles a valid message for this node at `now`, in milliseconds (RFC 4861, sections 6.2.6, 6.3.4, 7.2.3, 7.2.5 and 8.3). Returns an error if
@@ -93,35 +95,24 @@ impl<R: Rng + Drop, A: Allocator + Clone> Node<R, A> {
     pub(crate) fn hear_message(
         &mut self,
         now: u64,
-        source: Addr,
-        destination: Addr,
-        body: &Body,
-        options: Options<'_>,
+        heard: &Heard<'_>,
         outs: &mut Vec<(u64, Out<A>), A>,
-    ) -> Result<(), AllocError>
+    ) -> Result<Answer, AllocError>
         requires moment { IsMoment now }
         requires settled { now < next_of self.old }
-        ensures adds { OnOk result (AddsJudged R.stream self.old self.new outs.old.items outs.new.items now source destination (record { body = body.now; options = options_left options.entry })) }
+        ensures adds { IfOk result (λ answer. AddsJudged R.stream self.old self.new outs.old.items outs.new.items now heard.now.source heard.now.destination (parts heard.now.message) (answer_of answer)) }
         ensures stays { OnErr result (Stays R.stream self.old self.new) }
         ensures told { OnErr result (outs.new.items ≡ outs.old.items) }
-        ensures refused { (frame : List ℕ) (verdict : Verdict) (start : Start) (c : Chronicle) → Stands R.stream start self.old c → last_moment start.at c ≤ now → Judges start ((now, Passed) ∷ c) now (valid source destination (record { body = body.now; options = options_left options.entry })) verdict → AddsRefusal now c (VerdictAdds start now frame verdict) → vec_len outs.old < vec_capacity outs.old → IsOk result }
-        ensures quiet { (ra : RouterAdvertisement) → body.now ≡ bodies.Ra ra → AddsNoName self.old now source (options_left options.entry) (vec_capacity outs.old - vec_len outs.old) → IsOk result }
-        ensures misdirected { (start : Start) (c : Chronicle) → Stands R.stream start self.old c → last_moment start.at c ≤ now → NotFromFirstHop ((now, Passed) ∷ c) now source body.now → vec_len outs.old < vec_capacity outs.old → IsOk result }
+        ensures refused { (frame : List ℕ) (verdict : Verdict) (start : Start) (c : Chronicle) → Stands R.stream start self.old c → last_moment start.at c ≤ now → Judges start ((now, Passed) ∷ c) now (valid heard.now.source heard.now.destination (parts heard.now.message)) verdict → AddsRefusal now c (VerdictAdds start now frame verdict) → vec_len outs.old < vec_capacity outs.old → IsOk result }
+        ensures quiet { (ra : RouterAdvertisement) → heard.now.message.body ≡ bodies.Ra ra → AddsNoName self.old now heard.now.source (options_left heard.now.message.options) (vec_capacity outs.old - vec_len outs.old) → IsOk result }
+        ensures misdirected { (start : Start) (c : Chronicle) → Stands R.stream start self.old c → last_moment start.at c ≤ now → NotFromFirstHop ((now, Passed) ∷ c) now heard.now.source heard.now.message.body → vec_len outs.old < vec_capacity outs.old → IsOk result }
     {
-        match body {
-            Body::Rs => self.hear_router_solicitation(now, source, destination, options, outs),
-            Body::Ra(ra) => {
-                self.hear_router_advertisement(now, source, destination, ra, options, outs)
-            }
-            Body::Ns(ns) => {
-                self.hear_neighbor_solicitation(now, source, destination, ns, options, outs)
-            }
-            Body::Na(na) => {
-                self.hear_neighbor_advertisement(now, source, destination, na, options, outs)
-            }
-            Body::Redirect(redirect) => {
-                self.judge_redirect(now, source, destination, redirect, options, outs)
-            }
+        match &heard.message.body {
+            Body::Rs => self.hear_router_solicitation(now, heard, outs),
+            Body::Ra(ra) => self.hear_router_advertisement(now, heard, ra, outs),
+            Body::Ns(ns) => self.hear_neighbor_solicitation(now, heard, ns, outs),
+            Body::Na(na) => self.hear_neighbor_advertisement(now, heard, na, outs),
+            Body::Redirect(redirect) => self.judge_redirect(now, heard, redirect, outs),
         }
     }
 }

@@ -1,6 +1,6 @@
 //! Handles a Neighbor Advertisement (RFC 4861, section 7.2.5; RFC 4862, section 5.4.4).
 
-ghost use Rattle.std.specs.Prelude.{◌≡◌, ◌∷◌, ◌<◌, ◌≤◌, Some, IsOk, OnOk, OnErr, vec_capacity, vec_len};
+ghost use Rattle.std.specs.Prelude.{◌≡◌, ◌∷◌, ◌<◌, ◌≤◌, Some, IsOk, OnErr, vec_capacity, vec_len, IfOk};
 ghost use Rattle.nd_decode.specs.Pieces.{options_left};
 ghost use Rattle.nd_decode.specs.declared.body.Body.TheVariants as bodies;
 ghost use Rattle.nd_table.specs.Moment.{IsMoment};
@@ -8,14 +8,16 @@ ghost use Rattle.nd_chronicle.specs.Full.{Fills};
 ghost use Rattle.nd_chronicle.specs.Happening.{Chronicle, Limit as Table, Passed, last_moment};
 ghost use Rattle.nd_chronicle.specs.Start.{Start};
 ghost use Rattle.nd_node.specs.Hearing.{AddsMessage};
+ghost use Rattle.nd_node.specs.Answer.{answer_of};
 
+use crate::answer::Answer;
 use crate::message::MOST_ROWS;
 use crate::node::Node;
-use nd_addr::Addr;
-use nd_decode::{Body, NeighborAdvertisement, Options};
+use nd_decode::NeighborAdvertisement;
 use nd_out::Out;
 use nd_packet::MAX_WAITING;
 use nd_steps::{end_router, hear_holder, hear_of_neighbour, news_of, times_in_force};
+use nd_validity::Heard;
 use rand_core::Rng;
 use std::alloc::{AllocError, Allocator};
 
@@ -29,26 +31,24 @@ impl<R: Rng + Drop, A: Allocator + Clone> Node<R, A> {
     pub(crate) fn hear_neighbor_advertisement(
         &mut self,
         now: u64,
-        source: Addr,
-        destination: Addr,
+        heard: &Heard<'_>,
         na: &NeighborAdvertisement,
-        options: Options<'_>,
         outs: &mut Vec<(u64, Out<A>), A>,
-    ) -> Result<(), AllocError>
+    ) -> Result<Answer, AllocError>
         requires moment { IsMoment now }
         requires settled { now < next_of self.old }
-        ensures adds { OnOk result (AddsMessage R.stream self.old self.new outs.old.items outs.new.items now source destination (record { body = bodies.Na na.now; options = options_left options.entry })) }
+        requires body { heard.now.message.body ≡ bodies.Na na.now }
+        ensures adds { IfOk result (λ answer. AddsMessage R.stream self.old self.new outs.old.items outs.new.items now heard.now.source heard.now.destination (record { body = bodies.Na na.now; options = options_left heard.now.message.options }) (answer_of answer)) }
         ensures keeps { OnErr result (self.new ≡ self.old) }
         ensures told { OnErr result (outs.new.items ≡ outs.old.items) }
-        ensures full { (limit : Table) (start : Start) (c : Chronicle) → Stands R.stream start self.old c → last_moment start.at c ≤ now → Fills start ((now, Passed) ∷ c) now source (record { body = bodies.Na na.now; options = options_left options.entry }) (bodies.Na na.now) (Some limit) → vec_len outs.old < vec_capacity outs.old → IsOk result }
+        ensures full { (limit : Table) (start : Start) (c : Chronicle) → Stands R.stream start self.old c → last_moment start.at c ≤ now → Fills start ((now, Passed) ∷ c) now heard.now.source (record { body = bodies.Na na.now; options = options_left heard.now.message.options }) (bodies.Na na.now) (Some limit) → vec_len outs.old < vec_capacity outs.old → IsOk result }
     {
         nd_neighbour::laws::none_overdue();
         nd_neighbour::laws::one_is_pushed_out();
         nd_slaac::laws::none_overdue();
-        let body = Body::Na(*na);
-        let news = news_of(source, &body, options);
+        let news = news_of(heard.source, &heard.message.body, heard.message.options);
         outs.reserve(MAX_WAITING + MOST_ROWS)?;
-        self.report_heard(now, source, destination, body, outs);
+        self.report_heard(now, heard, outs);
         // RFC 4862, section 5.4.4: an advertisement for a tentative address shows that this address is not unique.
         hear_holder(&mut self.addresses, &mut self.choice, now, na.target, outs);
         // RFC 4861, section 7.2.5: the entry of the target, and the packets that waited for its link-layer address.
@@ -71,6 +71,6 @@ impl<R: Rng + Drop, A: Allocator + Clone> Node<R, A> {
             ends,
             outs,
         );
-        Ok(())
+        Ok(Answer::Done)
     }
 }

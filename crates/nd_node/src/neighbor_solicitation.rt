@@ -14,16 +14,19 @@ ghost use Rattle.nd_chronicle.specs.Full.{Fills};
 ghost use Rattle.nd_chronicle.specs.Happening.{Chronicle, Limit as Table, Passed, last_moment};
 ghost use Rattle.nd_chronicle.specs.Start.{Start};
 ghost use Rattle.nd_node.specs.Hearing.{AddsMessage, Keeps};
+ghost use Rattle.nd_node.specs.Answer.{answer_of};
 
+use crate::answer::Answer;
 use crate::message::MOST_ROWS;
 use crate::node::Node;
 use nd_addr::{Addr, Role};
 use nd_compose::FrameRoom;
-use nd_decode::{Body, NeighborSolicitation, Options};
+use nd_decode::NeighborSolicitation;
 use nd_neighbour::{Cache, News};
 use nd_out::{Limit, Out, Refusal};
 use nd_packet::MAX_WAITING;
 use nd_steps::{hear_conflict, hear_of_neighbour, news_of, ready_for, times_in_force};
+use nd_validity::Heard;
 use rand_core::Rng;
 use std::alloc::{AllocError, Allocator};
 
@@ -45,23 +48,22 @@ impl<R: Rng + Drop, A: Allocator + Clone> Node<R, A> {
     pub(crate) fn hear_neighbor_solicitation(
         &mut self,
         now: u64,
-        source: Addr,
-        destination: Addr,
+        heard: &Heard<'_>,
         ns: &NeighborSolicitation,
-        options: Options<'_>,
         outs: &mut Vec<(u64, Out<A>), A>,
-    ) -> Result<(), AllocError>
+    ) -> Result<Answer, AllocError>
         requires moment { IsMoment now }
         requires settled { now < next_of self.old }
-        ensures adds { OnOk result (AddsMessage R.stream self.old self.new outs.old.items outs.new.items now source destination (record { body = bodies.Ns ns.now; options = options_left options.entry })) }
+        requires body { heard.now.message.body ≡ bodies.Ns ns.now }
+        ensures adds { IfOk result (λ answer. AddsMessage R.stream self.old self.new outs.old.items outs.new.items now heard.now.source heard.now.destination (record { body = bodies.Ns ns.now; options = options_left heard.now.message.options }) (answer_of answer)) }
         ensures keeps { OnErr result (Keeps self.old self.new) }
         ensures told { OnErr result (outs.new.items ≡ outs.old.items) }
-        ensures full { (limit : Table) (start : Start) (c : Chronicle) → Stands R.stream start self.old c → last_moment start.at c ≤ now → Fills start ((now, Passed) ∷ c) now source (record { body = bodies.Ns ns.now; options = options_left options.entry }) (bodies.Ns ns.now) (Some limit) → vec_len outs.old < vec_capacity outs.old → IsOk result }
+        ensures full { (limit : Table) (start : Start) (c : Chronicle) → Stands R.stream start self.old c → last_moment start.at c ≤ now → Fills start ((now, Passed) ∷ c) now heard.now.source (record { body = bodies.Ns ns.now; options = options_left heard.now.message.options }) (bodies.Ns ns.now) (Some limit) → vec_len outs.old < vec_capacity outs.old → IsOk result }
     {
-        if source.is_unspecified() {
-            return self.hear_detection(now, source, destination, ns, outs);
+        if heard.source.is_unspecified() {
+            return self.hear_detection(now, heard, ns, outs);
         }
-        self.hear_asker(now, source, destination, ns, options, outs)
+        self.hear_asker(now, heard, ns, outs)
     }
 
     /// Handles a solicitation from `::` for one of the node's own addresses, which another node tries. If the address is assigned, an advertisement
@@ -70,34 +72,33 @@ impl<R: Rng + Drop, A: Allocator + Clone> Node<R, A> {
     fn hear_detection(
         &mut self,
         now: u64,
-        source: Addr,
-        destination: Addr,
+        heard: &Heard<'_>,
         ns: &NeighborSolicitation,
         outs: &mut Vec<(u64, Out<A>), A>,
-    ) -> Result<(), AllocError>
+    ) -> Result<Answer, AllocError>
         requires moment { IsMoment now }
         requires settled { now < next_of self.old }
-        requires unspecified { bytes_eq source.0 unspecified_address ≡ true }
-        ensures adds { OnOk result ((options : List Said) → AddsMessage R.stream self.old self.new outs.old.items outs.new.items now source destination (record { body = bodies.Ns ns.now; options = options })) }
+        requires body { heard.now.message.body ≡ bodies.Ns ns.now }
+        requires unspecified { bytes_eq heard.now.source.0 unspecified_address ≡ true }
+        ensures adds { IfOk result (λ answer. (options : List Said) → AddsMessage R.stream self.old self.new outs.old.items outs.new.items now heard.now.source heard.now.destination (record { body = bodies.Ns ns.now; options = options }) (answer_of answer)) }
         ensures keeps { OnErr result (Keeps self.old self.new) }
         ensures told { OnErr result (outs.new.items ≡ outs.old.items) }
-        ensures full { (options : List Said) (limit : Table) (start : Start) (c : Chronicle) → Stands R.stream start self.old c → last_moment start.at c ≤ now → Fills start ((now, Passed) ∷ c) now source (record { body = bodies.Ns ns.now; options = options }) (bodies.Ns ns.now) (Some limit) → vec_len outs.old < vec_capacity outs.old → IsOk result }
+        ensures full { (options : List Said) (limit : Table) (start : Start) (c : Chronicle) → Stands R.stream start self.old c → last_moment start.at c ≤ now → Fills start ((now, Passed) ∷ c) now heard.now.source (record { body = bodies.Ns ns.now; options = options }) (bodies.Ns ns.now) (Some limit) → vec_len outs.old < vec_capacity outs.old → IsOk result }
     {
         nd_slaac::laws::none_overdue();
         let room = FrameRoom::new(outs.allocator().clone()?)?;
         outs.reserve(MOST_ROWS)?;
-        let body = Body::Ns(*ns);
-        self.report_heard(now, source, destination, body, outs);
+        self.report_heard(now, heard, outs);
         // RFC 4862, section 5.4.3: the target is tentative, and another node tries it, too.
         if hear_conflict(&mut self.addresses, &mut self.choice, ns.target) {
             outs.push_reserved((now, Out::Duplicate(ns.target)));
-            return Ok(());
+            return Ok(Answer::Done);
         }
         // RFC 4861, section 7.2.4: an advertisement to all nodes says that this node has the address.
         let router = is_router(self.role);
         let defence = room.defence(router, self.mac, ns.target);
         outs.push_reserved((now, Out::Frame(defence)));
-        Ok(())
+        Ok(Answer::Done)
     }
 
     /// Handles a solicitation from an address for one of the node's own: the asker's entry takes what the solicitation says, and the answer goes to
@@ -106,31 +107,30 @@ impl<R: Rng + Drop, A: Allocator + Clone> Node<R, A> {
     fn hear_asker(
         &mut self,
         now: u64,
-        source: Addr,
-        destination: Addr,
+        heard: &Heard<'_>,
         ns: &NeighborSolicitation,
-        options: Options<'_>,
         outs: &mut Vec<(u64, Out<A>), A>,
-    ) -> Result<(), AllocError>
+    ) -> Result<Answer, AllocError>
         requires moment { IsMoment now }
         requires settled { now < next_of self.old }
-        requires specified { bytes_eq source.0 unspecified_address ≡ false }
-        ensures adds { OnOk result (AddsMessage R.stream self.old self.new outs.old.items outs.new.items now source destination (record { body = bodies.Ns ns.now; options = options_left options.entry })) }
+        requires body { heard.now.message.body ≡ bodies.Ns ns.now }
+        requires specified { bytes_eq heard.now.source.0 unspecified_address ≡ false }
+        ensures adds { IfOk result (λ answer. AddsMessage R.stream self.old self.new outs.old.items outs.new.items now heard.now.source heard.now.destination (record { body = bodies.Ns ns.now; options = options_left heard.now.message.options }) (answer_of answer)) }
         ensures keeps { OnErr result (Keeps self.old self.new) }
         ensures told { OnErr result (outs.new.items ≡ outs.old.items) }
-        ensures full { (limit : Table) (start : Start) (c : Chronicle) → Stands R.stream start self.old c → last_moment start.at c ≤ now → Fills start ((now, Passed) ∷ c) now source (record { body = bodies.Ns ns.now; options = options_left options.entry }) (bodies.Ns ns.now) (Some limit) → vec_len outs.old < vec_capacity outs.old → IsOk result }
+        ensures full { (limit : Table) (start : Start) (c : Chronicle) → Stands R.stream start self.old c → last_moment start.at c ≤ now → Fills start ((now, Passed) ∷ c) now heard.now.source (record { body = bodies.Ns ns.now; options = options_left heard.now.message.options }) (bodies.Ns ns.now) (Some limit) → vec_len outs.old < vec_capacity outs.old → IsOk result }
     {
         nd_neighbour::laws::none_overdue();
         nd_neighbour::laws::one_is_pushed_out();
         nd_neighbour::laws::room_is_place();
         nd_neighbour::laws::full_by_history();
-        if !self.neighbours.room(now, source, None) {
+        let asker = heard.source;
+        if !self.neighbours.room(now, asker, None) {
             return self.refuse(now, Refusal::Full(Limit::Neighbours), outs);
         }
-        let body = Body::Ns(*ns);
-        let news = news_of(source, &body, options);
-        let room = make_room(&mut self.neighbours, source, news, outs)?;
-        self.report_heard(now, source, destination, body, outs);
+        let news = news_of(asker, &heard.message.body, heard.message.options);
+        let room = make_room(&mut self.neighbours, asker, news, outs)?;
+        self.report_heard(now, heard, outs);
         let times = times_in_force(&self.params);
         // RFC 4861, section 7.2.3: the asker's link-layer address.
         hear_of_neighbour(
@@ -143,9 +143,9 @@ impl<R: Rng + Drop, A: Allocator + Clone> Node<R, A> {
         );
         // Section 7.2.4: a solicited advertisement, sent to the asker as any packet to a neighbour.
         let router = is_router(self.role);
-        let answer = room.answer.answer(router, self.mac, ns.target, source);
-        self.go(now, source, answer, room.solicitation, outs);
-        Ok(())
+        let answer = room.answer.answer(router, self.mac, ns.target, asker);
+        self.go(now, asker, answer, room.solicitation, outs);
+        Ok(Answer::Done)
     }
 }
 

@@ -1,11 +1,11 @@
 //! Sends a packet of the upper layer (RFC 4861, section 5.2).
 
-ghost use Rattle.std.specs.Prelude.{◌≡◌, ◌<◌, ◌≤◌, length, ℕ, List, None, IsOk, OnErr, OnOk, false, true, option_map, vec_capacity, vec_len};
+ghost use Rattle.std.specs.Prelude.{◌≡◌, ◌<◌, ◌≤◌, length, ℕ, List, None, IsOk, OnErr, OnOk, false, true, option_map, Some, vec_capacity, vec_len, IfOk};
 ghost use Rattle.nd_addr.specs.Number.{number_of};
 ghost use Rattle.nd_table.specs.Moment.{IsMoment};
 ghost use Rattle.nd_chronicle.specs.Event as events;
 ghost use Rattle.nd_chronicle.specs.Event.{EventAdds, PacketAdds, refusal_of_packet};
-ghost use Rattle.nd_chronicle.specs.Happening.{Chronicle, Lost, Sent, last_moment};
+ghost use Rattle.nd_chronicle.specs.Happening.{Chronicle, Lost, Refusal as Why, Sent, last_moment};
 ghost use Rattle.nd_chronicle.specs.Packet.{GoesIfPlaced};
 ghost use Rattle.nd_chronicle.specs.Start.{Start};
 ghost use Rattle.nd_steps.specs.Packets.{frame_of};
@@ -18,7 +18,9 @@ ghost use Rattle.nd_node.specs.Hearing.{Keeps};
 ghost use Rattle.nd_node.specs.Memory.{AddsRefusal};
 ghost use Rattle.nd_node.specs.OutgoingPacket.{AddsPacket, AddsToNeighbour};
 ghost use Rattle.nd_out.specs.Out.{loss_of, refusal_of};
+ghost use Rattle.nd_node.specs.Answer.{answer_of};
 
+use crate::answer::Answer;
 use crate::node::Node;
 use nd_addr::{Addr, Mac};
 use nd_compose::OPEN_MAC;
@@ -35,19 +37,19 @@ impl<R: Rng + Drop, A: Allocator + Clone> Node<R, A> {
 
     /// Returns why a packet is refused, the first reason that holds: the link-local address is a duplicate (RFC 4862, section 5.4.5), the source
     /// isn't assigned, or the packet is too long. It takes no memory.
-    fn refusal_of(&self, outgoing: &OutgoingPacket<A>) -> Option<Refusal>
-        ensures says { (start : Start) (now : ℕ) (c : Chronicle) → Stands R.stream start self.now c → option_map refusal_of result ≡ refusal_of_packet start now outgoing.now.source outgoing.now.payload.items c }
-        ensures short { result ≡ None → length outgoing.now.payload.items ≤ 65535 }
+    fn refusal_of(&self, source: Addr, payload: &[u8]) -> Option<Refusal>
+        ensures says { (start : Start) (now : ℕ) (c : Chronicle) → Stands R.stream start self.now c → option_map refusal_of result ≡ refusal_of_packet start now source payload.now c }
+        ensures short { result ≡ None → length payload.now ≤ 65535 }
     {
         let own = self.addresses.link_local();
         if self.addresses.is_duplicate(own) {
             return Some(Refusal::Disabled);
         }
-        if !self.addresses.counts(Counted::Assigned, outgoing.source) {
-            return Some(Refusal::NotOurs(outgoing.source));
+        if !self.addresses.counts(Counted::Assigned, source) {
+            return Some(Refusal::NotOurs(source));
         }
         let mtu = self.params.mtu();
-        if is_too_long(&outgoing.payload, mtu) {
+        if is_too_long(payload, mtu) {
             return Some(Refusal::TooLong);
         }
         None
@@ -76,13 +78,15 @@ impl<R: Rng + Drop, A: Allocator + Clone> Node<R, A> {
         now: u64,
         packet: Packet<A>,
         outs: &mut Vec<(u64, Out<A>), A>,
-    ) -> Result<(), AllocError>
+    ) -> Result<Answer, AllocError>
         requires settled { now < next_of self.old }
         ensures adds { OnOk result (AddsAlone R.stream self.old self.new outs.old.items outs.new.items now (Sent packet)) }
+        ensures answer { IfOk result (λ answer. answer ≡ Answer.Done) }
         ensures keeps { OnErr result (Keeps self.old self.new) }
         ensures told { OnErr result (outs.new.items ≡ outs.old.items) }
     {
-        self.report(now, Out::Frame(packet), outs)
+        self.report(now, Out::Frame(packet), outs)?;
+        Ok(Answer::Done)
     }
 
     /// Refuses a packet to a neighbour for which there is no room. Returns an error if out of memory; nothing has changed then.
@@ -91,10 +95,10 @@ impl<R: Rng + Drop, A: Allocator + Clone> Node<R, A> {
         now: u64,
         to: Addr,
         outs: &mut Vec<(u64, Out<A>), A>,
-    ) -> Result<(), AllocError>
+    ) -> Result<Answer, AllocError>
         requires settled { now < next_of self.old }
         requires full { has_room self.old.neighbours.limit now (number_of to.0) None self.old.neighbours.entries ≡ false }
-        ensures adds { OnOk result ((packet : List ℕ) → AddsToNeighbour R.stream self.old self.new outs.old.items outs.new.items now (number_of to.0) packet) }
+        ensures adds { IfOk result (λ answer. (packet : List ℕ) → AddsToNeighbour R.stream self.old self.new outs.old.items outs.new.items now (number_of to.0) packet (answer_of answer)) }
         ensures keeps { OnErr result (Keeps self.old self.new) }
         ensures told { OnErr result (outs.new.items ≡ outs.old.items) }
         ensures ready { vec_len outs.old < vec_capacity outs.old → IsOk result }
@@ -111,11 +115,11 @@ impl<R: Rng + Drop, A: Allocator + Clone> Node<R, A> {
         to: Addr,
         packet: Packet<A>,
         outs: &mut Vec<(u64, Out<A>), A>,
-    ) -> Result<(), AllocError>
+    ) -> Result<Answer, AllocError>
         requires moment { IsMoment now }
         requires settled { now < next_of self.old }
         requires room { has_room self.old.neighbours.limit now (number_of to.0) None self.old.neighbours.entries ≡ true }
-        ensures adds { OnOk result (AddsToNeighbour R.stream self.old self.new outs.old.items outs.new.items now (number_of to.0) packet) }
+        ensures adds { IfOk result (λ answer. AddsToNeighbour R.stream self.old self.new outs.old.items outs.new.items now (number_of to.0) packet (answer_of answer)) }
         ensures keeps { OnErr result (Keeps self.old self.new) }
         ensures told { OnErr result (outs.new.items ≡ outs.old.items) }
     {
@@ -124,7 +128,7 @@ impl<R: Rng + Drop, A: Allocator + Clone> Node<R, A> {
         let solicitation = ready_for(&mut self.neighbours, to, outs)?;
         self.advance_to(now);
         self.go(now, to, packet, solicitation, outs);
-        Ok(())
+        Ok(Answer::Done)
     }
 
     /// Sends a packet of the upper layer to a neighbour, or refuses it if there is no room for the neighbour, before a frame is made. Returns an
@@ -135,11 +139,11 @@ impl<R: Rng + Drop, A: Allocator + Clone> Node<R, A> {
         to: Addr,
         outgoing: &OutgoingPacket<A>,
         outs: &mut Vec<(u64, Out<A>), A>,
-    ) -> Result<(), AllocError>
+    ) -> Result<Answer, AllocError>
         requires moment { IsMoment now }
         requires settled { now < next_of self.old }
         requires short { length outgoing.now.payload.items ≤ 65535 }
-        ensures adds { OnOk result (AddsToNeighbour R.stream self.old self.new outs.old.items outs.new.items now (number_of to.0) (frame_of open_mac self.old.mac self.old.params.hop_limit outgoing.now)) }
+        ensures adds { IfOk result (λ answer. AddsToNeighbour R.stream self.old self.new outs.old.items outs.new.items now (number_of to.0) (frame_of open_mac self.old.mac self.old.params.hop_limit outgoing.now) (answer_of answer)) }
         ensures keeps { OnErr result (Keeps self.old self.new) }
         ensures told { OnErr result (outs.new.items ≡ outs.old.items) }
         ensures refused { (packet : List ℕ) (start : Start) (c : Chronicle) → Stands R.stream start self.old c → AddsRefusal now c (GoesIfPlaced start now (number_of to.0) packet) → vec_len outs.old < vec_capacity outs.old → IsOk result }
@@ -162,11 +166,11 @@ impl<R: Rng + Drop, A: Allocator + Clone> Node<R, A> {
         now: u64,
         outgoing: &OutgoingPacket<A>,
         outs: &mut Vec<(u64, Out<A>), A>,
-    ) -> Result<(), AllocError>
+    ) -> Result<Answer, AllocError>
         requires moment { IsMoment now }
         requires settled { now < next_of self.old }
         requires short { length outgoing.now.payload.items ≤ 65535 }
-        ensures adds { OnOk result (AddsPacket R.stream self.old self.new outs.old.items outs.new.items now direct outgoing.now) }
+        ensures adds { IfOk result (λ answer. AddsPacket R.stream self.old self.new outs.old.items outs.new.items now direct outgoing.now (answer_of answer)) }
         ensures keeps { OnErr result (Keeps self.old self.new) }
         ensures told { OnErr result (outs.new.items ≡ outs.old.items) }
         ensures refused { (start : Start) (c : Chronicle) → Stands R.stream start self.old c → AddsRefusal now c (PacketAdds start now direct outgoing.now.source outgoing.now.destination outgoing.now.next_header outgoing.now.payload.items) → vec_len outs.old < vec_capacity outs.old → IsOk result }
@@ -190,11 +194,11 @@ impl<R: Rng + Drop, A: Allocator + Clone> Node<R, A> {
         hop: Hop,
         outgoing: &OutgoingPacket<A>,
         outs: &mut Vec<(u64, Out<A>), A>,
-    ) -> Result<(), AllocError>
+    ) -> Result<Answer, AllocError>
         requires moment { IsMoment now }
         requires settled { now < next_of self.old }
         requires short { length outgoing.now.payload.items ≤ 65535 }
-        ensures adds { OnOk result (AddsPacket R.stream self.old self.new outs.old.items outs.new.items now (hop_of hop) outgoing.now) }
+        ensures adds { IfOk result (λ answer. AddsPacket R.stream self.old self.new outs.old.items outs.new.items now (hop_of hop) outgoing.now (answer_of answer)) }
         ensures keeps { OnErr result (Keeps self.old self.new) }
         ensures told { OnErr result (outs.new.items ≡ outs.old.items) }
         ensures refused { (start : Start) (c : Chronicle) → Stands R.stream start self.old c → AddsRefusal now c (PacketAdds start now (hop_of hop) outgoing.now.source outgoing.now.destination outgoing.now.next_header outgoing.now.payload.items) → vec_len outs.old < vec_capacity outs.old → IsOk result }
@@ -206,32 +210,82 @@ impl<R: Rng + Drop, A: Allocator + Clone> Node<R, A> {
                 let hop_limit = self.params.hop_limit();
                 let alloc = outs.allocator().clone()?;
                 let packet = outgoing.frame(alloc, OPEN_MAC, self.mac, hop_limit)?;
-                self.lose(now, Loss::NoRoute, packet, outs)
+                self.lose(now, Loss::NoRoute, packet, outs)?;
+                Ok(Answer::NoRoute)
             }
         }
     }
 
-    /// Sends a packet of the upper layer at `now`, in milliseconds, up to which nothing is due: refuses it for the first reason that holds, or
-    /// sends it to its next hop (RFC 4861, section 5.2). Returns an error if out of memory; nothing has happened then.
-    pub(crate) fn send(
+    /// Sends a packet that is not refused to its next hop (RFC 4861, section 5.2). Returns an error if out of memory; nothing has happened then.
+    fn send_unrefused(
         &mut self,
         now: u64,
         outgoing: &OutgoingPacket<A>,
         outs: &mut Vec<(u64, Out<A>), A>,
-    ) -> Result<(), AllocError>
+    ) -> Result<Answer, AllocError>
         requires moment { IsMoment now }
         requires settled { now < next_of self.old }
-        ensures adds { OnOk result (AddsEvent R.stream self.old self.new outs.old.items outs.new.items now (events.Sends outgoing.now.source outgoing.now.destination outgoing.now.next_header outgoing.now.payload.items)) }
+        requires short { length outgoing.now.payload.items ≤ 65535 }
+        requires unrefused { (start : Start) (c : Chronicle) → Stands R.stream start self.old c → None ≡ refusal_of_packet start now outgoing.now.source outgoing.now.payload.items c }
+        ensures adds { IfOk result (λ answer. AddsEvent R.stream self.old self.new outs.old.items outs.new.items now (events.Sends outgoing.now.source outgoing.now.destination outgoing.now.next_header outgoing.now.payload.items) (answer_of answer)) }
         ensures stays { OnErr result (Stays R.stream self.old self.new) }
         ensures told { OnErr result (outs.new.items ≡ outs.old.items) }
         ensures refused { (start : Start) (c : Chronicle) → Stands R.stream start self.old c → last_moment start.at c ≤ now → AddsRefusal now c (EventAdds start now (events.Sends outgoing.now.source outgoing.now.destination outgoing.now.next_header outgoing.now.payload.items)) → vec_len outs.old < vec_capacity outs.old → IsOk result }
     {
-        match self.refusal_of(outgoing) {
+        let hop = self.hop_of_packet(now, outgoing.destination);
+        self.send_by_hop(now, hop, outgoing, outs)
+    }
+
+    /// Sends a packet of the upper layer at `now`, in milliseconds, up to which nothing is due: refuses it for the first reason that holds, or
+    /// sends it to its next hop (RFC 4861, section 5.2). Returns an error if out of memory; nothing has happened then.
+    pub(crate) fn send_packet(
+        &mut self,
+        now: u64,
+        outgoing: &OutgoingPacket<A>,
+        outs: &mut Vec<(u64, Out<A>), A>,
+    ) -> Result<Answer, AllocError>
+        requires moment { IsMoment now }
+        requires settled { now < next_of self.old }
+        ensures adds { IfOk result (λ answer. AddsEvent R.stream self.old self.new outs.old.items outs.new.items now (events.Sends outgoing.now.source outgoing.now.destination outgoing.now.next_header outgoing.now.payload.items) (answer_of answer)) }
+        ensures stays { OnErr result (Stays R.stream self.old self.new) }
+        ensures told { OnErr result (outs.new.items ≡ outs.old.items) }
+        ensures refused { (start : Start) (c : Chronicle) → Stands R.stream start self.old c → last_moment start.at c ≤ now → AddsRefusal now c (EventAdds start now (events.Sends outgoing.now.source outgoing.now.destination outgoing.now.next_header outgoing.now.payload.items)) → vec_len outs.old < vec_capacity outs.old → IsOk result }
+    {
+        match self.refusal_of(outgoing.source, &outgoing.payload) {
             Some(refusal) => self.refuse(now, refusal, outs),
-            None => {
-                let hop = self.hop_of_packet(now, outgoing.destination);
-                self.send_by_hop(now, hop, outgoing, outs)
-            }
+            None => self.send_unrefused(now, outgoing, outs),
         }
+    }
+
+    /// Sends a packet of the upper layer as `send_packet` does, whose payload the caller keeps: it is copied once the packet is not refused. Returns
+    /// an error if out of memory; nothing has happened then.
+    pub(crate) fn send_copied(
+        &mut self,
+        now: u64,
+        source: Addr,
+        destination: Addr,
+        next_header: u8,
+        payload: &[u8],
+        outs: &mut Vec<(u64, Out<A>), A>,
+    ) -> Result<Answer, AllocError>
+        requires moment { IsMoment now }
+        requires settled { now < next_of self.old }
+        ensures adds { IfOk result (λ answer. AddsEvent R.stream self.old self.new outs.old.items outs.new.items now (events.Sends source destination next_header payload.now) (answer_of answer)) }
+        ensures stays { OnErr result (Stays R.stream self.old self.new) }
+        ensures told { OnErr result (outs.new.items ≡ outs.old.items) }
+        ensures refused { (refusal : Why) (start : Start) (c : Chronicle) → Stands R.stream start self.old c → refusal_of_packet start now source payload.now c ≡ Some refusal → vec_len outs.old < vec_capacity outs.old → IsOk result }
+    {
+        if let Some(refusal) = self.refusal_of(source, payload) {
+            return self.refuse(now, refusal, outs);
+        }
+        let mut bytes = Vec::with_capacity(outs.allocator().clone()?, payload.len())?;
+        bytes.extend_from_slice(payload)?;
+        let outgoing = OutgoingPacket {
+            source,
+            destination,
+            next_header,
+            payload: bytes,
+        };
+        self.send_unrefused(now, &outgoing, outs)
     }
 }

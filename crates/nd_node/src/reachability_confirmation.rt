@@ -4,6 +4,7 @@ ghost use Rattle.std.specs.Prelude.{◌<◌, ℕ, List};
 ghost use Rattle.nd_table.specs.Moment.{IsMoment};
 ghost use Rattle.nd_chronicle.specs.Event as events;
 ghost use Rattle.nd_out.specs.declared.out.Out as told;
+ghost use Rattle.nd_chronicle.specs.Answer as answers;
 ghost use Rattle.nd_node.specs.Event.{AddsEvent};
 
 use crate::node::Node;
@@ -20,7 +21,7 @@ impl<R: Rng + Drop, A: Allocator + Clone> Node<R, A> {
     pub(crate) fn confirm(&mut self, now: u64, neighbour: Addr)
         requires moment { IsMoment now }
         requires settled { now < next_of self.old }
-        ensures { (outs : List (ℕ × told.Out A)) → AddsEvent R.stream self.old self.new outs outs now (events.Confirms neighbour) }
+        ensures { (outs : List (ℕ × told.Out A)) → AddsEvent R.stream self.old self.new outs outs now (events.Confirms neighbour) answers.Done }
     {
         nd_neighbour::laws::none_overdue();
         let times = times_in_force(&self.params);

@@ -1,6 +1,6 @@
 //! A Redirect is received (RFC 4861, sections 8.1 and 8.3).
 
-ghost use Rattle.std.specs.Prelude.{◌≡◌, ◌∷◌, ◌<◌, ◌≤◌, Some, IsOk, OnOk, OnErr, vec_capacity, vec_len};
+ghost use Rattle.std.specs.Prelude.{◌≡◌, ◌∷◌, ◌<◌, ◌≤◌, Some, IsOk, OnErr, vec_capacity, vec_len, IfOk};
 ghost use Rattle.nd_decode.specs.Pieces.{options_left};
 ghost use Rattle.nd_decode.specs.declared.body.Body.TheVariants as bodies;
 ghost use Rattle.nd_table.specs.Moment.{IsMoment};
@@ -10,14 +10,17 @@ ghost use Rattle.nd_chronicle.specs.Start.{Start};
 ghost use Rattle.nd_chronicle.specs.Hearing.{NotFromFirstHop};
 ghost use Rattle.nd_node.specs.Frame.{AddsJudged, Stays};
 ghost use Rattle.nd_node.specs.Hearing.{AddsMessage};
+ghost use Rattle.nd_node.specs.Answer.{answer_of};
 
+use crate::answer::Answer;
 use crate::message::MOST_ROWS;
 use crate::node::Node;
-use nd_addr::{Addr, Why};
-use nd_decode::{Body, Options, Redirect};
+use nd_addr::Why;
+use nd_decode::Redirect;
 use nd_out::{Limit, Out, Refusal};
 use nd_packet::MAX_WAITING;
 use nd_steps::{has_place, hear_of_neighbour, is_via, news_of, times_in_force};
+use nd_validity::Heard;
 use rand_core::Rng;
 use std::alloc::{AllocError, Allocator};
 
@@ -29,26 +32,25 @@ impl<R: Rng + Drop, A: Allocator + Clone> Node<R, A> {
     pub(crate) fn judge_redirect(
         &mut self,
         now: u64,
-        source: Addr,
-        destination: Addr,
+        heard: &Heard<'_>,
         redirect: &Redirect,
-        options: Options<'_>,
         outs: &mut Vec<(u64, Out<A>), A>,
-    ) -> Result<(), AllocError>
+    ) -> Result<Answer, AllocError>
         requires moment { IsMoment now }
         requires settled { now < next_of self.old }
-        ensures adds { OnOk result (AddsJudged R.stream self.old self.new outs.old.items outs.new.items now source destination (record { body = bodies.Redirect redirect.now; options = options_left options.entry })) }
+        requires body { heard.now.message.body ≡ bodies.Redirect redirect.now }
+        ensures adds { IfOk result (λ answer. AddsJudged R.stream self.old self.new outs.old.items outs.new.items now heard.now.source heard.now.destination (record { body = bodies.Redirect redirect.now; options = options_left heard.now.message.options }) (answer_of answer)) }
         ensures stays { OnErr result (Stays R.stream self.old self.new) }
         ensures told { OnErr result (outs.new.items ≡ outs.old.items) }
-        ensures full { (limit : Table) (start : Start) (c : Chronicle) → Stands R.stream start self.old c → last_moment start.at c ≤ now → Fills start ((now, Passed) ∷ c) now source (record { body = bodies.Redirect redirect.now; options = options_left options.entry }) (bodies.Redirect redirect.now) (Some limit) → vec_len outs.old < vec_capacity outs.old → IsOk result }
-        ensures misdirected { (start : Start) (c : Chronicle) → Stands R.stream start self.old c → last_moment start.at c ≤ now → NotFromFirstHop ((now, Passed) ∷ c) now source (bodies.Redirect redirect.now) → vec_len outs.old < vec_capacity outs.old → IsOk result }
+        ensures full { (limit : Table) (start : Start) (c : Chronicle) → Stands R.stream start self.old c → last_moment start.at c ≤ now → Fills start ((now, Passed) ∷ c) now heard.now.source (record { body = bodies.Redirect redirect.now; options = options_left heard.now.message.options }) (bodies.Redirect redirect.now) (Some limit) → vec_len outs.old < vec_capacity outs.old → IsOk result }
+        ensures misdirected { (start : Start) (c : Chronicle) → Stands R.stream start self.old c → last_moment start.at c ≤ now → NotFromFirstHop ((now, Passed) ∷ c) now heard.now.source (bodies.Redirect redirect.now) → vec_len outs.old < vec_capacity outs.old → IsOk result }
     {
         // A Redirect that is taken forgets what is remembered.
         let hop = self.determined_hop(now, redirect.destination);
-        if !is_via(hop, source) {
+        if !is_via(hop, heard.source) {
             return self.drop_frame(now, Why::NotFirstHop, outs);
         }
-        self.hear_redirect(now, source, destination, redirect, options, outs)
+        self.hear_redirect(now, heard, redirect, outs)
     }
 
     /// Handles a Redirect from the first hop of its destination at `now`, in milliseconds: its target is the destination's next hop from now on,
@@ -57,23 +59,21 @@ impl<R: Rng + Drop, A: Allocator + Clone> Node<R, A> {
     fn hear_redirect(
         &mut self,
         now: u64,
-        source: Addr,
-        destination: Addr,
+        heard: &Heard<'_>,
         redirect: &Redirect,
-        options: Options<'_>,
         outs: &mut Vec<(u64, Out<A>), A>,
-    ) -> Result<(), AllocError>
+    ) -> Result<Answer, AllocError>
         requires moment { IsMoment now }
         requires settled { now < next_of self.old }
-        ensures adds { OnOk result (AddsMessage R.stream self.old self.new outs.old.items outs.new.items now source destination (record { body = bodies.Redirect redirect.now; options = options_left options.entry })) }
+        requires body { heard.now.message.body ≡ bodies.Redirect redirect.now }
+        ensures adds { IfOk result (λ answer. AddsMessage R.stream self.old self.new outs.old.items outs.new.items now heard.now.source heard.now.destination (record { body = bodies.Redirect redirect.now; options = options_left heard.now.message.options }) (answer_of answer)) }
         ensures keeps { OnErr result (self.new ≡ self.old) }
         ensures told { OnErr result (outs.new.items ≡ outs.old.items) }
-        ensures full { (limit : Table) (start : Start) (c : Chronicle) → Stands R.stream start self.old c → last_moment start.at c ≤ now → Fills start ((now, Passed) ∷ c) now source (record { body = bodies.Redirect redirect.now; options = options_left options.entry }) (bodies.Redirect redirect.now) (Some limit) → vec_len outs.old < vec_capacity outs.old → IsOk result }
+        ensures full { (limit : Table) (start : Start) (c : Chronicle) → Stands R.stream start self.old c → last_moment start.at c ≤ now → Fills start ((now, Passed) ∷ c) now heard.now.source (record { body = bodies.Redirect redirect.now; options = options_left heard.now.message.options }) (bodies.Redirect redirect.now) (Some limit) → vec_len outs.old < vec_capacity outs.old → IsOk result }
     {
         nd_neighbour::laws::none_overdue();
         nd_neighbour::laws::one_is_pushed_out();
-        let body = Body::Redirect(*redirect);
-        let news = news_of(source, &body, options);
+        let news = news_of(heard.source, &heard.message.body, heard.message.options);
         if !has_place(&self.neighbours, now, news) {
             return self.refuse(now, Refusal::Full(Limit::Neighbours), outs);
         }
@@ -81,7 +81,7 @@ impl<R: Rng + Drop, A: Allocator + Clone> Node<R, A> {
         // Section 8.3: the Destination Cache: "so that subsequent traffic will go to the specified target".
         self.choice
             .redirected(redirect.destination, redirect.target)?;
-        self.report_heard(now, source, destination, body, outs);
+        self.report_heard(now, heard, outs);
         let times = times_in_force(&self.params);
         // Section 8.3: the target's link-layer address, and that it is a router if it is not the destination.
         hear_of_neighbour(
@@ -92,6 +92,6 @@ impl<R: Rng + Drop, A: Allocator + Clone> Node<R, A> {
             times,
             outs,
         );
-        Ok(())
+        Ok(Answer::Done)
     }
 }

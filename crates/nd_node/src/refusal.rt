@@ -1,10 +1,11 @@
 //! Reports a refusal.
 
-ghost use Rattle.std.specs.Prelude.{◌≡◌, ◌<◌, IsOk, OnErr, OnOk, vec_capacity, vec_len};
+ghost use Rattle.std.specs.Prelude.{◌≡◌, ◌<◌, IsOk, OnErr, OnOk, vec_capacity, vec_len, IfOk};
 ghost use Rattle.nd_chronicle.specs.Happening.{Refused};
 ghost use Rattle.nd_node.specs.Frame.{AddsAlone};
 ghost use Rattle.nd_out.specs.Out.{refusal_of};
 
+use crate::answer::Answer;
 use crate::node::Node;
 use nd_out::{Out, Refusal};
 use rand_core::Rng;
@@ -20,15 +21,17 @@ impl<R: Rng + Drop, A: Allocator + Clone> Node<R, A> {
         now: u64,
         refusal: Refusal,
         outs: &mut Vec<(u64, Out<A>), A>,
-    ) -> Result<(), AllocError>
+    ) -> Result<Answer, AllocError>
         requires settled { now < next_of self.old }
         ensures adds { OnOk result (AddsAlone R.stream self.old self.new outs.old.items outs.new.items now (Refused (refusal_of refusal))) }
+        ensures answer { IfOk result (λ answer. answer ≡ Answer.Refused refusal) }
         ensures keeps { OnErr result (self.new ≡ self.old) }
         ensures told { OnErr result (outs.new.items ≡ outs.old.items) }
 
         // If the list has room for the report it succeeds, even if no memory is left.
         ensures ready { vec_len outs.old < vec_capacity outs.old → IsOk result }
     {
-        self.report(now, Out::Refused(refusal), outs)
+        self.report(now, Out::Refused(refusal), outs)?;
+        Ok(Answer::Refused(refusal))
     }
 }

@@ -1,12 +1,14 @@
 //! Removes a neighbour, by a command.
 
-ghost use Rattle.std.specs.Prelude.{◌≡◌, ◌-◌, ◌<◌, ◌≤◌, IsOk, OnErr, OnOk, length, vec_capacity, vec_len};
+ghost use Rattle.std.specs.Prelude.{◌≡◌, ◌-◌, ◌<◌, ◌≤◌, IsOk, OnErr, length, vec_capacity, vec_len, IfOk};
 ghost use Rattle.nd_addr.specs.Number.{number_of};
 ghost use Rattle.nd_chronicle.specs.Event as events;
 ghost use Rattle.nd_neighbour.specs.Removal.{waiting_at};
 ghost use Rattle.nd_neighbour.specs.Table.{entry_in};
 ghost use Rattle.nd_node.specs.Event.{AddsEvent};
+ghost use Rattle.nd_node.specs.Answer.{answer_of};
 
+use crate::answer::Answer;
 use crate::node::Node;
 use nd_addr::Addr;
 use nd_out::{Loss, Out};
@@ -24,9 +26,9 @@ impl<R: Rng + Drop, A: Allocator + Clone> Node<R, A> {
         now: u64,
         neighbour: Addr,
         outs: &mut Vec<(u64, Out<A>), A>,
-    ) -> Result<(), AllocError>
+    ) -> Result<Answer, AllocError>
         requires settled { now < next_of self.old }
-        ensures adds { OnOk result (AddsEvent R.stream self.old self.new outs.old.items outs.new.items now (events.Forgets neighbour)) }
+        ensures adds { IfOk result (λ answer. AddsEvent R.stream self.old self.new outs.old.items outs.new.items now (events.Forgets neighbour) (answer_of answer)) }
         ensures keeps { OnErr result (self.new ≡ self.old) }
         ensures told { OnErr result (outs.new.items ≡ outs.old.items) }
 
@@ -40,6 +42,6 @@ impl<R: Rng + Drop, A: Allocator + Clone> Node<R, A> {
         self.choice.changed();
         tell_lost(outs, now, Loss::Forgotten, packets);
         self.advance_to(now);
-        Ok(())
+        Ok(Answer::Done)
     }
 }

@@ -1,6 +1,6 @@
 //! Handles a Router Advertisement (RFC 4861, section 6.3.4; RFC 4862, section 5.5.3; RFC 8106, section 6.1).
 
-ghost use Rattle.std.specs.Prelude.{◌≡◌, ◌∷◌, ◌≤◌, ◌<◌, ◌+◌, ◌-◌, true, Some, IsOk, OnOk, OnErr, vec_len, vec_capacity};
+ghost use Rattle.std.specs.Prelude.{◌≡◌, ◌∷◌, ◌≤◌, ◌<◌, ◌+◌, ◌-◌, true, Some, IsOk, OnErr, vec_len, vec_capacity, IfOk};
 ghost use Rattle.std.specs.Option.{option_map};
 ghost use Rattle.nd_decode.specs.Pieces.{options_left};
 ghost use Rattle.nd_decode.specs.declared.body.Body.TheVariants as bodies;
@@ -16,37 +16,25 @@ ghost use Rattle.nd_node.specs.RouterAdvertisement.{TakesAdvertisement};
 ghost use Rattle.nd_node.specs.Hearing.{AddsMessage};
 ghost use Rattle.nd_node.specs.Memory.{AddsNoName};
 ghost use Rattle.nd_node.specs.Fullness.{HasRoom};
+ghost use Rattle.nd_node.specs.Answer.{answer_of};
 
+use crate::answer::Answer;
 use crate::message::push_heard;
 use crate::node::Node;
-use nd_addr::Addr;
-use nd_decode::{Body, Options, RouterAdvertisement};
+use nd_decode::RouterAdvertisement;
 use nd_dns::NewNames;
-use nd_neighbour::laws::one_is_pushed_out;
 use nd_neighbour::{News, Times};
 use nd_out::{Out, Refusal};
 use nd_steps::{
     has_place, hear_dns, hear_of_neighbour, hear_parameters, hear_prefix_options, hear_prefixes,
     hear_router, keep_until_a_prefix_ends, news_of, tell_left, waiting_for,
 };
+use nd_validity::Heard;
 use rand_core::Rng;
 use std::alloc::{AllocError, Allocator};
 
 /// The most that a Router Advertisement reports besides the frames that are sent: itself, and a router that times out.
 const BESIDE_FRAMES: usize = 2;
-
-/// A valid Router Advertisement, with the addresses of its packet (RFC 4861, section 4.2).
-#[derive(Clone, Copy)]
-struct Advertisement<'a> {
-    /// The router that sent it.
-    source: Addr,
-    /// All nodes, or the node that solicited it.
-    destination: Addr,
-    /// Its fields before the options.
-    ra: RouterAdvertisement,
-    /// Its options.
-    options: Options<'a>,
-}
 
 impl<R: Rng + Drop, A: Allocator + Clone> Node<R, A> {
     ghost use Rattle.nd_node.specs.Node.{Stands, next_of};
@@ -56,21 +44,22 @@ impl<R: Rng + Drop, A: Allocator + Clone> Node<R, A> {
     fn take_router_advertisement(
         &mut self,
         now: u64,
-        heard: &Advertisement<'_>,
+        heard: &Heard<'_>,
+        ra: &RouterAdvertisement,
         news: Option<News>,
         names: NewNames<A>,
         outs: &mut Vec<(u64, Out<A>), A>,
     )
         requires moment { IsMoment now }
         requires settled { now < next_of self.old }
-        requires room { HasRoom self.old now heard.now.source heard.now.ra (options_left heard.now.options) true }
+        requires room { HasRoom self.old now heard.now.source ra.now (options_left heard.now.message.options) true }
         requires place { HasPlace self.old.neighbours.limit now news self.old.neighbours.entries }
-        requires news { (times : Times) → option_map (said_by times) news ≡ said_of_neighbour heard.now.source (bodies.Ra heard.now.ra) (options_left heard.now.options) times.reachable }
-        requires names { names ≡ new_names now (options_left heard.now.options) self.old.dns }
+        requires news { (times : Times) → option_map (said_by times) news ≡ said_of_neighbour heard.now.source (bodies.Ra ra.now) (options_left heard.now.message.options) times.reachable }
+        requires names { names ≡ new_names now (options_left heard.now.message.options) self.old.dns }
         requires space { vec_len outs.old + waiting_for news self.old.neighbours.entries + 1 ≤ vec_capacity outs.old }
-        ensures { TakesAdvertisement R.stream self.old self.new outs.old.items outs.new.items now heard.now.source heard.now.destination heard.now.ra (options_left heard.now.options) }
+        ensures { TakesAdvertisement R.stream self.old self.new outs.old.items outs.new.items now heard.now.source heard.now.destination ra.now (options_left heard.now.message.options) }
     {
-        one_is_pushed_out();
+        nd_neighbour::laws::one_is_pushed_out();
         nd_neighbour::laws::none_overdue();
         nd_slaac::laws::none_overdue();
         // RFC 4861, section 6.3.4: "If the received Cur Hop Limit value is non-zero, the host SHOULD set its CurHopLimit variable to the received
@@ -79,11 +68,11 @@ impl<R: Rng + Drop, A: Allocator + Clone> Node<R, A> {
             &mut self.params,
             &mut self.generator,
             now,
-            &heard.ra,
-            heard.options,
+            ra,
+            heard.message.options,
         );
         // Section 6.3.7: a host that has heard a router solicits no more.
-        self.solicitations.heard_router(heard.ra.router_lifetime);
+        self.solicitations.heard_router(ra.router_lifetime);
         let retrans = self.params.retrans_timer();
         let times = Times {
             retrans,
@@ -106,23 +95,28 @@ impl<R: Rng + Drop, A: Allocator + Clone> Node<R, A> {
             &mut self.choice,
             now,
             heard.source,
-            heard.ra.router_lifetime,
-            heard.ra.preference,
+            ra.router_lifetime,
+            ra.preference,
         );
         tell_left(outs, now, heard.source, times_out);
         // Section 6.3.4, "each Prefix Information option with the on-link flag set".
-        hear_prefixes(&mut self.prefixes, &mut self.choice, now, heard.options);
+        hear_prefixes(
+            &mut self.prefixes,
+            &mut self.choice,
+            now,
+            heard.message.options,
+        );
         // RFC 4862, section 5.5.3: the options with the autonomous flag form addresses, or renew them.
         let none_formed = hear_prefix_options(
             &mut self.addresses,
             &mut self.generator,
             now,
-            heard.options,
+            heard.message.options,
             heard.destination.is_multicast(),
             retrans,
         );
         // RFC 8106, sections 5 and 6: servers and search names.
-        hear_dns(&mut self.dns, now, heard.options, names);
+        hear_dns(&mut self.dns, now, heard.message.options, names);
         keep_until_a_prefix_ends(&mut self.choice, &self.prefixes, now, none_formed);
         self.advance_to(now);
     }
@@ -133,26 +127,26 @@ impl<R: Rng + Drop, A: Allocator + Clone> Node<R, A> {
     pub(crate) fn hear_router_advertisement(
         &mut self,
         now: u64,
-        source: Addr,
-        destination: Addr,
+        heard: &Heard<'_>,
         ra: &RouterAdvertisement,
-        options: Options<'_>,
         outs: &mut Vec<(u64, Out<A>), A>,
-    ) -> Result<(), AllocError>
+    ) -> Result<Answer, AllocError>
         requires moment { IsMoment now }
         requires settled { now < next_of self.old }
-        ensures adds { OnOk result (AddsMessage R.stream self.old self.new outs.old.items outs.new.items now source destination (record { body = bodies.Ra ra.now; options = options_left options.entry })) }
+        requires body { heard.now.message.body ≡ bodies.Ra ra.now }
+        ensures adds { IfOk result (λ answer. AddsMessage R.stream self.old self.new outs.old.items outs.new.items now heard.now.source heard.now.destination (record { body = bodies.Ra ra.now; options = options_left heard.now.message.options }) (answer_of answer)) }
         ensures keeps { OnErr result (self.new ≡ self.old) }
         ensures told { OnErr result (outs.new.items ≡ outs.old.items) }
-        ensures full { (limit : Table) (start : Start) (c : Chronicle) → Stands R.stream start self.old c → last_moment start.at c ≤ now → Fills start ((now, Passed) ∷ c) now source (record { body = bodies.Ra ra.now; options = options_left options.entry }) (bodies.Ra ra.now) (Some limit) → vec_len outs.old < vec_capacity outs.old → IsOk result }
+        ensures full { (limit : Table) (start : Start) (c : Chronicle) → Stands R.stream start self.old c → last_moment start.at c ≤ now → Fills start ((now, Passed) ∷ c) now heard.now.source (record { body = bodies.Ra ra.now; options = options_left heard.now.message.options }) (bodies.Ra ra.now) (Some limit) → vec_len outs.old < vec_capacity outs.old → IsOk result }
 
         // If it adds no search name it succeeds, even if no memory is left.
-        ensures quiet { AddsNoName self.old now source (options_left options.entry) (vec_capacity outs.old - vec_len outs.old) → IsOk result }
+        ensures quiet { AddsNoName self.old now heard.now.source (options_left heard.now.message.options) (vec_capacity outs.old - vec_len outs.old) → IsOk result }
     {
-        let news = news_of(source, &Body::Ra(*ra), options);
+        let options = heard.message.options;
+        let news = news_of(heard.source, &heard.message.body, options);
         let place = has_place(&self.neighbours, now, news);
         let known = self.dns.only_refreshes_names(now, options);
-        if let Some(limit) = self.first_full(now, source, ra, options, place, known) {
+        if let Some(limit) = self.first_full(now, heard.source, ra, options, place, known) {
             return self.refuse(now, Refusal::Full(limit), outs);
         }
         let names = if known {
@@ -162,14 +156,8 @@ impl<R: Rng + Drop, A: Allocator + Clone> Node<R, A> {
         };
         let waiting = waiting_for(&self.neighbours, news);
         outs.reserve(waiting + BESIDE_FRAMES)?;
-        let heard = Advertisement {
-            source,
-            destination,
-            ra: *ra,
-            options,
-        };
-        push_heard(outs, now, source, destination, Body::Ra(*ra));
-        self.take_router_advertisement(now, &heard, news, names, outs);
-        Ok(())
+        push_heard(outs, now, heard);
+        self.take_router_advertisement(now, heard, ra, news, names, outs);
+        Ok(Answer::Done)
     }
 }

@@ -1,6 +1,6 @@
 //! Handles a Router Solicitation (RFC 4861, section 6.2.6).
 
-ghost use Rattle.std.specs.Prelude.{◌≡◌, ◌∷◌, ◌<◌, ◌≤◌, Some, IsOk, OnOk, OnErr, vec_capacity, vec_len};
+ghost use Rattle.std.specs.Prelude.{◌≡◌, ◌∷◌, ◌<◌, ◌≤◌, Some, IsOk, OnErr, vec_capacity, vec_len, IfOk};
 ghost use Rattle.nd_decode.specs.Pieces.{options_left};
 ghost use Rattle.nd_decode.specs.declared.body.Body.TheVariants as bodies;
 ghost use Rattle.nd_table.specs.Moment.{IsMoment};
@@ -8,14 +8,15 @@ ghost use Rattle.nd_chronicle.specs.Full.{Fills};
 ghost use Rattle.nd_chronicle.specs.Happening.{Chronicle, Limit as Table, Passed, last_moment};
 ghost use Rattle.nd_chronicle.specs.Start.{Start};
 ghost use Rattle.nd_node.specs.Hearing.{AddsMessage};
+ghost use Rattle.nd_node.specs.Answer.{answer_of};
 
+use crate::answer::Answer;
 use crate::message::MOST_ROWS;
 use crate::node::Node;
-use nd_addr::Addr;
-use nd_decode::{Body, Options};
 use nd_out::{Limit, Out, Refusal};
 use nd_packet::MAX_WAITING;
 use nd_steps::{has_place, hear_of_neighbour, news_of, times_in_force};
+use nd_validity::Heard;
 use rand_core::Rng;
 use std::alloc::{AllocError, Allocator};
 
@@ -28,27 +29,25 @@ impl<R: Rng + Drop, A: Allocator + Clone> Node<R, A> {
     pub(crate) fn hear_router_solicitation(
         &mut self,
         now: u64,
-        source: Addr,
-        destination: Addr,
-        options: Options<'_>,
+        heard: &Heard<'_>,
         outs: &mut Vec<(u64, Out<A>), A>,
-    ) -> Result<(), AllocError>
+    ) -> Result<Answer, AllocError>
         requires moment { IsMoment now }
         requires settled { now < next_of self.old }
-        ensures adds { OnOk result (AddsMessage R.stream self.old self.new outs.old.items outs.new.items now source destination (record { body = bodies.Rs; options = options_left options.entry })) }
+        requires body { heard.now.message.body ≡ bodies.Rs }
+        ensures adds { IfOk result (λ answer. AddsMessage R.stream self.old self.new outs.old.items outs.new.items now heard.now.source heard.now.destination (record { body = bodies.Rs; options = options_left heard.now.message.options }) (answer_of answer)) }
         ensures keeps { OnErr result (self.new ≡ self.old) }
         ensures told { OnErr result (outs.new.items ≡ outs.old.items) }
-        ensures full { (limit : Table) (start : Start) (c : Chronicle) → Stands R.stream start self.old c → last_moment start.at c ≤ now → Fills start ((now, Passed) ∷ c) now source (record { body = bodies.Rs; options = options_left options.entry }) (bodies.Rs) (Some limit) → vec_len outs.old < vec_capacity outs.old → IsOk result }
+        ensures full { (limit : Table) (start : Start) (c : Chronicle) → Stands R.stream start self.old c → last_moment start.at c ≤ now → Fills start ((now, Passed) ∷ c) now heard.now.source (record { body = bodies.Rs; options = options_left heard.now.message.options }) (bodies.Rs) (Some limit) → vec_len outs.old < vec_capacity outs.old → IsOk result }
     {
         nd_neighbour::laws::none_overdue();
         nd_neighbour::laws::one_is_pushed_out();
-        let body = Body::Rs;
-        let news = news_of(source, &body, options);
+        let news = news_of(heard.source, &heard.message.body, heard.message.options);
         if !has_place(&self.neighbours, now, news) {
             return self.refuse(now, Refusal::Full(Limit::Neighbours), outs);
         }
         outs.reserve(MAX_WAITING + MOST_ROWS)?;
-        self.report_heard(now, source, destination, body, outs);
+        self.report_heard(now, heard, outs);
         let times = times_in_force(&self.params);
         // Section 6.2.6: the sender's link-layer address, "the Neighbor Cache entry's IsRouter flag MUST be set to FALSE".
         hear_of_neighbour(
@@ -62,6 +61,6 @@ impl<R: Rng + Drop, A: Allocator + Clone> Node<R, A> {
         // Section 6.2.6: "A router MAY choose to unicast the response [..] but the usual case is to multicast the response".
         self.router
             .hear_solicitation(self.role, now, &mut self.generator);
-        Ok(())
+        Ok(Answer::Done)
     }
 }

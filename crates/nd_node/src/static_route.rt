@@ -1,6 +1,6 @@
 //! A static route of a router (RFC 4861, section 5.2).
 
-ghost use Rattle.std.specs.Prelude.{◌≡◌, ◌<◌, OnErr, OnOk, ◌≤◌, IsOk, vec_capacity, vec_len};
+ghost use Rattle.std.specs.Prelude.{◌≡◌, ◌<◌, OnErr, ◌≤◌, IsOk, vec_capacity, vec_len, IfOk};
 ghost use Rattle.nd_chronicle.specs.Event as events;
 ghost use Rattle.nd_chronicle.specs.Event.{EventAdds};
 ghost use Rattle.nd_chronicle.specs.Happening.{Chronicle, last_moment};
@@ -8,7 +8,9 @@ ghost use Rattle.nd_chronicle.specs.Start.{Start};
 ghost use Rattle.nd_node.specs.Event.{AddsEvent};
 ghost use Rattle.nd_node.specs.Frame.{Stays};
 ghost use Rattle.nd_node.specs.Memory.{AddsRefusal};
+ghost use Rattle.nd_node.specs.Answer.{answer_of};
 
+use crate::answer::Answer;
 use crate::node::Node;
 use nd_addr::Role;
 use nd_forwarding::KeptRoute;
@@ -26,9 +28,9 @@ impl<R: Rng + Drop, A: Allocator + Clone> Node<R, A> {
         now: u64,
         kept: KeptRoute,
         outs: &mut Vec<(u64, Out<A>), A>,
-    ) -> Result<(), AllocError>
+    ) -> Result<Answer, AllocError>
         requires settled { now < next_of self.old }
-        ensures adds { OnOk result (AddsEvent R.stream self.old self.new outs.old.items outs.new.items now (events.Routes kept.prefix kept.route)) }
+        ensures adds { IfOk result (λ answer. AddsEvent R.stream self.old self.new outs.old.items outs.new.items now (events.Routes kept.prefix kept.route) (answer_of answer)) }
         ensures stays { OnErr result (Stays R.stream self.old self.new) }
         ensures told { OnErr result (outs.new.items ≡ outs.old.items) }
         ensures refused { (start : Start) (c : Chronicle) → Stands R.stream start self.old c → last_moment start.at c ≤ now → AddsRefusal now c (EventAdds start now (events.Routes kept.prefix kept.route)) → vec_len outs.old < vec_capacity outs.old → IsOk result }
@@ -40,7 +42,7 @@ impl<R: Rng + Drop, A: Allocator + Clone> Node<R, A> {
         match self.router.routes.put(kept.prefix, kept.route) {
             Ok(()) => {
                 self.advance_to(now);
-                Ok(())
+                Ok(Answer::Done)
             }
             Err(_) => self.refuse(now, Refusal::Full(Limit::StaticRoutes), outs),
         }

@@ -21,8 +21,8 @@ abbrev pub loss_of : losses.Loss → happenings.Loss
 loss_of loss.Unreachable = happenings.Unreachable
 loss_of loss.Replaced = happenings.Replaced
 loss_of loss.Forgotten = happenings.Forgotten
-loss_of loss.NoRoute = happenings.Routeless
-loss_of loss.HopLimit = happenings.Spent
+loss_of loss.NoRoute = happenings.NoRoute
+loss_of loss.HopLimit = happenings.HopLimit
 
 -- the table that has no room
 abbrev pub limit_of : limits.Limit → happenings.Limit

@@ -1,7 +1,7 @@
 //! What a session's node knows: the questions of `Node` under their own names. None of them changes anything or takes memory. `now` is in
 //! milliseconds, and not before the node's last moment; what is due up to it should be done, since only an event does it.
 
-ghost use Rattle.std.specs.Prelude.{◌≡◌, ◌<◌, ◌≤◌};
+ghost use Rattle.std.specs.Prelude.{◌≡◌, ◌<◌, ◌≤◌, MatchBool};
 ghost use Rattle.std.specs.Option.{option_map};
 ghost use Rattle.nd_addr.specs.Number.{number_of};
 ghost use Rattle.nd_addr.specs.Same.{same_addr, same_prefix};
@@ -52,6 +52,13 @@ impl Session {
         ensures moment { (start : Start) (c : Chronicle) → Stands stream_of_source start self.now.node c → result ≡ last_moment start.at c }
     {
         self.node.last_moment()
+    }
+
+    /// Returns true if `now`, in milliseconds, is earlier than the moment up to which time has passed.
+    pub fn is_past(&self, now: u64) -> bool
+        ensures { MatchBool result (now < last_of self.now.node) (last_of self.now.node ≤ now) }
+    {
+        self.node.is_past(now)
     }
 
     /// Returns the neighbours at `now`, in the order of their addresses.

@@ -1,6 +1,6 @@
 //! The queue of a session's reports.
 
-ghost use Rattle.std.specs.Prelude.{◌≡◌, ◌-◌, ◌+◌, [], length, drop, reverse, option_copied, slice_get, IfOk};
+ghost use Rattle.std.specs.Prelude.{◌≡◌, [], drop, option_copied, slice_get, IfOk};
 
 use nd_out::Out;
 use std::alloc::{AllocError, Global};
@@ -42,13 +42,6 @@ impl Queue {
         })
     }
 
-    /// Returns the number of reports.
-    pub(crate) fn len(&self) -> usize
-        ensures { result ≡ length self.now }
-    {
-        self.front.len() + self.back.len()
-    }
-
     /// Returns the oldest report.
     pub(crate) fn first(&self) -> Option<&Report>
         ensures { option_copied result ≡ slice_get self.now 0 }
@@ -56,16 +49,6 @@ impl Queue {
         match self.front.last() {
             Some(report) => Some(report),
             None => self.back.first(),
-        }
-    }
-
-    /// Returns the newest report.
-    pub(crate) fn last(&self) -> Option<&Report>
-        ensures { option_copied result ≡ slice_get self.now (length self.now - 1) }
-    {
-        match self.back.last() {
-            Some(report) => Some(report),
-            None => self.front.first(),
         }
     }
 

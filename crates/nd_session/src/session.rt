@@ -1,17 +1,18 @@
 //! A session: its start, its events, and its queue.
 
-ghost use Rattle.std.specs.Prelude.{◌≡◌, ◌-◌, ◌<◌, [], IfOk, OnOk, OnErr, Option, drop, length, option_copied, slice_get};
+ghost use Rattle.std.specs.Prelude.{◌≡◌, ◌<◌, ◌≤◌, [], IfOk, OnOk, OnErr, drop, option_copied, slice_get};
 ghost use Rattle.nd_table.specs.Moment.{IsMoment};
 ghost use Rattle.nd_chronicle.specs.Event as events;
 ghost use Rattle.nd_chronicle.specs.History.{beginning};
-ghost use Rattle.nd_node.specs.Event.{event_of, FollowsBy};
-ghost use Rattle.nd_node.specs.Node.{Stands, starting, next_of};
+ghost use Rattle.nd_node.specs.Event.{event_of};
+ghost use Rattle.nd_node.specs.Node.{Stands, starting, last_of, next_of};
 ghost use Rattle.nd_node.specs.Time.{Leads, Onward, Passes};
 ghost use Rattle.nd_random.specs.Source.{stream_of_source};
+ghost use Rattle.nd_session.specs.Event.{Takes};
 
 use crate::queue::Queue;
 use nd_addr::{Addr, Mac, Role};
-use nd_node::{Event, Limits, Node, OutgoingPacket};
+use nd_node::{Answer, Event, Limits, Node};
 use nd_out::Out;
 use nd_random::Source;
 use nd_slaac::Transmits;
@@ -56,15 +57,28 @@ impl Session {
         self.node.next_due()
     }
 
+    /// Returns the answer to an event at `now`, in milliseconds, if that is earlier than the moment up to which time has passed.
+    fn past(&self, now: u64) -> Option<Answer>
+        ensures past { now < last_of self.now.node → result ≡ Some (Answer.Past (last_of self.now.node)) }
+        ensures in_time { last_of self.now.node ≤ now → result ≡ None }
+    {
+        if self.node.is_past(now) {
+            return Some(Answer::Past(self.node.last_moment()));
+        }
+        None
+    }
+
     /// Does all that is due up to `now`, in milliseconds, its own millisecond included, and then what the event asks for. The queue gains what the
-    /// node sends and reports.
+    /// node sends and reports. Returns how the node took the event; one of a past moment changes nothing and is not reported.
     ///
     /// Returns an error if out of memory: a part of what is due may have been done and reported then, and the event has added nothing.
-    pub fn event(&mut self, now: u64, event: &Event<Global>) -> Result<(), AllocError>
+    pub fn event(&mut self, now: u64, event: &Event<Global>) -> Result<Answer, AllocError>
         requires { IsMoment now }
-        ensures follows { OnOk result (Leads stream_of_source self.old.node self.new.node self.old.queue self.new.queue (FollowsBy now (event_of event.now))) }
-        ensures onward { OnErr result (Leads stream_of_source self.old.node self.new.node self.old.queue self.new.queue (Onward now)) }
+        ensures { Takes now (event_of event.now) result self.old self.new }
     {
+        if let Some(past) = self.past(now) {
+            return Ok(past);
+        }
         self.node.event(now, event, &mut self.queue.back)
     }
 
@@ -80,52 +94,41 @@ impl Session {
     }
 
     /// Receives a frame, from its Ethernet destination on (RFC 2464, section 3), at `now`, in milliseconds. The caller keeps the frame, which is
-    /// not copied. Fails as `event` does.
-    pub fn receive(&mut self, now: u64, frame: &[u8]) -> Result<(), AllocError>
+    /// not copied. Otherwise as `event`.
+    pub fn receive(&mut self, now: u64, frame: &[u8]) -> Result<Answer, AllocError>
         requires { IsMoment now }
-        ensures follows { OnOk result (Leads stream_of_source self.old.node self.new.node self.old.queue self.new.queue (FollowsBy now (events.Receives frame.now))) }
-        ensures onward { OnErr result (Leads stream_of_source self.old.node self.new.node self.old.queue self.new.queue (Onward now)) }
+        ensures { Takes now (events.Receives frame.now) result self.old self.new }
     {
+        if let Some(past) = self.past(now) {
+            return Ok(past);
+        }
         self.node.receive(now, frame, &mut self.queue.back)
     }
 
-    /// Sends a packet of the upper layer at `now`, in milliseconds (RFC 4861, section 5.2), with a copy of `payload`. Fails as `event` does.
+    /// Sends a packet of the upper layer at `now`, in milliseconds (RFC 4861, section 5.2). `payload` is copied once the packet is not refused.
+    /// Otherwise as `event`.
     pub fn send(
         &mut self,
-        alloc: Global,
         now: u64,
         source: Addr,
         destination: Addr,
         next_header: u8,
         payload: &[u8],
-    ) -> Result<(), AllocError>
+    ) -> Result<Answer, AllocError>
         requires { IsMoment now }
-        ensures follows { OnOk result (Leads stream_of_source self.old.node self.new.node self.old.queue self.new.queue (FollowsBy now (events.Sends source destination next_header payload.now))) }
-        ensures onward { OnErr result (Leads stream_of_source self.old.node self.new.node self.old.queue self.new.queue (Onward now)) }
+        ensures { Takes now (events.Sends source destination next_header payload.now) result self.old self.new }
     {
-        let mut bytes = Vec::with_capacity(alloc, payload.len())?;
-        bytes.extend_from_slice(payload)?;
-        let packet = OutgoingPacket {
+        if let Some(past) = self.past(now) {
+            return Ok(past);
+        }
+        self.node.send(
+            now,
             source,
             destination,
             next_header,
-            payload: bytes,
-        };
-        self.event(now, &Event::Sends(packet))
-    }
-
-    /// Returns the number of reports that the caller has not taken yet.
-    pub fn reports(&self) -> usize
-        ensures { result ≡ length self.now.queue }
-    {
-        self.queue.len()
-    }
-
-    /// Returns the newest report, with its moment in milliseconds, if the caller has not taken it yet.
-    pub fn newest(&self) -> Option<&(u64, Out<Global>)>
-        ensures { option_copied result ≡ slice_get self.now.queue (length self.now.queue - 1) }
-    {
-        self.queue.last()
+            payload,
+            &mut self.queue.back,
+        )
     }
 
     /// Returns the oldest report that the caller has not taken yet, with its moment in milliseconds.

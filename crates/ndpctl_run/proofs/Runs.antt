@@ -19,6 +19,7 @@ use Rattle.nd_out.specs.Out.{told, happening}
 use Rattle.nd_steps.specs.Outputs.{happenings}
 use Rattle.nd_steps.proofs.Reading.{Tells-text}
 use Rattle.nd_node.specs.declared.node.Node.{Node}
+use Rattle.nd_chronicle.specs.Answer.{Answer}
 use Rattle.nd_node.specs.Event.{FollowsBy}
 use Rattle.nd_node.specs.Node.{Stands}
 use Rattle.nd_node.specs.Time as time
@@ -35,14 +36,14 @@ told_is : {A : Type 0} (outs : List (ℕ × Out A)) → told outs ≡ flat_map c
 told_is [] = refl
 told_is (o ∷ outs) = ap (λ l. chronicle.lines_of (o.0, happening o.1) ++ l) (told_is outs)
 
-pub event_answered : {R A : Type 0} (stream : R → Stream) (old new : Node R A) (at : ℕ) (event : events.Event) (outs : List (ℕ × Out A)) (before after : List ℕ)
-    → time.Leads stream old new [] outs (FollowsBy at event) → after ≡ before ++ told outs → AnswersEvent stream old new at event before after
-event_answered stream old new at event outs before after leads written = record {
+pub event_answered : {R A : Type 0} (stream : R → Stream) (old new : Node R A) (at : ℕ) (event : events.Event) (outs : List (ℕ × Out A)) (before after : List ℕ) {answer : Answer}
+    → time.Leads stream old new [] outs (FollowsBy at event answer) → after ≡ before ++ told outs → AnswersEvent stream old new at event before after
+event_answered stream old new at event outs before after {answer} leads written = record {
   told = told outs;
   written = written;
   each = λ start c s.
       let l = leads.each start c s in
-      (l.0, l.1, l.2, Tells-text c l.0 [] outs l.3 ∙ ap (λ t. text c ++ t) (ap (flat_map chronicle.lines_of) (sym l.3.outs) ∙ sym (told_is outs)));
+      (l.0, l.1.0, l.2, Tells-text c l.0 [] outs l.3 ∙ ap (λ t. text c ++ t) (ap (flat_map chronicle.lines_of) (sym l.3.outs) ∙ sym (told_is outs)));
 }
 
 -- a line that says an event comes before what later lines say

@@ -4,8 +4,8 @@ use linked_list_allocator::LocalHeap;
 use nd_addr::{Addr, Mac, Preference, Prefix, Role};
 use nd_advertiser::{Config, ConfigFlags};
 use nd_forwarding::{KeptRoute, Route};
-use nd_node::{Clearable, Event, Limits, Node, OutgoingPacket, Table};
-use nd_out::Out;
+use nd_node::{Answer, Clearable, Event, Limits, Node, OutgoingPacket, Table};
+use nd_out::{Out, Refusal};
 use nd_slaac::Transmits;
 use rand_core::SeedableRng;
 use rand_pcg::Pcg32;
@@ -78,7 +78,7 @@ pub(crate) fn come<'h>(
     now: u64,
     event: &Event<&'h LocalHeap>,
     outs: &mut Vec<(u64, Out<&'h LocalHeap>), &'h LocalHeap>,
-) -> Result<(), AllocError>
+) -> Result<Answer, AllocError>
     requires { now < 2 ^ 62 }
 {
     node.event(now, event, outs)
@@ -188,7 +188,7 @@ fn try_event<'h>(
     now: u64,
     spare: usize,
     outs: &mut Vec<(u64, Out<&'h LocalHeap>), &'h LocalHeap>,
-) -> Result<(), AllocError>
+) -> Result<Answer, AllocError>
     requires { now < 2 ^ 62 }
 {
     let mut blocks = exhaust(rt, heap);
@@ -241,6 +241,24 @@ fn each_request_of_a_hosts_event_is_refused_once(rt: HostRuntime) {
     for event in &events {
         refuse_each(&rt, &heap, &mut node, 3000, event);
     }
+}
+
+/// A payload for which no MTU of a link has room: RFC 2464, section 2, has 1500 bytes.
+const TOO_LONG: [u8; 2000] = [0; 2000];
+
+/// Such a packet is refused, and said to be too long, while no byte of memory is left for a copy of it.
+#[test]
+fn a_packet_that_is_too_long_is_not_copied(rt: HostRuntime) {
+    let heap = LocalHeap::new(rt.alloc(), AMPLE).expect(&rt, "memory");
+    let mut node = host(&rt, &heap);
+    let mut outs = Vec::with_capacity(&heap, 1).expect(&rt, "memory");
+    let blocks = exhaust(&rt, &heap);
+    let answer = node
+        .send(3000, OWN, STRANGER, 59, &TOO_LONG, &mut outs)
+        .expect(&rt, "memory");
+    assert!(rt; answer == Answer::Refused(Refusal::TooLong));
+    assert!(rt; outs.len() == 1);
+    assert!(rt; !blocks.is_empty());
 }
 
 /// 2001:db8::/64 on the link, and 2001:db8:1::/64 behind fe80::2.

@@ -58,7 +58,7 @@ fn reports_are_taken_in_their_order(rt: HostRuntime) {
     session.event(2000, &Event::Passes).expect(&rt, "memory");
     session.receive(3000, &EMPTY).expect(&rt, "memory");
     session
-        .send(alloc, 3001, OWN, Addr::ALL_NODES, 59, &[])
+        .send(3001, OWN, Addr::ALL_NODES, 59, &[])
         .expect(&rt, "memory");
     assert!(rt; session.last_moment() == 3001);
     for wanted in [234, 1234, 1234, 3000, 3001] {

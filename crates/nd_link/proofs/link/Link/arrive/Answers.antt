@@ -4,6 +4,7 @@ use Rattle.std.proofs.Common.{◌++◌, ◌∙◌, ap, ◌≡◌, ◌<◌, lengt
 use Rattle.std.specs.Prelude.{slice_get}
 use Rattle.std.specs.Vec.{with_items}
 use Rattle.std.proofs.lemmas.Option.{slice_get_read}
+use Rattle.nd_node.specs.Answer.{answer_of}
 use Rattle.nd_node.specs.Event.{event_of, AddsEvent}
 use Rattle.nd_link.proofs.Arriving.{arrival_leads}
 use Rattle.nd_link.proofs.Passage.{own_settled, passed_in}
@@ -25,7 +26,7 @@ returns-clause-leads g c = λ carried.
     let p = passed_in g.R.Rng.stream c.args.now c.args.place c.args.self.now.nodes c.deref_mut.result.now c.pass_others.new.nodes c.deref_mut.ensures.value c.pass_others.ensures in
     let within : c.args.place < length nodes = let n = p.count in let ok = c.args.self.now.nodes.ok.0 in let there = c.requires.there in omega (arith, n, ok, there) in
     let is = slice_get_read nodes (length nodes) c.args.place c.index_mut-node.result.now refl within c.index_mut-node.ensures.value in
-    let adds = subst (λ l. AddsEvent g.R.Rng.stream c.index_mut-node.result.now c.add.new.self l c.add.new.outs.items c.args.now (event_of c.args.event.now)) c.new-outs.ensures.items c.in_ok-add.ensures.adds in
+    let adds = subst (λ l. AddsEvent g.R.Rng.stream c.index_mut-node.result.now c.add.new.self l c.add.new.outs.items c.args.now (event_of c.args.event.now) (answer_of c.in_ok-add.field-0)) c.new-outs.ensures.items c.in_ok-add.ensures.adds in
     let kept = c.in_ok-keep_frames.ensures ∙ ap (λ l. kept_frames c.args.self.now.frames.items ++ of_sender c.args.place (frames_in (happenings l))) c.deref.ensures.value in
     arrival_leads g.R.Rng.stream c.args.self.now _ nodes c.index_mut-node.result.now c.add.new.self c.args.told.now.items _ c.add.new.outs.items c.args.now c.args.place (event_of c.args.event.now)
     p is adds refl refl c.requires.in_time kept c.in_ok-tell.ensures.tells carried

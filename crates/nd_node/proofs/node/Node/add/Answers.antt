@@ -1,8 +1,7 @@
 use Rattle.std.proofs.Common.{refl, map, string_bytes, ℕ, List, sym, subst}
-use Rattle.std.proofs.lemmas.Result.{on_err_weaker, on_ok_weaker}
+use Rattle.std.proofs.lemmas.Result.{IfOk-weaker, on_err_weaker}
 use Rattle.nd_node.specs.Event.{event_of, table_of, clearable_of}
 use Rattle.nd_node.proofs.Judging.{stays_same}
-use Rattle.nd_node.proofs.Reporting.{on_ok_both}
 use Rattle.nd_node.proofs.Steps.{not_past, passing, showing}
 use Rattle.nd_node.proofs.Refusals.{clears_left, forgets_left}
 use Rattle.nd_chronicle.specs.Event as events
@@ -11,15 +10,12 @@ use Rattle.nd_node.specs.Memory.{AddsRefusal}
 use Rattle.nd_node.proofs.node.Node.add.Goals as goal
 
 pub returns-in-Passes-clause-adds : goal.returns-in-Passes-clause-adds
-returns-in-Passes-clause-adds g c = rw c.in-Passes.is (passing g.R.Rng.stream c.args.self.now c.pass.new.self c.args.outs.now.items c.args.now c.requires.settled (c.pass.ensures.moves c.if-now-self.false))
+returns-in-Passes-clause-adds g c = rw c.in-Passes.is (passing g.R.Rng.stream c.args.self.now c.pass.new.self c.args.outs.now.items c.args.now c.requires.settled (c.pass.ensures.moves c.if-is_past.ensures))
 
-pub returns-in_ok-rows-in-Shows-clause-adds : goal.returns-in_ok-rows-in-Shows-clause-adds
-returns-in_ok-rows-in-Shows-clause-adds g c =
-    rw c.in-Shows.is (on_ok_both c.report.result c.report.ensures.clock c.report.ensures.items
-    (λ clock items. showing g.R.Rng.stream c.args.self.now c.report.new.self c.args.outs.now.items c.report.new.outs.items c.args.now (table_of c.in-Shows.table) (map string_bytes c.in_ok-rows-in-Shows.rows.items) _ refl c.in_ok-rows-in-Shows.ensures c.requires.settled clock items))
-
-pub returns-in_ok-rows-in-Shows-clause-stays : goal.returns-in_ok-rows-in-Shows-clause-stays
-returns-in_ok-rows-in-Shows-clause-stays g c = on_err_weaker c.report.result (stays_same g.R.Rng.stream c.args.self.now c.report.new.self) c.report.ensures.keeps
+pub returns-in_ok-report-in-Shows-clause-adds : goal.returns-in_ok-report-in-Shows-clause-adds
+returns-in_ok-report-in-Shows-clause-adds g c =
+    rw c.in-Shows.is (showing g.R.Rng.stream c.args.self.now c.report.new.self c.args.outs.now.items c.report.new.outs.items c.args.now (table_of c.in-Shows.table) (map string_bytes c.in_ok-rows-in-Shows.rows.items) _ refl
+    c.in_ok-rows-in-Shows.ensures c.requires.settled c.in_ok-report-in-Shows.ensures.clock c.in_ok-report-in-Shows.ensures.items)
 
 pub returns-in-Forgets-clause-stays : goal.returns-in-Forgets-clause-stays
 returns-in-Forgets-clause-stays g c = on_err_weaker c.forget.result (stays_same g.R.Rng.stream c.args.self.now c.forget.new.self) c.forget.ensures.keeps
@@ -27,11 +23,11 @@ returns-in-Forgets-clause-stays g c = on_err_weaker c.forget.result (stays_same 
 pub returns-in-Clears-clause-stays : goal.returns-in-Clears-clause-stays
 returns-in-Clears-clause-stays g c = on_err_weaker c.clear.result (stays_same g.R.Rng.stream c.args.self.now c.clear.new.self) c.clear.ensures.keeps
 
-pub returns-then-now-self-clause-adds : goal.returns-then-now-self-clause-adds
-returns-then-now-self-clause-adds g c = on_ok_weaker c.refuse_past.result (λ past. not_past g.R.Rng.stream c.args.self.now c.refuse_past.new.self c.args.outs.now.items c.refuse_past.new.outs.items c.args.now (event_of c.args.event.now) c.if-now-self.true) c.refuse_past.ensures.past
+pub returns-then-is_past-clause-adds : goal.returns-then-is_past-clause-adds
+returns-then-is_past-clause-adds g c = IfOk-weaker c.refuse_past.result _ _ (λ a past. not_past g.R.Rng.stream c.args.self.now c.refuse_past.new.self c.args.outs.now.items c.refuse_past.new.outs.items c.args.now (event_of c.args.event.now) c.if-is_past.ensures) c.refuse_past.ensures.past
 
-pub returns-then-now-self-clause-past : goal.returns-then-now-self-clause-past
-returns-then-now-self-clause-past g c = λ late. on_ok_weaker c.refuse_past.result (λ past. past (event_of c.args.event.now)) c.refuse_past.ensures.past
+pub returns-then-is_past-clause-past : goal.returns-then-is_past-clause-past
+returns-then-is_past-clause-past g c = λ late. IfOk-weaker c.refuse_past.result _ _ (λ a past. past (event_of c.args.event.now)) c.refuse_past.ensures.past
 
 pub returns-in-Receives-clause-refused : goal.returns-in-Receives-clause-refused
 returns-in-Receives-clause-refused g c = rw c.in-Receives.is (λ start c' s le adds place.

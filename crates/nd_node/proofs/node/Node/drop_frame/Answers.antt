@@ -1,9 +1,7 @@
 use Rattle.std.proofs.Common.{refl}
-use Rattle.nd_node.proofs.Reporting.{on_ok_both}
 use Rattle.nd_node.proofs.Judging.{drops}
 use Rattle.nd_node.proofs.node.Node.drop_frame.Goals as goal
 
 pub returns-clause-adds : goal.returns-clause-adds
 returns-clause-adds g c =
-    on_ok_both c.report.result c.report.ensures.clock c.report.ensures.items
-    (λ clock items. drops g.R.Rng.stream c.args.self.now c.report.new.self c.args.outs.now.items c.report.new.outs.items c.args.now _ c.requires.settled clock items c.args.why refl)
+    drops g.R.Rng.stream c.args.self.now c.report.new.self c.args.outs.now.items c.report.new.outs.items c.args.now _ c.requires.settled c.in_ok-report.ensures.clock c.in_ok-report.ensures.items c.args.why refl

@@ -1,5 +1,5 @@
 use Rattle.std.proofs.Common.{arith, sym, refl, ◌∷◌}
-use Rattle.std.proofs.lemmas.Result.{on_ok_weaker}
+use Rattle.std.proofs.lemmas.Result.{IfOk-weaker}
 use Rattle.nd_addr.specs.Ip6.{packet_parts}
 use Rattle.nd_addr.specs.Number.{number_of}
 use Rattle.nd_chronicle.specs.Event.{packet_bytes}
@@ -10,6 +10,8 @@ use Rattle.nd_node.proofs.InTransit.{bytes_are, forwarded, goes_on_to, no_route,
 use Rattle.nd_chronicle.specs.Happening.{Passed}
 use Rattle.nd_chronicle.specs.OwnAddress.{is_own}
 use Rattle.nd_node.proofs.Refusals.{fate_refused, not_refused}
+use Rattle.nd_node.specs.declared.answer.Answer.TheVariants.{Done}
+use Rattle.nd_node.proofs.Reporting.{answered}
 use Rattle.nd_node.proofs.node.Node.forward.Goals as goal
 
 pub lose_in_transit-requires-clause-short : goal.lose_in_transit-requires-clause-short
@@ -26,21 +28,21 @@ send_on-requires-in-Via-clause-short g c = short_payload c.args.frame.now (packe
 
 pub returns-in-NoRoute-clause-adds : goal.returns-in-NoRoute-clause-adds
 returns-in-NoRoute-clause-adds g c =
-    on_ok_weaker c.lose_in_transit.result (λ adds. forwarded g.R.Rng.stream c.args.self.now c.lose_in_transit.new.self c.args.outs.now.items c.lose_in_transit.new.outs.items c.args.now (packet_parts c.args.packet.now) (packet_bytes c.args.frame.now) c.counts-own.result
+    answered c.lose_in_transit.result Done _ (λ adds. forwarded g.R.Rng.stream c.args.self.now c.lose_in_transit.new.self c.args.outs.now.items c.lose_in_transit.new.outs.items c.args.now (packet_parts c.args.packet.now) (packet_bytes c.args.frame.now) c.counts-own.result
     lost_no_route c.in-NoRoute.ensures.by_history (λ start c' s. sym (c.counts-own.ensures.by_history (address_history c') s.addresses))
     (no_route g.R.Rng.stream c.args.self.now c.lose_in_transit.new.self c.args.outs.now.items c.lose_in_transit.new.outs.items c.args.now (packet_parts c.args.packet.now) (packet_bytes c.args.frame.now) c.counts-own.result adds))
-    c.lose_in_transit.ensures.adds
+    c.lose_in_transit.ensures.adds c.lose_in_transit.ensures.answer
 
 pub returns-in-HopLimit-clause-adds : goal.returns-in-HopLimit-clause-adds
 returns-in-HopLimit-clause-adds g c =
-    on_ok_weaker c.lose_in_transit-in-HopLimit.result (λ adds. forwarded g.R.Rng.stream c.args.self.now c.lose_in_transit-in-HopLimit.new.self c.args.outs.now.items c.lose_in_transit-in-HopLimit.new.outs.items c.args.now (packet_parts c.args.packet.now) (packet_bytes c.args.frame.now) c.counts-own.result
+    answered c.lose_in_transit-in-HopLimit.result Done _ (λ adds. forwarded g.R.Rng.stream c.args.self.now c.lose_in_transit-in-HopLimit.new.self c.args.outs.now.items c.lose_in_transit-in-HopLimit.new.outs.items c.args.now (packet_parts c.args.packet.now) (packet_bytes c.args.frame.now) c.counts-own.result
     lost_hop_limit c.in-HopLimit.ensures.by_history (λ start c' s. sym (c.counts-own.ensures.by_history (address_history c') s.addresses))
     (spent g.R.Rng.stream c.args.self.now c.lose_in_transit-in-HopLimit.new.self c.args.outs.now.items c.lose_in_transit-in-HopLimit.new.outs.items c.args.now (packet_parts c.args.packet.now) (packet_bytes c.args.frame.now) c.counts-own.result adds))
-    c.lose_in_transit-in-HopLimit.ensures.adds
+    c.lose_in_transit-in-HopLimit.ensures.adds c.lose_in_transit-in-HopLimit.ensures.answer
 
 pub returns-in-Direct-clause-adds : goal.returns-in-Direct-clause-adds
 returns-in-Direct-clause-adds g c =
-    on_ok_weaker c.send_on.result (λ adds. forwarded g.R.Rng.stream c.args.self.now c.send_on.new.self c.args.outs.now.items c.send_on.new.outs.items c.args.now (packet_parts c.args.packet.now) (packet_bytes c.args.frame.now) c.counts-own.result
+    IfOk-weaker c.send_on.result _ _ (λ a adds. forwarded g.R.Rng.stream c.args.self.now c.send_on.new.self c.args.outs.now.items c.send_on.new.outs.items c.args.now (packet_parts c.args.packet.now) (packet_bytes c.args.frame.now) c.counts-own.result
     (sent direct) c.in-Direct.ensures.by_history (λ start c' s. sym (c.counts-own.ensures.by_history (address_history c') s.addresses))
     (goes_on_to g.R.Rng.stream c.args.self.now c.send_on.new.self c.args.outs.now.items c.send_on.new.outs.items c.args.now (packet_parts c.args.packet.now) (packet_bytes c.args.frame.now) c.counts-own.result
     direct c.packet_in-bytes.result.now (bytes_are c.args.frame.now c.packet_in-bytes.result.now (packet_parts c.args.packet.now) c.requires.by_frame.2 c.packet_in-bytes.ensures) adds))
@@ -48,7 +50,7 @@ returns-in-Direct-clause-adds g c =
 
 pub returns-in-Via-clause-adds : goal.returns-in-Via-clause-adds
 returns-in-Via-clause-adds g c =
-    on_ok_weaker c.send_on-in-Via.result (λ adds. forwarded g.R.Rng.stream c.args.self.now c.send_on-in-Via.new.self c.args.outs.now.items c.send_on-in-Via.new.outs.items c.args.now (packet_parts c.args.packet.now) (packet_bytes c.args.frame.now) c.counts-own.result
+    IfOk-weaker c.send_on-in-Via.result _ _ (λ a adds. forwarded g.R.Rng.stream c.args.self.now c.send_on-in-Via.new.self c.args.outs.now.items c.send_on-in-Via.new.outs.items c.args.now (packet_parts c.args.packet.now) (packet_bytes c.args.frame.now) c.counts-own.result
     (sent (via (number_of c.in-Via.router.0))) c.in-Via.ensures.by_history (λ start c' s. sym (c.counts-own.ensures.by_history (address_history c') s.addresses))
     (goes_on_to g.R.Rng.stream c.args.self.now c.send_on-in-Via.new.self c.args.outs.now.items c.send_on-in-Via.new.outs.items c.args.now (packet_parts c.args.packet.now) (packet_bytes c.args.frame.now) c.counts-own.result
     (via (number_of c.in-Via.router.0)) c.packet_in-bytes.result.now (bytes_are c.args.frame.now c.packet_in-bytes.result.now (packet_parts c.args.packet.now) c.requires.by_frame.2 c.packet_in-bytes.ensures) adds))

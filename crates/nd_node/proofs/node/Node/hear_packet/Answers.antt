@@ -1,19 +1,20 @@
 use Rattle.std.proofs.Common.{◌≡◌, ◌∷◌, ◌+◌, ◌++◌, ℕ, List, take, length, refl, ◌∙◌, ap}
-use Rattle.std.proofs.lemmas.Result.{on_ok_weaker, on_err_weaker}
+use Rattle.std.proofs.lemmas.Result.{IfOk-weaker, on_err_weaker}
 use Rattle.nd_addr.specs.Ip6.{PacketParts, packet_parts, ipv6_header_length, payload_length_of}
 use Rattle.nd_addr.specs.Places.{packet_in}
 use Rattle.nd_chronicle.specs.Happening.{Up, Passed}
 use Rattle.nd_chronicle.specs.Hearing.{IsPacketForUs}
-use Rattle.nd_node.proofs.Reporting.{on_ok_both}
+use Rattle.nd_node.proofs.Reporting.{answered}
 use Rattle.nd_node.proofs.Judging.{goes_up, in_transit_later, is_not, packet_goes_on, packet_goes_up, packet_is_strange, up_to_payload, stays_keeps, stays_same}
 use Rattle.nd_node.proofs.Memory.{packet_stays, passing_stays}
 use Rattle.nd_node.proofs.Refusals.{ours_left, passing_refused}
 use Rattle.nd_chronicle.specs.Event.{packet_bytes}
+use Rattle.nd_node.specs.declared.answer.Answer.TheVariants.{Done}
 use Rattle.nd_node.proofs.node.Node.hear_packet.Goals as goal
 
 pub returns-then-is_in_transit-clause-adds : goal.returns-then-is_in_transit-clause-adds
 returns-then-is_in_transit-clause-adds g c =
-    on_ok_weaker c.forward.result (λ adds. packet_goes_on g.R.Rng.stream c.args.self.now c.forward.new.self c.args.outs.now.items c.forward.new.outs.items c.args.now c.args.frame.now
+    IfOk-weaker c.forward.result _ _ (λ a adds. packet_goes_on g.R.Rng.stream c.args.self.now c.forward.new.self c.args.outs.now.items c.forward.new.outs.items c.args.now c.args.frame.now
     (packet_parts c.args.packet) c.requires.by_frame c.is_packet_for_us.result (λ start c' s. c.is_packet_for_us.ensures start c' (packet_parts c.args.packet) s refl) c.if-not-is_packet_for_us.true
     c.is_in_transit.result (λ start c' s. c.is_in_transit.ensures start c' (packet_parts c.args.packet) s refl) c.if-is_in_transit.true adds)
     c.forward.ensures.adds
@@ -30,10 +31,10 @@ returns-then-is_in_transit-clause-quiet g c = λ why start c' s le judged place.
 
 pub returns-then-not-is_packet_for_us-clause-adds : goal.returns-then-not-is_packet_for_us-clause-adds
 returns-then-not-is_packet_for_us-clause-adds g c =
-    on_ok_weaker c.drop_frame.result (λ adds. packet_is_strange g.R.Rng.stream c.args.self.now c.drop_frame.new.self c.args.outs.now.items c.drop_frame.new.outs.items c.args.now c.args.frame.now
+    answered c.drop_frame.result Done _ (λ adds. packet_is_strange g.R.Rng.stream c.args.self.now c.drop_frame.new.self c.args.outs.now.items c.drop_frame.new.outs.items c.args.now c.args.frame.now
     (packet_parts c.args.packet) c.requires.by_frame c.is_packet_for_us.result (λ start c' s. c.is_packet_for_us.ensures start c' (packet_parts c.args.packet) s refl) c.if-not-is_packet_for_us.true
     c.is_in_transit.result (λ start c' s. c.is_in_transit.ensures start c' (packet_parts c.args.packet) s refl) c.if-is_in_transit.false adds)
-    c.drop_frame.ensures.adds
+    c.drop_frame.ensures.adds c.drop_frame.ensures.answer
 
 pub returns-then-not-is_packet_for_us-clause-stays : goal.returns-then-not-is_packet_for_us-clause-stays
 returns-then-not-is_packet_for_us-clause-stays g c =
@@ -47,13 +48,9 @@ returns-clause-adds g c =
     c.in_ok-extend_from_slice.ensures.items ∙ (ap (λ (l : List ℕ). l ++ c.packet_in.result.now) c.new-up.ensures.items
     ∙ (c.packet_in.ensures ∙ (ap (λ (l : List ℕ). take (40 + length l) bytes) payload_is ∙ up_to_payload bytes (payload_length_of bytes)))) in
     let packet : List ℕ = take (ipv6_header_length + payload_length_of bytes) bytes in
-    on_ok_both c.report.result c.report.ensures.clock c.report.ensures.items
-    (λ clock items'. packet_goes_up g.R.Rng.stream c.args.self.now c.report.new.self c.args.outs.now.items c.report.new.outs.items c.args.now c.args.frame.now
+    packet_goes_up g.R.Rng.stream c.args.self.now c.report.new.self c.args.outs.now.items c.report.new.outs.items c.args.now c.args.frame.now
     (packet_parts c.args.packet) c.requires.by_frame c.is_packet_for_us.result (λ start c' s. c.is_packet_for_us.ensures start c' (packet_parts c.args.packet) s refl) c.if-not-is_packet_for_us.false
-    (goes_up g.R.Rng.stream c.args.self.now c.report.new.self c.args.outs.now.items c.report.new.outs.items c.args.now _ c.requires.settled clock items' packet (ap Up up_is)))
-
-pub returns-clause-stays : goal.returns-clause-stays
-returns-clause-stays g c = on_err_weaker c.report.result (λ same. stays_same g.R.Rng.stream c.args.self.now c.report.new.self same) c.report.ensures.keeps
+    (goes_up g.R.Rng.stream c.args.self.now c.report.new.self c.args.outs.now.items c.report.new.outs.items c.args.now _ c.requires.settled c.in_ok-report.ensures.clock c.in_ok-report.ensures.items packet (ap Up up_is))
 
 pub returns-in_err-clone-clause-quiet : goal.returns-in_err-clone-clause-quiet
 returns-in_err-clone-clause-quiet g c = λ why start c' s le judged place.

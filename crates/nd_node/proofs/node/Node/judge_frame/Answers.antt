@@ -1,5 +1,5 @@
 use Rattle.std.proofs.Common.{◌≡◌, ◌∷◌, ⊎_elim, subst, arith}
-use Rattle.std.proofs.lemmas.Result.{on_ok_weaker}
+use Rattle.std.proofs.lemmas.Result.{IfOk-weaker}
 use Rattle.nd_addr.specs.Ip6.{packet_parts}
 use Rattle.nd_decode.specs.Message.{parts}
 use Rattle.nd_validity.specs.Hearing.{Outcome, Hears, outcome, other, valid}
@@ -8,17 +8,19 @@ use Rattle.nd_chronicle.specs.Happening.{Passed}
 use Rattle.nd_node.proofs.Judging.{dropped_by_frame}
 use Rattle.nd_node.proofs.Memory.{judged_by_frame, nameless, no_other}
 use Rattle.nd_node.proofs.Refusals.{judged_frame}
+use Rattle.nd_node.specs.declared.answer.Answer.TheVariants.{Done}
+use Rattle.nd_node.proofs.Reporting.{answered}
 use Rattle.nd_node.proofs.node.Node.judge_frame.Goals as goal
 
 pub returns-in-Drop-clause-adds : goal.returns-in-Drop-clause-adds
 returns-in-Drop-clause-adds g c =
     let h = subst (λ (r : Hearing). Hears c.args.frame.now c.args.self.now.role (outcome r)) c.in-Drop.is c.hear.ensures.heard in
-    on_ok_weaker c.drop_frame.result (λ adds. dropped_by_frame g.R.Rng.stream c.args.self.now c.drop_frame.new.self c.args.outs.now.items c.drop_frame.new.outs.items c.args.now c.args.frame.now c.in-Drop.why h adds) c.drop_frame.ensures.adds
+    answered c.drop_frame.result Done _ (λ adds. dropped_by_frame g.R.Rng.stream c.args.self.now c.drop_frame.new.self c.args.outs.now.items c.drop_frame.new.outs.items c.args.now c.args.frame.now c.in-Drop.why h adds) c.drop_frame.ensures.adds c.drop_frame.ensures.answer
 
 pub returns-in-Valid-clause-adds : goal.returns-in-Valid-clause-adds
 returns-in-Valid-clause-adds g c =
     let h = subst (λ (r : Hearing). Hears c.args.frame.now c.args.self.now.role (outcome r)) c.in-Valid.is c.hear.ensures.heard in
-    on_ok_weaker c.judge_message.result (λ adds. adds c.args.frame.now h) c.judge_message.ensures.adds
+    IfOk-weaker c.judge_message.result _ _ (λ a adds. adds c.args.frame.now h) c.judge_message.ensures.adds
 
 pub returns-in-Drop-clause-quiet : goal.returns-in-Drop-clause-quiet
 returns-in-Drop-clause-quiet g c = λ start c' s le asks.

@@ -4,15 +4,18 @@ use Rattle.nd_addr.specs.Number.{number_of}
 use Rattle.nd_neighbour.specs.Entry.{NeighbourEntry}
 use Rattle.nd_neighbour.specs.Room.{has_room}
 use Rattle.std.specs.Prelude.{List, Some, true}
-use Rattle.std.proofs.lemmas.Result.{on_ok_weaker}
 use Rattle.nd_node.proofs.InTransit.{both_go, both_refused, first_placed, one_left, place_left}
 use Rattle.nd_node.proofs.Refusals.{both_left}
+use Rattle.nd_node.specs.declared.answer.Answer.TheVariants.{Refused}
+use Rattle.nd_out.specs.declared.out.Refusal.TheVariants.{Full}
+use Rattle.nd_out.specs.declared.out.Limit.TheVariants.{Neighbours}
+use Rattle.nd_node.proofs.Reporting.{answered}
 use Rattle.nd_node.proofs.node.Node.redirect_and_send.Goals as goal
 
 pub returns-then-not-room-clause-adds : goal.returns-then-not-room-clause-adds
 returns-then-not-room-clause-adds g c =
-    on_ok_weaker c.refuse.result (both_refused g.R.Rng.stream c.args.self.now c.refuse.new.self c.args.outs.now.items c.refuse.new.outs.items c.args.now (packet_parts c.args.packet.now) (number_of c.args.hop.0)
-    c.args.bytes.now c.args.bytes.now c.args.target c.room.result c.room.ensures.history c.if-not-room.true) c.refuse.ensures.adds
+    answered c.refuse.result (Refused (Full Neighbours)) _ (both_refused g.R.Rng.stream c.args.self.now c.refuse.new.self c.args.outs.now.items c.refuse.new.outs.items c.args.now (packet_parts c.args.packet.now) (number_of c.args.hop.0)
+    c.args.bytes.now c.args.bytes.now c.args.target c.room.result c.room.ensures.history c.if-not-room.true) c.refuse.ensures.adds c.refuse.ensures.answer
 
 pub go-requires-clause-ring : goal.go-requires-clause-ring
 go-requires-clause-ring g c = rw c.advance_to.ensures (λ none.

@@ -1,10 +1,8 @@
 use Rattle.std.proofs.Common.{refl}
 use Rattle.nd_out.specs.Out.{refusal_of}
-use Rattle.nd_node.proofs.Reporting.{on_ok_both}
 use Rattle.nd_node.proofs.OutgoingPackets.{refuses}
 use Rattle.nd_node.proofs.node.Node.refuse.Goals as goal
 
 pub returns-clause-adds : goal.returns-clause-adds
 returns-clause-adds g c =
-    on_ok_both c.report.result c.report.ensures.clock c.report.ensures.items
-    (λ clock items. refuses g.R.Rng.stream c.args.self.now c.report.new.self c.args.outs.now.items c.report.new.outs.items c.args.now _ c.requires.settled clock items (refusal_of c.args.refusal) refl)
+    refuses g.R.Rng.stream c.args.self.now c.report.new.self c.args.outs.now.items c.report.new.outs.items c.args.now _ c.requires.settled c.in_ok-report.ensures.clock c.in_ok-report.ensures.items (refusal_of c.args.refusal) refl

@@ -1,16 +1,17 @@
 use Rattle.std.proofs.Common.{ℕ, sym, ◌∙◌, ap}
-use Rattle.std.proofs.lemmas.Result.{on_ok_weaker}
 use Rattle.nd_steps.specs.Packets.{frame_of}
 use Rattle.nd_node.proofs.OutgoingPackets.{goes_to_all}
 use Rattle.nd_node.proofs.Refusals.{to_destination}
+use Rattle.nd_node.specs.declared.answer.Answer.TheVariants.{Done}
+use Rattle.nd_node.proofs.Reporting.{answered}
 use Rattle.nd_node.proofs.node.Node.send_directly.Goals as goal
 
 pub returns-then-is_multicast-clause-adds : goal.returns-then-is_multicast-clause-adds
 returns-then-is_multicast-clause-adds g c =
-    on_ok_weaker c.send_at_once.result (λ adds. goes_to_all g.R.Rng.stream c.args.self.now c.send_at_once.new.self c.args.outs.now.items c.send_at_once.new.outs.items c.args.now c.args.outgoing.now
+    answered c.send_at_once.result Done _ (λ adds. goes_to_all g.R.Rng.stream c.args.self.now c.send_at_once.new.self c.args.outs.now.items c.send_at_once.new.outs.items c.args.now c.args.outgoing.now
     c.multicast-to.result c.in_ok-packet.packet (c.in_ok-packet.ensures ∙ ap (λ (n : ℕ). frame_of c.multicast-to.result c.args.self.now.mac n c.args.outgoing.now) c.hop_limit-hop_limit.ensures.value)
     c.multicast-to.ensures (sym c.is_multicast.ensures.exactly ∙ c.if-is_multicast.true) adds)
-    c.send_at_once.ensures.adds
+    c.send_at_once.ensures.adds c.send_at_once.ensures.answer
 
 pub returns-clause-refused : goal.returns-clause-refused
 returns-clause-refused g c = λ start c' s adds place.

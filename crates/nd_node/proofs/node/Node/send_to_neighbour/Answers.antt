@@ -1,5 +1,5 @@
 use Rattle.std.proofs.Common.{sym, ◌≡◌}
-use Rattle.std.proofs.lemmas.Result.{on_ok_weaker}
+use Rattle.std.proofs.lemmas.Result.{IfOk-weaker}
 use Rattle.nd_compose.specs.Frames.{open_mac}
 use Rattle.nd_steps.specs.Packets.{frame_of}
 use Rattle.nd_node.proofs.Refusals.{place_refused, room_left}
@@ -9,7 +9,7 @@ use Rattle.nd_neighbour.specs.Room.{has_room}
 use Rattle.nd_node.proofs.node.Node.send_to_neighbour.Goals as goal
 
 pub returns-then-not-room-clause-adds : goal.returns-then-not-room-clause-adds
-returns-then-not-room-clause-adds g c = on_ok_weaker c.refuse_neighbour.result (λ adds. adds (frame_of open_mac c.args.self.now.mac c.args.self.now.params.hop_limit c.args.outgoing.now)) c.refuse_neighbour.ensures.adds
+returns-then-not-room-clause-adds g c = IfOk-weaker c.refuse_neighbour.result _ _ (λ a adds. adds (frame_of open_mac c.args.self.now.mac c.args.self.now.params.hop_limit c.args.outgoing.now)) c.refuse_neighbour.ensures.adds
 
 pub returns-in_err-alloc-clause-refused : goal.returns-in_err-alloc-clause-refused
 returns-in_err-alloc-clause-refused g c = λ packet start c' s adds place.

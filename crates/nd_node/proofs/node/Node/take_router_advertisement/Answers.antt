@@ -9,7 +9,7 @@ use Rattle.nd_node.proofs.node.Node.take_router_advertisement.Goals as goal
 
 pub returns : goal.returns
 returns g c =
-    rw c.advance_to.ensures (takes_advertisement g.R.Rng.stream c.args.self.now _ c.args.outs.now.items _ c.args.now c.args.heard.now.source c.args.heard.now.destination c.args.heard.now.ra (options_left c.args.heard.now.options)
+    rw c.advance_to.ensures (takes_advertisement g.R.Rng.stream c.args.self.now _ c.args.outs.now.items _ c.args.now c.args.heard.now.source c.args.heard.now.destination c.args.ra.now (options_left c.args.heard.now.message.options)
     (record {
       one_goes = c.one_is_pushed_out.ensures;
       neighbours_overdue = c.none_overdue.ensures.table;
