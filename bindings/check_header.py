@@ -33,7 +33,7 @@ _Static_assert(sizeof(nd_mac) == 6 && sizeof(((nd_mac *)0)->bytes) == 6, "nd_mac
 """
 # The enumerations of the sources, by the beginnings of their names in C. A value `NotForUs` is ND_WHY_NOT_FOR_US.
 ENUMS = {"WHY": "Why", "LOSS": "Loss", "REFUSAL": "Refusal", "LIMIT": "Limit", "ROLE": "Role", "PREFERENCE": "Preference", "STATE": "State",
-         "REACHABILITY": "Reachability", "HOP": "Hop|Route", "CLEARABLE": "Clearable", "OUT": "Out|Event", "HEARING": "Hearing"}
+         "REACHABILITY": "Reachability", "HOP": "Hop|Route", "CLEARABLE": "Clearable", "OUT": "Out|Output", "HEARING": "Hearing"}
 NUMBERS = {"bool": ("bool", 1), "u8": ("uint8_t", 1), "u16": ("uint16_t", 2), "u32": ("uint32_t", 4), "u64": ("uint64_t", 8), "i32": ("int32_t", 4),
            "usize": ("size_t", 8), "*mut u8": ("void *", 8)}
 ARRAYS = {("u8", 16): "nd_addr", ("u8", 6): "nd_mac"}
@@ -330,7 +330,7 @@ def check_rust(sources):
     exported = {name for declared in sources.functions.values() for name in declared}
     alone = differences("the function", exported, list(functions))
     report_if(f"raw.rs against nd.h: {len(functions)} functions, {len(structs)} structures", not alone, "\n".join(alone))
-    text = without_comments("".join(read(f"{folder}/{name}.rs") for name in ("numbers", "event")))
+    text = without_comments("".join(read(f"{folder}/{name}.rs") for name in ("numbers", "output")))
     found = set()
     for begin, enum in ENUMS.items():
         found |= {(f"{begin}_{upper(value)}", int(number)) for number, value in re.findall(rf"\b(\d+) => (?:{enum})::(\w+)", text)}

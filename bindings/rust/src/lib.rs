@@ -4,15 +4,15 @@
 //! The program passes frames and moments in, and takes reports out:
 //!
 //! ```no_run
-//! use nd::{Event, Node, Options};
+//! use nd::{Node, Options, Output};
 //!
 //! # fn transmit(frame: &[u8]) {}
 //! # fn example(frame: &[u8]) -> Result<(), nd::Error> {
 //! let mut node = Node::open(&Options::host([0x34, 0x56, 0x78, 0x9a, 0xbc, 0xde], 0, 1))?;
 //! node.receive(3000, frame)?;
 //! for report in node.poll() {
-//!     match report.event {
-//!         Event::Frame(frame) => transmit(&frame),
+//!     match report.output {
+//!         Output::Frame(frame) => transmit(&frame),
 //!         other => println!("{} {other:?}", report.moment),
 //!     }
 //! }
@@ -28,17 +28,17 @@
 //! interface itself sent.
 #![deny(unsafe_op_in_unsafe_fn)]
 
-mod event;
 #[cfg(feature = "memory")]
 mod memory;
 mod node;
 mod numbers;
+mod output;
 pub mod raw;
 mod rows;
 
-pub use event::{Event, Refusal, Report};
 pub use node::{Node, Reports, Rows};
 pub use numbers::{Clearable, Limit, Loss, Preference, Reachability, State, Why};
+pub use output::{Output, Refusal, Report};
 pub use raw::nd_advertising as Advertising;
 pub use raw::nd_counts_row as Counts;
 pub use raw::nd_heard as Heard;

@@ -1,6 +1,6 @@
 //! A node.
 
-use crate::event::{report_of, Report};
+use crate::output::{report_of, Report};
 use crate::numbers::Clearable;
 use crate::raw;
 use crate::rows::{hop_of, Address, Hop, Name, Neighbour, Prefix, Redirect, Route, Router, Server};
@@ -139,7 +139,7 @@ impl Node {
     /// # fn transmit(frame: &[u8]) {}
     /// # fn events(node: &mut nd::Node) {
     /// for report in node.poll() {
-    ///     if let nd::Event::Frame(frame) = report.event {
+    ///     if let nd::Output::Frame(frame) = report.output {
     ///         transmit(&frame);
     ///     }
     /// }

@@ -57,8 +57,8 @@ fn a_host_assigns_its_address_and_solicits_routers() {
     let reports: Vec<_> = node.poll().collect();
     let moments: Vec<u64> = reports.iter().map(|report| report.moment).collect();
     assert_eq!(moments, [0, 1000, 1000]);
-    assert_eq!(reports[1].event, Event::Assigned(address("fe80::3656:78ff:fe9a:bcde")));
-    assert!(matches!(&reports[2].event, Event::Frame(frame) if frame.len() == 70 && frame[54] == 133));
+    assert_eq!(reports[1].output, Output::Assigned(address("fe80::3656:78ff:fe9a:bcde")));
+    assert!(matches!(&reports[2].output, Output::Frame(frame) if frame.len() == 70 && frame[54] == 133));
     assert_eq!(node.next_due(), 5000);
     assert_eq!(node.poll().next(), None);
 }
@@ -99,17 +99,17 @@ fn packets_go_to_their_next_hop() {
     let sent = bytes("0200000000023456789abcde86dd600000000000114020010db800000000365678fffe9abcde20010db8000100000000000000000005");
     let mut buffer = [0; 1514];
     assert_eq!(node.poll_into(&mut buffer[..53]), Err(Error::NoRoom(54)));
-    assert_eq!(node.poll_into(&mut buffer), Ok(Some(Report { moment: 2400, event: Event::Frame(&sent[..]) })));
+    assert_eq!(node.poll_into(&mut buffer), Ok(Some(Report { moment: 2400, output: Output::Frame(&sent[..]) })));
     assert_eq!(node.poll_into(&mut buffer), Ok(None));
     assert_eq!(node.confirm(2500, address("fe80::2")), Ok(Outcome::Done));
     assert_eq!(node.neighbour(2500, address("fe80::2")).unwrap().unwrap().state, Reachability::Reachable);
     assert_eq!(node.forget(2500, address("fe80::2")), Ok(Outcome::Done));
     assert_eq!(node.neighbour(2500, address("fe80::2")), Ok(None));
     assert_eq!(node.clear(2500, Clearable::Routers), Ok(Outcome::Done));
-    let ended: Vec<_> = node.poll().map(|report| report.event).collect();
-    assert_eq!(ended, [Event::EndedRouter(address("fe80::ff:fe00:1")), Event::EndedRouter(address("fe80::2"))]);
+    let ended: Vec<_> = node.poll().map(|report| report.output).collect();
+    assert_eq!(ended, [Output::EndedRouter(address("fe80::ff:fe00:1")), Output::EndedRouter(address("fe80::2"))]);
     assert_eq!(node.send(2500, own, far, 17, &[7]), Ok(Outcome::Done));
-    assert!(matches!(node.poll().next().unwrap().event, Event::Lost(Loss::NoRoute, packet) if packet.len() == 41 && packet[40] == 7));
+    assert!(matches!(node.poll().next().unwrap().output, Output::Lost(Loss::NoRoute, packet) if packet.len() == 41 && packet[40] == 7));
 }
 
 #[test]
@@ -123,12 +123,12 @@ fn mistakes_are_errors_and_refusals_are_outcomes() {
     assert_eq!(node.addresses(MOMENT_LIMIT).err(), Some(Error::Invalid));
     let _ = node.poll().count();
     assert_eq!(node.stop(2000), Ok(Outcome::Refused));
-    assert_eq!(node.poll().next().unwrap().event, Event::Refused(Refusal::WrongRole));
+    assert_eq!(node.poll().next().unwrap().output, Output::Refused(Refusal::WrongRole));
     let unknown = address("2001:db8::9");
     assert_eq!(node.send(2000, unknown, unknown, 17, &[]), Ok(Outcome::Refused));
-    assert_eq!(node.poll().next().unwrap().event, Event::Refused(Refusal::NotOurs(unknown)));
+    assert_eq!(node.poll().next().unwrap().output, Output::Refused(Refusal::NotOurs(unknown)));
     assert_eq!(node.receive(2000, &[]), Ok(Outcome::Done));
-    assert_eq!(node.poll().next().unwrap().event, Event::Dropped(Why::FrameShort));
+    assert_eq!(node.poll().next().unwrap().output, Output::Dropped(Why::FrameShort));
 }
 
 #[test]
@@ -155,7 +155,7 @@ fn a_router_advertises() {
     assert_eq!(node.offers(1000).unwrap().collect::<Vec<_>>(), [offer]);
     assert_eq!(node.routes(1000).unwrap().collect::<Vec<_>>(), [route]);
     node.turn(1000).unwrap();
-    assert!(matches!(node.poll().next().unwrap().event, Event::Frame(frame) if frame[54] == 134));
+    assert!(matches!(node.poll().next().unwrap().output, Output::Frame(frame) if frame[54] == 134));
     assert_eq!(node.next_hop(1000, address("2001:db8:1::7")), Ok(Some(Hop::Via(address("fe80::2")))));
     assert_eq!(node.stop(1000), Ok(Outcome::Done));
     assert_eq!(node.advertising(1000), Ok(None));

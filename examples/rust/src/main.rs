@@ -1,7 +1,7 @@
 //! host MAC DRAWS < frames: as `examples/c/host.c`, over the crate `nd`. It reads lines "MOMENT HEX", a moment in milliseconds and a frame that is
 //! received then; without a frame time passes. DRAWS is seed:N or word:N.
 
-use nd::{Draws, Event, Node, Options};
+use nd::{Draws, Output, Node, Options};
 
 fn bytes(digits: &str) -> Vec<u8> {
     (0..digits.len() / 2).map_while(|i| u8::from_str_radix(&digits[2 * i..2 * i + 2], 16).ok()).collect()
@@ -12,18 +12,18 @@ fn hex(bytes: &[u8]) -> String {
 }
 
 /// Returns what happened in the words of `ndpctl run`, but numbers of `nd.h` for words that follow.
-fn text(event: Event<Vec<u8>>) -> String {
-    match event {
-        Event::Frame(frame) => format!("tx {}", hex(&frame)),
-        Event::Heard { message_type, .. } => format!("heard {message_type}"),
-        Event::Dropped(why) => format!("drop {}", u32::from(why)),
-        Event::Up(packet) => format!("up {}", hex(&packet)),
-        Event::Duplicate(address) => format!("duplicate {address}"),
-        Event::Assigned(address) => format!("assigned {address}"),
-        Event::EndedAddress(address) => format!("ended address {address}"),
-        Event::EndedRouter(address) => format!("ended router {address}"),
-        Event::Failed(address) => format!("failed {address}"),
-        Event::Lost(loss, _) => format!("lost {}", u32::from(loss)),
+fn text(output: Output<Vec<u8>>) -> String {
+    match output {
+        Output::Frame(frame) => format!("tx {}", hex(&frame)),
+        Output::Heard { message_type, .. } => format!("heard {message_type}"),
+        Output::Dropped(why) => format!("drop {}", u32::from(why)),
+        Output::Up(packet) => format!("up {}", hex(&packet)),
+        Output::Duplicate(address) => format!("duplicate {address}"),
+        Output::Assigned(address) => format!("assigned {address}"),
+        Output::EndedAddress(address) => format!("ended address {address}"),
+        Output::EndedRouter(address) => format!("ended router {address}"),
+        Output::Failed(address) => format!("failed {address}"),
+        Output::Lost(loss, _) => format!("lost {}", u32::from(loss)),
         other => format!("{other:?}"),
     }
 }
@@ -49,7 +49,7 @@ fn main() -> Result<(), Box<dyn std::error::Error>> {
         } else {
             node.receive(now, &frame)?
         };
-        node.poll().for_each(|report| println!("{} {}", report.moment, text(report.event)));
+        node.poll().for_each(|report| println!("{} {}", report.moment, text(report.output)));
     }
     for own in node.addresses(node.last_moment())? {
         let (state, preferred, valid) = (u32::from(own.state), own.preferred_left.unwrap_or(u64::MAX), own.valid_left.unwrap_or(u64::MAX));
