@@ -157,6 +157,9 @@ def check_bare(room, archive):
     if os.uname().machine != "x86_64":
         return skip("bare", "it is for x86-64")
     more = ["-ffreestanding", "-fno-stack-protector", "-nostdlib", "-static", "-no-pie"]
+    pool = build(room, "pool", [f"{TESTS}/pool.c", POOL])
+    if pool:
+        report("pool: 300,000 requests", run([pool, "300000"]))
     bare = build(room, "bare", [f"{TESTS}/bare.c", POOL, archive], *more)
     if bare:
         said = run([bare])

@@ -1,0 +1,115 @@
+/* pool: the memory functions of c/pool.c over random requests. Each block keeps what was written to it, is aligned, and lies in no other one; when
+ * all are given back, the whole pool can be taken at once. The argument is the number of calls. */
+#include <stdint.h>
+#include <stdio.h>
+#include <stdlib.h>
+#include <string.h>
+
+#include "nd.h"
+
+enum { BLOCKS = 2000, POOL_BYTES = 262144, HEAD_BYTES = 16, LONGEST = 4000 };
+
+struct block {
+    unsigned char *bytes;
+    size_t length;
+    unsigned char fill;
+};
+
+static struct block blocks[BLOCKS];
+static uint64_t state = 88172645463325252u;
+
+/* Returns a random number below `most` (xorshift). */
+static size_t below(size_t most)
+{
+    state ^= state << 13;
+    state ^= state >> 7;
+    state ^= state << 17;
+    return (size_t)(state % most);
+}
+
+static void fail(const char *what)
+{
+    printf("FAILED: %s\n", what);
+    exit(1);
+}
+
+static void fill(struct block *block)
+{
+    block->fill = (unsigned char)below(256);
+    memset(block->bytes, block->fill, block->length);
+}
+
+static void compare(const struct block *block, size_t length)
+{
+    for (size_t i = 0; i < length; i++)
+        if (block->bytes[i] != block->fill)
+            fail("a block has other bytes than those that were written");
+}
+
+/* Short lengths are the most frequent ones. */
+static size_t length(void)
+{
+    return below(below(LONGEST) + 1);
+}
+
+static void request(struct block *block)
+{
+    size_t wanted = length();
+    struct nd_block given = rattle_alloc(wanted, (size_t)1 << below(5));
+    if (!given.ok)
+        return;
+    if ((uintptr_t)given.p % HEAD_BYTES != 0)
+        fail("a block isn't aligned");
+    block->bytes = given.p;
+    block->length = wanted;
+    fill(block);
+}
+
+static void change(struct block *block)
+{
+    size_t wanted = length(), kept = block->length < wanted ? block->length : wanted;
+    struct nd_block given = rattle_realloc(block->bytes, kept, wanted, 8);
+    if (!given.ok) {
+        compare(block, block->length);
+        return;
+    }
+    block->bytes = given.p;
+    compare(block, kept);
+    block->length = wanted;
+    fill(block);
+}
+
+static void give_back(struct block *block)
+{
+    compare(block, block->length);
+    rattle_dealloc(block->bytes);
+    block->bytes = NULL;
+}
+
+static void is_whole(void)
+{
+    struct nd_block all = rattle_alloc(POOL_BYTES - HEAD_BYTES, HEAD_BYTES);
+    if (!all.ok)
+        fail("the whole pool can't be taken");
+    rattle_dealloc(all.p);
+}
+
+int main(int count, char **arguments)
+{
+    long calls = count > 1 ? atol(arguments[1]) : 0;
+    is_whole();
+    for (long i = 0; i < calls; i++) {
+        struct block *block = &blocks[below(BLOCKS)];
+        if (block->bytes == NULL)
+            request(block);
+        else if (below(3) == 0)
+            change(block);
+        else
+            give_back(block);
+    }
+    for (size_t i = 0; i < BLOCKS; i++)
+        if (blocks[i].bytes != NULL)
+            give_back(&blocks[i]);
+    is_whole();
+    return 0;
+}
