@@ -59,7 +59,7 @@ static int32_t send_to(nd_node *node, const char *digits)
 static int32_t send_from_another(nd_node *node, const char *digits)
 {
     const nd_addr source = address_of(digits);
-    return nd_send(node, BUSY_AT, &source, &UNRESOLVED, 17, PAYLOAD, 0);
+    return nd_send(node, BUSY_AT, &source, &UNRESOLVED, 17, PAYLOAD, sizeof PAYLOAD);
 }
 
 static int32_t confirm(nd_node *node, const char *digits)
@@ -175,7 +175,7 @@ static const struct event WITHOUT_MEMORY_AT_HOST[] = {
     {"the servers and names are cleared", clear, "5", false},
 };
 
-/* Events that are refused without memory: those of AddsRefusal. nd_send copies a payload first, so here it has none. */
+/* Events that are refused without memory: those of AddsRefusal. */
 static const struct event REFUSED_AT_HOST[] = {
     {"an event of a router", stop, NULL, false},
     {"settings of a router", advertise, "1800", false},
