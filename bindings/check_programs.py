@@ -83,15 +83,15 @@ def check_host(what, program):
     report_if(f"{what} prints the expected text", said == read(f"{TOP}/examples/host.txt"), said)
 
 
-def check_router(program):
+def check_router(program, what="router"):
     """Requires that the router of the examples sends for its frames what the same router sends by `ndpctl run`."""
-    said = check_runs("router", [program, *ROUTER], read(f"{TOP}/examples/router.hex"))
+    said = check_runs(what, [program, *ROUTER], read(f"{TOP}/examples/router.hex"))
     sent = [line for line in read(f"{TOP}/examples/scripts/router.output").splitlines() if line.split()[1] == "tx"]
     wanted = read(f"{TOP}/examples/router.txt")
-    report_if("router sends the expected frames", said == wanted and wanted.splitlines() == sent, said)
+    report_if(f"{what} sends the expected frames", said == wanted and wanted.splitlines() == sent, said)
 
 
-def check_traces(program):
+def check_traces(program, what="trace"):
     """Runs the scripts of the repository over the library, and compares what it prints with the expected texts of `ndpctl run`."""
     wrong = []
     known = scripts.scripts()
@@ -99,10 +99,10 @@ def check_traces(program):
         said = run([program, *args], input=script)
         if said.returncode or said.stdout != wanted:
             wrong.append(f"{name}: {said.stderr}{difference(said.stdout, wanted)}")
-    report_if(f"trace: {len(known)} scripts of the tests of ndpctl run", not wrong, "\n".join(wrong[:8]))
+    report_if(f"{what}: {len(known)} scripts of the tests of ndpctl run", not wrong, "\n".join(wrong[:8]))
     name, args, script, wanted = known[-1]
-    if has("valgrind", "trace, under valgrind"):
-        report(f"trace: {name}, under valgrind", run([*VALGRIND, program, *args], input=script))
+    if has("valgrind", f"{what}, under valgrind"):
+        report(f"{what}: {name}, under valgrind", run([*VALGRIND, program, *args], input=script))
 
 
 def difference(said, wanted):

@@ -1,6 +1,6 @@
-"""check_targets: the library on other processors. The targets of the Makefile are built, and on each the example of a host and the program `trace` print
-what they print on this machine: over the scripts of the repository, and over a longer one for a host and for a router. Programs for other
-processors run under qemu."""
+"""check_targets: the library on other processors. The archives and the module of the Makefile are built, and on each, and by dist/nd.c, the examples of
+a host and of `hear` and the program `trace` print what they print on this machine: over the scripts of the repository, and over a longer one for a
+host and for a router. Programs for other processors run under qemu."""
 import json
 import os
 import shutil
@@ -13,7 +13,7 @@ from check_programs import BINDINGS, COUNTING, HOST, TESTS, difference
 from checking import TOP, has, read, report_if, run, skip
 
 OUT = f"{BINDINGS}/out/targets"
-DIST = f"{BINDINGS}/dist"
+DIST = f"{TOP}/dist"
 EXAMPLE = f"{TOP}/examples/c"
 STATIC = ["-static", "-std=c11", "-D_POSIX_C_SOURCE=200809L"]
 
@@ -122,7 +122,7 @@ def check_targets(room, archive):
         return skip("other processors", "ND_ARCHIVE names an archive for this machine")
     if not has("gcc", "other processors"):
         return None
-    made = run([sys.executable, f"{BINDINGS}/targets/build.py", "aarch64", "riscv64", "wasm64", "dist"])
+    made = run([sys.executable, f"{BINDINGS}/targets/build.py", "aarch64", "riscv64", "wasm64"])
     print("".join(f"{line}\n" for line in made.stdout.splitlines() if line.startswith("skipped: ")), end="")
     if not report_if("targets/build.py", made.returncode == 0, made.stdout + made.stderr):
         return None

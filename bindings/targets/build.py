@@ -1,6 +1,6 @@
 #!/usr/bin/env python3
 """build TARGET..: the library for other processors, of what `rt lib` keeps of crates/nd_c. What is made is in bindings/out/targets, and nd.c with its
-headers in bindings/dist. Where a tool is missing the target is skipped, with a line 'skipped: ..'.
+headers in dist/, which is committed. Where a tool is missing the target is skipped, with a line 'skipped: ..'.
 
   aarch64   libnd_c.a for aarch64: the one that `rt lib --target` makes, as it comes with the module for the others
   riscv64   libnd_c.a for riscv64, of Rattle's LLVM module
@@ -14,13 +14,14 @@ import subprocess
 import sys
 from concurrent.futures import ThreadPoolExecutor
 
+import stamp
 from dist_headers import dist_headers
 
 HERE = os.path.dirname(os.path.realpath(__file__))
 BINDINGS = os.path.dirname(HERE)
 TOP = os.path.dirname(BINDINGS)
 OUT = f"{BINDINGS}/out/targets"
-DIST = f"{BINDINGS}/dist"
+DIST = f"{TOP}/dist"
 HEADERS = ["nd.h", "nd_hear.h"]
 STACK = 16384
 PAGE = 65536
@@ -157,7 +158,7 @@ def without_includes(text):
     return re.sub(r'^#include "(?:wasm-rt|nd_module)\.h"\n', "", text, flags=re.M)
 
 
-def dist():
+def dist(folder=DIST):
     need("rt", "gcc", "wasm-opt", "wasm2c")
     wide = module("nd_bytewise", PAGE, "-mno-bulk-memory-opt")
     run("wasm-opt", *LOWER, "--memory64-lowering", wide, "-o", f"{OUT}/nd_module.wasm")
@@ -165,16 +166,19 @@ def dist():
     if re.search(r"\| memory\.(copy|fill|init)|call_indirect", listed):
         sys.exit("FAILED: the module for nd.c copies or fills memory as a whole, or calls by a table")
     run("wasm2c", "nd_module.wasm", "-n", "nd_module", "-o", "nd_module.c", cwd=OUT)
-    os.makedirs(DIST, exist_ok=True)
+    os.makedirs(folder, exist_ok=True)
     parts = [read(f"{HERE}/runtime.h"), *(without_includes(read(f"{OUT}/nd_module.{end}")) for end in "hc"), read(f"{HERE}/front.c")]
-    write(f"{DIST}/nd.c", "/* Made by `make -C bindings dist` of the proved library, by way of WebAssembly; see README.md. */\n" + "\n".join(parts))
+    write(f"{folder}/nd.c", "/* Made by `make -C bindings dist` of the proved library, by way of WebAssembly; see README.md. */\n" + "\n".join(parts))
     try:
         texts = dist_headers()
     except ValueError as why:
         sys.exit(f"FAILED: {why}")
     for name, text in texts.items():
-        write(f"{DIST}/{name}", text)
-    shutil.copy(f"{HERE}/dist.md", f"{DIST}/README.md")
+        write(f"{folder}/{name}", text)
+    for name in stamp.EXAMPLES:
+        write(f"{folder}/{name}", read(f"{TOP}/examples/{name}"))
+    write(f"{folder}/README.md", read(f"{HERE}/dist.md"))
+    write(f"{folder}/STAMP", stamp.text(kit()))
 
 
 TARGETS = {"aarch64": aarch64, "riscv64": riscv64, "wasm64": wasm64, "dist": dist}

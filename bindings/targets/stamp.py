@@ -1,0 +1,65 @@
+"""stamp: what dist/ was made of. `dist/STAMP` has a sum of all sources, and the tools that made nd.c of them: others may make other bytes of the same
+code."""
+import hashlib
+import os
+import re
+import subprocess
+
+HERE = os.path.dirname(os.path.realpath(__file__))
+TOP = os.path.dirname(os.path.dirname(HERE))
+STAMP = f"{TOP}/dist/STAMP"
+# The frames of the examples in C, and what these print of them.
+EXAMPLES = [f"{name}.{kind}" for name in ("host", "router", "link") for kind in ("hex", "txt")]
+# The files beside the crates.
+OTHERS = ["include/nd.h", "include/nd_hear.h", "bindings/c/pool.c", *(f"examples/{name}" for name in EXAMPLES),
+          *(f"bindings/targets/{name}" for name in ("bitcode.py", "build.py", "dist.md", "dist_headers.py", "front.c", "module.c", "retarget.py", "runtime.h"))]
+
+
+def read(path):
+    with open(path, "rb") as file:
+        return file.read()
+
+
+def crates_of(name):
+    """Returns a crate and those that it is built over, in the order of their names, with the line of crates.txt of each."""
+    lines = dict(re.findall(r"^(\w+)(?: staticlib)?:(.*)$", read(f"{TOP}/crates.txt").decode(), re.M))
+    found, open_ones = {}, [name]
+    while open_ones:
+        crate = open_ones.pop()
+        if crate in lines and crate not in found:
+            found[crate] = lines[crate].split()
+            open_ones += found[crate]
+    return sorted(found.items())
+
+
+def files_of(crate):
+    """Yields the sources of a crate: its code, its definitions and its proofs."""
+    for part in ("src", "specs", "proofs"):
+        for folder, _, names in os.walk(f"{TOP}/crates/{crate}/{part}"):
+            yield from (os.path.join(folder, name) for name in names)
+
+
+def sum_of_sources():
+    """Returns the sum of all that nd.c is made of: the names and bytes of the files, and what each crate is built over."""
+    summed = hashlib.sha256()
+    crates = crates_of("nd_c")
+    files = [f"{TOP}/{name}" for name in OTHERS] + [path for crate, _ in crates for path in files_of(crate)]
+    for path in sorted(os.path.relpath(path, TOP) for path in files):
+        summed.update(f"{path} {hashlib.sha256(read(f'{TOP}/{path}')).hexdigest()}\n".encode())
+    for crate, others in crates:
+        summed.update(f"{crate}: {' '.join(others)}\n".encode())
+    return summed.hexdigest()
+
+
+def version(*words):
+    return re.search(r"\d[\d.]*", subprocess.run(words, capture_output=True, text=True, check=True).stdout)[0]
+
+
+def tools(kit):
+    """Returns the names of the tools that make nd.c, with the folder of the kit."""
+    name = read(f"{kit}/KIT-ID").decode().strip()
+    return f"{name}, binaryen {version('wasm-opt', '--version')}, wabt {version('wasm2c', '--version')}"
+
+
+def text(kit):
+    return f"sources {sum_of_sources()}\ntools {tools(kit)}\n"

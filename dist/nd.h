@@ -1,0 +1,626 @@
+/*
+ * nd.h - IPv6 Neighbor Discovery for one Ethernet interface, as a host or as a router
+ * (RFC 4861; RFC 4862, section 5; RFC 8106; RFC 4191 without its route option).
+ *
+ * A node keeps the tables of Neighbor Discovery, decides what is sent and when, and says why a
+ * frame was dropped. It has no clock, no socket, no thread and no callback. The program passes
+ * frames and moments in, and polls records out: frames to send, packets for the upper layer, and
+ * what happened.
+ *
+ * A HOST
+ *
+ *     nd_node node = ND_NODE_INIT;
+ *     nd_options options = ND_OPTIONS_INIT;
+ *     memcpy(options.mac.bytes, interface_mac, 6);
+ *     options.start = clock_ms();
+ *     options.seed = random_u64();
+ *     if (nd_open(&node, &options) != ND_DONE) return;
+ *     while (running) {
+ *         nd_out out;
+ *         while (nd_poll(&node, &out, buffer, sizeof buffer) == ND_DONE) {
+ *             if (out.kind == ND_OUT_FRAME) transmit(buffer, out.length);
+ *             if (out.kind == ND_OUT_UP) deliver(buffer, out.length);
+ *         }
+ *         uint64_t now = clock_ms(), due = nd_next_due(&node);
+ *         size_t length = wait_for_frame(frame, due > now ? due - now : 0);
+ *         if (length > 0)
+ *             nd_receive(&node, clock_ms(), frame, length);
+ *         else
+ *             nd_turn(&node, clock_ms());
+ *     }
+ *     nd_close(&node);
+ *
+ * THE CALLER'S DUTIES. The proofs assume them; no call can check them.
+ *   - An nd_node is all zeros before the first nd_open, and only these functions change it. It may
+ *     be moved, but two copies of an open node are never both used.
+ *   - Two calls never overlap, also those for different nodes, questions (nd_.._at, nd_.._of) and
+ *     nd_hear: all calls use one memory. Use a lock of your own, or let one thread make all calls.
+ *     No call is made from a signal handler.
+ *   - No pointer is null, not even to an array of length 0 (an empty C++ span or vector may have
+ *     one: pass any other address). A pointer is valid for its length, and for its structure.
+ *   - What a call writes overlaps nothing else that it is passed.
+ * Buffers and addresses may have any alignment. No pointer is kept after a call: the caller owns
+ * every structure and buffer, the library owns its memory.
+ *
+ * TIME. A moment is a number of milliseconds from a beginning of your choice, below
+ * ND_MOMENT_LIMIT. Moments of one node never decrease; equal ones are fine. Use a clock that is
+ * never set back (CLOCK_MONOTONIC, or CLOCK_BOOTTIME, which runs on while the machine sleeps), not
+ * the time of day.
+ *   - A call with a moment `now` first does all that is due up to `now`, in the order of its
+ *     moments, and reports it with the moment at which it was due. So a late call loses nothing.
+ *     But a frame counts as received at the moment that you pass: if a conflicting advertisement
+ *     waited in your ring while a detection ended, the address is assigned. Pass the frames that
+ *     wait before you call nd_turn, with the moments at which they arrived, if you have them and
+ *     they do not decrease.
+ *   - After a sleep of an hour a router reports all the advertisements of that hour at once.
+ *     Compare `moment` with your clock before you send, or close the node before the sleep.
+ *   - An event can make something due at its own moment; it is done by the next call. So
+ *     nd_next_due may equal the moment of the last call, and the loop above then turns at once.
+ *
+ * STATUS. Functions that return int32_t return an `enum nd_status`. 0 and above: the call took
+ * place. Below 0: it did not, and it has changed nothing, but for ND_NO_MEMORY. If several hold,
+ * the first in this order is returned: ND_INVALID, ND_CLOSED, ND_PAST, ND_NO_MEMORY.
+ *   ND_NO_MEMORY: the event has added nothing. A part of what was due may have been done, and is
+ *   reported. Poll, and make the same call again: if memory is not refused then, the node is as if
+ *   it had not been refused before. If nothing is left to poll and memory is refused still, waiting
+ *   alone frees none: give the node more memory, or close it. A frame may also be given up, as if
+ *   the link had lost it.
+ *
+ * WHAT A NODE REPORTS. Each event appends records to the node's queue, in the order in which things
+ * happened; nd_poll takes the oldest. Poll until ND_NOTHING after each call: records take memory,
+ * and frames that are sent late break the RFCs' timing. If you poll after each call, a record
+ * belongs to that call or to what was due before it.
+ *   If a buffer has ND_BUFFER_BYTES bytes, and no fewer than the longest frame that you ever pass
+ *   to nd_receive, nd_poll does not return ND_NO_ROOM. A host that passes no longer frames than
+ *   1,514 bytes needs ND_BUFFER_BYTES.
+ *
+ * FRAMES IN. From the Ethernet destination on, without a VLAN tag and without a frame check
+ * sequence; of at most ND_FRAME_BYTES bytes (else ND_INVALID is returned); padding is ignored.
+ *   - The node does not look at Ethernet addresses. The caller passes frames to the interface's own
+ *     address and to multicast addresses, and no others. A router would forward others once more.
+ *   - Never pass a frame that the interface itself sent (on Linux, sll_pkttype PACKET_OUTGOING): a
+ *     node that hears its own solicitation takes its address for a duplicate (RFC 4862, 5.4.3).
+ *   - The ICMPv6 checksum must be in the bytes. Frames of a virtual device with checksum offload
+ *     are dropped as ND_WHY_SUM.
+ *   - The interface has to receive 33:33:00:00:00:01, a router also 33:33:00:00:00:02, and for each
+ *     of the node's addresses 33:33:ff and its last three bytes (RFC 2464, 7), before detection
+ *     begins (RFC 4862, 5.4.2). Read nd_address_at after nd_open, and after each ND_OUT_HEARD of
+ *     type 134 before the next event; or receive all multicast. MLD reports are the caller's.
+ *   - A host needs only ICMPv6 of types 133 to 137; the caller may deliver other packets itself.
+ * FRAMES OUT are whole Ethernet frames, without padding and frame check sequence; pad them to the
+ * least length of the medium. Frames of the node's own messages have at most 1,294 bytes, those of
+ * nd_send at most 14 + MTU. The MTU is 1,500 until a Router Advertisement sets one of 1,280 to
+ * 1,500. It cannot be set from outside. A router forwards what it is passed, longer packets too.
+ *
+ * WHAT A NODE DOES NOT DO: choose source addresses (RFC 6724), keep manual addresses or static
+ * neighbours, DHCPv6, MLD, ICMPv6 errors and echo, extension headers, forward between interfaces.
+ * One node is one interface; several nodes share the memory of nd.c. When the link has been down,
+ * close the node and open it again.
+ *
+ * DETERMINISM. A node reads its options, its calls, and whether the memory of nd.c has room, which
+ * all nodes share. It reads no clock and no environment. TESTED below says what that gives.
+ *
+ * NUMBERS. Addresses are bytes in network order, all other numbers are in the order of the machine.
+ * Lifetimes left are in milliseconds. What a router announces is in the units of RFC 4861, 6.2.1.
+ * An `enum` names the values of an integer; no parameter or field has an enumerated type. 0 is one
+ * of the values only where it is the default. Structures have no padding but nd_node. `reserved`
+ * fields are 0: the library writes zeros, and returns ND_INVALID if the caller passes anything
+ * else.
+ *
+ * VERSION. The major number changes with any layout, number or meaning, the minor number with an
+ * addition: a function, a value of an enumeration, a field in place of `reserved`. So ignore kinds
+ * and codes that you do not know. An older library refuses a newer field that is not 0
+ * (ND_INVALID).
+ *
+ * PROVED. Every call returns, reads no byte outside what it is passed, and writes none outside.
+ * Every function has a clause that says when it returns each status, and what the node is then and
+ * what is written; docs/PROVED.md lists them. ND_NO_MEMORY is allowed at any time where a call has
+ * it. For each event, ND_DONE and ND_REFUSED mean: from every history that the node represents it
+ * goes to one that the RFCs' conceptual host or router has after the event, and the queue gains
+ * exactly what is reported of the difference.
+ *
+ * TESTED, and not proved:
+ *   - ND_NO_MEMORY is returned only where the memory of nd.c has no room for a request.
+ *   - Equal options and equal calls give equal statuses, records and rows, byte for byte, as long
+ *     as no request is refused. Where some are, and each call that returned ND_NO_MEMORY is made
+ *     again, the records and the rows at the end are the same bytes. `ndpctl run` with the same
+ *     options reports the same on the same frames.
+ *   - nd_close, and an nd_open that returned ND_NO_MEMORY, give all memory of the node back, and
+ *     nd_poll that of the record that it takes.
+ *   - nd_poll, the questions (nd_.._at, nd_.._of), nd_last_moment and nd_next_due ask for no
+ *     memory.
+ *   - ND_BUFFER_BYTES and nd_node_bytes are enough, and a row costs what its index is.
+ * TRUSTED: the duties above, enough stack, the toolchain, and what nd.c is made by, which README.md
+ * names. bindings/check compares this header with the library's source.
+ */
+#ifndef ND_H
+#define ND_H
+
+#include <stdbool.h>
+#include <stddef.h>
+#include <stdint.h>
+
+/* Statuses, roles, preferences, reasons to drop a frame, nd_addr, and nd_hear. */
+#include "nd_hear.h"
+
+#ifdef __cplusplus
+extern "C" {
+#endif
+
+#define ND_VERSION_MAJOR 0
+#define ND_VERSION_MINOR 1
+#define ND_VERSION_PATCH 0
+#define ND_VERSION ((ND_VERSION_MAJOR << 16) | (ND_VERSION_MINOR << 8) | ND_VERSION_PATCH)
+
+/* Returns the version of the library that is linked, in the form of ND_VERSION. It fits this header
+ * if nd_version() >> 16 == ND_VERSION_MAJOR and nd_version() >= ND_VERSION. */
+uint32_t nd_version(void);
+
+#define ND_MOMENT_LIMIT ((uint64_t)1 << 62) /* moments are below */
+#define ND_FOREVER UINT64_MAX               /* a lifetime left without an end */
+#define ND_LIFETIME_INFINITE UINT32_MAX     /* an announced lifetime without an end, in seconds */
+#define ND_BUFFER_BYTES 1514                /* a frame of a link with an MTU of 1,500 */
+
+typedef struct nd_mac {
+    uint8_t bytes[6];
+} nd_mac;
+
+/* ---- memory ---------------------------------------------------------------------------------- */
+
+/* nd.c does not call these three functions, and the program need not define them: the memory of
+ * nd.c is a static array of ND_MEMORY_BYTES bytes. An archive for one processor calls them.
+ *   rattle_alloc: a block of `size` bytes (it may be 0), aligned to `align` and to each power of
+ *     two up to 16 that divides `size`. Multiples of 16 always are.
+ *   rattle_realloc: the block at `p` with the new size; its first `kept` bytes are kept. If it is
+ *     refused, the block at `p` stays as it is.
+ *   rattle_dealloc: gives a block back.
+ * A refused request returns ok = false; `p` is not null then, too. They do not call the library. */
+struct nd_block {
+    bool ok;
+    void *p;
+};
+struct nd_block rattle_alloc(size_t size, size_t align);
+struct nd_block rattle_realloc(void *p, size_t kept, size_t size, size_t align);
+void rattle_dealloc(void *p);
+
+/* Returns how many bytes the tables of an open node take at most with these limits, 0 standing for
+ * the usual ones as in nd_options. Returns 0 if a limit is out of its range. nd_open takes nearly
+ * all of them at once; Redirects, next hops that are remembered, and DNS search names take the rest
+ * as they arrive. Not counted: what the memory functions add to a block; the records that were not
+ * polled; for each neighbour that is INCOMPLETE up to three frames that wait; the frames of the
+ * call that runs. */
+size_t nd_node_bytes(uint32_t neighbours, uint32_t routers);
+
+/* ---- a node ---------------------------------------------------------------------------------- */
+
+typedef struct nd_node {
+    bool is_open; /* private */
+    void *at;     /* private */
+} nd_node;
+
+/* A closed node, as are zero bytes: 16, or 8 where pointers have 32 bits. */
+#define ND_NODE_INIT { false, 0 }
+
+enum nd_draws {
+    ND_DRAWS_SEED = 0, /* random words from PCG32, seeded with `seed` */
+    ND_DRAWS_WORD = 1  /* each random word is `seed`, below 2^32: for tests */
+};
+
+typedef struct nd_options {
+    uint32_t size;       /* sizeof(nd_options); ND_OPTIONS_INIT sets it */
+    uint32_t role;       /* enum nd_role */
+    nd_mac mac;          /* the interface's own address; not checked */
+    uint8_t transmits;   /* DupAddrDetectTransmits (RFC 4862, 5.1), 1 to 8; 0: 1 */
+    uint8_t draws;       /* enum nd_draws */
+    uint32_t neighbours; /* neighbours at most, 1 to 2048; 0: 512 */
+    uint32_t routers;    /* default routers at most, 1 to 64; 0: 16 */
+    uint64_t start;      /* the moment of the start */
+    uint64_t seed;       /* decides the random delays: take it from the system's entropy, so that
+                            machines that start together do not send together (RFC 4861, 6.3.7) */
+    uint64_t reserved[3];
+} nd_options;
+
+#define ND_OPTIONS_INIT \
+    { (uint32_t)sizeof(nd_options), 0, { { 0, 0, 0, 0, 0, 0 } }, 0, 0, 0, 0, 0, 0, { 0, 0, 0 } }
+
+/* Opens a node: it draws its ReachableTime, forms its link-local address and will detect whether
+ * that is a duplicate (RFC 4861, 6.3.2; RFC 4862, 5.3 and 5.4). The other limits are fixed: 64
+ * prefixes, 64 own addresses, 32 DNS servers, 32 search names, 64 Redirects, 16 offers, 64 static
+ * routes.
+ *   ND_DONE        It is open at the moment `start`; nothing is reported yet.
+ *   ND_INVALID     It is open already, `size` is not sizeof(nd_options), or a field is outside its
+ *                  range. Nothing has changed.
+ *   ND_NO_MEMORY   It is closed. The same call again is as if it were the first. */
+int32_t nd_open(nd_node *node, const nd_options *options);
+
+/* Closes a node. Nothing is sent (a router calls nd_stop and polls first), and records that were
+ * not polled are lost. A closed node may be closed again, and opened anew. */
+void nd_close(nd_node *node);
+
+/* ---- time ------------------------------------------------------------------------------------ */
+
+/* Returns the moment up to which time has passed: that of the start, of the last event or
+ * nd_next_hop, or, after ND_NO_MEMORY, of the last thing that was done. UINT64_MAX if the node is
+ * closed. */
+uint64_t nd_last_moment(nd_node *node);
+
+/* Returns the earliest moment at which something is due; it is never before nd_last_moment. Call
+ * nd_turn then, or any other event. UINT64_MAX if the node is closed: an open node always has
+ * something to do, at least every 7,200,000 ms (RFC 4861, 6.3.4). It changes nothing. */
+uint64_t nd_next_due(nd_node *node);
+
+/* Lets time pass up to `now`, and does all that is due (RFC 4861, 6.2.4, 6.2.6, 6.3.5, 6.3.7,
+ * 7.2.2, 7.3.3; RFC 4862, 5.4 and 5.5.4).
+ *   ND_DONE        nd_last_moment is `now`, and nd_next_due is above it.
+ *   ND_NO_MEMORY   A part of what is due may have been done. Call again.
+ *   ND_INVALID (a moment of ND_MOMENT_LIMIT or above), ND_CLOSED, ND_PAST   Nothing has changed. */
+int32_t nd_turn(nd_node *node, uint64_t now);
+
+/* ---- events ---------------------------------------------------------------------------------- */
+
+/* Each event first does what nd_turn does, and then what it says. All of them return
+ *   ND_NO_MEMORY   The event has added nothing; a part of what is due may have been done. Call
+ *                  again.
+ *   ND_INVALID (a moment of ND_MOMENT_LIMIT or above), ND_CLOSED, ND_PAST   Nothing has changed. */
+
+/* Receives a frame (RFC 4861, 6.1, 6.2.6, 6.3.4, 7.1, 7.2.3 to 7.2.5, 8; RFC 4862, 5.4 and 5.5.3;
+ * RFC 8106, 5). See FRAMES IN above. The frame is copied where that is needed, and not kept.
+ *   ND_DONE        A record says what it was: ND_OUT_HEARD, ND_OUT_DROPPED or ND_OUT_UP. What
+ *                  follows from a message is reported after ND_OUT_HEARD. A packet in transit has
+ *                  no such record: a router forwards it, which is ND_OUT_FRAME or ND_OUT_LOST, now
+ *                  or once the link-layer address of its next hop is known (RFC 8200, 3).
+ *   ND_REFUSED     ND_REFUSAL_FULL: a part of the message would pass a limit. No part of it was
+ *                  taken. So once 32 DNS servers without end are known, an advertisement of another
+ *                  server is refused whole, with its router and its prefixes. Where the neighbours
+ *                  are at their limit, the one that is STALE for longest is evicted for a new one;
+ *                  if none is STALE, a message of a new neighbour is refused. */
+int32_t nd_receive(nd_node *node, uint64_t now, const uint8_t *frame, size_t length);
+
+/* Sends a packet of an upper layer (RFC 4861, 5.2, 7.2.2 and 7.3.3). `source` is an assigned
+ * address of the node; the caller chooses it. `payload` is what follows the IPv6 header, with its
+ * own checksum. The node writes the Ethernet and IPv6 headers: traffic class and flow label 0, the
+ * hop limit of nd_parameters_of. The payload is copied.
+ *   ND_DONE        It is in a record ND_OUT_FRAME; or it waits for the link-layer address of its
+ *                  next hop, as one of three at most (a fourth replaces the oldest: ND_OUT_LOST);
+ *                  or there is no next hop: ND_OUT_LOST with ND_LOSS_NO_ROUTE.
+ *   ND_REFUSED     ND_REFUSAL_DISABLED, _NOT_OURS, _TOO_LONG (40 + `length` is above the MTU), or
+ *                  _FULL. */
+int32_t nd_send(nd_node *node, uint64_t now, const nd_addr *source, const nd_addr *destination,
+                uint8_t next_header, const uint8_t *payload, size_t length);
+
+/* Confirms that a neighbour is reached, since an upper layer made forward progress through it (RFC
+ * 4861, 7.3.1). `neighbour` is the next hop, which nd_next_hop finds, and not the far end of a
+ * connection.
+ *   ND_DONE        It is REACHABLE for ReachableTime from now, if its link-layer address is known;
+ *                  else nothing has changed. */
+int32_t nd_confirm(nd_node *node, uint64_t now, const nd_addr *neighbour);
+
+/* Removes a neighbour. It does not count as a failure: Redirects to it stay.
+ *   ND_DONE        There is no entry for it. Packets that waited for it are reported, oldest first,
+ *                  as ND_OUT_LOST with ND_LOSS_FORGOTTEN. */
+int32_t nd_forget(nd_node *node, uint64_t now, const nd_addr *neighbour);
+
+enum nd_clearable {
+    ND_CLEARABLE_NEIGHBOURS = 1, /* as nd_forget for each, in the order of addresses */
+    ND_CLEARABLE_ROUTERS = 2,    /* ND_OUT_ENDED_ROUTER for each in list order; Redirects end */
+    ND_CLEARABLE_PREFIXES = 3,   /* own addresses formed from them stay */
+    ND_CLEARABLE_REDIRECTS = 4,
+    ND_CLEARABLE_DNS = 5 /* servers and search names */
+};
+
+/* Removes all rows of a table. ND_INVALID also if `table` is no `enum nd_clearable`. A table that
+ * the role does not have is empty: ND_DONE. */
+int32_t nd_clear(nd_node *node, uint64_t now, uint32_t table);
+
+enum nd_hop {
+    ND_HOP_DIRECT = 1, /* the destination is on the link */
+    ND_HOP_VIA = 2     /* through a router */
+};
+
+typedef struct nd_next_hop_row {
+    nd_addr address; /* the destination, or the router */
+    uint32_t hop;    /* enum nd_hop */
+    uint32_t reserved;
+} nd_next_hop_row;
+
+/* Finds where nd_send would send a packet for `destination` now (RFC 4861, 5.2; 8.3 at a host; the
+ * longest static route at a router). It uses no neighbour, and apart from what is due changes
+ * nothing.
+ *   ND_DONE        `row` has the next hop.
+ *   ND_NOTHING     There is none; `row` is unchanged.
+ * With nd_neighbour_of this serves a data path of your own: to a neighbour in REACHABLE, DELAY or
+ * PROBE a packet may be sent without a call, since that changes no entry (RFC 4861, 7.3.3), and to
+ * a multicast address too, at 33:33 and its last four bytes (RFC 2464, 7). In any other case call
+ * nd_send. */
+int32_t nd_next_hop(nd_node *node, uint64_t now, const nd_addr *destination, nd_next_hop_row *row);
+
+/* ---- events at a router ---------------------------------------------------------------------- */
+
+/* At a host all four return ND_REFUSED with ND_REFUSAL_WRONG_ROLE, if their arguments are good. */
+
+typedef struct nd_advertising { /* RFC 4861, 6.2.1 */
+    uint32_t min_interval;      /* MinRtrAdvInterval, s: 3 to 3/4 max_interval */
+    uint32_t max_interval;      /* MaxRtrAdvInterval, s: 4 to 1800 */
+    uint32_t lifetime;          /* AdvDefaultLifetime, s: max_interval to 9000, or 0 (not a
+                                   default router) */
+    uint32_t reachable_time;    /* AdvReachableTime, ms: 0 (unspecified) to 3600000 */
+    uint32_t retrans_timer;     /* AdvRetransTimer, ms; 0: unspecified */
+    uint32_t mtu;               /* AdvLinkMTU, bytes: 0 (none), or 1280 to 1500 */
+    uint8_t hop_limit;          /* AdvCurHopLimit; 0: unspecified */
+    uint8_t managed;            /* AdvManagedFlag, 0 or 1 */
+    uint8_t other;              /* AdvOtherConfigFlag, 0 or 1 */
+    uint8_t preference;         /* enum nd_preference; MEDIUM where lifetime is 0 (RFC 4191, 2.2) */
+    uint32_t reserved;
+} nd_advertising;
+
+/* Begins to advertise, or changes what is advertised (RFC 4861, 6.2.4). The first advertisement is
+ * due now, but not before the link-local address is assigned, nor within 3 s of the last one. While
+ * advertising, a change moves no date; it concerns contents and later intervals.
+ *   ND_DONE        It advertises so.
+ *   ND_INVALID     Also if a field is outside its range. */
+int32_t nd_advertise(nd_node *node, uint64_t now, const nd_advertising *settings);
+
+typedef struct nd_offer_row {    /* an advertised prefix (RFC 4861, 6.2.1, AdvPrefixList) */
+    nd_addr prefix;              /* not link-local or multicast; bits past its length are zeroed */
+    uint32_t bits;               /* its length, 0 to 128 */
+    uint32_t valid_lifetime;     /* AdvValidLifetime, s, or ND_LIFETIME_INFINITE */
+    uint32_t preferred_lifetime; /* AdvPreferredLifetime, s, not above valid_lifetime */
+    uint8_t on_link;             /* AdvOnLinkFlag, 0 or 1 */
+    uint8_t autonomous;          /* AdvAutonomousFlag, 0 or 1 */
+    uint8_t reserved[2];
+} nd_offer_row;
+
+/* Advertises a prefix, from the next advertisement on. An offer of the same prefix and length is
+ * replaced in its place. None can be removed: offer lifetimes of 0 to withdraw a prefix (RFC 4861,
+ * 6.2.1; RFC 4862, 5.5.3).
+ *   ND_DONE        It is offered.
+ *   ND_REFUSED     ND_REFUSAL_FULL: there are 16 others.
+ *   ND_INVALID     Also if a field is outside its range. */
+int32_t nd_offer(nd_node *node, uint64_t now, const nd_offer_row *offer);
+
+typedef struct nd_route_row {
+    nd_addr prefix; /* bits past its length are zeroed */
+    nd_addr router; /* on the link, with ND_HOP_VIA; else ignored, and written as zeros */
+    uint32_t bits;  /* the prefix's length, 0 to 128 */
+    uint32_t hop;   /* enum nd_hop */
+} nd_route_row;
+
+/* Puts a static route (RFC 4861, 5.2). A route of the same prefix and length is replaced in its
+ * place. None can be removed. Packets to fe80::/64 and to multicast addresses need no route. The
+ * router's address is not checked: a multicast address, :: and ::1 are taken too, and resolved as
+ * any other.
+ *   ND_DONE        It is there.
+ *   ND_REFUSED     ND_REFUSAL_FULL: there are 64 others.
+ *   ND_INVALID     Also if `bits` or `hop` is outside its range. */
+int32_t nd_route(nd_node *node, uint64_t now, const nd_route_row *route);
+
+/* Ends advertising (RFC 4861, 6.2.5). If an advertisement was sent since it began, a last one with
+ * a router lifetime of 0 is reported. ND_DONE also if it does not advertise. */
+int32_t nd_stop(nd_node *node, uint64_t now);
+
+/* ---- what a node reports --------------------------------------------------------------------- */
+
+enum nd_kind {
+    ND_OUT_FRAME = 1,         /* send these bytes */
+    ND_OUT_HEARD = 2,         /* a valid message from `address`; `code`: its ICMPv6 type, 133 to
+                                 137. nd_hear says what is in it */
+    ND_OUT_DROPPED = 3,       /* a frame was dropped; `code`: enum nd_why */
+    ND_OUT_UP = 4,            /* a packet for an assigned address; the bytes begin with its IPv6
+                                 header */
+    ND_OUT_DUPLICATE = 5,     /* the node's address `address` is another node's too, and is not
+                                 used. If it is the link-local one, the node is disabled: close it
+                                 (RFC 4862, 5.4.5) */
+    ND_OUT_ASSIGNED = 6,      /* the node's address `address` may be used (RFC 4862, 5.4) */
+    ND_OUT_ENDED_ADDRESS = 7, /* the node's address `address` is gone (RFC 4862, 5.5.4) */
+    ND_OUT_ENDED_ROUTER = 8,  /* `address` left the default router list (RFC 4861, 6.3.5) */
+    ND_OUT_FAILED = 9,        /* neighbour `address` was not resolved or not reached, and is removed
+                                 (RFC 4861, 7.2.2 and 7.3.3). Its packets follow as ND_OUT_LOST */
+    ND_OUT_LOST = 10,         /* a packet is not sent; `code`: enum nd_loss; the bytes begin with
+                                 its IPv6 header. ICMPv6 errors are yours (RFC 4443, 3.1 and 3.3) */
+    ND_OUT_REFUSED = 11       /* an event was refused; `code`: enum nd_refusal */
+};
+
+enum nd_loss {
+    ND_LOSS_UNREACHABLE = 1, /* its neighbour was not resolved (RFC 4861, 7.2.2) */
+    ND_LOSS_REPLACED = 2,    /* a fourth packet waits for its neighbour (RFC 4861, 7.2.2) */
+    ND_LOSS_FORGOTTEN = 3,   /* nd_forget or nd_clear removed its neighbour */
+    ND_LOSS_NO_ROUTE = 4,    /* it has no next hop (RFC 4861, 5.2) */
+    ND_LOSS_HOP_LIMIT = 5    /* to be forwarded with a hop limit below 2 (RFC 8200, 3) */
+};
+
+enum nd_refusal {
+    ND_REFUSAL_WRONG_ROLE = 1, /* an event of a router at a host */
+    ND_REFUSAL_DISABLED = 2,   /* the link-local address is a duplicate (RFC 4862, 5.4.5) */
+    ND_REFUSAL_NOT_OURS = 3,   /* the source `address` is no assigned address */
+    ND_REFUSAL_TOO_LONG = 4,   /* the packet is longer than the MTU (RFC 8200, 5) */
+    ND_REFUSAL_FULL = 5        /* the table `limit` would pass its limit */
+};
+
+enum nd_limit {
+    ND_LIMIT_NEIGHBOURS = 1,
+    ND_LIMIT_ROUTERS = 2,
+    ND_LIMIT_PREFIXES = 3,
+    ND_LIMIT_ADDRESSES = 4,
+    ND_LIMIT_SERVERS = 5,
+    ND_LIMIT_NAMES = 6,
+    ND_LIMIT_OFFERS = 7,
+    ND_LIMIT_STATIC_ROUTES = 8
+};
+
+typedef struct nd_out {
+    uint64_t moment;  /* when it was due, or when its event arrived */
+    size_t length;    /* of its bytes: FRAME, UP and LOST have some, the others none */
+    uint32_t kind;    /* enum nd_kind */
+    uint32_t code;    /* as the kind says; else 0 */
+    uint32_t limit;   /* enum nd_limit, of ND_REFUSAL_FULL; else 0 */
+    uint32_t reserved;
+    nd_addr address;  /* as the kind or the refusal says; else :: */
+} nd_out;
+
+/* Takes the oldest record, and copies its bytes to the beginning of `buffer`, of `size` bytes.
+ *   ND_DONE        `out` and the first `out->length` bytes of `buffer` are written; the record is
+ *                  gone.
+ *   ND_NOTHING     There is none; nothing is written.
+ *   ND_NO_ROOM     `out` is written, `buffer` is not, and the record stays the oldest. Call again
+ *                  with `out->length` bytes; until then every call still works, and appends
+ *                  records.
+ *   ND_CLOSED      Nothing is written. */
+int32_t nd_poll(nd_node *node, nd_out *out, uint8_t *buffer, size_t size);
+
+/* ---- what a node knows ----------------------------------------------------------------------- */
+
+/* Questions change nothing. `now` is not before nd_last_moment, and may be after
+ * it: a row then says what holds at `now` if nothing is due before; call nd_turn first to be exact.
+ * Where there are many rows, one is asked for by its index, from 0, in the order that the function
+ * names:
+ *
+ *     for (size_t i = 0; nd_neighbour_at(&node, now, i, &row) == ND_DONE; i++) ...
+ *
+ * An index names a row until the next event or a later `now`. If one comes between, a loop may miss
+ * a row or see one twice, and nothing worse. A call costs what the index is: n rows cost n * n / 2
+ * steps. Neighbours, prefixes, servers, names and parameters change without a record: read servers
+ * and names again after each ND_OUT_HEARD of type 134, and when the shortest `left` has passed.
+ *   ND_DONE        The row is written.
+ *   ND_NOTHING     There is no such row; nothing is written.
+ *   ND_INVALID (a moment of ND_MOMENT_LIMIT or above), ND_CLOSED, ND_PAST   Nothing is written. */
+
+enum nd_reachability { /* RFC 4861, 7.3.2 */
+    ND_REACHABILITY_INCOMPLETE = 1,
+    ND_REACHABILITY_REACHABLE = 2,
+    ND_REACHABILITY_STALE = 3,
+    ND_REACHABILITY_DELAY = 4,
+    ND_REACHABILITY_PROBE = 5
+};
+
+typedef struct nd_neighbour_row {
+    nd_addr address;
+    nd_mac mac;        /* zeros while it is INCOMPLETE */
+    uint8_t has_mac;   /* 0 or 1 */
+    uint8_t is_router; /* IsRouter, 0 or 1 (RFC 4861, 5.1) */
+    uint32_t state;    /* enum nd_reachability */
+    uint32_t reserved;
+} nd_neighbour_row;
+
+/* The neighbours, in the order of their addresses (RFC 4861, 5.1). */
+int32_t nd_neighbour_at(nd_node *node, uint64_t now, size_t index, nd_neighbour_row *row);
+
+/* The neighbour of an address. */
+int32_t nd_neighbour_of(nd_node *node, uint64_t now, const nd_addr *address, nd_neighbour_row *row);
+
+typedef struct nd_router_row {
+    uint64_t left;       /* of its lifetime, ms */
+    nd_addr address;     /* link-local */
+    uint32_t preference; /* enum nd_preference */
+    uint32_t reserved;
+} nd_router_row;
+
+/* The default routers, in the order in which they entered the list (RFC 4861, 5.1). Which one is
+ * used for a destination is nd_next_hop's answer, not the first row. */
+int32_t nd_router_at(nd_node *node, uint64_t now, size_t index, nd_router_row *row);
+
+typedef struct nd_prefix_row {
+    uint64_t left; /* of its valid lifetime, ms, or ND_FOREVER */
+    nd_addr prefix;
+    uint32_t bits; /* its length */
+    uint32_t reserved;
+} nd_prefix_row;
+
+/* The prefixes on the link, in the order in which they entered the table (RFC 4861, 5.1); fe80::/64
+ * is not shown. */
+int32_t nd_prefix_at(nd_node *node, uint64_t now, size_t index, nd_prefix_row *row);
+
+enum nd_state { /* of an address of the node (RFC 4862, 2) */
+    ND_STATE_TENTATIVE = 1,
+    ND_STATE_PREFERRED = 2,
+    ND_STATE_DEPRECATED = 3,
+    ND_STATE_DUPLICATE = 4
+};
+
+typedef struct nd_address_row {
+    uint64_t preferred_left; /* ms; 0: ended; ND_FOREVER */
+    uint64_t valid_left;     /* ms; 0: ended, and not yet removed; ND_FOREVER */
+    nd_addr address;
+    uint32_t state; /* enum nd_state */
+    uint32_t reserved;
+} nd_address_row;
+
+/* The own addresses, the link-local one too, in the order of addresses (RFC 4862, 5.3, 5.5.3). */
+int32_t nd_address_at(nd_node *node, uint64_t now, size_t index, nd_address_row *row);
+
+typedef struct nd_server_row {
+    uint64_t left; /* ms, or ND_FOREVER */
+    nd_addr address;
+} nd_server_row;
+
+/* The DNS servers, in the order in which they entered the table (RFC 8106, 5.1 and 6.1). */
+int32_t nd_server_at(nd_node *node, uint64_t now, size_t index, nd_server_row *row);
+
+typedef struct nd_name_row {
+    uint64_t left;   /* ms, or ND_FOREVER */
+    uint32_t length; /* of the text, 1 to 253 */
+    uint32_t reserved;
+    char text[256]; /* labels joined by dots, then zeros. Only small letters, digits, hyphens and
+                       underscores are in a label, so it can be written to a file of a resolver. A
+                       label may begin with a hyphen, as in -rf.com: a program that is passed it as
+                       an argument may take it for an option */
+} nd_name_row;
+
+/* The DNS search names, in the order in which they entered the table (RFC 8106, 5.2 and 6.1). */
+int32_t nd_name_at(nd_node *node, uint64_t now, size_t index, nd_name_row *row);
+
+typedef struct nd_redirect_row {
+    nd_addr destination;
+    nd_addr target; /* its first hop; the destination itself where that is on the link */
+} nd_redirect_row;
+
+/* The Redirects in force, the newest first (RFC 4861, 8.3). */
+int32_t nd_redirect_at(nd_node *node, uint64_t now, size_t index, nd_redirect_row *row);
+
+typedef struct nd_parameters_row {
+    uint64_t reachable_time;      /* ReachableTime, ms, as last drawn */
+    uint32_t base_reachable_time; /* BaseReachableTime, ms */
+    uint32_t retrans_timer;       /* RetransTimer, ms */
+    uint32_t mtu;                 /* LinkMTU, bytes */
+    uint8_t hop_limit;            /* CurHopLimit */
+    uint8_t managed;              /* M of the last Router Advertisement, 0 or 1 */
+    uint8_t other;                /* O of it, 0 or 1 */
+    uint8_t reserved;
+} nd_parameters_row;
+
+/* The parameters of the link (RFC 4861, 6.3.2): always one row. A router keeps the defaults. */
+int32_t nd_parameters_of(nd_node *node, uint64_t now, nd_parameters_row *row);
+
+/* The offers of a router, in the order in which each was first put. A host has none. */
+int32_t nd_offer_at(nd_node *node, uint64_t now, size_t index, nd_offer_row *row);
+
+/* The static routes of a router, in the order in which each was first put. A host has none. */
+int32_t nd_route_at(nd_node *node, uint64_t now, size_t index, nd_route_row *row);
+
+/* What a router advertises; ND_NOTHING where it does not advertise, and at a host. */
+int32_t nd_advertising_of(nd_node *node, uint64_t now, nd_advertising *row);
+
+typedef struct nd_counts_row {
+    uint32_t neighbours, routers, prefixes, addresses, servers, names;
+} nd_counts_row;
+
+/* How many entries the tables have, to be compared with their limits. An entry whose lifetime has
+ * ended counts until it is removed: a loop by index ends at ND_NOTHING, not at these numbers. */
+int32_t nd_counts_of(nd_node *node, uint64_t now, nd_counts_row *row);
+
+/* ---- without a node -------------------------------------------------------------------------- */
+
+/* nd_hear.h declares nd_hear, which says what a frame is to a host or to a router that knows
+ * nothing else: its message, or the first reason to drop it. nd.c has it too. */
+
+/* ---- planned --------------------------------------------------------------------------------- */
+
+/* Additions of later minor versions. Nothing above changes with them:
+ *   nd_send_packet      sends a whole IPv6 packet that the caller built
+ *   nd_resolve          finds next hop and link-layer address of a destination, counted as a use; a
+ *                       packet waits where the address is not known
+ *   ND_OUT_FORMED = 12  the node's address `address` is tentative: join its solicited-node group */
+
+#ifdef __cplusplus
+}
+#endif
+#endif
