@@ -94,9 +94,48 @@ static void is_whole(void)
     rattle_dealloc(all.p);
 }
 
+static void *taken(size_t length)
+{
+    struct nd_block given = rattle_alloc(length, HEAD_BYTES);
+    if (!given.ok)
+        fail("there is room for a block");
+    return given.p;
+}
+
+/* Takes all that is left as one block. */
+static void *rest(void)
+{
+    struct nd_block given = {false, NULL};
+    for (size_t length = POOL_BYTES; !given.ok; length -= HEAD_BYTES)
+        given = rattle_alloc(length, HEAD_BYTES);
+    return given.p;
+}
+
+/* A block that is long enough is found although many that are too short are before it in its list, and no list of longer ones has any. */
+static void is_found_behind_shorter_ones(void)
+{
+    enum { SHORTER = 16 * HEAD_BYTES, WANTED = 19 * HEAD_BYTES, COUNT = 40 };
+    void *shorter[COUNT], *between[COUNT + 1], *wanted = taken(WANTED), *others;
+    between[COUNT] = taken(1);
+    for (size_t i = 0; i < COUNT; i++) {
+        shorter[i] = taken(SHORTER);
+        between[i] = taken(1);
+    }
+    others = rest();
+    rattle_dealloc(wanted);
+    for (size_t i = 0; i < COUNT; i++)
+        rattle_dealloc(shorter[i]);
+    rattle_dealloc(taken(WANTED));
+    for (size_t i = 0; i <= COUNT; i++)
+        rattle_dealloc(between[i]);
+    rattle_dealloc(others);
+}
+
 int main(int count, char **arguments)
 {
     long calls = count > 1 ? atol(arguments[1]) : 0;
+    is_whole();
+    is_found_behind_shorter_ones();
     is_whole();
     for (long i = 0; i < calls; i++) {
         struct block *block = &blocks[below(BLOCKS)];
