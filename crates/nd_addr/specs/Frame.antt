@@ -3,7 +3,6 @@ use Rattle.std.specs.Prelude.{List, ℕ, [], ◌∷◌, ◌++◌, length, drop, 
 use Rattle.byteorder.specs.Endian.{big_number}
 use Rattle.nd_addr.specs.declared.why.Why.{Why}
 use Rattle.nd_addr.specs.declared.why.Why.TheVariants.{FrameShort, NotIpv6}
-use Rattle.nd_addr.specs.declared.frame.FrameRef.{FrameRef}
 use Rattle.nd_addr.specs.declared.mac.Mac.{Mac}
 use Rattle.nd_addr.specs.declared.ip6.Ip6.{Ip6}
 use Rattle.nd_addr.specs.Ip6.{ipv6_header_length, written_header, written_packet}
@@ -17,9 +16,6 @@ pub record FrameParts : Type 0 where
   pub destination : Mac
   pub source : Mac
   pub rest : List ℕ
-
-abbrev pub frame_parts : FrameRef → FrameParts
-frame_parts f = record { destination = f.destination; source = f.source; rest = f.rest.now }
 
 -- the fields at their places
 abbrev pub frame_of : List ℕ → Result FrameParts Why

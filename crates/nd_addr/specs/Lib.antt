@@ -3,6 +3,7 @@ pub mod Given
 pub mod Why
 pub mod Preference
 pub mod Frame
+pub mod FrameKept
 pub mod Ip6
 pub mod Prefix
 pub mod Same

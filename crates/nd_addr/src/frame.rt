@@ -1,6 +1,7 @@
 ghost use Rattle.std.specs.Prelude.{◌≡◌, ◌≤◌, IfOk, length};
 ghost use Rattle.nd_addr.specs.Given.{Gives};
-ghost use Rattle.nd_addr.specs.Frame.{frame_of, frame_parts, headers_length, written_headers, written_frame};
+ghost use Rattle.nd_addr.specs.Frame.{frame_of, headers_length, written_headers, written_frame};
+ghost use Rattle.nd_addr.specs.FrameKept.{frame_parts};
 ghost use Rattle.nd_addr.specs.Room.{HasRoom, Puts};
 
 use crate::ip6::{IPV6_HEADER_LENGTH, Ip6, put_header};

@@ -2,7 +2,7 @@
 use Rattle.std.proofs.Common.{◌≡◌, ◌∙◌, ℕ, ◌+◌, ◌<◌, ◌≤◌, Bool, true, false, List, [], ◌∷◌, Option, Some, None, refl, sym, ap, subst, arith}
 use Rattle.std.specs.Prelude.{is_some, min, if◌then◌else◌}
 use Rattle.std.proofs.lemmas.Bool.Decides.{nat_tests}
-use Rattle.nd_table.specs.Due.{NotBefore}
+use Rattle.nd_table.specs.DueKept.{NotBefore}
 use Rattle.nd_advertiser.specs.History.{Row, Advertises, Assigned, Solicited, Sent, Ceased, Offered}
 use Rattle.nd_advertiser.specs.Advertising.{advertised_by, is_on, began_of, assigned_of, sent_of, last_of, planned_of, answer_of, answer_date, first_date, interval_after, next_date, next_of, settings_of, tells_its_end, max_initial_rtr_advertisements}
 use Rattle.nd_advertiser.specs.Config.{Settings}

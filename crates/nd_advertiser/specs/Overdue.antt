@@ -1,6 +1,6 @@
 -- That no advertisement is due in the past, and none in the moment of the last one.
 use Rattle.std.specs.Prelude.{◌≡◌, ℕ, ◌+◌, ◌<◌, List, MatchOption, Option}
-use Rattle.nd_table.specs.Due.{NotBefore}
+use Rattle.nd_table.specs.DueKept.{NotBefore}
 use Rattle.nd_advertiser.specs.History.{Row, Advertises, Assigned, Solicited, Sent, Ceased, Offered}
 use Rattle.nd_advertiser.specs.Advertising.{last_of, next_of}
 

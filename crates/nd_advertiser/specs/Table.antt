@@ -1,6 +1,6 @@
 -- What an advertiser is to what happened to it.
 use Rattle.std.specs.Prelude.{◌≡◌, ℕ, min, List, Option, Some, None, if◌then◌else◌}
-use Rattle.nd_table.specs.History as growing
+use Rattle.nd_table.specs.HistoryKept as growing
 use Rattle.nd_decode.specs.declared.prefix_info.PrefixInfo.{PrefixInfo}
 use Rattle.nd_advertiser.specs.Config.{Settings}
 use Rattle.nd_advertiser.specs.History.{Row}

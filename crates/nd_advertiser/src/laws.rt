@@ -1,7 +1,7 @@
 //! Laws of the definitions, each the contract of a function that does nothing.
 
 ghost use Rattle.std.specs.Prelude.{◌≡◌, ◌∷◌, ℕ, List};
-ghost use Rattle.nd_table.specs.Due.{NotBefore};
+ghost use Rattle.nd_table.specs.DueKept.{NotBefore};
 ghost use Rattle.nd_advertiser.specs.Advertising.{next_of};
 ghost use Rattle.nd_advertiser.specs.Calls.{next};
 ghost use Rattle.nd_advertiser.specs.History.{Row};

@@ -2,7 +2,8 @@
 use Rattle.std.specs.Prelude.{◌≡◌, ◌⊎◌, [], ℤ, Option, None, Some, IsSomeAnd}
 use Rattle.nd_chronicle.specs.History.{beginning}
 use Rattle.nd_chronicle.specs.Start.{Start}
-use Rattle.nd_node.specs.Node.{Stands, starting}
+use Rattle.nd_node.specs.Node.{starting}
+use Rattle.nd_node.specs.NodeKept.{Stands}
 use Rattle.nd_random.specs.Source.{seeded, stream_of_source}
 use Rattle.nd_random.specs.declared.source.Source.{Source}
 use Rattle.nd_random.specs.declared.source.Source.TheVariants.{Seeded, Constant}

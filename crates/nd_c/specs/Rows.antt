@@ -16,19 +16,19 @@ use Rattle.nd_slaac.specs.View as address_view
 use Rattle.nd_dns.specs.AnnouncedNames.{same_name}
 use Rattle.nd_nexthop.specs.History.{redirects}
 use Rattle.nd_nexthop.specs.Left.{redirect_of}
-use Rattle.nd_params.specs.Params as parameters
-use Rattle.nd_params.specs.Params.{Values}
+use Rattle.nd_params.specs.ParamsKept as parameters
+use Rattle.nd_params.specs.ParamsKept.{Values}
 use Rattle.nd_advertiser.specs.Advertising.{advertised_by}
 use Rattle.nd_advertiser.specs.Offers.{offers_of}
 use Rattle.nd_forwarding.specs.KeptRoutes.{entry_of}
 use Rattle.nd_forwarding.specs.Routes.{routes}
-use Rattle.nd_nexthop.specs.NextHop.{hop_of}
+use Rattle.nd_nexthop.specs.NextHopKept.{hop_of}
 use Rattle.nd_nexthop.specs.declared.next_hop.Hop.{Hop}
 use Rattle.nd_chronicle.specs.NextHop.{IsHopOf}
 use Rattle.nd_chronicle.specs.Start.{Start}
 use Rattle.nd_chronicle.specs.Happening.{Chronicle, last_moment}
 use Rattle.nd_chronicle.specs.Histories.{parameter_history, neighbour_history, router_history, prefix_history, address_history, server_history, name_history, redirect_history, advertising_history, route_history}
-use Rattle.nd_node.specs.Node.{Stands}
+use Rattle.nd_node.specs.NodeKept.{Stands}
 use Rattle.nd_node.specs.Counts.{Counted}
 use Rattle.nd_node.specs.declared.counts.Counts.{Counts}
 use Rattle.nd_random.specs.Source.{stream_of_source}

@@ -2,7 +2,8 @@
 
 ghost use Rattle.std.specs.Prelude.{◌≡◌, ◌-◌, ◌^◌, ◌<◌, IfOk, None, Some};
 ghost use Rattle.nd_node.specs.Limits.{AreLimits};
-ghost use Rattle.nd_node.specs.Node.{last_of, next_of};
+ghost use Rattle.nd_node.specs.Node.{last_of};
+ghost use Rattle.nd_node.specs.NodeKept.{next_of};
 ghost use Rattle.nd_session.specs.declared.session.Session.{Session};
 ghost use Rattle.nd_c_types.specs.Options.{opening_of};
 ghost use Rattle.nd_c.specs.Open.{Begins, Opens, source_of};

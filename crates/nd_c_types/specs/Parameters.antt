@@ -1,5 +1,5 @@
 -- The parameters of the link, as C sees them (RFC 4861, section 6.3.2).
-use Rattle.nd_params.specs.Params.{Values}
+use Rattle.nd_params.specs.ParamsKept.{Values}
 use Rattle.nd_c_types.specs.Numbers.{flag_number}
 use Rattle.nd_c_types.specs.declared.parameters.ParametersRow.{ParametersRow}
 

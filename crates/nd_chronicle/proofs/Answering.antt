@@ -2,7 +2,7 @@
 use Rattle.std.proofs.Common.{◌≡◌, ℕ, Bool, true, false, List, [], ◌∷◌, ◌++◌, Some, None, refl, sym, ◌∙◌, ap, ⊎_elim}
 use Rattle.nd_addr.specs.declared.addr.Addr.{Addr}
 use Rattle.nd_decode.specs.Message.{Parts}
-use Rattle.nd_neighbour.specs.Entry.{NeighbourEntry, waiting_in}
+use Rattle.nd_neighbour.specs.EntryKept.{NeighbourEntry, waiting_in}
 use Rattle.nd_neighbour.specs.Sending.{Sending, Sends, Queues}
 use Rattle.std.specs.List.{AllByRecursion}
 use Rattle.nd_chronicle.specs.Start.{Start}

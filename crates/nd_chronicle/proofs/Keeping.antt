@@ -24,7 +24,7 @@ use Rattle.nd_decode.specs.declared.router_advertisement.RouterAdvertisement.{Ro
 use Rattle.nd_table.specs.declared.lasting.Lasting.{Lasting}
 use Rattle.nd_params.specs.Params.{redraws}
 use Rattle.nd_neighbour.specs.Due as neighbours_due
-use Rattle.nd_neighbour.specs.Entry.{NeighbourEntry, waiting_in}
+use Rattle.nd_neighbour.specs.EntryKept.{NeighbourEntry, waiting_in}
 use Rattle.nd_neighbour.specs.History as neighbours
 use Rattle.nd_neighbour.specs.History.{RowKind, story}
 use Rattle.nd_neighbour.specs.News.{released_by}

@@ -17,11 +17,11 @@ use Rattle.nd_decode.specs.declared.body.Body.TheVariants as bodies
 use Rattle.nd_decode.specs.declared.prefix_info.PrefixInfo.{PrefixInfo}
 use Rattle.nd_table.specs.declared.lasting.Lasting.{Lasting}
 use Rattle.nd_table.specs.Listing.{Lists}
-use Rattle.nd_neighbour.specs.Entry.{NeighbourEntry, waiting_in}
+use Rattle.nd_neighbour.specs.EntryKept.{NeighbourEntry, waiting_in}
 use Rattle.nd_neighbour.specs.History as neighbours
 use Rattle.nd_neighbour.specs.History.{story}
 use Rattle.nd_neighbour.specs.Story.{waits_of}
-use Rattle.nd_neighbour.specs.Table as cache
+use Rattle.nd_neighbour.specs.TableKept as cache
 use Rattle.nd_nexthop.specs.NextHop.{NextHop, direct, via, no_route}
 use Rattle.nd_routers.specs.History.{announcements}
 use Rattle.nd_routers.specs.Routers.{same}

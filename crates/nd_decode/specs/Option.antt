@@ -6,11 +6,8 @@ use Rattle.nd_addr.specs.Prefix.{prefix_at}
 use Rattle.nd_addr.specs.declared.addr.Addr.{Addr}
 use Rattle.nd_addr.specs.declared.mac.Mac.{Mac}
 use Rattle.nd_search_list.specs.Names.{SpellsNames, spells_names, names_in}
-use Rattle.nd_search_list.specs.NamesLeft.{names_left}
-use Rattle.nd_decode.specs.declared.option_ref.OptionRef.{OptionRef}
-use Rattle.nd_decode.specs.declared.option_ref.OptionRef.TheVariants.{Slla, Tlla, Prefix, Redirected, Mtu, Rdnss, Dnssl, Other}
 use Rattle.nd_decode.specs.declared.prefix_info.PrefixInfo.{PrefixInfo}
-use Rattle.nd_decode.specs.Servers.{SpellsServers, servers_in, servers_left, is_server}
+use Rattle.nd_decode.specs.Servers.{SpellsServers, servers_in, is_server}
 
 -- an option without where its bytes lie
 pub data Said : Type 0 where
@@ -22,17 +19,6 @@ pub data Said : Type 0 where
   rdnss : ℕ → List Addr → Said
   dnssl : ℕ → List (List ℕ) → Said
   other : ℕ → List ℕ → Said
-
--- the same of a borrowed option
-abbrev pub view : OptionRef → Said
-view (Slla mac) = slla mac
-view (Tlla mac) = tlla mac
-view (Prefix p) = prefix p
-view (Redirected packet) = redirected packet.now
-view (Mtu n) = mtu n
-view (Rdnss lifetime servers) = rdnss lifetime (servers_left servers)
-view (Dnssl lifetime names) = dnssl lifetime (names_left names)
-view (Other kind rest) = other kind rest.now
 
 -- a whole option: 8k bytes, k being the second byte and at least 1 (RFC 4861, section 4.6)
 pub record IsPiece (bytes : List ℕ) : Type 0 where

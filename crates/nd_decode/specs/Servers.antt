@@ -3,7 +3,6 @@ use Rattle.std.specs.Prelude.{◌≡◌, ◌≢◌, ℕ, zero, suc, ◌/◌, Boo
 use Rattle.std.specs.List.{flat_map, AllByRecursion}
 use Rattle.nd_addr.specs.Kind.{unspecified_address, loopback_address}
 use Rattle.nd_addr.specs.declared.addr.Addr.{Addr}
-use Rattle.nd_decode.specs.declared.servers.Servers.{Servers}
 
 -- An address that a server can have: not multicast, whose first byte is ff (RFC 4291, section 2.7), nor unspecified, nor
 -- loopback.
@@ -26,10 +25,6 @@ servers_from (suc n) bytes = record { 0 = take 16 bytes } ∷ servers_from n (dr
 -- the addresses in some bytes
 unfoldable pub servers_in : List ℕ → List Addr
 servers_in bytes = servers_from (length bytes / 16) bytes
-
--- what an iterator over servers has left
-abbrev pub servers_left : Servers → List Addr
-servers_left s = servers_in s.rest.now
 
 -- the test of one address
 abbrev pub is_server : Addr → Bool

@@ -1,6 +1,7 @@
 ghost use Rattle.std.specs.Prelude.{◌≡◌};
 ghost use Rattle.std.specs.Option.{option_map};
-ghost use Rattle.nd_decode.specs.Option.{IsPiece, view, known_of, option_of};
+ghost use Rattle.nd_decode.specs.Option.{IsPiece, known_of, option_of};
+ghost use Rattle.nd_decode.specs.OptionKept.{view};
 
 use crate::prefix_info::PrefixInfo;
 use crate::servers::Servers;

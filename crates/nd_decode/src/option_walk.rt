@@ -1,7 +1,8 @@
 //! Goes over options, one after the other or those of a type. The definitions are in `specs/Pieces.antt` and `specs/OfType.antt`.
 
 ghost use Rattle.std.specs.Prelude.{◌≡◌, None, Some, MatchOption, [], ◌∷◌, ◌<◌, ◌≤◌, length, IfSome};
-ghost use Rattle.nd_decode.specs.Option.{IsPiece, option_of, view};
+ghost use Rattle.nd_decode.specs.Option.{IsPiece, option_of};
+ghost use Rattle.nd_decode.specs.OptionKept.{view};
 ghost use Rattle.nd_decode.specs.OfType.{prefix_said};
 ghost use Rattle.nd_decode.specs.Pieces.{options_in};
 ghost use Rattle.nd_decode.specs.Whole.{rest_in};

@@ -1,7 +1,8 @@
 ghost use Rattle.std.specs.Prelude.{◌≡◌, ◌<◌, ◌≤◌, MatchOption, length, take, drop, true, false};
 ghost use Rattle.std.specs.List.{list_all};
 ghost use Rattle.nd_addr.specs.Bytes.{AreBytes};
-ghost use Rattle.nd_decode.specs.Servers.{servers_in, servers_left, is_server};
+ghost use Rattle.nd_decode.specs.Servers.{servers_in, is_server};
+ghost use Rattle.nd_decode.specs.ServersKept.{servers_left};
 
 use nd_addr::Addr;
 
@@ -43,7 +44,7 @@ impl<'a> Iterator for Servers<'a> {
     type Item = Addr;
 
     ghost use Rattle.std.specs.Iterator.{YieldsFirst, item_count};
-    ghost use Rattle.nd_decode.specs.Servers.{servers_left};
+    ghost use Rattle.nd_decode.specs.ServersKept.{servers_left};
 
     ghost next_gives = { YieldsFirst servers_left };
 

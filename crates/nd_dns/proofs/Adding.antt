@@ -4,7 +4,8 @@ use Rattle.std.specs.Prelude.{◌&&◌, ◌||◌, not, is_some, nat_lt}
 use Rattle.std.proofs.lemmas.Bool.{leb-true, true≢false}
 use Rattle.nd_addr.specs.Same.{bytes_tell}
 use Rattle.nd_table.specs.declared.lasting.Lasting.{Lasting}
-use Rattle.nd_table.specs.Listing.{announced, behind, end_in, entered, enters, fits, open_at}
+use Rattle.nd_table.specs.Listing.{announced, end_in, fits, open_at}
+use Rattle.nd_table.specs.ListingKept.{behind, entered, enters}
 use Rattle.nd_table.proofs.Behind.{entered_more}
 use Rattle.nd_table.proofs.Steps.{announced_length}
 use Rattle.nd_dns.specs.AnnouncedNames.{same_name}

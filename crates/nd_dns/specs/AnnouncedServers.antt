@@ -1,11 +1,7 @@
 -- Which DNS servers a Router Advertisement announces, and for how long (RFC 8106, section 5.1).
-use Rattle.std.specs.Prelude.{ℕ, List, [], ◌∷◌, ◌++◌, map, Option, Some, None}
+use Rattle.std.specs.Prelude.{ℕ, List, [], ◌∷◌, ◌++◌, map}
 use Rattle.nd_addr.specs.declared.addr.Addr.{Addr}
-use Rattle.nd_decode.specs.declared.servers.Servers.{Servers}
 use Rattle.nd_decode.specs.Option.{Said, slla, tlla, prefix, redirected, mtu, rdnss, dnssl, other}
-use Rattle.nd_decode.specs.Pieces.{options_left}
-use Rattle.nd_decode.specs.Servers.{servers_left}
-use Rattle.nd_dns.specs.declared.announced_servers.AnnouncedServers.{AnnouncedServers}
 
 -- servers, each for the same lifetime
 abbrev pub for_lifetime : ℕ → List Addr → List (Addr × ℕ)
@@ -26,12 +22,3 @@ servers_of (other _ _) = []
 abbrev pub servers_told : List Said → List (Addr × ℕ)
 servers_told [] = []
 servers_told (option ∷ options) = servers_of option ++ servers_told options
-
--- what is left of the option at hand
-abbrev pub at_hand : Option Servers → List Addr
-at_hand None = []
-at_hand (Some servers) = servers_left servers
-
--- what an iterator over them has left
-abbrev pub servers_to_come : AnnouncedServers → List (Addr × ℕ)
-servers_to_come t = for_lifetime t.lifetime (at_hand t.servers) ++ servers_told (options_left t.options)

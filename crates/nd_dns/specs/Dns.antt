@@ -1,14 +1,5 @@
--- What a host has heard of, and what it is to the announcements of servers and of names (RFC 8106, section 6.1).
-use Rattle.std.specs.Prelude.{ℕ, List}
-use Rattle.nd_addr.specs.declared.addr.Addr.{Addr}
-use Rattle.nd_addr.specs.Same.{same_addr}
-use Rattle.nd_decode.specs.Option.{Said}
-use Rattle.nd_table.specs.declared.lasting.Lasting.{Lasting}
-use Rattle.nd_table.specs.Announcements.{Row}
-use Rattle.nd_table.specs.Listing as lifetimes
-use Rattle.nd_table.specs.Listing.{announced_all, entered}
-use Rattle.nd_dns.specs.AnnouncedServers.{servers_told}
-use Rattle.nd_dns.specs.AnnouncedNames.{same_name, names_told}
+-- How many servers and search names a host has room for (RFC 8106, section 5.3.1).
+use Rattle.std.specs.Prelude.{ℕ}
 
 -- how many servers and how many search names may be known (our choice)
 abbrev pub max_servers : ℕ
@@ -16,24 +7,3 @@ max_servers = 32
 
 abbrev pub max_names : ℕ
 max_names = 32
-
--- the servers and the search names with their ends, each list in the order in which they came
-pub record Table : Type 0 where
-  pub servers : List (Lasting Addr)
-  pub names : List (Lasting (List ℕ))
-
--- the lists are those of these announcements
-pub record Stands (table : Table) (servers : List (Row Addr)) (names : List (Row (List ℕ))) : Type 0 where
-  pub servers_stand : lifetimes.Stands same_addr table.servers servers
-  pub names_stand : lifetimes.Stands same_name table.names names
-
--- what a message makes of the lists
-abbrev pub after : ℕ → List Said → Table → Table
-after now options table = record {
-  servers = announced_all same_addr now (servers_told options) table.servers;
-  names = announced_all same_name now (names_told options) table.names;
-}
-
--- the names that a message adds, each as often as it enters
-abbrev pub new_names : ℕ → List Said → Table → List (List ℕ)
-new_names now options table = entered same_name now (names_told options) table.names

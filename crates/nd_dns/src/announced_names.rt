@@ -1,6 +1,6 @@
 ghost use Rattle.std.specs.Prelude.{◌≡◌, [], ◌∷◌, MatchOption};
 ghost use Rattle.nd_search_list.specs.NameRef.{name_of};
-ghost use Rattle.nd_dns.specs.AnnouncedNames.{at_hand};
+ghost use Rattle.nd_dns.specs.AnnouncedNamesKept.{at_hand};
 
 use crate::search_name::SearchName;
 use nd_decode::{NameRef, Names, OPTION_DNS_SEARCH_LIST, OptionRef, Options};
@@ -20,7 +20,8 @@ pub(crate) struct AnnouncedNames<'a> {
 
 impl<'a> AnnouncedNames<'a> {
     ghost use Rattle.nd_decode.specs.Pieces.{options_left};
-    ghost use Rattle.nd_dns.specs.AnnouncedNames.{names_told, names_to_come};
+    ghost use Rattle.nd_dns.specs.AnnouncedNames.{names_told};
+    ghost use Rattle.nd_dns.specs.AnnouncedNamesKept.{names_to_come};
 
     /// Returns the names of these options. The first option is read here, so that a walk that is begun again doesn't read it again.
     #[tactic(auto, using(crate::proofs::OfType::names_from))]
@@ -64,7 +65,7 @@ impl<'a> AnnouncedNames<'a> {
 }
 
 impl<'a, A: Allocator> Announces<SearchName<A>, NameRef<'a>> for AnnouncedNames<'a> {
-    ghost use Rattle.nd_dns.specs.AnnouncedNames.{names_to_come};
+    ghost use Rattle.nd_dns.specs.AnnouncedNamesKept.{names_to_come};
 
     ghost told = { names_to_come };
 

@@ -16,7 +16,8 @@ pub(crate) struct AnnouncedServers<'a> {
 impl<'a> AnnouncedServers<'a> {
     ghost use Rattle.std.specs.Prelude.{◌≡◌};
     ghost use Rattle.nd_decode.specs.Pieces.{options_left};
-    ghost use Rattle.nd_dns.specs.AnnouncedServers.{servers_told, servers_to_come};
+    ghost use Rattle.nd_dns.specs.AnnouncedServers.{servers_told};
+    ghost use Rattle.nd_dns.specs.AnnouncedServersKept.{servers_to_come};
 
     /// Returns the servers of these options.
     pub(crate) fn new(options: Options<'a>) -> Self
@@ -31,7 +32,7 @@ impl<'a> AnnouncedServers<'a> {
 }
 
 impl Announces<Addr, Addr> for AnnouncedServers<'_> {
-    ghost use Rattle.nd_dns.specs.AnnouncedServers.{servers_to_come};
+    ghost use Rattle.nd_dns.specs.AnnouncedServersKept.{servers_to_come};
 
     ghost told = { servers_to_come };
 
@@ -54,7 +55,7 @@ impl Announces<Addr, Addr> for AnnouncedServers<'_> {
 }
 
 ghost use Rattle.std.specs.Prelude.{◌≡◌, [], ◌∷◌, MatchOption};
-ghost use Rattle.nd_dns.specs.AnnouncedServers.{at_hand};
+ghost use Rattle.nd_dns.specs.AnnouncedServersKept.{at_hand};
 
 /// Returns the next server of the current option.
 fn next_of(servers: &mut Option<Servers<'_>>) -> Option<Addr>

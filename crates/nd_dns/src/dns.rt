@@ -30,9 +30,10 @@ pub struct Dns<A: Allocator> {
 impl<A: Allocator> Model for Dns<A> {
     ghost use Rattle.std.specs.Prelude.{◌≤◌};
     ghost use Rattle.std.specs.Vec.{vec_len, vec_capacity};
-    ghost use Rattle.nd_table.specs.Listing.{Distinct};
+    ghost use Rattle.nd_table.specs.ListingKept.{Distinct};
     ghost use Rattle.nd_addr.specs.Same.{same_addr};
-    ghost use Rattle.nd_dns.specs.Dns.{Table, max_servers, max_names};
+    ghost use Rattle.nd_dns.specs.Dns.{max_servers, max_names};
+    ghost use Rattle.nd_dns.specs.DnsKept.{Table};
     ghost use Rattle.nd_dns.specs.AnnouncedNames.{same_name};
 
     ghost Value = { Table };
@@ -44,7 +45,7 @@ impl<A: Allocator> Model for Dns<A> {
 }
 
 impl<A: Allocator + Clone> Dns<A> {
-    ghost use Rattle.nd_dns.specs.Dns.{Stands};
+    ghost use Rattle.nd_dns.specs.DnsKept.{Stands};
 
     /// Returns empty lists, with room for 32 servers and for 32 names, all of it reserved here. Returns an error if out of memory.
     pub fn new(alloc: A) -> Result<Self, AllocError>
@@ -62,7 +63,8 @@ impl<A: Allocator + Clone> Dns<A> {
 }
 
 impl<A: Allocator> Dns<A> {
-    ghost use Rattle.nd_dns.specs.Dns.{Stands, max_servers, max_names};
+    ghost use Rattle.nd_dns.specs.Dns.{max_servers, max_names};
+    ghost use Rattle.nd_dns.specs.DnsKept.{Stands};
     ghost use Rattle.nd_dns.specs.AnnouncedNames.{same_name};
 
     /// Returns the servers that haven't ended at `now`, with what is left of their lifetimes, both in milliseconds, in the order in which they

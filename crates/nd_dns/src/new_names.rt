@@ -1,8 +1,10 @@
 ghost use Rattle.std.specs.Prelude.{◌≡◌, ◌<◌, ◌^◌, [], IfOk, IsOk, length, ◌≤◌, true, false, vec_len, vec_capacity};
 ghost use Rattle.nd_search_list.specs.NameRef.{name_of};
-ghost use Rattle.nd_table.specs.Listing.{entered, enters, fits, announced_all};
+ghost use Rattle.nd_table.specs.Listing.{fits};
+ghost use Rattle.nd_table.specs.ListingKept.{entered, enters, announced_all};
 ghost use Rattle.nd_table.specs.Moment.{IsMoment};
-ghost use Rattle.nd_dns.specs.AnnouncedNames.{same_name, names_to_come};
+ghost use Rattle.nd_dns.specs.AnnouncedNames.{same_name};
+ghost use Rattle.nd_dns.specs.AnnouncedNamesKept.{names_to_come};
 
 use crate::announced_names::AnnouncedNames;
 use crate::search_name::SearchName;

@@ -5,7 +5,8 @@ ghost use Rattle.nd_addr.specs.Same.{same_addr};
 ghost use Rattle.nd_decode.specs.Pieces.{options_left};
 ghost use Rattle.nd_table.specs.declared.lasting.Lasting.{Lasting};
 ghost use Rattle.nd_table.specs.Announcements.{Row, last_moment};
-ghost use Rattle.nd_table.specs.Listing.{Distinct, fits, then_announced, Lists};
+ghost use Rattle.nd_table.specs.Listing.{fits, then_announced, Lists};
+ghost use Rattle.nd_table.specs.ListingKept.{Distinct};
 ghost use Rattle.nd_table.specs.Moment.{IsMoment};
 ghost use Rattle.nd_table.specs.Refreshing.{only_refreshes};
 ghost use Rattle.nd_dns.specs.Dns.{max_servers};
@@ -21,7 +22,8 @@ use nd_table::{Lasting, Limit, TableRefusal, announce_all, fits_all, only_refres
 use std::alloc::{AllocError, Allocator};
 
 impl<A: Allocator> Dns<A> {
-    ghost use Rattle.nd_dns.specs.Dns.{max_names, Stands, after, new_names};
+    ghost use Rattle.nd_dns.specs.Dns.{max_names};
+    ghost use Rattle.nd_dns.specs.DnsKept.{Stands, after, new_names};
     ghost use Rattle.nd_dns.specs.AnnouncedNames.{same_name, names_told};
 
     /// Returns true if there is room for the servers that the options of a Router Advertisement announce at `now`, in milliseconds, taken in order.
@@ -108,7 +110,8 @@ fn servers_fit(entries: &[Lasting<Addr>], now: u64, options: Options<'_>) -> boo
 }
 
 impl<A: Allocator + Clone> Dns<A> {
-    ghost use Rattle.nd_dns.specs.Dns.{max_names, new_names};
+    ghost use Rattle.nd_dns.specs.Dns.{max_names};
+    ghost use Rattle.nd_dns.specs.DnsKept.{new_names};
     ghost use Rattle.nd_dns.specs.AnnouncedNames.{same_name, names_told};
 
     /// Copies the search names that they add, each as often as it enters: the only part of hearing them that takes memory. Returns `Full` if there

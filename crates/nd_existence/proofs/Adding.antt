@@ -25,7 +25,7 @@ use Rattle.nd_table.specs.Shown as shown_lifetimes
 use Rattle.nd_neighbour.specs.History as neighbours
 use Rattle.nd_neighbour.specs.History.{RowKind, Row, story}
 use Rattle.nd_neighbour.specs.Place.{WouldBeFull}
-use Rattle.nd_neighbour.specs.Shown as shown_neighbours
+use Rattle.nd_neighbour.specs.ShownKept as shown_neighbours
 use Rattle.nd_neighbour.specs.Story.{is_present, mac_of}
 use Rattle.nd_neighbour.specs.News.{released_by}
 use Rattle.nd_neighbour.proofs.Forgetting as forgetting_proofs
@@ -39,8 +39,8 @@ use Rattle.nd_forwarding.specs.Redirect.{last_redirect, redirect}
 use Rattle.nd_forwarding.specs.Routes.{routes}
 use Rattle.nd_slaac.specs.PrefixOption as own_prefixes
 use Rattle.nd_slaac.specs.Room.{fits_in}
-use Rattle.nd_slaac.specs.Shown as shown_addresses
-use Rattle.nd_slaac.specs.Table.{key_of}
+use Rattle.nd_slaac.specs.ShownKept as shown_addresses
+use Rattle.nd_slaac.specs.TableKept.{key_of}
 use Rattle.nd_slaac.proofs.Showing as showing
 use Rattle.nd_chronicle.specs.Start.{Start}
 use Rattle.nd_chronicle.specs.Happening.{Chronicle, Heard, Dropped, Up, Neighbour, Configured, Offered, RoutePut, ClearedPrefixes, ClearedRedirects, ClearedDns, Sent, Lost, NoRoute, HopLimit, RedirectMade, Shown, Refused, Refusal, WrongRole, Full, Limit, Neighbours}

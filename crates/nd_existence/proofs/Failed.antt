@@ -6,7 +6,8 @@ use Rattle.nd_addr.specs.declared.preference.Preference.{Preference}
 use Rattle.nd_table.specs.Announcements.{end_of, stands}
 use Rattle.nd_existence.proofs.Listings.{opened_some}
 use Rattle.nd_routers.specs.History.{RouterRow, Heard, LeftList, Failed, announcements, failure_of}
-use Rattle.nd_routers.specs.RouterFailures.{number_in, Failures, others}
+use Rattle.nd_routers.specs.RouterFailures.{number_in, Failures}
+use Rattle.nd_routers.specs.RouterFailuresKept.{others}
 use Rattle.nd_routers.specs.Routers.{same}
 use Rattle.nd_routers.proofs.Failing.{has_failed-others, InOrder-agree, InOrder-others, leaves, fails_again, fails_unlisted, is_removed, is_heard}
 

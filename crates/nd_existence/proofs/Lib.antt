@@ -12,3 +12,14 @@ pub mod Adding
 pub mod Timing
 pub mod Running
 pub mod Endless
+pub mod Words
+pub mod Arguments
+pub mod Lines
+pub mod LinkWalking
+pub mod LinkAdding
+pub mod LinkRunning
+pub mod Alone
+pub mod LinksAlike
+pub mod Meeting
+pub mod LinkStarting
+pub mod LinkLines

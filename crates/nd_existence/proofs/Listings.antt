@@ -5,7 +5,8 @@ use Rattle.std.proofs.lemmas.Bool.{cond-true, cond-false, true≢false}
 use Rattle.nd_table.specs.declared.lasting.Lasting.{Lasting}
 use Rattle.nd_table.specs.Ends.{end_time}
 use Rattle.nd_table.specs.Announcements.{Row, Announced, Ended, Cleared, end_of, is_open, stands, place}
-use Rattle.nd_table.specs.Listing.{open_at, end_in, StandsUntilTold, Lists, renewed, without}
+use Rattle.nd_table.specs.Listing.{open_at, end_in, Lists, renewed, without}
+use Rattle.nd_table.specs.ListingKept.{StandsUntilTold}
 use Rattle.nd_table.proofs.Finding.{Tells, Has, end_in-renewed, end_in-without, end_in-push}
 use Rattle.nd_table.proofs.LastingOrder.{Rises-agree, Rises-renewed, Rises-filter, Rises-push}
 use Rattle.nd_table.proofs.Steps.{place_below, ends, lists_at}

@@ -7,13 +7,16 @@ use Rattle.std.proofs.lemmas.Bool.Decides.{nat_tests}
 use Rattle.std.proofs.lemmas.Bool.{cond-false, true≢false, cases_Bool}
 use Rattle.nd_neighbour.specs.History as neighbours
 use Rattle.nd_neighbour.specs.History.{Row, Story, story}
-use Rattle.nd_neighbour.specs.Place.{MakesPlace, HadPlace, Pushed, Prepares, pushing, WouldBeFull, stalest, has_place}
-use Rattle.nd_neighbour.specs.Room.{HasRoom, has_room}
+use Rattle.nd_neighbour.specs.Place.{MakesPlace, HadPlace, Pushed, Prepares, pushing, WouldBeFull}
+use Rattle.nd_neighbour.specs.PlaceKept.{stalest, has_place}
+use Rattle.nd_neighbour.specs.Room.{HasRoom}
+use Rattle.nd_neighbour.specs.RoomKept.{has_room}
 use Rattle.nd_neighbour.specs.Sending as sendings
 use Rattle.nd_neighbour.specs.Sending.{sending_by, sending_of_story}
 use Rattle.nd_neighbour.specs.AddressResolution.{waiting_of}
-use Rattle.nd_neighbour.specs.Story.{is_present, mac_of, the_entry}
-use Rattle.nd_neighbour.specs.Table.{entry_in}
+use Rattle.nd_neighbour.specs.Story.{is_present, mac_of}
+use Rattle.nd_neighbour.specs.StoryKept.{the_entry}
+use Rattle.nd_neighbour.specs.TableKept.{entry_in}
 use Rattle.nd_neighbour.proofs.Entering.{stalest_is_longest, stalest_in}
 use Rattle.nd_neighbour.proofs.Second.{room_by_history}
 use Rattle.nd_neighbour.proofs.Unique.{full_by_history}

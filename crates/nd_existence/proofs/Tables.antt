@@ -2,13 +2,13 @@
 use Rattle.std.proofs.Common.{◌≡◌, ℕ, suc, ◌+◌, ◌≤◌, false, eqb, List, [], ◌∷◌, Some, refl, ap, arith}
 use Rattle.std.proofs.lemmas.Bool.Decides.{nat_tests}
 use Rattle.nd_neighbour.specs.History as neighbours
-use Rattle.nd_neighbour.specs.Entry.{NeighbourEntry}
-use Rattle.nd_neighbour.specs.Story.{entry_of}
-use Rattle.nd_neighbour.specs.Table as cache
+use Rattle.nd_neighbour.specs.EntryKept.{NeighbourEntry}
+use Rattle.nd_neighbour.specs.StoryKept.{entry_of}
+use Rattle.nd_neighbour.specs.TableKept as cache
 use Rattle.nd_neighbour.proofs.Steps.{entry_present}
 use Rattle.nd_slaac.specs.History as addresses
-use Rattle.nd_slaac.specs.Address.{Address, address_of}
-use Rattle.nd_slaac.specs.Table as own
+use Rattle.nd_slaac.specs.AddressKept.{Address, address_of}
+use Rattle.nd_slaac.specs.TableKept as own
 use Rattle.nd_slaac.proofs.Stories.{was_formed}
 use Rattle.nd_existence.proofs.Gathering.{gathered, gathered_rises, gathered_found}
 

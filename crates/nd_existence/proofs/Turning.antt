@@ -3,11 +3,11 @@ use Rattle.std.proofs.Common.{◌≡◌, ℕ, cond, List, set, Some, None, refl}
 use Rattle.std.specs.List.{remove}
 use Rattle.nd_table.proofs.Due.{due_has}
 use Rattle.nd_table.proofs.Keyed.{place_found}
-use Rattle.nd_neighbour.specs.Entry.{NeighbourEntry}
-use Rattle.nd_neighbour.specs.Table as cache
-use Rattle.nd_neighbour.specs.Due as neighbours
-use Rattle.nd_slaac.specs.Address.{Address}
-use Rattle.nd_slaac.specs.Table as own
+use Rattle.nd_neighbour.specs.EntryKept.{NeighbourEntry}
+use Rattle.nd_neighbour.specs.TableKept as cache
+use Rattle.nd_neighbour.specs.DueKept as neighbours
+use Rattle.nd_slaac.specs.AddressKept.{Address}
+use Rattle.nd_slaac.specs.TableKept as own
 use Rattle.nd_slaac.specs.Due as addresses
 use Rattle.nd_slaac.specs.Dates as dates
 use Rattle.nd_table.specs.Keyed as keyed

@@ -6,19 +6,22 @@ use Rattle.nd_advertiser.specs.Advertising.{advertised_by}
 use Rattle.nd_advertiser.specs.Config.{Settings}
 use Rattle.nd_decode.specs.Message.{Parts}
 use Rattle.nd_table.specs.declared.lasting.Lasting.{Lasting}
-use Rattle.nd_table.specs.Listing.{StandsUntilTold, without}
+use Rattle.nd_table.specs.Listing.{without}
+use Rattle.nd_table.specs.ListingKept.{StandsUntilTold}
 use Rattle.nd_table.proofs.Steps.{ends}
 use Rattle.nd_neighbour.specs.Due as neighbours
-use Rattle.nd_neighbour.specs.Entry.{NeighbourEntry}
-use Rattle.nd_neighbour.specs.Table as cache
+use Rattle.nd_neighbour.specs.DueKept as kept_neighbours
+use Rattle.nd_neighbour.specs.EntryKept.{NeighbourEntry}
+use Rattle.nd_neighbour.specs.TableKept as cache
 use Rattle.nd_neighbour.proofs.Dues.{first_falls, none_falls, turned_gains, turned_fewer}
 use Rattle.nd_routers.specs.History.{announcements}
-use Rattle.nd_routers.specs.Routers.{same, first_due}
+use Rattle.nd_routers.specs.Routers.{same}
+use Rattle.nd_routers.specs.RoutersKept.{first_due}
 use Rattle.nd_routers.proofs.Dues.{first_is_due, first_has, length-without}
-use Rattle.nd_slaac.specs.Address.{Address}
+use Rattle.nd_slaac.specs.AddressKept.{Address}
 use Rattle.nd_slaac.specs.Dates as dates
 use Rattle.nd_slaac.specs.Due as addresses
-use Rattle.nd_slaac.specs.Table as own
+use Rattle.nd_slaac.specs.TableKept as own
 use Rattle.nd_slaac.proofs.Dues.{turn_falls, rest_falls, turn_gains, turn_fewer}
 use Rattle.nd_chronicle.specs.Start.{Start}
 use Rattle.nd_chronicle.specs.Happening.{Chronicle, Loss, Lost, LeftRouter}
@@ -125,13 +128,13 @@ module _ (start : Start) (m end : ℕ) (le : m ≤ end) where
       | inr none ↦ advertised c (t, r, a, n, none)
     ]
 
-    neighboured : (left : ℕ) (c : Chronicle) (ns : List NeighbourEntry) → neighbours.turns_left ns < left → cache.Stands ns (neighbour_history c) → BehindAddresses start m c → Leads c
+    neighboured : (left : ℕ) (c : Chronicle) (ns : List NeighbourEntry) → kept_neighbours.turns_left ns < left → cache.Stands ns (neighbour_history c) → BehindAddresses start m c → Leads c
     neighboured zero c ns lt s b = absurd (omega (arith, lt))
-    neighboured (suc left) c ns lt s b = elim (option_cases (neighbours.due_in m ns)) [
+    neighboured (suc left) c ns lt s b = elim (option_cases (kept_neighbours.due_in m ns)) [
       | inl none ↦ solicited 3 c (omega arith) b.0 b.1 b.2 (none_falls ns (neighbour_history c) s m none)
       | inr n ↦
           let turn = neighbour_turns m ns n.0 s.order n.1 in
-          let f = neighbours.falls n.0 in
+          let f = kept_neighbours.falls n.0 in
           added (NeighbourFalls f) c (b.1, b.2, first_falls ns (neighbour_history c) s m turn.0 f turn.1)
           (neighboured left (then_neighbour start m f c) turn.0 (let fewer = turned_fewer m ns turn.0 f turn.1 in omega (arith, fewer, lt))
           (subst (λ (h : List _). cache.Stands turn.0 h) (neighbour_rows start m f c) ((turned_gains m ns turn.0 f turn.1).stands (neighbour_history c) s))
@@ -154,7 +157,7 @@ module _ (start : Start) (m end : ℕ) (le : m ≤ end) where
       | inl none ↦ elim (option_cases (dates.first_at dates.next_step m xs)) [
         | inr a ↦ stepped left (λ e ys lt' s' b'. addressed left e ys lt' s' b') (dates.falls_by start.transmits a.0.key a.0.stage) c xs lt s b (address_steps start.transmits m xs s.order a.0 none a.1)
         | inl rests ↦
-            neighboured (suc (neighbours.turns_left (nodes_of (neighbour_history c)))) c (nodes_of (neighbour_history c)) (omega arith) (nodes_stand (neighbour_history c))
+            neighboured (suc (kept_neighbours.turns_left (nodes_of (neighbour_history c)))) c (nodes_of (neighbour_history c)) (omega arith) (nodes_stand (neighbour_history c))
             (b.0, b.1, rest_falls start.transmits xs (address_history c) s m (record { ends = none; steps = rests }))
       ]
     ]

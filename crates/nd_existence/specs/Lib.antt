@@ -1,1 +1,3 @@
 pub mod Intervals
+pub mod LinkIntervals
+pub mod LinkPremises

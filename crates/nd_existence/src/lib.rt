@@ -1,4 +1,8 @@
-//! Each history has a chronicle. Definitions of the premises and the law, and no code that runs.
+//! What the definitions ask for exists: each history of a node has a chronicle and each script a text, all events on a link have a log, and all lines of
+//! a link a text. Definitions of the premises and the laws, and no code that runs.
 #![tactic(auto)]
 
-pub mod laws;
+pub mod link;
+pub mod link_script;
+pub mod node;
+pub mod script;

@@ -6,7 +6,8 @@ use Rattle.std.proofs.lemmas.Bool.Decides.{nat_tests}
 use Rattle.nd_addr.specs.Number.{holds}
 use Rattle.nd_addr.specs.Prefix.{PrefixValue}
 use Rattle.nd_forwarding.specs.declared.route.Route.{Route}
-use Rattle.nd_forwarding.specs.Routes.{exceeds, longer, longest, route_to}
+use Rattle.nd_forwarding.specs.Routes.{longer, longest, route_to}
+use Rattle.nd_forwarding.specs.RoutesKept.{exceeds}
 
 -- the route that is found in the end, where so much was found so far
 abbrev pub found_with : List ℕ → Option (ℕ × Route) → List (PrefixValue × Route) → Option Route

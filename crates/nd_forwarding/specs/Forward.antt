@@ -2,11 +2,9 @@
 use Rattle.std.specs.Prelude.{ℕ, nat_lt, Bool, true, false, ◌||◌, not, if◌then◌else◌, List, bytes_eq}
 use Rattle.nd_addr.specs.declared.ip6.Ip6.{Ip6}
 use Rattle.nd_addr.specs.Kind.{link_local_prefix, loopback_address, multicast_prefix, unspecified_address}
-use Rattle.nd_addr.specs.Number.{holds, number_of}
+use Rattle.nd_addr.specs.Number.{holds}
 use Rattle.nd_addr.specs.Prefix.{PrefixValue}
 use Rattle.nd_nexthop.specs.NextHop.{NextHop, direct, via, no_route}
-use Rattle.nd_forwarding.specs.declared.forward.Fate.{Fate as Answer}
-use Rattle.nd_forwarding.specs.declared.forward.Fate.TheVariants.{Direct, Via, NoRoute, HopLimit}
 use Rattle.nd_forwarding.specs.declared.route.Route.{Route}
 use Rattle.nd_forwarding.specs.NextHop.{hop}
 
@@ -25,13 +23,6 @@ pub data Fate : Type 0 where
   lost_no_route : Fate
   lost_hop_limit : Fate
   sent : NextHop → Fate
-
--- the same of an answer
-abbrev pub fate_of : Answer → Fate
-fate_of Direct = sent direct
-fate_of (Via a) = sent (via (number_of a.0))
-fate_of NoRoute = lost_no_route
-fate_of HopLimit = lost_hop_limit
 
 -- "When forwarding, the packet is discarded if Hop Limit was zero when received or is decremented to zero" (RFC 8200, section 3)
 abbrev pub unless_spent : ℕ → NextHop → Fate

@@ -1,7 +1,9 @@
 pub mod Forward
+pub mod ForwardKept
 pub mod History
 pub mod KeptRoutes
 pub mod NextHop
 pub mod Redirect
 pub mod Routes
+pub mod RoutesKept
 pub mod Table

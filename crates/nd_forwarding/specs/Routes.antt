@@ -41,11 +41,6 @@ has_route p es = is_some (lookup (same_prefix p) es)
 abbrev pub fits : PrefixValue → List (PrefixValue × Route) → Bool
 fits p es = has_route p es || nat_lt (length es) max_routes
 
--- so many bits are more than those of the route that was found so far, if there is one
-abbrev pub exceeds : ℕ → Option (ℕ × Route) → Bool
-exceeds bits None = true
-exceeds bits (Some f) = nat_lt f.0 bits
-
 -- of a route and another one, if there is one, that with the longer prefix
 abbrev pub longer : PrefixValue × Route → Option (PrefixValue × Route) → PrefixValue × Route
 longer e None = e

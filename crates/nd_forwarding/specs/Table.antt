@@ -1,7 +1,7 @@
 -- What a table of routes is to the history that it stands for.
 use Rattle.std.specs.Prelude.{◌≡◌, ℕ, List, Option}
 use Rattle.nd_addr.specs.Prefix.{PrefixValue}
-use Rattle.nd_table.specs.History as growing
+use Rattle.nd_table.specs.HistoryKept as growing
 use Rattle.nd_forwarding.specs.declared.route.Route.{Route}
 use Rattle.nd_forwarding.specs.History.{Row}
 use Rattle.nd_forwarding.specs.Redirect.{last_redirect}

@@ -1,8 +1,9 @@
 //! What becomes of a packet in transit (RFC 8200, section 3). The definitions are in `specs/Forward.antt`.
 
 ghost use Rattle.std.specs.Prelude.{◌≡◌, ℕ, Bool, List};
-ghost use Rattle.nd_nexthop.specs.NextHop.{hop_of};
-ghost use Rattle.nd_forwarding.specs.Forward.{fate, fate_by, fate_of, may_be_forwarded, stays};
+ghost use Rattle.nd_nexthop.specs.NextHopKept.{hop_of};
+ghost use Rattle.nd_forwarding.specs.Forward.{fate, fate_by, may_be_forwarded, stays};
+ghost use Rattle.nd_forwarding.specs.ForwardKept.{fate_of};
 ghost use Rattle.nd_forwarding.specs.History.{Row};
 ghost use Rattle.nd_forwarding.specs.Routes.{routes};
 ghost use Rattle.nd_forwarding.specs.Table.{Stands};

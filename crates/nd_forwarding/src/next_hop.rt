@@ -3,7 +3,8 @@
 ghost use Rattle.std.specs.Prelude.{◌≡◌, ℕ, Bool, List};
 ghost use Rattle.nd_addr.specs.Kind.{link_local_subnet};
 ghost use Rattle.nd_addr.specs.Number.{holds};
-ghost use Rattle.nd_nexthop.specs.NextHop.{hop_of, is_own_or_none};
+ghost use Rattle.nd_nexthop.specs.NextHop.{is_own_or_none};
+ghost use Rattle.nd_nexthop.specs.NextHopKept.{hop_of};
 ghost use Rattle.nd_forwarding.specs.History.{Row};
 ghost use Rattle.nd_forwarding.specs.NextHop.{hop, hop_by, by_route};
 ghost use Rattle.nd_forwarding.specs.Routes.{routes};

@@ -1,7 +1,8 @@
 //! When a router sends a Redirect (RFC 4861, section 8.2). The definitions are in `specs/Redirect.antt`.
 
 ghost use Rattle.std.specs.Prelude.{◌≡◌, ℕ, Bool, List};
-ghost use Rattle.nd_forwarding.specs.Forward.{fate_of, is_sent};
+ghost use Rattle.nd_forwarding.specs.Forward.{is_sent};
+ghost use Rattle.nd_forwarding.specs.ForwardKept.{fate_of};
 ghost use Rattle.nd_forwarding.specs.History.{Row, RedirectMade};
 ghost use Rattle.nd_forwarding.specs.Redirect.{first_hop, is_direct, last_redirect, may_redirect, other_than, redirect, redirects};
 ghost use Rattle.nd_forwarding.specs.Routes.{routes};

@@ -6,7 +6,8 @@ ghost use Rattle.nd_forwarding.specs.KeptRoutes.{routes_left};
 ghost use Rattle.indexmap.specs.IndexMap.{insert_entry, spare};
 ghost use Rattle.nd_addr.specs.Number.{holds};
 ghost use Rattle.nd_addr.specs.Same.{same_prefix};
-ghost use Rattle.nd_forwarding.specs.Routes.{exceeds, fits, has_route, max_routes, route_to, routes};
+ghost use Rattle.nd_forwarding.specs.Routes.{fits, has_route, max_routes, route_to, routes};
+ghost use Rattle.nd_forwarding.specs.RoutesKept.{exceeds};
 ghost use Rattle.nd_forwarding.specs.Table.{GainsRow, Stands};
 
 use crate::kept_routes::KeptRoutes;
@@ -38,7 +39,8 @@ impl<A: Allocator> Model for Routes<A> {
     ghost use Rattle.std.specs.Prelude.{◌≤◌, ◌+◌, length};
     ghost use Rattle.indexmap.specs.IndexMap.{spare};
     ghost use Rattle.nd_addr.specs.Number.{holds};
-    ghost use Rattle.nd_forwarding.specs.Routes.{exceeds, max_routes};
+    ghost use Rattle.nd_forwarding.specs.Routes.{max_routes};
+    ghost use Rattle.nd_forwarding.specs.RoutesKept.{exceeds};
     ghost use Rattle.nd_forwarding.specs.Table.{Table};
 
     ghost Value = { Table };

@@ -11,7 +11,7 @@ use Rattle.nd_table.proofs.Tests.{by_true, by_false}
 use Rattle.nd_chronicle.specs.History.{beginning}
 use Rattle.nd_chronicle.specs.Event as nodes
 use Rattle.nd_node.specs.declared.node.Node.{Node}
-use Rattle.nd_node.specs.Node as node
+use Rattle.nd_node.specs.NodeKept as node
 use Rattle.nd_node.specs.Limits.{usual_limits}
 use Rattle.nd_node.specs.Node.{starting}
 use Rattle.nd_link_log.specs.Log.{Log, Carries, Refuses, TooLate, NoNode, NoFrame, Own, last_moment, nodes, sent}

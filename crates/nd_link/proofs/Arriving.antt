@@ -15,9 +15,9 @@ use Rattle.nd_steps.specs.Outputs as effects
 use Rattle.nd_steps.specs.Outputs.{frames_in, happenings}
 use Rattle.nd_node.specs.declared.node.Node.{Node}
 use Rattle.nd_chronicle.specs.Answer.{Answer}
-use Rattle.nd_node.specs.Event.{AddsEvent}
-use Rattle.nd_node.specs.Node as node
-use Rattle.nd_node.specs.Node.{next_of}
+use Rattle.nd_node.specs.EventKept.{AddsEvent}
+use Rattle.nd_node.specs.NodeKept as node
+use Rattle.nd_node.specs.NodeKept.{next_of}
 use Rattle.nd_link_log.specs.Log as logs
 use Rattle.nd_link_log.specs.Log.{Log, Refuses, adding, chronicle_of, last_moment, nodes, start_of}
 use Rattle.nd_link_log.specs.Told.{node_reports, reports, reports_of}

@@ -9,7 +9,8 @@ use Rattle.rand_core.specs.Stream.{Stream}
 use Rattle.nd_chronicle.specs.Start.{Start}
 use Rattle.nd_chronicle.specs.Happening.{Chronicle}
 use Rattle.nd_node.specs.declared.node.Node.{Node}
-use Rattle.nd_node.specs.Node.{NextDue, Stands, next_of}
+use Rattle.nd_node.specs.Node.{NextDue}
+use Rattle.nd_node.specs.NodeKept.{Stands, next_of}
 use Rattle.nd_node.proofs.Running.{take_more}
 use Rattle.nd_link.specs.Due.{AreDated, AreSettled, FirstDue, IsFirst, earlier}
 use Rattle.nd_link.proofs.Lists.{push_length, push_others, push_own, same_element}

@@ -6,8 +6,8 @@ use Rattle.rand_core.specs.Stream.{Stream}
 use Rattle.nd_chronicle.specs.Happening as chronicle
 use Rattle.nd_chronicle.specs.Happening.{Chronicle, Passed}
 use Rattle.nd_node.specs.declared.node.Node.{Node}
-use Rattle.nd_node.specs.Node as node
-use Rattle.nd_node.specs.Node.{next_of}
+use Rattle.nd_node.specs.NodeKept as node
+use Rattle.nd_node.specs.NodeKept.{next_of}
 use Rattle.nd_link_log.specs.Log.{Log, Reaches, chronicle_of, last_moment, nodes, start_of}
 use Rattle.nd_link_log.specs.Event.{passing}
 use Rattle.nd_link_log.specs.Told.{reports}

@@ -11,8 +11,8 @@ use Rattle.nd_chronicle.specs.Happening as chronicle
 use Rattle.nd_chronicle.specs.Happening.{Chronicle}
 use Rattle.nd_chronicle.specs.Due.{Due}
 use Rattle.nd_node.specs.declared.node.Node.{Node}
-use Rattle.nd_node.specs.Node as node
-use Rattle.nd_node.specs.Node.{next_of}
+use Rattle.nd_node.specs.NodeKept as node
+use Rattle.nd_node.specs.NodeKept.{next_of}
 use Rattle.nd_link_log.specs.Log.{Log, adding, chronicle_of, start_of}
 use Rattle.nd_link_log.specs.History.{IsIdle}
 use Rattle.nd_link_log.proofs.Chronicles.{nodes_with, other_rows, own_rows, start_with}

@@ -9,7 +9,7 @@ use Rattle.nd_chronicle.specs.Happening as chronicle
 use Rattle.nd_chronicle.specs.Happening.{Chronicle}
 use Rattle.nd_chronicle.specs.History.{beginning}
 use Rattle.nd_node.specs.declared.node.Node.{Node}
-use Rattle.nd_node.specs.Node as node
+use Rattle.nd_node.specs.NodeKept as node
 use Rattle.nd_link_log.specs.Log.{Log, Begins, adding, chronicle_of, nodes, start_of}
 use Rattle.nd_link_log.specs.Told.{reports}
 use Rattle.nd_link_log.proofs.Chronicles.{nodes_with, other_rows, own_rows, same_number, start_with}

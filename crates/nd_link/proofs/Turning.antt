@@ -11,7 +11,7 @@ use Rattle.nd_steps.specs.Outputs as effects
 use Rattle.nd_steps.specs.Outputs.{frames_in, happenings}
 use Rattle.nd_out.specs.declared.out.Out.{Out}
 use Rattle.nd_node.specs.declared.node.Node.{Node}
-use Rattle.nd_node.specs.Node as node
+use Rattle.nd_node.specs.NodeKept as node
 use Rattle.nd_node.specs.Time as nodes
 use Rattle.nd_node.proofs.Walks.{last_of}
 use Rattle.nd_link_log.specs.Log.{Log, adding, chronicle_of, last_moment}

@@ -4,7 +4,8 @@ use Rattle.rand_core.specs.Stream.{Stream}
 use Rattle.nd_chronicle.specs.Start.{Start}
 use Rattle.nd_chronicle.specs.Happening.{Chronicle}
 use Rattle.nd_node.specs.declared.node.Node.{Node}
-use Rattle.nd_node.specs.Node.{NextDue, Stands, next_of}
+use Rattle.nd_node.specs.Node.{NextDue}
+use Rattle.nd_node.specs.NodeKept.{Stands, next_of}
 
 -- the moment of each is that of which its chronicle says that nothing is due before
 abbrev pub AreDated : {R A : Type 0} → (R → Stream) → List (Node R A) → Type 0

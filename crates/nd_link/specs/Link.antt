@@ -4,8 +4,8 @@ use Rattle.rand_core.specs.Stream.{Stream}
 use Rattle.nd_chronicle.specs.Start.{Start}
 use Rattle.nd_chronicle.specs.Happening as chronicle
 use Rattle.nd_node.specs.declared.node.Node.{Node}
-use Rattle.nd_node.specs.Node as node
-use Rattle.nd_node.specs.Node.{next_of}
+use Rattle.nd_node.specs.NodeKept as node
+use Rattle.nd_node.specs.NodeKept.{next_of}
 use Rattle.nd_link_log.specs.Log.{Log, chronicle_of, last_moment, nodes, start_of}
 use Rattle.nd_link.specs.declared.link.Link.{Link}
 use Rattle.nd_link.specs.Frames.{frames, kept_frames}

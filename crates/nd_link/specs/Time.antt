@@ -5,7 +5,7 @@ use Rattle.nd_chronicle.specs.Start.{Start}
 use Rattle.nd_chronicle.specs.Happening.{Chronicle}
 use Rattle.nd_chronicle.specs.Due.{What, Due, comes}
 use Rattle.nd_node.specs.declared.node.Node.{Node}
-use Rattle.nd_node.specs.Node as node
+use Rattle.nd_node.specs.NodeKept as node
 use Rattle.nd_link_log.specs.Log.{Log, adding, chronicle_of, last_moment, start_of}
 use Rattle.nd_link_log.specs.History.{IsIdle, Walk}
 use Rattle.nd_link.specs.declared.link.Link.{Link}

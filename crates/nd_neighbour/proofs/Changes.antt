@@ -5,15 +5,19 @@ use Rattle.std.proofs.lemmas.Bool.Decides.{nat_tests}
 use Rattle.std.proofs.lemmas.Bool.{true≢false, eqb-true, cases_Bool}
 use Rattle.nd_neighbour.specs.declared.news.Flags.{Flags}
 use Rattle.nd_neighbour.specs.History.{Given, Advertised, Marked, Asked, Solicited, Waits, Used, Probed, Confirmed, Story}
-use Rattle.nd_neighbour.specs.Entry.{NeighbourEntry, with_mark, stale_entry}
-use Rattle.nd_neighbour.specs.LinkLayerAddress.{given, mark_or}
-use Rattle.nd_neighbour.specs.ReachabilityConfirmation.{Evidence, Confirms, Disturbs, confirmed}
-use Rattle.nd_neighbour.specs.NeighborAdvertisement.{taken, conforms, advert_says, advertised}
-use Rattle.nd_neighbour.specs.AddressResolution.{Resolution, one_more, resolution_of, packets_of, waiting_of, asked_entry}
+use Rattle.nd_neighbour.specs.EntryKept.{NeighbourEntry, with_mark, stale_entry}
+use Rattle.nd_neighbour.specs.LinkLayerAddressKept.{given, mark_or}
+use Rattle.nd_neighbour.specs.ReachabilityConfirmation.{Evidence, Confirms, Disturbs}
+use Rattle.nd_neighbour.specs.ReachabilityConfirmationKept.{confirmed}
+use Rattle.nd_neighbour.specs.NeighborAdvertisement.{taken, conforms, advert_says}
+use Rattle.nd_neighbour.specs.NeighborAdvertisementKept.{advertised}
+use Rattle.nd_neighbour.specs.AddressResolution.{Resolution, one_more, resolution_of, packets_of, waiting_of}
+use Rattle.nd_neighbour.specs.AddressResolutionKept.{asked_entry}
 use Rattle.nd_neighbour.specs.UnreachabilityDetection.{Use, goes_on}
-use Rattle.nd_neighbour.specs.Story.{is_present, mac_of, is_router, says, or_else, evidence_of, use_of, due_by, due_of, stage_by, the_entry, entry_of}
-use Rattle.nd_neighbour.specs.Due.{solicited, falls, stays}
-use Rattle.nd_neighbour.specs.Sending.{used}
+use Rattle.nd_neighbour.specs.Story.{is_present, mac_of, is_router, says, or_else, evidence_of, use_of, due_by, due_of}
+use Rattle.nd_neighbour.specs.StoryKept.{stage_by, the_entry, entry_of}
+use Rattle.nd_neighbour.specs.DueKept.{solicited, falls, stays}
+use Rattle.nd_neighbour.specs.SendingKept.{used}
 use Rattle.circular_buffer.specs.Buffer.{keep_last}
 use Rattle.nd_neighbour.proofs.LastThree.{keep_more}
 use Rattle.nd_neighbour.proofs.Stories.{absent_mac, absent_router, resolving, known_evidence}

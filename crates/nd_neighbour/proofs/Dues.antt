@@ -4,13 +4,15 @@ use Rattle.std.specs.List.{remove}
 use Rattle.std.proofs.lemmas.Bool.Decides.{nat_tests}
 use Rattle.std.proofs.lemmas.Bool.{cond-true, cond-false, true≢false, cases_Bool}
 use Rattle.nd_neighbour.specs.History.{Row, Story, story, Solicited, Probed, Failed, Aged}
-use Rattle.nd_neighbour.specs.Entry.{NeighbourEntry, Stage, Resolving, Known, known_mac}
+use Rattle.nd_neighbour.specs.EntryKept.{NeighbourEntry, Stage, Resolving, Known, known_mac}
 use Rattle.nd_neighbour.specs.ReachabilityConfirmation.{Evidence}
 use Rattle.nd_neighbour.specs.AddressResolution.{Resolution, resolution_of, waiting_of}
 use Rattle.nd_neighbour.specs.UnreachabilityDetection.{Use}
-use Rattle.nd_neighbour.specs.Story.{is_present, mac_of, evidence_of, use_of, due_of, stage_by, the_entry, entry_of}
-use Rattle.nd_neighbour.specs.Table.{address, entry_in, Stands, GainsRow}
-use Rattle.nd_neighbour.specs.Due.{Falls, falls, falls_to, stays, solicited, date_of, IsDue, falling_by, IsFirst, FirstDue, NextDue, due_row, next_in, due_in, NoneBefore, turns_to, turns_left, Turns}
+use Rattle.nd_neighbour.specs.Story.{is_present, mac_of, evidence_of, use_of, due_of}
+use Rattle.nd_neighbour.specs.StoryKept.{stage_by, the_entry, entry_of}
+use Rattle.nd_neighbour.specs.TableKept.{address, entry_in, Stands, GainsRow}
+use Rattle.nd_neighbour.specs.Due.{Falls, IsDue, falling_by, IsFirst, FirstDue, NextDue, due_row}
+use Rattle.nd_neighbour.specs.DueKept.{falls, falls_to, stays, solicited, date_of, next_in, due_in, NoneBefore, turns_to, turns_left, Turns}
 use Rattle.nd_table.proofs.Due.{AtMost-some, AtMost-none, due_now, due_has, due_least, none_due, least_at_most, least_found, NotBefore-set, NotBefore-remove}
 use Rattle.nd_neighbour.proofs.Changes.{when_solicited, when_probed}
 use Rattle.nd_neighbour.proofs.Steps.{changing, leaving, entry_present}

@@ -5,14 +5,16 @@ use Rattle.std.proofs.lemmas.Bool.Decides.{nat_tests}
 use Rattle.std.proofs.lemmas.Bool.{cond_both, cond-true, cond-false, true≢false, eq-eqb, cases_Bool}
 use Rattle.nd_neighbour.specs.declared.shown.Reachability.TheVariants.{Reachable, Stale, Delay, Probe}
 use Rattle.nd_neighbour.specs.History.{RowKind, Row, Story, story, is_end, Forgot, PushedOut}
-use Rattle.nd_neighbour.specs.Entry.{NeighbourEntry}
+use Rattle.nd_neighbour.specs.EntryKept.{NeighbourEntry}
 use Rattle.nd_neighbour.specs.ReachabilityConfirmation.{Evidence, Confirms, Disturbs, since_in}
 use Rattle.nd_neighbour.specs.AddressResolution.{Resolution, resolution_of, waiting_of}
 use Rattle.nd_neighbour.specs.UnreachabilityDetection.{Use}
-use Rattle.nd_neighbour.specs.Story.{is_present, mac_of, evidence_of, use_of, stage_by, the_entry, entry_of}
-use Rattle.nd_neighbour.specs.Table.{address, entry_in, Rises, Stands, GainsRow, Alters, NotThere, There}
+use Rattle.nd_neighbour.specs.Story.{is_present, mac_of, evidence_of, use_of}
+use Rattle.nd_neighbour.specs.StoryKept.{stage_by, the_entry, entry_of}
+use Rattle.nd_neighbour.specs.TableKept.{address, entry_in, Rises, Stands, GainsRow, Alters, NotThere, There}
 use Rattle.nd_neighbour.specs.Shown.{state_by}
-use Rattle.nd_neighbour.specs.Place.{IsStale, stale_since, IsLongestStale, MakesPlace, HadPlace, Pushed, is_stale, since_of, longer, if_stale, stalest, Places, Enough, Went}
+use Rattle.nd_neighbour.specs.Place.{IsStale, stale_since, IsLongestStale, MakesPlace, HadPlace, Pushed}
+use Rattle.nd_neighbour.specs.PlaceKept.{is_stale, since_of, longer, if_stale, stalest, Places, Enough, Went}
 use Rattle.nd_table.proofs.Keyed.{key_is, above_in, at_place, at_key-remove}
 use Rattle.nd_neighbour.proofs.Steps.{changing, passing, leaving, entry_present, entry_absent}
 

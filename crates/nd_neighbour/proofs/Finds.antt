@@ -2,10 +2,10 @@
 use Rattle.std.proofs.Common.{◌≡◌, ℕ, ◌<◌, Bool, true, false, cond, List, [], ◌∷◌, refl, length, get_or, set, Option, Some, None, sym, ◌∙◌, ap, subst, arith, suc, zero}
 use Rattle.std.specs.Prelude.{slice_get, is_some, ◌&&◌, not}
 use Rattle.std.proofs.lemmas.Option.{slice_get-get_or}
-use Rattle.nd_neighbour.specs.Entry.{NeighbourEntry, Stage, Resolving, Known, released, known_mac, waiting_in}
-use Rattle.nd_neighbour.specs.Table.{entry_in, place_in, Alters, There}
-use Rattle.nd_neighbour.specs.Place.{Gives, Was, Came, NoPlace, Places}
-use Rattle.nd_neighbour.specs.News.{told_released, told_turned, was_known}
+use Rattle.nd_neighbour.specs.EntryKept.{NeighbourEntry, Stage, Resolving, Known, released, known_mac, waiting_in}
+use Rattle.nd_neighbour.specs.TableKept.{entry_in, place_in, Alters, There}
+use Rattle.nd_neighbour.specs.PlaceKept.{Gives, Was, Came, NoPlace, Places}
+use Rattle.nd_neighbour.specs.NewsKept.{told_released, told_turned, was_known}
 use Rattle.nd_neighbour.specs.Removal.{Removes, Gone, waiting_at}
 use Rattle.std.specs.List.{insert, remove}
 use Rattle.std.proofs.lemmas.Bool.{true≢false}

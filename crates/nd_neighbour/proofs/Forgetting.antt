@@ -5,13 +5,15 @@ use Rattle.std.specs.Option.{option_map}
 use Rattle.std.proofs.lemmas.Bool.{cond-true, cond-false, eqb-true, cases_Bool}
 use Rattle.nd_neighbour.specs.declared.shown.Reachability.{Reachability}
 use Rattle.nd_neighbour.specs.History.{Row, Story, story, Forgot, Cause, Cleared}
-use Rattle.nd_neighbour.specs.Entry.{NeighbourEntry}
+use Rattle.nd_neighbour.specs.EntryKept.{NeighbourEntry}
 use Rattle.nd_neighbour.specs.ReachabilityConfirmation.{Evidence, Confirms, Disturbs}
 use Rattle.nd_neighbour.specs.AddressResolution.{Resolution, resolution_of, waiting_of}
 use Rattle.nd_neighbour.specs.UnreachabilityDetection.{Use}
-use Rattle.nd_neighbour.specs.Story.{is_present, mac_of, evidence_of, use_of, stage_by, the_entry, entry_of, waits_of}
-use Rattle.nd_neighbour.specs.Table.{address, entry_in, Stands, GainsRow}
-use Rattle.nd_neighbour.specs.Shown.{state_by, Seen, seen, seen_of, state_in, seen_key, Lists}
+use Rattle.nd_neighbour.specs.Story.{is_present, mac_of, evidence_of, use_of, waits_of}
+use Rattle.nd_neighbour.specs.StoryKept.{stage_by, the_entry, entry_of}
+use Rattle.nd_neighbour.specs.TableKept.{address, entry_in, Stands, GainsRow}
+use Rattle.nd_neighbour.specs.Shown.{state_by, Seen, seen_of, seen_key, Lists}
+use Rattle.nd_neighbour.specs.ShownKept.{seen, state_in}
 use Rattle.nd_neighbour.specs.Removal.{Removes, WasNot, Gone, waiting_at, cleared}
 use Rattle.nd_table.proofs.Mapped.{at_key-map, Rises-map}
 use Rattle.nd_table.proofs.Keyed.{key_is}

@@ -4,16 +4,20 @@ use Rattle.std.specs.Prelude.{◌&&◌, not, is_some}
 use Rattle.std.proofs.lemmas.Bool.{cond-true, cond-false}
 use Rattle.nd_neighbour.specs.declared.news.Flags.{Flags}
 use Rattle.nd_neighbour.specs.History.{RowKind, Given, Advertised, Marked, Confirmed, Row, Story, story}
-use Rattle.nd_neighbour.specs.Entry.{NeighbourEntry, Stage, Resolving, Known, with_mark, stale_entry, known_mac, waiting_in}
-use Rattle.nd_neighbour.specs.LinkLayerAddress.{given, given_to, mark_or}
-use Rattle.nd_neighbour.specs.ReachabilityConfirmation.{Evidence, confirmed, confirmed_to}
-use Rattle.nd_neighbour.specs.NeighborAdvertisement.{advertised, advertised_to, conforming}
+use Rattle.nd_neighbour.specs.EntryKept.{NeighbourEntry, Stage, Resolving, Known, with_mark, stale_entry, known_mac, waiting_in}
+use Rattle.nd_neighbour.specs.LinkLayerAddressKept.{given, given_to, mark_or}
+use Rattle.nd_neighbour.specs.ReachabilityConfirmation.{Evidence}
+use Rattle.nd_neighbour.specs.ReachabilityConfirmationKept.{confirmed, confirmed_to}
+use Rattle.nd_neighbour.specs.NeighborAdvertisementKept.{advertised, advertised_to, conforming}
 use Rattle.nd_neighbour.specs.AddressResolution.{Resolution, resolution_of, waiting_of}
 use Rattle.nd_neighbour.specs.UnreachabilityDetection.{Use}
-use Rattle.nd_neighbour.specs.Story.{is_present, mac_of, is_router, evidence_of, use_of, stage_by, the_entry, entry_of, waits_by, waits_of}
-use Rattle.nd_neighbour.specs.Table.{address, entry_in, Stands, GainsRow, Alters, NotThere, There}
-use Rattle.nd_neighbour.specs.Place.{Prepares, MakesPlace, Gives, Was, Came}
-use Rattle.nd_neighbour.specs.News.{released_by, ends_router, Tells, told_released, told_turned}
+use Rattle.nd_neighbour.specs.Story.{is_present, mac_of, is_router, evidence_of, use_of, waits_by, waits_of}
+use Rattle.nd_neighbour.specs.StoryKept.{stage_by, the_entry, entry_of}
+use Rattle.nd_neighbour.specs.TableKept.{address, entry_in, Stands, GainsRow, Alters, NotThere, There}
+use Rattle.nd_neighbour.specs.Place.{Prepares, MakesPlace}
+use Rattle.nd_neighbour.specs.PlaceKept.{Gives, Was, Came}
+use Rattle.nd_neighbour.specs.News.{released_by, ends_router}
+use Rattle.nd_neighbour.specs.NewsKept.{Tells, told_released, told_turned}
 use Rattle.nd_neighbour.specs.Removal.{waiting_at}
 use Rattle.nd_neighbour.proofs.Stories.{absent_router}
 use Rattle.nd_neighbour.proofs.Changes.{when_given, when_advertised, when_marked, when_confirmed, first_given}

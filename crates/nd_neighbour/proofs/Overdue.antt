@@ -2,16 +2,17 @@
 use Rattle.std.proofs.Common.{◌≡◌, ℕ, ◌+◌, ◌≤◌, Bool, true, false, cond, eqb, leb, List, [], ◌∷◌, Option, Some, None, refl, sym, ◌∙◌, ap, subst, arith, inl, inr}
 use Rattle.std.specs.Prelude.{is_some, not}
 use Rattle.std.proofs.lemmas.Bool.{true≢false, cond_both, cases_Bool}
-use Rattle.nd_table.specs.Due.{NotBefore}
+use Rattle.nd_table.specs.DueKept.{NotBefore}
 use Rattle.nd_neighbour.specs.declared.news.Flags.{Flags}
 use Rattle.nd_neighbour.specs.AddressResolution.{Resolution, resolution_due, resolution_of}
-use Rattle.nd_neighbour.specs.Due.{IsDue, NextDue, NoneBefore, NoneOverdue, next_in}
-use Rattle.nd_neighbour.specs.Entry.{NeighbourEntry}
+use Rattle.nd_neighbour.specs.Due.{IsDue, NextDue, NoneOverdue}
+use Rattle.nd_neighbour.specs.DueKept.{NoneBefore, next_in}
+use Rattle.nd_neighbour.specs.EntryKept.{NeighbourEntry}
 use Rattle.nd_neighbour.specs.History.{Advertised, Asked, Confirmed, Forgot, Given, Marked, Probed, Row, RowKind, Solicited, Story, Used, Waits, is_end, story}
 use Rattle.nd_neighbour.specs.NeighborAdvertisement.{advert_says, conforms, given_changes, taken}
 use Rattle.nd_neighbour.specs.ReachabilityConfirmation.{Confirms, Disturbs, Evidence, holds, since}
 use Rattle.nd_neighbour.specs.Story.{due_by, due_of, is_present, mac_of, or_else, says, use_of, evidence_of}
-use Rattle.nd_neighbour.specs.Table.{Stands}
+use Rattle.nd_neighbour.specs.TableKept.{Stands}
 use Rattle.nd_neighbour.specs.UnreachabilityDetection.{Use, goes_on, reach_due}
 use Rattle.nd_neighbour.proofs.Stories.{absent_mac}
 use Rattle.nd_neighbour.proofs.Dues.{next_is_due}

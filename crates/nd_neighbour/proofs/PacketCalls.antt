@@ -3,14 +3,17 @@ use Rattle.std.proofs.Common.{◌≡◌, ℕ, ◌+◌, ◌*◌, Bool, true, fals
 use Rattle.std.specs.Prelude.{is_some, nat_le}
 use Rattle.std.proofs.lemmas.Bool.{cond-true, cond-false, cases_Bool}
 use Rattle.nd_neighbour.specs.History.{Row, Story, story, Asked, Waits, Used}
-use Rattle.nd_neighbour.specs.Entry.{NeighbourEntry, Stage, Resolving, Known, known_mac}
+use Rattle.nd_neighbour.specs.EntryKept.{NeighbourEntry, Stage, Resolving, Known, known_mac}
 use Rattle.nd_neighbour.specs.ReachabilityConfirmation.{Evidence}
-use Rattle.nd_neighbour.specs.AddressResolution.{Resolution, resolution_of, waiting_of, asked_entry}
+use Rattle.nd_neighbour.specs.AddressResolution.{Resolution, resolution_of, waiting_of}
+use Rattle.nd_neighbour.specs.AddressResolutionKept.{asked_entry}
 use Rattle.nd_neighbour.specs.UnreachabilityDetection.{Use}
-use Rattle.nd_neighbour.specs.Story.{is_present, mac_of, evidence_of, use_of, stage_by, entry_of}
-use Rattle.nd_neighbour.specs.Table.{address, entry_in, Stands, Alters, NotThere, There}
-use Rattle.nd_neighbour.specs.Place.{Gives, Was, Came}
-use Rattle.nd_neighbour.specs.Sending.{used, used_to, sending_to, GainsPacket, then_packet, sending_by, sending_of_story, sending_in}
+use Rattle.nd_neighbour.specs.Story.{is_present, mac_of, evidence_of, use_of}
+use Rattle.nd_neighbour.specs.StoryKept.{stage_by, entry_of}
+use Rattle.nd_neighbour.specs.TableKept.{address, entry_in, Stands, Alters, NotThere, There}
+use Rattle.nd_neighbour.specs.PlaceKept.{Gives, Was, Came}
+use Rattle.nd_neighbour.specs.Sending.{then_packet, sending_by, sending_of_story}
+use Rattle.nd_neighbour.specs.SendingKept.{used, used_to, sending_to, GainsPacket, sending_in}
 use Rattle.nd_neighbour.proofs.Stories.{absent_mac, absent_router}
 use Rattle.nd_neighbour.proofs.Changes.{when_used, when_waits, first_asked}
 use Rattle.nd_table.proofs.Keyed.{key_is, put_in, at_key-put, Rises-put}

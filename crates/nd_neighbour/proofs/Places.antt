@@ -5,8 +5,8 @@ use Rattle.std.specs.List.{remove}
 use Rattle.std.proofs.lemmas.Bool.Decides.{nat_tests}
 use Rattle.std.proofs.lemmas.Bool.{cond_both, cases_Bool}
 use Rattle.std.proofs.lemmas.Option.{slice_get-get_or}
-use Rattle.nd_neighbour.specs.Entry.{NeighbourEntry}
-use Rattle.nd_neighbour.specs.Place.{since_of, longer, stalest, picked, picked_stale, Places, Went}
+use Rattle.nd_neighbour.specs.EntryKept.{NeighbourEntry}
+use Rattle.nd_neighbour.specs.PlaceKept.{since_of, longer, stalest, picked, picked_stale, Places, Went}
 
 longer_assoc : (a b c : Option NeighbourEntry) → longer (longer a b) c ≡ longer a (longer b c)
 longer_assoc None b c = refl

@@ -7,16 +7,16 @@ use Rattle.std.proofs.lemmas.List.Edits.{length-remove}
 use Rattle.std.proofs.lemmas.List.{set-get_or}
 use Rattle.std.proofs.lemmas.Bool.{cond-false, cases_lt}
 use Rattle.nd_table.specs.Keyed as keyed
-use Rattle.nd_table.specs.Due.{is_at}
+use Rattle.nd_table.specs.DueKept.{is_at}
 use Rattle.nd_table.specs.Dates.{Planned, rank, AllAddresses, has, first_moment, Redated}
 use Rattle.nd_table.proofs.Searching.{place_above, place_below}
 use Rattle.nd_table.proofs.Keyed.{key_is, at_place, Rises-unique, put_in, at_key-remove, Rises-put, place_of-remove_low, place_of-remove_high}
 use Rattle.nd_table.proofs.Dates.{least_is, no_more}
 use Rattle.nd_table.proofs.Stays.{set_rises, set_dates, own_date, remove_rises, gone_dates, kept_dates, came_dates}
-use Rattle.nd_neighbour.specs.Entry.{NeighbourEntry, Stage, Resolving, Known, with_mark}
-use Rattle.nd_neighbour.specs.Table.{address, Rises, entry_in, place_in, Alters, NotThere, There}
-use Rattle.nd_neighbour.specs.Due.{date_of, next_in, falls, stays, solicited, solicited_to}
-use Rattle.nd_neighbour.specs.Place.{Places, Enough, Went}
+use Rattle.nd_neighbour.specs.EntryKept.{NeighbourEntry, Stage, Resolving, Known, with_mark}
+use Rattle.nd_neighbour.specs.TableKept.{address, Rises, entry_in, place_in, Alters, NotThere, There}
+use Rattle.nd_neighbour.specs.DueKept.{date_of, next_in, falls, stays, solicited, solicited_to}
+use Rattle.nd_neighbour.specs.PlaceKept.{Places, Enough, Went}
 use Rattle.nd_neighbour.specs.Planned.{IsPlanned}
 use Rattle.nd_neighbour.proofs.Finds.{within, there}
 use Rattle.nd_neighbour.proofs.NewsCalls.{keys_of}

@@ -8,17 +8,20 @@ use Rattle.std.proofs.lemmas.List.Edits.{length-insert, length-remove}
 use Rattle.std.proofs.lemmas.Bool.Decides.{nat_tests}
 use Rattle.std.proofs.lemmas.Bool.{cond-true, cond-false, true≢false, eqb-true, ne_eqb, eq-eqb, cases_Bool, or_left, or_right, or_cases, not-true, and_from}
 use Rattle.std.proofs.Math.Bool.{and-false, and-true}
-use Rattle.nd_table.specs.Keyed.{place_of}
+use Rattle.nd_table.specs.KeyedKept.{place_of}
 use Rattle.nd_table.proofs.Any.{any_set, any_remove, any_insert, any_inserted, any_was_set, any_was_removed, still_set, still_removed, held_at}
 use Rattle.nd_table.proofs.Keyed.{key_is, place_found, place_of-le, put_in, at_key-put, at_key-set, at_key-remove}
 use Rattle.nd_neighbour.specs.History.{Row, story, Forgot, PushedOut}
-use Rattle.nd_neighbour.specs.Entry.{NeighbourEntry, Stage, Resolving, Known}
-use Rattle.nd_neighbour.specs.AddressResolution.{asked_entry}
+use Rattle.nd_neighbour.specs.EntryKept.{NeighbourEntry, Stage, Resolving, Known}
+use Rattle.nd_neighbour.specs.AddressResolutionKept.{asked_entry}
 use Rattle.nd_neighbour.specs.Story.{is_present, mac_of}
-use Rattle.nd_neighbour.specs.Table.{address, entry_in, Rises, Stands, NotThere, There}
-use Rattle.nd_neighbour.specs.Place.{Prepares, MakesPlace, HadPlace, Pushed, WouldBeFull, NoPlace, is_stale, since_of, longer, if_stale, stalest, has_place, Enough, Went, Gives, Was, Came}
-use Rattle.nd_neighbour.specs.Sending.{used, used_to, then_packet}
-use Rattle.nd_neighbour.specs.Room.{HasRoom, stays_stale, stale_beside, place_beside, place_without, place_behind, has_second, has_first, has_room, LeavesRoom}
+use Rattle.nd_neighbour.specs.TableKept.{address, entry_in, Rises, Stands, NotThere, There}
+use Rattle.nd_neighbour.specs.Place.{Prepares, MakesPlace, HadPlace, Pushed, WouldBeFull}
+use Rattle.nd_neighbour.specs.PlaceKept.{NoPlace, is_stale, since_of, longer, if_stale, stalest, has_place, Enough, Went, Gives, Was, Came}
+use Rattle.nd_neighbour.specs.Sending.{then_packet}
+use Rattle.nd_neighbour.specs.SendingKept.{used, used_to}
+use Rattle.nd_neighbour.specs.Room.{HasRoom}
+use Rattle.nd_neighbour.specs.RoomKept.{stays_stale, stale_beside, place_beside, place_without, place_behind, has_second, has_first, has_room, LeavesRoom}
 use Rattle.nd_neighbour.proofs.Entering.{stalest_in}
 use Rattle.nd_neighbour.proofs.Finds.{none_is, some_is}
 use Rattle.nd_neighbour.proofs.PacketCalls.{takes_packet, used_key}

@@ -3,9 +3,10 @@ use Rattle.std.proofs.Common.{◌≡◌, ℕ, ◌<◌, true, false, cond, eqb, L
 use Rattle.std.specs.List.{remove}
 use Rattle.std.proofs.lemmas.Bool.{cond_both, eqb-true, eq-eqb, cond-true, cond-false, cases_Bool}
 use Rattle.nd_neighbour.specs.History.{RowKind, Forgot, Cause, is_end, Row, Story, story}
-use Rattle.nd_neighbour.specs.Entry.{NeighbourEntry}
-use Rattle.nd_neighbour.specs.Story.{is_present, the_entry, entry_of}
-use Rattle.nd_neighbour.specs.Table.{address, entry_in, GainsRow}
+use Rattle.nd_neighbour.specs.EntryKept.{NeighbourEntry}
+use Rattle.nd_neighbour.specs.Story.{is_present}
+use Rattle.nd_neighbour.specs.StoryKept.{the_entry, entry_of}
+use Rattle.nd_neighbour.specs.TableKept.{address, entry_in, GainsRow}
 use Rattle.nd_table.proofs.Keyed.{at_key-set, Rises-set, at_key-remove, Rises-remove, put_in, at_key-put, Rises-put}
 
 -- the story of another neighbour goes on unchanged

@@ -3,9 +3,10 @@ use Rattle.std.proofs.Common.{◌≡◌, ℕ, ◌<◌, List, Option, Some, None,
 use Rattle.std.specs.Prelude.{IfSome, IfNone, ◌≢◌}
 use Rattle.std.specs.Option.{option_map}
 use Rattle.nd_neighbour.specs.History.{Row}
-use Rattle.nd_neighbour.specs.Entry.{NeighbourEntry}
-use Rattle.nd_neighbour.specs.Table.{Stands, GainsRow}
-use Rattle.nd_neighbour.specs.Due.{Falls, FirstDue, due_row, next_in, due_in, NoneBefore, turns_left, Turns, date_of}
+use Rattle.nd_neighbour.specs.EntryKept.{NeighbourEntry}
+use Rattle.nd_neighbour.specs.TableKept.{Stands, GainsRow}
+use Rattle.nd_neighbour.specs.Due.{Falls, FirstDue, due_row}
+use Rattle.nd_neighbour.specs.DueKept.{next_in, due_in, NoneBefore, turns_left, Turns, date_of}
 use Rattle.nd_neighbour.proofs.Dues.{first_falls, none_falls, turned_gains, turned_fewer, turned_later}
 use Rattle.nd_table.proofs.Due.{next_not_now}
 

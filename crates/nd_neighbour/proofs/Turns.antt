@@ -5,8 +5,9 @@ use Rattle.std.specs.List.{remove}
 use Rattle.std.proofs.lemmas.List.{set-get_or, get_or_default}
 use Rattle.std.proofs.lemmas.Option.{slice_get-get_or}
 use Rattle.std.proofs.lemmas.Bool.{cond-true, cond-false}
-use Rattle.nd_neighbour.specs.Entry.{NeighbourEntry}
-use Rattle.nd_neighbour.specs.Due.{Falls, falls, stays, solicited, due_in, Turns}
+use Rattle.nd_neighbour.specs.EntryKept.{NeighbourEntry}
+use Rattle.nd_neighbour.specs.Due.{Falls}
+use Rattle.nd_neighbour.specs.DueKept.{falls, stays, solicited, due_in, Turns}
 
 -- an entry for which a solicitation is left stays
 pub stayed : (now : ℕ) (ns : List NeighbourEntry) (i : ℕ) (n m : NeighbourEntry) (what : Falls) → i < length ns → due_in now ns ≡ slice_get ns i → n ≡ get_or ns i n → m ≡ cond (stays (falls n)) (solicited now n) n → stays (falls n) ≡ true → what ≡ falls n → Turns now ns (set ns i m) what

@@ -4,11 +4,13 @@ use Rattle.std.specs.Prelude.{is_some, ◌||◌, ◌↔◌}
 use Rattle.std.proofs.lemmas.Bool.Decides.{nat_tests}
 use Rattle.std.proofs.lemmas.Bool.{cond-false, true≢false}
 use Rattle.nd_neighbour.specs.History.{Row, story}
-use Rattle.nd_neighbour.specs.Entry.{NeighbourEntry}
-use Rattle.nd_neighbour.specs.Story.{is_present, the_entry}
-use Rattle.nd_neighbour.specs.Table.{address, Stands}
+use Rattle.nd_neighbour.specs.EntryKept.{NeighbourEntry}
+use Rattle.nd_neighbour.specs.Story.{is_present}
+use Rattle.nd_neighbour.specs.StoryKept.{the_entry}
+use Rattle.nd_neighbour.specs.TableKept.{address, Stands}
 use Rattle.nd_neighbour.specs.Due.{Falls, falling, FirstDue}
-use Rattle.nd_neighbour.specs.Place.{IsStale, IsLongestStale, stalest, NoPlace, WouldBeFull}
+use Rattle.nd_neighbour.specs.Place.{IsStale, IsLongestStale, WouldBeFull}
+use Rattle.nd_neighbour.specs.PlaceKept.{stalest, NoPlace}
 use Rattle.nd_neighbour.proofs.Steps.{entry_absent}
 use Rattle.nd_table.proofs.Unique.{one_list}
 use Rattle.nd_neighbour.proofs.Entering.{none_is_stale, some_stale}

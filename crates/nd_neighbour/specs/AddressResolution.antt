@@ -1,9 +1,8 @@
 -- The resolution of a neighbour whose link-layer address isn't known (RFC 4861, section 7.2.2).
-use Rattle.std.specs.Prelude.{ℕ, ◌-◌, ◌+◌, Option, Some, None, [], ◌∷◌, List, ◌++◌, ◌*◌, false}
+use Rattle.std.specs.Prelude.{ℕ, ◌-◌, ◌+◌, Option, Some, None, [], ◌∷◌, List, ◌++◌, ◌*◌}
 use Rattle.circular_buffer.specs.Buffer.{keep_last}
 use Rattle.nd_packet.specs.Waiting.{max_waiting}
 use Rattle.nd_neighbour.specs.History.{Asked, Solicited, Story, Waits}
-use Rattle.nd_neighbour.specs.Entry.{NeighbourEntry, Resolving}
 
 -- MAX_MULTICAST_SOLICIT: how many solicitations a resolution sends, the first included (RFC 4861, section 10)
 abbrev pub max_multicast_solicit : ℕ
@@ -56,8 +55,3 @@ more_in (Some r) = r.more
 abbrev pub resolution_due : Option Resolution → ℕ
 resolution_due None = 0
 resolution_due (Some r) = r.at + (r.more + 1) * r.retrans
-
--- a resolution begins with a packet that waits
-abbrev pub asked_entry : ℕ → ℕ → ℕ → List ℕ → NeighbourEntry
-asked_entry key at retrans packet =
-    record { key = key; router = false; due = at + retrans; stage = Resolving retrans 0 (packet ∷ []) }

@@ -1,22 +1,7 @@
 -- A message gives a link-layer address (RFC 4861, sections 6.2.6, 6.3.4, 7.2.3 and 8.3).
-use Rattle.std.specs.Prelude.{ℕ, Bool, true, ◌==◌, not, Option, Some, None, unwrap_or, if◌then◌else◌}
-use Rattle.nd_neighbour.specs.Entry.{NeighbourEntry, Stage, Resolving, Known, stale_entry, with_mark}
+use Rattle.std.specs.Prelude.{ℕ, Bool, true, ◌==◌, not, Option, Some, None}
 
 -- the address is the first one or another one
 abbrev pub changes : ℕ → Option ℕ → Bool
 changes mac None = true
 changes mac (Some known) = not (mac == known)
-
--- IsRouter after a message that may say it
-abbrev pub mark_or : Option Bool → Bool → Bool
-mark_or mark router = unwrap_or mark router
-
--- what it makes of what is kept: a first address, or another one, makes it STALE; the one that is known only marks it
-abbrev pub given_to : Stage → NeighbourEntry → ℕ → ℕ → Bool → NeighbourEntry
-given_to (Resolving retrans sent waiting) n at mac router = stale_entry n.key router at mac
-given_to (Known known confirmed since probing) n at mac router =
-    if mac == known then with_mark router n else stale_entry n.key router at mac
-
--- the same of a neighbour
-abbrev pub given : ℕ → ℕ → Option Bool → NeighbourEntry → NeighbourEntry
-given at mac mark n = given_to n.stage n at mac (mark_or mark n.router)

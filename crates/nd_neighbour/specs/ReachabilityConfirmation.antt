@@ -1,6 +1,5 @@
 -- When a neighbour was confirmed as reachable, and what disturbs that (RFC 4861, sections 7.2.5 and 7.3.1).
 use Rattle.std.specs.Prelude.{ℕ, ◌+◌, nat_lt, Bool, false, Option, Some, true, None}
-use Rattle.nd_neighbour.specs.Entry.{NeighbourEntry, Stage, Resolving, Known, reachable_entry}
 
 -- a confirmation at a moment, which holds for a ReachableTime, or a disturbance at a moment
 pub data Evidence : Type 0 where
@@ -27,12 +26,3 @@ is_confirmed (Some (Disturbs at)) = false
 abbrev pub since_in : Option Evidence → ℕ
 since_in None = 0
 since_in (Some evidence) = since evidence
-
--- what an upper layer's confirmation makes of what is kept: in INCOMPLETE nothing, else it is REACHABLE
-abbrev pub confirmed_to : Stage → ℕ → ℕ → NeighbourEntry → NeighbourEntry
-confirmed_to (Resolving retrans sent waiting) at reachable n = n
-confirmed_to (Known mac confirmed since probing) at reachable n = reachable_entry n.key n.router at mac reachable
-
--- the same of a neighbour
-abbrev pub confirmed : ℕ → ℕ → NeighbourEntry → NeighbourEntry
-confirmed at reachable n = confirmed_to n.stage at reachable n

@@ -2,8 +2,8 @@
 use Rattle.std.specs.Prelude.{ℕ, List, [], ◌∷◌, ◌≡◌, ◌<◌, length, slice_index_or, Some, None, Option, ◌++◌}
 use Rattle.std.specs.List.{remove}
 use Rattle.nd_neighbour.specs.History.{Row, Forgot, Cleared}
-use Rattle.nd_neighbour.specs.Entry.{NeighbourEntry, waiting_in}
-use Rattle.nd_neighbour.specs.Table.{entry_in}
+use Rattle.nd_neighbour.specs.EntryKept.{NeighbourEntry, waiting_in}
+use Rattle.nd_neighbour.specs.TableKept.{entry_in}
 
 -- the neighbours are forgotten, in the order of their addresses
 abbrev pub cleared : ℕ → List NeighbourEntry → List Row → List Row

@@ -1,11 +1,9 @@
 -- What is shown of a neighbour at a moment, and its reachability state (RFC 4861, sections 5.1 and 7.3.2).
-use Rattle.std.specs.Prelude.{ℕ, ◌+◌, nat_lt, if◌then◌else◌, Option, Some, None, Bool, ◌&&◌, ◌≡◌, List}
+use Rattle.std.specs.Prelude.{ℕ, ◌+◌, nat_lt, if◌then◌else◌, Option, Some, None, Bool, ◌≡◌, List}
 use Rattle.nd_table.specs.Keyed.{at_key, Rises}
 use Rattle.nd_neighbour.specs.declared.shown.Reachability.{Reachability}
 use Rattle.nd_neighbour.specs.declared.shown.Reachability.TheVariants.{Stale, Delay, Probe, Incomplete, Reachable}
-use Rattle.nd_neighbour.specs.declared.unreachability_detection.Probing.{Probing}
 use Rattle.nd_neighbour.specs.History.{Story, Row, story}
-use Rattle.nd_neighbour.specs.Entry.{Stage, Resolving, Known, NeighbourEntry, known_mac}
 use Rattle.nd_neighbour.specs.ReachabilityConfirmation.{Evidence, holds}
 use Rattle.nd_neighbour.specs.UnreachabilityDetection.{delay_first_probe_time, Use}
 use Rattle.nd_neighbour.specs.Story.{mac_of, evidence_of, use_of, is_present, is_router}
@@ -35,20 +33,6 @@ pub record Seen : Type 0 where
 abbrev pub seen_of : ℕ → Story → ℕ → Option Seen
 seen_of key s t =
     if is_present s then Some (record { key = key; mac = mac_of s; router = is_router s; state = state_of s t }) else None
-
--- the same of what is kept: without a use STALE; DELAY before the first probe, and PROBE from then on
-abbrev pub probing_state : Option Probing → ℕ → Reachability
-probing_state None t = Stale
-probing_state (Some probing) t = if nat_lt t probing.from then Delay else Probe
-
--- the state by what is kept
-abbrev pub state_in : Stage → ℕ → Reachability
-state_in (Resolving retrans sent waiting) t = Incomplete
-state_in (Known mac confirmed since probing) t = if confirmed && nat_lt t since then Reachable else probing_state probing t
-
--- a neighbour at the moment
-abbrev pub seen : ℕ → NeighbourEntry → Seen
-seen t n = record { key = n.key; mac = known_mac n.stage; router = n.router; state = state_in n.stage t }
 
 -- its address
 abbrev pub seen_key : Seen → ℕ

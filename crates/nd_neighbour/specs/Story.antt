@@ -1,13 +1,12 @@
 -- What its story says of a neighbour: whether it is present, its link-layer address and its mark, its last
--- confirmation or disturbance, its first use afterwards, and what is kept of it.
+-- confirmation or disturbance, and its first use afterwards.
 use Rattle.std.specs.Prelude.{Bool, true, false, [], ◌∷◌, ℕ, if◌then◌else◌, Option, Some, None, ◌&&◌, is_some, List}
 use Rattle.nd_neighbour.specs.History.{Given, Asked, Story, Advertised, Marked, RowKind, Confirmed}
-use Rattle.nd_neighbour.specs.Entry.{Stage, Resolving, Known, NeighbourEntry}
 use Rattle.nd_neighbour.specs.LinkLayerAddress.{changes}
-use Rattle.nd_neighbour.specs.ReachabilityConfirmation.{Evidence, Confirms, Disturbs, is_confirmed, since_in}
+use Rattle.nd_neighbour.specs.ReachabilityConfirmation.{Evidence, Confirms, Disturbs}
 use Rattle.nd_neighbour.specs.NeighborAdvertisement.{taken, conforms, advert_says}
-use Rattle.nd_neighbour.specs.AddressResolution.{waiting_of, Resolution, resolution_due, retrans_in, more_in, resolution_of}
-use Rattle.nd_neighbour.specs.UnreachabilityDetection.{Use, goes_on, reach_due, probing_of}
+use Rattle.nd_neighbour.specs.AddressResolution.{waiting_of, Resolution, resolution_due, resolution_of}
+use Rattle.nd_neighbour.specs.UnreachabilityDetection.{Use, goes_on, reach_due}
 
 -- there is an entry from the first row on that gives an address or begins a resolution
 abbrev pub is_present : Story → Bool
@@ -72,24 +71,6 @@ abbrev pub due_by : Option ℕ → Option Evidence → Option Use → Option Res
 due_by None evidence use' resolution = resolution_due resolution
 due_by (Some mac) evidence use' resolution = reach_due evidence use'
 
--- what is kept: of the resolution without an address, of reachability with one
-abbrev pub stage_by : Option ℕ → Option Evidence → Option Use → Option Resolution → List (List ℕ) → Stage
-stage_by None evidence use' resolution waiting = Resolving (retrans_in resolution) (more_in resolution) waiting
-stage_by (Some mac) evidence use' resolution waiting = Known mac (is_confirmed evidence) (since_in evidence) (probing_of use')
-
 -- the moment at which something is due for a neighbour that is present
 abbrev pub due_of : Story → ℕ
 due_of s = due_by (mac_of s) (evidence_of s) (use_of s) (resolution_of s)
-
--- what the story says of a neighbour that is present
-abbrev pub the_entry : ℕ → Story → NeighbourEntry
-the_entry key s = record {
-  key = key;
-  router = is_router s;
-  due = due_of s;
-  stage = stage_by (mac_of s) (evidence_of s) (use_of s) (resolution_of s) (waiting_of s);
-}
-
--- and of one that may not be
-abbrev pub entry_of : ℕ → Story → Option NeighbourEntry
-entry_of key s = if is_present s then Some (the_entry key s) else None

@@ -2,13 +2,17 @@
 use Rattle.std.specs.Prelude.{ℕ, nat_le, if◌then◌else◌, Option, Some, None, ◌+◌, ◌*◌}
 use Rattle.nd_neighbour.specs.declared.unreachability_detection.Probing.{Probing}
 use Rattle.nd_neighbour.specs.History.{RowKind, Used, Probed}
-use Rattle.nd_neighbour.specs.Entry.{stale_lifetime}
 use Rattle.nd_neighbour.specs.ReachabilityConfirmation.{Evidence, since, since_in}
 
 -- DELAY_FIRST_PROBE_TIME: how long after the first use of a STALE neighbour its first probe is sent, in milliseconds
 -- (RFC 4861, section 10)
 abbrev pub delay_first_probe_time : ℕ
 delay_first_probe_time = 5000
+
+-- STALE_LIFETIME: how long a neighbour that is STALE and unused is kept, in milliseconds, a day. Our choice: RFC 4861,
+-- section 5.3, leaves it open.
+abbrev pub stale_lifetime : ℕ
+stale_lifetime = 86400000
 
 -- MAX_UNICAST_SOLICIT: how many probes are sent (RFC 4861, section 10)
 abbrev pub max_unicast_solicit : ℕ

@@ -8,7 +8,7 @@ use Rattle.nd_neighbour.specs.declared.entry.Stage.TheVariants as variant
 use Rattle.nd_neighbour.specs.declared.sending.Use.{Use}
 use Rattle.nd_neighbour.specs.declared.sending.Use.TheVariants.{Send, Queued}
 use Rattle.nd_neighbour.specs.declared.shown.Neighbour.{Neighbour}
-use Rattle.nd_neighbour.specs.Entry.{Stage, Resolving, Known}
+use Rattle.nd_neighbour.specs.EntryKept.{Stage, Resolving, Known}
 use Rattle.nd_neighbour.specs.Shown.{Seen}
 use Rattle.nd_neighbour.specs.Due.{Falls, Multicasts, Unicasts, Fails, Ages}
 use Rattle.nd_neighbour.specs.Sending.{Sending, Sends, Queues}

@@ -3,11 +3,11 @@
 ghost use Rattle.std.specs.Prelude.{None, true, vec_capacity, vec_len, ◌<◌, ◌≡◌, ◌≤◌};
 ghost use Rattle.nd_addr.specs.Number.{number_of};
 ghost use Rattle.nd_table.specs.Moment.{IsMoment};
-ghost use Rattle.nd_neighbour.specs.AddressResolution.{asked_entry};
-ghost use Rattle.nd_neighbour.specs.Table.{entry_in, place_in};
+ghost use Rattle.nd_neighbour.specs.AddressResolutionKept.{asked_entry};
+ghost use Rattle.nd_neighbour.specs.TableKept.{entry_in, place_in};
 ghost use Rattle.nd_neighbour.specs.Planned.{IsPlanned};
-ghost use Rattle.nd_neighbour.specs.Place.{Gives, has_place};
-ghost use Rattle.nd_neighbour.specs.Sending.{used};
+ghost use Rattle.nd_neighbour.specs.PlaceKept.{Gives, has_place};
+ghost use Rattle.nd_neighbour.specs.SendingKept.{used};
 
 use crate::entry::{Entry, Stage};
 use crate::place::enter;
@@ -50,7 +50,7 @@ pub(crate) fn begin<A: Allocator>(
 }
 
 impl<A: Allocator> Entry<A> {
-    ghost use Rattle.nd_neighbour.specs.AddressResolution.{asked_entry};
+    ghost use Rattle.nd_neighbour.specs.AddressResolutionKept.{asked_entry};
 
     /// Returns an entry whose resolution begins now (INCOMPLETE), with a first packet that waits. The first solicitation is sent now, the next is
     /// due a RetransTimer later (RFC 4861, section 7.2.2).

@@ -2,7 +2,7 @@
 
 ghost use Rattle.std.specs.Prelude.{IfOk, [], List, ◌≡◌, ◌≤◌, ◌+◌, is_some, length};
 ghost use Rattle.nd_addr.specs.Number.{number_of};
-ghost use Rattle.nd_table.specs.Keyed.{binary_digits};
+ghost use Rattle.nd_table.specs.KeyedKept.{binary_digits};
 
 use crate::entry::Entry;
 use nd_addr::Addr;
@@ -33,7 +33,7 @@ pub struct Cache<A: Allocator> {
 impl<A: Allocator> Model for Cache<A> {
     ghost use Rattle.std.specs.Prelude.{◌≤◌, length};
     ghost use Rattle.std.specs.Vec.{vec_len, vec_capacity};
-    ghost use Rattle.nd_neighbour.specs.Table.{Table, max_rings};
+    ghost use Rattle.nd_neighbour.specs.TableKept.{Table, max_rings};
     ghost use Rattle.nd_neighbour.specs.Planned.{IsPlanned};
 
     ghost Value = { Table };
@@ -44,7 +44,7 @@ impl<A: Allocator> Model for Cache<A> {
 }
 
 impl<A: Allocator + Clone> Cache<A> {
-    ghost use Rattle.nd_neighbour.specs.Table.{Stands, max_neighbours};
+    ghost use Rattle.nd_neighbour.specs.TableKept.{Stands, max_neighbours};
 
     /// Returns an empty cache with room for `limit` neighbours, 1 to 2048, all of it reserved here. Returns an error if out of memory.
     pub fn new(alloc: A, limit: usize) -> Result<Self, AllocError>
@@ -69,7 +69,7 @@ impl<A: Allocator + Clone> Cache<A> {
 impl<A: Allocator> Cache<A> {
     ghost use Rattle.nd_neighbour.specs.History.{Row, story};
     ghost use Rattle.nd_neighbour.specs.Story.{is_present};
-    ghost use Rattle.nd_neighbour.specs.Table.{Stands, entry_in};
+    ghost use Rattle.nd_neighbour.specs.TableKept.{Stands, entry_in};
 
     /// Returns true if a neighbour is present. `probes` counts the entries that the search looks at: at most as many as the number of
     /// neighbours has binary digits.

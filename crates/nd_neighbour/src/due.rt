@@ -3,7 +3,7 @@
 ghost use Rattle.std.specs.Prelude.{IfNone, IfSome, List, None, Some, false, if◌then◌else◌, true, vec_capacity, vec_len, ◌<◌, ◌≡◌, ◌≢◌, ◌≤◌};
 ghost use Rattle.std.specs.Option.{option_map};
 ghost use Rattle.nd_table.specs.Moment.{IsMoment};
-ghost use Rattle.nd_neighbour.specs.Due.{NoneBefore, Turns, due_in};
+ghost use Rattle.nd_neighbour.specs.DueKept.{NoneBefore, Turns, due_in};
 ghost use Rattle.nd_neighbour.specs.Planned.{IsPlanned};
 ghost use Rattle.nd_neighbour.specs.View.{falls_of};
 
@@ -31,8 +31,9 @@ pub enum Due<A: Allocator> {
 
 impl<A: Allocator> Cache<A> {
     ghost use Rattle.nd_neighbour.specs.History.{Row};
-    ghost use Rattle.nd_neighbour.specs.Table.{GainsRow, Stands};
-    ghost use Rattle.nd_neighbour.specs.Due.{FirstDue, NextDue, NoneBefore, due_row, next_in, turns_left};
+    ghost use Rattle.nd_neighbour.specs.TableKept.{GainsRow, Stands};
+    ghost use Rattle.nd_neighbour.specs.Due.{FirstDue, NextDue, due_row};
+    ghost use Rattle.nd_neighbour.specs.DueKept.{NoneBefore, next_in, turns_left};
     ghost use Rattle.nd_neighbour.specs.View.{falls_of};
 
     /// Returns the earliest moment at which something is due, in milliseconds, if there is one. It may have passed.
@@ -97,7 +98,7 @@ pub(crate) fn turn_first<A: Allocator>(
 }
 
 impl<A: Allocator> Entry<A> {
-    ghost use Rattle.nd_neighbour.specs.Due.{falls, solicited, stays};
+    ghost use Rattle.nd_neighbour.specs.DueKept.{falls, solicited, stays};
     ghost use Rattle.nd_neighbour.specs.View.{falls_of};
 
     /// Takes the next step of its solicitations and returns it, if one is left.

@@ -1,4 +1,4 @@
-//! An entry of the neighbour cache (RFC 4861, sections 5.1 and 7.3.2). The definitions are in `specs/Entry.antt`.
+//! An entry of the neighbour cache (RFC 4861, sections 5.1 and 7.3.2). The definitions are in `specs/EntryKept.antt`.
 
 ghost use Rattle.std.specs.Prelude.{is_some, ◌+◌, ◌<◌, ◌==◌, ◌^◌, ◌≡◌};
 ghost use Rattle.std.specs.Option.{option_map};
@@ -50,7 +50,7 @@ pub(crate) enum Stage<A: Allocator> {
 
 impl<A: Allocator> Model for Entry<A> {
     ghost use Rattle.nd_addr.specs.Number.{number_of};
-    ghost use Rattle.nd_neighbour.specs.Entry.{NeighbourEntry};
+    ghost use Rattle.nd_neighbour.specs.EntryKept.{NeighbourEntry};
     ghost use Rattle.nd_neighbour.specs.View.{stage_of};
 
     ghost Value = { NeighbourEntry };
@@ -59,7 +59,7 @@ impl<A: Allocator> Model for Entry<A> {
 }
 
 impl<A: Allocator> Addressed for Entry<A> {
-    ghost use Rattle.nd_neighbour.specs.Table.{address};
+    ghost use Rattle.nd_neighbour.specs.TableKept.{address};
 
     ghost key = { address };
 
@@ -69,7 +69,7 @@ impl<A: Allocator> Addressed for Entry<A> {
 }
 
 impl<A: Allocator> Dated<()> for Entry<A> {
-    ghost use Rattle.nd_neighbour.specs.Due.{date_of};
+    ghost use Rattle.nd_neighbour.specs.DueKept.{date_of};
 
     ghost date = { date_of };
 
@@ -79,7 +79,8 @@ impl<A: Allocator> Dated<()> for Entry<A> {
 }
 
 impl<A: Allocator> Entry<A> {
-    ghost use Rattle.nd_neighbour.specs.Entry.{Known, is_reachable, known_mac, stale_lifetime, waiting_in};
+    ghost use Rattle.nd_neighbour.specs.EntryKept.{Known, is_reachable, known_mac, waiting_in};
+    ghost use Rattle.nd_neighbour.specs.UnreachabilityDetection.{stale_lifetime};
 
     /// Returns the link-layer address, if it is known.
     pub(crate) fn mac(&self) -> Option<Mac>

@@ -10,12 +10,14 @@ ghost use Rattle.nd_neighbour.specs.declared.news.Times.{Times};
 ghost use Rattle.nd_neighbour.specs.News.{mac_given, news_row, released_by};
 ghost use Rattle.nd_neighbour.specs.Story.{mac_of};
 ghost use Rattle.nd_neighbour.specs.History.{Row, RowKind, Story, Waits};
-ghost use Rattle.nd_neighbour.specs.Room.{has_room};
-ghost use Rattle.nd_neighbour.specs.Entry.{NeighbourEntry};
+ghost use Rattle.nd_neighbour.specs.RoomKept.{has_room};
+ghost use Rattle.nd_neighbour.specs.EntryKept.{NeighbourEntry};
 ghost use Rattle.nd_neighbour.specs.AddressResolution.{waiting_of};
-ghost use Rattle.nd_neighbour.specs.Table.{Stands};
-ghost use Rattle.nd_neighbour.specs.Due.{Falls, FirstDue, NoneBefore, NoneOverdue};
-ghost use Rattle.nd_neighbour.specs.Place.{IsLongestStale, NoPlace, Prepares, WouldBeFull, pushing};
+ghost use Rattle.nd_neighbour.specs.TableKept.{Stands};
+ghost use Rattle.nd_neighbour.specs.Due.{Falls, FirstDue, NoneOverdue};
+ghost use Rattle.nd_neighbour.specs.DueKept.{NoneBefore};
+ghost use Rattle.nd_neighbour.specs.Place.{IsLongestStale, Prepares, WouldBeFull, pushing};
+ghost use Rattle.nd_neighbour.specs.PlaceKept.{NoPlace};
 
 /// The definitions give one table, one thing that is due first, and one neighbour that is evicted.
 pub fn one_answer()

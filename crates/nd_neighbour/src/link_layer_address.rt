@@ -3,12 +3,12 @@
 ghost use Rattle.std.specs.Prelude.{IfErr, IfOk, IsErr, OnErr, OnOk, false, length, slice_get, vec_capacity, vec_len, ◌<◌, ◌↔◌, ◌≡◌, ◌≤◌};
 ghost use Rattle.nd_addr.specs.Number.{number_of};
 ghost use Rattle.nd_table.specs.Moment.{IsMoment};
-ghost use Rattle.nd_neighbour.specs.Entry.{stale_entry};
-ghost use Rattle.nd_neighbour.specs.LinkLayerAddress.{given, mark_or};
-ghost use Rattle.nd_neighbour.specs.Table.{entry_in, Alters};
+ghost use Rattle.nd_neighbour.specs.EntryKept.{stale_entry};
+ghost use Rattle.nd_neighbour.specs.LinkLayerAddressKept.{given, mark_or};
+ghost use Rattle.nd_neighbour.specs.TableKept.{entry_in, Alters};
 ghost use Rattle.nd_neighbour.specs.Planned.{IsPlanned};
-ghost use Rattle.nd_neighbour.specs.Place.{Gives, NoPlace};
-ghost use Rattle.nd_neighbour.specs.News.{told_released, told_turned, was_known};
+ghost use Rattle.nd_neighbour.specs.PlaceKept.{Gives, NoPlace};
+ghost use Rattle.nd_neighbour.specs.NewsKept.{told_released, told_turned, was_known};
 
 use crate::entry::{Entry, STALE_LIFETIME, Stage, is_same_mac};
 use crate::news::Touched;
@@ -96,8 +96,8 @@ pub(crate) fn give<A: Allocator>(
 }
 
 impl<A: Allocator> Entry<A> {
-    ghost use Rattle.nd_neighbour.specs.Entry.{released, stale_entry};
-    ghost use Rattle.nd_neighbour.specs.LinkLayerAddress.{given};
+    ghost use Rattle.nd_neighbour.specs.EntryKept.{released, stale_entry};
+    ghost use Rattle.nd_neighbour.specs.LinkLayerAddressKept.{given};
 
     /// Takes its link-layer address from a message (RFC 4861, sections 6.2.6, 6.3.4, 7.2.3 and 8.3). Returns the packets that waited for it.
     pub(crate) fn given(&mut self, now: u64, mac: Mac, mark: Option<bool>) -> Packets<A>

@@ -4,10 +4,10 @@ ghost use Rattle.std.specs.Prelude.{[], if◌then◌else◌, vec_capacity, vec_l
 ghost use Rattle.std.specs.Option.{option_map};
 ghost use Rattle.nd_addr.specs.Number.{number_of};
 ghost use Rattle.nd_table.specs.Moment.{IsMoment};
-ghost use Rattle.nd_neighbour.specs.NeighborAdvertisement.{advertised};
-ghost use Rattle.nd_neighbour.specs.Table.{entry_in, Alters};
+ghost use Rattle.nd_neighbour.specs.NeighborAdvertisementKept.{advertised};
+ghost use Rattle.nd_neighbour.specs.TableKept.{entry_in, Alters};
 ghost use Rattle.nd_neighbour.specs.Planned.{IsPlanned};
-ghost use Rattle.nd_neighbour.specs.News.{told_released, told_turned, was_known};
+ghost use Rattle.nd_neighbour.specs.NewsKept.{told_released, told_turned, was_known};
 
 use crate::entry::{Entry, is_same_mac};
 use crate::news::{Flags, Touched};
@@ -51,8 +51,8 @@ pub(crate) fn advertise<A: Allocator>(
 }
 
 impl<A: Allocator> Entry<A> {
-    ghost use Rattle.nd_neighbour.specs.Entry.{released, waiting_in};
-    ghost use Rattle.nd_neighbour.specs.NeighborAdvertisement.{advertised, conforming};
+    ghost use Rattle.nd_neighbour.specs.EntryKept.{released, waiting_in};
+    ghost use Rattle.nd_neighbour.specs.NeighborAdvertisementKept.{advertised, conforming};
 
     /// Takes a Neighbor Advertisement for it (RFC 4861, section 7.2.5), and returns the packets that it releases. Only an INCOMPLETE entry has no
     /// address.

@@ -4,9 +4,9 @@ ghost use Rattle.std.specs.Prelude.{IfErr, IfOk, IfSome, IsErr, OnErr, OnOk, [],
 ghost use Rattle.nd_addr.specs.Bytes.{AreBytes};
 ghost use Rattle.nd_addr.specs.Number.{number_of};
 ghost use Rattle.nd_table.specs.Moment.{IsMoment};
-ghost use Rattle.nd_neighbour.specs.Entry.{with_mark};
-ghost use Rattle.nd_neighbour.specs.Table.{entry_in, Alters, Rises};
-ghost use Rattle.nd_neighbour.specs.News.{told_released, told_turned, was_known};
+ghost use Rattle.nd_neighbour.specs.EntryKept.{with_mark};
+ghost use Rattle.nd_neighbour.specs.TableKept.{entry_in, Alters, Rises};
+ghost use Rattle.nd_neighbour.specs.NewsKept.{told_released, told_turned, was_known};
 
 use crate::cache::Cache;
 use crate::entry::Entry;
@@ -125,9 +125,10 @@ impl<A: Allocator> Touched<A> {
 
 impl<A: Allocator> Cache<A> {
     ghost use Rattle.nd_neighbour.specs.Removal.{waiting_at};
-    ghost use Rattle.nd_neighbour.specs.Table.{entry_in};
-    ghost use Rattle.nd_neighbour.specs.Place.{NoPlace};
-    ghost use Rattle.nd_neighbour.specs.News.{GainsNews, Tells, lets_enter, news_key, news_row, was_known};
+    ghost use Rattle.nd_neighbour.specs.TableKept.{entry_in};
+    ghost use Rattle.nd_neighbour.specs.PlaceKept.{NoPlace};
+    ghost use Rattle.nd_neighbour.specs.News.{lets_enter, news_key, news_row};
+    ghost use Rattle.nd_neighbour.specs.NewsKept.{GainsNews, Tells, was_known};
 
     /// Takes what a message says of a neighbour (RFC 4861, sections 6.2.6, 6.3.4, 7.2.3, 7.2.5 and 8.3). Only a given address adds an entry; other
     /// news of a neighbour without an entry change nothing. Of `times` only ReachableTime counts, and only if a solicited advertisement confirms.
@@ -212,7 +213,7 @@ pub(crate) fn mark<A: Allocator>(
 }
 
 impl<A: Allocator> Entry<A> {
-    ghost use Rattle.nd_neighbour.specs.Entry.{with_mark};
+    ghost use Rattle.nd_neighbour.specs.EntryKept.{with_mark};
 
     /// Takes from a message whether it is a router.
     pub(crate) fn mark(&mut self, router: bool)

@@ -3,8 +3,8 @@
 ghost use Rattle.std.specs.Prelude.{IfSome, None, length, slice_get, true, vec_capacity, vec_len, ◌<◌, ◌≡◌, ◌≤◌};
 ghost use Rattle.nd_neighbour.specs.Planned.{IsPlanned};
 ghost use Rattle.nd_addr.specs.Number.{number_of};
-ghost use Rattle.nd_neighbour.specs.Table.{entry_in, place_in};
-ghost use Rattle.nd_neighbour.specs.Place.{Enters, Places, has_place, longer, picked, picked_stale, stalest};
+ghost use Rattle.nd_neighbour.specs.TableKept.{entry_in, place_in};
+ghost use Rattle.nd_neighbour.specs.PlaceKept.{Enters, Places, has_place, longer, picked, picked_stale, stalest};
 
 use crate::entry::{Entry, Stage};
 use nd_addr::Addr;
@@ -116,7 +116,7 @@ pub(crate) fn enter<A: Allocator>(
 }
 
 impl<A: Allocator> Entry<A> {
-    ghost use Rattle.nd_neighbour.specs.Place.{is_stale, since_of};
+    ghost use Rattle.nd_neighbour.specs.PlaceKept.{is_stale, since_of};
 
     /// Returns true if it is STALE at `now`, in milliseconds.
     pub(crate) fn is_stale(&self, now: u64) -> bool

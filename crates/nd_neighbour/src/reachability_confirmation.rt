@@ -3,9 +3,9 @@
 ghost use Rattle.std.specs.Prelude.{vec_capacity, vec_len, ◌<◌, ◌^◌, ◌≡◌};
 ghost use Rattle.nd_addr.specs.Number.{number_of};
 ghost use Rattle.nd_table.specs.Moment.{IsMoment};
-ghost use Rattle.nd_neighbour.specs.ReachabilityConfirmation.{confirmed};
+ghost use Rattle.nd_neighbour.specs.ReachabilityConfirmationKept.{confirmed};
 ghost use Rattle.nd_neighbour.specs.Planned.{IsPlanned};
-ghost use Rattle.nd_neighbour.specs.Table.{Alters};
+ghost use Rattle.nd_neighbour.specs.TableKept.{Alters};
 
 use crate::cache::Cache;
 use crate::entry::Entry;
@@ -15,7 +15,7 @@ use std::alloc::Allocator;
 
 impl<A: Allocator> Cache<A> {
     ghost use Rattle.nd_neighbour.specs.History.{Confirmed};
-    ghost use Rattle.nd_neighbour.specs.Table.{GainsRow};
+    ghost use Rattle.nd_neighbour.specs.TableKept.{GainsRow};
 
     /// Takes an upper layer's confirmation that a neighbour is reachable (RFC 4861, section 7.3.1). It is REACHABLE for `reachable` milliseconds
     /// from `now` on. If it has no entry, or an entry without a link-layer address, nothing changes.
@@ -56,7 +56,7 @@ pub(crate) fn confirm<A: Allocator>(
 }
 
 impl<A: Allocator> Entry<A> {
-    ghost use Rattle.nd_neighbour.specs.ReachabilityConfirmation.{confirmed};
+    ghost use Rattle.nd_neighbour.specs.ReachabilityConfirmationKept.{confirmed};
 
     /// Takes an upper layer's confirmation that it is reachable (RFC 4861, sections 7.3.1 and 7.3.3).
     pub(crate) fn confirm(&mut self, now: u64, reachable: u64)

@@ -3,7 +3,7 @@
 ghost use Rattle.std.specs.Prelude.{IfOk, List, OnErr, OnOk, [], length, vec_capacity, vec_len, ℕ, ◌++◌, ◌+◌, ◌≡◌, ◌≤◌};
 ghost use Rattle.nd_addr.specs.Number.{number_of};
 ghost use Rattle.nd_packet.specs.Waiting.{max_waiting};
-ghost use Rattle.nd_neighbour.specs.Table.{entry_in, Rises};
+ghost use Rattle.nd_neighbour.specs.TableKept.{entry_in, Rises};
 ghost use Rattle.nd_neighbour.specs.Planned.{IsPlanned};
 ghost use Rattle.nd_neighbour.specs.Removal.{Removes, all_waiting, waiting_at};
 
@@ -17,7 +17,7 @@ use std::alloc::{AllocError, Allocator};
 impl<A: Allocator> Cache<A> {
     ghost use Rattle.nd_neighbour.specs.History.{Forgot, Removed, Row, story};
     ghost use Rattle.nd_neighbour.specs.Story.{waits_of};
-    ghost use Rattle.nd_neighbour.specs.Table.{GainsRow, Stands, entry_in};
+    ghost use Rattle.nd_neighbour.specs.TableKept.{GainsRow, Stands, entry_in};
     ghost use Rattle.nd_neighbour.specs.Removal.{all_waiting, waiting_at};
 
     /// Removes a neighbour, if it has an entry, and returns the packets that waited for it.
@@ -50,7 +50,7 @@ impl<A: Allocator> Cache<A> {
 
 impl<A: Allocator + Clone> Cache<A> {
     ghost use Rattle.nd_neighbour.specs.History.{Row};
-    ghost use Rattle.nd_neighbour.specs.Table.{Stands};
+    ghost use Rattle.nd_neighbour.specs.TableKept.{Stands};
     ghost use Rattle.nd_neighbour.specs.Removal.{all_waiting, cleared};
 
     /// Removes all neighbours and returns the packets that waited, in the order of the addresses, the oldest first. Returns an error if out of
@@ -146,7 +146,7 @@ pub(crate) fn take_all<A: Allocator + Clone>(
 }
 
 impl<A: Allocator> Entry<A> {
-    ghost use Rattle.nd_neighbour.specs.Entry.{waiting_in};
+    ghost use Rattle.nd_neighbour.specs.EntryKept.{waiting_in};
 
     /// Returns the packets that wait at an entry that is removed. Packets wait in INCOMPLETE alone (RFC 4861, section 7.2.2).
     pub(crate) fn packets(self) -> Packets<A>

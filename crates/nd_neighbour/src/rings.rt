@@ -1,7 +1,7 @@
 //! The rings in reserve for the packets of new neighbours.
 
 ghost use Rattle.std.specs.Prelude.{IfErr, IsOk, OnErr, OnOk, length, max, vec_capacity, vec_len, ◌-◌, ◌<◌, ◌≡◌, ◌≤◌};
-ghost use Rattle.nd_neighbour.specs.Table.{max_rings};
+ghost use Rattle.nd_neighbour.specs.TableKept.{max_rings};
 
 use crate::cache::Cache;
 use crate::refusal::CacheRefusal;

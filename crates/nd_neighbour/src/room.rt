@@ -4,10 +4,10 @@ ghost use Rattle.std.specs.Prelude.{List, Some, length, not, slice_get, true, â—
 ghost use Rattle.std.specs.List.{list_any};
 ghost use Rattle.std.specs.Option.{option_map};
 ghost use Rattle.nd_addr.specs.Number.{number_of};
-ghost use Rattle.nd_neighbour.specs.Entry.{NeighbourEntry};
-ghost use Rattle.nd_neighbour.specs.Table.{Rises};
-ghost use Rattle.nd_neighbour.specs.Place.{stalest};
-ghost use Rattle.nd_neighbour.specs.Room.{has_room, place_behind, place_beside, place_without, stale_beside, stays_stale};
+ghost use Rattle.nd_neighbour.specs.EntryKept.{NeighbourEntry};
+ghost use Rattle.nd_neighbour.specs.TableKept.{Rises};
+ghost use Rattle.nd_neighbour.specs.PlaceKept.{stalest};
+ghost use Rattle.nd_neighbour.specs.RoomKept.{has_room, place_behind, place_beside, place_without, stale_beside, stays_stale};
 
 use crate::cache::Cache;
 use crate::entry::Entry;
@@ -18,7 +18,7 @@ use std::alloc::Allocator;
 
 impl<A: Allocator> Cache<A> {
     ghost use Rattle.nd_neighbour.specs.History.{Row};
-    ghost use Rattle.nd_neighbour.specs.Table.{Stands};
+    ghost use Rattle.nd_neighbour.specs.TableKept.{Stands};
     ghost use Rattle.nd_neighbour.specs.Room.{HasRoom};
 
     /// Returns true if there is room for a neighbour, which may be new, and after a use of it for a second one: neither would be refused as `Full`.

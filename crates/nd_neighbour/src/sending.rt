@@ -3,9 +3,9 @@
 ghost use Rattle.std.specs.Prelude.{IfErr, IfOk, List, None, OnErr, OnOk, Some, if◌then◌else◌, is_some, length, slice_get, vec_capacity, vec_len, ◌-◌, ◌<◌, ◌↔◌, ◌≡◌};
 ghost use Rattle.nd_addr.specs.Number.{number_of};
 ghost use Rattle.nd_table.specs.Moment.{IsMoment};
-ghost use Rattle.nd_neighbour.specs.Table.{entry_in, Alters};
+ghost use Rattle.nd_neighbour.specs.TableKept.{entry_in, Alters};
 ghost use Rattle.nd_neighbour.specs.Planned.{IsPlanned};
-ghost use Rattle.nd_neighbour.specs.Sending.{used, sending_in};
+ghost use Rattle.nd_neighbour.specs.SendingKept.{used, sending_in};
 ghost use Rattle.nd_neighbour.specs.View.{sending_of};
 
 use crate::address_resolution::begin;
@@ -37,10 +37,11 @@ pub enum Use<A: Allocator> {
 
 impl<A: Allocator + Clone> Cache<A> {
     ghost use Rattle.nd_neighbour.specs.History.{Row, story};
-    ghost use Rattle.nd_neighbour.specs.Table.{Stands, entry_in};
-    ghost use Rattle.nd_neighbour.specs.Place.{NoPlace};
-    ghost use Rattle.nd_neighbour.specs.Sending.{GainsPacket, refusal_of, sending_in, sending_of_story};
-    ghost use Rattle.nd_neighbour.specs.Room.{LeavesRoom};
+    ghost use Rattle.nd_neighbour.specs.TableKept.{Stands, entry_in};
+    ghost use Rattle.nd_neighbour.specs.PlaceKept.{NoPlace};
+    ghost use Rattle.nd_neighbour.specs.Sending.{refusal_of, sending_of_story};
+    ghost use Rattle.nd_neighbour.specs.SendingKept.{GainsPacket, sending_in};
+    ghost use Rattle.nd_neighbour.specs.RoomKept.{LeavesRoom};
     ghost use Rattle.nd_neighbour.specs.View.{sending_of};
 
     /// Returns what becomes of a packet for a neighbour (RFC 4861, sections 7.2.2 and 7.3.3): it can be sent, or it waits until the link-layer
@@ -144,7 +145,7 @@ pub(crate) fn pass<A: Allocator>(
 }
 
 impl<A: Allocator> Entry<A> {
-    ghost use Rattle.nd_neighbour.specs.Sending.{sending_to, used};
+    ghost use Rattle.nd_neighbour.specs.SendingKept.{sending_to, used};
     ghost use Rattle.nd_neighbour.specs.View.{sending_of};
 
     /// Takes a packet to send to it (RFC 4861, sections 7.2.2 and 7.3.3).

@@ -3,8 +3,8 @@
 ghost use Rattle.std.specs.Prelude.{List, map, ◌≡◌};
 ghost use Rattle.std.specs.Option.{option_map};
 ghost use Rattle.nd_addr.specs.Number.{number_of};
-ghost use Rattle.nd_neighbour.specs.Table.{entry_in, Rises};
-ghost use Rattle.nd_neighbour.specs.Shown.{seen};
+ghost use Rattle.nd_neighbour.specs.TableKept.{entry_in, Rises};
+ghost use Rattle.nd_neighbour.specs.ShownKept.{seen};
 ghost use Rattle.nd_neighbour.specs.View.{seen_in};
 
 use crate::cache::Cache;
@@ -41,8 +41,9 @@ pub enum Reachability {
 
 impl<A: Allocator> Cache<A> {
     ghost use Rattle.nd_neighbour.specs.History.{Row, story};
-    ghost use Rattle.nd_neighbour.specs.Table.{Stands, entry_in};
-    ghost use Rattle.nd_neighbour.specs.Shown.{seen, seen_of};
+    ghost use Rattle.nd_neighbour.specs.TableKept.{Stands, entry_in};
+    ghost use Rattle.nd_neighbour.specs.Shown.{seen_of};
+    ghost use Rattle.nd_neighbour.specs.ShownKept.{seen};
     ghost use Rattle.nd_neighbour.specs.View.{seen_in};
 
     /// Returns a neighbour as it is at `now`, in milliseconds, if there is an entry for it (RFC 4861, sections 5.1 and 7.3.2).
@@ -56,8 +57,9 @@ impl<A: Allocator> Cache<A> {
 
 impl<A: Allocator> Cache<A> {
     ghost use Rattle.nd_neighbour.specs.History.{Row};
-    ghost use Rattle.nd_neighbour.specs.Table.{Stands};
-    ghost use Rattle.nd_neighbour.specs.Shown.{Lists, seen};
+    ghost use Rattle.nd_neighbour.specs.TableKept.{Stands};
+    ghost use Rattle.nd_neighbour.specs.Shown.{Lists};
+    ghost use Rattle.nd_neighbour.specs.ShownKept.{seen};
     ghost use Rattle.nd_neighbour.specs.Left.{neighbours_left};
 
     /// Returns all neighbours as they are at `now`, in milliseconds, in the order of their addresses (RFC 4861, sections 5.1 and 7.3.2). It
@@ -78,7 +80,7 @@ pub struct Neighbours<'a, A: Allocator> {
 }
 
 impl<'a, A: Allocator> Neighbours<'a, A> {
-    ghost use Rattle.nd_neighbour.specs.Shown.{seen};
+    ghost use Rattle.nd_neighbour.specs.ShownKept.{seen};
     ghost use Rattle.nd_neighbour.specs.Left.{neighbours_left};
 
     /// Returns the neighbours of all entries, as they are at a moment, in milliseconds.
@@ -122,7 +124,7 @@ pub(crate) fn show<A: Allocator>(entries: &[Entry<A>], now: u64, addr: Addr) -> 
 }
 
 impl<A: Allocator> Entry<A> {
-    ghost use Rattle.nd_neighbour.specs.Shown.{seen, state_in};
+    ghost use Rattle.nd_neighbour.specs.ShownKept.{seen, state_in};
     ghost use Rattle.nd_neighbour.specs.View.{seen_in};
 
     /// Returns what is shown of it at `now`, in milliseconds (RFC 4861, section 7.3.2).

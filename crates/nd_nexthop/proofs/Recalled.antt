@@ -10,7 +10,8 @@ use Rattle.nd_nexthop.specs.Choice.{Table, Agrees, Stands, target_in}
 use Rattle.nd_nexthop.specs.DefaultRouter.{DefaultRouter}
 use Rattle.nd_nexthop.specs.History.{RedirectRow, kept}
 use Rattle.nd_nexthop.specs.Memo.{Memory, is_asked}
-use Rattle.nd_nexthop.specs.NextHop.{NextHop, hop, hop_of}
+use Rattle.nd_nexthop.specs.NextHop.{NextHop, hop}
+use Rattle.nd_nexthop.specs.NextHopKept.{hop_of}
 use Rattle.nd_nexthop.specs.declared.next_hop.Hop.{Hop}
 use Rattle.nd_nexthop.proofs.Places.{look_remembered}
 

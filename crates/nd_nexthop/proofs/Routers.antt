@@ -6,7 +6,8 @@ use Rattle.std.proofs.lemmas.Bool.Decides.{nat_tests}
 use Rattle.nd_addr.specs.Preference.{is_preferred, place_of}
 use Rattle.nd_addr.specs.declared.preference.Preference.{Preference}
 use Rattle.nd_addr.specs.declared.preference.Preference.TheVariants.{High, Medium, Low}
-use Rattle.nd_nexthop.specs.DefaultRouter.{AllLater, AllLessPreferred, DefaultRouter, NoneBefore, NonePreferred, NoneUsable, best, better, better_of, chosen_router, comes_before, failed_before, is_less_recent}
+use Rattle.nd_nexthop.specs.DefaultRouter.{AllLater, AllLessPreferred, DefaultRouter, NoneBefore, NonePreferred, NoneUsable, best, better, chosen_router, comes_before, failed_before, is_less_recent}
+use Rattle.nd_nexthop.specs.DefaultRouterKept.{better_of}
 
 -- ---- the order of routers, by a number for each
 

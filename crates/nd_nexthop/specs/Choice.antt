@@ -1,6 +1,6 @@
 -- What a choice of next hops is to the history that it stands for.
 use Rattle.std.specs.Prelude.{◌≡◌, ℕ, Bool, true, ◌==◌, if◌then◌else◌, List, [], ◌∷◌, ◌++◌, Option, Some, None}
-use Rattle.nd_table.specs.History as growing
+use Rattle.nd_table.specs.HistoryKept as growing
 use Rattle.nd_nexthop.specs.DefaultRouter.{DefaultRouter}
 use Rattle.nd_nexthop.specs.History.{RedirectRow, remembered}
 use Rattle.nd_nexthop.specs.Memo.{Memory, AreHops, is_asked}

@@ -1,9 +1,7 @@
 -- Which default router is chosen (RFC 4861, section 6.3.6; RFC 4191, section 3.2).
 use Rattle.std.specs.Prelude.{◌≡◌, ℕ, Bool, true, false, nat_lt, if◌then◌else◌, List, [], ◌∷◌, Option, Some, None, option_map}
-use Rattle.nd_addr.specs.Number.{number_of}
 use Rattle.nd_addr.specs.Preference.{is_preferred}
 use Rattle.nd_addr.specs.declared.preference.Preference.{Preference}
-use Rattle.nd_nexthop.specs.declared.default_router.Candidate.{Candidate}
 
 -- What the choice knows of a default router: its address as a number; whether it is reachable or probably reachable, so in any state
 -- other than INCOMPLETE; how it is preferred; and if it failed since it came into the list, its place among those that did, the oldest
@@ -13,10 +11,6 @@ pub record DefaultRouter : Type 0 where
   pub usable : Bool
   pub preference : Preference
   pub failed : Option ℕ
-
--- the same of a candidate
-abbrev pub router_of : Candidate → DefaultRouter
-router_of c = record { key = number_of c.addr.0; usable = c.usable; preference = c.preference; failed = c.failed }
 
 -- the first failed before the second; one that never failed stands before all that did
 abbrev pub failed_before : Option ℕ → Option ℕ → Bool
@@ -42,11 +36,6 @@ comes_before a b =
 abbrev pub better : DefaultRouter → Option DefaultRouter → DefaultRouter
 better r None = r
 better r (Some s) = if comes_before s r then s else r
-
--- the same of a router that may be missing and one behind it
-abbrev pub better_of : Option DefaultRouter → DefaultRouter → DefaultRouter
-better_of None s = s
-better_of (Some r) s = better r (Some s)
 
 -- of a list the router that comes before all others, the first of the list where several do
 abbrev pub best : List DefaultRouter → Option DefaultRouter

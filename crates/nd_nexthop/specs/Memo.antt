@@ -3,7 +3,8 @@ use Rattle.std.specs.Prelude.{◌≡◌, ℕ, Bool, true, nat_le, List, [], Opti
 use Rattle.nd_addr.specs.Number.{addr_at}
 use Rattle.nd_nexthop.specs.DefaultRouter.{DefaultRouter}
 use Rattle.nd_nexthop.specs.declared.next_hop.Hop.{Hop}
-use Rattle.nd_nexthop.specs.NextHop.{hop_of, hop}
+use Rattle.nd_nexthop.specs.NextHop.{hop}
+use Rattle.nd_nexthop.specs.NextHopKept.{hop_of}
 
 -- how many destinations have their next hops remembered (our choice)
 abbrev pub max_remembered : ℕ

@@ -3,20 +3,12 @@ use Rattle.std.specs.Prelude.{ℕ, Bool, ◌||◌, ◌==◌, if◌then◌else◌
 use Rattle.nd_addr.specs.Kind.{multicast_prefix, unspecified_address, loopback_address}
 use Rattle.nd_addr.specs.Number.{number_of, holds}
 use Rattle.nd_nexthop.specs.DefaultRouter.{DefaultRouter, chosen_router}
-use Rattle.nd_nexthop.specs.declared.next_hop.Hop.{Hop}
-use Rattle.nd_nexthop.specs.declared.next_hop.Hop.TheVariants.{Direct, Via, NoRoute}
 
 -- a packet goes to its destination itself, or to the node whose address is this number, or nowhere
 pub data NextHop : Type 0 where
   direct : NextHop
   via : ℕ → NextHop
   no_route : NextHop
-
--- the same of an answer
-abbrev pub hop_of : Hop → NextHop
-hop_of Direct = direct
-hop_of (Via a) = via (number_of a.0)
-hop_of NoRoute = no_route
 
 -- "If the Target and Destination Addresses are the same, the host MUST treat the Target as on-link" (section 8.3)
 abbrev pub by_redirect : ℕ → ℕ → NextHop

@@ -2,7 +2,8 @@
 
 ghost use Rattle.std.specs.Prelude.{◌≡◌, ◌<◌, Some, length, slice_get, option_map};
 ghost use Rattle.nd_addr.specs.Number.{number_of};
-ghost use Rattle.nd_nexthop.specs.DefaultRouter.{router_of, failed_before, better_of, comes_before, is_less_recent, chosen_router};
+ghost use Rattle.nd_nexthop.specs.DefaultRouter.{failed_before, comes_before, is_less_recent, chosen_router};
+ghost use Rattle.nd_nexthop.specs.DefaultRouterKept.{router_of, better_of};
 
 use crate::view::View;
 use nd_addr::{Addr, Preference};

@@ -2,7 +2,8 @@
 
 ghost use Rattle.std.specs.Prelude.{◌≡◌, ◌⊎◌, ℕ, List, Contains, option_map, true};
 ghost use Rattle.nd_addr.specs.Number.{number_of};
-ghost use Rattle.nd_nexthop.specs.NextHop.{hop_of, hop, by_redirect, is_own_or_none};
+ghost use Rattle.nd_nexthop.specs.NextHop.{hop, by_redirect, is_own_or_none};
+ghost use Rattle.nd_nexthop.specs.NextHopKept.{hop_of};
 ghost use Rattle.nd_nexthop.specs.DefaultRouter.{chosen_router};
 ghost use Rattle.nd_nexthop.specs.History.{RedirectRow, kept};
 

@@ -1,7 +1,8 @@
 //! What the choice of next hops sees of a node.
 
 ghost use Rattle.std.specs.Prelude.{◌≡◌, ℕ, Bool, List, length, slice_get, option_map};
-ghost use Rattle.nd_nexthop.specs.DefaultRouter.{DefaultRouter, router_of};
+ghost use Rattle.nd_nexthop.specs.DefaultRouter.{DefaultRouter};
+ghost use Rattle.nd_nexthop.specs.DefaultRouterKept.{router_of};
 
 use crate::default_router::Candidate;
 use nd_addr::Addr;

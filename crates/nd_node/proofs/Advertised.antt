@@ -14,32 +14,32 @@ use Rattle.nd_addr.specs.Same.{same_prefix}
 use Rattle.nd_decode.specs.Option.{Said}
 use Rattle.nd_decode.specs.declared.prefix_info.PrefixInfo.{PrefixInfo}
 use Rattle.nd_decode.specs.declared.router_advertisement.RouterAdvertisement.{RouterAdvertisement}
-use Rattle.nd_table.specs.Due.{NotBefore}
+use Rattle.nd_table.specs.DueKept.{NotBefore}
 use Rattle.nd_table.specs.Ends.{is_before}
 use Rattle.nd_table.specs.Announcements as lifetimes
-use Rattle.nd_table.specs.Listing as lists
+use Rattle.nd_table.specs.ListingKept as lists
 use Rattle.nd_table.specs.Listing.{then_announced}
 use Rattle.nd_params.specs.History as parameter_rows
 use Rattle.nd_params.specs.ReachableTime.{last_draw, redraw_after}
-use Rattle.nd_params.specs.Params as parameters
+use Rattle.nd_params.specs.ParamsKept as parameters
 use Rattle.nd_params.specs.Params.{redraws}
 use Rattle.nd_neighbour.specs.History as neighbour_rows
-use Rattle.nd_neighbour.specs.Due as neighbour_dates
-use Rattle.nd_neighbour.specs.Table as cache
+use Rattle.nd_neighbour.specs.DueKept as neighbour_dates
+use Rattle.nd_neighbour.specs.TableKept as cache
 use Rattle.nd_routers.specs.History as router_rows
 use Rattle.nd_routers.specs.History.{announcements}
-use Rattle.nd_routers.specs.Routers as router_list
+use Rattle.nd_routers.specs.RoutersKept as router_list
 use Rattle.nd_routers.specs.Routers.{same}
 use Rattle.nd_routers.specs.OnLinkPrefixes as on_link
 use Rattle.nd_slaac.specs.History as address_rows
 use Rattle.nd_slaac.specs.History.{Lifetimes}
 use Rattle.nd_slaac.specs.Due as address_due
 use Rattle.nd_slaac.specs.Dates as address_dates
-use Rattle.nd_slaac.specs.Address.{Address}
-use Rattle.nd_slaac.specs.Table as addresses
+use Rattle.nd_slaac.specs.AddressKept.{Address}
+use Rattle.nd_slaac.specs.TableKept as addresses
 use Rattle.nd_slaac.specs.State.{is_known}
 use Rattle.nd_slaac.specs.PrefixOption.{is_taken, named_by, lifetimes_of, prefixes_in}
-use Rattle.nd_dns.specs.Dns as known
+use Rattle.nd_dns.specs.DnsKept as known
 use Rattle.nd_dns.specs.AnnouncedNames.{names_told}
 use Rattle.nd_dns.specs.AnnouncedServers.{servers_told}
 use Rattle.nd_nexthop.specs.History as redirect_rows
@@ -79,7 +79,7 @@ use Rattle.nd_steps.proofs.Quiet.{Quiet}
 use Rattle.nd_steps.proofs.Saying.{OneGoes, OverdueByTable, NoneOverdueStill, Placed, placed_by, none_before_said, releasing_is_quiet, releasing_items, released_kept}
 use Rattle.nd_steps.proofs.Telling.{Tells-then}
 use Rattle.nd_node.specs.declared.node.Node.{Node}
-use Rattle.nd_node.specs.Node.{Stands, next_of}
+use Rattle.nd_node.specs.NodeKept.{Stands, next_of}
 use Rattle.nd_node.specs.RouterAdvertisement.{advertised, Advertises, TakesAdvertisement}
 use Rattle.nd_node.proofs.Turns.{all_later, addresses_before, neighbours_before, solicitation_before, advertisement_before, redraw_before}
 

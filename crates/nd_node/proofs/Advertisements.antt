@@ -15,18 +15,19 @@ use Rattle.nd_neighbour.specs.declared.news.Flags.{Flags}
 use Rattle.nd_neighbour.specs.declared.news.News.{News}
 use Rattle.nd_neighbour.specs.declared.news.News.TheVariants as news
 use Rattle.nd_neighbour.specs.declared.news.Times.{Times}
-use Rattle.nd_neighbour.specs.Entry as neighbour_entries
+use Rattle.nd_neighbour.specs.EntryKept as neighbour_entries
 use Rattle.nd_neighbour.specs.History as rows
-use Rattle.nd_neighbour.specs.Table as neighbours
+use Rattle.nd_neighbour.specs.TableKept as neighbours
 use Rattle.nd_routers.specs.History.{announcements}
-use Rattle.nd_routers.specs.Routers as routers
-use Rattle.nd_routers.specs.Routers.{same, IsSettled}
+use Rattle.nd_routers.specs.RoutersKept as routers
+use Rattle.nd_routers.specs.Routers.{same}
+use Rattle.nd_routers.specs.RoutersKept.{IsSettled}
 use Rattle.nd_nexthop.specs.Choice as choice
-use Rattle.nd_slaac.specs.Address as own
+use Rattle.nd_slaac.specs.AddressKept as own
 use Rattle.nd_slaac.specs.Dates as address_dates
 use Rattle.nd_slaac.specs.Due as address_due
 use Rattle.nd_slaac.specs.History as address_rows
-use Rattle.nd_slaac.specs.Table as addresses
+use Rattle.nd_slaac.specs.TableKept as addresses
 use Rattle.nd_chronicle.specs.Happening.{Chronicle, Heard, Passed, last_moment}
 use Rattle.nd_chronicle.specs.Histories.{neighbour_history, router_history, address_history, redirect_history, said_of_neighbour, advertised_by}
 use Rattle.nd_chronicle.specs.InForce.{reachable_time}
@@ -48,7 +49,7 @@ use Rattle.nd_chronicle.specs.Answer.{Done}
 use Rattle.nd_chronicle.proofs.Answering.{message_done}
 use Rattle.nd_node.specs.declared.node.Node.{Node}
 use Rattle.nd_node.specs.Hearing.{AddsMessage}
-use Rattle.nd_node.specs.Node.{next_of}
+use Rattle.nd_node.specs.NodeKept.{next_of}
 use Rattle.nd_nexthop.specs.Memo.{forgotten}
 use Rattle.nd_steps.specs.DestinationCache.{MayRemember}
 use Rattle.nd_node.proofs.Recalling.{Recalls, forgot_redirects, may_redirects, own_same, recalls_advertised, redirects_stand}

@@ -15,13 +15,14 @@ use Rattle.nd_decode.specs.declared.neighbor_solicitation.NeighborSolicitation.{
 use Rattle.nd_neighbour.specs.declared.news.News.{News}
 use Rattle.nd_neighbour.specs.declared.news.News.TheVariants as news
 use Rattle.nd_neighbour.specs.declared.news.Times.{Times}
-use Rattle.nd_neighbour.specs.Entry as neighbour_entries
+use Rattle.nd_neighbour.specs.EntryKept as neighbour_entries
 use Rattle.nd_neighbour.specs.History as rows
 use Rattle.nd_neighbour.specs.News.{news_key, lets_enter}
-use Rattle.nd_neighbour.specs.Place.{NoPlace, WouldBeFull, has_place}
-use Rattle.nd_neighbour.specs.Room.{has_room}
-use Rattle.nd_neighbour.specs.Table as neighbours
-use Rattle.nd_neighbour.specs.Table.{entry_in}
+use Rattle.nd_neighbour.specs.Place.{WouldBeFull}
+use Rattle.nd_neighbour.specs.PlaceKept.{NoPlace, has_place}
+use Rattle.nd_neighbour.specs.RoomKept.{has_room}
+use Rattle.nd_neighbour.specs.TableKept as neighbours
+use Rattle.nd_neighbour.specs.TableKept.{entry_in}
 use Rattle.nd_params.specs.ReachableTime.{reachable_of}
 use Rattle.nd_compose.specs.Frames.{answer_frame}
 use Rattle.nd_chronicle.specs.Start.{Start}
@@ -47,7 +48,7 @@ use Rattle.nd_steps.proofs.Telling.{handed_out, Tells-then}
 use Rattle.nd_chronicle.specs.Answer as answers
 use Rattle.nd_chronicle.proofs.Answering.{goes_done}
 use Rattle.nd_node.specs.declared.node.Node.{Node}
-use Rattle.nd_node.specs.Node.{Stands, next_of}
+use Rattle.nd_node.specs.NodeKept.{Stands, next_of}
 use Rattle.nd_node.specs.Packet.{PacketGoes}
 use Rattle.nd_node.specs.Time.{Leads}
 use Rattle.nd_node.specs.Hearing.{AddsMessage}

@@ -5,14 +5,14 @@ use Rattle.rand_core.specs.Stream.{Stream}
 use Rattle.nd_addr.specs.declared.role.Role.{Role}
 use Rattle.nd_addr.specs.declared.role.Role.TheVariants.{Host, Router}
 use Rattle.nd_addr.specs.Same.{same_prefix}
-use Rattle.nd_table.specs.Due.{NotBefore}
-use Rattle.nd_table.specs.Listing as lists
-use Rattle.nd_neighbour.specs.Table as neighbours
-use Rattle.nd_slaac.specs.Table as addresses
+use Rattle.nd_table.specs.DueKept.{NotBefore}
+use Rattle.nd_table.specs.ListingKept as lists
+use Rattle.nd_neighbour.specs.TableKept as neighbours
+use Rattle.nd_slaac.specs.TableKept as addresses
 use Rattle.nd_slaac.specs.Calls.{formed}
-use Rattle.nd_routers.specs.Routers as routers
-use Rattle.nd_params.specs.Params as parameters
-use Rattle.nd_dns.specs.Dns as dns
+use Rattle.nd_routers.specs.RoutersKept as routers
+use Rattle.nd_params.specs.ParamsKept as parameters
+use Rattle.nd_dns.specs.DnsKept as dns
 use Rattle.nd_nexthop.specs.Choice as choice
 use Rattle.nd_chronicle.specs.Start.{Start, link_local_key}
 use Rattle.nd_chronicle.specs.Histories.{parameter_history, address_history}
@@ -21,7 +21,7 @@ use Rattle.nd_chronicle.specs.Generator.{stream_left}
 use Rattle.nd_chronicle.specs.History.{beginning}
 use Rattle.nd_steps.specs.SolicitRouters.{Solicitations, next_solicitation}
 use Rattle.nd_node.specs.declared.node.Node.{Node}
-use Rattle.nd_node.specs.Node.{Stands}
+use Rattle.nd_node.specs.NodeKept.{Stands}
 use Rattle.nd_steps.proofs.Remembering.{remembers_nothing}
 use Rattle.nd_node.proofs.Turns.{all_later}
 

@@ -2,11 +2,11 @@
 use Rattle.std.proofs.Common.{◌≡◌, ℕ, ◌≤◌, ◌∷◌, List, refl, sym, ◌∙◌, ap, subst, arith}
 use Rattle.rand_core.specs.Stream.{Stream}
 use Rattle.nd_neighbour.specs.History.{RowKind}
-use Rattle.nd_neighbour.specs.Table as neighbours
-use Rattle.nd_neighbour.specs.Due as neighbour_dates
+use Rattle.nd_neighbour.specs.TableKept as neighbours
+use Rattle.nd_neighbour.specs.DueKept as neighbour_dates
 use Rattle.nd_routers.specs.History.{RouterRow}
 use Rattle.nd_nexthop.specs.History.{RedirectRow}
-use Rattle.nd_slaac.specs.Table as addresses
+use Rattle.nd_slaac.specs.TableKept as addresses
 use Rattle.nd_slaac.specs.Dates as address_dates
 use Rattle.nd_chronicle.specs.Start.{Start, link_local_key}
 use Rattle.nd_chronicle.specs.Happening.{Chronicle, Neighbour, Sent, last_moment}
@@ -17,7 +17,7 @@ use Rattle.nd_steps.specs.RouterTables.{router_side}
 use Rattle.nd_steps.proofs.Quiet.{Quiet}
 use Rattle.nd_steps.proofs.RouterSide.{side_stands}
 use Rattle.nd_node.specs.declared.node.Node.{Node}
-use Rattle.nd_node.specs.Node.{Stands, next_of}
+use Rattle.nd_node.specs.NodeKept.{Stands, next_of}
 use Rattle.nd_nexthop.specs.Choice.{Table}
 use Rattle.nd_nexthop.specs.Memo.{forgotten}
 use Rattle.nd_steps.specs.DestinationCache.{MayRemember}

@@ -8,16 +8,16 @@ use Rattle.nd_addr.specs.Prefix.{PrefixValue}
 use Rattle.nd_addr.specs.Same.{same_prefix}
 use Rattle.nd_table.specs.declared.lasting.Lasting.{Lasting}
 use Rattle.nd_table.specs.Announcements as lifetimes
-use Rattle.nd_table.specs.Listing as lists
-use Rattle.nd_dns.specs.Dns as dns
-use Rattle.nd_neighbour.specs.Entry as neighbour_entries
-use Rattle.nd_neighbour.specs.Entry.{waiting_in}
+use Rattle.nd_table.specs.ListingKept as lists
+use Rattle.nd_dns.specs.DnsKept as dns
+use Rattle.nd_neighbour.specs.EntryKept as neighbour_entries
+use Rattle.nd_neighbour.specs.EntryKept.{waiting_in}
 use Rattle.nd_neighbour.specs.History as rows
 use Rattle.nd_neighbour.specs.Removal.{all_waiting, cleared}
-use Rattle.nd_neighbour.specs.Table as neighbours
+use Rattle.nd_neighbour.specs.TableKept as neighbours
 use Rattle.nd_routers.specs.History as router_rows
-use Rattle.nd_routers.specs.Routers as routers
-use Rattle.nd_routers.specs.Routers.{keys, then_left}
+use Rattle.nd_routers.specs.RoutersKept as routers
+use Rattle.nd_routers.specs.RoutersKept.{keys, then_left}
 use Rattle.nd_nexthop.specs.History as redirect_rows
 use Rattle.nd_nexthop.specs.History.{RedirectRow, destinations, max_redirects, remembered, since, target_left, target_of, unless_ended}
 use Rattle.nd_nexthop.specs.Choice as choice
@@ -38,8 +38,8 @@ use Rattle.nd_steps.proofs.Telling.{lost_at, lost_items, left_at, numbers}
 use Rattle.nd_chronicle.specs.Answer.{Done}
 use Rattle.nd_chronicle.proofs.Answering.{clearing_done}
 use Rattle.nd_node.specs.declared.node.Node.{Node}
-use Rattle.nd_node.specs.Event.{AddsEvent}
-use Rattle.nd_node.specs.Node.{Stands, next_of}
+use Rattle.nd_node.specs.EventKept.{AddsEvent}
+use Rattle.nd_node.specs.NodeKept.{Stands, next_of}
 use Rattle.nd_nexthop.specs.Memo.{forgotten}
 use Rattle.nd_steps.specs.DestinationCache.{MayRemember, Remembers}
 use Rattle.nd_steps.proofs.Remembering.{remembers_later, remembers_nothing}

@@ -7,7 +7,7 @@ use Rattle.nd_addr.specs.Number.{number_of}
 use Rattle.nd_neighbour.specs.History as rows
 use Rattle.nd_neighbour.specs.History.{story}
 use Rattle.nd_neighbour.specs.Story.{waits_of}
-use Rattle.nd_neighbour.specs.Table as neighbours
+use Rattle.nd_neighbour.specs.TableKept as neighbours
 use Rattle.nd_routers.specs.History.{RouterRow}
 use Rattle.nd_nexthop.specs.History.{RedirectRow}
 use Rattle.nd_chronicle.specs.Start.{Start}
@@ -25,8 +25,8 @@ use Rattle.nd_steps.proofs.Telling.{lost_at, lost_items}
 use Rattle.nd_chronicle.specs.Answer.{Done}
 use Rattle.nd_chronicle.proofs.Answering.{losing_done}
 use Rattle.nd_node.specs.declared.node.Node.{Node}
-use Rattle.nd_node.specs.Event.{AddsEvent}
-use Rattle.nd_node.specs.Node.{Stands, next_of}
+use Rattle.nd_node.specs.EventKept.{AddsEvent}
+use Rattle.nd_node.specs.NodeKept.{Stands, next_of}
 use Rattle.nd_steps.specs.DestinationCache.{MayRemember}
 use Rattle.nd_node.proofs.Beside.{Same, beside_neighbour, stands_neighbours}
 use Rattle.nd_node.proofs.Quiet.{stands_quiet}

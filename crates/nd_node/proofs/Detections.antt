@@ -9,11 +9,11 @@ use Rattle.nd_decode.specs.Message.{Parts}
 use Rattle.nd_decode.specs.Option.{Said}
 use Rattle.nd_decode.specs.declared.body.Body.TheVariants as bodies
 use Rattle.nd_decode.specs.declared.neighbor_solicitation.NeighborSolicitation.{NeighborSolicitation}
-use Rattle.nd_slaac.specs.Address as own
+use Rattle.nd_slaac.specs.AddressKept as own
 use Rattle.nd_slaac.specs.History as rows
 use Rattle.nd_slaac.specs.History.{story}
 use Rattle.nd_slaac.specs.State as states
-use Rattle.nd_slaac.specs.Table as addresses
+use Rattle.nd_slaac.specs.TableKept as addresses
 use Rattle.nd_slaac.specs.Due.{NoneOverdue}
 use Rattle.nd_slaac.specs.Dates.{NoneBefore}
 use Rattle.nd_compose.specs.Frames.{defence_frame}
@@ -34,7 +34,7 @@ use Rattle.nd_steps.proofs.Quiet.{Quiet, sent_is_quiet}
 use Rattle.nd_steps.proofs.Telling.{handed_out}
 use Rattle.nd_chronicle.specs.Answer.{Done}
 use Rattle.nd_node.specs.declared.node.Node.{Node}
-use Rattle.nd_node.specs.Node.{Stands, next_of}
+use Rattle.nd_node.specs.NodeKept.{Stands, next_of}
 use Rattle.nd_node.specs.Hearing.{AddsMessage}
 use Rattle.nd_nexthop.specs.Memo.{forgotten}
 use Rattle.nd_node.proofs.Beside.{Beside, Same, stands_addresses}

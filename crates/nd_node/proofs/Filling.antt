@@ -27,7 +27,7 @@ use Rattle.nd_chronicle.specs.Happening.{Chronicle, last_moment}
 use Rattle.nd_chronicle.specs.Histories.{router_history, prefix_history, server_history, name_history}
 use Rattle.nd_chronicle.specs.Full.{first_full, needs, Placed, AdvertisementFills}
 use Rattle.nd_node.specs.declared.node.Node.{Node}
-use Rattle.nd_node.specs.Node.{Stands}
+use Rattle.nd_node.specs.NodeKept.{Stands}
 use Rattle.nd_node.specs.RouterAdvertisement.{advertised}
 
 -- the first table without room, those before it having room

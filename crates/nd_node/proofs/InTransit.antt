@@ -11,12 +11,13 @@ use Rattle.nd_addr.specs.Ip6.{PacketParts, ipv6_header_length, payload_length_of
 use Rattle.nd_addr.specs.Places.{packet_in, parts_in}
 use Rattle.nd_addr.specs.Number.{addr_at, number_of}
 use Rattle.nd_compose.specs.Frames.{open_mac}
-use Rattle.nd_neighbour.specs.Entry as neighbour_entries
+use Rattle.nd_neighbour.specs.EntryKept as neighbour_entries
 use Rattle.nd_neighbour.specs.History as rows
-use Rattle.nd_neighbour.specs.Place.{has_place}
-use Rattle.nd_neighbour.specs.Room.{HasRoom, LeavesRoom, has_first, has_room, has_second}
-use Rattle.nd_neighbour.specs.Table as neighbours
-use Rattle.nd_neighbour.specs.Table.{entry_in}
+use Rattle.nd_neighbour.specs.PlaceKept.{has_place}
+use Rattle.nd_neighbour.specs.Room.{HasRoom}
+use Rattle.nd_neighbour.specs.RoomKept.{LeavesRoom, has_first, has_room, has_second}
+use Rattle.nd_neighbour.specs.TableKept as neighbours
+use Rattle.nd_neighbour.specs.TableKept.{entry_in}
 use Rattle.nd_nexthop.specs.NextHop.{NextHop}
 use Rattle.nd_forwarding.specs.Forward.{Fate, lost_no_route, lost_hop_limit, sent, fate}
 use Rattle.nd_forwarding.specs.History as route_rows
@@ -42,7 +43,7 @@ use Rattle.nd_node.specs.declared.node.Node.{Node}
 use Rattle.nd_node.specs.Forwarding.{AddsForwarded, AddsLostInTransit, AddsOnward, AddsSentOn}
 use Rattle.nd_node.specs.Frame.{AddsAlone}
 use Rattle.nd_node.specs.Hearing.{Keeps}
-use Rattle.nd_node.specs.Node.{Stands, next_of}
+use Rattle.nd_node.specs.NodeKept.{Stands, next_of}
 use Rattle.nd_node.specs.OutgoingPacket.{AddsToNeighbour}
 use Rattle.nd_node.specs.Packet.{PacketGoes}
 use Rattle.nd_node.specs.Time.{Leads}

@@ -31,11 +31,11 @@ use Rattle.nd_steps.proofs.Quiet.{Quiet}
 use Rattle.nd_steps.proofs.Telling.{above_silent, one_more}
 use Rattle.nd_chronicle.specs.Answer.{Answer, Done}
 use Rattle.nd_node.specs.declared.node.Node.{Node}
-use Rattle.nd_node.specs.Event.{AddsEvent}
+use Rattle.nd_node.specs.EventKept.{AddsEvent}
 use Rattle.nd_node.specs.Forwarding.{AddsForwarded}
 use Rattle.nd_node.specs.Frame.{AddsAlone, AddsJudged, Stays}
 use Rattle.nd_node.specs.Hearing.{AddsMessage, Keeps}
-use Rattle.nd_node.specs.Node.{Stands, next_of}
+use Rattle.nd_node.specs.NodeKept.{Stands, next_of}
 use Rattle.nd_node.proofs.Quiet.{stands_quiet}
 use Rattle.nd_node.proofs.Steps.{passed}
 

@@ -7,18 +7,17 @@ use Rattle.nd_addr.specs.Number.{number_of}
 use Rattle.nd_decode.specs.Message.{Parts}
 use Rattle.nd_decode.specs.declared.body.Body.TheVariants as bodies
 use Rattle.nd_decode.specs.declared.router_advertisement.RouterAdvertisement.{RouterAdvertisement}
-use Rattle.nd_validity.specs.Hearing.{Outcome, Hears, valid}
+use Rattle.nd_validity.specs.Hearing.{Outcome, Hears, valid, other}
 use Rattle.nd_neighbour.specs.declared.news.News.{News}
 use Rattle.nd_neighbour.specs.declared.news.Times.{Times}
-use Rattle.nd_neighbour.specs.Entry as neighbour_entries
+use Rattle.nd_neighbour.specs.EntryKept as neighbour_entries
 use Rattle.nd_neighbour.specs.History as rows
 use Rattle.nd_neighbour.specs.News.{news_key}
 use Rattle.nd_neighbour.specs.Removal.{waiting_at}
-use Rattle.nd_neighbour.specs.Table.{entry_in}
+use Rattle.nd_neighbour.specs.TableKept.{entry_in}
 use Rattle.nd_addr.specs.declared.role.Role.{Role}
 use Rattle.nd_addr.specs.declared.why.Why.{Why}
 use Rattle.nd_addr.specs.Ip6.{PacketParts}
-use Rattle.nd_validity.specs.Hearing.{other}
 use Rattle.nd_chronicle.specs.Start.{Start}
 use Rattle.nd_chronicle.specs.Happening.{Chronicle}
 use Rattle.nd_chronicle.specs.Hearing.{IsForUs, IsInTransit, IsPacketForUs, IsHeard, Judges, IsStrange, IsMisdirected, IsStrangePacket, NotFromFirstHop, drops}

@@ -1,7 +1,7 @@
 -- The earliest of some moments, and what isn't due before it.
 use Rattle.std.proofs.Common.{◌≡◌, ℕ, ◌<◌, ◌≤◌, List, Option, Some, None, ap, arith, ⊎_elim}
 use Rattle.std.proofs.lemmas.Bool.{cases_lt}
-use Rattle.nd_table.specs.Due.{NotBefore}
+use Rattle.nd_table.specs.DueKept.{NotBefore}
 use Rattle.nd_neighbour.specs.History as neighbours
 use Rattle.nd_neighbour.specs.Due as neighbours_due
 use Rattle.nd_slaac.specs.History as addresses
@@ -9,7 +9,7 @@ use Rattle.nd_slaac.specs.Due as addresses_due
 use Rattle.nd_routers.specs.History as routers
 use Rattle.nd_routers.specs.Due as routers_due
 use Rattle.nd_node.specs.Moments.{earlier}
-use Rattle.nd_node.specs.Node.{earliest}
+use Rattle.nd_node.specs.NodeKept.{earliest}
 
 pub earlier_from : (now : ℕ) (o : Option ℕ) (n : ℕ) → NotBefore now o → now ≤ n → now ≤ earlier o n
 earlier_from now None n h k = k

@@ -13,18 +13,18 @@ use Rattle.nd_table.specs.Listing.{Lists, open_at}
 use Rattle.nd_table.proofs.Behind.{open_all}
 use Rattle.nd_table.proofs.Finding.{Has, Has-head, Has-tail}
 use Rattle.nd_table.proofs.Steps.{lists_at}
-use Rattle.nd_neighbour.specs.Entry.{NeighbourEntry}
+use Rattle.nd_neighbour.specs.EntryKept.{NeighbourEntry}
 use Rattle.nd_neighbour.specs.History as neighbour_rows
 use Rattle.nd_neighbour.specs.Story.{mac_of}
-use Rattle.nd_neighbour.specs.Table as neighbours
-use Rattle.nd_neighbour.specs.Due as neighbour_dates
+use Rattle.nd_neighbour.specs.TableKept as neighbours
+use Rattle.nd_neighbour.specs.DueKept as neighbour_dates
 use Rattle.nd_slaac.specs.Dates as address_dates
 use Rattle.nd_params.specs.ReachableTime.{redraw_after}
 use Rattle.nd_routers.specs.History.{announcements, preference_of}
 use Rattle.nd_routers.specs.Preferences.{preference_among}
 use Rattle.nd_routers.specs.OnLink.{is_held}
 use Rattle.nd_routers.specs.RouterFailures.{place_among}
-use Rattle.nd_routers.specs.Routers as routers
+use Rattle.nd_routers.specs.RoutersKept as routers
 use Rattle.nd_routers.specs.Routers.{same}
 use Rattle.nd_routers.proofs.Preferring.{found_among}
 use Rattle.nd_routers.proofs.Settled.{open_each}
@@ -38,7 +38,7 @@ use Rattle.nd_forwarding.specs.Routes.{routes}
 use Rattle.nd_forwarding.specs.Table as routing
 use Rattle.nd_slaac.specs.declared.destination.Counted.TheVariants.{Own}
 use Rattle.nd_slaac.specs.Destination.{counted_in}
-use Rattle.nd_slaac.specs.Table.{address_in}
+use Rattle.nd_slaac.specs.TableKept.{address_in}
 use Rattle.nd_slaac.proofs.Destinations.{counted_by_history}
 use Rattle.rand_core.specs.Stream.{Stream}
 use Rattle.nd_chronicle.specs.Start.{Start}
@@ -55,7 +55,7 @@ use Rattle.nd_nexthop.specs.Choice as choice
 use Rattle.nd_node.proofs.Recalling.{Recalls}
 use Rattle.nd_node.specs.declared.node.Node as nodes
 use Rattle.nd_node.specs.Moments.{earlier}
-use Rattle.nd_node.specs.Node.{Stands, next_of}
+use Rattle.nd_node.specs.NodeKept.{Stands, next_of}
 
 -- ---- a router in any state other than INCOMPLETE
 

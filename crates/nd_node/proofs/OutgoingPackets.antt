@@ -10,7 +10,7 @@ use Rattle.nd_addr.specs.Kind.{multicast_mac_of, multicast_prefix}
 use Rattle.nd_addr.specs.Number.{holds, number_of}
 use Rattle.nd_compose.specs.Frames.{multicast_mac, open_mac}
 use Rattle.nd_neighbour.specs.Place.{WouldBeFull}
-use Rattle.nd_neighbour.specs.Room.{has_room}
+use Rattle.nd_neighbour.specs.RoomKept.{has_room}
 use Rattle.nd_nexthop.specs.NextHop.{NextHop, direct, no_route}
 use Rattle.nd_chronicle.specs.Start.{Start}
 use Rattle.nd_chronicle.specs.Happening.{Chronicle, Passed, Refused, Refusal, Full, Neighbours, Loss, Lost, NoRoute, Sent, last_moment}
@@ -29,10 +29,10 @@ use Rattle.nd_steps.proofs.Telling.{Tells-then}
 use Rattle.nd_chronicle.specs.Answer as answers
 use Rattle.nd_chronicle.proofs.Answering.{goes_done}
 use Rattle.nd_node.specs.declared.node.Node.{Node}
-use Rattle.nd_node.specs.Event.{AddsEvent}
+use Rattle.nd_node.specs.EventKept.{AddsEvent}
 use Rattle.nd_node.specs.Frame.{AddsAlone}
 use Rattle.nd_node.specs.Hearing.{Keeps}
-use Rattle.nd_node.specs.Node.{Stands, next_of}
+use Rattle.nd_node.specs.NodeKept.{Stands, next_of}
 use Rattle.nd_node.specs.OutgoingPacket.{AddsPacket, AddsToNeighbour}
 use Rattle.nd_node.specs.Packet.{PacketGoes}
 use Rattle.nd_node.specs.Time.{Leads}

@@ -12,11 +12,13 @@ use Rattle.nd_neighbour.specs.History as rows
 use Rattle.nd_neighbour.specs.History.{story}
 use Rattle.nd_neighbour.specs.AddressResolution.{waiting_of}
 use Rattle.nd_neighbour.specs.Story.{is_present, mac_of}
-use Rattle.nd_neighbour.specs.Table as neighbours
-use Rattle.nd_neighbour.specs.Due.{NoneBefore, NoneOverdue}
+use Rattle.nd_neighbour.specs.TableKept as neighbours
+use Rattle.nd_neighbour.specs.Due.{NoneOverdue}
+use Rattle.nd_neighbour.specs.DueKept.{NoneBefore}
 use Rattle.nd_neighbour.specs.Place.{Prepares, pushing}
 use Rattle.nd_neighbour.specs.Sending as sendings
-use Rattle.nd_neighbour.specs.Sending.{GainsPacket, Sending, Sends, Queues, sending_by, sending_of_story}
+use Rattle.nd_neighbour.specs.Sending.{Sending, Sends, Queues, sending_by, sending_of_story}
+use Rattle.nd_neighbour.specs.SendingKept.{GainsPacket}
 use Rattle.nd_packet.specs.Waiting.{max_waiting}
 use Rattle.nd_slaac.specs.PrefixOption.{link_local_of}
 use Rattle.nd_compose.specs.Frames.{resolution_frame}
@@ -34,7 +36,7 @@ use Rattle.nd_steps.proofs.Quiet.{losing_is_quiet}
 use Rattle.nd_steps.proofs.Saying.{NoneOverdueStill, OneGoes, OverdueByTable, pushed_history}
 use Rattle.nd_steps.proofs.Telling.{one}
 use Rattle.nd_node.specs.declared.node.Node.{Node}
-use Rattle.nd_node.specs.Node.{Stands, next_of}
+use Rattle.nd_node.specs.NodeKept.{Stands, next_of}
 use Rattle.nd_node.specs.Packet.{PacketGoes}
 use Rattle.nd_node.specs.Time.{Leads}
 use Rattle.nd_node.proofs.Beside.{Beside, Same, beside_neighbour, beside_quiet, beside_sent, beside_then, stands_neighbours}

@@ -18,13 +18,13 @@ use Rattle.nd_decode.specs.declared.redirect.Redirect.{Redirect}
 use Rattle.nd_neighbour.specs.declared.news.News.{News}
 use Rattle.nd_neighbour.specs.declared.news.Times.{Times}
 use Rattle.nd_neighbour.specs.History as rows
-use Rattle.nd_neighbour.specs.Table as neighbours
+use Rattle.nd_neighbour.specs.TableKept as neighbours
 use Rattle.nd_params.specs.ReachableTime.{reachable_of}
-use Rattle.nd_routers.specs.Routers as routers
+use Rattle.nd_routers.specs.RoutersKept as routers
 use Rattle.nd_nexthop.specs.History as redirect_rows
 use Rattle.nd_nexthop.specs.Choice as choice
 use Rattle.nd_forwarding.specs.History as route_rows
-use Rattle.nd_slaac.specs.Table as addresses
+use Rattle.nd_slaac.specs.TableKept as addresses
 use Rattle.nd_chronicle.specs.Start.{Start}
 use Rattle.nd_chronicle.specs.Happening.{Chronicle, Drew, ForAnswer, Heard, Passed, Planned, Refused, Full, Limit, Neighbours, last_moment}
 use Rattle.nd_chronicle.specs.Histories.{advertising_history, neighbour_history, router_history, redirect_history, said_of_neighbour, then_neighbour, then_redirect}
@@ -50,7 +50,7 @@ use Rattle.nd_chronicle.specs.Answer as answers
 use Rattle.nd_chronicle.proofs.Answering.{message_done}
 use Rattle.nd_node.specs.declared.node.Node.{Node}
 use Rattle.nd_node.specs.Hearing.{AddsMessage}
-use Rattle.nd_node.specs.Node.{Stands, next_of}
+use Rattle.nd_node.specs.NodeKept.{Stands, next_of}
 use Rattle.nd_node.specs.Frame.{AddsAlone}
 use Rattle.nd_node.proofs.Quiet.{stands_quiet}
 use Rattle.nd_node.proofs.RouterRows.{DrawsDelay, PlansAnswer, aside, aside_same, aside_then, stands_advertising, stands_aside}

@@ -6,7 +6,7 @@ use Rattle.nd_chronicle.specs.Happening.{Chronicle, Refusal, Refused, last_momen
 use Rattle.nd_steps.proofs.Quiet.{Quiet}
 use Rattle.nd_steps.proofs.RouterSide.{side_stands}
 use Rattle.nd_node.specs.declared.node.Node.{Node}
-use Rattle.nd_node.specs.Node.{Stands}
+use Rattle.nd_node.specs.NodeKept.{Stands}
 
 -- a node stands for the one where it stands for the other
 pub stands_quiet : {R A : Type 0} (stream : R → Stream) (start : Start) (node : Node R A) (c d : Chronicle) → Quiet c d → Stands stream start node c → Stands stream start node d

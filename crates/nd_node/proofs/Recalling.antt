@@ -4,18 +4,18 @@ use Rattle.std.specs.Prelude.{◌&&◌, ◌||◌, not, ◌==◌, if◌then◌els
 use Rattle.std.proofs.lemmas.Bool.{cond-true, cond-false}
 use Rattle.nd_addr.specs.Prefix.{PrefixValue}
 use Rattle.nd_table.specs.declared.lasting.Lasting.{Lasting}
-use Rattle.nd_neighbour.specs.Entry as neighbour_entries
+use Rattle.nd_neighbour.specs.EntryKept as neighbour_entries
 use Rattle.nd_neighbour.specs.History as neighbour_rows
-use Rattle.nd_neighbour.specs.Table as neighbours
-use Rattle.nd_neighbour.specs.Table.{entry_in}
-use Rattle.nd_slaac.specs.Address.{Address}
+use Rattle.nd_neighbour.specs.TableKept as neighbours
+use Rattle.nd_neighbour.specs.TableKept.{entry_in}
+use Rattle.nd_slaac.specs.AddressKept.{Address}
 use Rattle.nd_slaac.specs.History as address_rows
 use Rattle.nd_slaac.specs.History.{story}
 use Rattle.nd_slaac.specs.State.{has_conflict, is_known, was_assigned}
 use Rattle.nd_slaac.specs.declared.destination.Counted.TheVariants.{Own}
 use Rattle.nd_slaac.specs.Destination.{counted_in, counts}
-use Rattle.nd_slaac.specs.Table as addresses
-use Rattle.nd_slaac.specs.Table.{address_in}
+use Rattle.nd_slaac.specs.TableKept as addresses
+use Rattle.nd_slaac.specs.TableKept.{address_in}
 use Rattle.nd_slaac.proofs.Destinations.{counted_by_history}
 use Rattle.nd_nexthop.specs.Choice as choice
 use Rattle.nd_nexthop.specs.Choice.{Table}

@@ -8,13 +8,13 @@ use Rattle.nd_addr.specs.declared.preference.Preference.{Preference}
 use Rattle.nd_decode.specs.declared.prefix_info.PrefixInfo.{PrefixInfo}
 use Rattle.nd_table.specs.Listing.{open_at}
 use Rattle.nd_neighbour.specs.History as neighbour_rows
-use Rattle.nd_neighbour.specs.Entry as neighbour_entries
-use Rattle.nd_neighbour.specs.Table as neighbours
-use Rattle.nd_neighbour.specs.Table.{entry_in}
+use Rattle.nd_neighbour.specs.EntryKept as neighbour_entries
+use Rattle.nd_neighbour.specs.TableKept as neighbours
+use Rattle.nd_neighbour.specs.TableKept.{entry_in}
 use Rattle.nd_routers.specs.RouterFailures.{place_among}
 use Rattle.nd_routers.specs.Preferences.{preference_among}
-use Rattle.nd_routers.specs.Routers as routers
-use Rattle.nd_slaac.specs.Address.{Address, address_of}
+use Rattle.nd_routers.specs.RoutersKept as routers
+use Rattle.nd_slaac.specs.AddressKept.{Address, address_of}
 use Rattle.nd_slaac.specs.Calls.{keys_in}
 use Rattle.nd_slaac.specs.History as address_rows
 use Rattle.nd_slaac.specs.History.{story}
@@ -23,7 +23,7 @@ use Rattle.nd_slaac.specs.Room.{is_among, would_form}
 use Rattle.nd_slaac.specs.State.{Forming, forming_of, is_known}
 use Rattle.nd_slaac.specs.declared.destination.Counted.TheVariants.{Own}
 use Rattle.nd_slaac.specs.Destination.{counts}
-use Rattle.nd_slaac.specs.Table as addresses
+use Rattle.nd_slaac.specs.TableKept as addresses
 use Rattle.nd_nexthop.specs.Choice.{Table, target_in}
 use Rattle.nd_nexthop.specs.DefaultRouter.{DefaultRouter}
 use Rattle.nd_nexthop.specs.Memo.{is_asked}

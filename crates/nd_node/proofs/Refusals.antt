@@ -14,7 +14,8 @@ use Rattle.nd_decode.specs.declared.prefix_info.PrefixInfo.{PrefixInfo}
 use Rattle.nd_neighbour.specs.History as rows
 use Rattle.nd_neighbour.specs.History.{RowKind, story}
 use Rattle.nd_neighbour.specs.News.{released_by}
-use Rattle.nd_neighbour.specs.Room.{has_room, HasRoom}
+use Rattle.nd_neighbour.specs.Room.{HasRoom}
+use Rattle.nd_neighbour.specs.RoomKept.{has_room}
 use Rattle.nd_neighbour.specs.Sending.{Sending, Sends, Queues, sending_of_story}
 use Rattle.nd_neighbour.specs.Story.{mac_of, waits_of}
 use Rattle.nd_slaac.specs.PrefixOption.{is_taken, lifetimes_of, named_by, prefixes_in}
@@ -54,11 +55,11 @@ use Rattle.nd_node.proofs.InTransit.{SaysRoom}
 use Rattle.nd_node.proofs.TakenOrRefused.{fills_later}
 use Rattle.nd_chronicle.proofs.Events.{one_full}
 use Rattle.nd_node.specs.RouterAdvertisement.{advertised}
-use Rattle.nd_neighbour.specs.Entry as neighbour_entries
-use Rattle.nd_neighbour.specs.Entry.{waiting_in}
+use Rattle.nd_neighbour.specs.EntryKept as neighbour_entries
+use Rattle.nd_neighbour.specs.EntryKept.{waiting_in}
 use Rattle.nd_node.specs.declared.node.Node.{Node}
 use Rattle.nd_node.specs.Memory.{AddsRefusal}
-use Rattle.nd_node.specs.Node.{Stands}
+use Rattle.nd_node.specs.NodeKept.{Stands}
 use Rattle.nd_node.proofs.Asking.{FullByHistory, RoomIsPlace, has_place_for}
 
 -- ---- the newest row

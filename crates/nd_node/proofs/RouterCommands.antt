@@ -39,8 +39,8 @@ use Rattle.nd_steps.proofs.Quiet.{Quiet, quiet_same, sent_is_quiet}
 use Rattle.nd_steps.proofs.Telling.{one}
 use Rattle.nd_chronicle.specs.Answer.{Done, answer_after}
 use Rattle.nd_node.specs.declared.node.Node.{Node}
-use Rattle.nd_node.specs.Event.{AddsEvent}
-use Rattle.nd_node.specs.Node.{next_of}
+use Rattle.nd_node.specs.EventKept.{AddsEvent}
+use Rattle.nd_node.specs.NodeKept.{next_of}
 use Rattle.nd_node.proofs.Quiet.{stands_quiet}
 use Rattle.nd_node.proofs.RouterRows.{Ceases, Configures, Offers, PutsRoute, aside, stands_advertising, stands_routes}
 use Rattle.nd_node.proofs.Steps.{passed}

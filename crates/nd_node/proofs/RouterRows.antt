@@ -1,7 +1,7 @@
 -- Rows of what only a router has, and the chronicle that a node stands for.
 use Rattle.std.proofs.Common.{◌≡◌, ℕ, ◌∷◌, refl, sym, ◌∙◌}
 use Rattle.rand_core.specs.Stream.{Stream}
-use Rattle.nd_table.specs.Due.{NotBefore}
+use Rattle.nd_table.specs.DueKept.{NotBefore}
 use Rattle.nd_addr.specs.Prefix.{PrefixValue}
 use Rattle.nd_advertiser.specs.Config.{Settings}
 use Rattle.nd_advertiser.specs.History as advertising_rows
@@ -21,7 +21,7 @@ use Rattle.nd_steps.specs.RouterTables.{next_advertisement}
 use Rattle.nd_steps.specs.declared.router_tables.RouterTables.{RouterTables}
 use Rattle.nd_steps.proofs.RouterSide.{later_row, stands_row}
 use Rattle.nd_node.specs.declared.node.Node.{Node}
-use Rattle.nd_node.specs.Node.{Stands}
+use Rattle.nd_node.specs.NodeKept.{Stands}
 use Rattle.nd_node.proofs.Turns.{advertisement_before, all_later, addresses_before, neighbours_before, redraw_before, routers_before, solicitation_before}
 
 -- what happened between the two concerns none of the tables that a host has, and no time passed

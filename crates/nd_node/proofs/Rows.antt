@@ -13,7 +13,7 @@ use Rattle.nd_chronicle.specs.Happening.{Chronicle, last_moment}
 use Rattle.nd_chronicle.specs.Shown.{Table, AreRows, advertise_rows, offer_row, on_text}
 use Rattle.nd_out.specs.Advertised.{advertise_rows_of}
 use Rattle.nd_node.specs.declared.node.Node.{Node}
-use Rattle.nd_node.specs.Node.{Stands}
+use Rattle.nd_node.specs.NodeKept.{Stands}
 
 module _ {R A V E : Type 0} (stream : R → Stream) (node : Node R A) (now : ℕ) (shown table : Table) (same : shown ≡ table) (bytes : V → List (List ℕ)) where
   -- texts that are the rows of a node's chronicle are those of the table that is shown

@@ -3,13 +3,13 @@
 use Rattle.std.proofs.Common.{◌≡◌, ℕ, ◌≤◌, Option, Some, None, sym, ◌∙◌, ap, arith}
 use Rattle.std.specs.Prelude.{IsTrue}
 use Rattle.rand_core.specs.Stream.{Stream}
-use Rattle.nd_table.specs.Due.{NotBefore}
+use Rattle.nd_table.specs.DueKept.{NotBefore}
 use Rattle.nd_table.specs.Ends.{is_before}
-use Rattle.nd_neighbour.specs.Table as neighbours
-use Rattle.nd_neighbour.specs.Due as neighbour_dates
-use Rattle.nd_routers.specs.Routers as routers
+use Rattle.nd_neighbour.specs.TableKept as neighbours
+use Rattle.nd_neighbour.specs.DueKept as neighbour_dates
+use Rattle.nd_routers.specs.RoutersKept as routers
 use Rattle.nd_nexthop.specs.Choice as choice
-use Rattle.nd_slaac.specs.Table as addresses
+use Rattle.nd_slaac.specs.TableKept as addresses
 use Rattle.nd_slaac.specs.Dates as address_dates
 use Rattle.nd_chronicle.specs.Start.{Start, link_local_key}
 use Rattle.nd_chronicle.specs.Happening.{Chronicle, last_moment}
@@ -20,7 +20,7 @@ use Rattle.nd_steps.specs.RouterTables.{router_side}
 use Rattle.nd_steps.proofs.Quiet.{Quiet}
 use Rattle.nd_steps.proofs.RouterSide.{side_stands}
 use Rattle.nd_node.specs.declared.node.Node.{Node}
-use Rattle.nd_node.specs.Node.{Stands, next_of}
+use Rattle.nd_node.specs.NodeKept.{Stands, next_of}
 use Rattle.nd_node.proofs.Recalling.{Recalls}
 use Rattle.nd_node.proofs.Turns.{all_later, solicitation_before, advertisement_before, redraw_before}
 

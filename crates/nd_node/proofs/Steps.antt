@@ -21,9 +21,10 @@ use Rattle.nd_steps.proofs.Remembering.{remembers_later}
 use Rattle.nd_steps.proofs.RouterSide.{side_stands}
 use Rattle.nd_steps.proofs.Telling.{one, above_silent, Tells-then, one_more}
 use Rattle.nd_node.specs.declared.node.Node.{Node}
-use Rattle.nd_node.specs.Node.{Stands, next_of}
+use Rattle.nd_node.specs.NodeKept.{Stands, next_of}
 use Rattle.nd_node.specs.Time.{Leads, Passes}
-use Rattle.nd_node.specs.Event.{AddsEvent, FollowsBy}
+use Rattle.nd_node.specs.Event.{FollowsBy}
+use Rattle.nd_node.specs.EventKept.{AddsEvent}
 use Rattle.nd_node.proofs.Quiet.{stands_quiet}
 use Rattle.nd_node.proofs.Walks.{last_of}
 

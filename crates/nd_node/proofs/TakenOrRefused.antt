@@ -9,7 +9,7 @@ use Rattle.nd_decode.specs.declared.router_advertisement.RouterAdvertisement.{Ro
 use Rattle.nd_neighbour.specs.declared.news.News.{News}
 use Rattle.nd_neighbour.specs.declared.news.Times.{Times}
 use Rattle.nd_neighbour.specs.History.{RowKind}
-use Rattle.nd_neighbour.specs.Table as cache
+use Rattle.nd_neighbour.specs.TableKept as cache
 use Rattle.nd_chronicle.specs.Start.{Start}
 use Rattle.nd_chronicle.specs.Happening as happenings
 use Rattle.nd_chronicle.specs.Happening.{Chronicle, Happening, Passed, Heard, Refused, Full, last_moment}
@@ -28,7 +28,7 @@ use Rattle.nd_chronicle.specs.Answer as answers
 use Rattle.nd_chronicle.proofs.Answering.{message_done}
 use Rattle.nd_node.specs.declared.node.Node.{Node}
 use Rattle.nd_node.specs.Hearing.{AddsMessage}
-use Rattle.nd_node.specs.Node.{Stands}
+use Rattle.nd_node.specs.NodeKept.{Stands}
 use Rattle.nd_node.specs.RouterAdvertisement.{advertised, TakesAdvertisement}
 use Rattle.nd_node.specs.Frame.{AddsAlone}
 

@@ -4,20 +4,21 @@ use Rattle.std.specs.Prelude.{◌==◌, ◌≢◌, nat_lt, not, ◌&&◌, if◌t
 use Rattle.std.specs.Option.{option_map}
 use Rattle.rand_core.specs.Stream.{Stream, next_u32}
 use Rattle.nd_addr.specs.declared.role.Role.{Role}
-use Rattle.nd_table.specs.Due.{NotBefore}
+use Rattle.nd_table.specs.DueKept.{NotBefore}
 use Rattle.nd_neighbour.specs.History as neighbour_rows
-use Rattle.nd_neighbour.specs.Table as neighbours
+use Rattle.nd_neighbour.specs.TableKept as neighbours
 use Rattle.nd_neighbour.specs.Due as neighbours_due
+use Rattle.nd_neighbour.specs.DueKept as kept_neighbours_due
 use Rattle.nd_slaac.specs.History as address_rows
-use Rattle.nd_slaac.specs.Table as addresses
+use Rattle.nd_slaac.specs.TableKept as addresses
 use Rattle.nd_slaac.specs.Due as addresses_due
 use Rattle.nd_slaac.specs.Dates as address_dates
 use Rattle.nd_routers.specs.History as router_rows
 use Rattle.nd_routers.specs.Due as routers_due
-use Rattle.nd_routers.specs.Routers as routers
+use Rattle.nd_routers.specs.RoutersKept as routers
 use Rattle.nd_params.specs.History as parameter_rows
 use Rattle.nd_params.specs.ReachableTime.{redraw_after}
-use Rattle.nd_params.specs.Params as parameters
+use Rattle.nd_params.specs.ParamsKept as parameters
 use Rattle.nd_nexthop.specs.History as redirect_rows
 use Rattle.nd_advertiser.proofs.ByRows.{settings_are}
 use Rattle.nd_advertiser.specs.Advertising.{advertised_by}
@@ -42,15 +43,15 @@ use Rattle.nd_nexthop.specs.Memo.{forgotten}
 use Rattle.nd_neighbour.specs.Story.{mac_of}
 use Rattle.nd_slaac.specs.declared.destination.Counted.TheVariants.{Own}
 use Rattle.nd_slaac.specs.Destination.{counts}
-use Rattle.nd_steps.specs.DestinationCache.{Remembering}
+use Rattle.nd_steps.specs.DestinationCache.{Remembering, ends}
 use Rattle.nd_steps.proofs.Resolved.{gains_as_resolved}
 use Rattle.nd_node.proofs.Recalling.{Recalls, forgets_all, keeps, own_by, own_row, redirects_stand}
 use Rattle.nd_steps.proofs.RouterSide.{advertisement_date, later_row, side_stands, stands_address, stands_row}
 use Rattle.nd_steps.proofs.Quiet.{sent_is_quiet, losing_is_quiet}
 use Rattle.nd_node.specs.declared.node.Node.{Node}
 use Rattle.nd_node.specs.Moments.{earlier}
-use Rattle.nd_steps.specs.DestinationCache.{ends}
-use Rattle.nd_node.specs.Node.{Stands, NextDue, next_of}
+use Rattle.nd_node.specs.Node.{NextDue}
+use Rattle.nd_node.specs.NodeKept.{Stands, next_of}
 use Rattle.nd_node.proofs.Moments.{no_router, no_address, no_neighbour, none_at, before_second, none_before, before_routers, before_addresses, before_neighbours, before_solicitation, before_advertisement, before_redraw, at_redraw, earlier_at}
 use Rattle.nd_node.proofs.Quiet.{stands_quiet}
 
@@ -58,31 +59,31 @@ use Rattle.nd_node.proofs.Quiet.{stands_quiet}
 
 module _ {R A : Type 0} (node : Node R A) (now : ℕ) where
   -- nothing is due at a node before the moment
-  pub all_later : routers.NoneBefore node.routers.entries now → address_dates.NoneBefore node.addresses.addresses now → neighbours_due.NoneBefore node.neighbours.entries now
+  pub all_later : routers.NoneBefore node.routers.entries now → address_dates.NoneBefore node.addresses.addresses now → kept_neighbours_due.NoneBefore node.neighbours.entries now
       → NotBefore now (next_solicitation node.role node.solicitations) → NotBefore now (next_advertisement node.role node.router) → now ≤ node.params.drawn_at + redraw_after → now ≤ next_of node
   all_later r a n s v d =
-      none_before now (routers.next_end node.routers.entries) (address_dates.next_in node.addresses.addresses) (neighbours_due.next_in node.neighbours.entries)
+      none_before now (routers.next_end node.routers.entries) (address_dates.next_in node.addresses.addresses) (kept_neighbours_due.next_in node.neighbours.entries)
       (next_solicitation node.role node.solicitations) (next_advertisement node.role node.router) (node.params.drawn_at + redraw_after) r a n s v d
 
 -- the dates of a node at which something is due, or of which nothing was due before
 module _ {R A : Type 0} (node : Node R A) (now : ℕ) (h : now ≤ next_of node) where
   pub routers_before : routers.NoneBefore node.routers.entries now
-  routers_before = before_routers now (routers.next_end node.routers.entries) (address_dates.next_in node.addresses.addresses) (neighbours_due.next_in node.neighbours.entries) (next_solicitation node.role node.solicitations) (next_advertisement node.role node.router) (node.params.drawn_at + redraw_after) h
+  routers_before = before_routers now (routers.next_end node.routers.entries) (address_dates.next_in node.addresses.addresses) (kept_neighbours_due.next_in node.neighbours.entries) (next_solicitation node.role node.solicitations) (next_advertisement node.role node.router) (node.params.drawn_at + redraw_after) h
 
   pub addresses_before : address_dates.NoneBefore node.addresses.addresses now
-  addresses_before = before_addresses now (routers.next_end node.routers.entries) (address_dates.next_in node.addresses.addresses) (neighbours_due.next_in node.neighbours.entries) (next_solicitation node.role node.solicitations) (next_advertisement node.role node.router) (node.params.drawn_at + redraw_after) h
+  addresses_before = before_addresses now (routers.next_end node.routers.entries) (address_dates.next_in node.addresses.addresses) (kept_neighbours_due.next_in node.neighbours.entries) (next_solicitation node.role node.solicitations) (next_advertisement node.role node.router) (node.params.drawn_at + redraw_after) h
 
-  pub neighbours_before : neighbours_due.NoneBefore node.neighbours.entries now
-  neighbours_before = before_neighbours now (routers.next_end node.routers.entries) (address_dates.next_in node.addresses.addresses) (neighbours_due.next_in node.neighbours.entries) (next_solicitation node.role node.solicitations) (next_advertisement node.role node.router) (node.params.drawn_at + redraw_after) h
+  pub neighbours_before : kept_neighbours_due.NoneBefore node.neighbours.entries now
+  neighbours_before = before_neighbours now (routers.next_end node.routers.entries) (address_dates.next_in node.addresses.addresses) (kept_neighbours_due.next_in node.neighbours.entries) (next_solicitation node.role node.solicitations) (next_advertisement node.role node.router) (node.params.drawn_at + redraw_after) h
 
   pub solicitation_before : NotBefore now (next_solicitation node.role node.solicitations)
-  solicitation_before = before_solicitation now (routers.next_end node.routers.entries) (address_dates.next_in node.addresses.addresses) (neighbours_due.next_in node.neighbours.entries) (next_solicitation node.role node.solicitations) (next_advertisement node.role node.router) (node.params.drawn_at + redraw_after) h
+  solicitation_before = before_solicitation now (routers.next_end node.routers.entries) (address_dates.next_in node.addresses.addresses) (kept_neighbours_due.next_in node.neighbours.entries) (next_solicitation node.role node.solicitations) (next_advertisement node.role node.router) (node.params.drawn_at + redraw_after) h
 
   pub advertisement_before : NotBefore now (next_advertisement node.role node.router)
-  advertisement_before = before_advertisement now (routers.next_end node.routers.entries) (address_dates.next_in node.addresses.addresses) (neighbours_due.next_in node.neighbours.entries) (next_solicitation node.role node.solicitations) (next_advertisement node.role node.router) (node.params.drawn_at + redraw_after) h
+  advertisement_before = before_advertisement now (routers.next_end node.routers.entries) (address_dates.next_in node.addresses.addresses) (kept_neighbours_due.next_in node.neighbours.entries) (next_solicitation node.role node.solicitations) (next_advertisement node.role node.router) (node.params.drawn_at + redraw_after) h
 
   pub redraw_before : now ≤ node.params.drawn_at + redraw_after
-  redraw_before = before_redraw now (routers.next_end node.routers.entries) (address_dates.next_in node.addresses.addresses) (neighbours_due.next_in node.neighbours.entries) (next_solicitation node.role node.solicitations) (next_advertisement node.role node.router) (node.params.drawn_at + redraw_after) h
+  redraw_before = before_redraw now (routers.next_end node.routers.entries) (address_dates.next_in node.addresses.addresses) (kept_neighbours_due.next_in node.neighbours.entries) (next_solicitation node.role node.solicitations) (next_advertisement node.role node.router) (node.params.drawn_at + redraw_after) h
 
 -- ---- Router Solicitations
 
@@ -254,7 +255,7 @@ module _ {R A : Type 0} (stream : R → Stream) (start : Start) (old new : Node 
   -- a row of a neighbour
   neighbour_row : (key : ℕ) (kind : neighbour_rows.RowKind) (mid : routers.Table) → mid.entries ≡ old.routers.entries → new.routers.entries ≡ mid.entries
       → routers.Stands new.routers (then_failed now key kind (router_history c)) → choice.Stands new.choice (then_target now key kind (redirect_history c))
-      → neighbours.GainsRow old.neighbours.entries new.neighbours.entries (now, key, kind) → neighbours_due.NoneBefore new.neighbours.entries now
+      → neighbours.GainsRow old.neighbours.entries new.neighbours.entries (now, key, kind) → kept_neighbours_due.NoneBefore new.neighbours.entries now
       → Recalls now new → new.addresses ≡ old.addresses → new.params ≡ old.params → new.solicitations ≡ old.solicitations → new.router ≡ old.router → stream new.generator ≡ stream old.generator
       → Stands stream start new ((now, Neighbour key kind) ∷ c)
   neighbour_row key kind mid mid_is entries routers' redirects' gains later recalls addresses' params' solicitations' side generator =
@@ -273,7 +274,7 @@ module _ {R A : Type 0} (stream : R → Stream) (start : Start) (old new : Node 
 
   -- a neighbour is asked once more, or is gone
   pub neighbour_fell : (falls : neighbours_due.Falls) (mid : routers.Table) (kept : choice.Table) → mid ≡ old.routers → kept ≡ old.choice → Notes now falls mid new.routers kept new.choice → new.routers.entries ≡ mid.entries → Remembering falls kept new.choice mid new.routers
-      → new.addresses ≡ old.addresses → neighbours.GainsRow old.neighbours.entries new.neighbours.entries (neighbours_due.due_row now falls) → neighbours_due.NoneBefore new.neighbours.entries now
+      → new.addresses ≡ old.addresses → neighbours.GainsRow old.neighbours.entries new.neighbours.entries (neighbours_due.due_row now falls) → kept_neighbours_due.NoneBefore new.neighbours.entries now
       → new.params ≡ old.params → new.solicitations ≡ old.solicitations → new.router ≡ old.router → stream new.generator ≡ stream old.generator
       → Stands stream start new (comes start now (NeighbourFalls falls) c)
   neighbour_fell falls mid kept mid_is kept_is notes entries remembers addresses' gains later params' solicitations' side generator = by_kind falls gains remembers (notes.routers (router_history c) (rw mid_is s.routers)) (notes.redirects (redirect_history c) (rw kept_is s.redirects))
@@ -371,15 +372,15 @@ module _ {R A : Type 0} (stream : R → Stream) (start : Start) (old new : Node 
 
 module _ {R A : Type 0} (stream : R → Stream) (start : Start) (old : Node R A) (c : Chronicle) (now : ℕ) (s : Stands stream start old c) (is : now ≡ next_of old) where
   -- where nothing else is due now, the redraw is
-  pub redraw_is_due : (routers.next_end old.routers.entries ≡ Some now → ⊥) → (address_dates.next_in old.addresses.addresses ≡ Some now → ⊥) → (neighbours_due.next_in old.neighbours.entries ≡ Some now → ⊥)
+  pub redraw_is_due : (routers.next_end old.routers.entries ≡ Some now → ⊥) → (address_dates.next_in old.addresses.addresses ≡ Some now → ⊥) → (kept_neighbours_due.next_in old.neighbours.entries ≡ Some now → ⊥)
       → (next_solicitation old.role old.solicitations ≡ Some now → ⊥) → (next_advertisement old.role old.router ≡ Some now → ⊥) → next_redraw c ≡ now
   redraw_is_due hr ha hn hs hv =
-      let at = at_redraw now (routers.next_end old.routers.entries) (address_dates.next_in old.addresses.addresses) (neighbours_due.next_in old.neighbours.entries) (next_solicitation old.role old.solicitations) (next_advertisement old.role old.router) (old.params.drawn_at + redraw_after) is hr ha hn hs hv in
+      let at = at_redraw now (routers.next_end old.routers.entries) (address_dates.next_in old.addresses.addresses) (kept_neighbours_due.next_in old.neighbours.entries) (next_solicitation old.role old.solicitations) (next_advertisement old.role old.router) (old.params.drawn_at + redraw_after) is hr ha hn hs hv in
       omega (arith, at, s.params.drawn_at)
 
 -- before the earliest of the dates nothing is due, and at it something is
 pub next_due_at : {R A : Type 0} (stream : R → Stream) (start : Start) (node : Node R A) (c : Chronicle) → Stands stream start node c
-    → (r a n : Option ℕ) → r ≡ routers.next_end node.routers.entries → a ≡ address_dates.next_in node.addresses.addresses → n ≡ neighbours_due.next_in node.neighbours.entries
+    → (r a n : Option ℕ) → r ≡ routers.next_end node.routers.entries → a ≡ address_dates.next_in node.addresses.addresses → n ≡ kept_neighbours_due.next_in node.neighbours.entries
     → routers_due.NextDue (router_history c) r → addresses_due.NextDue node.addresses.transmits (address_history c) a → neighbours_due.NextDue (neighbour_history c) n
     → (next : ℕ) → next ≡ next_of node → NextDue start c next
 next_due_at stream start node c s r a n r_is a_is n_is r_due a_due n_due next is = record {

@@ -26,7 +26,8 @@ use Rattle.nd_steps.proofs.RouterSide.{advertisement_date, due_has_settings}
 use Rattle.nd_steps.proofs.Quiet.{losing_is_quiet}
 use Rattle.nd_steps.proofs.Telling.{due_items, Tells-then}
 use Rattle.nd_node.specs.declared.node.Node.{Node}
-use Rattle.nd_node.specs.Node.{Stands, NextDue}
+use Rattle.nd_node.specs.Node.{NextDue}
+use Rattle.nd_node.specs.NodeKept.{Stands}
 use Rattle.nd_node.specs.Time.{Leads, Comes, Passes, Onward}
 
 -- the newest moment is that of what fell due

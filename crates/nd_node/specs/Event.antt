@@ -1,24 +1,18 @@
 -- What an event is to a node.
-use Rattle.std.specs.Prelude.{◌≡◌, ◌≤◌, ◌<◌, ◌^◌, ℕ, List, ◌∷◌, ◌++◌, map}
+use Rattle.std.specs.Prelude.{◌≡◌, ◌<◌, ◌^◌, ℕ, List, ◌∷◌, ◌++◌, map}
 use Rattle.std.specs.List.{AllByRecursion}
-use Rattle.rand_core.specs.Stream.{Stream}
 use Rattle.nd_chronicle.specs.Start.{Start}
-use Rattle.nd_chronicle.specs.Happening.{Chronicle, Passed, last_moment}
+use Rattle.nd_chronicle.specs.Happening.{Chronicle}
 use Rattle.nd_chronicle.specs.Shown as shown
 use Rattle.nd_chronicle.specs.Event as events
-use Rattle.nd_chronicle.specs.Event.{EventAdds}
-use Rattle.nd_chronicle.specs.Answer.{Answer, answer_after, answer_to, is_packet}
+use Rattle.nd_chronicle.specs.Answer.{Answer, answer_to}
 use Rattle.nd_chronicle.specs.History.{Follows, Runs}
-use Rattle.nd_out.specs.declared.out.Out.{Out}
-use Rattle.nd_steps.specs.Outputs.{Tells}
-use Rattle.nd_node.specs.declared.node.Node.{Node}
 use Rattle.nd_node.specs.declared.clearing.Clearable.{Clearable}
 use Rattle.nd_node.specs.declared.clearing.Clearable.TheVariants as clearables
 use Rattle.nd_node.specs.declared.event.Table.{Table}
 use Rattle.nd_node.specs.declared.event.Table.TheVariants.{Neighbours, Routers, Prefixes, Addresses, Dns, Redirects, Params, Advertise, Routes}
 use Rattle.nd_node.specs.declared.event.Event.{Event}
 use Rattle.nd_node.specs.declared.event.Event.TheVariants.{Passes, Receives, Sends, Confirms, Forgets, Clears, Shows, Advertises, Offers, PutsRoute, Stops}
-use Rattle.nd_node.specs.Node.{Stands}
 use Rattle.nd_node.specs.Time.{Onward}
 
 abbrev pub table_of : Table → shown.Table
@@ -63,11 +57,6 @@ AreEarly list = AllByRecursion (λ e. e.0 < 2 ^ 62) list
 -- what follows from the event, with its answer
 abbrev pub FollowsBy : ℕ → events.Event → Answer → Start → Chronicle → Chronicle → Type 0
 FollowsBy now event answer start c d = Follows start c now event d × (answer ≡ answer_to start c now event d)
-
--- From each chronicle of earlier moments that the node stood for, the event leads to one with what it adds, that is reported, and it is answered.
-pub record AddsEvent {R A : Type 0} (stream : R → Stream) (old new : Node R A) (before after : List (ℕ × Out A)) (now : ℕ) (event : events.Event) (answer : Answer) : Type 0 where
-  pub each : (start : Start) (c : Chronicle) → Stands stream start old c → last_moment start.at c ≤ now
-      → (d : Chronicle) × EventAdds start now event ((now, Passed) ∷ c) d × Stands stream start new d × Tells c d before after × (answer ≡ answer_after d (is_packet event))
 
 -- what follows from the events, one after the other
 abbrev pub RunsBy : List (ℕ × events.Event) → Start → Chronicle → Chronicle → Type 0

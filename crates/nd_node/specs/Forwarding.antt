@@ -14,7 +14,7 @@ use Rattle.nd_chronicle.specs.Forwarding.{ForwardAdds, SendsOn, frame_as_it_came
 use Rattle.nd_out.specs.declared.out.Out.{Out}
 use Rattle.nd_steps.specs.Outputs.{Tells}
 use Rattle.nd_node.specs.declared.node.Node.{Node}
-use Rattle.nd_node.specs.Node.{Stands}
+use Rattle.nd_node.specs.NodeKept.{Stands}
 
 -- From each chronicle of earlier moments that the node stood for, the call leads to one with what a packet adds that is in transit, of
 -- these bytes, that is reported, and its frame is answered.

@@ -12,7 +12,7 @@ use Rattle.nd_chronicle.specs.Answer.{Answer, answer_after}
 use Rattle.nd_out.specs.declared.out.Out.{Out}
 use Rattle.nd_steps.specs.Outputs.{Tells}
 use Rattle.nd_node.specs.declared.node.Node.{Node}
-use Rattle.nd_node.specs.Node.{Stands}
+use Rattle.nd_node.specs.NodeKept.{Stands}
 
 -- From each chronicle of earlier moments that the node stood for, the call leads to one with this alone, and that is reported.
 pub record AddsAlone {R A : Type 0} (stream : R → Stream) (old new : Node R A) (before after : List (ℕ × Out A)) (now : ℕ) (what : Happening) : Type 0 where

@@ -11,7 +11,7 @@ use Rattle.nd_chronicle.specs.Answer.{Answer, answer_after}
 use Rattle.nd_out.specs.declared.out.Out.{Out}
 use Rattle.nd_steps.specs.Outputs.{Tells}
 use Rattle.nd_node.specs.declared.node.Node.{Node}
-use Rattle.nd_node.specs.Node.{Stands}
+use Rattle.nd_node.specs.NodeKept.{Stands}
 
 -- From each chronicle of earlier moments that the node stood for, a message that is for it leads to one with what it adds, or with its
 -- refusal where a table would be full, that is reported, and it is answered.

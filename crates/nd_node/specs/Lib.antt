@@ -1,6 +1,7 @@
 pub mod Moments
 pub mod Limits
 pub mod Node
+pub mod NodeKept
 pub mod Counts
 pub mod Time
 pub mod Packet
@@ -10,6 +11,7 @@ pub mod RouterAdvertisement
 pub mod Memory
 pub mod Answer
 pub mod Event
+pub mod EventKept
 pub mod Frame
 pub mod OutgoingPacket
 pub mod Forwarding

@@ -1,6 +1,6 @@
 -- How many neighbours and default routers a node may know (RFC 4861, sections 5.3 and 6.3.4, leave it open; the numbers are our choice).
 use Rattle.std.specs.Prelude.{ℕ, ◌≤◌}
-use Rattle.nd_neighbour.specs.Table.{max_neighbours}
+use Rattle.nd_neighbour.specs.TableKept.{max_neighbours}
 use Rattle.nd_routers.specs.Routers.{max_routers}
 use Rattle.nd_chronicle.specs.Start.{Limits}
 

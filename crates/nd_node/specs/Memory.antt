@@ -7,9 +7,9 @@ use Rattle.nd_decode.specs.Option.{Said}
 use Rattle.nd_decode.specs.declared.body.Body.TheVariants as bodies
 use Rattle.nd_decode.specs.declared.router_advertisement.RouterAdvertisement.{RouterAdvertisement}
 use Rattle.nd_validity.specs.Hearing.{Hears, valid}
-use Rattle.nd_dns.specs.Dns.{new_names}
+use Rattle.nd_dns.specs.DnsKept.{new_names}
 use Rattle.nd_neighbour.specs.Removal.{waiting_at}
-use Rattle.nd_neighbour.specs.Table.{entry_in}
+use Rattle.nd_neighbour.specs.TableKept.{entry_in}
 use Rattle.nd_chronicle.specs.Start.{Start}
 use Rattle.nd_chronicle.specs.Happening.{Chronicle, Passed, Refusal, Refused}
 use Rattle.nd_chronicle.specs.Hearing.{IsHeard, drops}

@@ -1,31 +1,11 @@
--- A node stands for a chronicle.
-use Rattle.std.specs.Prelude.{◌≡◌, ℕ, ◌+◌, ◌-◌, ◌<◌, ◌≤◌, length, Option, None}
+-- The start of a node, and its next date.
+use Rattle.std.specs.Prelude.{ℕ, ◌<◌, ◌≤◌, None}
 use Rattle.rand_core.specs.Stream.{Stream}
 use Rattle.nd_addr.specs.declared.mac.Mac.{Mac}
 use Rattle.nd_addr.specs.declared.role.Role.{Role}
-use Rattle.nd_addr.specs.Same.{same_prefix}
-use Rattle.nd_table.specs.Announcements as lifetimes
-use Rattle.nd_table.specs.Listing as lists
-use Rattle.nd_neighbour.specs.Table as neighbours
-use Rattle.nd_neighbour.specs.Due as neighbour_dates
-use Rattle.nd_slaac.specs.Table as addresses
-use Rattle.nd_slaac.specs.Dates as address_dates
-use Rattle.nd_routers.specs.Routers as routers
-use Rattle.nd_params.specs.Params as parameters
-use Rattle.nd_params.specs.ReachableTime.{redraw_after}
-use Rattle.nd_dns.specs.Dns as dns
-use Rattle.nd_nexthop.specs.Choice as choice
 use Rattle.nd_chronicle.specs.Start.{Start, Limits}
 use Rattle.nd_chronicle.specs.Happening.{Chronicle, last_moment}
-use Rattle.nd_chronicle.specs.Histories.{parameter_history, neighbour_history, router_history, prefix_history, address_history, server_history, name_history, redirect_history}
-use Rattle.nd_chronicle.specs.Generator.{stream_left}
-use Rattle.nd_chronicle.specs.Due.{Due, max_rtr_solicitations}
-use Rattle.nd_steps.specs.RouterTables as router
-use Rattle.nd_steps.specs.RouterTables.{after_last, next_advertisement}
-use Rattle.nd_steps.specs.SolicitRouters as solicitations
-use Rattle.nd_steps.specs.SolicitRouters.{next_solicitation}
-use Rattle.nd_steps.specs.DestinationCache.{Remembers}
-use Rattle.nd_node.specs.Moments.{earlier}
+use Rattle.nd_chronicle.specs.Due.{Due}
 use Rattle.nd_node.specs.declared.node.Node.{Node}
 
 abbrev pub starting : ℕ → Role → Mac → ℕ → Limits → Stream → Start
@@ -35,51 +15,8 @@ starting at role mac transmits limits stream = record { at = at; role = role; ma
 abbrev pub last_of : {R A : Type 0} → Node R A → ℕ
 last_of node = node.last
 
--- the earliest of the routers', the addresses', the neighbours', the Router Solicitations', the Router Advertisements' and the redraw's
-abbrev pub earliest : Option ℕ → Option ℕ → Option ℕ → Option ℕ → Option ℕ → ℕ → ℕ
-earliest routers addresses neighbours solicitation advertisement redraw =
-    earlier routers (earlier addresses (earlier neighbours (earlier solicitation (earlier advertisement redraw))))
-
--- the moment at which something is due next
-abbrev pub next_of : {R A : Type 0} → Node R A → ℕ
-next_of node =
-    earliest (routers.next_end node.routers.entries) (address_dates.next_in node.addresses.addresses) (neighbour_dates.next_in node.neighbours.entries)
-    (next_solicitation node.role node.solicitations) (next_advertisement node.role node.router) (node.params.drawn_at + redraw_after)
-
--- Each table of the node stands for what the chronicle says of it, the generator is that of the start after as many words as were drawn,
--- and nothing that is due has been passed over.
-pub record Stands {R A : Type 0} (stream : R → Stream) (start : Start) (node : Node R A) (c : Chronicle) : Type 0 where
-  pub role : node.role ≡ start.role
-  pub mac : node.mac ≡ start.mac
-  pub address_mac : node.addresses.mac ≡ start.mac
-  pub address_transmits : node.addresses.transmits ≡ start.transmits
-  pub neighbour_limit : node.neighbours.limit ≡ start.limits.neighbours
-  pub router_limit : node.routers.limit ≡ start.limits.routers
-  pub params : parameters.Stands node.params (parameter_history c)
-  pub routers : routers.Stands node.routers (router_history c)
-  pub prefixes : lists.Stands same_prefix node.prefixes (prefix_history c)
-  pub addresses : addresses.Stands node.addresses.addresses (address_history c)
-  pub neighbours : neighbours.Stands node.neighbours.entries (neighbour_history c)
-  pub dns : dns.Stands node.dns (server_history c) (name_history c)
-  pub redirects : choice.Stands node.choice (redirect_history c)
-  pub solicitations : solicitations.Stands start node.solicitations c
-  pub router : router.Stands start node.router c
-  pub generator : stream node.generator ≡ stream_left start c
-  pub last : node.last ≡ last_moment start.at c
-  pub prefixes_by_then : lifetimes.last_moment (prefix_history c) ≤ last_moment start.at c
-  pub servers_by_then : lifetimes.last_moment (server_history c) ≤ last_moment start.at c
-  pub names_by_then : lifetimes.last_moment (name_history c) ≤ last_moment start.at c
-  pub memo : Remembers node.last node.choice node.addresses.addresses node.prefixes node.neighbours.entries node.routers
-  pub in_time : last_moment start.at c ≤ next_of node
-
 -- Nothing is due before the moment, which isn't past, and something is due at it.
 pub record NextDue (start : Start) (c : Chronicle) (next : ℕ) : Type 0 where
   pub not_past : last_moment start.at c ≤ next
   pub nothing_before : (moment : ℕ) → moment < next → Due start c moment None
   pub something_then : Due start c next None → ⊥
-
--- how many turns are left up to a moment, where nothing else happens, and the time since the last redraw and the last advertisement
-abbrev pub turns_left : {R A : Type 0} → ℕ → Node R A → ℕ
-turns_left end node =
-    length node.routers.entries + address_dates.turns_left node.addresses.transmits node.addresses.addresses + neighbour_dates.turns_left node.neighbours.entries
-    + (max_rtr_solicitations - node.solicitations.sent) + (end + redraw_after - node.params.drawn_at) + (end + 1 - after_last node.router.advertiser.last)

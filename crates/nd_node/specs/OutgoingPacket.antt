@@ -11,7 +11,7 @@ use Rattle.nd_out.specs.declared.out.Out.{Out}
 use Rattle.nd_steps.specs.declared.packets.OutgoingPacket.{OutgoingPacket}
 use Rattle.nd_steps.specs.Outputs.{Tells}
 use Rattle.nd_node.specs.declared.node.Node.{Node}
-use Rattle.nd_node.specs.Node.{Stands}
+use Rattle.nd_node.specs.NodeKept.{Stands}
 
 -- From each chronicle of earlier moments that the node stood for, the call leads to one in which the packet goes to the neighbour, if there
 -- is room for that, that is reported, and its sender is answered.

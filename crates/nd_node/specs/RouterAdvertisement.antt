@@ -13,7 +13,7 @@ use Rattle.nd_chronicle.specs.RouterAdvertisement.{then_advertised}
 use Rattle.nd_out.specs.declared.out.Out.{Out}
 use Rattle.nd_steps.specs.Outputs.{Tells}
 use Rattle.nd_node.specs.declared.node.Node.{Node}
-use Rattle.nd_node.specs.Node.{Stands}
+use Rattle.nd_node.specs.NodeKept.{Stands}
 
 abbrev pub advertised : RouterAdvertisement → List Said → Parts
 advertised ra options = record { body = bodies.Ra ra; options = options }

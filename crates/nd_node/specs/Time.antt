@@ -7,7 +7,7 @@ use Rattle.nd_chronicle.specs.Due.{What, Due, comes}
 use Rattle.nd_chronicle.specs.History.{Walk}
 use Rattle.nd_steps.specs.Outputs.{Tells}
 use Rattle.nd_node.specs.declared.node.Node.{Node}
-use Rattle.nd_node.specs.Node.{Stands}
+use Rattle.nd_node.specs.NodeKept.{Stands}
 use Rattle.nd_out.specs.declared.out.Out.{Out}
 
 -- The call leads from each chronicle that the node stood for to one of those that the relation gives, and reports it.

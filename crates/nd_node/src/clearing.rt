@@ -2,7 +2,8 @@
 
 ghost use Rattle.std.specs.Prelude.{◌≡◌, ◌<◌, IsOk, OnErr, IfOk};
 ghost use Rattle.nd_chronicle.specs.Event as events;
-ghost use Rattle.nd_node.specs.Event.{AddsEvent, clearable_of};
+ghost use Rattle.nd_node.specs.Event.{clearable_of};
+ghost use Rattle.nd_node.specs.EventKept.{AddsEvent};
 ghost use Rattle.nd_node.specs.Memory.{TellsNothing};
 ghost use Rattle.nd_node.specs.Answer.{answer_of};
 
@@ -29,7 +30,7 @@ pub enum Clearable {
 }
 
 impl<R: Rng + Drop, A: Allocator + Clone> Node<R, A> {
-    ghost use Rattle.nd_node.specs.Node.{next_of};
+    ghost use Rattle.nd_node.specs.NodeKept.{next_of};
 
     /// Removes all neighbours. The packets that wait for them are lost, in the order of the neighbours' addresses, the oldest first. Returns an
     /// error if out of memory; nothing has changed then.

@@ -11,7 +11,7 @@ use rand_core::Rng;
 use std::alloc::{AllocError, Allocator};
 
 impl<R: Rng + Drop, A: Allocator + Clone> Node<R, A> {
-    ghost use Rattle.nd_node.specs.Node.{Stands, next_of};
+    ghost use Rattle.nd_node.specs.NodeKept.{Stands, next_of};
 
     /// Advances the clock to `now`, in milliseconds. The caller does so once the event can no longer fail, since an event that fails leaves the
     /// clock; `now` is not earlier than the clock.

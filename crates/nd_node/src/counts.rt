@@ -34,7 +34,7 @@ pub struct Counts {
 }
 
 impl<R: Rng + Drop, A: Allocator + Clone> Node<R, A> {
-    ghost use Rattle.nd_node.specs.Node.{Stands};
+    ghost use Rattle.nd_node.specs.NodeKept.{Stands};
 
     /// Returns the number of rows in each table. None passes its limit, for any input (our choice: RFC 4861, section 5.3, leaves limits to the
     /// node). It takes no memory.

@@ -14,7 +14,8 @@ impl<R: Rng + Drop, A: Allocator + Clone> Node<R, A> {
     ghost use Rattle.nd_chronicle.specs.Happening.{Chronicle};
     ghost use Rattle.nd_chronicle.specs.Due.{Due, comes};
     ghost use Rattle.nd_steps.specs.Turned.{what_of};
-    ghost use Rattle.nd_node.specs.Node.{Stands, NextDue, next_of, turns_left};
+    ghost use Rattle.nd_node.specs.Node.{NextDue};
+    ghost use Rattle.nd_node.specs.NodeKept.{Stands, next_of, turns_left};
 
     /// Returns the moment, in milliseconds, at which something is due next.
     pub fn next_due(&self) -> u64

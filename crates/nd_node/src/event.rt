@@ -6,7 +6,8 @@ ghost use Rattle.nd_chronicle.specs.Event as events;
 ghost use Rattle.nd_chronicle.specs.Event.{EventAdds, refusal_of_packet};
 ghost use Rattle.nd_chronicle.specs.Happening.{Chronicle, Refusal as Why, last_moment};
 ghost use Rattle.nd_chronicle.specs.Start.{Start};
-ghost use Rattle.nd_node.specs.Event.{event_of, events_of, AddsEvent, FollowsBy, AreEarly, RunsBy, RunsInPart};
+ghost use Rattle.nd_node.specs.Event.{event_of, events_of, FollowsBy, AreEarly, RunsBy, RunsInPart};
+ghost use Rattle.nd_node.specs.EventKept.{AddsEvent};
 ghost use Rattle.nd_node.specs.Frame.{Stays};
 ghost use Rattle.nd_node.specs.Memory.{AddsRefusal, AsksForNone};
 ghost use Rattle.nd_node.specs.Time.{Leads, Onward};
@@ -74,7 +75,7 @@ pub enum Event<A: Allocator> {
 }
 
 impl<R: Rng + Drop, A: Allocator + Clone> Node<R, A> {
-    ghost use Rattle.nd_node.specs.Node.{Stands, next_of};
+    ghost use Rattle.nd_node.specs.NodeKept.{Stands, next_of};
 
     /// Passes an event to the node at `now`, in milliseconds. The node first does all that is due up to `now`, this millisecond included, and then
     /// what the event adds. Returns how the node took the event. One earlier than the node's last moment is only reported as past.

@@ -13,9 +13,9 @@ use rand_core::Rng;
 use std::alloc::Allocator;
 
 impl<R: Rng + Drop, A: Allocator + Clone> Node<R, A> {
-    ghost use Rattle.nd_nexthop.specs.NextHop.{hop_of};
+    ghost use Rattle.nd_nexthop.specs.NextHopKept.{hop_of};
     ghost use Rattle.nd_chronicle.specs.NextHop.{IsHopOf, IsNextHop};
-    ghost use Rattle.nd_node.specs.Node.{Stands, next_of};
+    ghost use Rattle.nd_node.specs.NodeKept.{Stands, next_of};
 
     /// Returns the next hop that a host chooses for `destination` at `now`, in milliseconds, up to which nothing is due (RFC 4861, section 5.2). It
     /// remembers the next hop if it gets the memory for that, and does without otherwise.

@@ -19,7 +19,7 @@ impl<R: Rng + Drop, A: Allocator + Clone> Node<R, A> {
     ghost use Rattle.nd_chronicle.specs.Hearing.{IsOurs, IsForUs, IsInTransit, IsPacketForUs};
     ghost use Rattle.nd_chronicle.specs.OwnAddress.{is_up};
     ghost use Rattle.nd_steps.specs.OwnAddresses.{counting};
-    ghost use Rattle.nd_node.specs.Node.{Stands};
+    ghost use Rattle.nd_node.specs.NodeKept.{Stands};
 
     /// Returns true if `destination` is the all-nodes address, at a router the all-routers address, one of the node's own addresses of the kind
     /// `counted`, or the solicited-node address of one of these (RFC 4291, section 2.8).

@@ -32,7 +32,7 @@ use rand_core::Rng;
 use std::alloc::{AllocError, Allocator};
 
 impl<R: Rng + Drop, A: Allocator + Clone> Node<R, A> {
-    ghost use Rattle.nd_node.specs.Node.{Stands, next_of};
+    ghost use Rattle.nd_node.specs.NodeKept.{Stands, next_of};
 
     /// Sends a packet in transit on to its next hop. It is lost if there is no route or its hop limit doesn't allow another hop (RFC 8200, section
     /// 3). `frame` is the frame as received at `now`, in milliseconds, up to which nothing is due. Returns an error if out of memory; nothing has

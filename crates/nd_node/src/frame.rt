@@ -14,7 +14,7 @@ ghost use Rattle.nd_chronicle.specs.Happening.{Chronicle, Passed, last_moment};
 ghost use Rattle.nd_chronicle.specs.Hearing.{Judges, Verdict, drops};
 ghost use Rattle.nd_chronicle.specs.Event as events;
 ghost use Rattle.nd_chronicle.specs.Event.{EventAdds, VerdictAdds};
-ghost use Rattle.nd_node.specs.Event.{AddsEvent};
+ghost use Rattle.nd_node.specs.EventKept.{AddsEvent};
 ghost use Rattle.nd_node.specs.Frame.{Stays};
 ghost use Rattle.nd_node.specs.Memory.{AddsNoName, AddsRefusal, AsksForNone};
 ghost use Rattle.nd_node.specs.Answer.{answer_of};
@@ -29,7 +29,7 @@ use rand_core::Rng;
 use std::alloc::{AllocError, Allocator};
 
 impl<R: Rng + Drop, A: Allocator + Clone> Node<R, A> {
-    ghost use Rattle.nd_node.specs.Node.{Stands, next_of};
+    ghost use Rattle.nd_node.specs.NodeKept.{Stands, next_of};
 
     /// Passes a packet that is no message of Neighbor Discovery to the upper layer if its destination is an assigned address, and sends it on to
     /// another node if it is in transit (RFC 8200, section 3).

@@ -19,7 +19,7 @@ use std::alloc::Allocator;
 impl<R: Rng + Drop, A: Allocator + Clone> Node<R, A> {
     ghost use Rattle.nd_chronicle.specs.Start.{Start};
     ghost use Rattle.nd_chronicle.specs.Happening.{Chronicle, last_moment};
-    ghost use Rattle.nd_node.specs.Node.{Stands};
+    ghost use Rattle.nd_node.specs.NodeKept.{Stands};
     ghost use Rattle.nd_node.specs.Fullness.{HasRoom};
     ghost use Rattle.nd_node.specs.RouterAdvertisement.{advertised};
 

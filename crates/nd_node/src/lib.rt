@@ -41,7 +41,7 @@
 //!
 //! # What is proved
 //!
-//! `Stands` of `specs/Node.antt` ties a node to a chronicle of all that happened. Each call leads from every chronicle for which the node stands
+//! `Stands` of `specs/NodeKept.antt` ties a node to a chronicle of all that happened. Each call leads from every chronicle for which the node stands
 //! to one that the definitions of nd_chronicle give, and reports exactly what these say. The definitions look back over what happened, in the
 //! RFCs' terms, and know no tables.
 #![tactic(auto)]

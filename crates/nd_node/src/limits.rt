@@ -2,7 +2,7 @@
 
 ghost use Rattle.std.specs.Prelude.{◌≡◌, ◌≤◌};
 ghost use Rattle.std.specs.Option.{SomeIff};
-ghost use Rattle.nd_neighbour.specs.Table.{max_neighbours};
+ghost use Rattle.nd_neighbour.specs.TableKept.{max_neighbours};
 ghost use Rattle.nd_routers.specs.Routers.{max_routers};
 ghost use Rattle.nd_node.specs.Limits.{AreLimits, usual_limits};
 

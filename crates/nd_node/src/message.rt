@@ -49,7 +49,7 @@ pub(crate) fn push_heard<A: Allocator>(
 }
 
 impl<R: Rng + Drop, A: Allocator + Clone> Node<R, A> {
-    ghost use Rattle.nd_node.specs.Node.{Stands, next_of};
+    ghost use Rattle.nd_node.specs.NodeKept.{Stands, next_of};
 
     /// Reports a valid message for this node, at `now` in milliseconds, into room that was made before, and advances the clock: the message can no
     /// longer fail. The caller applies what it says.

@@ -22,7 +22,7 @@ use rand_core::Rng;
 use std::alloc::{AllocError, Allocator};
 
 impl<R: Rng + Drop, A: Allocator + Clone> Node<R, A> {
-    ghost use Rattle.nd_node.specs.Node.{Stands, next_of};
+    ghost use Rattle.nd_node.specs.NodeKept.{Stands, next_of};
 
     /// Handles a Neighbor Advertisement at `now`, in milliseconds (RFC 4861, section 7.2.5; RFC 4862, section 5.4.4). If its target is one of the
     /// node's own tentative addresses, this address is a duplicate. The neighbour's entry takes what the advertisement says, and the packets that

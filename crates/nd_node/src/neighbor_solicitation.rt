@@ -8,7 +8,7 @@ ghost use Rattle.nd_decode.specs.Pieces.{options_left};
 ghost use Rattle.nd_decode.specs.declared.body.Body.TheVariants as bodies;
 ghost use Rattle.nd_table.specs.Moment.{IsMoment};
 ghost use Rattle.nd_packet.specs.Waiting.{max_waiting};
-ghost use Rattle.nd_neighbour.specs.Table.{entry_in};
+ghost use Rattle.nd_neighbour.specs.TableKept.{entry_in};
 ghost use Rattle.nd_chronicle.specs.NeighborSolicitation as solicited;
 ghost use Rattle.nd_chronicle.specs.Full.{Fills};
 ghost use Rattle.nd_chronicle.specs.Happening.{Chronicle, Limit as Table, Passed, last_moment};
@@ -40,7 +40,7 @@ struct AnswerRoom<A: Allocator> {
 }
 
 impl<R: Rng + Drop, A: Allocator + Clone> Node<R, A> {
-    ghost use Rattle.nd_node.specs.Node.{Stands, next_of};
+    ghost use Rattle.nd_node.specs.NodeKept.{Stands, next_of};
 
     /// Handles a Neighbor Solicitation for one of the node's own addresses at `now`, in milliseconds (RFC 4861, sections 7.2.3 and 7.2.4; RFC 4862,
     /// section 5.4.3). One from `::` says that another node tries the address; one from an address is answered. Returns an error if out of memory;

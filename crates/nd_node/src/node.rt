@@ -39,7 +39,8 @@ pub struct Node<R, A: Allocator> {
 
 impl<R: Rng + Drop, A: Allocator + Copy> Node<R, A> {
     ghost use Rattle.nd_chronicle.specs.History.{beginning};
-    ghost use Rattle.nd_node.specs.Node.{Stands, starting};
+    ghost use Rattle.nd_node.specs.Node.{starting};
+    ghost use Rattle.nd_node.specs.NodeKept.{Stands};
 
     /// Starts a node at `start`, in milliseconds. It draws its ReachableTime, then the delay of the first solicitation for its link-local address,
     /// and forms that address (RFC 4861, section 6.3.2; RFC 4862, sections 5.3 and 5.4.2). `transmits` is the number of solicitations that it sends

@@ -10,9 +10,10 @@ ghost use Rattle.nd_chronicle.specs.Packet.{GoesIfPlaced};
 ghost use Rattle.nd_chronicle.specs.Start.{Start};
 ghost use Rattle.nd_steps.specs.Packets.{frame_of};
 ghost use Rattle.nd_compose.specs.Frames.{open_mac};
-ghost use Rattle.nd_neighbour.specs.Room.{has_room};
-ghost use Rattle.nd_nexthop.specs.NextHop.{hop_of, direct};
-ghost use Rattle.nd_node.specs.Event.{AddsEvent};
+ghost use Rattle.nd_neighbour.specs.RoomKept.{has_room};
+ghost use Rattle.nd_nexthop.specs.NextHop.{direct};
+ghost use Rattle.nd_nexthop.specs.NextHopKept.{hop_of};
+ghost use Rattle.nd_node.specs.EventKept.{AddsEvent};
 ghost use Rattle.nd_node.specs.Frame.{AddsAlone, Stays};
 ghost use Rattle.nd_node.specs.Hearing.{Keeps};
 ghost use Rattle.nd_node.specs.Memory.{AddsRefusal};
@@ -33,7 +34,7 @@ use rand_core::Rng;
 use std::alloc::{AllocError, Allocator};
 
 impl<R: Rng + Drop, A: Allocator + Clone> Node<R, A> {
-    ghost use Rattle.nd_node.specs.Node.{Stands, next_of};
+    ghost use Rattle.nd_node.specs.NodeKept.{Stands, next_of};
 
     /// Returns why a packet is refused, the first reason that holds: the link-local address is a duplicate (RFC 4862, section 5.4.5), the source
     /// isn't assigned, or the packet is too long. It takes no memory.

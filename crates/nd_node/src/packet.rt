@@ -3,8 +3,8 @@
 ghost use Rattle.std.specs.Prelude.{◌≡◌, ◌+◌, ◌-◌, ◌<◌, ◌≤◌, None, if◌then◌else◌, is_some, true, vec_len, vec_capacity};
 ghost use Rattle.nd_addr.specs.Number.{number_of};
 ghost use Rattle.nd_table.specs.Moment.{IsMoment};
-ghost use Rattle.nd_neighbour.specs.Room.{LeavesRoom, has_room};
-ghost use Rattle.nd_neighbour.specs.Table.{entry_in};
+ghost use Rattle.nd_neighbour.specs.RoomKept.{LeavesRoom, has_room};
+ghost use Rattle.nd_neighbour.specs.TableKept.{entry_in};
 ghost use Rattle.nd_node.specs.Packet.{PacketGoes};
 ghost use Rattle.nd_node.specs.Time.{Leads};
 

@@ -5,7 +5,7 @@ ghost use Rattle.nd_table.specs.Moment.{IsMoment};
 ghost use Rattle.nd_chronicle.specs.Event as events;
 ghost use Rattle.nd_out.specs.declared.out.Out as told;
 ghost use Rattle.nd_chronicle.specs.Answer as answers;
-ghost use Rattle.nd_node.specs.Event.{AddsEvent};
+ghost use Rattle.nd_node.specs.EventKept.{AddsEvent};
 
 use crate::node::Node;
 use nd_addr::Addr;
@@ -14,7 +14,7 @@ use rand_core::Rng;
 use std::alloc::Allocator;
 
 impl<R: Rng + Drop, A: Allocator + Clone> Node<R, A> {
-    ghost use Rattle.nd_node.specs.Node.{next_of};
+    ghost use Rattle.nd_node.specs.NodeKept.{next_of};
 
     /// Takes an upper layer's confirmation at `now`, in milliseconds, that a neighbour is reachable (RFC 4861, section 7.3.1). It takes no memory
     /// and reports nothing.

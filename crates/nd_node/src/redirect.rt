@@ -25,7 +25,7 @@ use rand_core::Rng;
 use std::alloc::{AllocError, Allocator};
 
 impl<R: Rng + Drop, A: Allocator + Clone> Node<R, A> {
-    ghost use Rattle.nd_node.specs.Node.{Stands, next_of};
+    ghost use Rattle.nd_node.specs.NodeKept.{Stands, next_of};
 
     /// Handles a Redirect for this node if it is from the current first hop of its destination (RFC 4861, section 8.1), which the tables say before
     /// the Redirect changes them. Otherwise drops it.

@@ -12,7 +12,7 @@ use rand_core::Rng;
 use std::alloc::{AllocError, Allocator};
 
 impl<R: Rng + Drop, A: Allocator + Clone> Node<R, A> {
-    ghost use Rattle.nd_node.specs.Node.{next_of};
+    ghost use Rattle.nd_node.specs.NodeKept.{next_of};
 
     /// Reports at `now`, in milliseconds, that the node refuses what was asked, with the reason. Returns an error if out of memory; nothing has
     /// changed then.

@@ -4,8 +4,8 @@ ghost use Rattle.std.specs.Prelude.{◌≡◌, ◌-◌, ◌<◌, ◌≤◌, IsOk
 ghost use Rattle.nd_addr.specs.Number.{number_of};
 ghost use Rattle.nd_chronicle.specs.Event as events;
 ghost use Rattle.nd_neighbour.specs.Removal.{waiting_at};
-ghost use Rattle.nd_neighbour.specs.Table.{entry_in};
-ghost use Rattle.nd_node.specs.Event.{AddsEvent};
+ghost use Rattle.nd_neighbour.specs.TableKept.{entry_in};
+ghost use Rattle.nd_node.specs.EventKept.{AddsEvent};
 ghost use Rattle.nd_node.specs.Answer.{answer_of};
 
 use crate::answer::Answer;
@@ -17,7 +17,7 @@ use rand_core::Rng;
 use std::alloc::{AllocError, Allocator};
 
 impl<R: Rng + Drop, A: Allocator + Clone> Node<R, A> {
-    ghost use Rattle.nd_node.specs.Node.{next_of};
+    ghost use Rattle.nd_node.specs.NodeKept.{next_of};
 
     /// Removes a neighbour at `now`, in milliseconds; the packets that wait for it are lost, the oldest first. This is no failure of the neighbour:
     /// no redirect to it ends. Returns an error if out of memory; nothing has changed then.

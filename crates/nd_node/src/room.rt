@@ -2,10 +2,10 @@
 
 ghost use Rattle.std.specs.Prelude.{◌≡◌, [], None, IfOk};
 ghost use Rattle.nd_addr.specs.Same.{same_prefix};
-ghost use Rattle.nd_table.specs.Listing as lists;
-ghost use Rattle.nd_neighbour.specs.Table as neighbours;
-ghost use Rattle.nd_routers.specs.Routers as routers;
-ghost use Rattle.nd_dns.specs.Dns as dns;
+ghost use Rattle.nd_table.specs.ListingKept as lists;
+ghost use Rattle.nd_neighbour.specs.TableKept as neighbours;
+ghost use Rattle.nd_routers.specs.RoutersKept as routers;
+ghost use Rattle.nd_dns.specs.DnsKept as dns;
 ghost use Rattle.nd_nexthop.specs.Choice as choice;
 
 use crate::limits::Limits;

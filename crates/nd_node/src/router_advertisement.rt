@@ -5,7 +5,7 @@ ghost use Rattle.std.specs.Option.{option_map};
 ghost use Rattle.nd_decode.specs.Pieces.{options_left};
 ghost use Rattle.nd_decode.specs.declared.body.Body.TheVariants as bodies;
 ghost use Rattle.nd_table.specs.Moment.{IsMoment};
-ghost use Rattle.nd_dns.specs.Dns.{new_names};
+ghost use Rattle.nd_dns.specs.DnsKept.{new_names};
 ghost use Rattle.nd_neighbour.specs.declared.news.Times.{Times};
 ghost use Rattle.nd_chronicle.specs.Histories.{said_of_neighbour};
 ghost use Rattle.nd_chronicle.specs.Full.{Fills};
@@ -37,7 +37,7 @@ use std::alloc::{AllocError, Allocator};
 const BESIDE_FRAMES: usize = 2;
 
 impl<R: Rng + Drop, A: Allocator + Clone> Node<R, A> {
-    ghost use Rattle.nd_node.specs.Node.{Stands, next_of};
+    ghost use Rattle.nd_node.specs.NodeKept.{Stands, next_of};
 
     /// Applies a Router Advertisement for which there is room in all tables, and advances the clock. The caller passes its news of the sender and the
     /// search names that it adds. It takes no memory.

@@ -21,7 +21,7 @@ use rand_core::Rng;
 use std::alloc::{AllocError, Allocator};
 
 impl<R: Rng + Drop, A: Allocator + Clone> Node<R, A> {
-    ghost use Rattle.nd_node.specs.Node.{Stands, next_of};
+    ghost use Rattle.nd_node.specs.NodeKept.{Stands, next_of};
 
     /// Handles a Router Solicitation at `now`, in milliseconds: the sender's entry takes what it says, and a router plans its answer (RFC 4861,
     /// section 6.2.6). It is refused if there is no room for the sender among the neighbours. Returns an error if out of memory; nothing has

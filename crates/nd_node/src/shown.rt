@@ -16,7 +16,7 @@ impl<R: Rng + Drop, A: Allocator + Clone> Node<R, A> {
     ghost use Rattle.nd_chronicle.specs.Start.{Start};
     ghost use Rattle.nd_chronicle.specs.Happening.{Chronicle, last_moment};
     ghost use Rattle.nd_chronicle.specs.Shown.{AreRows};
-    ghost use Rattle.nd_node.specs.Node.{Stands};
+    ghost use Rattle.nd_node.specs.NodeKept.{Stands};
 
     /// Returns the text of each row of a table at `now`, in milliseconds, up to which all that is due is done: one text for each of the typed rows
     /// that the calls of `tables` return. The tables of a router are empty at a host. Returns an error if out of memory.

@@ -12,7 +12,7 @@ use rand_core::Rng;
 use std::alloc::{AllocError, Allocator};
 
 impl<R: Rng + Drop, A: Allocator + Clone> Node<R, A> {
-    ghost use Rattle.nd_node.specs.Node.{next_of, turns_left};
+    ghost use Rattle.nd_node.specs.NodeKept.{next_of, turns_left};
 
     /// Does the first thing that is due at `now`, in milliseconds, and reports it; the caller passes the moment that `next_due` returns. The order
     /// is: ends of routers, ends of own addresses, duplicate address detection, neighbours, Router Solicitations, Router Advertisements, a redraw

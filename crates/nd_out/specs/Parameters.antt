@@ -1,7 +1,7 @@
 -- The row of the parameters of the link, by their values.
 use Rattle.std.specs.Prelude.{ℕ, List, ◌++◌, codes}
 use Rattle.std.specs.Fmt.{decimal}
-use Rattle.nd_params.specs.Params.{Values}
+use Rattle.nd_params.specs.ParamsKept.{Values}
 use Rattle.nd_chronicle.specs.Shown.{flag_text}
 
 -- the hop limit and the MTU

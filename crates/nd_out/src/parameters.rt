@@ -1,5 +1,5 @@
 ghost use Rattle.std.specs.Prelude.{◌≡◌, ◌++◌, ◌∷◌, [], ℕ, IfOk, OnOk, map, string_bytes};
-ghost use Rattle.nd_params.specs.Params.{Stands};
+ghost use Rattle.nd_params.specs.ParamsKept.{Stands};
 ghost use Rattle.nd_chronicle.specs.Start.{Start};
 ghost use Rattle.nd_chronicle.specs.Happening.{Chronicle};
 ghost use Rattle.nd_chronicle.specs.Histories.{parameter_history};

@@ -1,7 +1,7 @@
 -- What was heard gives one value of each parameter.
 use Rattle.std.proofs.Common.{◌≡◌, ℕ, Bool, List}
 use Rattle.nd_params.specs.History.{Row}
-use Rattle.nd_params.specs.Params.{Values, Stands}
+use Rattle.nd_params.specs.ParamsKept.{Values, Stands}
 
 made : (hop_limit mtu base reachable retrans : ℕ) (managed o : Bool) (drawn : ℕ) → Values
 made hop_limit mtu base reachable retrans managed o drawn = record {

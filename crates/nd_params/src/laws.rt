@@ -2,7 +2,7 @@
 
 ghost use Rattle.std.specs.Prelude.{◌≡◌, List};
 ghost use Rattle.nd_params.specs.History.{Row};
-ghost use Rattle.nd_params.specs.Params.{Values, Stands};
+ghost use Rattle.nd_params.specs.ParamsKept.{Values, Stands};
 
 /// Each parameter has exactly one value after a history.
 pub fn one_answer()

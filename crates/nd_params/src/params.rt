@@ -2,7 +2,7 @@ ghost use Rattle.std.specs.Prelude.{◌≡◌, ◌^◌, ◌<◌, ◌∷◌, [], 
 ghost use Rattle.nd_params.specs.History.{Drew, default_hop_limit, reachable_time, retrans_timer};
 ghost use Rattle.nd_addr.specs.Frame.{ethernet_mtu};
 ghost use Rattle.nd_table.specs.Moment.{IsMoment};
-ghost use Rattle.nd_params.specs.Params.{Values, Stands};
+ghost use Rattle.nd_params.specs.ParamsKept.{Values, Stands};
 
 use nd_addr::ETHERNET_MTU;
 use std::marker::Model;
@@ -32,7 +32,7 @@ pub struct Params {
 impl Model for Params {
     ghost use Rattle.std.specs.Prelude.{◌<◌, ◌≤◌, ◌^◌};
     ghost use Rattle.nd_addr.specs.Frame.{ethernet_mtu};
-    ghost use Rattle.nd_params.specs.Params.{Values};
+    ghost use Rattle.nd_params.specs.ParamsKept.{Values};
 
     ghost Value = { Values };
 

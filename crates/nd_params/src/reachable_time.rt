@@ -1,9 +1,8 @@
 ghost use Rattle.std.specs.Prelude.{◌≡◌, ◌*◌, ◌/◌, ◌^◌, ◌<◌, ◌+◌, ◌∷◌, List, ℕ};
 ghost use Rattle.nd_table.specs.Moment.{IsMoment};
 ghost use Rattle.nd_params.specs.History.{Row, Drew};
-ghost use Rattle.nd_params.specs.ReachableTime.{next_draw, redraw_after};
-ghost use Rattle.nd_params.specs.Params.{Stands, GainsRows};
-ghost use Rattle.nd_params.specs.ReachableTime.{reachable_range, MayBeDrawn};
+ghost use Rattle.nd_params.specs.ReachableTime.{next_draw, redraw_after, reachable_range, MayBeDrawn};
+ghost use Rattle.nd_params.specs.ParamsKept.{Stands, GainsRows};
 
 use crate::params::Params;
 

@@ -5,7 +5,8 @@ ghost use Rattle.nd_decode.specs.Pieces.{options_left};
 ghost use Rattle.nd_table.specs.Moment.{IsMoment};
 ghost use Rattle.nd_params.specs.History.{Row, Heard, base_of, then_heard};
 ghost use Rattle.nd_params.specs.RouterAdvertisement.{first_mtu, valid_mtu_or};
-ghost use Rattle.nd_params.specs.Params.{Stands, GainsRows, redraws};
+ghost use Rattle.nd_params.specs.Params.{redraws};
+ghost use Rattle.nd_params.specs.ParamsKept.{Stands, GainsRows};
 
 use crate::params::Params;
 use nd_addr::{ETHERNET_MTU, LEAST_MTU};

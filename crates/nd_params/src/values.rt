@@ -2,7 +2,7 @@ ghost use Rattle.std.specs.Prelude.{◌≡◌, List, ◌<◌, ◌≤◌, ◌^◌
 ghost use Rattle.nd_addr.specs.Frame.{ethernet_mtu};
 ghost use Rattle.nd_params.specs.History.{Row, hop_limit_of, mtu_of, base_of, retrans_of, managed_of, other_of};
 ghost use Rattle.nd_params.specs.ReachableTime.{reachable_of};
-ghost use Rattle.nd_params.specs.Params.{Stands};
+ghost use Rattle.nd_params.specs.ParamsKept.{Stands};
 
 use crate::params::Params;
 

@@ -10,8 +10,10 @@ use Rattle.nd_table.proofs.LastingOrder.{distinct_of}
 use Rattle.nd_routers.specs.History.{RouterRow, LeftList, failure_of}
 use Rattle.nd_routers.specs.declared.preferred.Preferred.{Preferred}
 use Rattle.nd_routers.specs.Preferences.{without_preference}
-use Rattle.nd_routers.specs.RouterFailures.{has_failed, others}
-use Rattle.nd_routers.specs.Routers.{Table, same, Stands, then_left, keys}
+use Rattle.nd_routers.specs.RouterFailures.{has_failed}
+use Rattle.nd_routers.specs.RouterFailuresKept.{others}
+use Rattle.nd_routers.specs.Routers.{same}
+use Rattle.nd_routers.specs.RoutersKept.{Table, Stands, then_left, keys}
 use Rattle.nd_routers.proofs.Failing.{head_has}
 use Rattle.nd_routers.proofs.Steps.{gains_left}
 

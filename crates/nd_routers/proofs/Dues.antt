@@ -5,10 +5,13 @@ use Rattle.std.proofs.lemmas.Bool.Decides.{nat_tests}
 use Rattle.std.proofs.lemmas.Bool.{cond_both, eqb-true, eq-eqb, ne_eqb, cond-true, cond-false}
 use Rattle.nd_table.specs.declared.lasting.Lasting.{Lasting}
 use Rattle.nd_table.specs.Announcements.{place}
-use Rattle.nd_table.specs.Listing.{end_in, AllAfter, Rises, without, StandsUntilTold}
+use Rattle.nd_table.specs.Listing.{end_in, AllAfter, Rises, without}
+use Rattle.nd_table.specs.ListingKept.{StandsUntilTold}
 use Rattle.nd_routers.specs.History.{RouterRow, announcements}
-use Rattle.nd_routers.specs.Routers.{same, NoneBefore, next_end, key_at, first_due}
-use Rattle.nd_table.specs.Due.{lesser, is_at, least_date}
+use Rattle.nd_routers.specs.Routers.{same}
+use Rattle.nd_routers.specs.RoutersKept.{NoneBefore, next_end, key_at, first_due}
+use Rattle.nd_table.specs.Due.{lesser}
+use Rattle.nd_table.specs.DueKept.{is_at, least_date}
 use Rattle.nd_table.proofs.Due.{AtMost, AtMost-left, AtMost-right, AtMost-same, AtMost-some, AtMost-none, lesser_is, NotBefore-left, NotBefore-right, NotBefore-both}
 use Rattle.nd_routers.specs.Due.{IsDue, FirstDue, NextDue}
 

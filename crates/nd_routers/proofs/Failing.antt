@@ -6,11 +6,13 @@ use Rattle.std.proofs.lemmas.Bool.{cond_both, true≢false}
 use Rattle.nd_addr.specs.declared.preference.Preference.{Preference}
 use Rattle.nd_table.specs.Announcements.{end_of, stands}
 use Rattle.nd_table.specs.declared.lasting.Lasting.{Lasting}
-use Rattle.nd_table.specs.Listing.{end_in, without, StandsUntilTold}
+use Rattle.nd_table.specs.Listing.{end_in, without}
+use Rattle.nd_table.specs.ListingKept.{StandsUntilTold}
 use Rattle.nd_table.proofs.Finding.{end_in-without}
 use Rattle.nd_routers.proofs.Dues.{length-without}
 use Rattle.nd_routers.specs.History.{RouterRow, Heard, LeftList, Failed, announcements, failure_of}
-use Rattle.nd_routers.specs.RouterFailures.{has_failed, AllLater, InOrder, number_in, Failures, others}
+use Rattle.nd_routers.specs.RouterFailures.{has_failed, AllLater, InOrder, number_in, Failures}
+use Rattle.nd_routers.specs.RouterFailuresKept.{others}
 use Rattle.nd_routers.specs.Routers.{same}
 
 pub has_failed-others : (k key : ℕ) (ks : List ℕ) → has_failed k (others key ks) ≡ (not (eqb key k) && has_failed k ks)

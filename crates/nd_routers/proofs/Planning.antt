@@ -8,19 +8,22 @@ use Rattle.nd_addr.specs.Number.{number_of}
 use Rattle.std.proofs.lemmas.Bool.Decides.{eqb_tells, nat_tests}
 use Rattle.std.proofs.lemmas.Bool.{and_parts, cond_both, cond-true, cond-false, cases_Bool, ne_eqb, eq-eqb, eqb-true, true≢false}
 use Rattle.nd_table.specs.Keyed as keyed
-use Rattle.nd_table.specs.Keyed.{at_key, Unique}
+use Rattle.nd_table.specs.Keyed.{at_key}
+use Rattle.nd_table.specs.KeyedKept.{Unique}
 use Rattle.nd_table.specs.declared.date.Date.{Date}
-use Rattle.nd_table.specs.Due.{NotBefore, is_at}
+use Rattle.nd_table.specs.DueKept.{NotBefore, is_at}
 use Rattle.nd_table.specs.Dates.{Planned, rank, AllAddresses, has, first_moment, date_at, AreDates, Redated}
 use Rattle.nd_table.specs.Ends.{end_time}
 use Rattle.nd_table.proofs.Keyed.{key_is}
 use Rattle.nd_table.proofs.Due.{AtMost, AtMost-same, AtMost-some, AtMost-none, least_at_most, least_unique}
 use Rattle.nd_table.proofs.Dates.{least_unique_is, entry_of, kept, first_before, first_is_there, fewer, redated}
 use Rattle.nd_table.specs.declared.lasting.Lasting.{Lasting}
-use Rattle.nd_table.specs.Listing.{end_in, Distinct, renewed, without, told, announced, open_at, fits}
+use Rattle.nd_table.specs.Listing.{end_in, renewed, without, told, announced, open_at, fits}
+use Rattle.nd_table.specs.ListingKept.{Distinct}
 use Rattle.nd_table.proofs.Finding.{end_in-renewed, end_in-without, end_in-push, absent_of}
 use Rattle.nd_table.proofs.Behind.{open_all, Distinct-filter, Distinct-announced}
-use Rattle.nd_routers.specs.Routers.{same, IsSettled, NoneBefore, next_end, key_at, first_due}
+use Rattle.nd_routers.specs.Routers.{same}
+use Rattle.nd_routers.specs.RoutersKept.{IsSettled, NoneBefore, next_end, key_at, first_due}
 use Rattle.nd_routers.specs.Planned.{key_of, date_of, IsPlanned}
 use Rattle.nd_routers.proofs.Settled.{open_each}
 use Rattle.nd_routers.proofs.Dues.{key_at-now, at-key}

@@ -12,7 +12,8 @@ use Rattle.nd_table.specs.Ends.{end_time}
 use Rattle.nd_routers.specs.declared.preferred.Preferred.{Preferred}
 use Rattle.nd_routers.specs.History.{RouterRow, Heard, preference_of}
 use Rattle.nd_routers.specs.Preferences.{preference_among, preferences_of, preferred_anew, with_preference, without_preference}
-use Rattle.nd_routers.specs.Routers.{IsSettled, keys, same}
+use Rattle.nd_routers.specs.Routers.{same}
+use Rattle.nd_routers.specs.RoutersKept.{IsSettled, keys}
 use Rattle.nd_routers.proofs.Settled.{open_each}
 
 -- the routers of some preferences

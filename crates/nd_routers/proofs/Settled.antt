@@ -6,7 +6,8 @@ use Rattle.std.proofs.lemmas.Bool.{and_parts, and_from}
 use Rattle.nd_table.specs.declared.lasting.Lasting.{Lasting}
 use Rattle.nd_table.specs.Ends.{is_before}
 use Rattle.nd_table.proofs.Steps.{AllOpen}
-use Rattle.nd_routers.specs.Routers.{same, IsSettled, next_end}
+use Rattle.nd_routers.specs.Routers.{same}
+use Rattle.nd_routers.specs.RoutersKept.{IsSettled, next_end}
 use Rattle.nd_table.specs.Due.{lesser}
 
 lesser-open : (now : ℕ) (a b : Option ℕ) → is_before now (lesser a b) ≡ (is_before now a && is_before now b)

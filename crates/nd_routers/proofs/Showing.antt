@@ -4,7 +4,8 @@ use Rattle.nd_addr.specs.declared.preference.Preference.{Preference}
 use Rattle.nd_table.specs.declared.lasting.Lasting.{Lasting}
 use Rattle.nd_table.specs.Listing.{open_at}
 use Rattle.nd_table.specs.Ends.{is_before}
-use Rattle.nd_routers.specs.Shown.{Seen, seen, seen_beside}
+use Rattle.nd_routers.specs.Shown.{Seen, seen}
+use Rattle.nd_routers.specs.ShownKept.{seen_beside}
 
 module _ (now : ℕ) (f : ℕ → Preference) where
   kept : (b : Bool) (e : Lasting ℕ) (shown : List Seen) (es : List (Lasting ℕ)) → shown ≡ map (seen now f) es → cond b (seen now f e ∷ shown) shown ≡ map (seen now f) (cond b (e ∷ es) es)

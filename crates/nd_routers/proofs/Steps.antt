@@ -5,14 +5,17 @@ use Rattle.std.proofs.lemmas.Bool.Decides.{nat_tests, eqb_tells}
 use Rattle.nd_addr.specs.declared.preference.Preference.{Preference}
 use Rattle.nd_table.specs.declared.lasting.Lasting.{Lasting}
 use Rattle.nd_table.specs.Announcements.{Announced, end_of, is_open, stands}
-use Rattle.nd_table.specs.Listing.{end_in, without, announced, open_at, StandsUntilTold}
+use Rattle.nd_table.specs.Listing.{end_in, without, announced, open_at}
+use Rattle.nd_table.specs.ListingKept.{StandsUntilTold}
 use Rattle.nd_table.proofs.Steps.{gains, ends, open_in, AllOpen-announced, AllOpen-filter, lists_at}
 use Rattle.nd_routers.specs.History.{RouterRow, Heard, LeftList, Failed, announcements, preference_of}
 use Rattle.nd_routers.specs.Preferences.{preferences_of, with_preference, without_preference}
 use Rattle.nd_routers.specs.declared.preferred.Preferred.{Preferred}
 use Rattle.nd_routers.specs.RouterAdvertisement.{change_of}
-use Rattle.nd_routers.specs.RouterFailures.{Failures, others}
-use Rattle.nd_routers.specs.Routers.{Table, same, Stands, GainsRow, IsSettled}
+use Rattle.nd_routers.specs.RouterFailures.{Failures}
+use Rattle.nd_routers.specs.RouterFailuresKept.{others}
+use Rattle.nd_routers.specs.Routers.{same}
+use Rattle.nd_routers.specs.RoutersKept.{Table, Stands, GainsRow, IsSettled}
 use Rattle.nd_routers.proofs.Failing.{leaves, fails_again, fails_unlisted, is_removed, is_heard}
 use Rattle.nd_routers.proofs.Preferring.{paired_without, preferences_removed, preferences_told}
 use Rattle.nd_routers.proofs.Settled.{open_each, settled_from}

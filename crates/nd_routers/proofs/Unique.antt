@@ -8,7 +8,8 @@ use Rattle.nd_table.specs.declared.lasting.Lasting.{Lasting}
 use Rattle.nd_routers.specs.History.{RouterRow}
 use Rattle.nd_routers.specs.Preferences.{preferences_of}
 use Rattle.nd_routers.specs.RouterFailures.{has_failed, AllLater, InOrder, Failures}
-use Rattle.nd_routers.specs.Routers.{Table, same, Stands}
+use Rattle.nd_routers.specs.Routers.{same}
+use Rattle.nd_routers.specs.RoutersKept.{Table, Stands}
 use Rattle.nd_routers.proofs.Failing.{head_has, not_first}
 
 abbrev SameKeys : List ℕ → List ℕ → Type 0

@@ -1,12 +1,17 @@
 pub mod RouterFailures
+pub mod RouterFailuresKept
 pub mod Due
 pub mod History
 pub mod Preferences
 pub mod OnLink
+pub mod OnLinkKept
 pub mod OnLinkPrefixes
+pub mod OnLinkPrefixesKept
 pub mod RouterAdvertisement
 pub mod Routers
+pub mod RoutersKept
 pub mod Planned
 pub mod Shown
+pub mod ShownKept
 pub mod View
 pub mod Left

@@ -6,8 +6,6 @@ use Rattle.nd_addr.specs.Number.{holds}
 use Rattle.nd_addr.specs.Prefix.{PrefixValue}
 use Rattle.nd_decode.specs.declared.prefix_info.PrefixInfo.{PrefixInfo}
 use Rattle.nd_decode.specs.Option.{Said, slla, tlla, prefix, redirected, mtu, rdnss, dnssl, other}
-use Rattle.nd_decode.specs.Pieces.{options_left}
-use Rattle.nd_routers.specs.declared.on_link_prefixes.OnLink.{OnLink}
 
 -- how many prefixes may be on the link (our choice)
 abbrev pub max_prefixes : ℕ
@@ -32,7 +30,3 @@ on_link_of (other _ _) = None
 abbrev pub prefixes_in : List Said → List (PrefixValue × ℕ)
 prefixes_in [] = []
 prefixes_in (option ∷ options) = option_to_list (on_link_of option) ++ prefixes_in options
-
--- what an iterator over them has left
-abbrev pub prefixes_left : OnLink → List (PrefixValue × ℕ)
-prefixes_left o = prefixes_in (options_left o.options)

@@ -2,7 +2,7 @@
 use Rattle.std.specs.Prelude.{ℕ, List, Option}
 use Rattle.nd_table.specs.Dates.{Planned, AreDates}
 use Rattle.nd_table.specs.declared.lasting.Lasting.{Lasting}
-use Rattle.nd_table.specs.Listing.{Distinct}
+use Rattle.nd_table.specs.ListingKept.{Distinct}
 use Rattle.nd_routers.specs.Routers.{same}
 
 abbrev pub key_of : Lasting ℕ → ℕ

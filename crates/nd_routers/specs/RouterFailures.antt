@@ -1,5 +1,5 @@
 -- The routers that failed, in the order of their last failures.
-use Rattle.std.specs.Prelude.{◌≡◌, ℕ, ◌+◌, ◌<◌, Bool, false, ◌||◌, ◌&&◌, not, ◌==◌, if◌then◌else◌, List, [], ◌∷◌, filter, Option, Some, None, is_some}
+use Rattle.std.specs.Prelude.{◌≡◌, ℕ, ◌+◌, ◌<◌, Bool, false, ◌||◌, ◌&&◌, ◌==◌, if◌then◌else◌, List, [], ◌∷◌, Option, Some, None, is_some}
 use Rattle.std.specs.Option.{option_map}
 use Rattle.nd_table.specs.Announcements.{end_of}
 use Rattle.nd_routers.specs.History.{RouterRow, announcements, failure_of}
@@ -28,10 +28,6 @@ number_in (Some n) = n
 pub record Failures (history : List RouterRow) (keys : List ℕ) : Type 0 where
   pub each : (key : ℕ) → has_failed key keys ≡ (is_some (end_of (λ a b. a == b) key (announcements history)) && is_some (failure_of key history))
   pub order : InOrder (λ key. number_in (failure_of key history)) keys
-
--- the keys without this one
-abbrev pub others : ℕ → List ℕ → List ℕ
-others key keys = filter (λ k. not (k == key)) keys
 
 -- the place of the key, counted from 0
 abbrev pub place_among : ℕ → List ℕ → Option ℕ

@@ -1,10 +1,9 @@
 -- What is shown of the default routers at a moment (RFC 4861, section 5.1; RFC 4191, section 2.2).
-use Rattle.std.specs.Prelude.{◌≡◌, ℕ, if◌then◌else◌, List, [], ◌∷◌, Option, map}
+use Rattle.std.specs.Prelude.{◌≡◌, ℕ, List, Option, map}
 use Rattle.nd_addr.specs.declared.preference.Preference.{Preference}
 use Rattle.nd_table.specs.declared.lasting.Lasting.{Lasting}
 use Rattle.nd_table.specs.Listing.{Lists}
-use Rattle.nd_table.specs.Ends.{is_before, time_left}
-use Rattle.nd_routers.specs.declared.preferred.Preferred.{Preferred}
+use Rattle.nd_table.specs.Ends.{time_left}
 use Rattle.nd_routers.specs.History.{RouterRow, announcements, preference_of}
 use Rattle.nd_routers.specs.Routers.{same}
 
@@ -22,10 +21,3 @@ seen now preference e = record { key = e.key; left = time_left now e.end; prefer
 abbrev pub Shows : List RouterRow → ℕ → List Seen → Type 0
 Shows history now shown =
     (entries : List (Lasting ℕ)) × Lists same (announcements history) now entries × (shown ≡ map (seen now (λ key. preference_of key history)) entries)
-
--- the same of what is kept: those that haven't ended, each with the preference at its place
-abbrev pub seen_beside : ℕ → List (Lasting ℕ) → List Preferred → List Seen
-seen_beside now [] ps = []
-seen_beside now (e ∷ es) [] = []
-seen_beside now (e ∷ es) (p ∷ ps) =
-    if is_before now e.end then record { key = e.key; left = time_left now e.end; preference = p.preference } ∷ seen_beside now es ps else seen_beside now es ps

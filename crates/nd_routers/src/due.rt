@@ -16,7 +16,8 @@ use std::alloc::Allocator;
 
 impl<A: Allocator> Routers<A> {
     ghost use Rattle.nd_routers.specs.History.{RouterRow, LeftList, announcements};
-    ghost use Rattle.nd_routers.specs.Routers.{same, Stands, GainsRow, next_end, IsSettled, NoneBefore};
+    ghost use Rattle.nd_routers.specs.Routers.{same};
+    ghost use Rattle.nd_routers.specs.RoutersKept.{Stands, GainsRow, next_end, IsSettled, NoneBefore};
     ghost use Rattle.nd_routers.specs.Due.{FirstDue, NextDue};
 
     /// Returns the earliest end of a router's lifetime, in milliseconds, or `None` if no lifetime ends.

@@ -7,7 +7,8 @@ ghost use Rattle.nd_table.specs.Listing.{Lists};
 ghost use Rattle.nd_addr.specs.Prefix.{PrefixValue};
 ghost use Rattle.nd_addr.specs.Same.{same_prefix};
 ghost use Rattle.nd_routers.specs.History.{RouterRow};
-ghost use Rattle.nd_routers.specs.Routers.{Table, same, Stands};
+ghost use Rattle.nd_routers.specs.Routers.{same};
+ghost use Rattle.nd_routers.specs.RoutersKept.{Table, Stands};
 ghost use Rattle.nd_routers.specs.RouterFailures.{Failures};
 ghost use Rattle.nd_routers.specs.Due.{FirstDue};
 

@@ -1,9 +1,10 @@
 ghost use Rattle.std.specs.Prelude.{◌≡◌, ◌≤◌, ◌-◌, ◌/◌, ◌^◌, List, false, nat_eq};
 ghost use Rattle.std.specs.List.{list_any};
 ghost use Rattle.nd_addr.specs.Number.{holds, number_of};
-ghost use Rattle.nd_table.specs.Listing.{open_at, Lists, Stands};
+ghost use Rattle.nd_table.specs.Listing.{open_at, Lists};
+ghost use Rattle.nd_table.specs.ListingKept.{Stands};
 ghost use Rattle.nd_addr.specs.Kind.{link_local_subnet};
-ghost use Rattle.nd_routers.specs.OnLink.{least_end};
+ghost use Rattle.nd_routers.specs.OnLinkKept.{least_end};
 ghost use Rattle.nd_addr.specs.Prefix.{PrefixValue};
 ghost use Rattle.nd_addr.specs.Same.{same_prefix};
 ghost use Rattle.nd_table.specs.declared.lasting.Lasting.{Lasting};
@@ -15,7 +16,8 @@ use nd_table::{Lasting, Standing, lesser};
 use std::alloc::Allocator;
 
 impl<A: Allocator> Prefixes<A> {
-    ghost use Rattle.nd_routers.specs.OnLink.{least_end, is_held};
+    ghost use Rattle.nd_routers.specs.OnLink.{is_held};
+    ghost use Rattle.nd_routers.specs.OnLinkKept.{least_end};
 
     /// Returns true if an address is on the link at `now`, in milliseconds: in a prefix that hasn't ended, or in fe80::/64 (RFC 4861, section 5.2).
     pub fn on_link(&self, now: u64, address: Addr) -> bool

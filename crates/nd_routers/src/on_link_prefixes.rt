@@ -1,13 +1,14 @@
 ghost use Rattle.std.specs.Prelude.{◌≡◌, ◌≤◌, ◌<◌, ◌↔◌, List, IfErr, OnOk, OnErr, IsErr, length, true, false};
-ghost use Rattle.nd_routers.specs.OnLinkPrefixes.{is_on_link, max_prefixes};
+ghost use Rattle.nd_routers.specs.OnLinkPrefixes.{is_on_link, max_prefixes, prefixes_in};
 ghost use Rattle.nd_addr.specs.Prefix.{PrefixValue};
 ghost use Rattle.nd_addr.specs.Same.{same_prefix};
 ghost use Rattle.nd_decode.specs.Pieces.{options_left};
 ghost use Rattle.nd_table.specs.Announcements.{Row, last_moment};
-ghost use Rattle.nd_table.specs.Listing.{fits, announced_all, then_announced, Distinct, Lists, Stands};
+ghost use Rattle.nd_table.specs.Listing.{fits, then_announced, Lists};
+ghost use Rattle.nd_table.specs.ListingKept.{announced_all, Distinct, Stands};
 ghost use Rattle.nd_table.specs.declared.lasting.Lasting.{Lasting as Entry};
 ghost use Rattle.nd_table.specs.Moment.{IsMoment};
-ghost use Rattle.nd_routers.specs.OnLinkPrefixes.{prefixes_in, prefixes_left};
+ghost use Rattle.nd_routers.specs.OnLinkPrefixesKept.{prefixes_left};
 ghost use Rattle.nd_table.specs.Refreshing.{only_refreshes};
 
 use crate::prefixes::{MAX_PREFIXES, Prefixes};
@@ -84,7 +85,8 @@ pub(crate) struct OnLink<'a> {
 }
 
 impl Announces<Prefix, Prefix> for OnLink<'_> {
-    ghost use Rattle.nd_routers.specs.OnLinkPrefixes.{prefixes_in, prefixes_left};
+    ghost use Rattle.nd_routers.specs.OnLinkPrefixes.{prefixes_in};
+    ghost use Rattle.nd_routers.specs.OnLinkPrefixesKept.{prefixes_left};
 
     ghost told = { prefixes_left };
 

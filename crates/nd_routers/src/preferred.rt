@@ -26,7 +26,8 @@ impl Preferred {
 
 impl<A: Allocator> Routers<A> {
     ghost use Rattle.nd_routers.specs.History.{RouterRow, announcements, preference_of};
-    ghost use Rattle.nd_routers.specs.Routers.{same, Stands};
+    ghost use Rattle.nd_routers.specs.Routers.{same};
+    ghost use Rattle.nd_routers.specs.RoutersKept.{Stands};
 
     /// Returns the preference of a router of the list, or Medium if it isn't in the list. It takes no memory.
     pub fn preference(&self, source: Addr) -> Preference

@@ -3,7 +3,8 @@ ghost use Rattle.nd_addr.specs.Prefix.{PrefixValue};
 ghost use Rattle.nd_addr.specs.Same.{same_prefix};
 ghost use Rattle.nd_table.specs.declared.lasting.Lasting.{Lasting};
 ghost use Rattle.nd_table.specs.Announcements.{Row, Cleared, last_moment};
-ghost use Rattle.nd_table.specs.Listing.{open_at, Stands};
+ghost use Rattle.nd_table.specs.Listing.{open_at};
+ghost use Rattle.nd_table.specs.ListingKept.{Stands};
 ghost use Rattle.nd_table.specs.Left.{lifetimes_left};
 ghost use Rattle.nd_table.specs.Shown.{seen, Shows};
 ghost use Rattle.nd_routers.specs.OnLinkPrefixes.{max_prefixes};
@@ -28,7 +29,7 @@ impl<A: Allocator> Model for Prefixes<A> {
     ghost use Rattle.nd_addr.specs.Prefix.{PrefixValue};
     ghost use Rattle.nd_routers.specs.OnLinkPrefixes.{max_prefixes};
     ghost use Rattle.nd_table.specs.declared.lasting.Lasting.{Lasting};
-    ghost use Rattle.nd_table.specs.Listing.{Distinct};
+    ghost use Rattle.nd_table.specs.ListingKept.{Distinct};
     ghost use Rattle.nd_addr.specs.Same.{same_prefix};
 
     ghost Value = { List (Lasting PrefixValue) };

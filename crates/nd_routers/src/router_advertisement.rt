@@ -32,7 +32,8 @@ pub enum Change {
 
 impl<A: Allocator> Routers<A> {
     ghost use Rattle.nd_routers.specs.History.{RouterRow, Heard, announcements};
-    ghost use Rattle.nd_routers.specs.Routers.{same, Stands, GainsRow, IsSettled};
+    ghost use Rattle.nd_routers.specs.Routers.{same};
+    ghost use Rattle.nd_routers.specs.RoutersKept.{Stands, GainsRow, IsSettled};
     ghost use Rattle.nd_routers.specs.RouterAdvertisement.{change_of};
 
     /// Returns true if there is room for a router that announces itself at `now`, in milliseconds, for a lifetime in seconds: then `heard_ra` isn't

@@ -1,6 +1,7 @@
 ghost use Rattle.std.specs.Prelude.{◌≡◌, ◌≤◌, ◌<◌, vec_len, vec_capacity, ℕ, List, IfSome, Some, slice_get};
 ghost use Rattle.nd_addr.specs.Number.{number_of};
-ghost use Rattle.nd_routers.specs.RouterFailures.{others, place_among};
+ghost use Rattle.nd_routers.specs.RouterFailures.{place_among};
+ghost use Rattle.nd_routers.specs.RouterFailuresKept.{others};
 ghost use Rattle.nd_routers.specs.Preferences.{preference_among};
 ghost use Rattle.std.specs.Option.{option_map};
 ghost use Rattle.nd_table.specs.Announcements.{stands};
@@ -24,7 +25,7 @@ pub struct Listed {
 
 impl<A: Allocator> Routers<A> {
     ghost use Rattle.nd_routers.specs.History.{RouterRow, Failed};
-    ghost use Rattle.nd_routers.specs.Routers.{Stands, GainsRow, keys};
+    ghost use Rattle.nd_routers.specs.RoutersKept.{Stands, GainsRow, keys};
     ghost use Rattle.nd_routers.specs.RouterFailures.{place_among, FailsAt};
 
     /// Notes the failure of a router that can't be reached, if it is in the list, so that it is chosen last (RFC 4861, section 6.3.6). It takes no

@@ -29,7 +29,8 @@ pub struct Routers<A: Allocator> {
 impl<A: Allocator> Model for Routers<A> {
     ghost use Rattle.std.specs.Prelude.{◌≤◌, ◌≡◌, map};
     ghost use Rattle.std.specs.Vec.{vec_len, vec_capacity};
-    ghost use Rattle.nd_routers.specs.Routers.{Table, keys, max_routers};
+    ghost use Rattle.nd_routers.specs.Routers.{max_routers};
+    ghost use Rattle.nd_routers.specs.RoutersKept.{Table, keys};
     ghost use Rattle.nd_routers.specs.Planned.{IsPlanned};
 
     ghost Value = { Table };
@@ -41,7 +42,8 @@ impl<A: Allocator> Model for Routers<A> {
 
 impl<A: Allocator + Clone> Routers<A> {
     ghost use Rattle.nd_routers.specs.History.{RouterRow};
-    ghost use Rattle.nd_routers.specs.Routers.{max_routers, Stands, then_left, keys};
+    ghost use Rattle.nd_routers.specs.Routers.{max_routers};
+    ghost use Rattle.nd_routers.specs.RoutersKept.{Stands, then_left, keys};
 
     /// Returns an empty list with room for `limit` routers, 1 to 64, all of it reserved here. Returns an error if out of memory.
     pub fn new(alloc: A, limit: usize) -> Result<Self, AllocError>
@@ -81,7 +83,8 @@ impl<A: Allocator + Clone> Routers<A> {
 
 impl<A: Allocator> Routers<A> {
     ghost use Rattle.nd_routers.specs.History.{RouterRow, announcements};
-    ghost use Rattle.nd_routers.specs.Routers.{max_routers, same, Stands};
+    ghost use Rattle.nd_routers.specs.Routers.{max_routers, same};
+    ghost use Rattle.nd_routers.specs.RoutersKept.{Stands};
 
     /// Returns true if a router is in the list at `now`, in milliseconds.
     pub fn holds(&self, now: u64, source: Addr) -> bool

@@ -1,7 +1,7 @@
 //! The default routers as they are at a moment. The definitions are in `specs/Shown.antt`.
 
 ghost use Rattle.std.specs.Prelude.{◌≡◌, List};
-ghost use Rattle.nd_routers.specs.Shown.{seen_beside};
+ghost use Rattle.nd_routers.specs.ShownKept.{seen_beside};
 
 use crate::preferred::Preferred;
 use crate::router::Router;
@@ -23,7 +23,7 @@ pub struct DefaultRouter {
 impl<A: Allocator> Routers<A> {
     ghost use Rattle.nd_routers.specs.History.{RouterRow};
     ghost use Rattle.nd_routers.specs.Left.{routers_left};
-    ghost use Rattle.nd_routers.specs.Routers.{Stands};
+    ghost use Rattle.nd_routers.specs.RoutersKept.{Stands};
     ghost use Rattle.nd_routers.specs.Shown.{Shows};
 
     /// Returns the routers in the list as they are at `now`, in milliseconds, in the order in which they entered it. It takes no memory.

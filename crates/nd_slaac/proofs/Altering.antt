@@ -3,8 +3,8 @@ use Rattle.std.proofs.Common.{◌≡◌, ℕ, List, ◌∷◌, Some, None, refl,
 use Rattle.nd_table.proofs.Keyed.{key_is, put_in}
 use Rattle.nd_slaac.specs.History as kinds
 use Rattle.nd_slaac.specs.History.{RowKind, Story, is_end, Lifetimes}
-use Rattle.nd_slaac.specs.Address.{Address, address_of}
-use Rattle.nd_slaac.specs.Table.{key_of, address_in, GainsRow}
+use Rattle.nd_slaac.specs.AddressKept.{Address, address_of}
+use Rattle.nd_slaac.specs.TableKept.{key_of, address_in, GainsRow}
 use Rattle.nd_slaac.specs.Calls.{formed, announced, failed, Alters}
 use Rattle.nd_slaac.proofs.Changes.{when_formed, when_announced, when_conflict}
 use Rattle.nd_slaac.proofs.Steps.{changing, entering}

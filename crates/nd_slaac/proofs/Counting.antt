@@ -11,10 +11,11 @@ use Rattle.nd_table.proofs.Keyed.{put_in}
 use Rattle.nd_slaac.specs.declared.prefix_option.Taken.{Taken}
 use Rattle.nd_slaac.specs.declared.prefix_option.Taken.TheVariants.{Formed, Renewed, Ignored}
 use Rattle.nd_slaac.specs.declared.prefix_option.Full.{Full}
-use Rattle.nd_slaac.specs.Address.{Address}
-use Rattle.nd_slaac.specs.Table.{key_of, address_in}
+use Rattle.nd_slaac.specs.AddressKept.{Address}
+use Rattle.nd_slaac.specs.TableKept.{key_of, address_in}
 use Rattle.nd_slaac.specs.PrefixOption.{is_taken, named_by, lifetimes_of, is_forming, prefixes_in}
-use Rattle.nd_slaac.specs.Room.{is_among, would_form, fits_in, is_formed_by, new_in}
+use Rattle.nd_slaac.specs.Room.{is_among, would_form, fits_in}
+use Rattle.nd_slaac.specs.RoomKept.{is_formed_by, new_in}
 use Rattle.nd_slaac.specs.Calls.{keys_in, formed, announced, taken_by, Changes, row_taken, GainsRowIfAny}
 use Rattle.nd_slaac.specs.History.{Row, story}
 use Rattle.nd_slaac.specs.State.{is_known}

@@ -15,8 +15,8 @@ use Rattle.nd_slaac.specs.declared.destination.Counted.TheVariants.{Own, Assigne
 use Rattle.nd_slaac.specs.History.{Row, Story, story}
 use Rattle.nd_slaac.specs.State.{Forming, forming_of, has_conflict, was_assigned, sent_of}
 use Rattle.nd_slaac.specs.Ends.{preferred_end, valid_end}
-use Rattle.nd_slaac.specs.Address.{Address, address_by, stage_by}
-use Rattle.nd_slaac.specs.Table.{key_of, address_in, Stands}
+use Rattle.nd_slaac.specs.AddressKept.{Address, address_by, stage_by}
+use Rattle.nd_slaac.specs.TableKept.{key_of, address_in, Stands}
 use Rattle.nd_slaac.specs.Destination.{counts, counts_in, counted_in, is_meant, is_asked, end_alike, is_to, IsTo}
 
 -- ---- one of the entries

@@ -4,13 +4,13 @@ use Rattle.std.specs.Prelude.{is_some, ◌&&◌, not}
 use Rattle.std.specs.List.{remove}
 use Rattle.std.proofs.lemmas.Bool.Decides.{nat_tests}
 use Rattle.std.proofs.lemmas.Bool.{true≢false, cases_Bool}
-use Rattle.nd_table.specs.Due.{NotBefore}
+use Rattle.nd_table.specs.DueKept.{NotBefore}
 use Rattle.nd_slaac.specs.declared.stage.Stage.{Stage}
 use Rattle.nd_slaac.specs.declared.stage.Stage.TheVariants.{Detecting, Failed, Passed}
 use Rattle.nd_slaac.specs.History.{Row, Story, story, is_end}
-use Rattle.nd_slaac.specs.State.{Forming, forming_of, is_known, has_conflict, was_assigned, sent_of, is_tentative}
-use Rattle.nd_slaac.specs.Address.{Address, step_at, stage_by, address_of}
-use Rattle.nd_slaac.specs.Table.{key_of, address_in, Stands, GainsRow}
+use Rattle.nd_slaac.specs.State.{Forming, forming_of, is_known, has_conflict, was_assigned, sent_of, is_tentative, step_at}
+use Rattle.nd_slaac.specs.AddressKept.{Address, stage_by, address_of}
+use Rattle.nd_slaac.specs.TableKept.{key_of, address_in, Stands, GainsRow}
 use Rattle.nd_slaac.specs.Due.{Falls, Ends, Solicits, Assigns, IsStep, date_by, IsDue, key_in, pass_of, NotAfter, IsFirst, FirstDue, NextDue, happens, due_row}
 use Rattle.nd_slaac.specs.Dates.{earlier, end_date, stage_date, next_step, first_at, next_in, NoneBefore, falls_by, stage_after, stepped, Turns, Goes, Steps, Rests, turns_to, turns_left}
 use Rattle.nd_slaac.specs.MayCome.{IsTurn, MayCome}

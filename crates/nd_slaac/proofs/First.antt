@@ -1,8 +1,8 @@
 -- The two dates of an address, and the earlier of them.
 use Rattle.std.proofs.Common.{◌≡◌, ℕ, ◌<◌, List, [], ◌∷◌, length, get_or, Some, None, sym, subst, arith, suc, zero, inl, inr}
-use Rattle.nd_table.specs.Due.{NotBefore}
+use Rattle.nd_table.specs.DueKept.{NotBefore}
 use Rattle.nd_table.proofs.Due.{AtMost, AtMost-left, AtMost-right, AtMost-same, head_none, lesser_is, NotBefore-left, NotBefore-right}
-use Rattle.nd_slaac.specs.Address.{Address}
+use Rattle.nd_slaac.specs.AddressKept.{Address}
 use Rattle.nd_slaac.specs.Dates.{end_date, next_step, earlier, first_at, next_in, NoneBefore}
 
 pub at_most_end : (n : ℕ) (a : Address) → end_date a ≡ Some n → AtMost (earlier a) n

@@ -5,14 +5,13 @@ use Rattle.nd_addr.specs.declared.mac.Mac.{Mac}
 use Rattle.nd_decode.specs.declared.prefix_info.PrefixInfo.{PrefixInfo}
 use Rattle.nd_slaac.specs.declared.prefix_option.Taken.{Taken}
 use Rattle.nd_slaac.specs.declared.prefix_option.Full.{Full}
-use Rattle.nd_slaac.specs.Address.{Address}
-use Rattle.nd_slaac.specs.Table.{Table, address_in}
+use Rattle.nd_slaac.specs.AddressKept.{Address}
+use Rattle.nd_slaac.specs.TableKept.{Table, address_in, Stands}
 use Rattle.nd_slaac.specs.PrefixOption.{is_taken, named_by, lifetimes_of}
 use Rattle.nd_slaac.specs.Room.{fits_in, would_form}
 use Rattle.nd_slaac.specs.Calls.{keys_in, taken_by, Changes, row_taken, GainsRowIfAny}
 use Rattle.nd_slaac.specs.History.{Row, story}
 use Rattle.nd_slaac.specs.State.{is_known}
-use Rattle.nd_slaac.specs.Table.{Stands}
 use Rattle.nd_slaac.specs.MayCome.{MayCome}
 use Rattle.nd_slaac.proofs.Stories.{known_story}
 use Rattle.nd_slaac.proofs.Counting.{gains_taken, comes_taken, fits_on, keys_on}

@@ -8,8 +8,7 @@ use Rattle.nd_slaac.specs.History.{RowKind, Formed, Announced, Solicited, Confli
 use Rattle.nd_table.specs.Ends.{is_before}
 use Rattle.nd_table.proofs.Pasts.{past-length, past-same}
 use Rattle.nd_slaac.specs.Ends.{valid_end}
-use Rattle.nd_slaac.specs.State.{Forming, forming_of, is_known, has_conflict, was_assigned, sent_of, is_tentative, is_assigned}
-use Rattle.nd_slaac.specs.Address.{step_at}
+use Rattle.nd_slaac.specs.State.{Forming, forming_of, is_known, has_conflict, was_assigned, sent_of, is_tentative, is_assigned, step_at}
 use Rattle.nd_slaac.specs.Due.{Falls, Ends, Assigns, step_date, date_by, IsDue}
 use Rattle.nd_slaac.specs.MayCome.{IsTurn, MayCome, IsHistory, Tried, Held}
 use Rattle.nd_slaac.proofs.Steps.{other_story, same_story, ended_story}

@@ -3,13 +3,12 @@ use Rattle.std.proofs.Common.{◌≡◌, ℕ, ◌<◌, Bool, true, false, eqb, l
 use Rattle.std.specs.Prelude.{is_some, slice_get, IfSome, IfNone, ◌||◌}
 use Rattle.std.proofs.lemmas.Bool.{cases_Bool}
 use Rattle.nd_table.proofs.Keyed.{put_in}
-use Rattle.nd_slaac.specs.Address.{Address}
-use Rattle.nd_slaac.specs.Table.{key_of, address_in}
+use Rattle.nd_slaac.specs.AddressKept.{Address}
+use Rattle.nd_slaac.specs.TableKept.{key_of, address_in, Stands}
 use Rattle.nd_slaac.specs.Room.{is_among}
 use Rattle.nd_slaac.specs.Calls.{keys_in}
 use Rattle.nd_slaac.specs.History.{Row, story}
 use Rattle.nd_slaac.specs.State.{is_known}
-use Rattle.nd_slaac.specs.Table.{Stands}
 use Rattle.nd_slaac.proofs.Stories.{known_story}
 
 -- an address is known where its number is among those

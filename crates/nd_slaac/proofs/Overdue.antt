@@ -2,14 +2,14 @@
 use Rattle.std.proofs.Common.{◌≡◌, ℕ, ◌+◌, ◌*◌, ◌≤◌, true, false, cond, eqb, ltb, List, [], ◌∷◌, Option, Some, None, refl, sym, arith, ⊎_elim}
 use Rattle.std.specs.Prelude.{max}
 use Rattle.std.proofs.lemmas.Bool.{true≢false, cond_both, cases_lt}
-use Rattle.nd_table.specs.Due.{NotBefore}
+use Rattle.nd_table.specs.DueKept.{NotBefore}
 use Rattle.nd_table.specs.Ends.{end_time}
 use Rattle.nd_slaac.specs.History.{Row, Story, story, RowKind, Formed, Announced, Solicited, Conflict, Assigned, Ended, is_end}
 use Rattle.nd_slaac.specs.Ends.{valid_end}
 use Rattle.nd_slaac.specs.TwoHours.{two_hours, renewed, within_two_hours}
-use Rattle.nd_slaac.specs.State.{Forming, forming_of, is_known, sent_of}
-use Rattle.nd_slaac.specs.Address.{Address, step_at}
-use Rattle.nd_slaac.specs.Table.{Stands}
+use Rattle.nd_slaac.specs.State.{Forming, forming_of, is_known, sent_of, step_at}
+use Rattle.nd_slaac.specs.AddressKept.{Address}
+use Rattle.nd_slaac.specs.TableKept.{Stands}
 use Rattle.nd_slaac.specs.Due.{Falls, Ends, Solicits, Assigns, IsStep, date_by, IsDue, NextDue, NoneOverdue}
 use Rattle.nd_slaac.specs.Dates.{next_in, NoneBefore}
 use Rattle.nd_slaac.proofs.Dues.{next_is_due, tentative_parts}

@@ -4,14 +4,15 @@ use Rattle.std.specs.Prelude.{IfSome, IfNone}
 use Rattle.std.specs.List.{remove}
 use Rattle.nd_table.specs.Keyed.{Rises, at_key}
 use Rattle.nd_table.specs.declared.date.Date.{Date}
-use Rattle.nd_table.specs.Due.{lesser, least_date, is_at, NotBefore}
+use Rattle.nd_table.specs.Due.{lesser}
+use Rattle.nd_table.specs.DueKept.{least_date, is_at, NotBefore}
 use Rattle.nd_table.specs.Dates.{Planned, rank, AllAddresses, has, first_moment, AreDates, Redated}
 use Rattle.nd_table.proofs.Keyed.{key_is, at_place, put_in, Rises-put, Rises-unique}
 use Rattle.nd_table.proofs.Due.{least_both, NotBefore-left, NotBefore-right}
 use Rattle.nd_table.proofs.Dates.{least_is, no_more, fewer}
 use Rattle.nd_table.proofs.Stays.{set_rises, set_dates, own_date, remove_rises, gone_dates, kept_dates, came_dates}
-use Rattle.nd_slaac.specs.Address.{Address}
-use Rattle.nd_slaac.specs.Table.{key_of, address_in}
+use Rattle.nd_slaac.specs.AddressKept.{Address}
+use Rattle.nd_slaac.specs.TableKept.{key_of, address_in}
 use Rattle.nd_slaac.specs.Dates.{end_date, next_step, next_in, NoneBefore}
 use Rattle.nd_slaac.specs.Room.{max_addresses}
 use Rattle.nd_slaac.specs.Calls.{failed, Alters}

@@ -6,10 +6,11 @@ use Rattle.nd_table.proofs.Mapped.{at_key-map, Rises-map}
 use Rattle.nd_slaac.specs.History.{Row, story}
 use Rattle.nd_slaac.specs.Ends.{preferred_end, valid_end}
 use Rattle.nd_slaac.specs.State.{Forming, forming_of, has_conflict, was_assigned, sent_of, state_by}
-use Rattle.nd_slaac.specs.Address.{Address, stage_by, address_by, state_in}
-use Rattle.nd_slaac.specs.Table.{key_of, address_in, Stands}
+use Rattle.nd_slaac.specs.AddressKept.{Address, stage_by, address_by, state_in}
+use Rattle.nd_slaac.specs.TableKept.{key_of, address_in, Stands}
 use Rattle.nd_table.specs.Ends.{time_left}
-use Rattle.nd_slaac.specs.Shown.{Seen, seen, seen_of, seen_key, Lists}
+use Rattle.nd_slaac.specs.Shown.{Seen, seen_of, seen_key, Lists}
+use Rattle.nd_slaac.specs.ShownKept.{seen}
 
 state_is : (f : Forming) (c w : Bool) (sent t : ℕ) (end : Option ℕ) → state_in (stage_by f c w sent) end t ≡ state_by c w end t
 state_is f true w sent t end = refl

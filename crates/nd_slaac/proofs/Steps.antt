@@ -4,8 +4,8 @@ use Rattle.std.specs.List.{remove}
 use Rattle.std.proofs.lemmas.Bool.{eqb-true, eq-eqb, cond-true, cond-false, cases_Bool}
 use Rattle.nd_table.proofs.Keyed.{at_key-set, Rises-set, at_key-remove, Rises-remove, put_in, at_key-put, Rises-put}
 use Rattle.nd_slaac.specs.History.{RowKind, Ended, is_end, Row, Story, story}
-use Rattle.nd_slaac.specs.Address.{Address, address_of}
-use Rattle.nd_slaac.specs.Table.{key_of, address_in, Stands, GainsRow}
+use Rattle.nd_slaac.specs.AddressKept.{Address, address_of}
+use Rattle.nd_slaac.specs.TableKept.{key_of, address_in, Stands, GainsRow}
 
 -- the story of another address goes on unchanged
 pub other_story : (k key at : ℕ) (h : RowKind) (history : List Row) → eqb key k ≡ false → story k ((at, key, h) ∷ history) ≡ story k history

@@ -4,8 +4,8 @@ use Rattle.std.specs.Prelude.{is_some}
 use Rattle.std.proofs.lemmas.Bool.{true≢false}
 use Rattle.nd_slaac.specs.History.{Story}
 use Rattle.nd_slaac.specs.Ends.{preferred_end, valid_end}
-use Rattle.nd_slaac.specs.State.{Forming, forming_of, is_known, has_conflict, was_assigned, sent_of}
-use Rattle.nd_slaac.specs.Address.{Address, step_at, stage_by, address_by, address_of}
+use Rattle.nd_slaac.specs.State.{Forming, forming_of, is_known, has_conflict, was_assigned, sent_of, step_at}
+use Rattle.nd_slaac.specs.AddressKept.{Address, stage_by, address_by, address_of}
 use Rattle.nd_slaac.specs.Dates.{stage_date, next_step}
 
 -- the address that the story of a forming makes

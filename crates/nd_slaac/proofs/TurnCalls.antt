@@ -3,8 +3,8 @@ use Rattle.std.proofs.Common.{◌≡◌, ℕ, ◌<◌, List, Option, Some, None,
 use Rattle.std.specs.Prelude.{IfSome, IfNone, ◌≢◌}
 use Rattle.std.specs.Option.{option_map}
 use Rattle.nd_slaac.specs.History.{Row}
-use Rattle.nd_slaac.specs.Address.{Address}
-use Rattle.nd_slaac.specs.Table.{Table, Stands, GainsRow}
+use Rattle.nd_slaac.specs.AddressKept.{Address}
+use Rattle.nd_slaac.specs.TableKept.{Table, Stands, GainsRow}
 use Rattle.nd_slaac.specs.Due.{Falls, FirstDue, due_row}
 use Rattle.nd_slaac.specs.Dates.{next_in, NoneBefore, turns_left, Turns, Rests}
 use Rattle.nd_slaac.specs.MayCome.{MayCome}

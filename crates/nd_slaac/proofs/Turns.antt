@@ -5,7 +5,7 @@ use Rattle.std.specs.List.{remove}
 use Rattle.std.proofs.lemmas.Option.{slice_get-get_or}
 use Rattle.nd_slaac.specs.declared.stage.Stage.{Stage}
 use Rattle.nd_slaac.specs.declared.stage.Stage.TheVariants.{Detecting, Failed, Passed}
-use Rattle.nd_slaac.specs.Address.{Address}
+use Rattle.nd_slaac.specs.AddressKept.{Address}
 use Rattle.nd_slaac.specs.Due.{Falls, Ends}
 use Rattle.nd_slaac.specs.Dates.{end_date, next_step, stage_date, first_at, falls_by, stepped, Turns, Goes, Steps}
 use Rattle.nd_slaac.specs.Calls.{is_detecting}

@@ -2,7 +2,7 @@
 use Rattle.std.specs.Prelude.{◌≡◌, ℕ, ◌+◌, ◌==◌, nat_lt, Bool, true, false, if◌then◌else◌, List, length, map, ◌<◌, slice_index_or, slice_set, Option, Some, None, Result, Ok, Err}
 use Rattle.std.specs.List.{insert}
 use Rattle.nd_addr.specs.declared.mac.Mac.{Mac}
-use Rattle.nd_table.specs.Keyed.{place_of}
+use Rattle.nd_table.specs.KeyedKept.{place_of}
 use Rattle.nd_decode.specs.declared.prefix_info.PrefixInfo.{PrefixInfo}
 use Rattle.nd_slaac.specs.declared.stage.Stage.{Stage}
 use Rattle.nd_slaac.specs.declared.stage.Stage.TheVariants.{Detecting, Failed, Passed}
@@ -14,8 +14,8 @@ use Rattle.nd_slaac.specs.History.{Row, Lifetimes, story}
 use Rattle.nd_slaac.specs.State.{is_known}
 use Rattle.nd_table.specs.Ends.{end_time}
 use Rattle.nd_slaac.specs.TwoHours.{renewed}
-use Rattle.nd_slaac.specs.Address.{Address}
-use Rattle.nd_slaac.specs.Table.{key_of, address_in, GainsRow, Stands}
+use Rattle.nd_slaac.specs.AddressKept.{Address}
+use Rattle.nd_slaac.specs.TableKept.{key_of, address_in, GainsRow, Stands}
 use Rattle.nd_slaac.specs.Room.{max_addresses}
 use Rattle.nd_slaac.specs.PrefixOption.{is_taken, named_by, lifetimes_of}
 

@@ -1,11 +1,12 @@
 -- The same of what is kept: the dates of addresses, the first that is due, and the next moment.
 use Rattle.std.specs.Prelude.{◌≡◌, ℕ, ◌+◌, ◌-◌, ◌<◌, nat_lt, if◌then◌else◌, List, [], ◌∷◌, length, slice_index_or, slice_set, Option, Some, None}
 use Rattle.std.specs.List.{remove}
-use Rattle.nd_table.specs.Due as due
-use Rattle.nd_table.specs.Due.{lesser, least_date, NotBefore}
+use Rattle.nd_table.specs.DueKept as due
+use Rattle.nd_table.specs.Due.{lesser}
+use Rattle.nd_table.specs.DueKept.{least_date, NotBefore}
 use Rattle.nd_slaac.specs.declared.stage.Stage.{Stage}
 use Rattle.nd_slaac.specs.declared.stage.Stage.TheVariants.{Detecting, Failed, Passed}
-use Rattle.nd_slaac.specs.Address.{Address}
+use Rattle.nd_slaac.specs.AddressKept.{Address}
 use Rattle.nd_slaac.specs.Due.{Falls, Ends, Solicits, Assigns}
 
 abbrev pub end_date : Address → Option ℕ

@@ -8,7 +8,7 @@ use Rattle.nd_slaac.specs.declared.destination.Counted.{Counted}
 use Rattle.nd_slaac.specs.declared.destination.Counted.TheVariants.{Own, Assigned}
 use Rattle.nd_slaac.specs.declared.stage.Stage.{Stage}
 use Rattle.nd_slaac.specs.declared.stage.Stage.TheVariants.{Detecting, Failed, Passed}
-use Rattle.nd_slaac.specs.Address.{Address}
+use Rattle.nd_slaac.specs.AddressKept.{Address}
 use Rattle.nd_slaac.specs.History.{Row, Story, story}
 use Rattle.nd_slaac.specs.State.{is_tentative, is_assigned}
 

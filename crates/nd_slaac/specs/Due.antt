@@ -2,8 +2,7 @@
 use Rattle.std.specs.Prelude.{◌≡◌, ℕ, ◌≤◌, ◌<◌, ◌⊎◌, true, List, Option, Some, None}
 use Rattle.nd_slaac.specs.History.{Row, Story, story, RowKind, Solicited, Assigned, Ended}
 use Rattle.nd_slaac.specs.Ends.{valid_end}
-use Rattle.nd_slaac.specs.State.{Forming, forming_of, is_known, is_tentative, sent_of}
-use Rattle.nd_slaac.specs.Address.{step_at}
+use Rattle.nd_slaac.specs.State.{Forming, forming_of, is_known, is_tentative, sent_of, step_at}
 
 -- an address is due: its valid lifetime ends, a solicitation for it is to be sent, or it is assigned
 pub data Falls : Type 0 where

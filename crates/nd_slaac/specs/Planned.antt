@@ -2,8 +2,8 @@
 use Rattle.std.specs.Prelude.{◌≤◌, List}
 use Rattle.nd_table.specs.Keyed.{Rises}
 use Rattle.nd_table.specs.Dates.{Planned, AreDates}
-use Rattle.nd_slaac.specs.Address.{Address}
-use Rattle.nd_slaac.specs.Table.{key_of}
+use Rattle.nd_slaac.specs.AddressKept.{Address}
+use Rattle.nd_slaac.specs.TableKept.{key_of}
 use Rattle.nd_slaac.specs.Dates.{end_date, next_step}
 use Rattle.nd_slaac.specs.Room.{max_addresses}
 

@@ -1,10 +1,10 @@
 -- Whether there is room for the addresses that the prefix options of a Router Advertisement would form.
-use Rattle.std.specs.Prelude.{◌≡◌, ℕ, ◌+◌, nat_lt, Bool, true, false, ◌&&◌, ◌||◌, not, ◌==◌, if◌then◌else◌, List, [], ◌∷◌, length, map}
+use Rattle.std.specs.Prelude.{◌≡◌, ℕ, nat_lt, Bool, true, false, ◌&&◌, ◌||◌, not, ◌==◌, if◌then◌else◌, List, [], ◌∷◌, length, map}
 use Rattle.nd_addr.specs.declared.mac.Mac.{Mac}
 use Rattle.nd_decode.specs.declared.prefix_info.PrefixInfo.{PrefixInfo}
 use Rattle.nd_slaac.specs.History.{Row}
-use Rattle.nd_slaac.specs.Address.{Address}
-use Rattle.nd_slaac.specs.Table.{key_of, Stands}
+use Rattle.nd_slaac.specs.AddressKept.{Address}
+use Rattle.nd_slaac.specs.TableKept.{key_of, Stands}
 use Rattle.nd_slaac.specs.PrefixOption.{is_forming, named_by}
 
 -- how many addresses there may be, the link-local one included (our choice)
@@ -25,17 +25,6 @@ abbrev pub fits_in : Mac → List ℕ → List PrefixInfo → Bool
 fits_in mac keys [] = true
 fits_in mac keys (info ∷ infos) =
     if would_form mac keys info then (nat_lt (length keys) max_addresses && fits_in mac (named_by mac info ∷ keys) infos) else fits_in mac keys infos
-
--- the same without a list of the new ones: some option forms the address
-abbrev pub is_formed_by : Mac → ℕ → List PrefixInfo → Bool
-is_formed_by mac key [] = false
-is_formed_by mac key (info ∷ infos) = (is_forming info && (named_by mac info == key)) || is_formed_by mac key infos
-
--- and how many addresses would be new, each counted where the last option would form it
-abbrev pub new_in : Mac → List ℕ → List PrefixInfo → ℕ
-new_in mac keys [] = 0
-new_in mac keys (info ∷ infos) =
-    if would_form mac keys info && not (is_formed_by mac (named_by mac info) infos) then new_in mac keys infos + 1 else new_in mac keys infos
 
 -- there is room or not, asked of what happened: of the addresses that the history knows
 pub record FitsBy (mac : Mac) (history : List Row) (infos : List PrefixInfo) (fit : Bool) : Type 0 where

@@ -6,7 +6,6 @@ use Rattle.nd_slaac.specs.declared.state.State.{State}
 use Rattle.nd_slaac.specs.History.{Row, Story, story}
 use Rattle.nd_slaac.specs.Ends.{preferred_end, valid_end}
 use Rattle.nd_slaac.specs.State.{is_known, has_conflict, was_assigned, state_by}
-use Rattle.nd_slaac.specs.Address.{Address, state_in}
 
 -- an address, its state, and what is left of its lifetimes, in milliseconds: 0 where they have ended, and nothing for
 -- one without an end
@@ -25,13 +24,6 @@ seen_of key s t =
       preferred_left = time_left t (preferred_end s);
       valid_left = time_left t (valid_end s);
     }) else None
-
--- the same of what is kept
-abbrev pub state_at : ℕ → Address → State
-state_at t a = state_in a.stage a.preferred_end t
-
-abbrev pub seen : ℕ → Address → Seen
-seen t a = record { key = a.key; state = state_at t a; preferred_left = time_left t a.preferred_end; valid_left = time_left t a.valid_end }
 
 abbrev pub seen_key : Seen → ℕ
 seen_key s = s.key

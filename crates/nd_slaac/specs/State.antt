@@ -1,5 +1,5 @@
 -- The state of an address at a moment (RFC 4862, sections 2 and 5.4).
-use Rattle.std.specs.Prelude.{ℕ, ◌+◌, Bool, true, false, ◌&&◌, not, if◌then◌else◌, [], ◌∷◌, Option, Some, None, is_some}
+use Rattle.std.specs.Prelude.{ℕ, ◌+◌, Bool, true, false, ◌&&◌, not, if◌then◌else◌, [], ◌∷◌, Option, Some, None, is_some, ◌*◌}
 use Rattle.nd_slaac.specs.declared.state.State.{State}
 use Rattle.nd_slaac.specs.declared.state.State.TheVariants.{Tentative, Preferred, Deprecated, Duplicate}
 use Rattle.nd_slaac.specs.History.{Story, Formed, Solicited, Conflict, Assigned}
@@ -65,3 +65,7 @@ is_duplicate s = is_known s && has_conflict s
 -- the address is assigned: preferred or deprecated
 abbrev pub is_assigned : Story → Bool
 is_assigned s = is_known s && not (has_conflict s) && was_assigned s
+
+-- the date of a step of the detection, the first being number 0: one RetransTimer lies between two
+abbrev pub step_at : Forming → ℕ → ℕ
+step_at f number = f.at + f.delay + number * f.retrans

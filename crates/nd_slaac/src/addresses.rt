@@ -62,7 +62,7 @@ pub struct Addresses<A: Allocator> {
 impl<A: Allocator> Model for Addresses<A> {
     ghost use Rattle.std.specs.Prelude.{◌≡◌, ◌≤◌};
     ghost use Rattle.std.specs.Vec.{vec_len, vec_capacity};
-    ghost use Rattle.nd_slaac.specs.Table.{Table};
+    ghost use Rattle.nd_slaac.specs.TableKept.{Table};
     ghost use Rattle.nd_slaac.specs.Room.{max_addresses};
     ghost use Rattle.nd_slaac.specs.Planned.{IsPlanned};
     ghost use Rattle.nd_slaac.specs.PrefixOption.{link_local_of};
@@ -77,7 +77,7 @@ impl<A: Allocator> Model for Addresses<A> {
 
 impl<A: Allocator> Addresses<A> {
     ghost use Rattle.nd_slaac.specs.History.{Formed};
-    ghost use Rattle.nd_slaac.specs.Table.{Stands};
+    ghost use Rattle.nd_slaac.specs.TableKept.{Stands};
     ghost use Rattle.nd_slaac.specs.PrefixOption.{link_local_of};
     ghost use Rattle.nd_slaac.specs.Calls.{formed};
 

@@ -5,7 +5,7 @@ ghost use Rattle.std.specs.List.{list_any};
 ghost use Rattle.nd_addr.specs.Kind.{solicited_node_of};
 ghost use Rattle.nd_addr.specs.Number.{number_of};
 ghost use Rattle.nd_table.specs.Keyed.{Rises};
-ghost use Rattle.nd_slaac.specs.Table.{address_in, key_of};
+ghost use Rattle.nd_slaac.specs.TableKept.{address_in, key_of};
 ghost use Rattle.nd_slaac.specs.Destination.{counted_in, end_alike, is_asked, is_to};
 
 use crate::addresses::Addresses;
@@ -26,7 +26,7 @@ pub enum Counted {
 
 impl<A: Allocator> Addresses<A> {
     ghost use Rattle.nd_slaac.specs.History.{Row, story};
-    ghost use Rattle.nd_slaac.specs.Table.{Stands, address_in};
+    ghost use Rattle.nd_slaac.specs.TableKept.{Stands, address_in};
     ghost use Rattle.nd_slaac.specs.Destination.{counts, counted_in, IsTo};
 
     /// Returns true if an address is one of the node's own and counts.

@@ -29,7 +29,7 @@ pub enum Due {
 
 impl<A: Allocator> Addresses<A> {
     ghost use Rattle.nd_slaac.specs.History.{Row};
-    ghost use Rattle.nd_slaac.specs.Table.{Stands, GainsRow};
+    ghost use Rattle.nd_slaac.specs.TableKept.{Stands, GainsRow};
     ghost use Rattle.nd_slaac.specs.Due.{FirstDue, NextDue, due_row};
     ghost use Rattle.nd_slaac.specs.Dates.{next_in, NoneBefore, turns_left};
     ghost use Rattle.nd_slaac.specs.MayCome.{MayCome};

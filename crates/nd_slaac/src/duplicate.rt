@@ -5,7 +5,7 @@ ghost use Rattle.nd_addr.specs.Number.{number_of};
 ghost use Rattle.nd_table.specs.Keyed.{Rises};
 ghost use Rattle.nd_table.specs.Dates.{AreDates};
 ghost use Rattle.nd_slaac.specs.Dates.{next_step};
-ghost use Rattle.nd_slaac.specs.Table.{address_in, key_of};
+ghost use Rattle.nd_slaac.specs.TableKept.{address_in, key_of};
 ghost use Rattle.nd_slaac.specs.Calls.{Alters, failed, detects_in};
 
 use crate::addresses::Addresses;
@@ -18,7 +18,7 @@ use std::alloc::Allocator;
 impl<A: Allocator> Addresses<A> {
     ghost use Rattle.nd_slaac.specs.History.{Row, story, Conflict};
     ghost use Rattle.nd_slaac.specs.State.{is_tentative};
-    ghost use Rattle.nd_slaac.specs.Table.{address_in, Stands, GainsRow};
+    ghost use Rattle.nd_slaac.specs.TableKept.{address_in, Stands, GainsRow};
     ghost use Rattle.nd_slaac.specs.Calls.{detects_in};
     ghost use Rattle.nd_slaac.specs.MayCome.{MayCome};
 

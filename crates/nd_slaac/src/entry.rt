@@ -28,7 +28,7 @@ pub(crate) struct Entry {
 
 impl Model for Entry {
     ghost use Rattle.nd_addr.specs.Number.{number_of};
-    ghost use Rattle.nd_slaac.specs.Address.{Address};
+    ghost use Rattle.nd_slaac.specs.AddressKept.{Address};
 
     ghost Value = { Address };
 
@@ -36,7 +36,7 @@ impl Model for Entry {
 }
 
 impl Addressed for Entry {
-    ghost use Rattle.nd_slaac.specs.Table.{key_of};
+    ghost use Rattle.nd_slaac.specs.TableKept.{key_of};
 
     ghost key = { key_of };
 
@@ -46,11 +46,11 @@ impl Addressed for Entry {
 }
 
 impl Entry {
-    ghost use Rattle.nd_slaac.specs.Address.{Address};
+    ghost use Rattle.nd_slaac.specs.AddressKept.{Address};
     ghost use Rattle.nd_slaac.specs.PrefixOption.{lifetimes_of};
     ghost use Rattle.nd_slaac.specs.Calls.{formed, announced, failed, is_detecting};
     ghost use Rattle.nd_slaac.specs.Dates.{falls_by, stepped};
-    ghost use Rattle.nd_slaac.specs.Shown.{seen, state_at};
+    ghost use Rattle.nd_slaac.specs.ShownKept.{seen, state_at};
     ghost use Rattle.nd_slaac.specs.View.{falls_of, seen_in};
 
     /// Returns the entry of the link-local address, which has no ends (RFC 4862, section 5.3).

@@ -6,9 +6,9 @@ ghost use Rattle.nd_slaac.specs.PrefixOption.{is_taken, named_by, lifetimes_of};
 ghost use Rattle.nd_decode.specs.declared.prefix_info.PrefixInfo.{PrefixInfo};
 ghost use Rattle.nd_slaac.specs.Room.{max_addresses};
 ghost use Rattle.std.specs.List.{insert};
-ghost use Rattle.nd_table.specs.Keyed.{place_of};
+ghost use Rattle.nd_table.specs.KeyedKept.{place_of};
 ghost use Rattle.nd_table.specs.Moment.{IsMoment};
-ghost use Rattle.nd_slaac.specs.Table.{address_in, key_of};
+ghost use Rattle.nd_slaac.specs.TableKept.{address_in, key_of};
 ghost use Rattle.nd_slaac.specs.Planned.{IsPlanned};
 ghost use Rattle.nd_slaac.specs.Calls.{taken_by, Changes};
 
@@ -38,7 +38,7 @@ pub struct Full;
 impl<A: Allocator> Addresses<A> {
     ghost use Rattle.nd_slaac.specs.History.{Row, story};
     ghost use Rattle.nd_slaac.specs.State.{is_known};
-    ghost use Rattle.nd_slaac.specs.Table.{address_in, Stands};
+    ghost use Rattle.nd_slaac.specs.TableKept.{address_in, Stands};
     ghost use Rattle.nd_slaac.specs.PrefixOption.{named_by};
     ghost use Rattle.nd_slaac.specs.Room.{fits_in, would_form};
     ghost use Rattle.nd_slaac.specs.Calls.{keys_in, taken_of, row_taken, GainsRowIfAny, TakenBy};

@@ -4,9 +4,10 @@ ghost use Rattle.std.specs.Prelude.{◌≡◌, ◌≤◌, ◌&&◌, ◌==◌, no
 ghost use Rattle.nd_addr.specs.Number.{number_of};
 ghost use Rattle.nd_decode.specs.Pieces.{options_left};
 ghost use Rattle.nd_slaac.specs.PrefixOption.{is_forming, named_by, prefixes_in};
-ghost use Rattle.nd_slaac.specs.Room.{is_among, would_form, is_formed_by, fits_in, max_addresses};
+ghost use Rattle.nd_slaac.specs.Room.{is_among, would_form, fits_in, max_addresses};
+ghost use Rattle.nd_slaac.specs.RoomKept.{is_formed_by};
 ghost use Rattle.nd_table.specs.Keyed.{Rises};
-ghost use Rattle.nd_slaac.specs.Table.{key_of};
+ghost use Rattle.nd_slaac.specs.TableKept.{key_of};
 ghost use Rattle.nd_slaac.specs.Calls.{keys_in};
 ghost use Rattle.nd_decode.specs.declared.prefix_info.PrefixInfo.{PrefixInfo};
 
@@ -23,7 +24,7 @@ impl<A: Allocator> Addresses<A> {
     ghost use Rattle.nd_slaac.specs.Room.{would_form, fits_in, FitsBy};
     ghost use Rattle.nd_slaac.specs.History.{Row, story};
     ghost use Rattle.nd_slaac.specs.State.{is_known};
-    ghost use Rattle.nd_slaac.specs.Table.{Stands};
+    ghost use Rattle.nd_slaac.specs.TableKept.{Stands};
     ghost use Rattle.nd_slaac.specs.Calls.{keys_in};
 
     /// Returns true if a prefix option would form an address, given room for it (RFC 4862, section 5.5.3 a to d). An address is known until `turn`

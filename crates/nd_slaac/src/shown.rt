@@ -4,8 +4,8 @@ ghost use Rattle.std.specs.Prelude.{◌≡◌, List, map};
 ghost use Rattle.std.specs.Option.{option_map};
 ghost use Rattle.nd_addr.specs.Number.{number_of};
 ghost use Rattle.nd_table.specs.Keyed.{Rises};
-ghost use Rattle.nd_slaac.specs.Table.{address_in, key_of};
-ghost use Rattle.nd_slaac.specs.Shown.{state_at};
+ghost use Rattle.nd_slaac.specs.TableKept.{address_in, key_of};
+ghost use Rattle.nd_slaac.specs.ShownKept.{state_at};
 
 use crate::addresses::Addresses;
 use crate::entry::Entry;
@@ -28,8 +28,8 @@ pub struct OwnAddress {
 impl<A: Allocator> Addresses<A> {
     ghost use Rattle.nd_slaac.specs.History.{Row, story};
     ghost use Rattle.nd_slaac.specs.State.{state_of, is_duplicate};
-    ghost use Rattle.nd_slaac.specs.Table.{Stands, address_in};
-    ghost use Rattle.nd_slaac.specs.Shown.{state_at};
+    ghost use Rattle.nd_slaac.specs.TableKept.{Stands, address_in};
+    ghost use Rattle.nd_slaac.specs.ShownKept.{state_at};
 
     /// Returns the state of an address at `now`, in milliseconds, if it is known (RFC 4862, section 2).
     pub fn state(&self, now: u64, addr: Addr) -> Option<State>
@@ -49,8 +49,9 @@ impl<A: Allocator> Addresses<A> {
 
 impl<A: Allocator> Addresses<A> {
     ghost use Rattle.nd_slaac.specs.History.{Row};
-    ghost use Rattle.nd_slaac.specs.Table.{Stands};
-    ghost use Rattle.nd_slaac.specs.Shown.{seen, Lists};
+    ghost use Rattle.nd_slaac.specs.TableKept.{Stands};
+    ghost use Rattle.nd_slaac.specs.Shown.{Lists};
+    ghost use Rattle.nd_slaac.specs.ShownKept.{seen};
     ghost use Rattle.nd_slaac.specs.Left.{addresses_left};
 
     /// Returns all addresses as they are at `now`, in milliseconds, in the order of their numbers. It takes no memory.
@@ -70,7 +71,7 @@ pub struct OwnAddresses<'a> {
 }
 
 impl<'a> OwnAddresses<'a> {
-    ghost use Rattle.nd_slaac.specs.Shown.{seen};
+    ghost use Rattle.nd_slaac.specs.ShownKept.{seen};
     ghost use Rattle.nd_slaac.specs.Left.{addresses_left};
 
     /// Returns the addresses of all entries, as they are at a moment, in milliseconds.

@@ -4,15 +4,15 @@ use Rattle.std.specs.Prelude.{◌&&◌}
 use Rattle.nd_table.specs.Announcements.{stands}
 use Rattle.nd_routers.specs.History as router_rows
 use Rattle.nd_routers.specs.History.{announcements}
-use Rattle.nd_routers.specs.Routers as routers
+use Rattle.nd_routers.specs.RoutersKept as routers
 use Rattle.nd_routers.specs.Routers.{same}
 use Rattle.nd_nexthop.specs.History as redirect_rows
 use Rattle.nd_nexthop.specs.Choice as choice
 use Rattle.nd_nexthop.specs.Memo.{forgotten}
-use Rattle.nd_slaac.specs.Address as own
+use Rattle.nd_slaac.specs.AddressKept as own
 use Rattle.nd_slaac.specs.History as address_rows
 use Rattle.nd_slaac.specs.State as states
-use Rattle.nd_slaac.specs.Table as addresses
+use Rattle.nd_slaac.specs.TableKept as addresses
 use Rattle.nd_chronicle.specs.Happening.{Address, LeftRouter}
 use Rattle.nd_out.specs.declared.out.Out.{Out}
 use Rattle.nd_out.specs.Out.{happening}

@@ -12,8 +12,8 @@ use Rattle.nd_slaac.specs.declared.prefix_option.Full.{Full}
 use Rattle.nd_slaac.specs.History as address_rows
 use Rattle.nd_slaac.specs.History.{Row, story}
 use Rattle.nd_slaac.specs.State.{is_known}
-use Rattle.nd_slaac.specs.Address.{Address}
-use Rattle.nd_slaac.specs.Table.{Table, Stands}
+use Rattle.nd_slaac.specs.AddressKept.{Address}
+use Rattle.nd_slaac.specs.TableKept.{Table, Stands}
 use Rattle.nd_slaac.specs.PrefixOption.{is_taken, is_forming, named_by, lifetimes_of}
 use Rattle.nd_slaac.specs.Calls.{taken_of, taken_by, row_taken, GainsRowIfAny}
 use Rattle.nd_chronicle.specs.Start.{Start}

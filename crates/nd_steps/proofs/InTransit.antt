@@ -14,11 +14,12 @@ use Rattle.nd_addr.proofs.ByteLists.{IsBytes-drop}
 use Rattle.nd_compose.specs.Frames.{open_mac}
 use Rattle.nd_compose.specs.Redirect.{redirect_frame}
 use Rattle.nd_neighbour.specs.declared.shown.Neighbour.{Neighbour}
-use Rattle.nd_neighbour.specs.Entry.{NeighbourEntry}
+use Rattle.nd_neighbour.specs.EntryKept.{NeighbourEntry}
 use Rattle.nd_neighbour.specs.History.{Story, story}
-use Rattle.nd_neighbour.specs.Shown.{seen}
-use Rattle.nd_neighbour.specs.Story.{is_present, mac_of, the_entry}
-use Rattle.nd_neighbour.specs.Table.{Stands, entry_in}
+use Rattle.nd_neighbour.specs.ShownKept.{seen}
+use Rattle.nd_neighbour.specs.Story.{is_present, mac_of}
+use Rattle.nd_neighbour.specs.StoryKept.{the_entry}
+use Rattle.nd_neighbour.specs.TableKept.{Stands, entry_in}
 use Rattle.nd_neighbour.specs.View.{seen_in}
 use Rattle.nd_neighbour.proofs.Stories.{absent_mac}
 use Rattle.nd_neighbour.proofs.Dues.{known_by}

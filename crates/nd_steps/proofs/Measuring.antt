@@ -6,8 +6,9 @@ use Rattle.nd_decode.specs.Option.{Said}
 use Rattle.nd_decode.specs.declared.body.Body.TheVariants as bodies
 use Rattle.nd_decode.specs.declared.router_advertisement.RouterAdvertisement.{RouterAdvertisement}
 use Rattle.nd_params.specs.History.{then_heard}
-use Rattle.nd_params.specs.Params as parameters
-use Rattle.nd_params.specs.Params.{Values, redraws}
+use Rattle.nd_params.specs.ParamsKept as parameters
+use Rattle.nd_params.specs.Params.{redraws}
+use Rattle.nd_params.specs.ParamsKept.{Values}
 use Rattle.nd_chronicle.specs.Start.{Start}
 use Rattle.nd_chronicle.specs.Happening.{Chronicle, Heard}
 use Rattle.nd_chronicle.specs.Histories.{parameter_history}

@@ -4,12 +4,13 @@ use Rattle.std.specs.Prelude.{◌||◌, ◌↔◌, is_some, MatchBool}
 use Rattle.nd_neighbour.specs.declared.news.News.{News}
 use Rattle.nd_neighbour.specs.declared.news.News.TheVariants as news
 use Rattle.nd_neighbour.specs.declared.news.Times.{Times}
-use Rattle.nd_neighbour.specs.Entry.{NeighbourEntry}
+use Rattle.nd_neighbour.specs.EntryKept.{NeighbourEntry}
 use Rattle.nd_neighbour.specs.History.{Row}
 use Rattle.nd_neighbour.specs.News.{news_row, lets_enter}
-use Rattle.nd_neighbour.specs.Place.{WouldBeFull, NoPlace, has_place}
-use Rattle.nd_neighbour.specs.Room.{has_room}
-use Rattle.nd_neighbour.specs.Table.{Stands, entry_in}
+use Rattle.nd_neighbour.specs.Place.{WouldBeFull}
+use Rattle.nd_neighbour.specs.PlaceKept.{NoPlace, has_place}
+use Rattle.nd_neighbour.specs.RoomKept.{has_room}
+use Rattle.nd_neighbour.specs.TableKept.{Stands, entry_in}
 use Rattle.nd_chronicle.specs.Start.{Start}
 use Rattle.nd_chronicle.specs.Happening.{Chronicle}
 use Rattle.nd_chronicle.specs.Histories.{neighbour_history}

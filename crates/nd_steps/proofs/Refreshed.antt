@@ -5,14 +5,16 @@ use Rattle.std.proofs.lemmas.Bool.Decides.{eqb_tells}
 use Rattle.nd_addr.specs.Prefix.{PrefixValue}
 use Rattle.nd_addr.specs.Same.{same_prefix}
 use Rattle.nd_table.specs.declared.lasting.Lasting.{Lasting}
-use Rattle.nd_table.specs.Listing.{announced, announced_all, end_in, open_at}
+use Rattle.nd_table.specs.Listing.{announced, end_in, open_at}
+use Rattle.nd_table.specs.ListingKept.{announced_all}
 use Rattle.nd_table.proofs.Behind.{open_all}
 use Rattle.nd_addr.specs.declared.preference.Preference.{Preference}
 use Rattle.nd_routers.specs.declared.preferred.Preferred.{Preferred}
 use Rattle.nd_routers.specs.Preferences.{preference_among, with_preference}
 use Rattle.nd_table.specs.Refreshing.{only_refreshes}
-use Rattle.nd_routers.specs.Routers as routers
-use Rattle.nd_routers.specs.Routers.{same, IsSettled}
+use Rattle.nd_routers.specs.RoutersKept as routers
+use Rattle.nd_routers.specs.Routers.{same}
+use Rattle.nd_routers.specs.RoutersKept.{IsSettled}
 use Rattle.nd_routers.proofs.Preferring.{same_preferences}
 use Rattle.nd_table.proofs.Refreshing.{announced_keys, keys_of, refreshed_keys}
 use Rattle.nd_routers.proofs.Refreshing.{held_by_keys}

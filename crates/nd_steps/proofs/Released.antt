@@ -7,12 +7,13 @@ use Rattle.nd_addr.specs.Number.{number_of, mac_at}
 use Rattle.nd_addr.specs.declared.mac.Mac.{Mac}
 use Rattle.nd_neighbour.specs.declared.news.News.{News}
 use Rattle.nd_neighbour.specs.declared.news.Times.{Times}
-use Rattle.nd_neighbour.specs.Entry.{NeighbourEntry}
+use Rattle.nd_neighbour.specs.EntryKept.{NeighbourEntry}
 use Rattle.nd_neighbour.specs.History.{Row, Story, story}
-use Rattle.nd_neighbour.specs.News.{GainsNews, Tells, news_key, news_row, mac_given, released_by}
+use Rattle.nd_neighbour.specs.News.{news_key, news_row, mac_given, released_by}
+use Rattle.nd_neighbour.specs.NewsKept.{GainsNews, Tells}
 use Rattle.nd_neighbour.specs.Place.{Prepares}
 use Rattle.nd_neighbour.specs.Story.{mac_of}
-use Rattle.nd_neighbour.specs.Table.{Stands}
+use Rattle.nd_neighbour.specs.TableKept.{Stands}
 use Rattle.nd_chronicle.specs.Happening.{Happening, Sent}
 use Rattle.nd_out.specs.declared.out.Out.{Out}
 use Rattle.nd_steps.specs.NeighbourCache.{said_by, sent_if_known, released_frames, HearsOf}

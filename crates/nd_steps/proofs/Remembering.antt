@@ -9,22 +9,24 @@ use Rattle.nd_addr.specs.Number.{addr_at, number_of}
 use Rattle.nd_addr.specs.Prefix.{PrefixValue}
 use Rattle.nd_table.specs.declared.lasting.Lasting.{Lasting}
 use Rattle.nd_table.specs.Listing.{open_at}
-use Rattle.nd_neighbour.specs.Entry.{NeighbourEntry}
-use Rattle.nd_neighbour.specs.Table.{entry_in}
-use Rattle.nd_routers.specs.OnLink.{is_held, least_end}
+use Rattle.nd_neighbour.specs.EntryKept.{NeighbourEntry}
+use Rattle.nd_neighbour.specs.TableKept.{entry_in}
+use Rattle.nd_routers.specs.OnLink.{is_held}
+use Rattle.nd_routers.specs.OnLinkKept.{least_end}
 use Rattle.nd_routers.specs.RouterFailures.{place_among}
 use Rattle.nd_routers.specs.Preferences.{preference_among}
-use Rattle.nd_routers.specs.Routers as routers
-use Rattle.nd_slaac.specs.Address.{Address}
+use Rattle.nd_routers.specs.RoutersKept as routers
+use Rattle.nd_slaac.specs.AddressKept.{Address}
 use Rattle.nd_slaac.specs.declared.destination.Counted.TheVariants.{Own}
 use Rattle.nd_slaac.specs.Destination.{counted_in}
-use Rattle.nd_slaac.specs.Table.{address_in}
+use Rattle.nd_slaac.specs.TableKept.{address_in}
 use Rattle.nd_table.specs.Due.{lesser}
 use Rattle.nd_table.specs.Ends.{is_before}
 use Rattle.nd_nexthop.specs.Choice.{Table, Agrees, target_in}
 use Rattle.nd_nexthop.specs.DefaultRouter.{DefaultRouter, chosen_router}
 use Rattle.nd_nexthop.specs.Memo.{IsHop, forgotten, is_asked}
-use Rattle.nd_nexthop.specs.NextHop.{hop, hop_of, is_own_or_none}
+use Rattle.nd_nexthop.specs.NextHop.{hop, is_own_or_none}
+use Rattle.nd_nexthop.specs.NextHopKept.{hop_of}
 use Rattle.nd_nexthop.specs.declared.next_hop.Hop.{Hop}
 use Rattle.nd_nexthop.proofs.Recalled as recalled
 use Rattle.nd_steps.specs.NextHop.{candidate_in, candidates_in, is_resolved}

@@ -6,15 +6,18 @@ use Rattle.nd_neighbour.specs.declared.news.Flags.{Flags}
 use Rattle.nd_neighbour.specs.declared.news.News.{News}
 use Rattle.nd_neighbour.specs.declared.news.News.TheVariants as news
 use Rattle.nd_neighbour.specs.declared.news.Times.{Times}
-use Rattle.nd_neighbour.specs.Entry.{NeighbourEntry, Stage, Known, Resolving}
+use Rattle.nd_neighbour.specs.EntryKept.{NeighbourEntry, Stage, Known, Resolving}
 use Rattle.nd_neighbour.specs.History as rows
 use Rattle.nd_neighbour.specs.History.{is_end, story}
 use Rattle.nd_neighbour.specs.NeighborAdvertisement.{taken}
-use Rattle.nd_neighbour.specs.News.{GainsNews, lets_enter, news_key, news_row, was_known}
-use Rattle.nd_neighbour.specs.Sending.{GainsPacket, Sending, sending_in, sending_to, then_packet}
-use Rattle.nd_neighbour.specs.Story.{is_present, mac_of, entry_of}
-use Rattle.nd_neighbour.specs.Table as neighbours
-use Rattle.nd_neighbour.specs.Table.{entry_in}
+use Rattle.nd_neighbour.specs.News.{lets_enter, news_key, news_row}
+use Rattle.nd_neighbour.specs.NewsKept.{GainsNews, was_known}
+use Rattle.nd_neighbour.specs.Sending.{Sending, then_packet}
+use Rattle.nd_neighbour.specs.SendingKept.{GainsPacket, sending_in, sending_to}
+use Rattle.nd_neighbour.specs.Story.{is_present, mac_of}
+use Rattle.nd_neighbour.specs.StoryKept.{entry_of}
+use Rattle.nd_neighbour.specs.TableKept as neighbours
+use Rattle.nd_neighbour.specs.TableKept.{entry_in}
 use Rattle.nd_nexthop.specs.Choice.{Table}
 use Rattle.nd_nexthop.specs.Memo.{forgotten}
 use Rattle.nd_steps.specs.NextHop.{is_resolved}

@@ -3,7 +3,7 @@ use Rattle.std.proofs.Common.{◌≡◌, ℕ, ◌∷◌, Bool, true, false, List
 use Rattle.std.specs.Prelude.{◌==◌, if◌then◌else◌}
 use Rattle.nd_addr.specs.declared.role.Role.{Role}
 use Rattle.nd_addr.specs.declared.role.Role.TheVariants.{Host, Router}
-use Rattle.nd_table.specs.Due.{NotBefore}
+use Rattle.nd_table.specs.DueKept.{NotBefore}
 use Rattle.nd_advertiser.specs.Advertising.{advertised_by, next_of}
 use Rattle.nd_advertiser.specs.Calls.{next}
 use Rattle.nd_advertiser.specs.Config.{Settings}

@@ -4,13 +4,14 @@ use Rattle.std.specs.Prelude.{◌&&◌, ◌==◌, not, MatchBool, if◌then◌el
 use Rattle.std.specs.List.{flat_map}
 use Rattle.nd_addr.specs.Frame.{addressed}
 use Rattle.nd_addr.specs.Number.{mac_at}
-use Rattle.nd_neighbour.specs.Entry.{NeighbourEntry}
+use Rattle.nd_neighbour.specs.EntryKept.{NeighbourEntry}
 use Rattle.nd_neighbour.specs.History.{Row, RowKind, story, Forgot, PushedOut}
 use Rattle.nd_neighbour.specs.Due as dates
+use Rattle.nd_neighbour.specs.DueKept as kept_dates
 use Rattle.nd_neighbour.specs.News.{released_by}
 use Rattle.nd_neighbour.specs.Place.{MakesPlace, HadPlace, Pushed, Prepares, pushing}
 use Rattle.nd_neighbour.specs.Story.{is_present, mac_of}
-use Rattle.nd_neighbour.specs.Table.{Stands}
+use Rattle.nd_neighbour.specs.TableKept.{Stands}
 use Rattle.nd_chronicle.specs.Start.{Start}
 use Rattle.nd_chronicle.specs.Happening.{Chronicle, Sent, last_moment}
 use Rattle.nd_chronicle.specs.Histories.{parameter_history, neighbour_history, router_history, prefix_history, address_history, server_history, name_history, redirect_history, then_neighbour}
@@ -139,7 +140,7 @@ placed_by start c now (Some said) made law is place =
 
 -- laws of the neighbours
 abbrev pub OverdueByTable : Type 0
-OverdueByTable = (entries : List NeighbourEntry) (history : List Row) (now : ℕ) → Stands entries history → dates.NoneBefore entries now ↔ dates.NoneOverdue history now
+OverdueByTable = (entries : List NeighbourEntry) (history : List Row) (now : ℕ) → Stands entries history → kept_dates.NoneBefore entries now ↔ dates.NoneOverdue history now
 
 abbrev pub NoneOverdueStill : Type 0
 NoneOverdueStill = (history : List Row) (now key : ℕ) (kind : RowKind) → dates.NoneOverdue history now → dates.NoneOverdue ((now, key, kind) ∷ history) now
@@ -160,7 +161,7 @@ made_later still law limit now (Some said) history made place h =
     rw p.1 (pushed_later still now p.0 history h)
 
 pub none_before_said : OverdueByTable → NoneOverdueStill → OneGoes → (limit now : ℕ) (said : Option (ℕ × RowKind)) (old new : List NeighbourEntry) (history made : List Row)
-    → Stands old history → PreparesFor limit now said history made → Stands new (then_neighbour now said made) → dates.NoneBefore old now → dates.NoneBefore new now
+    → Stands old history → PreparesFor limit now said history made → Stands new (then_neighbour now said made) → kept_dates.NoneBefore old now → kept_dates.NoneBefore new now
 none_before_said table still law limit now said old new history made before place after h =
     (table new (then_neighbour now said made) now after).1 (said_later still now said made (made_later still law limit now said history made place ((table old history now before).0 h)))
 

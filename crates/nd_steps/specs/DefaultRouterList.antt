@@ -9,9 +9,8 @@ use Rattle.nd_routers.specs.Routers.{same}
 use Rattle.nd_nexthop.specs.Memo.{forgotten}
 use Rattle.nd_out.specs.declared.out.Out.{Out}
 use Rattle.nd_steps.specs.Outputs.{happenings}
-use Rattle.nd_routers.specs.Routers as routers
+use Rattle.nd_routers.specs.RoutersKept as routers
 use Rattle.nd_nexthop.specs.Choice as choice
-use Rattle.nd_slaac.specs.Table as addresses
 
 -- ---- a Router Advertisement (section 6.3.4)
 

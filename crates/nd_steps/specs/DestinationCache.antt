@@ -6,26 +6,28 @@ use Rattle.nd_addr.specs.Prefix.{PrefixValue}
 use Rattle.nd_addr.specs.declared.preference.Preference.{Preference}
 use Rattle.nd_table.specs.declared.lasting.Lasting.{Lasting}
 use Rattle.nd_table.specs.Listing.{end_in, open_at}
-use Rattle.nd_neighbour.specs.Entry.{NeighbourEntry}
+use Rattle.nd_neighbour.specs.EntryKept.{NeighbourEntry}
 use Rattle.nd_neighbour.specs.History.{Row}
 use Rattle.nd_neighbour.specs.Sending.{Sending, Sends, Queues}
-use Rattle.nd_neighbour.specs.Table.{entry_in}
-use Rattle.nd_routers.specs.OnLink.{is_held, least_end}
+use Rattle.nd_neighbour.specs.TableKept.{entry_in}
+use Rattle.nd_routers.specs.OnLink.{is_held}
+use Rattle.nd_routers.specs.OnLinkKept.{least_end}
 use Rattle.nd_routers.specs.Preferences.{preference_among}
 use Rattle.nd_addr.specs.declared.mac.Mac.{Mac}
 use Rattle.nd_decode.specs.declared.prefix_info.PrefixInfo.{PrefixInfo}
-use Rattle.nd_slaac.specs.Address.{Address}
+use Rattle.nd_slaac.specs.AddressKept.{Address}
 use Rattle.nd_slaac.specs.Due.{Falls, Ends}
 use Rattle.nd_slaac.specs.Room.{would_form}
 use Rattle.nd_slaac.specs.declared.destination.Counted.TheVariants.{Own}
 use Rattle.nd_slaac.specs.Destination.{counted_in}
-use Rattle.nd_slaac.specs.Table.{address_in}
+use Rattle.nd_slaac.specs.TableKept.{address_in}
 use Rattle.nd_nexthop.specs.Choice.{Table, Agrees}
 use Rattle.nd_nexthop.specs.Memo.{forgotten, is_asked}
 use Rattle.nd_steps.specs.NextHop.{candidates_in, is_resolved}
 use Rattle.nd_neighbour.specs.Due as neighbours_due
-use Rattle.nd_neighbour.specs.Table as neighbours
+use Rattle.nd_neighbour.specs.TableKept as neighbours
 use Rattle.nd_routers.specs.Routers as routers
+use Rattle.nd_routers.specs.RoutersKept as kept_routers
 
 -- one of the node's own addresses
 abbrev pub own_in : List Address → List ℕ → Bool
@@ -36,7 +38,7 @@ abbrev pub linked_by : List (Lasting PrefixValue) → List ℕ → Bool
 linked_by standing address = is_held address standing
 
 -- What a choice remembers is what these tables say, at this moment and as long as it may be used: no prefix that stands now ends before.
-pub record Remembers (at : ℕ) (choice : Table) (addresses : List Address) (prefixes : List (Lasting PrefixValue)) (entries : List NeighbourEntry) (table : routers.Table) : Type 0 where
+pub record Remembers (at : ℕ) (choice : Table) (addresses : List Address) (prefixes : List (Lasting PrefixValue)) (entries : List NeighbourEntry) (table : kept_routers.Table) : Type 0 where
   pub until : (moment : ℕ) → at ≤ moment → is_asked moment choice.memory.until ≡ true → open_at moment prefixes ≡ open_at at prefixes
   pub agrees : Agrees at (own_in addresses) (linked_by (open_at at prefixes)) (candidates_in entries table) choice
 
@@ -54,7 +56,7 @@ pub data MayRemember (old_choice new_choice : Table) (old new : List NeighbourEn
   Keeps : new_choice ≡ old_choice → AsResolved old new → MayRemember old_choice new_choice old new
 
 -- they are forgotten where a neighbour failed or aged, and else kept; a further solicitation doesn't change the routers either
-abbrev pub Remembering : neighbours_due.Falls → Table → Table → routers.Table → routers.Table → Type 0
+abbrev pub Remembering : neighbours_due.Falls → Table → Table → kept_routers.Table → kept_routers.Table → Type 0
 Remembering (neighbours_due.Fails key packets) old new old_routers new_routers = new.memory ≡ forgotten old.memory
 Remembering (neighbours_due.Ages key) old new old_routers new_routers = new.memory ≡ forgotten old.memory
 Remembering _ old new old_routers new_routers = (new ≡ old) × (new_routers ≡ old_routers)
@@ -70,15 +72,15 @@ pub record Recollects (old new : Table) (Same : Type 0) : Type 0 where
   pub until : new.memory.until ≡ old.memory.until
 
 -- an advertisement only refreshes a router that is listed at the moment, with the same preference as before
-pub record Refreshes (now key lifetime : ℕ) (preference : Preference) (table : routers.Table) : Type 0 where
+pub record Refreshes (now key lifetime : ℕ) (preference : Preference) (table : kept_routers.Table) : Type 0 where
   pub goes_on : not (lifetime == 0) ≡ true
   pub listed : is_some (end_in routers.same key (open_at now table.entries)) ≡ true
   pub preferred : preference_among key table.preferences ≡ preference
 
 -- the list of routers is the same as far as next hops depend on it: a router was only refreshed
-pub record AsListed (old_choice new_choice : Table) (old new : routers.Table) : Type 0 where
+pub record AsListed (old_choice new_choice : Table) (old new : kept_routers.Table) : Type 0 where
   pub redirects : new_choice.redirects ≡ old_choice.redirects
-  pub keys : routers.keys new.entries ≡ routers.keys old.entries
+  pub keys : kept_routers.keys new.entries ≡ kept_routers.keys old.entries
   pub preferences : (key : ℕ) → preference_among key new.preferences ≡ preference_among key old.preferences
   pub failed : new.failed ≡ old.failed
 

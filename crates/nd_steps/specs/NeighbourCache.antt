@@ -7,13 +7,14 @@ use Rattle.nd_addr.specs.Number.{mac_at, addr_at}
 use Rattle.nd_packet.specs.Waiting.{max_waiting}
 use Rattle.nd_neighbour.specs.declared.news.News.{News}
 use Rattle.nd_neighbour.specs.declared.news.Times.{Times}
-use Rattle.nd_neighbour.specs.Entry.{NeighbourEntry}
+use Rattle.nd_neighbour.specs.EntryKept.{NeighbourEntry}
 use Rattle.nd_neighbour.specs.History.{Row, RowKind, story}
 use Rattle.nd_neighbour.specs.News.{news_key, news_row, lets_enter, released_by, ends_router}
-use Rattle.nd_neighbour.specs.Place.{Prepares, NoPlace, WouldBeFull}
+use Rattle.nd_neighbour.specs.Place.{Prepares, WouldBeFull}
+use Rattle.nd_neighbour.specs.PlaceKept.{NoPlace}
 use Rattle.nd_neighbour.specs.Removal.{waiting_at}
 use Rattle.nd_neighbour.specs.Story.{mac_of}
-use Rattle.nd_neighbour.specs.Table.{Stands, entry_in}
+use Rattle.nd_neighbour.specs.TableKept.{Stands, entry_in}
 use Rattle.nd_chronicle.specs.Happening.{Happening, Sent, Lost, Replaced}
 use Rattle.nd_chronicle.specs.Histories.{then_neighbour}
 use Rattle.nd_out.specs.declared.out.Out.{Out}

@@ -1,12 +1,12 @@
 -- The default routers, by what a node keeps, as the choice among them sees them (RFC 4861, section 6.3.6; RFC 4191,
 -- section 3.2).
 use Rattle.std.specs.Prelude.{ℕ, Bool, false, is_some, List, map, Option, Some, None}
-use Rattle.nd_neighbour.specs.Entry.{NeighbourEntry, known_mac}
-use Rattle.nd_neighbour.specs.Table.{entry_in}
+use Rattle.nd_neighbour.specs.EntryKept.{NeighbourEntry, known_mac}
+use Rattle.nd_neighbour.specs.TableKept.{entry_in}
 use Rattle.nd_routers.specs.RouterFailures.{place_among}
 use Rattle.nd_routers.specs.Preferences.{preference_among}
 use Rattle.nd_nexthop.specs.DefaultRouter.{DefaultRouter}
-use Rattle.nd_routers.specs.Routers as routers
+use Rattle.nd_routers.specs.RoutersKept as routers
 
 -- a neighbour in any state other than INCOMPLETE
 abbrev pub is_resolved : Option NeighbourEntry → Bool

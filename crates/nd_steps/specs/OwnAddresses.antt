@@ -1,7 +1,7 @@
 -- What happens to the node's own addresses (RFC 4862, section 5), and which of them count for a frame.
 use Rattle.std.specs.Prelude.{◌≡◌, ℕ, Bool, true, false, List, [], ◌∷◌, ◌++◌}
 use Rattle.nd_table.specs.Announcements.{stands}
-use Rattle.nd_slaac.specs.Address.{Address}
+use Rattle.nd_slaac.specs.AddressKept.{Address}
 use Rattle.nd_slaac.specs.History.{Row, Conflict, story}
 use Rattle.nd_slaac.specs.State.{is_tentative}
 use Rattle.nd_chronicle.specs.Happening.{Happening, Chronicle}
@@ -11,12 +11,12 @@ use Rattle.nd_slaac.specs.declared.destination.Counted.{Counted}
 use Rattle.nd_slaac.specs.declared.destination.Counted.TheVariants.{Own, Assigned}
 use Rattle.nd_chronicle.specs.OwnAddress.{is_own, is_assigned}
 use Rattle.rand_core.specs.Stream.{Stream, next_u32}
-use Rattle.nd_slaac.specs.Table.{Table}
+use Rattle.nd_slaac.specs.TableKept.{Table}
 use Rattle.nd_chronicle.specs.Start.{Start}
 use Rattle.nd_chronicle.specs.Histories.{address_history}
 use Rattle.nd_chronicle.specs.InForce.{retrans_timer}
 use Rattle.nd_chronicle.specs.Generator.{stream_left, delay_drawn}
-use Rattle.nd_slaac.specs.Table as addresses
+use Rattle.nd_slaac.specs.TableKept as addresses
 use Rattle.nd_chronicle.specs.Happening as happening
 
 -- ---- another node has an address (RFC 4862, section 5.4.4)

@@ -4,7 +4,8 @@ use Rattle.rand_core.specs.Stream.{Stream, next_u32}
 use Rattle.nd_addr.specs.declared.addr.Addr.{Addr}
 use Rattle.nd_decode.specs.Option.{Said}
 use Rattle.nd_decode.specs.declared.router_advertisement.RouterAdvertisement.{RouterAdvertisement}
-use Rattle.nd_params.specs.Params.{Values, redraws}
+use Rattle.nd_params.specs.Params.{redraws}
+use Rattle.nd_params.specs.ParamsKept.{Values}
 use Rattle.nd_chronicle.specs.Start.{Start}
 use Rattle.nd_chronicle.specs.Happening.{Chronicle, Heard}
 use Rattle.nd_chronicle.specs.Histories.{parameter_history}
@@ -12,7 +13,7 @@ use Rattle.nd_chronicle.specs.InForce.{base_reachable_time}
 use Rattle.nd_chronicle.specs.Generator.{stream_left, reachable_drawn}
 use Rattle.nd_chronicle.specs.RouterAdvertisement.{redrawing}
 use Rattle.nd_decode.specs.declared.body.Body.TheVariants as bodies
-use Rattle.nd_params.specs.Params as parameters
+use Rattle.nd_params.specs.ParamsKept as parameters
 
 -- a ReachableTime for the base, and what the generator will answer then, where one is drawn
 abbrev pub redraw_from : Bool → ℕ → Stream → Option ℕ × Stream

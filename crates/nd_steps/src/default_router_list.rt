@@ -5,7 +5,8 @@ ghost use Rattle.nd_addr.specs.Number.{number_of};
 ghost use Rattle.nd_table.specs.Announcements.{stands};
 ghost use Rattle.nd_table.specs.Listing.{fits};
 ghost use Rattle.nd_routers.specs.History.{RouterRow, Heard, announcements};
-ghost use Rattle.nd_routers.specs.Routers.{same, IsSettled};
+ghost use Rattle.nd_routers.specs.Routers.{same};
+ghost use Rattle.nd_routers.specs.RoutersKept.{IsSettled};
 ghost use Rattle.nd_nexthop.specs.History.{RedirectRow};
 ghost use Rattle.nd_steps.specs.DestinationCache.{AsListed, Recollects, Refreshes, Remembering};
 ghost use Rattle.nd_steps.specs.DefaultRouterList.{with_left, with_gone, left_told, Leaves, Notes};
@@ -15,7 +16,7 @@ ghost use Rattle.nd_steps.specs.Outputs.{at_moment, happenings};
 ghost use Rattle.nd_nexthop.specs.Memo.{forgotten};
 ghost use Rattle.nd_neighbour.specs.View.{falls_of};
 ghost use Rattle.nd_chronicle.specs.Happening.{LeftRouter};
-ghost use Rattle.nd_routers.specs.Routers as list;
+ghost use Rattle.nd_routers.specs.RoutersKept as list;
 ghost use Rattle.nd_nexthop.specs.Choice as redirects;
 
 use crate::destination_cache::keep_if;

@@ -7,10 +7,11 @@ ghost use Rattle.nd_decode.specs.Pieces.{options_left};
 ghost use Rattle.nd_table.specs.Announcements.{Row, last_moment};
 ghost use Rattle.nd_table.specs.Listing.{fits, then_announced};
 ghost use Rattle.nd_table.specs.Moment.{IsMoment};
-ghost use Rattle.nd_dns.specs.Dns.{max_servers, max_names, new_names};
+ghost use Rattle.nd_dns.specs.Dns.{max_servers, max_names};
+ghost use Rattle.nd_dns.specs.DnsKept.{new_names};
 ghost use Rattle.nd_dns.specs.AnnouncedNames.{same_name, names_told};
 ghost use Rattle.nd_dns.specs.AnnouncedServers.{servers_told};
-ghost use Rattle.nd_dns.specs.Dns as known;
+ghost use Rattle.nd_dns.specs.DnsKept as known;
 
 use nd_addr::Addr;
 use nd_decode::Options;

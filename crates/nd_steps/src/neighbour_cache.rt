@@ -4,7 +4,7 @@ ghost use Rattle.std.specs.Prelude.{◌≡◌, List, Some, None, true, false, �
 ghost use Rattle.std.specs.Option.{option_map};
 ghost use Rattle.nd_neighbour.specs.declared.news.Times.{Times};
 ghost use Rattle.nd_neighbour.specs.History.{Row};
-ghost use Rattle.nd_neighbour.specs.Table.{Stands, entry_in};
+ghost use Rattle.nd_neighbour.specs.TableKept.{Stands, entry_in};
 ghost use Rattle.nd_chronicle.specs.Start.{Start};
 ghost use Rattle.nd_chronicle.specs.Happening.{Chronicle, Sent, Forgotten, Lost};
 ghost use Rattle.nd_chronicle.specs.Histories.{neighbour_history};

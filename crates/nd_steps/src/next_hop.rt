@@ -2,9 +2,10 @@
 
 ghost use Rattle.std.specs.Prelude.{◌≡◌, ◌↔◌, true};
 ghost use Rattle.nd_addr.specs.Number.{number_of};
-ghost use Rattle.nd_neighbour.specs.Table.{entry_in};
+ghost use Rattle.nd_neighbour.specs.TableKept.{entry_in};
 ghost use Rattle.nd_steps.specs.NextHop.{is_resolved};
-ghost use Rattle.nd_nexthop.specs.NextHop.{hop_of, via};
+ghost use Rattle.nd_nexthop.specs.NextHop.{via};
+ghost use Rattle.nd_nexthop.specs.NextHopKept.{hop_of};
 
 use nd_addr::Addr;
 use nd_neighbour::Cache;
@@ -45,7 +46,7 @@ impl<A: Allocator> View for Tables<'_, A> {
     ghost use Rattle.nd_routers.specs.OnLink.{is_held};
     ghost use Rattle.nd_slaac.specs.declared.destination.Counted.TheVariants.{Own};
     ghost use Rattle.nd_slaac.specs.Destination.{counted_in};
-    ghost use Rattle.nd_slaac.specs.Table.{address_in};
+    ghost use Rattle.nd_slaac.specs.TableKept.{address_in};
     ghost use Rattle.nd_steps.specs.NextHop.{candidates_in};
 
     ghost own = { λ t address. counted_in Own (address_in (number_of address) t.addresses.now.addresses) };

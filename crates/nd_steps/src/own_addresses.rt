@@ -22,7 +22,7 @@ ghost use Rattle.nd_slaac.specs.History.{Row, Conflict, story};
 ghost use Rattle.nd_slaac.specs.State.{is_tentative};
 ghost use Rattle.nd_decode.specs.declared.body.Body.TheVariants as bodies;
 ghost use Rattle.nd_table.specs.Moment.{IsMoment};
-ghost use Rattle.nd_slaac.specs.Table as own_addresses;
+ghost use Rattle.nd_slaac.specs.TableKept as own_addresses;
 
 use crate::destination_cache::keep_if;
 use crate::draws::{MAX_RTR_SOLICITATION_DELAY, drawn_from};

@@ -5,7 +5,8 @@ ghost use Rattle.rand_core.specs.Stream.{next_u32};
 ghost use Rattle.nd_decode.specs.Pieces.{options_left};
 ghost use Rattle.nd_table.specs.Moment.{IsMoment};
 ghost use Rattle.nd_params.specs.History.{Drew};
-ghost use Rattle.nd_params.specs.Params.{GainsRows, redraws};
+ghost use Rattle.nd_params.specs.Params.{redraws};
+ghost use Rattle.nd_params.specs.ParamsKept.{GainsRows};
 ghost use Rattle.nd_chronicle.specs.Generator as drawn;
 ghost use Rattle.nd_steps.specs.Parameters.{redraw_from, HearsParameters};
 

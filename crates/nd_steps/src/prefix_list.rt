@@ -8,7 +8,7 @@ ghost use Rattle.nd_table.specs.Announcements.{Row, last_moment};
 ghost use Rattle.nd_table.specs.Listing.{fits, then_announced};
 ghost use Rattle.nd_routers.specs.OnLinkPrefixes.{max_prefixes, prefixes_in};
 ghost use Rattle.nd_steps.specs.DestinationCache.{AsStanding, Recollects};
-ghost use Rattle.nd_table.specs.Listing as lists;
+ghost use Rattle.nd_table.specs.ListingKept as lists;
 ghost use Rattle.nd_table.specs.Moment.{IsMoment};
 
 use crate::destination_cache::keep_if;

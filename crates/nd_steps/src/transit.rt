@@ -6,7 +6,7 @@ ghost use Rattle.nd_addr.specs.Ip6.{packet_parts};
 ghost use Rattle.nd_addr.specs.Number.{number_of};
 ghost use Rattle.nd_compose.specs.Frames.{open_mac};
 ghost use Rattle.nd_compose.specs.Redirect.{redirect_frame};
-ghost use Rattle.nd_neighbour.specs.Table.{Stands, entry_in};
+ghost use Rattle.nd_neighbour.specs.TableKept.{Stands, entry_in};
 ghost use Rattle.nd_chronicle.specs.Start.{Start, link_local};
 ghost use Rattle.nd_chronicle.specs.Happening.{Chronicle};
 ghost use Rattle.nd_chronicle.specs.Histories.{neighbour_history};

@@ -4,7 +4,8 @@ use Rattle.std.specs.Prelude.{map, filter, not, is_some, ◌&&◌, nat_le}
 use Rattle.std.proofs.lemmas.Bool.{cond_both, cond-true, true≢false, cases_Bool, le-leb}
 use Rattle.nd_table.specs.declared.lasting.Lasting.{Lasting}
 use Rattle.nd_table.specs.Ends.{end_time, is_before}
-use Rattle.nd_table.specs.Listing.{open_at, end_in, renewed, without, told, announced, announced_all, entered, fits, behind, Distinct, count_after}
+use Rattle.nd_table.specs.Listing.{open_at, end_in, renewed, without, told, announced, fits}
+use Rattle.nd_table.specs.ListingKept.{announced_all, entered, behind, Distinct, count_after}
 use Rattle.nd_table.proofs.Finding.{Tells, end_in-renewed, end_in-without, end_in-push, end_in-filter-none, absent_of, as_long, one_longer, without_absent}
 use Rattle.nd_table.proofs.Steps.{AllOpen, AllOpen-open, AllOpen-announced}
 

@@ -7,7 +7,8 @@ use Rattle.std.proofs.lemmas.Option.{slice_get-get_or}
 use Rattle.std.proofs.lemmas.List.{get_or_default, take-set, drop-set-lt, length-set}
 use Rattle.nd_table.specs.declared.date.Date.{Date}
 use Rattle.nd_table.specs.declared.block.TheConstants.{BLOCK}
-use Rattle.nd_table.specs.Keyed.{at_key, AllAbove, Rises, place_of}
+use Rattle.nd_table.specs.Keyed.{at_key, AllAbove, Rises}
+use Rattle.nd_table.specs.KeyedKept.{place_of}
 use Rattle.nd_table.specs.Dates.{rank, AllAddresses, is_date, without, put_date, first_moment}
 use Rattle.nd_table.specs.Blocks.{all_of, AllShort, Filled, Kept, first_rank, AllBelow, BelongsAt}
 use Rattle.nd_table.proofs.Keyed.{key_is, above_at, put_low, put_high, at_place, place_of-le}

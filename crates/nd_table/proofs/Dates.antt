@@ -7,8 +7,9 @@ use Rattle.std.proofs.lemmas.Bool.{cond-true, cond-false, eqb-true, eq-eqb, ne_e
 use Rattle.std.proofs.lemmas.Option.{slice_get-get_or}
 use Rattle.std.proofs.lemmas.List.Edits.{length-insert}
 use Rattle.nd_table.specs.declared.date.Date.{Date}
-use Rattle.nd_table.specs.Keyed.{at_key, AllAbove, Rises, Unique, place_of}
-use Rattle.nd_table.specs.Due.{is_at, least_date, first_at, NotBefore}
+use Rattle.nd_table.specs.Keyed.{at_key, AllAbove, Rises}
+use Rattle.nd_table.specs.KeyedKept.{Unique, place_of}
+use Rattle.nd_table.specs.DueKept.{is_at, least_date, first_at, NotBefore}
 use Rattle.nd_table.specs.Dates.{rank, AllAddresses, is_date, has, without, put_date, first_moment, date_at, AreDates, Redated}
 use Rattle.nd_table.proofs.Keyed.{key_is, above_at, Rises-unique, others, at_key-others, Unique-others, length-others, put_in, put_low, put_high, place_of-le}
 use Rattle.nd_table.proofs.Due.{AtMost, AtMost-some, AtMost-none, AtMost-same, due_now, due_has, due_least, none_due, least_at_most, least_unique}

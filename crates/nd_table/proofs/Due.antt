@@ -6,8 +6,10 @@ use Rattle.std.proofs.Math.Seq.{drop-cons}
 use Rattle.std.proofs.lemmas.Option.{slice_get-get_or}
 use Rattle.std.proofs.lemmas.Bool.Decides.{nat_tests}
 use Rattle.std.proofs.lemmas.Bool.{cond_both, cond-true, cond-false, eqb-true, eq-eqb, ne_eqb, true≢false, cases_Bool}
-use Rattle.nd_table.specs.Keyed.{at_key, Rises, Unique}
-use Rattle.nd_table.specs.Due.{lesser, is_at, least_date, first_at, NotBefore}
+use Rattle.nd_table.specs.Keyed.{at_key, Rises}
+use Rattle.nd_table.specs.KeyedKept.{Unique}
+use Rattle.nd_table.specs.Due.{lesser}
+use Rattle.nd_table.specs.DueKept.{is_at, least_date, first_at, NotBefore}
 use Rattle.nd_table.proofs.Keyed.{above_in, Rises-unique}
 
 -- the least is at most this

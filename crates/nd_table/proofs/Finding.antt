@@ -6,7 +6,8 @@ use Rattle.std.proofs.lemmas.Bool.{true≢false, and_parts, cond-true}
 use Rattle.nd_table.specs.declared.lasting.Lasting.{Lasting}
 use Rattle.nd_table.specs.Ends.{is_before}
 use Rattle.nd_table.specs.Announcements.{is_open}
-use Rattle.nd_table.specs.Listing.{open_at, end_in, renewed, without, Distinct}
+use Rattle.nd_table.specs.Listing.{open_at, end_in, renewed, without}
+use Rattle.nd_table.specs.ListingKept.{Distinct}
 
 -- a key that is among entries is the first one's or among the others
 pub there_more : {K : Type 0} (same : K → K → Bool) (key : K) (e : Lasting K) (es : List (Lasting K)) → is_some (end_in same key (e ∷ es)) ≡ (same e.key key || is_some (end_in same key es))

@@ -6,7 +6,8 @@ use Rattle.std.proofs.lemmas.Option.{slice_get-get_or}
 use Rattle.std.specs.List.{insert, remove}
 use Rattle.std.proofs.lemmas.Bool.Decides.{nat_tests}
 use Rattle.std.proofs.lemmas.Bool.{cond_both, cond-true, cond-false, eqb-true, eq-eqb, cases_Bool}
-use Rattle.nd_table.specs.Keyed.{at_key, AllAbove, Rises, Unique, place_of}
+use Rattle.nd_table.specs.Keyed.{at_key, AllAbove, Rises}
+use Rattle.nd_table.specs.KeyedKept.{Unique, place_of}
 
 module _ {N : Type 0} (key : N → ℕ) where
   pub key_is : (k : ℕ) (ns : List N) (n : N) → at_key key k ns ≡ Some n → key n ≡ k

@@ -3,7 +3,8 @@ use Rattle.std.proofs.Common.{◌≡◌, ℕ, ◌<◌, Bool, true, List, [], ◌
 use Rattle.std.specs.Prelude.{map, filter, is_some}
 use Rattle.std.proofs.lemmas.Bool.{cond_both, true≢false}
 use Rattle.nd_table.specs.declared.lasting.Lasting.{Lasting}
-use Rattle.nd_table.specs.Listing.{end_in, AllAfter, Rises, renewed, Distinct}
+use Rattle.nd_table.specs.Listing.{end_in, AllAfter, Rises, renewed}
+use Rattle.nd_table.specs.ListingKept.{Distinct}
 use Rattle.nd_table.proofs.Finding.{Tells, Has, Has-head, Has-tail}
 
 module _ {K : Type 0} (same : K → K → Bool) (tells : Tells same) where

@@ -3,8 +3,9 @@ use Rattle.std.proofs.Common.{◌≡◌, ℕ, ◌^◌, ◌<◌, Bool, ◌≤◌,
 use Rattle.std.specs.Prelude.{IfNone, IfSome}
 use Rattle.std.proofs.lemmas.Bool.{eq-eqb, ne_eqb, cases_Bool, cases_eq}
 use Rattle.nd_table.specs.declared.date.Date.{Date}
-use Rattle.nd_table.specs.Keyed.{at_key, Rises, place_of}
-use Rattle.nd_table.specs.Due.{is_at}
+use Rattle.nd_table.specs.Keyed.{at_key, Rises}
+use Rattle.nd_table.specs.KeyedKept.{place_of}
+use Rattle.nd_table.specs.DueKept.{is_at}
 use Rattle.nd_table.specs.Dates.{rank, AllAddresses, is_date, has, without, put_date, Redated}
 use Rattle.nd_table.proofs.Keyed.{Rises-put}
 use Rattle.nd_table.proofs.Dates.{is_parts, has-put, has-without, has-without_other, Rises-without, AllAddresses-without, AllAddresses-insert, shorter, none_found}

@@ -4,7 +4,8 @@ use Rattle.std.specs.Prelude.{◌==◌, ◌&&◌, ◌||◌, not, is_some, if◌t
 use Rattle.std.proofs.lemmas.Bool.{cond-true, cond-false, and_parts}
 use Rattle.std.proofs.lemmas.Bool.Decides.{nat_tests}
 use Rattle.nd_table.specs.declared.lasting.Lasting.{Lasting}
-use Rattle.nd_table.specs.Listing.{announced, announced_all, end_in, entered, open_at, renewed, without}
+use Rattle.nd_table.specs.Listing.{announced, end_in, open_at, renewed, without}
+use Rattle.nd_table.specs.ListingKept.{announced_all, entered}
 use Rattle.nd_table.specs.Ends.{end_time, is_before}
 use Rattle.nd_table.specs.Refreshing.{only_refreshes}
 

@@ -6,7 +6,8 @@ use Rattle.std.proofs.lemmas.Cmp.{ranked}
 use Rattle.std.proofs.lemmas.Option.{slice_get-get_or}
 use Rattle.std.proofs.lemmas.Bool.Decides.{nat_tests}
 use Rattle.std.proofs.lemmas.Bool.{cases_Bool, eqb-true, eq-eqb, true≢false}
-use Rattle.nd_table.specs.Keyed.{at_key, AllAbove, Rises, place_of, binary_digits}
+use Rattle.nd_table.specs.Keyed.{at_key, AllAbove, Rises}
+use Rattle.nd_table.specs.KeyedKept.{place_of, binary_digits}
 use Rattle.nd_table.proofs.Keyed.{above_at, none_above, at_place, place_of-le}
 
 -- what an order of two numbers says of them

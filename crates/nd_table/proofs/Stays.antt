@@ -5,7 +5,7 @@ use Rattle.std.specs.List.{remove}
 use Rattle.std.proofs.lemmas.Bool.{cond-true, cond-false, ne_eqb, eq-eqb, cases_eq}
 use Rattle.nd_table.specs.declared.date.Date.{Date}
 use Rattle.nd_table.specs.Keyed.{at_key, Rises}
-use Rattle.nd_table.specs.Due.{is_at}
+use Rattle.nd_table.specs.DueKept.{is_at}
 use Rattle.nd_table.specs.Dates.{has, date_at, AreDates, Redated}
 use Rattle.nd_table.proofs.Keyed.{at_place, put_in, at_key-set, Rises-set, at_key-put, at_key-remove, Rises-remove}
 use Rattle.nd_table.proofs.Dates.{redated, same_dates}

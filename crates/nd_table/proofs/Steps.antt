@@ -6,7 +6,8 @@ use Rattle.std.proofs.lemmas.Bool.{cond_both, cond-true, true≢false}
 use Rattle.nd_table.specs.declared.lasting.Lasting.{Lasting}
 use Rattle.nd_table.specs.Ends.{end_time, is_before}
 use Rattle.nd_table.specs.Announcements.{Row, Announced, Ended, Cleared, last_moment, end_after, end_of, is_open, stands, place}
-use Rattle.nd_table.specs.Listing.{open_at, end_in, StandsUntilTold, Stands, Lists, renewed, without, told, announced, announced_all, then_announced}
+use Rattle.nd_table.specs.Listing.{open_at, end_in, Lists, renewed, without, told, announced, then_announced}
+use Rattle.nd_table.specs.ListingKept.{StandsUntilTold, Stands, announced_all}
 use Rattle.nd_table.proofs.Finding.{Tells, Has, end_in-renewed, end_in-without, end_in-push, end_in-open, absent_of, as_long, one_longer}
 use Rattle.nd_table.proofs.LastingOrder.{Rises-agree, Rises-renewed, Rises-filter, Rises-push, distinct_of}
 

@@ -2,8 +2,9 @@
 use Rattle.std.specs.Prelude.{◌≡◌, ℕ, ◌+◌, ◌*◌, ◌^◌, ◌<◌, Bool, ◌&&◌, ◌==◌, if◌then◌else◌, List, [], ◌∷◌, Option, Some, None, option_and_then}
 use Rattle.std.specs.List.{list_any, insert}
 use Rattle.nd_table.specs.declared.date.Date.{Date}
-use Rattle.nd_table.specs.Keyed.{at_key, place_of}
-use Rattle.nd_table.specs.Due.{is_at}
+use Rattle.nd_table.specs.Keyed.{at_key}
+use Rattle.nd_table.specs.KeyedKept.{place_of}
+use Rattle.nd_table.specs.DueKept.{is_at}
 
 -- a date as a number: the earlier moment comes first, and at one moment the lower address
 abbrev pub rank : Date → ℕ

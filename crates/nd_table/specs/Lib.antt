@@ -1,11 +1,15 @@
 pub mod History
+pub mod HistoryKept
 pub mod Keyed
+pub mod KeyedKept
 pub mod Due
+pub mod DueKept
 pub mod Ends
 pub mod Dates
 pub mod Blocks
 pub mod Announcements
 pub mod Listing
+pub mod ListingKept
 pub mod Left
 pub mod Shown
 pub mod Moment

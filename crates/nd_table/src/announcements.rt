@@ -1,5 +1,6 @@
 ghost use Rattle.std.specs.Prelude.{◌≡◌, ◌≤◌, ◌<◌, ◌^◌, true, false, is_some, if◌then◌else◌, not, ◌&&◌, ◌==◌, ◌+◌, ◌-◌, length, take, vec_len, vec_capacity};
-ghost use Rattle.nd_table.specs.Listing.{end_in, fits, behind, announced_all, Distinct, count_after};
+ghost use Rattle.nd_table.specs.Listing.{end_in, fits};
+ghost use Rattle.nd_table.specs.ListingKept.{behind, announced_all, Distinct, count_after};
 ghost use Rattle.nd_table.specs.Moment.{IsMoment};
 ghost use Rattle.nd_table.specs.Refreshing.{only_refreshes};
 

@@ -1,7 +1,9 @@
-//! Binary search in a list in the order of its keys, with counted looks. `Rises`, `at_key` and `place_of` are in `specs/Keyed.antt`.
+//! Binary search in a list in the order of its keys, with counted looks. `Rises` and `at_key` are in `specs/Keyed.antt`,
+//! `place_of` in `specs/KeyedKept.antt`.
 
 ghost use Rattle.std.specs.Prelude.{◌≡◌, ◌<◌, ◌≤◌, ◌+◌, length, slice_get, IfOk, IfErr, None};
-ghost use Rattle.nd_table.specs.Keyed.{at_key, Rises, place_of, binary_digits};
+ghost use Rattle.nd_table.specs.Keyed.{at_key, Rises};
+ghost use Rattle.nd_table.specs.KeyedKept.{place_of, binary_digits};
 
 use crate::probes::Counter;
 use crate::ranked::Ranked;

@@ -1,7 +1,8 @@
 //! A block of dates: a short run of the dates of a table, in their order.
 
 ghost use Rattle.std.specs.Prelude.{◌≡◌, ◌+◌, ◌<◌, ◌≤◌, ◌^◌, [], ◌++◌, length, None, IfOk};
-ghost use Rattle.nd_table.specs.Keyed.{at_key, Rises, place_of};
+ghost use Rattle.nd_table.specs.Keyed.{at_key, Rises};
+ghost use Rattle.nd_table.specs.KeyedKept.{place_of};
 ghost use Rattle.nd_table.specs.Dates.{rank, AllAddresses, without, put_date};
 
 use crate::binary_search::search;

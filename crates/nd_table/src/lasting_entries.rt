@@ -1,7 +1,8 @@
 ghost use Rattle.std.specs.Prelude.{◌≡◌, ◌≤◌, ◌<◌, ◌&&◌, ◌==◌, not, Some, false, MatchOption, length, map, is_some, vec_len, vec_capacity};
 ghost use Rattle.std.specs.List.{list_all};
 ghost use Rattle.nd_table.specs.Ends.{is_before};
-ghost use Rattle.nd_table.specs.Listing.{end_in, renewed, without, open_at, announced, enters};
+ghost use Rattle.nd_table.specs.Listing.{end_in, renewed, without, open_at, announced};
+ghost use Rattle.nd_table.specs.ListingKept.{enters};
 ghost use Rattle.nd_table.specs.Moment.{IsMoment};
 
 use crate::ends::{end_time, is_before};

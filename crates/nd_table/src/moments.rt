@@ -1,7 +1,8 @@
-//! Moments that may be missing. The definitions are in `specs/Due.antt`.
+//! Moments that may be missing. The definitions are in `specs/Due.antt` and `specs/DueKept.antt`.
 
 ghost use Rattle.std.specs.Prelude.{◌≡◌};
-ghost use Rattle.nd_table.specs.Due.{lesser, is_at};
+ghost use Rattle.nd_table.specs.Due.{lesser};
+ghost use Rattle.nd_table.specs.DueKept.{is_at};
 
 /// Returns the lesser of two moments in milliseconds, either of which may be missing.
 pub fn lesser(a: Option<u64>, b: Option<u64>) -> Option<u64>

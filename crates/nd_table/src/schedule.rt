@@ -3,7 +3,7 @@
 ghost use Rattle.std.specs.Prelude.{◌≡◌, ◌≢◌, ℕ, ◌<◌, ◌≤◌, [], length, slice_get, IfOk, IfSome, IfNone, Some, None};
 ghost use Rattle.nd_addr.specs.Number.{number_of};
 ghost use Rattle.nd_table.specs.Keyed.{Rises};
-ghost use Rattle.nd_table.specs.Due.{first_at, is_at, least_date, NotBefore};
+ghost use Rattle.nd_table.specs.DueKept.{first_at, is_at, least_date, NotBefore};
 ghost use Rattle.nd_table.specs.Dates.{rank, AllAddresses, has, first_moment, AreDates, Redated};
 
 use crate::addressed::Addressed;

@@ -3,7 +3,8 @@
 ghost use Rattle.std.specs.Prelude.{◌≡◌, ◌<◌, ◌≤◌, ◌+◌, length, slice_get, IfOk, IfErr, IfSome, IfNone, None, is_some, vec_len, vec_capacity};
 ghost use Rattle.std.specs.List.{insert};
 ghost use Rattle.nd_addr.specs.Number.{number_of};
-ghost use Rattle.nd_table.specs.Keyed.{at_key, Rises, place_of};
+ghost use Rattle.nd_table.specs.Keyed.{at_key, Rises};
+ghost use Rattle.nd_table.specs.KeyedKept.{place_of};
 
 use crate::addressed::Addressed;
 use crate::binary_search::search;

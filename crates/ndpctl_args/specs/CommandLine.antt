@@ -2,8 +2,7 @@
 use Rattle.std.specs.Prelude.{◌≡◌, ◌≢◌, ◌∷◌, ℕ, true, List, [], Option, Some, None, codes, map, option_map, IsSomeAnd, bytes_eq, if◌then◌else◌}
 use Rattle.std.specs.Option.{option_map_or}
 use Rattle.std.specs.Borrow.{Bor}
-use Rattle.clap.specs.Words.{App, Row, Rule, new_app, new_rule, with_rule, with_subcommand, first_of, subcommand_of, fault_of}
-use Rattle.clap.specs.Words.{Kinds, IsAmong, kind_of}
+use Rattle.clap.specs.Words.{App, Row, Rule, new_app, new_rule, with_rule, with_subcommand, first_of, subcommand_of, fault_of, Kinds, IsAmong, kind_of}
 use Rattle.clap.specs.Simple.{new_shape, on_top}
 use Rattle.clap.specs.declared.builder.value_parser.ValueParser.TheVariants as parsers
 use Rattle.clap.specs.declared.error.kind.ErrorKind.{ErrorKind}
@@ -12,7 +11,7 @@ use Rattle.nd_addr.specs.Spelling.{SpellsMac}
 use Rattle.nd_addr.specs.declared.mac.Mac.{Mac}
 use Rattle.nd_addr.specs.declared.role.Role.{Role}
 use Rattle.nd_addr.specs.declared.role.Role.TheVariants.{Host, Router}
-use Rattle.nd_neighbour.specs.Table.{max_neighbours}
+use Rattle.nd_neighbour.specs.TableKept.{max_neighbours}
 use Rattle.nd_routers.specs.Routers.{max_routers}
 use Rattle.ndpctl_run.specs.Number.{IsCountWord}
 use Rattle.ndpctl_run.specs.Source.{IsSource}

@@ -1,10 +1,10 @@
 ghost use Rattle.std.specs.Prelude.{◌≡◌, ◌++◌, OnOk, string_bytes};
 ghost use Rattle.std.specs.List.{flat_map};
 ghost use Rattle.nd_search_list.specs.NamesLeft.{names_left};
-ghost use Rattle.nd_decode.specs.Option.{view};
+ghost use Rattle.nd_decode.specs.OptionKept.{view};
 ghost use Rattle.nd_decode.specs.Option as options;
 ghost use Rattle.nd_decode.specs.Pieces.{options_left};
-ghost use Rattle.nd_decode.specs.Servers.{servers_left};
+ghost use Rattle.nd_decode.specs.ServersKept.{servers_left};
 ghost use Rattle.ndpctl_check.specs.OptionText.{lifetimes_text, behind_prefix_text, server_text, search_text, option_text};
 
 use crate::words::{write_count, write_number};

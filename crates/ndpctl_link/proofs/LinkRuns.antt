@@ -34,7 +34,8 @@ use Rattle.nd_link.proofs.Coming.{runs_then}
 use Rattle.nd_link.proofs.Holder.{stands_for_bytes}
 use Rattle.nd_link.proofs.Telling.{tells_text}
 use Rattle.ndpctl_link.specs.Answer.{AnswersEvent, Passes}
-use Rattle.ndpctl_link.specs.Script.{FailsAt, KeepsOneHolder, Leads, RunsBetween, RunsOn, RunsTo, WireFailsAt}
+use Rattle.ndpctl_link.specs.Script.{KeepsOneHolder, RunsBetween, RunsOn}
+use Rattle.ndpctl_link.specs.ScriptKept.{FailsAt, Leads, RunsTo, WireFailsAt}
 use Rattle.ndpctl_link.specs.Line.{IsLinkLine}
 use Rattle.ndpctl_link.proofs.LinkLines.{one_link_line}
 

@@ -5,5 +5,6 @@ pub mod Delivery
 pub mod Command
 pub mod Line
 pub mod Script
+pub mod ScriptKept
 pub mod ScriptLaws
 pub mod Answer

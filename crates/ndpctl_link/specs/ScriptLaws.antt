@@ -10,7 +10,7 @@ use Rattle.nd_link_log.specs.Bytes.{IsOfBytes}
 use Rattle.nd_link_log.specs.Event.{Event}
 use Rattle.nd_link_log.specs.Told.{text}
 use Rattle.nd_link.specs.declared.link.Link.{Link}
-use Rattle.ndpctl_link.specs.Script.{Leads}
+use Rattle.ndpctl_link.specs.ScriptKept.{Leads}
 use Rattle.ndpctl_link.specs.Line.{IsLinkLine}
 
 module _ {W R A : Type 0} (arrives : ℕ → List ℕ → List ℕ → Type 0) (stream : R → Stream) (link : Link W R A) where

@@ -11,7 +11,8 @@ ghost use Rattle.nd_link_log.specs.Event.{Event};
 ghost use Rattle.nd_link.specs.Holder.{StandsForEvents};
 ghost use Rattle.nd_link.specs.Link.{Stands};
 ghost use Rattle.ndpctl_link.specs.Line.{IsLinkLine};
-ghost use Rattle.ndpctl_link.specs.Script.{KeepsOneHolder, RunsBetween, RunsOn, RunsTo, WireFailsAt};
+ghost use Rattle.ndpctl_link.specs.Script.{KeepsOneHolder, RunsBetween, RunsOn};
+ghost use Rattle.ndpctl_link.specs.ScriptKept.{RunsTo, WireFailsAt};
 
 use crate::script::LinkScript;
 use nd_lines::input::Input;

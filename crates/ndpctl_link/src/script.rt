@@ -9,7 +9,7 @@ ghost use Rattle.nd_link_log.specs.Event as events;
 ghost use Rattle.nd_link.specs.Event.{link_event};
 ghost use Rattle.nd_link.specs.Link.{Stands};
 ghost use Rattle.ndpctl_link.specs.Line.{IsLinkLine};
-ghost use Rattle.ndpctl_link.specs.Script.{FailsAt, Leads};
+ghost use Rattle.ndpctl_link.specs.ScriptKept.{FailsAt, Leads};
 ghost use Rattle.ndpctl_link.specs.ScriptLaws.{no_line, long_line};
 ghost use Rattle.ndpctl_link.specs.Answer.{AnswersEvent, Passes};
 

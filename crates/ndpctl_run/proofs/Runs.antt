@@ -21,10 +21,11 @@ use Rattle.nd_steps.proofs.Reading.{Tells-text}
 use Rattle.nd_node.specs.declared.node.Node.{Node}
 use Rattle.nd_chronicle.specs.Answer.{Answer}
 use Rattle.nd_node.specs.Event.{FollowsBy}
-use Rattle.nd_node.specs.Node.{Stands}
+use Rattle.nd_node.specs.NodeKept.{Stands}
 use Rattle.nd_node.specs.Time as time
 use Rattle.ndpctl_run.specs.Line.{IsLine}
-use Rattle.ndpctl_run.specs.Script.{Leads, IsText}
+use Rattle.ndpctl_run.specs.Script.{IsText}
+use Rattle.ndpctl_run.specs.ScriptKept.{Leads}
 use Rattle.ndpctl_run.specs.Answer.{AnswersEvent}
 use Rattle.ndpctl_run.specs.Said.{Says, says}
 use Rattle.ndpctl_run.proofs.Said.{OneReading, say_begins}

@@ -7,7 +7,7 @@ use Rattle.nd_chronicle.specs.Event.{Event}
 use Rattle.nd_chronicle.specs.History.{Follows}
 use Rattle.nd_chronicle.specs.Told.{text}
 use Rattle.nd_node.specs.declared.node.Node.{Node}
-use Rattle.nd_node.specs.Node.{Stands}
+use Rattle.nd_node.specs.NodeKept.{Stands}
 
 -- From each chronicle that the node stood for, the event leads to one that it stands for, and what is reported of that was put at the end.
 pub record AnswersEvent {R A : Type 0} (stream : R → Stream) (old new : Node R A) (at : ℕ) (event : Event) (before after : List ℕ) : Type 0 where

@@ -12,6 +12,7 @@ pub mod Line
 pub mod Source
 pub mod Said
 pub mod Script
+pub mod ScriptKept
 pub mod ScriptLaws
 pub mod Answer
 pub mod Transmits

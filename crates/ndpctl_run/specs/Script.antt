@@ -1,13 +1,10 @@
 -- What the lines of a script lead a node to.
 use Rattle.std.specs.Prelude.{◌≡◌, ℕ, List, ◌++◌, Option}
-use Rattle.rand_core.specs.Stream.{Stream}
 use Rattle.nd_chronicle.specs.Start.{Start}
 use Rattle.nd_chronicle.specs.Happening.{Chronicle}
 use Rattle.nd_chronicle.specs.Event.{Event}
 use Rattle.nd_chronicle.specs.History.{Runs, IsChronicle}
 use Rattle.nd_chronicle.specs.Told.{text}
-use Rattle.nd_node.specs.declared.node.Node.{Node}
-use Rattle.nd_node.specs.Node.{Stands}
 use Rattle.ndpctl_run.specs.Line.{IsLine}
 use Rattle.ndpctl_run.specs.Said.{Say}
 
@@ -18,10 +15,6 @@ pub record RunsOn (start : Start) (c : Chronicle) (n : ℕ) (lines : List (List 
   pub end : Chronicle
   pub runs : Runs start c said end
   pub text_is : text end ≡ text c ++ told
-
--- the same from each chronicle that a node stands for, to one that the later node stands for
-pub record Leads {R A : Type 0} (stream : R → Stream) (node later : Node R A) (n : ℕ) (lines : List (List ℕ)) (told : List ℕ) (found : Option ℕ) : Type 0 where
-  pub each : (start : Start) (c : Chronicle) → Stands stream start node c → (on : RunsOn start c n lines told found) × Stands stream start later on.end
 
 -- THE HEADLINE. The text is that of the chronicle of what the lines say.
 pub record IsText (start : Start) (n : ℕ) (lines : List (List ℕ)) (told : List ℕ) (found : Option ℕ) : Type 0 where

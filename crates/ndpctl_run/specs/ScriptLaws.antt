@@ -6,7 +6,7 @@ use Rattle.nd_lines.specs.Answers.{EndsWell, IsMalformed}
 use Rattle.nd_lines.specs.Lines.{longest_line}
 use Rattle.nd_chronicle.specs.Told.{text}
 use Rattle.nd_node.specs.declared.node.Node.{Node}
-use Rattle.ndpctl_run.specs.Script.{Leads}
+use Rattle.ndpctl_run.specs.ScriptKept.{Leads}
 use Rattle.ndpctl_run.specs.Line.{IsLine}
 use Rattle.ndpctl_run.specs.Said.{SaysNothing, stops}
 

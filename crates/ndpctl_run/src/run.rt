@@ -4,7 +4,8 @@ ghost use Rattle.std.specs.Prelude.{◌≢◌, ◌⊎◌, ℕ, IfOk, OnOk, OnErr
 ghost use Rattle.nd_lines.specs.Counts.{HasRisen, HasGrownBy, most_reads};
 ghost use Rattle.nd_lines.specs.Told.{TellsAll, TellsFront, TellsBeginning, TellsAsRead, TellsToMemory};
 ghost use Rattle.nd_chronicle.specs.History.{beginning};
-ghost use Rattle.nd_node.specs.Node.{starting, Stands};
+ghost use Rattle.nd_node.specs.Node.{starting};
+ghost use Rattle.nd_node.specs.NodeKept.{Stands};
 ghost use Rattle.ndpctl_run.specs.Line.{IsLine};
 ghost use Rattle.ndpctl_run.specs.Said.{SaysNothing};
 ghost use Rattle.ndpctl_run.specs.Script.{IsText};

@@ -5,7 +5,7 @@ ghost use Rattle.nd_table.specs.Moment.{IsMoment};
 ghost use Rattle.nd_node.specs.Event.{event_of};
 ghost use Rattle.nd_chronicle.specs.Event as events;
 ghost use Rattle.ndpctl_run.specs.Line.{IsLine};
-ghost use Rattle.ndpctl_run.specs.Script.{Leads};
+ghost use Rattle.ndpctl_run.specs.ScriptKept.{Leads};
 ghost use Rattle.ndpctl_run.specs.ScriptLaws.{no_line, long_line};
 ghost use Rattle.ndpctl_run.specs.Answer.{AnswersEvent};
 ghost use Rattle.ndpctl_run.specs.Said.{SaysNothing};

@@ -1,5 +1,5 @@
 ghost use Rattle.std.specs.Prelude.{[], ◌∷◌, false};
-ghost use Rattle.nd_nexthop.specs.DefaultRouter.{router_of};
+ghost use Rattle.nd_nexthop.specs.DefaultRouterKept.{router_of};
 
 use crate::node::{AMPLE, exhaust};
 use linked_list_allocator::LocalHeap;
@@ -16,7 +16,7 @@ struct OneRouter {
 
 impl View for OneRouter {
     ghost use Rattle.std.specs.Prelude.{[], ◌∷◌, false};
-    ghost use Rattle.nd_nexthop.specs.DefaultRouter.{router_of};
+    ghost use Rattle.nd_nexthop.specs.DefaultRouterKept.{router_of};
 
     ghost own = { λ v address. false };
 

@@ -36,7 +36,7 @@ struct Node<'a> {
 impl View for Node<'_> {
     ghost use Rattle.std.specs.Prelude.{map, bytes_eq};
     ghost use Rattle.nd_addr.specs.Number.{holds};
-    ghost use Rattle.nd_nexthop.specs.DefaultRouter.{router_of};
+    ghost use Rattle.nd_nexthop.specs.DefaultRouterKept.{router_of};
 
     ghost own = { λ n address. bytes_eq address n.own.0 };
 

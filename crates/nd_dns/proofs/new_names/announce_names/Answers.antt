@@ -2,8 +2,10 @@ use Rattle.std.proofs.Common.{◌≡◌, ◌∙◌, ap, sym, arith, cond, List, 
 use Rattle.std.specs.Prelude.{nat_le}
 use Rattle.std.proofs.lemmas.Bool.{and_parts, leb-true}
 use Rattle.nd_search_list.specs.NameRef.{name_of}
-use Rattle.nd_table.specs.Listing.{fits, announced, announced_all, entered, enters}
-use Rattle.nd_dns.specs.AnnouncedNames.{same_name, names_to_come}
+use Rattle.nd_table.specs.Listing.{fits, announced}
+use Rattle.nd_table.specs.ListingKept.{announced_all, entered, enters}
+use Rattle.nd_dns.specs.AnnouncedNames.{same_name}
+use Rattle.nd_dns.specs.AnnouncedNamesKept.{names_to_come}
 use Rattle.nd_dns.proofs.new_names.announce_names.Goals as goal
 use Rattle.nd_dns.proofs.new_names.announce_names.Goals.{then-is_added, else-is_added}
 

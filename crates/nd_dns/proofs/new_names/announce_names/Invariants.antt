@@ -1,7 +1,9 @@
 use Rattle.std.proofs.Common.{◌≡◌, ◌≤◌, true, length}
 use Rattle.std.specs.Prelude.{vec_len, vec_capacity}
-use Rattle.nd_table.specs.Listing.{announced_all, fits, entered}
-use Rattle.nd_dns.specs.AnnouncedNames.{same_name, names_to_come}
+use Rattle.nd_table.specs.Listing.{fits}
+use Rattle.nd_table.specs.ListingKept.{announced_all, entered}
+use Rattle.nd_dns.specs.AnnouncedNames.{same_name}
+use Rattle.nd_dns.specs.AnnouncedNamesKept.{names_to_come}
 use Rattle.nd_dns.proofs.new_names.announce_names.Given as goal
 
 -- what is left leads from what there is to the same end, fits, and enters what is left of the copies

@@ -1,9 +1,10 @@
 use Rattle.std.proofs.Common.{◌∙◌, ap, sym, refl, arith, ℕ, ◌+◌, List, [], ◌++◌, take}
 use Rattle.nd_addr.specs.Same.{bytes_tell}
 use Rattle.nd_search_list.specs.NameRef.{name_of}
-use Rattle.nd_table.specs.Listing.{entered, behind}
+use Rattle.nd_table.specs.ListingKept.{entered, behind}
 use Rattle.nd_table.proofs.Behind.{entered_open, next_is}
-use Rattle.nd_dns.specs.AnnouncedNames.{same_name, names_to_come}
+use Rattle.nd_dns.specs.AnnouncedNames.{same_name}
+use Rattle.nd_dns.specs.AnnouncedNamesKept.{names_to_come}
 use Rattle.nd_dns.proofs.Adding.{one_more, some_enters, with_next}
 use Rattle.nd_dns.proofs.new_names.copies.Goals as goal
 use Rattle.nd_dns.proofs.new_names.copies.Goals.{then-enters_behind+in_ok-add, else-enters_behind}

@@ -1,6 +1,7 @@
 use Rattle.std.proofs.Common.{◌≡◌, ◌++◌, take, drop, length}
-use Rattle.nd_table.specs.Listing.{entered, behind}
-use Rattle.nd_dns.specs.AnnouncedNames.{same_name, names_to_come}
+use Rattle.nd_table.specs.ListingKept.{entered, behind}
+use Rattle.nd_dns.specs.AnnouncedNames.{same_name}
+use Rattle.nd_dns.specs.AnnouncedNamesKept.{names_to_come}
 use Rattle.nd_dns.proofs.new_names.copies.Given as goal
 
 -- the copies so far and what is left enters are all, and what is left

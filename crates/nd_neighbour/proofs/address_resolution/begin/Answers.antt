@@ -1,8 +1,8 @@
 use Rattle.std.proofs.Common.{◌∙◌, ap}
 use Rattle.std.specs.List.{insert}
-use Rattle.nd_neighbour.specs.Entry.{NeighbourEntry}
-use Rattle.nd_neighbour.specs.Table.{place_in}
-use Rattle.nd_neighbour.specs.Place.{Came}
+use Rattle.nd_neighbour.specs.EntryKept.{NeighbourEntry}
+use Rattle.nd_neighbour.specs.TableKept.{place_in}
+use Rattle.nd_neighbour.specs.PlaceKept.{Came}
 use Rattle.nd_neighbour.proofs.address_resolution.begin.Goals as goal
 
 pub returns-clause-gives : goal.returns-clause-gives

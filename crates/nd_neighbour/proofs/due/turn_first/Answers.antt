@@ -2,8 +2,8 @@ use Rattle.std.proofs.Common.{◌≡◌, ◌<◌, ◌∙◌, List, length, ap, s
 use Rattle.std.specs.Prelude.{slice_get}
 use Rattle.std.specs.List.{remove}
 use Rattle.nd_addr.specs.Number.{number_of}
-use Rattle.nd_neighbour.specs.Entry.{NeighbourEntry}
-use Rattle.nd_neighbour.specs.Due.{due_in}
+use Rattle.nd_neighbour.specs.EntryKept.{NeighbourEntry}
+use Rattle.nd_neighbour.specs.DueKept.{due_in}
 use Rattle.nd_neighbour.proofs.Turns.{went, stayed}
 use Rattle.nd_neighbour.proofs.Planning.{goes_date, removed_planned, turned_planned, unturned, no_room}
 use Rattle.nd_neighbour.proofs.due.turn_first.Goals as goal

@@ -1,7 +1,7 @@
 use Rattle.std.proofs.Common.{◌∙◌, ap, refl}
 use Rattle.std.specs.Prelude.{◌&&◌, not}
 use Rattle.nd_addr.specs.Number.{number_of}
-use Rattle.nd_neighbour.specs.LinkLayerAddress.{given}
+use Rattle.nd_neighbour.specs.LinkLayerAddressKept.{given}
 use Rattle.nd_neighbour.proofs.NewsCalls.{given_key}
 use Rattle.nd_neighbour.proofs.Finds.{alters, knew, releases, turns}
 use Rattle.nd_neighbour.proofs.Planning.{had_date, changed_planned, no_room}

@@ -1,6 +1,6 @@
 use Rattle.std.proofs.Common.{◌∙◌, ap}
 use Rattle.nd_addr.specs.Number.{number_of}
-use Rattle.nd_neighbour.specs.Entry.{stale_entry}
+use Rattle.nd_neighbour.specs.EntryKept.{stale_entry}
 use Rattle.nd_neighbour.proofs.Finds.{was_there, not_full, came_in}
 use Rattle.nd_neighbour.proofs.link_layer_address.give_or_enter.Goals as goal
 

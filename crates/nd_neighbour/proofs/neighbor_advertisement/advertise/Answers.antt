@@ -2,7 +2,7 @@ use Rattle.std.proofs.Common.{◌∙◌, ap}
 use Rattle.std.specs.Option.{option_map}
 use Rattle.std.specs.Prelude.{◌&&◌, not}
 use Rattle.nd_addr.specs.Number.{number_of}
-use Rattle.nd_neighbour.specs.NeighborAdvertisement.{advertised}
+use Rattle.nd_neighbour.specs.NeighborAdvertisementKept.{advertised}
 use Rattle.nd_neighbour.proofs.NewsCalls.{advertised_key}
 use Rattle.nd_neighbour.proofs.Finds.{alters, knew, releases, turns}
 use Rattle.nd_neighbour.proofs.Planning.{had_date, changed_planned, no_room}

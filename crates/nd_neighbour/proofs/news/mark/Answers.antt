@@ -1,7 +1,7 @@
 use Rattle.std.proofs.Common.{◌∙◌, sym, ap}
 use Rattle.std.specs.Prelude.{◌&&◌, not}
 use Rattle.nd_addr.specs.Number.{number_of}
-use Rattle.nd_neighbour.specs.Entry.{with_mark, released}
+use Rattle.nd_neighbour.specs.EntryKept.{with_mark, released}
 use Rattle.nd_neighbour.proofs.Finds.{alters, knew, releases, turns, nothing_by}
 use Rattle.nd_neighbour.proofs.news.mark.Goals as goal
 

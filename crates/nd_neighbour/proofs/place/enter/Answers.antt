@@ -2,8 +2,8 @@ use Rattle.std.proofs.Common.{◌<◌, ◌∙◌, length, ap, sym, arith}
 use Rattle.nd_addr.specs.Number.{number_of}
 use Rattle.nd_table.proofs.Keyed.{place_of-le}
 use Rattle.nd_table.proofs.Stays.{no_date}
-use Rattle.nd_neighbour.specs.Table.{address, entry_in}
-use Rattle.nd_neighbour.specs.Due.{date_of}
+use Rattle.nd_neighbour.specs.TableKept.{address, entry_in}
+use Rattle.nd_neighbour.specs.DueKept.{date_of}
 use Rattle.nd_neighbour.proofs.Planning.{absent_then, came_planned, came_room}
 use Rattle.nd_neighbour.proofs.place.enter.Goals as goal
 

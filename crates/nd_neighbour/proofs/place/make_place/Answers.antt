@@ -1,8 +1,8 @@
 use Rattle.std.proofs.Common.{◌≡◌, ◌<◌, ◌∙◌, sym, subst, List, length, arith}
 use Rattle.std.specs.Prelude.{slice_get}
 use Rattle.nd_addr.specs.Number.{number_of}
-use Rattle.nd_neighbour.specs.Entry.{NeighbourEntry}
-use Rattle.nd_neighbour.specs.Place.{stalest}
+use Rattle.nd_neighbour.specs.EntryKept.{NeighbourEntry}
+use Rattle.nd_neighbour.specs.PlaceKept.{stalest}
 use Rattle.nd_neighbour.proofs.Planning.{goes_date, removed_planned, place_before, place_behind, no_room}
 use Rattle.nd_neighbour.proofs.Places.{went_out}
 use Rattle.nd_neighbour.proofs.place.make_place.Goals as goal

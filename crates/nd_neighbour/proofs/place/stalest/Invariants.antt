@@ -1,6 +1,6 @@
 use Rattle.std.proofs.Common.{◌≡◌, ◌<◌, drop, length}
 use Rattle.std.specs.Prelude.{IfSome}
-use Rattle.nd_neighbour.specs.Place.{stalest, longer, picked}
+use Rattle.nd_neighbour.specs.PlaceKept.{stalest, longer, picked}
 use Rattle.nd_neighbour.proofs.place.stalest.Given as goal
 
 -- the best so far and the best of the rest are the best of all

@@ -1,5 +1,5 @@
 use Rattle.nd_addr.specs.Number.{number_of}
-use Rattle.nd_neighbour.specs.ReachabilityConfirmation.{confirmed}
+use Rattle.nd_neighbour.specs.ReachabilityConfirmationKept.{confirmed}
 use Rattle.nd_neighbour.proofs.NewsCalls.{confirmed_key}
 use Rattle.nd_neighbour.proofs.Finds.{alters}
 use Rattle.nd_neighbour.proofs.Planning.{had_date, changed_planned, no_room}

@@ -2,8 +2,8 @@ use Rattle.std.proofs.Common.{◌<◌, ◌≡◌, List, length, subst}
 use Rattle.std.specs.Prelude.{slice_get}
 use Rattle.nd_addr.specs.Number.{number_of}
 use Rattle.nd_table.proofs.Keyed.{key_is}
-use Rattle.nd_neighbour.specs.Entry.{NeighbourEntry}
-use Rattle.nd_neighbour.specs.Table.{address, entry_in}
+use Rattle.nd_neighbour.specs.EntryKept.{NeighbourEntry}
+use Rattle.nd_neighbour.specs.TableKept.{address, entry_in}
 use Rattle.nd_neighbour.proofs.Planning.{goes_date, removed_planned, no_room}
 use Rattle.nd_neighbour.proofs.Finds.{taken_out, taken_waits, found_is}
 use Rattle.nd_neighbour.proofs.removal.remove.Goals as goal

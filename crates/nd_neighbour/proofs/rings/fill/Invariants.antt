@@ -1,5 +1,5 @@
 use Rattle.std.proofs.Common.{◌≡◌, ◌-◌, ◌≤◌, max, vec_len, vec_capacity}
-use Rattle.nd_neighbour.specs.Table.{max_rings}
+use Rattle.nd_neighbour.specs.TableKept.{max_rings}
 use Rattle.nd_neighbour.proofs.rings.fill.Given as goal
 
 abbrev pub invariant-loop-rings : goal.invariant-loop-rings

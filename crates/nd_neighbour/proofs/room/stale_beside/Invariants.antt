@@ -1,7 +1,7 @@
 use Rattle.std.proofs.Common.{◌≡◌, drop}
 use Rattle.std.specs.List.{list_any}
 use Rattle.nd_addr.specs.Number.{number_of}
-use Rattle.nd_neighbour.specs.Room.{stale_beside}
+use Rattle.nd_neighbour.specs.RoomKept.{stale_beside}
 use Rattle.nd_neighbour.proofs.room.stale_beside.Given as goal
 
 -- the rest has one where there is one

@@ -1,7 +1,7 @@
 use Rattle.std.proofs.Common.{◌≡◌, drop}
 use Rattle.std.specs.List.{list_any}
 use Rattle.nd_addr.specs.Number.{number_of}
-use Rattle.nd_neighbour.specs.Room.{stays_stale}
+use Rattle.nd_neighbour.specs.RoomKept.{stays_stale}
 use Rattle.nd_neighbour.proofs.room.stays_stale.Given as goal
 
 -- the rest has one where there is one

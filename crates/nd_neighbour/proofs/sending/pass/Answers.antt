@@ -1,7 +1,7 @@
 use Rattle.std.proofs.Common.{◌∙◌, sym, ap, refl, Option}
 use Rattle.nd_addr.specs.Number.{number_of}
-use Rattle.nd_neighbour.specs.Entry.{NeighbourEntry}
-use Rattle.nd_neighbour.specs.Sending.{used, sending_in}
+use Rattle.nd_neighbour.specs.EntryKept.{NeighbourEntry}
+use Rattle.nd_neighbour.specs.SendingKept.{used, sending_in}
 use Rattle.nd_neighbour.proofs.PacketCalls.{used_key}
 use Rattle.nd_neighbour.proofs.Finds.{alters, there}
 use Rattle.nd_neighbour.proofs.Planning.{had_date, changed_planned, no_room}

@@ -1,6 +1,6 @@
 use Rattle.std.proofs.Common.{◌∙◌, ap, Some}
 use Rattle.std.specs.Prelude.{option_map}
-use Rattle.nd_nexthop.specs.DefaultRouter.{router_of}
+use Rattle.nd_nexthop.specs.DefaultRouterKept.{router_of}
 use Rattle.nd_nexthop.proofs.Routers.{next_at}
 use Rattle.nd_nexthop.proofs.default_router.chosen_router.Goals as goal
 

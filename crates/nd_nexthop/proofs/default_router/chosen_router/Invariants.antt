@@ -1,6 +1,7 @@
 use Rattle.std.proofs.Common.{◌≡◌, drop}
 use Rattle.std.specs.Prelude.{option_map}
-use Rattle.nd_nexthop.specs.DefaultRouter.{router_of, chosen_router}
+use Rattle.nd_nexthop.specs.DefaultRouter.{chosen_router}
+use Rattle.nd_nexthop.specs.DefaultRouterKept.{router_of}
 use Rattle.nd_nexthop.proofs.Routers.{chosen_with}
 use Rattle.nd_nexthop.proofs.default_router.chosen_router.Given as goal
 

@@ -1,7 +1,7 @@
 use Rattle.std.proofs.Common.{◌≡◌}
 use Rattle.nd_table.specs.Left.{standing_left}
 use Rattle.nd_table.specs.Due.{lesser}
-use Rattle.nd_routers.specs.OnLink.{least_end}
+use Rattle.nd_routers.specs.OnLinkKept.{least_end}
 use Rattle.nd_routers.proofs.on_link.least_end.Given as goal
 
 -- the least so far and the least of the rest are the least of all

@@ -2,7 +2,7 @@ use Rattle.std.proofs.Common.{◌≡◌, ◌∙◌, sym, true, false, Bool, refl
 use Rattle.std.specs.Prelude.{◌||◌}
 use Rattle.std.specs.List.{list_any}
 use Rattle.nd_addr.specs.Number.{number_of}
-use Rattle.nd_slaac.specs.Table.{address_in}
+use Rattle.nd_slaac.specs.TableKept.{address_in}
 use Rattle.nd_slaac.specs.Destination.{counted_in, is_asked}
 use Rattle.nd_slaac.proofs.Destinations.{is_to_either}
 use Rattle.nd_slaac.proofs.destination.any_is_to.Goals as goal

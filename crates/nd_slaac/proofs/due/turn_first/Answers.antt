@@ -1,10 +1,10 @@
 use Rattle.std.proofs.Common.{◌≡◌, ◌<◌, ap, sym, subst, refl, length, List, None}
 use Rattle.nd_addr.specs.Number.{number_of}
-use Rattle.nd_table.specs.Due.{NotBefore, least_date}
-use Rattle.nd_slaac.specs.Table.{key_of}
+use Rattle.nd_table.specs.DueKept.{NotBefore, least_date}
+use Rattle.nd_slaac.specs.TableKept.{key_of}
 use Rattle.nd_slaac.proofs.Planning.{none_of_ends, none_of_steps, had_end, had_step, gone_planned, stepped_planned}
 use Rattle.std.specs.Prelude.{slice_get}
-use Rattle.nd_slaac.specs.Address.{Address}
+use Rattle.nd_slaac.specs.AddressKept.{Address}
 use Rattle.nd_slaac.specs.Due.{Ends}
 use Rattle.nd_slaac.specs.Dates.{end_date, next_step, first_at}
 use Rattle.nd_slaac.proofs.Turns.{went, goes_on, stepped_on}

@@ -3,8 +3,8 @@ use Rattle.nd_addr.specs.Number.{number_of}
 use Rattle.nd_table.specs.Dates.{Redated}
 use Rattle.nd_table.proofs.Keyed.{key_is, found_is}
 use Rattle.nd_table.proofs.Stays.{set_dates}
-use Rattle.nd_slaac.specs.Address.{Address}
-use Rattle.nd_slaac.specs.Table.{key_of}
+use Rattle.nd_slaac.specs.AddressKept.{Address}
+use Rattle.nd_slaac.specs.TableKept.{key_of}
 use Rattle.nd_slaac.specs.Dates.{next_step}
 use Rattle.nd_slaac.proofs.duplicate.fail.Goals as goal
 

@@ -1,7 +1,7 @@
 use Rattle.std.proofs.Common.{◌<◌, length, sym, arith}
 use Rattle.nd_addr.specs.Number.{number_of}
 use Rattle.nd_table.proofs.Keyed.{place_of-le}
-use Rattle.nd_slaac.specs.Table.{key_of}
+use Rattle.nd_slaac.specs.TableKept.{key_of}
 use Rattle.nd_slaac.specs.Room.{max_addresses}
 use Rattle.nd_slaac.proofs.Planning.{room_for_new_end, room_for_new_step, came_planned}
 use Rattle.nd_slaac.proofs.prefix_option.enter.Goals as goal

@@ -2,8 +2,8 @@ use Rattle.std.proofs.Common.{◌<◌, ◌≤◌, List, length, set, refl, ap, s
 use Rattle.std.specs.Prelude.{is_some}
 use Rattle.nd_addr.specs.Number.{number_of}
 use Rattle.nd_table.proofs.Keyed.{key_is, found_is}
-use Rattle.nd_slaac.specs.Address.{Address}
-use Rattle.nd_slaac.specs.Table.{key_of}
+use Rattle.nd_slaac.specs.AddressKept.{Address}
+use Rattle.nd_slaac.specs.TableKept.{key_of}
 use Rattle.nd_slaac.specs.Room.{max_addresses}
 use Rattle.nd_slaac.specs.Dates.{next_step}
 use Rattle.nd_slaac.specs.Calls.{taken_by}

@@ -1,7 +1,7 @@
 use Rattle.std.proofs.Common.{◌≡◌, ◌+◌, ◌≤◌, length}
 use Rattle.nd_decode.specs.Pieces.{options_left}
 use Rattle.nd_slaac.specs.PrefixOption.{prefixes_in}
-use Rattle.nd_slaac.specs.Room.{new_in}
+use Rattle.nd_slaac.specs.RoomKept.{new_in}
 use Rattle.nd_slaac.specs.Calls.{keys_in}
 use Rattle.nd_slaac.proofs.room.fits.Given as goal
 

@@ -2,7 +2,7 @@ use Rattle.std.proofs.Common.{◌≡◌, length}
 use Rattle.nd_addr.specs.Number.{number_of}
 use Rattle.nd_decode.specs.Pieces.{options_left}
 use Rattle.nd_slaac.specs.PrefixOption.{prefixes_in}
-use Rattle.nd_slaac.specs.Room.{is_formed_by}
+use Rattle.nd_slaac.specs.RoomKept.{is_formed_by}
 use Rattle.nd_slaac.proofs.room.is_formed_by.Given as goal
 
 -- the address is formed by the rest where it is by any

@@ -1,6 +1,6 @@
 use Rattle.std.proofs.Common.{refl, sym, ◌∙◌}
 use Rattle.nd_neighbour.specs.News.{news_key}
-use Rattle.nd_neighbour.specs.Table.{entry_in}
+use Rattle.nd_neighbour.specs.TableKept.{entry_in}
 use Rattle.nd_steps.proofs.Released.{hears_given, hears_none}
 use Rattle.nd_steps.proofs.Resolved.{news_may_remember, was_resolved}
 use Rattle.nd_steps.proofs.neighbour_cache.hear_news.Goals as goal

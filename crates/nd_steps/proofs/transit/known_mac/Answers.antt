@@ -1,7 +1,7 @@
 use Rattle.std.proofs.Common.{◌≡◌, Some, sym, ◌∙◌, ap}
 use Rattle.std.specs.Option.{option_map}
 use Rattle.nd_addr.specs.Number.{number_of, mac_at}
-use Rattle.nd_neighbour.specs.Table.{entry_in}
+use Rattle.nd_neighbour.specs.TableKept.{entry_in}
 use Rattle.nd_steps.proofs.InTransit.{mac_shown, kept_mac}
 use Rattle.nd_steps.proofs.transit.known_mac.Goals as goal
 

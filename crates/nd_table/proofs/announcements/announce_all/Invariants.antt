@@ -1,6 +1,7 @@
 use Rattle.std.proofs.Common.{◌≡◌, ◌≤◌, true, length}
 use Rattle.std.specs.Prelude.{◌&&◌, vec_len, vec_capacity}
-use Rattle.nd_table.specs.Listing.{announced_all, fits}
+use Rattle.nd_table.specs.Listing.{fits}
+use Rattle.nd_table.specs.ListingKept.{announced_all}
 use Rattle.nd_table.specs.Refreshing.{only_refreshes}
 use Rattle.nd_table.proofs.announcements.announce_all.Given as goal
 

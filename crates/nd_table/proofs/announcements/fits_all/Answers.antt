@@ -1,7 +1,8 @@
 use Rattle.std.proofs.Common.{rules, ◌≡◌, ◌∙◌, sym, ap, refl, arith, eqb, List, ℕ, length, take, true, false, ◌+◌}
 use Rattle.std.specs.Prelude.{not, nat_le, ◌&&◌}
 use Rattle.std.proofs.lemmas.Bool.Decides.{nat_tests}
-use Rattle.nd_table.specs.Listing.{behind, fits, count_after}
+use Rattle.nd_table.specs.Listing.{fits}
+use Rattle.nd_table.specs.ListingKept.{behind, count_after}
 use Rattle.nd_table.proofs.Behind.{fits_open, counted, fits_more, fits_few, next_is}
 use Rattle.nd_table.proofs.announcements.fits_all.Goals as goal
 

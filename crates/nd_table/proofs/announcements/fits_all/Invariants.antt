@@ -1,5 +1,6 @@
 use Rattle.std.proofs.Common.{◌≡◌, ◌≤◌, take, drop, length}
-use Rattle.nd_table.specs.Listing.{behind, fits}
+use Rattle.nd_table.specs.Listing.{fits}
+use Rattle.nd_table.specs.ListingKept.{behind}
 use Rattle.nd_table.proofs.announcements.fits_all.Given as goal
 
 -- how many stand behind those so far, and that what is left decides

@@ -1,6 +1,7 @@
 use Rattle.std.proofs.Common.{◌∙◌, sym, ap, arith, cond, eqb, List, ℕ}
 use Rattle.std.specs.Prelude.{is_some, not}
-use Rattle.nd_table.specs.Listing.{end_in, behind}
+use Rattle.nd_table.specs.Listing.{end_in}
+use Rattle.nd_table.specs.ListingKept.{behind}
 use Rattle.nd_table.proofs.Behind.{has_behind, take_past, next_is}
 use Rattle.nd_table.proofs.announcements.stands_behind.Goals as goal
 

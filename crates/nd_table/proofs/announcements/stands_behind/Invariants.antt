@@ -1,6 +1,7 @@
 use Rattle.std.proofs.Common.{◌≡◌, take, drop}
 use Rattle.std.specs.Prelude.{is_some}
-use Rattle.nd_table.specs.Listing.{end_in, behind}
+use Rattle.nd_table.specs.Listing.{end_in}
+use Rattle.nd_table.specs.ListingKept.{behind}
 use Rattle.nd_table.proofs.announcements.stands_behind.Given as goal
 
 -- what is listed behind those so far, and what is left

@@ -1,6 +1,7 @@
 use Rattle.std.proofs.Common.{◌≡◌, ◌<◌, ◌≤◌, ◌+◌, ◌-◌, length, ap, None, drop, arith, subst}
 use Rattle.std.proofs.Math.Seq.{drop-length}
-use Rattle.nd_table.specs.Keyed.{at_key, place_of}
+use Rattle.nd_table.specs.Keyed.{at_key}
+use Rattle.nd_table.specs.KeyedKept.{place_of}
 use Rattle.nd_table.proofs.Keyed.{place_of-le}
 use Rattle.nd_table.proofs.Searching.{lower, not_lower, same, other, seen_low, seen_high, seen_other, none_at_place, found_at, enough_first, enough_half, enough_none}
 use Rattle.nd_table.proofs.binary_search.search.Goals.{else-low-entries-via-then-low-entries+else-is_eq, else-low-entries-via-else-low-entries}

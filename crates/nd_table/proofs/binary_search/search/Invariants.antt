@@ -1,5 +1,5 @@
 use Rattle.std.proofs.Common.{◌-◌, ◌≤◌, length}
-use Rattle.nd_table.specs.Keyed.{place_of}
+use Rattle.nd_table.specs.KeyedKept.{place_of}
 use Rattle.nd_table.proofs.Searching.{Enough}
 use Rattle.nd_table.proofs.binary_search.search.Given as goal
 

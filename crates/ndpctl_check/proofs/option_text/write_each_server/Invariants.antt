@@ -1,7 +1,7 @@
 use Rattle.std.proofs.Common.{◌≡◌, ◌++◌}
 use Rattle.std.specs.Prelude.{string_bytes}
 use Rattle.std.specs.List.{flat_map}
-use Rattle.nd_decode.specs.Servers.{servers_left}
+use Rattle.nd_decode.specs.ServersKept.{servers_left}
 use Rattle.ndpctl_check.specs.OptionText.{server_text}
 use Rattle.ndpctl_check.proofs.option_text.write_each_server.Given as goal
 

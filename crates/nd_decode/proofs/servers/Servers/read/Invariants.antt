@@ -1,6 +1,7 @@
 use Rattle.std.proofs.Common.{◌≡◌}
 use Rattle.std.specs.List.{list_all}
-use Rattle.nd_decode.specs.Servers.{servers_left, is_server}
+use Rattle.nd_decode.specs.Servers.{is_server}
+use Rattle.nd_decode.specs.ServersKept.{servers_left}
 use Rattle.nd_decode.proofs.servers.Servers.read.Given as goal
 
 abbrev pub invariant-loop-server : goal.invariant-loop-server

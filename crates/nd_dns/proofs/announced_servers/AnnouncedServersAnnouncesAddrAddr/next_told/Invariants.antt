@@ -1,6 +1,6 @@
 use Rattle.std.proofs.Common.{◌≡◌, [], length}
 use Rattle.nd_decode.specs.Pieces.{options_left}
-use Rattle.nd_dns.specs.AnnouncedServers.{servers_to_come, at_hand}
+use Rattle.nd_dns.specs.AnnouncedServersKept.{servers_to_come, at_hand}
 use Rattle.nd_dns.proofs.announced_servers.AnnouncedServersAnnouncesAddrAddr.next_told.Given as goal
 
 -- nothing is left of the option at hand, and what is to come is the same at each step

@@ -4,7 +4,7 @@ use Rattle.nd_decode.specs.Pieces.{options_left}
 use Rattle.nd_table.specs.Listing.{fits}
 use Rattle.nd_table.proofs.Behind.{fits_open}
 use Rattle.nd_table.proofs.UniqueKeys.{one_listing}
-use Rattle.nd_dns.specs.Dns.{Table}
+use Rattle.nd_dns.specs.DnsKept.{Table}
 use Rattle.nd_dns.specs.AnnouncedServers.{servers_told}
 use Rattle.nd_dns.proofs.dns.Dns.fits_servers.Goals as goal
 

@@ -2,7 +2,7 @@ use Rattle.std.proofs.Common.{ℕ, ◌≤◌, List, ◌∙◌, sym, ap, arith, l
 use Rattle.nd_decode.specs.Pieces.{options_left}
 use Rattle.nd_table.specs.Refreshing.{only_refreshes}
 use Rattle.nd_table.proofs.Refreshing.{refreshed_enters}
-use Rattle.nd_dns.specs.Dns.{Table}
+use Rattle.nd_dns.specs.DnsKept.{Table}
 use Rattle.nd_dns.specs.AnnouncedNames.{same_name, names_told}
 use Rattle.nd_dns.proofs.Adding.{fits_unentered}
 use Rattle.nd_dns.proofs.dns.Dns.only_refreshes_names.Goals as goal

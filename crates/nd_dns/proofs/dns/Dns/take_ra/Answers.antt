@@ -3,12 +3,15 @@ use Rattle.nd_addr.specs.declared.addr.Addr.{Addr}
 use Rattle.nd_addr.specs.Same.{same_addr, addrs_tell, bytes_tell}
 use Rattle.nd_decode.specs.Pieces.{options_left}
 use Rattle.nd_table.specs.declared.lasting.Lasting.{Lasting}
-use Rattle.nd_table.specs.Listing.{Distinct, Stands, announced_all, then_announced}
+use Rattle.nd_table.specs.Listing.{then_announced}
+use Rattle.nd_table.specs.ListingKept.{Distinct, Stands, announced_all}
 use Rattle.nd_table.proofs.Behind.{Distinct-all}
 use Rattle.nd_table.proofs.Steps.{gains_all}
-use Rattle.nd_dns.specs.Dns.{Table}
-use Rattle.nd_dns.specs.AnnouncedServers.{servers_told, servers_to_come}
-use Rattle.nd_dns.specs.AnnouncedNames.{same_name, names_told, names_to_come}
+use Rattle.nd_dns.specs.DnsKept.{Table}
+use Rattle.nd_dns.specs.AnnouncedServers.{servers_told}
+use Rattle.nd_dns.specs.AnnouncedServersKept.{servers_to_come}
+use Rattle.nd_dns.specs.AnnouncedNames.{same_name, names_told}
+use Rattle.nd_dns.specs.AnnouncedNamesKept.{names_to_come}
 use Rattle.nd_dns.proofs.dns.Dns.take_ra.Goals as goal
 
 pub invariant_of-self : goal.invariant_of-self

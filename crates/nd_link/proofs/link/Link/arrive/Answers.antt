@@ -5,7 +5,8 @@ use Rattle.std.specs.Prelude.{slice_get}
 use Rattle.std.specs.Vec.{with_items}
 use Rattle.std.proofs.lemmas.Option.{slice_get_read}
 use Rattle.nd_node.specs.Answer.{answer_of}
-use Rattle.nd_node.specs.Event.{event_of, AddsEvent}
+use Rattle.nd_node.specs.Event.{event_of}
+use Rattle.nd_node.specs.EventKept.{AddsEvent}
 use Rattle.nd_link.proofs.Arriving.{arrival_leads}
 use Rattle.nd_link.proofs.Passage.{own_settled, passed_in}
 use Rattle.nd_link.proofs.link.Link.arrive.Goals as goal

@@ -1,5 +1,5 @@
 use Rattle.std.proofs.Common.{◌<◌, refl, sym, ◌∙◌, subst, arith}
-use Rattle.nd_node.specs.Node.{next_of}
+use Rattle.nd_node.specs.NodeKept.{next_of}
 use Rattle.nd_node.proofs.Running.{on_err_any}
 use Rattle.nd_link.specs.Due.{AreSettled, IsFirst}
 use Rattle.nd_link.specs.Told.{Tells}

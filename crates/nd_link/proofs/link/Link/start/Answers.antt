@@ -1,7 +1,7 @@
 use Rattle.std.proofs.Common.{◌<◌, length, refl, subst, arith}
 use Rattle.nd_chronicle.specs.Start.{Limits}
 use Rattle.nd_chronicle.specs.History.{beginning}
-use Rattle.nd_node.specs.Node as node
+use Rattle.nd_node.specs.NodeKept as node
 use Rattle.nd_node.specs.Node.{starting}
 use Rattle.nd_link_log.specs.Event.{max_nodes}
 use Rattle.nd_link.proofs.Answering.{start_leads}

@@ -1,6 +1,6 @@
 use Rattle.std.proofs.Common.{sym, subst, List}
-use Rattle.nd_neighbour.specs.Entry.{NeighbourEntry}
-use Rattle.nd_neighbour.specs.Table.{Stands}
+use Rattle.nd_neighbour.specs.EntryKept.{NeighbourEntry}
+use Rattle.nd_neighbour.specs.TableKept.{Stands}
 use Rattle.nd_neighbour.specs.Removal.{cleared}
 use Rattle.nd_neighbour.proofs.Forgetting.{cleared_stands}
 use Rattle.nd_neighbour.proofs.cache.Cache.clear.Goals as goal

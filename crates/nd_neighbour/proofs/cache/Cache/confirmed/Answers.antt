@@ -1,7 +1,7 @@
 use Rattle.std.proofs.Common.{subst}
 use Rattle.nd_addr.specs.Number.{number_of}
-use Rattle.nd_neighbour.specs.ReachabilityConfirmation.{confirmed}
-use Rattle.nd_neighbour.specs.Table.{Table, Alters}
+use Rattle.nd_neighbour.specs.ReachabilityConfirmationKept.{confirmed}
+use Rattle.nd_neighbour.specs.TableKept.{Table, Alters}
 use Rattle.nd_neighbour.proofs.NewsCalls.{confirmed_gains}
 use Rattle.nd_neighbour.proofs.cache.Cache.confirmed.Goals as goal
 

@@ -1,8 +1,8 @@
 use Rattle.std.proofs.Common.{◌∙◌, ap}
 use Rattle.std.specs.Option.{option_map}
 use Rattle.nd_addr.specs.Number.{number_of}
-use Rattle.nd_neighbour.specs.Table.{Table, entry_in}
-use Rattle.nd_neighbour.specs.Shown.{seen}
+use Rattle.nd_neighbour.specs.TableKept.{Table, entry_in}
+use Rattle.nd_neighbour.specs.ShownKept.{seen}
 use Rattle.nd_neighbour.proofs.Forgetting.{seen_by_history}
 use Rattle.nd_neighbour.proofs.cache.Cache.entry.Goals as goal
 

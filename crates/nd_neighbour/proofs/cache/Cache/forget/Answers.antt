@@ -1,7 +1,7 @@
 use Rattle.std.proofs.Common.{◌≡◌, ◌∙◌, subst}
 use Rattle.nd_addr.specs.Number.{number_of}
 use Rattle.nd_neighbour.specs.History.{Removed}
-use Rattle.nd_neighbour.specs.Table.{Table, entry_in}
+use Rattle.nd_neighbour.specs.TableKept.{Table, entry_in}
 use Rattle.nd_neighbour.specs.Removal.{Removes, waiting_at}
 use Rattle.nd_neighbour.proofs.Forgetting.{removed_gains, waits_by_history}
 use Rattle.nd_neighbour.proofs.cache.Cache.forget.Goals as goal

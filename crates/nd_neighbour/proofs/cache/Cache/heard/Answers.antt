@@ -3,12 +3,12 @@ use Rattle.std.specs.Prelude.{OnOk, IfOk}
 use Rattle.std.specs.Option.{option_map}
 use Rattle.std.proofs.lemmas.Result.{on_ok_weaker, IfOk-weaker}
 use Rattle.nd_addr.specs.Number.{number_of}
-use Rattle.nd_neighbour.specs.Entry.{NeighbourEntry, with_mark, stale_entry}
-use Rattle.nd_neighbour.specs.LinkLayerAddress.{given, mark_or}
-use Rattle.nd_neighbour.specs.NeighborAdvertisement.{advertised}
-use Rattle.nd_neighbour.specs.Table.{Table, entry_in, Alters}
-use Rattle.nd_neighbour.specs.Place.{Gives}
-use Rattle.nd_neighbour.specs.News.{told_released, told_turned, was_known}
+use Rattle.nd_neighbour.specs.EntryKept.{NeighbourEntry, with_mark, stale_entry}
+use Rattle.nd_neighbour.specs.LinkLayerAddressKept.{given, mark_or}
+use Rattle.nd_neighbour.specs.NeighborAdvertisementKept.{advertised}
+use Rattle.nd_neighbour.specs.TableKept.{Table, entry_in, Alters}
+use Rattle.nd_neighbour.specs.PlaceKept.{Gives}
+use Rattle.nd_neighbour.specs.NewsKept.{told_released, told_turned, was_known}
 use Rattle.nd_neighbour.proofs.Results.{if_ok_both}
 use Rattle.nd_neighbour.proofs.NewsCalls.{given_key, given_hears, advertised_gains, marked_gains, given_tells, advertised_tells, marked_tells, few_released}
 use Rattle.nd_neighbour.proofs.Second.{gives_there}

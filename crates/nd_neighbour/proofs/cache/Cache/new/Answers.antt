@@ -1,8 +1,8 @@
 use Rattle.std.proofs.Common.{◌≡◌, List, [], ap, sym, subst, arith, rules}
 use Rattle.nd_table.specs.Dates.{Planned, has}
-use Rattle.nd_neighbour.specs.Entry.{NeighbourEntry}
+use Rattle.nd_neighbour.specs.EntryKept.{NeighbourEntry}
 use Rattle.nd_neighbour.specs.Planned.{IsPlanned}
-use Rattle.nd_neighbour.specs.Table.{Stands}
+use Rattle.nd_neighbour.specs.TableKept.{Stands}
 use Rattle.nd_neighbour.proofs.cache.Cache.new.Goals as goal
 
 -- an empty cache has no dates, and stands for no history

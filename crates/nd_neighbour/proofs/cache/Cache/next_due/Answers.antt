@@ -1,6 +1,6 @@
 use Rattle.std.proofs.Common.{◌≡◌, ◌∙◌, sym, ap}
-use Rattle.nd_neighbour.specs.Table.{Table}
-use Rattle.nd_neighbour.specs.Due.{next_in}
+use Rattle.nd_neighbour.specs.TableKept.{Table}
+use Rattle.nd_neighbour.specs.DueKept.{next_in}
 use Rattle.nd_neighbour.proofs.Dues.{next_is_due}
 use Rattle.nd_neighbour.proofs.Planning.{next_planned}
 use Rattle.nd_neighbour.proofs.cache.Cache.next_due.Goals as goal

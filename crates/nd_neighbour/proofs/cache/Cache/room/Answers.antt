@@ -2,9 +2,10 @@ use Rattle.std.proofs.Common.{◌≡◌, ◌∙◌, sym, ap, subst, Bool, true, 
 use Rattle.std.specs.Prelude.{◌↔◌}
 use Rattle.std.specs.Option.{option_map}
 use Rattle.nd_addr.specs.Number.{number_of}
-use Rattle.nd_neighbour.specs.Entry.{NeighbourEntry}
-use Rattle.nd_neighbour.specs.Table.{Table}
-use Rattle.nd_neighbour.specs.Room.{HasRoom, has_room}
+use Rattle.nd_neighbour.specs.EntryKept.{NeighbourEntry}
+use Rattle.nd_neighbour.specs.TableKept.{Table}
+use Rattle.nd_neighbour.specs.Room.{HasRoom}
+use Rattle.nd_neighbour.specs.RoomKept.{has_room}
 use Rattle.nd_neighbour.proofs.Second.{room_by_history}
 use Rattle.nd_neighbour.proofs.cache.Cache.room.Goals as goal
 

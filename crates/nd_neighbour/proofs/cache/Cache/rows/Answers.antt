@@ -1,7 +1,7 @@
 use Rattle.std.proofs.Common.{◌≡◌, ◌∙◌, ap, map}
 use Rattle.nd_neighbour.specs.Left.{neighbours_left}
-use Rattle.nd_neighbour.specs.Shown.{seen}
-use Rattle.nd_neighbour.specs.Table.{Table}
+use Rattle.nd_neighbour.specs.ShownKept.{seen}
+use Rattle.nd_neighbour.specs.TableKept.{Table}
 use Rattle.nd_neighbour.proofs.Forgetting.{lists_all}
 use Rattle.nd_neighbour.proofs.cache.Cache.rows.Goals as goal
 

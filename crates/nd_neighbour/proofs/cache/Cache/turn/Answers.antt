@@ -1,5 +1,5 @@
 use Rattle.std.proofs.Common.{ap}
-use Rattle.nd_neighbour.specs.Table.{Table}
+use Rattle.nd_neighbour.specs.TableKept.{Table}
 use Rattle.nd_neighbour.specs.View.{falls_of}
 use Rattle.nd_neighbour.proofs.TurnCalls.{due_call, gains_call, fewer_call, later_call, none_call}
 use Rattle.nd_neighbour.proofs.cache.Cache.turn.Goals as goal

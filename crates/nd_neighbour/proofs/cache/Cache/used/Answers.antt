@@ -2,11 +2,11 @@ use Rattle.std.specs.Prelude.{is_some}
 use Rattle.std.proofs.lemmas.Bool.{cond-true}
 use Rattle.std.proofs.Common.{◌≡◌, ◌-◌, ◌∙◌, sym, ap, subst, Option, None}
 use Rattle.nd_addr.specs.Number.{number_of}
-use Rattle.nd_neighbour.specs.Entry.{NeighbourEntry}
-use Rattle.nd_neighbour.specs.AddressResolution.{asked_entry}
-use Rattle.nd_neighbour.specs.Table.{Table, entry_in, Alters}
-use Rattle.nd_neighbour.specs.Place.{Gives}
-use Rattle.nd_neighbour.specs.Sending.{used, sending_in}
+use Rattle.nd_neighbour.specs.EntryKept.{NeighbourEntry}
+use Rattle.nd_neighbour.specs.AddressResolutionKept.{asked_entry}
+use Rattle.nd_neighbour.specs.TableKept.{Table, entry_in, Alters}
+use Rattle.nd_neighbour.specs.PlaceKept.{Gives}
+use Rattle.nd_neighbour.specs.SendingKept.{used, sending_in}
 use Rattle.nd_neighbour.specs.View.{sending_of}
 use Rattle.nd_neighbour.proofs.Finds.{was_there, not_there, no_rings, holding, has_place_there}
 use Rattle.nd_neighbour.proofs.PacketCalls.{takes_packet, sending_by_history}

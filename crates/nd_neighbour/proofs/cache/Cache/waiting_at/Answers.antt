@@ -1,6 +1,6 @@
 use Rattle.std.proofs.Common.{◌∙◌, ap, length}
 use Rattle.nd_addr.specs.Number.{number_of}
-use Rattle.nd_neighbour.specs.Table.{Table, entry_in}
+use Rattle.nd_neighbour.specs.TableKept.{Table, entry_in}
 use Rattle.nd_neighbour.specs.Removal.{waiting_at}
 use Rattle.nd_neighbour.proofs.Forgetting.{waits_by_history}
 use Rattle.nd_neighbour.proofs.cache.Cache.waiting_at.Goals as goal

@@ -1,5 +1,6 @@
 use Rattle.std.proofs.Common.{◌∙◌, ap}
-use Rattle.nd_nexthop.specs.NextHop.{hop_of, hop}
+use Rattle.nd_nexthop.specs.NextHop.{hop}
+use Rattle.nd_nexthop.specs.NextHopKept.{hop_of}
 use Rattle.nd_nexthop.proofs.Recalled.{by_history_of}
 use Rattle.nd_nexthop.proofs.choice.Choice.determine.Goals as goal
 

@@ -2,7 +2,8 @@ use Rattle.std.proofs.Common.{◌≡◌, true, Contains, ap, refl, ◌∙◌, su
 use Rattle.nd_addr.specs.Number.{number_of}
 use Rattle.nd_nexthop.specs.Choice.{Table, target_in}
 use Rattle.nd_nexthop.specs.Memo.{is_asked}
-use Rattle.nd_nexthop.specs.NextHop.{hop_of, hop}
+use Rattle.nd_nexthop.specs.NextHop.{hop}
+use Rattle.nd_nexthop.specs.NextHopKept.{hop_of}
 use Rattle.nd_nexthop.proofs.Recalled.{agrees_with, by_history_of, recalled, remembers_less}
 use Rattle.nd_nexthop.proofs.choice.Choice.next_hop.Goals as goal
 

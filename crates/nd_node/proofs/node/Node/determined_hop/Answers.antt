@@ -1,4 +1,4 @@
-use Rattle.nd_nexthop.specs.NextHop.{hop_of}
+use Rattle.nd_nexthop.specs.NextHopKept.{hop_of}
 use Rattle.nd_chronicle.specs.Histories.{redirect_history}
 use Rattle.nd_node.proofs.NextHops.{next_hop_is}
 use Rattle.nd_node.proofs.node.Node.determined_hop.Goals as goal

@@ -7,7 +7,7 @@ use Rattle.nd_slaac.specs.View as addresses
 use Rattle.nd_slaac.specs.Due.{FirstDue}
 use Rattle.nd_slaac.specs.PrefixOption.{link_local_of}
 use Rattle.nd_params.specs.History.{Drew}
-use Rattle.nd_params.specs.Params as parameters
+use Rattle.nd_params.specs.ParamsKept as parameters
 use Rattle.nd_chronicle.specs.Generator.{reachable_drawn}
 use Rattle.nd_chronicle.specs.Histories.{router_history, address_history, neighbour_history}
 use Rattle.nd_steps.specs.RouterTables.{NotesAddress}

@@ -2,7 +2,7 @@ use Rattle.std.proofs.Common.{◌≡◌, true, refl, subst}
 use Rattle.nd_addr.specs.Number.{number_of}
 use Rattle.nd_neighbour.specs.View.{sending_of}
 use Rattle.nd_neighbour.specs.Sending.{Sending}
-use Rattle.nd_neighbour.specs.Table.{entry_in}
+use Rattle.nd_neighbour.specs.TableKept.{entry_in}
 use Rattle.nd_steps.specs.DestinationCache.{MayRemember, begins}
 use Rattle.nd_steps.proofs.Resolved.{begins_absent, packet_may_remember}
 use Rattle.nd_node.proofs.Packets.{packet_leads}

@@ -3,14 +3,14 @@ use Rattle.std.specs.Option.{option_map}
 use Rattle.nd_addr.specs.Number.{number_of}
 use Rattle.nd_decode.specs.Pieces.{options_left}
 use Rattle.nd_neighbour.specs.declared.news.Times.{Times}
-use Rattle.nd_neighbour.specs.Entry as neighbour_entries
+use Rattle.nd_neighbour.specs.EntryKept as neighbour_entries
 use Rattle.nd_steps.specs.NeighbourCache.{said_by, HearsOf}
 use Rattle.nd_steps.specs.DestinationCache.{MayRemember}
 use Rattle.nd_node.proofs.Recalling.{may_redirects}
 use Rattle.nd_node.proofs.Asking.{answered, of_asker, place_for_news, refused}
 use Rattle.nd_node.proofs.Refusals.{asker_full, room_left}
 use Rattle.std.specs.Prelude.{None, true}
-use Rattle.nd_neighbour.specs.Room.{has_room}
+use Rattle.nd_neighbour.specs.RoomKept.{has_room}
 use Rattle.nd_node.specs.declared.answer.Answer.TheVariants.{Refused}
 use Rattle.nd_out.specs.declared.out.Refusal.TheVariants.{Full}
 use Rattle.nd_out.specs.declared.out.Limit.TheVariants.{Neighbours}

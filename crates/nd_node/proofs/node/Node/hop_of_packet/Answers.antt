@@ -1,4 +1,4 @@
-use Rattle.nd_nexthop.specs.NextHop.{hop_of}
+use Rattle.nd_nexthop.specs.NextHopKept.{hop_of}
 use Rattle.nd_node.proofs.NextHops.{hop_of_host, hop_of_router}
 use Rattle.nd_node.proofs.node.Node.hop_of_packet.Goals as goal
 

@@ -3,7 +3,7 @@ use Rattle.std.proofs.lemmas.Result.{IfOk-weaker}
 use Rattle.nd_chronicle.specs.Happening.{Passed}
 use Rattle.nd_chronicle.proofs.Hops.{one_next_hop}
 use Rattle.nd_decode.specs.Pieces.{options_left}
-use Rattle.nd_nexthop.specs.NextHop.{hop_of}
+use Rattle.nd_nexthop.specs.NextHopKept.{hop_of}
 use Rattle.nd_node.proofs.Judging.{directed, misdirected, next_later}
 use Rattle.nd_node.specs.declared.answer.Answer.TheVariants.{Done}
 use Rattle.nd_node.proofs.Reporting.{answered}

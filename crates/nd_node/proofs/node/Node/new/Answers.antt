@@ -2,10 +2,10 @@ use Rattle.std.proofs.Common.{◌≡◌, ℕ, ◌∷◌, [], refl, ◌∙◌, ap
 use Rattle.std.specs.Prelude.{None}
 use Rattle.rand_core.specs.Stream.{Stream, next_u32}
 use Rattle.nd_params.specs.History.{Drew}
-use Rattle.nd_params.specs.Params as parameters
+use Rattle.nd_params.specs.ParamsKept as parameters
 use Rattle.nd_slaac.specs.History.{Formed}
 use Rattle.nd_slaac.specs.PrefixOption.{link_local_of}
-use Rattle.nd_slaac.specs.Table as addresses
+use Rattle.nd_slaac.specs.TableKept as addresses
 use Rattle.nd_chronicle.specs.Generator.{drawn_from}
 use Rattle.nd_node.specs.Node.{starting}
 use Rattle.nd_node.proofs.Beginning.{stands_beginning}

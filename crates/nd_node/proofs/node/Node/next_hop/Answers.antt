@@ -2,7 +2,8 @@ use Rattle.std.proofs.Common.{◌≡◌, ◌≤◌, ℕ, subst, arith}
 use Rattle.nd_addr.specs.Number.{number_of}
 use Rattle.nd_table.specs.Listing.{open_at}
 use Rattle.nd_nexthop.specs.History.{kept}
-use Rattle.nd_nexthop.specs.NextHop.{hop, hop_of}
+use Rattle.nd_nexthop.specs.NextHop.{hop}
+use Rattle.nd_nexthop.specs.NextHopKept.{hop_of}
 use Rattle.nd_chronicle.specs.Histories.{redirect_history}
 use Rattle.nd_steps.specs.NextHop.{candidates_in}
 use Rattle.nd_steps.specs.DestinationCache.{linked_by, own_in}

@@ -1,8 +1,8 @@
 use Rattle.std.proofs.Common.{ℕ, ◌≡◌, ◌≤◌, refl, sym, subst, arith}
 use Rattle.nd_addr.specs.Ip6.{packet_parts}
 use Rattle.nd_addr.specs.Number.{number_of}
-use Rattle.nd_neighbour.specs.Entry.{NeighbourEntry}
-use Rattle.nd_neighbour.specs.Room.{has_room}
+use Rattle.nd_neighbour.specs.EntryKept.{NeighbourEntry}
+use Rattle.nd_neighbour.specs.RoomKept.{has_room}
 use Rattle.std.specs.Prelude.{List, Some, true}
 use Rattle.nd_node.proofs.InTransit.{both_go, both_refused, first_placed, one_left, place_left}
 use Rattle.nd_node.proofs.Refusals.{both_left}

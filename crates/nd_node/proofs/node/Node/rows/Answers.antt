@@ -8,7 +8,7 @@ use Rattle.nd_slaac.specs.Left.{addresses_left}
 use Rattle.nd_nexthop.specs.Left.{redirects_left}
 use Rattle.nd_forwarding.specs.KeptRoutes.{routes_left}
 use Rattle.nd_forwarding.specs.declared.route.Route.{Route}
-use Rattle.nd_params.specs.Params as parameters
+use Rattle.nd_params.specs.ParamsKept as parameters
 use Rattle.nd_chronicle.specs.Histories.{parameter_history, advertising_history}
 use Rattle.nd_chronicle.specs.Shown.{NeighbourTable, RouterTable, PrefixTable, AddressTable, DnsTable, RedirectTable, ParameterTable, AdvertiseTable, RouteTable, neighbour_row, router_row, prefix_row, address_row, server_row, search_row, redirect_row, advertise_rows, route_rows}
 use Rattle.nd_out.specs.Advertised.{advertise_rows_of}

@@ -2,7 +2,7 @@ use Rattle.std.proofs.Common.{◌<◌, sym, subst}
 use Rattle.std.specs.Prelude.{vec_len, vec_capacity}
 use Rattle.std.proofs.lemmas.Result.{IfOk-weaker}
 use Rattle.nd_chronicle.specs.Event as events
-use Rattle.nd_node.specs.Node.{Stands}
+use Rattle.nd_node.specs.NodeKept.{Stands}
 use Rattle.nd_node.proofs.Steps.{follows}
 use Rattle.nd_node.proofs.node.Node.send.Goals as goal
 

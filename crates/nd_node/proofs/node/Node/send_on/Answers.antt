@@ -7,7 +7,7 @@ use Rattle.nd_node.proofs.InTransit.{onward, sent_alone}
 use Rattle.nd_node.proofs.Refusals.{onward_refused, place_refused, room_left}
 use Rattle.nd_chronicle.specs.OwnAddress.{is_own}
 use Rattle.nd_chronicle.specs.Histories.{route_history}
-use Rattle.nd_neighbour.specs.Room.{has_room}
+use Rattle.nd_neighbour.specs.RoomKept.{has_room}
 use Rattle.nd_node.proofs.node.Node.send_on.Goals as goal
 
 pub returns-in_ok-frame-in-None-clause-adds : goal.returns-in_ok-frame-in-None-clause-adds

@@ -5,7 +5,7 @@ use Rattle.nd_steps.specs.Packets.{frame_of}
 use Rattle.nd_node.proofs.Refusals.{place_refused, room_left}
 use Rattle.nd_addr.specs.Number.{number_of}
 use Rattle.std.specs.Prelude.{None, true}
-use Rattle.nd_neighbour.specs.Room.{has_room}
+use Rattle.nd_neighbour.specs.RoomKept.{has_room}
 use Rattle.nd_node.proofs.node.Node.send_to_neighbour.Goals as goal
 
 pub returns-then-not-room-clause-adds : goal.returns-then-not-room-clause-adds

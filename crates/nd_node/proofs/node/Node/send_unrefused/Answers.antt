@@ -1,6 +1,6 @@
 use Rattle.std.proofs.Common.{refl}
 use Rattle.std.proofs.lemmas.Result.{IfOk-weaker}
-use Rattle.nd_nexthop.specs.NextHop.{hop_of}
+use Rattle.nd_nexthop.specs.NextHopKept.{hop_of}
 use Rattle.nd_node.proofs.OutgoingPackets.{hop_later, sent}
 use Rattle.nd_node.proofs.Refusals.{to_hop}
 use Rattle.nd_node.proofs.node.Node.send_unrefused.Goals as goal

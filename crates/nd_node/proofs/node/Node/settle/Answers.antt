@@ -1,5 +1,5 @@
 use Rattle.std.proofs.Common.{◌≡◌, ◌<◌, ◌≤◌, ℕ, refl, ap, arith}
-use Rattle.nd_node.specs.Node.{next_of}
+use Rattle.nd_node.specs.NodeKept.{next_of}
 use Rattle.nd_node.proofs.Walks.{settle_more, settle_end}
 use Rattle.nd_node.proofs.node.Node.settle.Goals as goal
 

@@ -1,6 +1,6 @@
 use Rattle.std.specs.Prelude.{◌≡◌, ◌<◌}
 use Rattle.nd_node.specs.Time.{Leads, Onward}
-use Rattle.nd_node.specs.Node.{next_of, turns_left}
+use Rattle.nd_node.specs.NodeKept.{next_of, turns_left}
 use Rattle.nd_node.proofs.node.Node.settle.Given as goal
 
 -- the node stands for where the walk has come to, and where nothing is due up to the moment nothing has happened

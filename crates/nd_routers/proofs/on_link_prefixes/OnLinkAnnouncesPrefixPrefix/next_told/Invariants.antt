@@ -1,6 +1,6 @@
 use Rattle.std.proofs.Common.{◌≡◌, length}
 use Rattle.nd_decode.specs.Pieces.{options_left}
-use Rattle.nd_routers.specs.OnLinkPrefixes.{prefixes_left}
+use Rattle.nd_routers.specs.OnLinkPrefixesKept.{prefixes_left}
 use Rattle.nd_routers.proofs.on_link_prefixes.OnLinkAnnouncesPrefixPrefix.next_told.Given as goal
 
 -- what is left is the same at each step

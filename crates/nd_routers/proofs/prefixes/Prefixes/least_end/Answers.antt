@@ -2,7 +2,7 @@ use Rattle.std.proofs.Common.{◌∙◌, ap}
 use Rattle.nd_addr.specs.Same.{same_prefix, prefixes_tell}
 use Rattle.nd_table.specs.Listing.{open_at}
 use Rattle.nd_table.proofs.UniqueKeys.{one_listing}
-use Rattle.nd_routers.specs.OnLink.{least_end}
+use Rattle.nd_routers.specs.OnLinkKept.{least_end}
 use Rattle.nd_routers.proofs.prefixes.Prefixes.least_end.Goals as goal
 
 pub returns-clause-by_history : goal.returns-clause-by_history

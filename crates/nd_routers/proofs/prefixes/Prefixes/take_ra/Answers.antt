@@ -3,7 +3,8 @@ use Rattle.nd_addr.specs.Prefix.{PrefixValue}
 use Rattle.nd_addr.specs.Same.{same_prefix, prefixes_tell}
 use Rattle.nd_decode.specs.Pieces.{options_left}
 use Rattle.nd_table.specs.declared.lasting.Lasting.{Lasting}
-use Rattle.nd_table.specs.Listing.{Distinct, Stands, announced_all, then_announced}
+use Rattle.nd_table.specs.Listing.{then_announced}
+use Rattle.nd_table.specs.ListingKept.{Distinct, Stands, announced_all}
 use Rattle.nd_table.proofs.Behind.{Distinct-all}
 use Rattle.nd_table.proofs.Steps.{gains_all}
 use Rattle.nd_routers.specs.OnLinkPrefixes.{prefixes_in}

@@ -5,8 +5,9 @@ use Rattle.nd_table.specs.Dates.{date_at}
 use Rattle.nd_routers.specs.Planned.{key_of, date_of}
 use Rattle.nd_table.specs.Listing.{end_in, without}
 use Rattle.nd_routers.specs.Preferences.{without_preference}
-use Rattle.nd_routers.specs.RouterFailures.{others}
-use Rattle.nd_routers.specs.Routers.{keys, same}
+use Rattle.nd_routers.specs.RouterFailuresKept.{others}
+use Rattle.nd_routers.specs.Routers.{same}
+use Rattle.nd_routers.specs.RoutersKept.{keys}
 use Rattle.nd_routers.proofs.Preferring.{aligned_without, routers_of}
 use Rattle.nd_routers.proofs.Planning.{had_date, without_planned}
 use Rattle.nd_routers.proofs.Steps.{gains_left, settled_without}

@@ -2,7 +2,7 @@ use Rattle.std.proofs.Common.{◌≡◌, ◌∙◌, ◌++◌, ◌∷◌, [], sym
 use Rattle.std.specs.Prelude.{is_some, length}
 use Rattle.nd_addr.specs.Number.{number_of}
 use Rattle.nd_table.specs.Listing.{end_in}
-use Rattle.nd_routers.specs.RouterFailures.{others}
+use Rattle.nd_routers.specs.RouterFailuresKept.{others}
 use Rattle.nd_routers.specs.Routers.{same}
 use Rattle.nd_routers.proofs.Failing.{has_room}
 use Rattle.nd_routers.proofs.Steps.{gains_failure, gains_no_failure}

@@ -6,7 +6,8 @@ use Rattle.nd_table.proofs.Behind.{fits_open}
 use Rattle.nd_table.proofs.Steps.{lists_at}
 use Rattle.nd_table.proofs.UniqueKeys.{one_listing}
 use Rattle.nd_routers.specs.History.{announcements}
-use Rattle.nd_routers.specs.Routers.{Table, same}
+use Rattle.nd_routers.specs.Routers.{same}
+use Rattle.nd_routers.specs.RoutersKept.{Table}
 use Rattle.nd_routers.proofs.routers.Routers.fits.Goals as goal
 
 pub returns-clause-by_history : goal.returns-clause-by_history

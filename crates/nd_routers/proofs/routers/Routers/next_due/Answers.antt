@@ -1,5 +1,5 @@
 use Rattle.std.proofs.Common.{◌≡◌, ◌∙◌, sym, ap}
-use Rattle.nd_routers.specs.Routers.{next_end}
+use Rattle.nd_routers.specs.RoutersKept.{next_end}
 use Rattle.nd_routers.proofs.Dues.{next_is_due}
 use Rattle.nd_routers.proofs.Planning.{next_planned}
 use Rattle.nd_routers.proofs.routers.Routers.next_due.Goals as goal

@@ -5,8 +5,9 @@ use Rattle.nd_table.specs.Listing.{open_at}
 use Rattle.nd_table.proofs.Steps.{lists_at}
 use Rattle.nd_routers.specs.History.{announcements, preference_of}
 use Rattle.nd_routers.specs.Left.{routers_left}
-use Rattle.nd_routers.specs.Routers.{Table, same}
-use Rattle.nd_routers.specs.Shown.{seen_beside}
+use Rattle.nd_routers.specs.Routers.{same}
+use Rattle.nd_routers.specs.RoutersKept.{Table}
+use Rattle.nd_routers.specs.ShownKept.{seen_beside}
 use Rattle.nd_routers.specs.declared.preferred.Preferred.{Preferred}
 use Rattle.nd_routers.proofs.Showing.{seen_paired}
 use Rattle.nd_routers.proofs.routers.Routers.rows.Goals as goal

@@ -10,8 +10,9 @@ use Rattle.nd_table.specs.declared.lasting.Lasting.{Lasting}
 use Rattle.nd_table.specs.Listing.{end_in, announced, fits}
 use Rattle.nd_routers.specs.History.{Heard}
 use Rattle.nd_routers.specs.Preferences.{with_preference, without_preference}
-use Rattle.nd_routers.specs.RouterFailures.{others}
-use Rattle.nd_routers.specs.Routers.{Table, keys, same, IsSettled, GainsRow}
+use Rattle.nd_routers.specs.RouterFailuresKept.{others}
+use Rattle.nd_routers.specs.Routers.{same}
+use Rattle.nd_routers.specs.RoutersKept.{Table, keys, IsSettled, GainsRow}
 use Rattle.nd_routers.proofs.Preferring.{aligned_announced, aligned_removed, preference_room, routers_of}
 use Rattle.nd_routers.proofs.Steps.{gains_removed, gains_heard, settled_announced, changes}
 use Rattle.nd_routers.proofs.routers.Routers.take_ra.Goals as goal

@@ -3,8 +3,9 @@ use Rattle.std.specs.Option.{option_map}
 use Rattle.nd_addr.specs.Number.{number_of}
 use Rattle.nd_table.specs.Listing.{without}
 use Rattle.nd_routers.specs.Preferences.{without_preference}
-use Rattle.nd_routers.specs.RouterFailures.{others}
-use Rattle.nd_routers.specs.Routers.{keys, same, first_due}
+use Rattle.nd_routers.specs.RouterFailuresKept.{others}
+use Rattle.nd_routers.specs.Routers.{same}
+use Rattle.nd_routers.specs.RoutersKept.{keys, first_due}
 use Rattle.nd_routers.proofs.Dues.{first_is_due, first_has, first_at_next, NoneBefore-without, length-without}
 use Rattle.nd_routers.proofs.Steps.{gains_left}
 use Rattle.nd_routers.proofs.Preferring.{aligned_without, routers_of}

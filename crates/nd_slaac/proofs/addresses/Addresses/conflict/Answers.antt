@@ -2,7 +2,7 @@ use Rattle.std.proofs.Common.{ℕ, ◌≤◌, subst, sym}
 use Rattle.nd_slaac.specs.Room.{max_addresses}
 use Rattle.nd_slaac.proofs.Planning.{failed_rises, failed_ends_stay}
 use Rattle.nd_addr.specs.Number.{number_of}
-use Rattle.nd_slaac.specs.Table.{Table}
+use Rattle.nd_slaac.specs.TableKept.{Table}
 use Rattle.nd_slaac.specs.Calls.{Alters, failed}
 use Rattle.nd_slaac.proofs.Altering.{conflict_gains}
 use Rattle.nd_slaac.proofs.addresses.Addresses.conflict.Goals as goal

@@ -1,6 +1,6 @@
 use Rattle.std.proofs.Common.{◌∙◌, ap}
 use Rattle.nd_addr.specs.Number.{number_of}
-use Rattle.nd_slaac.specs.Table.{Table, address_in}
+use Rattle.nd_slaac.specs.TableKept.{Table, address_in}
 use Rattle.nd_slaac.specs.Destination.{counted_in}
 use Rattle.nd_slaac.proofs.Destinations.{counted_by_history}
 use Rattle.nd_slaac.proofs.addresses.Addresses.counts.Goals as goal

@@ -3,7 +3,7 @@ use Rattle.nd_decode.specs.Pieces.{options_left}
 use Rattle.nd_slaac.specs.PrefixOption.{prefixes_in}
 use Rattle.nd_slaac.specs.Calls.{keys_in}
 use Rattle.nd_slaac.specs.Room.{fits_in}
-use Rattle.nd_slaac.specs.Table.{Table}
+use Rattle.nd_slaac.specs.TableKept.{Table}
 use Rattle.nd_slaac.proofs.addresses.Addresses.fits.Goals as goal
 
 pub returns-clause-by_history : goal.returns-clause-by_history

@@ -1,5 +1,5 @@
 use Rattle.std.proofs.Common.{◌∙◌, ap, sym}
-use Rattle.nd_slaac.specs.Table.{Table}
+use Rattle.nd_slaac.specs.TableKept.{Table}
 use Rattle.nd_slaac.proofs.HeardPrefix.{gains_heard, comes_heard, fits_heard, keys_heard}
 use Rattle.nd_slaac.proofs.addresses.Addresses.heard_prefix.Goals as goal
 

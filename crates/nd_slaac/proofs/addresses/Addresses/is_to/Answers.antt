@@ -1,6 +1,6 @@
 use Rattle.std.proofs.Common.{◌≡◌, sym, ◌∙◌, ap}
 use Rattle.std.specs.List.{list_any}
-use Rattle.nd_slaac.specs.Table.{Table}
+use Rattle.nd_slaac.specs.TableKept.{Table}
 use Rattle.nd_slaac.specs.Destination.{is_to}
 use Rattle.nd_slaac.proofs.Destinations.{is_to_one, one_is_to}
 use Rattle.nd_slaac.proofs.addresses.Addresses.is_to.Goals as goal

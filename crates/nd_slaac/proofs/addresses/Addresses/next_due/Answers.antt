@@ -1,7 +1,7 @@
 use Rattle.std.proofs.Common.{◌≡◌, ◌∙◌, sym, ap}
 use Rattle.nd_table.specs.Due.{lesser}
 use Rattle.nd_table.specs.Dates.{first_moment}
-use Rattle.nd_slaac.specs.Table.{Table}
+use Rattle.nd_slaac.specs.TableKept.{Table}
 use Rattle.nd_slaac.specs.Dates.{next_in}
 use Rattle.nd_slaac.proofs.Dues.{next_is_due}
 use Rattle.nd_slaac.proofs.Planning.{next_planned}

@@ -1,7 +1,7 @@
 use Rattle.std.proofs.Common.{◌∙◌, ap, map}
 use Rattle.nd_slaac.specs.Left.{addresses_left}
-use Rattle.nd_slaac.specs.Shown.{seen}
-use Rattle.nd_slaac.specs.Table.{Table}
+use Rattle.nd_slaac.specs.ShownKept.{seen}
+use Rattle.nd_slaac.specs.TableKept.{Table}
 use Rattle.nd_slaac.proofs.Showing.{lists_all}
 use Rattle.nd_slaac.proofs.addresses.Addresses.rows.Goals as goal
 

@@ -2,7 +2,7 @@ use Rattle.std.proofs.Common.{Bool, ◌&&◌, not, ◌∙◌, ap}
 use Rattle.nd_slaac.specs.PrefixOption.{is_forming, named_by}
 use Rattle.nd_slaac.specs.Calls.{keys_in}
 use Rattle.nd_slaac.specs.Room.{would_form}
-use Rattle.nd_slaac.specs.Table.{Table}
+use Rattle.nd_slaac.specs.TableKept.{Table}
 use Rattle.nd_slaac.proofs.Keys.{known_by_history}
 use Rattle.nd_slaac.proofs.addresses.Addresses.would_form.Goals as goal
 

@@ -1,5 +1,5 @@
 use Rattle.std.proofs.Common.{sym, ◌∙◌, ap}
-use Rattle.nd_slaac.specs.Address.{Address}
+use Rattle.nd_slaac.specs.AddressKept.{Address}
 use Rattle.nd_slaac.proofs.Destinations.{is_asked_by}
 use Rattle.nd_slaac.proofs.entry.Entry.is_asked.Goals as goal
 

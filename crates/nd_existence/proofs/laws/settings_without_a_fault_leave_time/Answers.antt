@@ -1,5 +1,0 @@
-use Rattle.nd_existence.proofs.Timed.{faultless}
-use Rattle.nd_existence.proofs.laws.settings_without_a_fault_leave_time.Goals as goal
-
-pub returns : goal.returns
-returns c = λ s none. faultless s none

@@ -1,6 +1,0 @@
-pub mod Walking
-pub mod Adding
-pub mod Running
-pub mod Alone
-pub mod Alike
-pub mod Meeting

@@ -1,5 +1,0 @@
-use Rattle.nd_link_existence.proofs.Meeting.{meets}
-use Rattle.nd_link_existence.proofs.laws.premises_are_met_by_a_run.Goals as goal
-
-pub returns : goal.returns
-returns c = λ limits mac transmits words others bytes some. (_, _, meets limits mac bytes transmits some words others)

@@ -1,4 +1,0 @@
-//! All lines of a link have a text. The law, and no code that runs.
-#![tactic(auto)]
-
-pub mod laws;
