@@ -1,11 +1,10 @@
 """check_dist: dist/, the node in C as it is committed. Its stamp has the sum of today's sources. Where the tools are those of the stamp, dist/ is made
-again, and has the same bytes. It compiles without a warning; the examples print what they print over the archive, and the scripts of `ndpctl run`
+again, and has the same bytes. It compiles without a warning; the examples print what they print over the archive, and the rows of `ndpctl run`
 have their texts."""
 import os
 import sys
 
-from check_programs import BINDINGS, TESTS, check_host, check_router, check_traces
-from check_targets import check_hear
+from check_programs import BINDINGS, TESTS, check_host, check_lines, check_router, check_traces
 from checking import TOP, WARNINGS, has, read, report_if, run, skip
 
 sys.path.insert(0, f"{BINDINGS}/targets")
@@ -61,7 +60,7 @@ def check_compiled(room, compiler):
             return
     check_host(f"host over {what}", f"{room}/host")
     check_router(f"{room}/router", f"router over {what}")
-    check_hear(what, [f"{room}/hear"])
+    check_lines(f"hear over {what}", [f"{room}/hear"])
     check_traces(f"{room}/trace", f"trace over {what}")
 
 

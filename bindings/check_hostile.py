@@ -1,5 +1,5 @@
 """check_hostile: what hostile input does to the library: frames that are cut and changed, floods, random frames, and memory that is refused to an
-event. It also runs the scripts of `ndpctl run` with each request refused once. The counts are compared with tests/hostile.txt. `bindings/check full`
+event. It also runs the rows of `ndpctl run` with each request refused once. The counts are compared with tests/hostile.txt. `bindings/check full`
 takes all frames with a mended checksum, and four seeds of random frames."""
 import os
 import subprocess
@@ -9,11 +9,10 @@ from checking import IS_FULL, TOP, has, read, report, report_if, run
 
 TESTS = f"{TOP}/bindings/tests"
 sys.path.insert(0, TESTS)
+import corpus  # noqa: E402
 import floods  # noqa: E402
 import hostile  # noqa: E402
-import scripts  # noqa: E402
 
-HEX = f"{TESTS}/hostile.hex"
 STORED = f"{TESTS}/hostile.txt"
 VALGRIND = ["valgrind", "-q", "--error-exitcode=99", "--leak-check=full", "--errors-for-leak-kinds=definite"]
 SEED, RANDOM_FRAMES, EACH_OF_RANDOM = 4861, 1_000_000, 20
@@ -32,8 +31,8 @@ def compare(title, text):
 
 
 def start(room, name, words):
-    """Starts a program on the frames of hostile.hex. What it prints goes to files."""
-    with open(HEX, "rb") as frames, open(f"{room}/{name}.out", "wb") as out, open(f"{room}/{name}.err", "wb") as err:
+    """Starts a program on the frames of hostile.py. What it prints goes to files."""
+    with open(f"{room}/frames", "rb") as frames, open(f"{room}/{name}.out", "wb") as out, open(f"{room}/{name}.err", "wb") as err:
         return subprocess.Popen(words, stdin=frames, stdout=out, stderr=err)
 
 
@@ -46,8 +45,7 @@ def finish(room, name, process):
 
 def under_valgrind(what, words):
     if has("valgrind", f"{what}, under valgrind"):
-        with open(HEX, "rb") as frames:
-            report(f"{what}, under valgrind", run([*VALGRIND, *words], stdin=frames))
+        report(f"{what}, under valgrind", run([*VALGRIND, *words], input=hostile.named()[0]))
 
 
 def check_changed(room, name, is_mended, step, process):
@@ -74,24 +72,24 @@ def check_random(room, name, process):
     print(f"  {read(f'{room}/{name}.err').strip()}")
 
 
-def refusals_of(trace, args, script, text, is_first):
+def refusals_of(trace, row, is_first):
     """Runs a script once for each request for memory, which is refused. Returns how many runs there were, and those that wrote something else. The
     requests of nd_open are the same for all scripts, and are refused for the first one alone."""
-    requests, opening = (int(run([trace, *args, "--refuse", "0"], input=lines).stderr) for lines in (script, ""))
+    requests, opening = (int(run([trace, *row.words, "--refuse", "0"], input=lines).stderr) for lines in (row.script, ""))
     refused = range(1 if is_first else opening + 1, requests + 1)
-    said = ((n, run([trace, *args, "--refuse", str(n)], input=script)) for n in refused)
-    return len(refused), [n for n, process in said if process.returncode or process.stdout != text]
+    said = ((n, run([trace, *row.words, "--refuse", str(n)], input=row.script)) for n in refused)
+    return len(refused), [n for n, process in said if process.returncode or process.stdout != row.text]
 
 
 def check_scripts(trace):
-    """Requires that each script of the tests of `ndpctl run` has its text whichever request is refused."""
-    known, runs, wrong = scripts.scripts(), 0, []
-    for i, (name, args, script, text) in enumerate(known):
-        count, others = refusals_of(trace, args, script, text, i == 0)
+    """Requires that each row of `ndpctl run` has its text whichever request is refused."""
+    known, runs, wrong = corpus.runs(), 0, []
+    for i, row in enumerate(known):
+        count, others = refusals_of(trace, row, i == 0)
         runs += count
-        wrong += [f"{name}: request {n}" for n in others]
-    report_if(f"trace: {len(known)} scripts, each request refused once", not wrong, "\n".join(wrong[:8]))
-    compare("scripts", f"{len(known)} scripts, {runs} requests refused")
+        wrong += [f"{row.name}: request {n}" for n in others]
+    report_if(f"trace: {len(known)} rows, each request refused once", not wrong, "\n".join(wrong[:8]))
+    compare("rows of ndpctl run", f"{len(known)} rows, {runs} requests refused")
 
 
 def check_floods(trace):
@@ -102,8 +100,7 @@ def check_floods(trace):
 
 
 def check_scarce(program):
-    with open(HEX, "rb") as frames:
-        said = run([program], stdin=frames)
+    said = run([program], input=hostile.named()[0])
     if report("scarce: each request of an event refused", said):
         compare("scarce", said.stdout)
 
@@ -115,6 +112,8 @@ def check_hostile(room, archive, build, trace):
     program = build(room, "hostile", [f"{TESTS}/hostile.c", f"{TOP}/bindings/c/heap.c", archive])
     fuzz = build(room, "random", [f"{TESTS}/random.c", counting, archive])
     scarce = build(room, "scarce", [f"{TESTS}/scarce.c", counting, archive])
+    with open(f"{room}/frames", "w", encoding="ascii") as file:
+        file.write(hostile.named()[0])
     changed, random = [], []
     with_sum = "frames changed and mended" + (f", each {step}th" if step > 1 else "")
     if program:

@@ -1,7 +1,6 @@
 """check_page: docs/try/index.html. It is what bindings/page makes of its modules, and these are the ones that are made of the proved crates by the same
-tools. Rows of `ndpctl check`, and frames that are cut and changed, have the lines that they are to have, and scripts of `ndpctl run` their texts: by
-node, and in a browser without a window."""
-import ast
+tools. Rows of `ndpctl check`, and frames that are cut and changed, have the lines that they are to have, and rows of `ndpctl run` their texts: by node,
+and in a browser without a window."""
 import base64
 import html
 import json
@@ -15,6 +14,7 @@ from check_programs import BINDINGS, NDPCTL, TESTS, difference
 from checking import IS_FULL, TOP, has, read, report_if, run, skip
 
 sys.path.insert(0, f"{BINDINGS}/targets")
+import corpus  # noqa: E402
 import frames  # noqa: E402
 import hostile  # noqa: E402
 import page  # noqa: E402
@@ -32,35 +32,8 @@ def rows_of_link():
     return list(zip(read(f"{TOP}/examples/link.hex").splitlines(), read(f"{TOP}/examples/link.txt").splitlines()))
 
 
-def value_of(text, known):
-    return ast.literal_eval(text) if text[0] == '"' else known.get(text)
-
-
-def changed(frame, place, digits, checksum):
-    """Returns a frame with other digits at a place, and with another checksum."""
-    summed = frame[:place] + digits + frame[place + len(digits):]
-    return summed[:112] + checksum + summed[116:]
-
-
-def rows_of_tests():
-    """Returns frames and lines of the tests of `ndpctl check`, which were written by hand or by another program."""
-    text = re.sub(r"\\\n\s*", "", read(f"{scripts.TESTS}/check.rt"))
-    numbers = {name: int(value) for name, value in re.findall(r"const (\w+): usize = (\d+);", text)}
-    rows, word = [], rf"(\w+|{scripts.TEXT})"
-    for body in re.split(r"^fn ", text, flags=re.M):
-        known = scripts.constants(text) | {name: ast.literal_eval(value) for name, value in re.findall(rf"let (\w+) =\s*({scripts.TEXT});", body)}
-        for frames, answers in re.findall(rf"\bexpect\(\s*&rt,\s*(\w+),\s*\d+,\s*{word},\s*Ok\(\(\)\),?\s*\)", body):
-            lines = (value_of(frames, known) or "").split(), (value_of(answers, known) or "").splitlines()
-            rows += zip(*lines) if len(lines[0]) == len(lines[1]) else []
-        for frame, place, digits, checksum, answer in re.findall(
-                rf"\bexpect_changed\(\s*&rt,\s*(\w+),\s*\((\w+), {word}\),\s*{word},\s*{word},?\s*\)", body):
-            at = numbers.get(place) or int(place)
-            rows.append((changed(known[frame], at, value_of(digits, known), value_of(checksum, known)), value_of(answer, known).strip()))
-    return rows
-
-
 def changed_frames(step):
-    """Returns frames of hostile.hex that are cut and changed, half of them with the checksum made good, and what the rules say to a host and to a
+    """Returns frames of the corpus that are cut and changed, half of them with the checksum made good, and what the rules say to a host and to a
     router: the whole line of a frame that is dropped, and the first word of another."""
     rows, number = [], 0
     for base in hostile.named()[1]:
@@ -87,7 +60,7 @@ def report_rows(what, rows, lines):
 def all_rows(step):
     """Returns what is run: names, roles and rows."""
     frames = changed_frames(step)
-    yield "the rows of ndpctl check", "either", rows_of_link() + rows_of_tests()
+    yield "the rows of ndpctl check", "either", rows_of_link() + [(frame, line) for frame, line in corpus.checks() if frame]
     for number, role in enumerate(ROLES):
         yield f"frames that are cut and changed, to a {role}", role, [(frame, wanted[number]) for frame, wanted in frames]
 
@@ -122,8 +95,8 @@ def traced(room, words, script):
 
 
 def known_runs(room):
-    """Returns names, words, scripts and texts of `ndpctl run`: those of its tests, and longer ones with the text of `trace`, if it was built."""
-    yield from scripts.scripts()
+    """Returns names, words, scripts and texts of `ndpctl run`: those of the corpus, and longer ones with the text of `trace`, if it was built."""
+    yield from ((row.name, row.words, row.script, row.text) for row in corpus.runs())
     if os.path.exists(f"{room}/trace"):
         for role in ROLES:
             words, script = ["run", "--role", role, "--mac", frames.HOST_MAC, "--draws", "seed:1"], scripts.long(1, 1000)

@@ -11,6 +11,7 @@ from checking import INCLUDE, TOP, WARNINGS, has, read, report, report_if, run, 
 BINDINGS = f"{TOP}/bindings"
 TESTS = f"{BINDINGS}/tests"
 sys.path.insert(0, TESTS)
+import corpus  # noqa: E402
 import frames  # noqa: E402
 import scripts  # noqa: E402
 
@@ -71,10 +72,17 @@ def check_hear(room):
     program = build(room, "hear", [f"{TOP}/examples/c/hear.c", archive])
     if not program:
         return
-    wanted = read(f"{TOP}/examples/link.txt").splitlines()
-    lines = check_runs("hear reads the frames", [program], read(f"{TOP}/examples/link.hex")).splitlines()
-    are_right = len(lines) == len(wanted) and all(f"{line} ".startswith(f"{said} ") for said, line in zip(lines, wanted))
-    report_if("hear prints what ndpctl check prints", are_right, "\n".join(lines))
+    check_lines("hear", [program])
+    check_runs("hear reads the frames", [program], read(f"{TOP}/examples/link.hex"))
+
+
+def check_lines(what, words):
+    """Requires that the example `hear` prints for the frames of a link, and for those of the corpus, the beginnings of the lines of `ndpctl check`."""
+    rows = [*zip(read(f"{TOP}/examples/link.hex").splitlines(), read(f"{TOP}/examples/link.txt").splitlines()), *corpus.checks()]
+    said = run(words, input="".join(f"{frame}\n" for frame, _ in rows))
+    lines = said.stdout.splitlines()
+    wrong = [f"{line!r} for {wanted!r}" for line, (_, wanted) in zip(lines, rows) if not f"{wanted} ".startswith(f"{line} ")]
+    report_if(f"{what}: {len(rows)} frames, of each what ndpctl check prints", len(lines) == len(rows) and not wrong, said.stderr + "\n".join(wrong[:4]))
 
 
 def check_host(what, program):
@@ -92,17 +100,17 @@ def check_router(program, what="router"):
 
 
 def check_traces(program, what="trace"):
-    """Runs the scripts of the repository over the library, and compares what it prints with the expected texts of `ndpctl run`."""
+    """Runs the rows of `ndpctl run` over the library, and compares what it prints with their texts."""
     wrong = []
-    known = scripts.scripts()
-    for name, args, script, wanted in known:
-        said = run([program, *args], input=script)
-        if said.returncode or said.stdout != wanted:
-            wrong.append(f"{name}: {said.stderr}{difference(said.stdout, wanted)}")
-    report_if(f"{what}: {len(known)} scripts of the tests of ndpctl run", not wrong, "\n".join(wrong[:8]))
-    name, args, script, wanted = known[-1]
+    known = corpus.runs()
+    for row in known:
+        said = run([program, *row.words], input=row.script)
+        if said.returncode or said.stdout != row.text:
+            wrong.append(f"{row.name}: {said.stderr}{difference(said.stdout, row.text)}")
+    report_if(f"{what}: {len(known)} rows of ndpctl run", not wrong, "\n".join(wrong[:8]))
+    longest = max(known, key=lambda row: len(row.script))
     if has("valgrind", f"{what}, under valgrind"):
-        report(f"{what}: {name}, under valgrind", run([*VALGRIND, program, *args], input=script))
+        report(f"{what}: {longest.name}, under valgrind", run([*VALGRIND, program, *longest.words], input=longest.script))
 
 
 def difference(said, wanted):

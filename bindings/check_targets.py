@@ -1,5 +1,5 @@
 """check_targets: the library on other processors. The archives and the module of the Makefile are built, and on each, and by dist/nd.c, the examples of
-a host and of `hear` and the program `trace` print what they print on this machine: over the scripts of the repository, and over a longer one for a
+a host and of `hear` and the program `trace` print what they print on this machine: over the rows of the corpus, and over a longer script for a
 host and for a router. Programs for other processors run under qemu."""
 import json
 import os
@@ -7,9 +7,10 @@ import shutil
 import sys
 from concurrent.futures import ThreadPoolExecutor
 
+import corpus
 import frames
 import scripts
-from check_programs import BINDINGS, COUNTING, HOST, TESTS, difference
+from check_programs import BINDINGS, COUNTING, HOST, TESTS, check_lines, difference
 from checking import TOP, has, read, report_if, run, skip
 
 OUT = f"{BINDINGS}/out/targets"
@@ -33,7 +34,7 @@ PACKAGES = {"qemu-aarch64": "qemu-user", "qemu-riscv64": "qemu-user", "qemu-arm"
 
 def runs():
     """Returns arguments and scripts for `trace`."""
-    known = [(args, script) for _, args, script, _ in scripts.scripts()]
+    known = [(row.words, row.script) for row in corpus.runs()]
     return known + [(["run", "--role", role, "--mac", frames.HOST_MAC, "--draws", "seed:1"], scripts.long(1, 1000)) for role in ("host", "router")]
 
 
@@ -88,15 +89,8 @@ def check_target(room, target, wanted):
         said = run([compiler, *STATIC, "-O2", f"-I{include}", source, *more, "-o", f"{room}/{name}"])
         if said.returncode:
             return report_if(f"{what}: {name} is built", False, said.stderr)
-    check_hear(what, [*([qemu] if qemu else []), f"{room}/hear"])
+    check_lines(f"{what}: the example hear", [*([qemu] if qemu else []), f"{room}/hear"])
     return check_same(what, [qemu] if qemu else [], room, wanted)
-
-
-def check_hear(what, words):
-    said = run(words, input=read(f"{TOP}/examples/link.hex")).stdout.splitlines()
-    wanted = read(f"{TOP}/examples/link.txt").splitlines()
-    is_same = len(said) == len(wanted) and all(f"{line} ".startswith(f"{begins} ") for begins, line in zip(said, wanted))
-    report_if(f"{what}: the example hear", is_same, "\n".join(said))
 
 
 def check_wasm64(wanted):

@@ -1,4 +1,4 @@
-/* busy.h: a host and a router of which no table is empty, at the moment BUSY_AT. They take frames of hostile.hex, which is read from standard input:
+/* busy.h: a host and a router of which no table is empty, at the moment BUSY_AT. They take frames of standard input,
  * each line a name and hexadecimal digits. hostile.py says what is in their tables.
  *   The host has MAC. Two own addresses are assigned and one is tentative; two routers, two prefixes, a server, a search name and a Redirect are
  *   there; and two packets wait for a neighbour.

@@ -1,4 +1,4 @@
-/* hostile: frames that are cut and changed. Each of the first 24 frames of hostile.hex (standard input) is cut at each length, and has each byte set
+/* hostile: frames that are cut and changed. Each of the first 24 frames of standard input (hostile.py) is cut at each length, and has each byte set
  * to each value. For each of these frames a line says what nd_hear says of it to a host and to a router, and what the busy host and the busy router
  * of busy.h report: two hexadecimal digits each. 01 to 14 is the reason why it is dropped, 85 to 89 the type of a message that is heard, f0 another
  * packet or one for the upper layer, f1 one in transit. Then come the CRC-32 of all fields that nd_hear writes, for a host and for a router.
@@ -201,7 +201,7 @@ int main(int argc, char **argv)
 {
     size_t step = argc > 2 ? strtoul(argv[2], NULL, 10) : 1, all = 0;
     read_named();
-    require(named_count >= BASES && argc > 1 && step > 0, "hostile plain|mended [N] < hostile.hex");
+    require(named_count >= BASES && argc > 1 && step > 0, "hostile plain|mended [N] < FRAMES");
     is_mended = strcmp(argv[1], "mended") == 0;
     for (size_t i = 0; i < BASES; i++)
         all += variants(&named[i].frame);

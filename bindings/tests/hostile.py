@@ -1,13 +1,13 @@
-"""hostile: what `hostile` and `random` are to print, by the rules of rules.py: of the frames of hostile.hex, cut and changed, at the nodes of
-busy.h; and of a sample of random frames."""
+"""hostile: the frames that `hostile`, `random` and `scarce` read, and what the first two are to print, by the rules of rules.py: of the frames of the
+corpus, cut and changed, at the nodes of busy.h; and of a sample of random frames."""
 import ipaddress
 import os
 from collections import Counter
 
+import corpus
 import rules
 
 HERE = os.path.dirname(os.path.abspath(__file__))
-BASES = 24
 
 
 def packed(text):
@@ -23,10 +23,17 @@ BUSY = [rules.Node(rules.HOST, [packed("fe80::3656:78ff:fe9a:bcde"), packed("200
 
 
 def named():
-    """Returns the text of the frames, and those that are varied."""
+    """Returns the text of the frames, a name and its digits a line, and those that are varied. These are the frames that the corpus says to change, and
+    come first; behind them are those of hostile.hex, which no row of the corpus has."""
+    known = corpus.read()
     with open(f"{HERE}/hostile.hex", encoding="ascii") as file:
-        text = file.read()
-    return text, [bytes.fromhex(line.split()[1]) for line in text.splitlines()[:BASES]]
+        others = dict(line.split() for line in file)
+    both = {*known.frames.values()} & {*others.values()} | {*known.frames} & {*others}
+    if both:
+        raise ValueError(f"frames of the corpus are in hostile.hex too: {sorted(both)}")
+    frames = {name: known.frames[name] for name in known.changed}
+    text = "".join(f"{name} {digits}\n" for name, digits in (frames | others).items())
+    return text, [bytes.fromhex(digits) for digits in frames.values()]
 
 
 def variants(frame):

@@ -1,5 +1,5 @@
 /* random: random frames at a node with small limits. The arguments are the role, a number of `enum nd_role`; how many frames; the seed; and N, for
- * each Nth frame to be printed with what nd_hear says of it to a host and to a router, or 0. The frames of hostile.hex (standard input) are changed:
+ * each Nth frame to be printed with what nd_hear says of it to a host and to a router, or 0. The frames of standard input (hostile.py) are changed:
  * other addresses, flags, lifetimes and options, random bytes, another length. Most have a good checksum. Between them time passes and packets are
  * sent.
  *   It requires: no table passes its limit. After each call, with all records taken, the node holds no more memory than nd_node_bytes, three of the
@@ -543,7 +543,7 @@ int main(int argc, char **argv)
 {
     uint64_t hash;
     size_t frames;
-    require(argc == 5, "random ROLE FRAMES SEED N < hostile.hex");
+    require(argc == 5, "random ROLE FRAMES SEED N < the frames of hostile.py");
     role = (uint32_t)strtoul(argv[1], NULL, 10);
     frames = strtoul(argv[2], NULL, 10);
     random_state = strtoull(argv[3], NULL, 10);

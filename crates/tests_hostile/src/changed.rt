@@ -47,6 +47,58 @@ impl Counts {
     }
 }
 
+/// The line of a frame of which one byte is another one.
+#[derive(Clone, Copy)]
+enum Foretold {
+    /// The byte isn't looked at.
+    AsBefore,
+    /// The first reason to drop the frame.
+    Drop(&'static str),
+    /// A packet of this next header that is no message.
+    Other(u8),
+    /// That depends on the bytes after a shorter payload.
+    Nothing,
+}
+
+impl Foretold {
+    /// `unchanged`: the line of the frame as it is.
+    fn is(self, unchanged: &str, line: &str) -> bool {
+        match self {
+            Foretold::AsBefore => line == unchanged,
+            Foretold::Drop(wanted) => line == wanted,
+            Foretold::Other(header) => line
+                .strip_prefix("other ")
+                .is_some_and(|number| number.parse::<u8>().ok() == Some(header)),
+            Foretold::Nothing => true,
+        }
+    }
+}
+
+/// By the layouts of RFC 2464, RFC 8200 and RFC 4443 and the order of the reasons: no change of one byte keeps the checksum.
+fn foretell(at: usize, before: u8, value: u8, is_icmpv6: bool) -> Foretold {
+    match at {
+        0..=11 | 15..=17 => Foretold::AsBefore,
+        12 | 13 => Foretold::Drop("drop 2 NotIpv6"),
+        14 if value / 16 == 6 => Foretold::AsBefore,
+        14 => Foretold::Drop("drop 4 Version"),
+        18 | 19 if value > before => Foretold::Drop("drop 5 PayloadShort"),
+        18 | 19 => Foretold::Nothing,
+        20 => Foretold::Other(value),
+        _ if !is_icmpv6 => Foretold::AsBefore,
+        21 => Foretold::Drop("drop 10 HopLimit"),
+        54 if value < 133 || value > 137 => Foretold::Other(58),
+        _ => Foretold::Drop("drop 11 Sum"),
+    }
+}
+
+/// Returns the digits of the byte at a place.
+fn byte_at(digits: &[u8], at: usize) -> &[u8] {
+    let begin = at.saturating_mul(2);
+    digits
+        .get(begin..begin.saturating_add(2))
+        .unwrap_or_default()
+}
+
 /// A line for the frame cut to each length, the whole one too.
 fn push_cuts(script: &mut Vec<u8>, digits: &[u8]) -> Result<(), AllocError> {
     for length in (0..digits.len().saturating_add(1)).step_by(2) {
@@ -56,43 +108,88 @@ fn push_cuts(script: &mut Vec<u8>, digits: &[u8]) -> Result<(), AllocError> {
     Ok(())
 }
 
-/// A line for the frame with the byte at this place at each other value.
-fn push_changes(script: &mut Vec<u8>, digits: &[u8], at: usize) -> Result<(), AllocError> {
-    let (before, rest) = digits.split_at(at.min(digits.len()));
-    let (byte, behind) = rest.split_at(rest.len().min(2));
-    for value in 0..=255u8 {
-        let other = byte_digits(value);
-        if other.as_slice() != byte {
-            script.extend_from_slice(before)?;
-            script.extend_from_slice(&other)?;
-            script.extend_from_slice(behind)?;
-            script.push(b'\n')?;
-        }
-    }
+/// A line for the frame with the byte at this place at another value.
+fn push_change(
+    script: &mut Vec<u8>,
+    digits: &[u8],
+    at: usize,
+    byte: &[u8],
+) -> Result<(), AllocError> {
+    let begin = at.saturating_mul(2);
+    script.extend_from_slice(digits.get(..begin).unwrap_or_default())?;
+    script.extend_from_slice(byte)?;
+    script.extend_from_slice(digits.get(begin.saturating_add(2)..).unwrap_or_default())?;
+    script.push(b'\n')?;
     Ok(())
 }
 
-/// Runs `check` on a frame that is cut and changed, and counts what it writes: one line for each frame. Returns false if a line is none of `check`, or if
-/// there are more or fewer lines than frames.
-pub(crate) fn change(
-    room: Room<'_>,
-    check: &Row,
-    digits: &str,
-    counts: &mut Counts,
-) -> Result<bool, AllocError> {
-    let digits = digits.as_bytes();
-    let mut script = Vec::new(room.alloc);
-    push_cuts(&mut script, digits)?;
-    for at in (0..digits.len()).step_by(2) {
-        push_changes(&mut script, digits, at)?;
+/// A frame that is cut and changed.
+#[derive(Clone, Copy)]
+pub(crate) struct Changed<'a> {
+    pub(crate) room: Room<'a>,
+    /// A row with the words of `check`.
+    pub(crate) check: &'a Row,
+    pub(crate) digits: &'a [u8],
+}
+
+impl Changed<'_> {
+    /// Runs `check` on the frame cut to each length, and counts the lines. Returns the line of the whole frame, or None if a line is none of `check`, or
+    /// if there are more or fewer lines than frames.
+    fn cut(self, counts: &mut Counts) -> Result<Option<String>, AllocError> {
+        let mut script = Vec::new(self.room.alloc);
+        push_cuts(&mut script, self.digits)?;
+        let ended = run_row(self.room, self.check, &script, NO_FAULTS)?;
+        let text = str::from_utf8(&ended.text).unwrap_or("");
+        let mut is_right = ended.done == Ok(());
+        let mut lines = 0usize;
+        for line in text.lines() {
+            lines = lines.saturating_add(1);
+            is_right &= counts.take(line);
+        }
+        if !is_right || lines != (self.digits.len() / 2).saturating_add(1) {
+            return Ok(None);
+        }
+        let whole = text.lines().last().unwrap_or("");
+        Ok(Some(String::from_str(self.room.alloc, whole)?))
     }
-    let ended = run_row(room, check, &script, NO_FAULTS)?;
-    let text = str::from_utf8(&ended.text).unwrap_or("");
-    let mut is_right = ended.done == Ok(());
-    let mut lines = 0usize;
-    for line in text.lines() {
-        lines = lines.saturating_add(1);
-        is_right &= counts.take(line);
+
+    /// Runs `check` on the frame with the byte at this place at each other value, and counts the lines. Returns false if a line isn't what is foretold, or
+    /// if there are more or fewer lines than frames. `unchanged`: the line of the frame as it is.
+    fn change(self, at: usize, unchanged: &str, counts: &mut Counts) -> Result<bool, AllocError> {
+        let old = byte_at(self.digits, at);
+        let is_icmpv6 = byte_at(self.digits, 20) == b"3a".as_slice();
+        let mut script = Vec::new(self.room.alloc);
+        let mut before = 0u8;
+        for value in 0..=255u8 {
+            let byte = byte_digits(value);
+            if byte.as_slice() == old {
+                before = value;
+            } else {
+                push_change(&mut script, self.digits, at, &byte)?;
+            }
+        }
+        let ended = run_row(self.room, self.check, &script, NO_FAULTS)?;
+        let mut lines = str::from_utf8(&ended.text).unwrap_or("").lines();
+        let mut is_right = ended.done == Ok(());
+        for value in 0..=255u8 {
+            if value != before {
+                let line = lines.next().unwrap_or("");
+                let foretold = foretell(at, before, value, is_icmpv6);
+                is_right &= counts.take(line) && foretold.is(unchanged, line);
+            }
+        }
+        Ok(is_right && lines.next().is_none())
     }
-    Ok(is_right && lines == script.iter().filter(|byte| **byte == b'\n').count())
+
+    /// Cuts the frame to each length, and sets each byte to each other value. Returns false if a line isn't what it has to be.
+    pub(crate) fn is_heard(self, counts: &mut Counts) -> Result<bool, AllocError> {
+        let Some(unchanged) = self.cut(counts)? else {
+            return Ok(false);
+        };
+        let mut is_right = true;
+        for at in 0..self.digits.len() / 2 {
+            is_right &= self.change(at, &unchanged, counts)?;
+        }
+        Ok(is_right)
+    }
 }

@@ -1,5 +1,6 @@
-//! What hostile use does to the tool. Each run of the input is done with each request for memory refused, with each read, each write and each frame on the
-//! wire failing, and cut at each byte. Each frame of the input is cut and changed, and `check` says what that is.
+//! What hostile use does to the tool. Each run of the corpus is done with each request for memory refused, with each read, each write and each frame on
+//! the wire failing, and cut at each byte; one that is marked `once` is done once, and is `whole` if it has its text and its status. Each frame that the
+//! corpus names for it is cut and changed, and `check` says what that is: of a frame of which one byte is another one, what the layouts say.
 //!
 //! A line of the output counts for one run what was refused or failed, one after the other, and WRONG stands for a run that ended otherwise than it has to:
 //! - requests for memory. Without effect are those for a next hop to remember, and for room to write several answers at once;
@@ -8,31 +9,34 @@
 //! - frames that are carried;
 //! - cuts of the script behind which what is left of a line is malformed.
 //!
-//! All of them but the requests follow from the row. Of the frames the input says how many bytes they have, and `bindings/tests/rules.py`, which
+//! All of them but the requests follow from the row. Of the frames the corpus says how many bytes they have, and `bindings/tests/rules.py`, which
 //! shares no code with this, how many are heard and dropped (`frames changed` in `bindings/tests/hostile.txt`).
 #![tactic(auto)]
 
 mod changed;
+mod corpus;
 mod failing;
+mod frames;
 mod row;
 mod run;
 mod sweep;
 
-use changed::{Counts, KINDS, change};
+use changed::{Changed, Counts, KINDS};
+use corpus::Corpus;
 use nd_refusing::Refusing;
-use row::{Row, Rows};
+use row::Row;
 use run::{NO_FAULTS, Room, is_whole, run_row};
 use std::alloc::{AllocError, Global};
 use std::io;
 use std::io::Read;
 use sweep::{carries, cuts, fail_reads, fail_writes, refuse_each};
 
-/// A line of what the sweeps of a row count. A sweep in which a run ended otherwise than it has to says WRONG. A run over datagrams is done once.
+/// A line of what the sweeps of a row count, or of a run that is done once. WRONG stands for a run that ended otherwise than it has to.
 fn swept(room: Room<'_>, row: &Row) -> Result<String, AllocError> {
     let mut text = String::new(room.alloc);
     let name = row.name.as_str();
     write!(text, "{name}:")?;
-    if row.is_over_datagrams() {
+    if row.is_once {
         let ended = run_row(room, row, &row.script, NO_FAULTS)?;
         text.push_str(if is_whole(row, &ended) {
             " whole"
@@ -68,16 +72,23 @@ fn push_count(text: &mut String, count: Option<u64>, what: &str) -> Result<(), A
 }
 
 /// The lines of what `check` says of all frames that are cut and changed.
-fn count_frames(room: Room<'_>, rows: &Rows) -> Result<String, AllocError> {
+fn count_frames(room: Room<'_>, corpus: &Corpus) -> Result<String, AllocError> {
     let mut text = String::new(room.alloc);
     let mut counts = Counts {
         lines: 0,
         kinds: [0; 6],
         reasons: [0; 20],
     };
-    for digits in rows.frames.iter() {
-        let is_right = match rows.rows.first() {
-            Some(check) => change(room, check, digits.as_str(), &mut counts)?,
+    for digits in corpus.changed.iter() {
+        let is_right = match corpus.rows.first() {
+            Some(check) => {
+                let frame = Changed {
+                    room,
+                    check,
+                    digits,
+                };
+                frame.is_heard(&mut counts)?
+            }
             None => false,
         };
         if !is_right {
@@ -96,31 +107,23 @@ fn count_frames(room: Room<'_>, rows: &Rows) -> Result<String, AllocError> {
     Ok(text)
 }
 
-/// The rows and frames of the input.
-fn rows_of(alloc: Global, input: &str) -> Result<Rows, AllocError> {
-    let mut rows = Rows::new(alloc);
-    for line in input.lines() {
-        rows.take(alloc, line)?;
-    }
-    Ok(rows)
-}
-
 fn main(rt: HostRuntime) -> io::Result<()> {
     let mut input = String::new(rt.alloc());
     rt.reader().read_to_string(&mut input)?;
-    let rows = rows_of(rt.alloc(), &input)?;
+    let corpus = Corpus::read(rt.alloc(), &input)?;
     let heap = Refusing::new(rt.alloc());
     let room = Room {
         net: &rt,
         alloc: rt.alloc(),
         heap: &heap,
     };
-    for row in rows.rows.iter() {
+    for row in corpus.rows.iter() {
         let text = swept(room, row)?;
         println!(rt; "{text}")?;
     }
-    let text = count_frames(room, &rows)?;
-    let others = rows.others;
+    let text = count_frames(room, &corpus)?;
+    let wrong = corpus.wrong;
+    let unused = corpus.unused();
     println!(rt; "{text}")?;
-    println!(rt; "{others} lines of the input are neither")
+    println!(rt; "{wrong} lines of the corpus are wrong, {unused} frames are not used")
 }

@@ -1,18 +1,17 @@
-//! The input: runs with what they write and how they end, and frames.
-//!
-//! A line that begins with `row` begins a run and names it. `words` are its words, and `status` is its exit status if that isn't 0. Behind `>` is a
-//! line of its script, and behind `|` the last one if it has no line feed. Behind `<` is a line that the run writes for the line before. A line that
-//! begins with `frame` is a frame in hexadecimal digits, and one that begins with `#` says nothing.
+//! A run of the corpus.
 
+use crate::frames::Frames;
 use std::alloc::{AllocError, Global};
 
 /// A run, and what it writes.
 #[derive(Drop)]
 pub(crate) struct Row {
     pub(crate) name: String,
+    /// It is done once, without a fault.
+    pub(crate) is_once: bool,
     pub(crate) words: Vec<String>,
-    /// The exit status: 0, or 2 if the last line of the script is malformed.
-    pub(crate) is_malformed: bool,
+    /// The malformed line that ends it with status 2, counted from 1. Without one its status is 0.
+    pub(crate) malformed: Option<u64>,
     pub(crate) script: Vec<u8>,
     pub(crate) text: Vec<u8>,
     /// Of each line of the script that has a line feed: where the next line begins, and how long the text is up to it.
@@ -20,39 +19,57 @@ pub(crate) struct Row {
 }
 
 impl Row {
-    fn new(alloc: Global, name: &str) -> Result<Row, AllocError> {
+    pub(crate) fn new(alloc: Global, name: &str) -> Result<Row, AllocError> {
         Ok(Row {
             name: String::from_str(alloc, name)?,
+            is_once: false,
             words: Vec::new(alloc),
-            is_malformed: false,
+            malformed: None,
             script: Vec::new(alloc),
             text: Vec::new(alloc),
             ends: Vec::new(alloc),
         })
     }
 
-    /// Adds a line of the input. Returns false if it is none of a run.
-    fn take(&mut self, alloc: Global, line: &str) -> Result<bool, AllocError> {
-        if let Some(words) = line.strip_prefix("words ") {
+    /// Adds a line of the corpus. Returns false if it is wrong.
+    pub(crate) fn take(
+        &mut self,
+        alloc: Global,
+        frames: &mut Frames,
+        line: &str,
+    ) -> Result<bool, AllocError> {
+        if line == "once" {
+            self.is_once = true;
+        } else if let Some(words) = line.strip_prefix("words ") {
             for word in words.split(' ') {
                 self.words.push(String::from_str(alloc, word)?)?;
             }
-        } else if line == "status 2" {
-            self.is_malformed = true;
-        } else if let Some(line) = line.strip_prefix(">") {
-            self.script.extend_from_slice(line.as_bytes())?;
-            self.script.push(b'\n')?;
-            self.ends.push((self.script.len(), self.text.len()))?;
-        } else if let Some(line) = line.strip_prefix("|") {
-            self.script.extend_from_slice(line.as_bytes())?;
-        } else if let Some(line) = line.strip_prefix("<") {
-            self.text.extend_from_slice(line.as_bytes())?;
-            self.text.push(b'\n')?;
-            self.end_text();
+        } else if let Some(number) = line.strip_prefix("malformed ") {
+            self.malformed = number.parse::<u64>().ok();
+            return Ok(self.malformed.is_some());
         } else {
-            return Ok(false);
+            return self.take_line(frames, line);
         }
         Ok(true)
+    }
+
+    /// Adds a line of the script or of the text. Returns false if it is neither.
+    fn take_line(&mut self, frames: &mut Frames, line: &str) -> Result<bool, AllocError> {
+        if let Some(line) = line.strip_prefix(">") {
+            let is_right = frames.expand(line, &mut self.script)?;
+            self.script.push(b'\n')?;
+            self.ends.push((self.script.len(), self.text.len()))?;
+            Ok(is_right)
+        } else if let Some(line) = line.strip_prefix("|") {
+            frames.expand(line, &mut self.script)
+        } else if let Some(line) = line.strip_prefix("<") {
+            let is_right = frames.expand(line, &mut self.text)?;
+            self.text.push(b'\n')?;
+            self.end_text();
+            Ok(is_right)
+        } else {
+            Ok(false)
+        }
     }
 
     /// The text so far is that of the lines so far, if the last one has a line feed.
@@ -63,11 +80,6 @@ impl Row {
                 end.1 = length;
             }
         }
-    }
-
-    /// Returns true if the words ask for datagrams: they end in `--wire udp`.
-    pub(crate) fn is_over_datagrams(&self) -> bool {
-        self.words.last().is_some_and(|word| word.as_str() == "udp")
     }
 
     /// Returns how many lines end within the first `length` bytes of the script, and the length of their text.
@@ -89,47 +101,5 @@ impl Row {
             || text.len() == self.text.len()
             || self.ends.iter().any(|end| end.1 == text.len());
         is_end && self.text.starts_with(text)
-    }
-}
-
-/// All of the input.
-#[derive(Drop)]
-pub(crate) struct Rows {
-    pub(crate) rows: Vec<Row>,
-    pub(crate) frames: Vec<String>,
-    /// The number of lines that are none of these.
-    pub(crate) others: u64,
-}
-
-impl Rows {
-    pub(crate) fn new(alloc: Global) -> Rows {
-        Rows {
-            rows: Vec::new(alloc),
-            frames: Vec::new(alloc),
-            others: 0,
-        }
-    }
-
-    /// Adds a line of the input.
-    pub(crate) fn take(&mut self, alloc: Global, line: &str) -> Result<(), AllocError> {
-        if line.is_empty() || line.starts_with("#") {
-            return Ok(());
-        }
-        if let Some(name) = line.strip_prefix("row ") {
-            self.rows.push(Row::new(alloc, name)?)?;
-            return Ok(());
-        }
-        if let Some(digits) = line.strip_prefix("frame ") {
-            self.frames.push(String::from_str(alloc, digits)?)?;
-            return Ok(());
-        }
-        let is_known = match self.rows.last_mut() {
-            Some(row) => row.take(alloc, line)?,
-            None => false,
-        };
-        if !is_known {
-            self.others = self.others.saturating_add(1);
-        }
-        Ok(())
     }
 }

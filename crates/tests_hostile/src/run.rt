@@ -78,11 +78,9 @@ pub(crate) fn run_row(
 
 /// Returns true if a run wrote all of the row's text and ended as the row ends.
 pub(crate) fn is_whole(row: &Row, ended: &Ended) -> bool {
-    let (lines, _) = row.answered(row.script.len());
-    let wanted = if row.is_malformed {
-        Err(ToolFault::Line(lines))
-    } else {
-        Ok(())
+    let wanted = match row.malformed {
+        Some(line) => Err(ToolFault::Line(line)),
+        None => Ok(()),
     };
     ended.done == wanted && ended.text == row.text
 }
