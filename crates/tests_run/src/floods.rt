@@ -1,9 +1,10 @@
-//! Floods of a node: one neighbour, one default router or one prefix more than its limits allow; of the first two for any limits.
+//! Floods of a node: one neighbour, one default router, one prefix, one offer or one route more than its limits allow; of the first two for any
+//! limits.
 //!
 //! Neighbour `n` has the address fe80::1:n and an Ethernet address whose last two bytes are those of 0xffff - n, so the words that depend on `n`
 //! cancel in the checksum of a message that has both.
 
-use crate::tested::{Tested, host, router, told_in_pieces};
+use crate::tested::{Tested, host, router, run_on};
 use nd_node::Limits;
 use std::alloc::{AllocError, Global};
 use std::fmt::Write;
@@ -232,15 +233,7 @@ fn limited(
 
 /// Runs the node on the flood.
 fn ends(rt: &impl Abort, alloc: Global, node: &Tested, flood: &Flood) {
-    told_in_pieces(
-        rt,
-        alloc,
-        node,
-        4096,
-        flood.script.as_bytes(),
-        Ok(()),
-        &flood.wanted,
-    );
+    run_on(rt, alloc, node, &flood.script, &flood.wanted);
 }
 
 #[test]
@@ -312,8 +305,29 @@ fn a_packet_too_many_is_refused(rt: HostRuntime) {
 #[test]
 fn a_forwarded_packet_too_many_is_refused(rt: HostRuntime) {
     for (neighbours, routers) in LIMITS {
-        let (node, mut flood) = limited(&rt, rt.alloc(), router(0), neighbours, routers);
+        let (node, mut flood) = limited(&rt, rt.alloc(), router(), neighbours, routers);
         of_forwarding(&mut flood, neighbours).expect(&rt, "memory");
         ends(&rt, rt.alloc(), &node, &flood);
     }
+}
+
+/// A router is to advertise 17 prefixes and to have 65 routes, one more than it keeps of each; an existing one may be put again (our limits).
+fn of_offers_and_routes(flood: &mut Flood) -> Result<(), AllocError> {
+    for n in 0..17u16 {
+        writeln!(flood.script, "0 prefix 2001:db8:{n}::/64 - - la")?;
+    }
+    for n in 0..65u16 {
+        writeln!(flood.script, "0 route 2001:db8:{n}::/64 direct")?;
+    }
+    flood.push(
+        "0 prefix 2001:db8:0::/64 - - l\n0 route 2001:db8:0::/64 fe80::2\n",
+        "0 tx 3333ff00000102000000000186dd6000000000183aff00000000000000000000000000000000ff0200000000000000000001ff00000187007d2500000000fe80000000000000000000fffe000001\n0 refused full offers\n0 refused full routes\n",
+    )
+}
+
+#[test]
+fn offers_and_routes_are_limited(rt: HostRuntime) {
+    let (node, mut flood) = limited(&rt, rt.alloc(), router(), 512, 16);
+    of_offers_and_routes(&mut flood).expect(&rt, "memory");
+    ends(&rt, rt.alloc(), &node, &flood);
 }

@@ -1,5 +1,5 @@
-//! Tests of `check` and of `run` over readers and writers, by lines and the text that they make. They are here, so that no crate is
-//! proved a second time for its tests. There is nothing here but tests.
+//! Tests of `check` and of `run` over readers and writers: lines by themselves, and scripts that a test makes, since they are long. They are here, so
+//! that no crate is proved a second time for its tests. There is nothing here but tests. Other scripts are rows of `crates/tests_hostile/stdin`.
 #![tactic(auto)]
 
 #[cfg(test)]
@@ -7,17 +7,9 @@ mod check;
 #[cfg(test)]
 mod floods;
 #[cfg(test)]
-mod frames;
-#[cfg(test)]
-mod host;
-#[cfg(test)]
 mod lines;
 #[cfg(test)]
-mod next_hops;
-#[cfg(test)]
 mod reaching;
-#[cfg(test)]
-mod router;
 #[cfg(test)]
 mod router_commands;
 #[cfg(test)]

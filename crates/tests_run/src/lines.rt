@@ -1,6 +1,4 @@
-use crate::tested::told;
 use nd_addr::Addr;
-use nd_lines::tool_fault::ToolFault;
 use nd_node::{Clearable, Event, Table};
 use nd_random::Source;
 use nd_text::write_hex;
@@ -217,6 +215,7 @@ fn other_lines_are_malformed(rt: HostRuntime) -> Result<(), Fail> {
             "10 At",
             "10 at now",
             "10 settle",
+            "-",
         ],
     )
 }
@@ -401,125 +400,4 @@ fn other_texts_name_no_source(rt: HostRuntime) {
     ] {
         assert_eq!(rt; words(text.as_bytes()), None);
     }
-}
-
-/// The solicitation that tries the link-local address, and a Router Solicitation, each with its moment.
-pub(crate) const STARTED: &str =
-    "0 tx 3333ff9abcde3456789abcde86dd6000000000183aff00000000000000000000000000000000ff0200000000000000000001ff9abcde870053df00000000fe80000000000000365678fffe9abcde\n";
-
-const ASSIGNED: &str = "1000 assigned fe80::3656:78ff:fe9a:bcde\n";
-
-const SOLICITED: &str =
-    " tx 3333000000023456789abcde86dd6000000000103afffe80000000000000365678fffe9abcdeff0200000000000000000000000000028500a78f0000000001013456789abcde\n";
-
-/// What a host reports in its first 10 seconds.
-const STARTS: [&str; 8] = [
-    STARTED, ASSIGNED, "1000", SOLICITED, "5000", SOLICITED, "9000", SOLICITED,
-];
-
-/// The start of a host: its detection, its assignment, and three Router Solicitations.
-#[test]
-fn a_host_starts(rt: HostRuntime) {
-    told(&rt, rt.alloc(), &[], Ok(()), &[]);
-    told(&rt, rt.alloc(), &["0 at"], Ok(()), &[STARTED]);
-    told(&rt, rt.alloc(), &["10000 at\n"], Ok(()), &STARTS);
-}
-
-/// A line for each second writes the same bytes.
-#[test]
-fn each_second_tells_the_same(rt: HostRuntime) -> Result<(), Fail> {
-    let mut script = String::new(rt.alloc());
-    for second in 1..21u64 {
-        script.push_str(&format!(in rt.alloc(); "{}000 at\n", second)?)?;
-    }
-    told(&rt, rt.alloc(), &[script.as_str()], Ok(()), &STARTS);
-    Ok(())
-}
-
-/// A past moment is only reported as past, and a malformed line ends the run.
-#[test]
-fn past_moments_and_malformed_lines(rt: HostRuntime) {
-    told(
-        &rt,
-        rt.alloc(),
-        &["10 at\n9 show params\n10 show params\n"],
-        Ok(()),
-        &[
-            STARTED,
-            "9 refused past 10\n10 params hop 64 mtu 1500 reachable 30000 15000 retrans 1000 managed 0 other 0\n10 end 1\n",
-        ],
-    );
-    told(
-        &rt,
-        rt.alloc(),
-        &["10 at\nshow params\n11 at\n"],
-        Err(ToolFault::Line(2)),
-        &[STARTED],
-    );
-}
-
-/// The empty frame is dropped, as it is too short; an empty word is malformed.
-#[test]
-fn frames_come_to_a_host(rt: HostRuntime) {
-    let dropped = [STARTED, "10 drop 1 FrameShort\n"];
-    told(&rt, rt.alloc(), &["10 rx -\n"], Ok(()), &dropped);
-    told(
-        &rt,
-        rt.alloc(),
-        &["10 rx -\n11 rx \n12 at\n"],
-        Err(ToolFault::Line(2)),
-        &dropped,
-    );
-}
-
-/// Each table of a host at its start; the link-local address is tentative up to its assignment.
-#[test]
-fn tables_of_a_start(rt: HostRuntime) {
-    told(
-        &rt,
-        rt.alloc(),
-        &["999 show addresses\n1000 show addresses\n"],
-        Ok(()),
-        &[
-            STARTED,
-            "999 address fe80::3656:78ff:fe9a:bcde tentative inf inf\n999 end 1\n",
-            ASSIGNED,
-            "1000",
-            SOLICITED,
-            "1000 address fe80::3656:78ff:fe9a:bcde preferred inf inf\n1000 end 1\n",
-        ],
-    );
-    for table in [
-        "neighbours",
-        "routers",
-        "prefixes",
-        "dns",
-        "redirects",
-        "advertise",
-        "routes",
-    ] {
-        told(
-            &rt,
-            rt.alloc(),
-            &["0 show ", table, "\n"],
-            Ok(()),
-            &[STARTED, "0 end 0\n"],
-        );
-    }
-}
-
-#[test]
-fn an_empty_line_is_malformed(rt: HostRuntime) -> Result<(), Fail> {
-    malformed(&rt, rt.alloc(), &["", " ", "-"])?;
-    for script in ["\n", "\n0 at\n"] {
-        told(&rt, rt.alloc(), &[script], Err(ToolFault::Line(1)), &[]);
-    }
-    told(
-        &rt,
-        rt.alloc(),
-        &["0 at\n\n"],
-        Err(ToolFault::Line(2)),
-        &[STARTED],
-    );
-    Ok(())
 }

@@ -1,8 +1,5 @@
-//! A router's commands in scripts: what their words say, and what a host answers.
+//! A router's commands in scripts: which words are well-formed.
 
-use crate::lines::STARTED;
-use crate::tested::told;
-use nd_lines::tool_fault::ToolFault;
 use nd_node::Event;
 use ndpctl_run::read_line;
 use std::alloc::{AllocError, Global};
@@ -14,23 +11,6 @@ fn said(alloc: Global, line: &str) -> Result<Option<Event<Global>>, AllocError> 
         Some(read) => Ok(Some(read.event)),
         None => Ok(None),
     }
-}
-
-/// A host refuses what the lines ask for, fe80::/8 too, which is fe00::/8 and so not link-local; and a malformed one ends the run.
-#[test]
-fn a_host_refuses_a_routers_commands(rt: HostRuntime) {
-    told(
-        &rt,
-        rt.alloc(),
-        &[
-            "0 advertise 3 4 - 0 - 0 0 0\n0 prefix 2001:db8::/64 - - la\n0 route 2001:db8::/64 direct\n0 route 2001:db8::/64 fe80::2\n0 prefix fe80::/8 - - -\n0 prefix 2001:db8::/64 3600 - la\n",
-        ],
-        Err(ToolFault::Line(6)),
-        &[
-            STARTED,
-            "0 refused wrong-role\n0 refused wrong-role\n0 refused wrong-role\n0 refused wrong-role\n0 refused wrong-role\n",
-        ],
-    );
 }
 
 /// No defaults elsewhere, no leading zeros, one space between two words, flags in their order, values that their types hold, and the rules
