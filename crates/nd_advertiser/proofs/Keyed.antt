@@ -1,5 +1,5 @@
 -- The entries of the offers, each of which stands under its prefix.
-use Rattle.std.proofs.Common.{◌≡◌, suc, ◌<◌, ◌≤◌, true, false, List, [], ◌∷◌, length, Some, is_some, refl, sym, ◌∙◌, ap, subst, inl, inr, arith}
+use Rattle.std.proofs.Common.{◌≡◌, ℕ, suc, ◌<◌, ◌≤◌, true, false, List, [], ◌∷◌, length, Some, is_some, refl, sym, ◌∙◌, ap, subst, inl, inr, arith}
 use Rattle.std.specs.Prelude.{◌||◌, not, nat_le, Ok, Err}
 use Rattle.std.specs.List.{AllByRecursion}
 use Rattle.std.specs.Map.{lookup, set_value, values_of}
@@ -9,7 +9,7 @@ use Rattle.nd_addr.specs.Prefix.{PrefixValue}
 use Rattle.nd_addr.specs.Same.{same_prefix}
 use Rattle.nd_addr.proofs.SamePrefix.{same_is}
 use Rattle.nd_decode.specs.declared.prefix_info.PrefixInfo.{PrefixInfo}
-use Rattle.nd_advertiser.specs.Offers.{is_among, max_offers, is_one_too_many, answer_to}
+use Rattle.nd_advertiser.specs.Offers.{is_among, is_one_too_many, answer_to}
 use Rattle.nd_advertiser.specs.Calls.{prefixes_in, with_offer}
 
 abbrev pub IsKeyed : List (PrefixValue × PrefixInfo) → Type 0
@@ -83,18 +83,18 @@ length-prefixes [] = refl
 length-prefixes (e ∷ es) = ap suc (length-prefixes es)
 
 -- the answer where the prefix is there, where it is new and there is no room, and where there is
-pub answer_there : (p : PrefixValue) (es : List (PrefixValue × PrefixInfo)) → IsKeyed es → is_some (lookup (same_prefix p) es) ≡ true → Ok tt ≡ answer_to p (prefixes_in (values_of es))
-answer_there p es h s =
+pub answer_there : (limit : ℕ) (p : PrefixValue) (es : List (PrefixValue × PrefixInfo)) → IsKeyed es → is_some (lookup (same_prefix p) es) ≡ true → Ok tt ≡ answer_to limit p (prefixes_in (values_of es))
+answer_there limit p es h s =
     let ps = prefixes_in (values_of es) in
-    sym (cond-false (is_one_too_many p ps) (Err (record {})) (Ok tt) (and_left (not (is_among p ps)) (nat_le max_offers (length ps)) (not_from_true (is_among p ps) (sym (found_among p es h) ∙ s))))
+    sym (cond-false (is_one_too_many limit p ps) (Err (record {})) (Ok tt) (and_left (not (is_among p ps)) (nat_le limit (length ps)) (not_from_true (is_among p ps) (sym (found_among p es h) ∙ s))))
 
-pub answer_full : (p : PrefixValue) (es : List (PrefixValue × PrefixInfo)) → IsKeyed es → is_some (lookup (same_prefix p) es) ≡ false → max_offers ≤ length es → Err (record {}) ≡ answer_to p (prefixes_in (values_of es))
-answer_full p es h s n =
+pub answer_full : (limit : ℕ) (p : PrefixValue) (es : List (PrefixValue × PrefixInfo)) → IsKeyed es → is_some (lookup (same_prefix p) es) ≡ false → limit ≤ length es → Err (record {}) ≡ answer_to limit p (prefixes_in (values_of es))
+answer_full limit p es h s n =
     let ps = prefixes_in (values_of es) in
-    sym (cond-true (is_one_too_many p ps) (Err (record {})) (Ok tt) (
-    and_from (not (is_among p ps)) (nat_le max_offers (length ps)) (not_from_false (is_among p ps) (sym (found_among p es h) ∙ s)) (le-leb max_offers (length ps) (omega (arith, n, length-prefixes es)))))
+    sym (cond-true (is_one_too_many limit p ps) (Err (record {})) (Ok tt) (
+    and_from (not (is_among p ps)) (nat_le limit (length ps)) (not_from_false (is_among p ps) (sym (found_among p es h) ∙ s)) (le-leb limit (length ps) (omega (arith, n, length-prefixes es)))))
 
-pub answer_new : (p : PrefixValue) (es : List (PrefixValue × PrefixInfo)) → length es < max_offers → Ok tt ≡ answer_to p (prefixes_in (values_of es))
-answer_new p es n =
+pub answer_new : (limit : ℕ) (p : PrefixValue) (es : List (PrefixValue × PrefixInfo)) → length es < limit → Ok tt ≡ answer_to limit p (prefixes_in (values_of es))
+answer_new limit p es n =
     let ps = prefixes_in (values_of es) in
-    sym (cond-false (is_one_too_many p ps) (Err (record {})) (Ok tt) (and_right (not (is_among p ps)) (nat_le max_offers (length ps)) (lt-leb max_offers (length ps) (omega (arith, n, length-prefixes es)))))
+    sym (cond-false (is_one_too_many limit p ps) (Err (record {})) (Ok tt) (and_right (not (is_among p ps)) (nat_le limit (length ps)) (lt-leb limit (length ps) (omega (arith, n, length-prefixes es)))))

@@ -1,5 +1,5 @@
 -- A configuration that breaks no rule has no preference where it is no default router.
-use Rattle.std.proofs.Common.{◌≡◌, ℕ, Bool, true, false, Option, Some, None, refl, subst, if◌then◌else◌}
+use Rattle.std.proofs.Common.{◌≡◌, ℕ, Bool, true, false, Some, None, refl, subst, if◌then◌else◌}
 use Rattle.std.specs.Prelude.{◌||◌, ◌==◌, not}
 use Rattle.nd_addr.specs.declared.preference.Preference.{Preference}
 use Rattle.nd_addr.specs.declared.preference.Preference.TheVariants.{High, Medium, Low}

@@ -2,6 +2,7 @@ pub mod Config
 pub mod Offer
 pub mod History
 pub mod Offers
+pub mod OffersKept
 pub mod Advertising
 pub mod Table
 pub mod Calls

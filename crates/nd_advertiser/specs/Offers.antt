@@ -7,7 +7,7 @@ use Rattle.nd_decode.specs.declared.prefix_info.PrefixInfo.{PrefixInfo}
 use Rattle.nd_advertiser.specs.History.{Row, Offered}
 use Rattle.nd_advertiser.specs.declared.offers.Full.{Full}
 
--- how many prefixes are advertised at most (our choice)
+-- the greatest limit on the prefixes that are advertised (our choice)
 abbrev pub max_offers : ℕ
 max_offers = 16
 
@@ -33,9 +33,9 @@ abbrev pub offers_of : List Row → List PrefixInfo
 offers_of history = flat_map (λ prefix. option_to_list (offer_of prefix history)) (prefixes history)
 
 -- an offer of this prefix would be one too many besides those of these prefixes
-abbrev pub is_one_too_many : PrefixValue → List PrefixValue → Bool
-is_one_too_many prefix ps = not (is_among prefix ps) && nat_le max_offers (length ps)
+abbrev pub is_one_too_many : ℕ → PrefixValue → List PrefixValue → Bool
+is_one_too_many limit prefix ps = not (is_among prefix ps) && nat_le limit (length ps)
 
 -- the answer to an offer of a prefix, where these are advertised
-abbrev pub answer_to : PrefixValue → List PrefixValue → Result (Unit {0}) Full
-answer_to prefix ps = if is_one_too_many prefix ps then Err (record {}) else Ok tt
+abbrev pub answer_to : ℕ → PrefixValue → List PrefixValue → Result (Unit {0}) Full
+answer_to limit prefix ps = if is_one_too_many limit prefix ps then Err (record {}) else Ok tt

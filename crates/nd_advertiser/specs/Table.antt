@@ -16,11 +16,13 @@ pub record Advertising : Type 0 where
   pub planned : Option ℕ
   pub answer : Option ℕ
 
--- when the address was assigned, when the last advertisement was sent, what it is advertising, and the prefixes that it offers
+-- when the address was assigned, when the last advertisement was sent, what it is advertising, how many prefixes it has room to offer, and those
+-- that it offers
 pub record Table : Type 0 where
   pub assigned : Option ℕ
   pub last : Option ℕ
   pub advertising : Option Advertising
+  pub limit : ℕ
   pub offers : List PrefixInfo
 
 -- what it is advertising, by what happened

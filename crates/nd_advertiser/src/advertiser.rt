@@ -2,6 +2,7 @@ ghost use Rattle.std.specs.Prelude.{◌≡◌, ◌<◌, ◌≤◌, ◌^◌, List
 ghost use Rattle.nd_table.specs.Moment.{IsMoment};
 ghost use Rattle.nd_advertiser.specs.Config.{interval_range};
 ghost use Rattle.nd_advertiser.specs.Calls.{has_sent, settings_in, wants_draw, next, prefixes_in};
+ghost use Rattle.nd_advertiser.specs.Offers.{max_offers};
 ghost use Rattle.nd_advertiser.specs.Overdue.{IsAfter};
 
 use crate::advertising::Advertising;
@@ -31,7 +32,7 @@ impl<A: Allocator> Model for Advertiser<A> {
 
     ghost Value = { Table };
 
-    ghost view = { λ a. record { assigned = a.assigned; last = a.last; advertising = a.advertising; offers = a.offers } };
+    ghost view = { λ a. record { assigned = a.assigned; last = a.last; advertising = a.advertising; limit = a.offers.limit; offers = a.offers.offers } };
 
     // The next advertisement is after the last one.
     ghost invariant = { λ a. IfSome a.last (λ at. at < 2 ^ 62) × IsAfter a.last (next a.assigned a.last a.advertising) };
@@ -41,16 +42,18 @@ impl<A: Allocator + Copy> Advertiser<A> {
     ghost use Rattle.nd_advertiser.specs.Table.{Stands};
 
     /// Returns an interface that doesn't advertise (RFC 4861, section 6.2.1, AdvSendAdvertisements), and has no prefixes to advertise yet, with
-    /// room for 16. Returns an error if out of memory.
-    pub fn new(alloc: A) -> Result<Self, AllocError>
-        ensures empty { IfOk result (λ advertiser. advertiser ≡ record { assigned = None; last = None; advertising = None; offers = [] }) }
+    /// room for `limit` of them, 1 to 16. Returns an error if out of memory.
+    pub fn new(alloc: A, limit: usize) -> Result<Self, AllocError>
+        requires least { 1 ≤ limit }
+        requires most { limit ≤ max_offers }
+        ensures empty { IfOk result (λ advertiser. advertiser ≡ record { assigned = None; last = None; advertising = None; limit = limit; offers = [] }) }
         ensures stands { IfOk result (λ advertiser. Stands advertiser []) }
     {
         Ok(Advertiser {
             assigned: None,
             last: None,
             advertising: None,
-            offers: Offers::new(alloc)?,
+            offers: Offers::new(alloc, limit)?,
         })
     }
 }
@@ -58,15 +61,16 @@ impl<A: Allocator + Copy> Advertiser<A> {
 impl<A: Allocator> Advertiser<A> {
     ghost use Rattle.nd_advertiser.specs.History.{Advertises, Assigned, Ceased, Offered, Row, Sent, Solicited};
     ghost use Rattle.nd_advertiser.specs.Advertising.{advertised_by, interval_of, is_on, next_of, tells_its_end, wants_draw_of};
-    ghost use Rattle.nd_advertiser.specs.Offers.{answer_to, max_offers, offers_of, prefixes};
+    ghost use Rattle.nd_advertiser.specs.Offers.{answer_to, offers_of, prefixes};
     ghost use Rattle.nd_advertiser.specs.Table.{GainsRow, Stands};
 
     /// Puts a prefix into those to advertise (RFC 4861, section 6.2.1, AdvPrefixList): a new one at the end, an existing one in its place. Returns
-    /// `Full` if it would be the 17th. It takes no memory.
+    /// `Full` if it would be one more than the limit. It takes no memory.
     pub fn put(&mut self, offer: Offer) -> Result<(), Full>
-        ensures value { result ≡ answer_to offer.prefix (prefixes_in self.old.offers) }
-        ensures by_history { (history : List Row) → Stands self.old history → result ≡ answer_to offer.prefix (prefixes history) }
+        ensures value { result ≡ answer_to self.old.limit offer.prefix (prefixes_in self.old.offers) }
+        ensures by_history { (history : List Row) → Stands self.old history → result ≡ answer_to self.old.limit offer.prefix (prefixes history) }
         ensures stands { OnOk result (GainsRow self.old self.new (Offered offer)) }
+        ensures limit { self.new.limit ≡ self.old.limit }
         ensures same { OnErr result (self.new ≡ self.old) }
     {
         self.offers.put(offer)
@@ -76,17 +80,25 @@ impl<A: Allocator> Advertiser<A> {
     pub fn rows(&self) -> OfferRows<'_>
         ensures value { result ≡ self.now.offers }
         ensures by_history { (history : List Row) → Stands self.now history → result ≡ offers_of history }
-        ensures few { length result ≤ max_offers }
+        ensures few { length result ≤ self.now.limit }
     {
         self.offers.rows()
     }
 
-    /// Returns the number of prefixes offered, at most 16.
+    /// Returns the number of prefixes offered, at most the limit.
     pub fn offers_len(&self) -> usize
         ensures value { result ≡ length self.now.offers }
-        ensures few { result ≤ max_offers }
+        ensures few { result ≤ self.now.limit }
     {
         self.offers.len()
+    }
+
+    /// Returns how many prefixes it has room to offer, at most 16.
+    pub(crate) fn limit(&self) -> usize
+        ensures value { result ≡ self.now.limit }
+        ensures most { result ≤ max_offers }
+    {
+        self.offers.limit()
     }
 
     /// Begins to advertise with this configuration (RFC 4861, section 6.2.2). If it advertises already, only what it advertises changes, and the
@@ -94,6 +106,7 @@ impl<A: Allocator> Advertiser<A> {
     pub fn begin(&mut self, now: u64, config: Config)
         requires { IsMoment now }
         ensures stands { GainsRow self.old self.new (Advertises now config) }
+        ensures limit { self.new.limit ≡ self.old.limit }
     {
         match &mut self.advertising {
             Some(advertising) => advertising.configure(now, config),
@@ -105,6 +118,7 @@ impl<A: Allocator> Advertiser<A> {
     pub fn assigned(&mut self, now: u64)
         requires { IsMoment now }
         ensures stands { GainsRow self.old self.new (Assigned now) }
+        ensures limit { self.new.limit ≡ self.old.limit }
         ensures last { self.new.last ≡ self.old.last }
     {
         self.assigned = Some(now);
@@ -159,6 +173,7 @@ impl<A: Allocator> Advertiser<A> {
         requires moment { IsMoment now }
         requires wants { wants_draw self.old.advertising ≡ true }
         ensures stands { GainsRow self.old self.new (Solicited now delay) }
+        ensures limit { self.new.limit ≡ self.old.limit }
     {
         if let Some(advertising) = &mut self.advertising {
             advertising.plan(self.last, now, delay);
@@ -184,6 +199,7 @@ impl<A: Allocator> Advertiser<A> {
         requires due { next self.old.assigned self.old.last self.old.advertising ≡ Some now }
         requires positive { 0 < interval }
         ensures stands { GainsRow self.old self.new (Sent now interval) }
+        ensures limit { self.new.limit ≡ self.old.limit }
         ensures last { self.new.last ≡ Some now }
     {
         if let Some(advertising) = &mut self.advertising {
@@ -199,6 +215,7 @@ impl<A: Allocator> Advertiser<A> {
         ensures value { result ≡ has_sent self.old.advertising }
         ensures by_history { (history : List Row) → Stands self.old history → result ≡ tells_its_end history }
         ensures stands { GainsRow self.old self.new (Ceased now) }
+        ensures limit { self.new.limit ≡ self.old.limit }
     {
         let tells = match &self.advertising {
             Some(advertising) => advertising.sent != 0,

@@ -8,10 +8,10 @@ ghost use Rattle.nd_message.specs.Spelling.{piece_of, written_length};
 ghost use Rattle.nd_message.specs.WellFormed.{IsMediumAtZero, IsWellFormed};
 ghost use Rattle.nd_advertiser.specs.Calls.{settings_in};
 ghost use Rattle.nd_advertiser.specs.Contents.{contents, contents_of, last_contents, last_contents_of, max_contents_length, max_options_length, options_of, without_lifetime};
+ghost use Rattle.nd_advertiser.specs.Offers.{max_offers};
 
 use crate::advertiser::Advertiser;
 use crate::offer::Offer;
-use crate::offers::MAX_OFFERS;
 use nd_addr::{Mac, Preference};
 use nd_decode::{Body, RouterAdvertisement};
 use nd_message::{Message, Opt};
@@ -21,8 +21,8 @@ use std::alloc::{AllocError, Allocator};
 /// 4861, section 4.2).
 pub const MAX_CONTENTS_LENGTH: usize = 544;
 
-/// The most options of an advertisement: the link-layer address, the MTU, and the offers.
-const MAX_OPTIONS: usize = 2 + MAX_OFFERS;
+/// The most options of an advertisement besides the offers: the link-layer address and the MTU.
+const MAX_FIRST_OPTIONS: usize = 2;
 
 impl<A: Allocator> Advertiser<A> {
     ghost use Rattle.nd_advertiser.specs.History.{Row};
@@ -78,7 +78,7 @@ impl<A: Allocator> Advertiser<A> {
         ensures fits { IfOk result (λ options. AllByRecursion FitsOption (map said options.items)) }
         ensures short { IfOk result (λ options. length (flat_map piece_of (map said options.items)) ≤ max_options_length) }
     {
-        let mut options = first_options(alloc, mac, mtu)?;
+        let mut options = first_options(alloc, mac, mtu, self.limit())?;
         for offer in self.rows() {
             options.push(prefix_option(offer))?;
         }
@@ -86,13 +86,19 @@ impl<A: Allocator> Advertiser<A> {
     }
 }
 
-/// Returns the options before those of the offers, with room for these too.
-fn first_options<B: Allocator>(alloc: B, mac: Mac, mtu: u32) -> Result<Vec<Opt<B>, B>, AllocError>
+/// Returns the options before those of the offers, with room for so many of these too.
+fn first_options<B: Allocator>(
+    alloc: B,
+    mac: Mac,
+    mtu: u32,
+    offers: usize,
+) -> Result<Vec<Opt<B>, B>, AllocError>
+    requires { offers ≤ max_offers }
     ensures value { IfOk result (λ options. map said options.items ≡ options_of mac mtu []) }
     ensures fits { IfOk result (λ options. AllByRecursion FitsOption (map said options.items)) }
     ensures short { IfOk result (λ options. length (flat_map piece_of (map said options.items)) ≤ 16) }
 {
-    let mut options = Vec::with_capacity(alloc, MAX_OPTIONS)?;
+    let mut options = Vec::with_capacity(alloc, MAX_FIRST_OPTIONS + offers)?;
     let _bytes = mac.as_bytes();
     options.push(Opt::Slla(mac))?;
     if mtu == 0 {

@@ -8,9 +8,9 @@ ghost use Rattle.nd_advertiser.specs.History.{Row};
 ghost use Rattle.nd_advertiser.specs.Overdue.{IsOf, IsSpaced};
 ghost use Rattle.nd_advertiser.specs.Table.{Stands, Table};
 
-/// Two tables that stand for one history are equal.
+/// Two tables that stand for one history are equal, whatever their limits.
 pub fn one_answer()
-    ensures { (history : List Row) (a b : Table) → Stands a history → Stands b history → a ≡ b }
+    ensures { (history : List Row) (a b : Table) → Stands a history → Stands b history → (a.assigned ≡ b.assigned) × (a.last ≡ b.last) × (a.advertising ≡ b.advertising) × (a.offers ≡ b.offers) }
 {}
 
 /// The date of the next advertisement in the table is the one that the history gives. Nothing that happens makes something due in the past: if no

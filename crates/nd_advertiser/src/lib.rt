@@ -17,4 +17,4 @@ pub use config_fault::ConfigFault;
 pub use contents::MAX_CONTENTS_LENGTH;
 pub use offer::{Offer, OfferFlags};
 pub use offer_rows::OfferRows;
-pub use offers::Full;
+pub use offers::{Full, MAX_OFFERS};

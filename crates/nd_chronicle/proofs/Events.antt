@@ -79,7 +79,7 @@ module _ (start : Start) (c : Chronicle) (now : ℕ) where
       let e1 = one_placed (needs c source message message.body) h.neighbours k.neighbours h.placed k.placed in
       let e2 = one_router_list c now h.routers k.routers h.those_routers k.those_routers in
       let e3 = one_listing same_prefix prefixes_tell (prefix_history c) now h.prefixes k.prefixes h.those_prefixes k.those_prefixes in
-      let e4 = one_fit start.mac (address_history c) (prefixes_in message.options) h.forms k.forms h.those_addresses k.those_addresses in
+      let e4 = one_fit start.limits.addresses start.mac (address_history c) (prefixes_in message.options) h.forms k.forms h.those_addresses k.those_addresses in
       let e5 = one_listing same_addr addrs_tell (server_history c) now h.servers k.servers h.those_servers k.those_servers in
       let e6 = one_listing same_name bytes_tell (name_history c) now h.names k.names h.those_names k.those_names in
       let f = h.first in
@@ -164,7 +164,7 @@ module _ (start : Start) (c : Chronicle) (now : ℕ) where
 
     one_send : (d e : Chronicle) → SendAdds start now source destination next_header payload c d → SendAdds start now source destination next_header payload c e → d ≡ e
     one_send d e h k = unless_refused (refusal_of_packet start now source payload c) _ d e
-        (λ x y. one_packet y.0 d e (subst (λ (next : NextHop). PacketAdds start now next source destination next_header payload c d) (one_hop c now start.role destination x.0 y.0 x.1 y.1) x.2) y.2) h k
+        (λ x y. one_packet y.0 d e (subst (λ (next : NextHop). PacketAdds start now next source destination next_header payload c d) (one_hop c now start start.role destination x.0 y.0 x.1 y.1) x.2) y.2) h k
 
   one_clear : (table : Clearable) (d e : Chronicle) → ClearAdds start now table c d → ClearAdds start now table c e → d ≡ e
   one_clear events.ClearNeighbours d e h k = h.2 ∙ ap (λ entries. clearing start now entries c) (neighbour_proofs.one_table (neighbour_history c) h.0 k.0 h.1 k.1) ∙ sym k.2
@@ -204,7 +204,7 @@ module _ (start : Start) (c : Chronicle) (now : ℕ) where
   one_event (events.Offers info) d e h k =
       at_router start.role _ d e (λ x y. unless_refused (option_map Full (full_of_offers start info.prefix c)) _ d e (λ u v. u ∙ sym v) x y) h k
   one_event (events.Routes prefix route) d e h k =
-      at_router start.role _ d e (λ x y. unless_refused (option_map Full (full_of_routes prefix c)) _ d e (λ u v. u ∙ sym v) x y) h k
+      at_router start.role _ d e (λ x y. unless_refused (option_map Full (full_of_routes start prefix c)) _ d e (λ u v. u ∙ sym v) x y) h k
   one_event events.Stops d e h k = at_router start.role _ d e (λ x y. x ∙ sym y) h k
 
 module _ (start : Start) where

@@ -40,36 +40,36 @@ module _ (c : Chronicle) (now : ℕ) where
       ∙ ap (λ (es : List (Lasting ℕ)). map (λ (e : Lasting ℕ). candidate c b.failed e.key) es) (one_listing same eqb_tells (announcements (router_history c)) now a.entries b.entries a.listed b.listed)
       ∙ sym b.routers_are
 
-  pub one_next_hop : (destination : Addr) (m n : NextHop) → IsNextHop c now destination m → IsNextHop c now destination n → m ≡ n
-  one_next_hop destination m n h k =
+  pub one_next_hop : (start : Start) (destination : Addr) (m n : NextHop) → IsNextHop start c now destination m → IsNextHop start c now destination n → m ≡ n
+  one_next_hop start destination m n h k =
       h.next_is
-      ∙ ap (λ (es : List (Lasting PrefixValue)). hop (is_own c) (λ (a : List ℕ). is_held a es) h.routers (kept (number_of destination.0) (redirect_history c)) destination.0)
+      ∙ ap (λ (es : List (Lasting PrefixValue)). hop (is_own c) (λ (a : List ℕ). is_held a es) h.routers (kept start.limits.redirects (number_of destination.0) (redirect_history c)) destination.0)
       (one_listing same_prefix prefixes_tell (prefix_history c) now h.prefixes k.prefixes h.standing k.standing)
-      ∙ ap (λ (rs : List DefaultRouter). hop (is_own c) (λ (a : List ℕ). is_held a k.prefixes) rs (kept (number_of destination.0) (redirect_history c)) destination.0)
+      ∙ ap (λ (rs : List DefaultRouter). hop (is_own c) (λ (a : List ℕ). is_held a k.prefixes) rs (kept start.limits.redirects (number_of destination.0) (redirect_history c)) destination.0)
       (one_routers h.routers k.routers h.those k.those)
       ∙ sym k.next_is
 
-  pub one_hop : (role : Role) (destination : Addr) (m n : NextHop) → IsHopOf role c now destination m → IsHopOf role c now destination n → m ≡ n
-  one_hop Host destination m n h k = one_next_hop destination m n h k
-  one_hop Router destination m n h k = h ∙ sym k
+  pub one_hop : (start : Start) (role : Role) (destination : Addr) (m n : NextHop) → IsHopOf start role c now destination m → IsHopOf start role c now destination n → m ≡ n
+  one_hop start Host destination m n h k = one_next_hop start destination m n h k
+  one_hop start Router destination m n h k = h ∙ sym k
 
-  not_both : (source : Addr) (body : Body) → FromFirstHop c now source body → NotFromFirstHop c now source body → ⊥
-  not_both source (bodies.Redirect r) h k = k.2 (one_next_hop r.destination k.0 (via (number_of source.0)) k.1 h)
-  not_both source bodies.Rs h k = k
-  not_both source (bodies.Ra ra) h k = k
-  not_both source (bodies.Ns ns) h k = k
-  not_both source (bodies.Na na) h k = k
+  not_both : (start : Start) (source : Addr) (body : Body) → FromFirstHop start c now source body → NotFromFirstHop start c now source body → ⊥
+  not_both start source (bodies.Redirect r) h k = k.2 (one_next_hop start r.destination k.0 (via (number_of source.0)) k.1 h)
+  not_both start source bodies.Rs h k = k
+  not_both start source (bodies.Ra ra) h k = k
+  not_both start source (bodies.Ns ns) h k = k
+  not_both start source (bodies.Na na) h k = k
 
   module _ (start : Start) where
     one_judged : {said : Outcome} {a b : Verdict} → Judges start c now said a → Judges start c now said b → a ≡ b
     one_judged IsDropped IsDropped = refl
     one_judged (IsTaken u f) (IsTaken u' f') = refl
     one_judged (IsTaken u f) (IsStrange n) = absurd (n u)
-    one_judged (IsTaken {source = source} {message = message} u f) (IsMisdirected u' n) = absurd (not_both source message.body f n)
+    one_judged (IsTaken {source = source} {message = message} u f) (IsMisdirected u' n) = absurd (not_both start source message.body f n)
     one_judged (IsStrange n) (IsTaken u f) = absurd (n u)
     one_judged (IsStrange n) (IsStrange n') = refl
     one_judged (IsStrange n) (IsMisdirected u n') = absurd (n u)
-    one_judged (IsMisdirected {source = source} {message = message} u n) (IsTaken u' f) = absurd (not_both source message.body f n)
+    one_judged (IsMisdirected {source = source} {message = message} u n) (IsTaken u' f) = absurd (not_both start source message.body f n)
     one_judged (IsMisdirected u n) (IsStrange n') = absurd (n' u)
     one_judged (IsMisdirected u n) (IsMisdirected u' n') = refl
     one_judged (IsPacket u) (IsPacket u') = refl

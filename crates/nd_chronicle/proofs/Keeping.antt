@@ -343,6 +343,6 @@ module _ (start : Start) (at : ℕ) (Kept : Chronicle → Type 0) (plain : (what
       event_keeps (events.Offers info) d settles h k =
           at_router_keeps start.role _ d (λ x. refused_keeps (option_map Full (full_of_offers start info.prefix c)) _ d (λ y. end_at y (plain _ c refl k)) x) h
       event_keeps (events.Routes prefix route) d settles h k =
-          at_router_keeps start.role _ d (λ x. refused_keeps (option_map Full (full_of_routes prefix c)) _ d (λ y. end_at y (plain _ c refl k)) x) h
+          at_router_keeps start.role _ d (λ x. refused_keeps (option_map Full (full_of_routes start prefix c)) _ d (λ y. end_at y (plain _ c refl k)) x) h
       event_keeps events.Stops d settles h k =
           at_router_keeps start.role _ d (λ x. end_at x (telling_keeps (tells_its_end (advertising_history start c)) (last_contents_of start.mac (advertising_history start c)) _ (plain Ceased c refl k))) h

@@ -303,7 +303,7 @@ event_brings start now (events.Advertises settings) c d h = brings_at_router sta
 event_brings start now (events.Offers info) c d h =
     brings_at_router start now (events.Offers info) c start.role _ d (λ x. brings_refused start now (events.Offers info) c (option_map Full (full_of_offers start info.prefix c)) _ d (λ y. Nothing (ap address_history y)) x) h
 event_brings start now (events.Routes prefix route) c d h =
-    brings_at_router start now (events.Routes prefix route) c start.role _ d (λ x. brings_refused start now (events.Routes prefix route) c (option_map Full (full_of_routes prefix c)) _ d (λ y. Nothing (ap address_history y)) x) h
+    brings_at_router start now (events.Routes prefix route) c start.role _ d (λ x. brings_refused start now (events.Routes prefix route) c (option_map Full (full_of_routes start prefix c)) _ d (λ y. Nothing (ap address_history y)) x) h
 event_brings start now events.Stops c d h =
     brings_at_router start now events.Stops c start.role _ d (λ x. Nothing (ap address_history x ∙ telling_same now start (tells_its_end (advertising_history start c)) (last_contents_of start.mac (advertising_history start c)) ((now, Ceased) ∷ c))) h
 

@@ -139,18 +139,18 @@ module _ (start : Start) (c d : Chronicle) (s : Same start c d) where
     own_by : is_own d ≡ is_own c
     own_by = ap own_in s.addresses
 
-    next_hop_by : (destination : Addr) (next : NextHop) → IsNextHop d now destination next → IsNextHop c now destination next
+    next_hop_by : (destination : Addr) (next : NextHop) → IsNextHop start d now destination next → IsNextHop start c now destination next
     next_hop_by destination next h = record {
       prefixes = h.prefixes;
       standing = subst (λ (x : List (lifetimes.Row PrefixValue)). Lists same_prefix x now h.prefixes) s.prefixes h.standing;
       routers = h.routers;
       those = routers_by h.routers h.those;
       next_is = h.next_is
-          ∙ ap (λ (own : List ℕ → Bool). hop own (λ (a : List ℕ). is_held a h.prefixes) h.routers (redirects.kept (number_of destination.0) (redirect_history d)) destination.0) own_by
-          ∙ ap (λ (x : List redirects.RedirectRow). hop (is_own c) (λ (a : List ℕ). is_held a h.prefixes) h.routers (redirects.kept (number_of destination.0) x) destination.0) s.redirects;
+          ∙ ap (λ (own : List ℕ → Bool). hop own (λ (a : List ℕ). is_held a h.prefixes) h.routers (redirects.kept start.limits.redirects (number_of destination.0) (redirect_history d)) destination.0) own_by
+          ∙ ap (λ (x : List redirects.RedirectRow). hop (is_own c) (λ (a : List ℕ). is_held a h.prefixes) h.routers (redirects.kept start.limits.redirects (number_of destination.0) x) destination.0) s.redirects;
     }
 
-    hop_by : (role : Role) (destination : Addr) (next : NextHop) → IsHopOf role d now destination next → IsHopOf role c now destination next
+    hop_by : (role : Role) (destination : Addr) (next : NextHop) → IsHopOf start role d now destination next → IsHopOf start role c now destination next
     hop_by Host destination next h = next_hop_by destination next h
     hop_by Router destination next h = h ∙ rw (s.addresses, s.routes) refl
 

@@ -58,7 +58,7 @@ wants_answer start c = is_router start.role && wants_draw_of (advertising_histor
 
 -- the table that an offer, or a route, of this prefix would fill, if it would one
 abbrev pub full_of_offers : Start → PrefixValue → Chronicle → Option Limit
-full_of_offers start prefix c = if is_one_too_many prefix (prefixes (advertising_history start c)) then Some Offers else None
+full_of_offers start prefix c = if is_one_too_many start.limits.offers prefix (prefixes (advertising_history start c)) then Some Offers else None
 
-abbrev pub full_of_routes : PrefixValue → Chronicle → Option Limit
-full_of_routes prefix c = if fits prefix (routes (route_history c)) then None else Some StaticRoutes
+abbrev pub full_of_routes : Start → PrefixValue → Chronicle → Option Limit
+full_of_routes start prefix c = if fits start.limits.routes prefix (routes (route_history c)) then None else Some StaticRoutes

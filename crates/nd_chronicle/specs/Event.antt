@@ -148,7 +148,7 @@ module _ (start : Start) (now : ℕ) where
 
   abbrev pub SendAdds : Addr → Addr → ℕ → List ℕ → Chronicle → Chronicle → Type 0
   SendAdds source destination next_header payload c d = UnlessRefused now (refusal_of_packet source payload c)
-      (λ e. (next : NextHop) × IsHopOf start.role c now destination next × PacketAdds next source destination next_header payload c e) c d
+      (λ e. (next : NextHop) × IsHopOf start start.role c now destination next × PacketAdds next source destination next_header payload c e) c d
 
   -- ---- commands
 
@@ -186,5 +186,5 @@ module _ (start : Start) (now : ℕ) where
   EventAdds (Shows table) c d = (rows : List (List ℕ)) × AreRows start c now table rows × (d ≡ (now, Shown rows) ∷ c)
   EventAdds (Advertises settings) c d = AtRouter now start.role (λ e. e ≡ (now, Configured settings) ∷ c) c d
   EventAdds (Offers info) c d = AtRouter now start.role (λ e. UnlessFull now (full_of_offers start info.prefix c) (λ x. x ≡ (now, Offered info) ∷ c) c e) c d
-  EventAdds (Routes prefix route) c d = AtRouter now start.role (λ e. UnlessFull now (full_of_routes prefix c) (λ x. x ≡ (now, RoutePut prefix route) ∷ c) c e) c d
+  EventAdds (Routes prefix route) c d = AtRouter now start.role (λ e. UnlessFull now (full_of_routes start prefix c) (λ x. x ≡ (now, RoutePut prefix route) ∷ c) c e) c d
   EventAdds Stops c d = AtRouter now start.role (λ e. e ≡ ceasing start now c) c d

@@ -14,11 +14,10 @@ use Rattle.nd_table.specs.declared.lasting.Lasting.{Lasting}
 use Rattle.nd_table.specs.Listing.{Lists, fits}
 use Rattle.nd_neighbour.specs.History.{RowKind}
 use Rattle.nd_routers.specs.History.{announcements}
-use Rattle.nd_routers.specs.OnLinkPrefixes.{max_prefixes, prefixes_in}
+use Rattle.nd_routers.specs.OnLinkPrefixes.{prefixes_in}
 use Rattle.nd_routers.specs.Routers.{same}
 use Rattle.nd_slaac.specs.PrefixOption as addresses
 use Rattle.nd_slaac.specs.Room.{FitsBy}
-use Rattle.nd_dns.specs.Dns.{max_servers, max_names}
 use Rattle.nd_dns.specs.AnnouncedNames.{same_name, names_told}
 use Rattle.nd_dns.specs.AnnouncedServers.{servers_told}
 use Rattle.nd_chronicle.specs.Start.{Start}
@@ -69,17 +68,17 @@ pub record AdvertisementFills (start : Start) (c : Chronicle) (now : ℕ) (sourc
   pub prefixes : List (Lasting PrefixValue)
   pub those_prefixes : Lists same_prefix (prefix_history c) now prefixes
   pub forms : Bool
-  pub those_addresses : FitsBy start.mac (address_history c) (addresses.prefixes_in message.options) forms
+  pub those_addresses : FitsBy start.limits.addresses start.mac (address_history c) (addresses.prefixes_in message.options) forms
   pub servers : List (Lasting Addr)
   pub those_servers : Lists same_addr (server_history c) now servers
   pub names : List (Lasting (List ℕ))
   pub those_names : Lists same_name (name_history c) now names
   pub first : limit ≡ first_full neighbours
       (fits same start.limits.routers now ((number_of source.0, ra.router_lifetime) ∷ []) routers)
-      (fits same_prefix max_prefixes now (prefixes_in message.options) prefixes)
+      (fits same_prefix start.limits.prefixes now (prefixes_in message.options) prefixes)
       forms
-      (fits same_addr max_servers now (servers_told message.options) servers)
-      (fits same_name max_names now (names_told message.options) names)
+      (fits same_addr start.limits.servers now (servers_told message.options) servers)
+      (fits same_name start.limits.names now (names_told message.options) names)
 
 -- any other message only a neighbour
 pub record MessageFills (start : Start) (c : Chronicle) (now : ℕ) (source : Addr) (message : Parts) (limit : Option Limit) : Type 0 where

@@ -76,14 +76,14 @@ pub record IsInTransit (start : Start) (c : Chronicle) (packet : PacketParts) : 
 
 -- "The IP source address of the Redirect is the same as the current first-hop router for the specified ICMP Destination Address."
 -- (section 8.1)
-abbrev pub FromFirstHop : Chronicle → ℕ → Addr → Body → Type 0
-FromFirstHop c now source (bodies.Redirect r) = IsNextHop c now r.destination (via (number_of source.0))
-FromFirstHop c now source _ = Unit {0}
+abbrev pub FromFirstHop : Start → Chronicle → ℕ → Addr → Body → Type 0
+FromFirstHop start c now source (bodies.Redirect r) = IsNextHop start c now r.destination (via (number_of source.0))
+FromFirstHop start c now source _ = Unit {0}
 
 -- it is a Redirect, and comes from another node
-abbrev pub NotFromFirstHop : Chronicle → ℕ → Addr → Body → Type 0
-NotFromFirstHop c now source (bodies.Redirect r) = (next : NextHop) × IsNextHop c now r.destination next × (next ≢ via (number_of source.0))
-NotFromFirstHop c now source _ = ⊥
+abbrev pub NotFromFirstHop : Start → Chronicle → ℕ → Addr → Body → Type 0
+NotFromFirstHop start c now source (bodies.Redirect r) = (next : NextHop) × IsNextHop start c now r.destination next × (next ≢ via (number_of source.0))
+NotFromFirstHop start c now source _ = ⊥
 
 -- ---- what is heard
 
@@ -98,11 +98,11 @@ pub data Verdict : Type 0 where
 -- another packet goes up that is for it, and on where it is in transit.
 pub data Judges (start : Start) (c : Chronicle) (now : ℕ) : Outcome → Verdict → Type 0 where
   IsDropped : {why : Why} → Judges start c now (dropped why) (drops why)
-  IsTaken : {source destination : Addr} {message : Parts} → IsForUs start c source destination message → FromFirstHop c now source message.body
+  IsTaken : {source destination : Addr} {message : Parts} → IsForUs start c source destination message → FromFirstHop start c now source message.body
       → Judges start c now (valid source destination message) (hears source destination message)
   IsStrange : {source destination : Addr} {message : Parts} → (IsForUs start c source destination message → ⊥)
       → Judges start c now (valid source destination message) (drops NotForUs)
-  IsMisdirected : {source destination : Addr} {message : Parts} → IsForUs start c source destination message → NotFromFirstHop c now source message.body
+  IsMisdirected : {source destination : Addr} {message : Parts} → IsForUs start c source destination message → NotFromFirstHop start c now source message.body
       → Judges start c now (valid source destination message) (drops NotFirstHop)
   IsPacket : {packet : PacketParts} → IsPacketForUs start c packet → Judges start c now (other packet) (goes_up packet)
   IsPassing : {packet : PacketParts} → IsInTransit start c packet → Judges start c now (other packet) (goes_on packet)

@@ -19,6 +19,7 @@ use Rattle.nd_nexthop.specs.History.{kept}
 use Rattle.nd_nexthop.specs.NextHop.{NextHop, hop}
 use Rattle.nd_forwarding.specs.NextHop as routes
 use Rattle.nd_forwarding.specs.Routes.{routes}
+use Rattle.nd_chronicle.specs.Start.{Start}
 use Rattle.nd_chronicle.specs.Happening.{Chronicle}
 use Rattle.nd_chronicle.specs.Histories.{neighbour_history, router_history, prefix_history, redirect_history, route_history}
 use Rattle.nd_chronicle.specs.OwnAddress.{is_own}
@@ -41,18 +42,18 @@ pub record AreRouters (c : Chronicle) (now : ℕ) (routers : List DefaultRouter)
   pub routers_are : routers ≡ map (λ (e : Lasting ℕ). candidate c failed e.key) entries
 
 -- it is the next hop of a host's packet to the destination at the moment
-pub record IsNextHop (c : Chronicle) (now : ℕ) (destination : Addr) (next : NextHop) : Type 0 where
+pub record IsNextHop (start : Start) (c : Chronicle) (now : ℕ) (destination : Addr) (next : NextHop) : Type 0 where
   pub prefixes : List (Lasting PrefixValue)
   pub standing : Lists same_prefix (prefix_history c) now prefixes
   pub routers : List DefaultRouter
   pub those : AreRouters c now routers
-  pub next_is : next ≡ hop (is_own c) (λ (a : List ℕ). is_held a prefixes) routers (kept (number_of destination.0) (redirect_history c)) destination.0
+  pub next_is : next ≡ hop (is_own c) (λ (a : List ℕ). is_held a prefixes) routers (kept start.limits.redirects (number_of destination.0) (redirect_history c)) destination.0
 
 -- that of a router's packet, by its static routes
 abbrev pub routed_hop : Chronicle → Addr → NextHop
 routed_hop c destination = routes.hop (is_own c) (routes (route_history c)) destination.0
 
 -- that of a packet of a node
-abbrev pub IsHopOf : Role → Chronicle → ℕ → Addr → NextHop → Type 0
-IsHopOf Host c now destination next = IsNextHop c now destination next
-IsHopOf Router c now destination next = next ≡ routed_hop c destination
+abbrev pub IsHopOf : Start → Role → Chronicle → ℕ → Addr → NextHop → Type 0
+IsHopOf start Host c now destination next = IsNextHop start c now destination next
+IsHopOf start Router c now destination next = next ≡ routed_hop c destination

@@ -49,13 +49,13 @@ HavePlace start c at key second place =
     (HasRoom start.limits.neighbours at key (Some second) (neighbour_history c) → ⊥)
 
 -- what becomes of the packet: one for a neighbour whose link-layer address is known is sent, and uses the neighbour; the first one for
--- another neighbour begins its resolution, and each waits, where a fourth one takes the place of the oldest
+-- another neighbour begins its resolution, and each waits, where one for which there is no room takes the place of the oldest
 abbrev pub then_packet : Start → ℕ → ℕ → ℕ → List ℕ → Sending → Chronicle → Chronicle
 then_packet start at key retrans packet (Sends mac sent) c =
     (at, Neighbour key (neighbours.Used retrans)) ∷ (at, Sent (addressed (mac_at mac) sent)) ∷ c
 then_packet start at key retrans packet (Queues true replaced) c =
     (at, Neighbour key (neighbours.Waits packet)) ∷ (at, Sent (resolution_frame start.mac (link_local start) (addr_at key)))
-    ∷ (at, Neighbour key (neighbours.Asked retrans)) ∷ c
+    ∷ (at, Neighbour key (neighbours.Asked retrans start.limits.waiting)) ∷ c
 then_packet start at key retrans packet (Queues false replaced) c =
     losing at Replaced (option_to_list replaced) ((at, Neighbour key (neighbours.Waits packet)) ∷ c)
 

@@ -156,7 +156,7 @@ AreRows start c now DnsTable rows =
     (servers : List (lifetimes.Seen Addr)) × lifetimes.Shows same_addr (server_history c) now servers
     × (names : List (lifetimes.Seen (List ℕ))) × lifetimes.Shows same_name (name_history c) now names
     × (rows ≡ map server_row servers ++ map search_row names)
-AreRows start c now RedirectTable rows = rows ≡ map redirect_row (redirects (redirect_history c))
+AreRows start c now RedirectTable rows = rows ≡ map redirect_row (redirects start.limits.redirects (redirect_history c))
 AreRows start c now ParameterTable rows = rows ≡ parameter_row c ∷ []
 AreRows start c now AdvertiseTable rows = rows ≡ advertise_rows start.role (advertising_history start c)
 AreRows start c now RouteTable rows = rows ≡ route_rows start.role (routes (route_history c))

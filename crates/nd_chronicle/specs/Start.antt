@@ -1,5 +1,5 @@
 -- How a node starts.
-use Rattle.std.specs.Prelude.{ℕ}
+use Rattle.std.specs.Prelude.{ℕ, Bool, false}
 use Rattle.rand_core.specs.Stream.{Stream}
 use Rattle.nd_addr.specs.declared.addr.Addr.{Addr}
 use Rattle.nd_addr.specs.declared.mac.Mac.{Mac}
@@ -7,13 +7,38 @@ use Rattle.nd_addr.specs.declared.role.Role.{Role}
 use Rattle.nd_addr.specs.Number.{addr_at}
 use Rattle.nd_slaac.specs.PrefixOption.{link_local_of}
 
--- how many neighbours and how many default routers a node may know (RFC 4861, sections 5.3 and 6.3.4, leave it open)
+-- how many rows each table of a node may have (RFC 4861, sections 5.1, 5.3, 6.2.1 and 6.3.4, and RFC 8106, section 5.3.1, leave it open): neighbours, default
+-- routers, prefixes on the link, addresses with the link-local one, servers, search names, destinations whose redirects are kept, destinations whose
+-- next hops are remembered, prefixes that a router offers, its routes; and how many packets wait for a neighbour (section 7.2.2)
 pub record Limits : Type 0 where
   pub neighbours : ℕ
   pub routers : ℕ
+  pub prefixes : ℕ
+  pub addresses : ℕ
+  pub servers : ℕ
+  pub names : ℕ
+  pub redirects : ℕ
+  pub destinations : ℕ
+  pub offers : ℕ
+  pub routes : ℕ
+  pub waiting : ℕ
+
+-- what a node does on a link that isn't trusted, each where it is asked for: an advertisement that doesn't fit is taken in parts (RFC 8106, section
+-- 5.3.1); what is known to live goes before what is only asked for (RFC 6583, section 7); timers outside their ranges are not taken; what claims to be
+-- of the node itself isn't heard; a router forwards only what is sent to its own link-layer address. None of them has an effect yet.
+pub record Policies : Type 0 where
+  pub parts : Bool
+  pub speakers : Bool
+  pub timers : Bool
+  pub self : Bool
+  pub unicast : Bool
+
+-- none is asked for
+abbrev pub no_policies : Policies
+no_policies = record { parts = false; speakers = false; timers = false; self = false; unicast = false }
 
 -- when it starts, in milliseconds, as a host or as a router, its link-layer address, how many solicitations it sends for each address (RFC
--- 4862, section 5.1, DupAddrDetectTransmits), the words of its generator, and its limits
+-- 4862, section 5.1, DupAddrDetectTransmits), the words of its generator, its limits, and its policies
 pub record Start : Type 0 where
   pub at : ℕ
   pub role : Role
@@ -21,6 +46,7 @@ pub record Start : Type 0 where
   pub transmits : ℕ
   pub stream : Stream
   pub limits : Limits
+  pub policies : Policies
 
 -- the link-local address of the node (RFC 4862, section 5.3), as a number and as an address
 abbrev pub link_local_key : Start → ℕ

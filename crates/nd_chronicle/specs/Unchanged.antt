@@ -32,5 +32,5 @@ pub record IsUnchanged (start : Start) (c d : Chronicle) : Type 0 where
   pub routes : route_history d ≡ route_history c
   pub words : stream_left start d ≡ stream_left start c
   pub due : (moment : ℕ) (what : Option What) → Due start d moment what ↔ Due start c moment what
-  pub hops : (now : ℕ) (destination : Addr) (next : NextHop) → IsHopOf start.role d now destination next ↔ IsHopOf start.role c now destination next
+  pub hops : (now : ℕ) (destination : Addr) (next : NextHop) → IsHopOf start start.role d now destination next ↔ IsHopOf start start.role c now destination next
   pub rows : (now : ℕ) (table : Table) (rows : List (List ℕ)) → AreRows start d now table rows ↔ AreRows start c now table rows

@@ -1,7 +1,7 @@
 -- How many servers and search names a host has room for (RFC 8106, section 5.3.1).
 use Rattle.std.specs.Prelude.{ℕ}
 
--- how many servers and how many search names may be known (our choice)
+-- the greatest limits on the servers and on the search names (our choice)
 abbrev pub max_servers : ℕ
 max_servers = 32
 

@@ -10,8 +10,10 @@ use Rattle.nd_table.specs.ListingKept.{announced_all, entered}
 use Rattle.nd_dns.specs.AnnouncedServers.{servers_told}
 use Rattle.nd_dns.specs.AnnouncedNames.{same_name, names_told}
 
--- the servers and the search names with their ends, each list in the order in which they came
+-- how many servers and how many search names there is room for, and these with their ends, each list in the order in which they came
 pub record Table : Type 0 where
+  pub server_limit : ℕ
+  pub name_limit : ℕ
   pub servers : List (Lasting Addr)
   pub names : List (Lasting (List ℕ))
 
@@ -23,6 +25,8 @@ pub record Stands (table : Table) (servers : List (Row Addr)) (names : List (Row
 -- what a message makes of the lists
 abbrev pub after : ℕ → List Said → Table → Table
 after now options table = record {
+  server_limit = table.server_limit;
+  name_limit = table.name_limit;
   servers = announced_all same_addr now (servers_told options) table.servers;
   names = announced_all same_name now (names_told options) table.names;
 }

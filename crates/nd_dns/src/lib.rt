@@ -9,7 +9,7 @@ mod new_names;
 mod router_advertisement;
 mod search_name;
 
-pub use dns::Dns;
+pub use dns::{Dns, MAX_NAMES, MAX_SERVERS};
 pub use nd_table::{Limit, TableRefusal, WithLifetime, WithLifetimes};
 pub use new_names::NewNames;
 pub use search_name::SearchName;

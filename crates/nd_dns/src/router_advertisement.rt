@@ -14,7 +14,7 @@ ghost use Rattle.nd_dns.specs.AnnouncedServers.{servers_told};
 
 use crate::announced_names::AnnouncedNames;
 use crate::announced_servers::AnnouncedServers;
-use crate::dns::{Dns, MAX_NAMES, MAX_SERVERS};
+use crate::dns::Dns;
 use crate::new_names::{NewNames, announce_names, copies};
 use nd_addr::Addr;
 use nd_decode::{Options, SERVER_BYTES};
@@ -22,29 +22,28 @@ use nd_table::{Lasting, Limit, TableRefusal, announce_all, fits_all, only_refres
 use std::alloc::{AllocError, Allocator};
 
 impl<A: Allocator> Dns<A> {
-    ghost use Rattle.nd_dns.specs.Dns.{max_names};
     ghost use Rattle.nd_dns.specs.DnsKept.{Stands, after, new_names};
     ghost use Rattle.nd_dns.specs.AnnouncedNames.{same_name, names_told};
 
     /// Returns true if there is room for the servers that the options of a Router Advertisement announce at `now`, in milliseconds, taken in order.
     /// It takes no memory.
     pub fn fits_servers(&self, now: u64, options: Options<'_>) -> bool
-        ensures value { result ≡ fits same_addr max_servers now (servers_told (options_left options.entry)) self.now.servers }
+        ensures value { result ≡ fits same_addr self.now.server_limit now (servers_told (options_left options.entry)) self.now.servers }
         ensures by_history { (history : List (Row Addr)) (names : List (Row (List ℕ))) (es : List (Lasting Addr)) → Stands self.now history names → last_moment history ≤ now → Lists same_addr history now es
-            → result ≡ fits same_addr max_servers now (servers_told (options_left options.entry)) es }
+            → result ≡ fits same_addr self.now.server_limit now (servers_told (options_left options.entry)) es }
     {
-        servers_fit(&self.servers, now, options)
+        servers_fit(&self.servers, self.server_limit, now, options)
     }
 
     /// Returns true if there is room for the search names that they announce, taken in order. It takes no memory.
     pub fn fits_names(&self, now: u64, options: Options<'_>) -> bool
-        ensures value { result ≡ fits same_name max_names now (names_told (options_left options.entry)) self.now.names }
+        ensures value { result ≡ fits same_name self.now.name_limit now (names_told (options_left options.entry)) self.now.names }
         ensures by_history { (servers : List (Row Addr)) (history : List (Row (List ℕ))) (es : List (Lasting (List ℕ))) → Stands self.now servers history → last_moment history ≤ now → Lists same_name history now es
-            → result ≡ fits same_name max_names now (names_told (options_left options.entry)) es }
+            → result ≡ fits same_name self.now.name_limit now (names_told (options_left options.entry)) es }
         ensures quiet { new_names now (options_left options.entry) self.now ≡ [] → result ≡ true }
     {
         let told = AnnouncedNames::new(options);
-        fits_all(&self.names, MAX_NAMES, now, told)
+        fits_all(&self.names, self.name_limit, now, told)
     }
 
     /// Takes the servers and search names of a Router Advertisement at `now`, in milliseconds, in order, with copies of the names that it adds (RFC
@@ -64,8 +63,8 @@ impl<A: Allocator> Dns<A> {
         ensures value { OnOk result (self.new ≡ after now (options_left options.entry) self.old) }
 
         // It is refused exactly if the servers or the names, taken in order, are too many at some point.
-        ensures full { IsErr result ↔ ((fits same_addr max_servers now (servers_told (options_left options.entry)) self.old.servers && fits same_name max_names now (names_told (options_left options.entry)) self.old.names) ≡ false) }
-        ensures refusal { IfErr result (λ refusal. refusal ≡ TableRefusal.Full (if fits same_addr max_servers now (servers_told (options_left options.entry)) self.old.servers then Limit.Names else Limit.Servers)) }
+        ensures full { IsErr result ↔ ((fits same_addr self.old.server_limit now (servers_told (options_left options.entry)) self.old.servers && fits same_name self.old.name_limit now (names_told (options_left options.entry)) self.old.names) ≡ false) }
+        ensures refusal { IfErr result (λ refusal. refusal ≡ TableRefusal.Full (if fits same_addr self.old.server_limit now (servers_told (options_left options.entry)) self.old.servers then Limit.Names else Limit.Servers)) }
         ensures same { OnErr result (self.new ≡ self.old) }
     {
         if !self.fits_servers(now, options) {
@@ -81,8 +80,8 @@ impl<A: Allocator> Dns<A> {
     /// Does what `heard_ra` does, for servers and names that fit. It takes no memory.
     pub fn take_ra(&mut self, now: u64, options: Options<'_>, names: NewNames<A>)
         requires moment { IsMoment now }
-        requires fits_servers { fits same_addr max_servers now (servers_told (options_left options)) self.old.servers ≡ true }
-        requires fits_names { fits same_name max_names now (names_told (options_left options)) self.old.names ≡ true }
+        requires fits_servers { fits same_addr self.old.server_limit now (servers_told (options_left options)) self.old.servers ≡ true }
+        requires fits_names { fits same_name self.old.name_limit now (names_told (options_left options)) self.old.names ≡ true }
         requires names { names ≡ new_names now (options_left options) self.old }
 
         ensures stands { (servers : List (Row Addr)) (names : List (Row (List ℕ))) → last_moment servers ≤ now → last_moment names ≤ now → Stands self.old servers names
@@ -90,23 +89,24 @@ impl<A: Allocator> Dns<A> {
         ensures value { self.new ≡ after now (options_left options.entry) self.old }
     {
         let told_servers = AnnouncedServers::new(options);
-        announce_all(&mut self.servers, MAX_SERVERS, now, told_servers);
+        announce_all(&mut self.servers, self.server_limit, now, told_servers);
         let told_names = AnnouncedNames::new(options);
-        announce_names(&mut self.names, MAX_NAMES, now, told_names, names);
+        announce_names(&mut self.names, self.name_limit, now, told_names, names);
     }
 }
 
 /// Returns true if there is room for the servers that the options announce, taken in order.
-fn servers_fit(entries: &[Lasting<Addr>], now: u64, options: Options<'_>) -> bool
+fn servers_fit(entries: &[Lasting<Addr>], limit: usize, now: u64, options: Options<'_>) -> bool
     requires distinct { Distinct same_addr entries.now }
-    requires few { length entries.now ≤ max_servers }
-    ensures { result ≡ fits same_addr max_servers now (servers_told (options_left options.entry)) entries.now }
+    requires few { length entries.now ≤ limit }
+    requires limit { limit ≤ max_servers }
+    ensures { result ≡ fits same_addr limit now (servers_told (options_left options.entry)) entries.now }
 {
     // Mostly there is room for as many as the bytes of the options could be.
-    if entries.len() + options.byte_len() / SERVER_BYTES <= MAX_SERVERS {
+    if entries.len() + options.byte_len() / SERVER_BYTES <= limit {
         return true;
     }
-    fits_all(entries, MAX_SERVERS, now, AnnouncedServers::new(options))
+    fits_all(entries, limit, now, AnnouncedServers::new(options))
 }
 
 impl<A: Allocator + Clone> Dns<A> {
@@ -120,7 +120,7 @@ impl<A: Allocator + Clone> Dns<A> {
         ensures value { IfOk result (λ names. names ≡ new_names now (options_left options.entry) self.now) }
 
         // There is no room exactly if the names, taken in order, are too many at some point.
-        ensures full { IsErrAnd result (λ refusal. refusal ≡ TableRefusal.Full Limit.Names) ↔ (fits same_name max_names now (names_told (options_left options.entry)) self.now.names ≡ false) }
+        ensures full { IsErrAnd result (λ refusal. refusal ≡ TableRefusal.Full Limit.Names) ↔ (fits same_name self.now.name_limit now (names_told (options_left options.entry)) self.now.names ≡ false) }
         ensures refusal { IfErr result (λ refusal. (refusal ≡ TableRefusal.Full Limit.Names) ⊎ (refusal ≡ TableRefusal.Memory)) }
 
         // If no name is added it succeeds, even if no memory is left.
@@ -151,7 +151,7 @@ impl<A: Allocator + Clone> Dns<A> {
 
         // Then none is added, and there is room for them.
         ensures none { result ≡ true → new_names now (options_left options.entry) self.now ≡ [] }
-        ensures fits { result ≡ true → fits same_name max_names now (names_told (options_left options.entry)) self.now.names ≡ true }
+        ensures fits { result ≡ true → fits same_name self.now.name_limit now (names_told (options_left options.entry)) self.now.names ≡ true }
     {
         only_refreshes(&self.names, now, AnnouncedNames::new(options))
     }

@@ -16,7 +16,6 @@ use Rattle.nd_decode.specs.Option.{Said}
 use Rattle.nd_decode.specs.declared.body.Body.{Body}
 use Rattle.nd_decode.specs.declared.body.Body.TheVariants as bodies
 use Rattle.nd_decode.specs.declared.router_advertisement.RouterAdvertisement.{RouterAdvertisement}
-use Rattle.nd_dns.specs.Dns.{max_servers, max_names}
 use Rattle.nd_dns.specs.AnnouncedNames.{same_name, names_told}
 use Rattle.nd_dns.specs.AnnouncedServers.{servers_told}
 use Rattle.nd_compose.specs.Frames.{answer_frame, multicast_mac, open_mac}
@@ -32,7 +31,7 @@ use Rattle.nd_neighbour.proofs.Forgetting as forgetting_proofs
 use Rattle.nd_nexthop.specs.NextHop.{NextHop, direct, via, no_route}
 use Rattle.nd_routers.specs.History.{announcements, preference_of}
 use Rattle.nd_routers.specs.Shown as shown_routers
-use Rattle.nd_routers.specs.OnLinkPrefixes.{max_prefixes, prefixes_in}
+use Rattle.nd_routers.specs.OnLinkPrefixes.{prefixes_in}
 use Rattle.nd_routers.specs.Routers.{same}
 use Rattle.nd_forwarding.specs.Forward.{Fate, lost_no_route, lost_hop_limit, sent, fate}
 use Rattle.nd_forwarding.specs.Redirect.{last_redirect, redirect}
@@ -176,13 +175,13 @@ module _ (start : Start) (c : Chronicle) (now : ℕ) where
           let servers = listed same_addr addrs_tell (server_history c) now in
           let names = listed same_name bytes_tell (name_history c) now in
           let known = addresses_of (address_history c) in
-          let forms = fits_in start.mac (map key_of known) (own_prefixes.prefixes_in options) in
+          let forms = fits_in start.limits.addresses start.mac (map key_of known) (own_prefixes.prefixes_in options) in
           let full = first_full place
           (fits same start.limits.routers now ((number_of source.0, ra.router_lifetime) ∷ []) routers.0)
-          (fits same_prefix max_prefixes now (prefixes_in options) prefixes.0)
+          (fits same_prefix start.limits.prefixes now (prefixes_in options) prefixes.0)
           forms
-          (fits same_addr max_servers now (servers_told options) servers.0)
-          (fits same_name max_names now (names_told options) names.0) in
+          (fits same_addr start.limits.servers now (servers_told options) servers.0)
+          (fits same_name start.limits.names now (names_told options) names.0) in
           let all : AdvertisementFills start c now source ra advertisement full = record {
             neighbours = place;
             placed = p;
@@ -287,10 +286,10 @@ module _ (start : Start) (c : Chronicle) (now : ℕ) where
 
     send_adds : (d : Chronicle) × SendAdds start now source destination next_header payload c d
     send_adds =
-        let next = hop_of start.role c now destination in
+        let next = hop_of start start.role c now destination in
         let d = packet_adds next.0 in
         unless_refused (refusal_of_packet start now source payload c)
-        (λ e. (next : NextHop) × IsHopOf start.role c now destination next × PacketAdds start now next source destination next_header payload c e)
+        (λ e. (next : NextHop) × IsHopOf start start.role c now destination next × PacketAdds start now next source destination next_header payload c e)
         (d.0, (next.0, next.1, d.1))
 
   -- ---- commands
@@ -352,6 +351,6 @@ module _ (start : Start) (c : Chronicle) (now : ℕ) where
       at_router start.role (λ e. UnlessFull now (full_of_offers start info.prefix c) (λ x. x ≡ (now, Offered info) ∷ c) c e)
       (unless_full now (full_of_offers start info.prefix c) (λ x. x ≡ (now, Offered info) ∷ c) c (λ none. ((now, Offered info) ∷ c, refl)))
   event_adds (events.Routes prefix route) =
-      at_router start.role (λ e. UnlessFull now (full_of_routes prefix c) (λ x. x ≡ (now, RoutePut prefix route) ∷ c) c e)
-      (unless_full now (full_of_routes prefix c) (λ x. x ≡ (now, RoutePut prefix route) ∷ c) c (λ none. ((now, RoutePut prefix route) ∷ c, refl)))
+      at_router start.role (λ e. UnlessFull now (full_of_routes start prefix c) (λ x. x ≡ (now, RoutePut prefix route) ∷ c) c e)
+      (unless_full now (full_of_routes start prefix c) (λ x. x ≡ (now, RoutePut prefix route) ∷ c) c (λ none. ((now, RoutePut prefix route) ∷ c, refl)))
   event_adds events.Stops = at_router start.role (λ e. e ≡ ceasing start now c) (ceasing start now c, refl)

@@ -37,13 +37,13 @@ use Rattle.nd_existence.proofs.Failed.{failed_in, failures}
 
 -- ---- next hops
 
-pub next_hop : (c : Chronicle) (now : ℕ) (destination : Addr) → (next : NextHop) × IsNextHop c now destination next
-next_hop c now destination =
+pub next_hop : (start : Start) (c : Chronicle) (now : ℕ) (destination : Addr) → (next : NextHop) × IsNextHop start c now destination next
+next_hop start c now destination =
     let routers = listed same eqb_tells (announcements (router_history c)) now in
     let prefixes = listed same_prefix prefixes_tell (prefix_history c) now in
     let failed = failed_in (router_history c) in
     let all = map (λ (e : Lasting ℕ). candidate c failed e.key) routers.0 in (
-      hop (is_own c) (λ (a : List ℕ). is_held a prefixes.0) all (kept (number_of destination.0) (redirect_history c)) destination.0,
+      hop (is_own c) (λ (a : List ℕ). is_held a prefixes.0) all (kept start.limits.redirects (number_of destination.0) (redirect_history c)) destination.0,
       record {
         prefixes = prefixes.0;
         standing = prefixes.1;
@@ -53,9 +53,9 @@ next_hop c now destination =
       },
     )
 
-pub hop_of : (role : Role) (c : Chronicle) (now : ℕ) (destination : Addr) → (next : NextHop) × IsHopOf role c now destination next
-hop_of Host c now destination = next_hop c now destination
-hop_of Router c now destination = (routed_hop c destination, refl)
+pub hop_of : (start : Start) (role : Role) (c : Chronicle) (now : ℕ) (destination : Addr) → (next : NextHop) × IsHopOf start role c now destination next
+hop_of start Host c now destination = next_hop start c now destination
+hop_of start Router c now destination = (routed_hop c destination, refl)
 
 -- ---- decisions
 
@@ -140,11 +140,11 @@ module _ (start : Start) (c : Chronicle) where
 -- ---- what is heard
 
 module _ (start : Start) (c : Chronicle) (now : ℕ) where
-  first_hop_or : (source : Addr) (body : Body) → FromFirstHop c now source body ⊎ NotFromFirstHop c now source body
+  first_hop_or : (source : Addr) (body : Body) → FromFirstHop start c now source body ⊎ NotFromFirstHop start c now source body
   first_hop_or source (bodies.Redirect r) =
-      let next = next_hop c now r.destination in
+      let next = next_hop start c now r.destination in
       elim (via_or_not next.0 (number_of source.0)) [
-        | inl e ↦ inl (subst (λ (n : NextHop). IsNextHop c now r.destination n) e next.1)
+        | inl e ↦ inl (subst (λ (n : NextHop). IsNextHop start c now r.destination n) e next.1)
         | inr differs ↦ inr (next.0, next.1, differs)
       ]
   first_hop_or source bodies.Rs = inl tt

@@ -3,7 +3,7 @@ use Rattle.std.proofs.Common.{◌≡◌, ℕ, zero, suc, ◌<◌, Bool, true, fa
 use Rattle.std.specs.Prelude.{◌==◌, nat_lt, MatchBool}
 use Rattle.std.proofs.lemmas.Bool.{cond_both}
 use Rattle.std.proofs.lemmas.Bool.Decides.{nat_tests, eqb_tells}
-use Rattle.nd_chronicle.specs.Start.{Limits, Start}
+use Rattle.nd_chronicle.specs.Start.{Limits, Start, no_policies}
 use Rattle.nd_chronicle.specs.Happening.{Chronicle, Passed, Sent}
 use Rattle.nd_chronicle.specs.History.{beginning}
 use Rattle.nd_chronicle.specs.Event as chronicle
@@ -121,7 +121,7 @@ module _ (limits : Limits) (now : ℕ) where
   pub event_happens : (event : Event) (log : Log) → LeavesTime event → IsFine log → Adds' (EventHappens limits now event log)
   event_happens Passes log fits fine = (log, refl, fine)
   event_happens (Starts role mac transmits stream) log fits fine =
-      started (nat_lt (nodes log) max_nodes) (record { at = now; role = role; mac = mac; transmits = transmits; stream = stream; limits = limits }) log fine
+      started (nat_lt (nodes log) max_nodes) (record { at = now; role = role; mac = mac; transmits = transmits; stream = stream; limits = limits; policies = no_policies }) log fine
   event_happens (Comes i event) log fits fine =
       if_there (nat_lt i (nodes log)) i log (AddsRows limits now i event log) refl fine (λ lt. rows_added i event log fine lt fits)
   event_happens (Delivers i number) log fits fine =

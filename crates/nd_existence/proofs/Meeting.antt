@@ -20,7 +20,7 @@ use Rattle.nd_compose.proofs.Meant.{detection_sent}
 use Rattle.nd_slaac.specs.State.{step_at}
 use Rattle.nd_slaac.specs.History.{Conflict}
 use Rattle.nd_slaac.specs.State as states
-use Rattle.nd_chronicle.specs.Start.{Limits, Start}
+use Rattle.nd_chronicle.specs.Start.{Limits, Start, no_policies}
 use Rattle.nd_chronicle.specs.Happening.{Address, Chronicle, Heard, Passed, Sent}
 use Rattle.nd_chronicle.specs.History.{beginning, first_delay}
 use Rattle.nd_chronicle.specs.OwnAddress.{is_assigned, story_of}
@@ -51,7 +51,7 @@ module _ (limits : Limits) (mac : Mac) (m : AreBytes 6 mac.0) (transmits : ℕ) 
   -- ---- the first router starts
 
   abbrev pub first : Start
-  first = record { at = 0; role = Router; mac = mac; transmits = transmits; stream = words; limits = limits }
+  first = record { at = 0; role = Router; mac = mac; transmits = transmits; stream = words; limits = limits; policies = no_policies }
 
   abbrev pub key : ℕ
   key = own first
@@ -61,7 +61,7 @@ module _ (limits : Limits) (mac : Mac) (m : AreBytes 6 mac.0) (transmits : ℕ) 
   got = step_at (forming first) transmits
 
   abbrev pub second : Start
-  second = record { at = got; role = Router; mac = mac; transmits = transmits; stream = others; limits = limits }
+  second = record { at = got; role = Router; mac = mac; transmits = transmits; stream = others; limits = limits; policies = no_policies }
 
   -- when the second one tries it
   abbrev pub late : ℕ

@@ -1,8 +1,8 @@
 -- Each neighbour has place or hasn't, and a packet to one that has place goes.
 use Rattle.std.proofs.Common.{◌≡◌, ℕ, Bool, true, false, ltb, List, [], ◌∷◌, length, Option, Some, None, refl, sym, ◌∙◌, ap, subst, arith, ◌⊎◌, inl, inr}
-use Rattle.std.specs.Prelude.{MatchBool, ◌&&◌, ◌||◌, not, is_some, nat_lt, ◌++◌, if◌then◌else◌, slice_get}
+use Rattle.std.specs.Prelude.{MatchBool, ◌&&◌, ◌||◌, not, is_some}
 use Rattle.std.specs.Option.{option_to_list}
-use Rattle.nd_packet.specs.Waiting.{max_waiting}
+use Rattle.nd_packet.specs.Waiting.{replaced}
 use Rattle.std.proofs.lemmas.Bool.Decides.{nat_tests}
 use Rattle.std.proofs.lemmas.Bool.{cond-false, true≢false, cases_Bool}
 use Rattle.nd_neighbour.specs.History as neighbours
@@ -13,7 +13,7 @@ use Rattle.nd_neighbour.specs.Room.{HasRoom}
 use Rattle.nd_neighbour.specs.RoomKept.{has_room}
 use Rattle.nd_neighbour.specs.Sending as sendings
 use Rattle.nd_neighbour.specs.Sending.{sending_by, sending_of_story}
-use Rattle.nd_neighbour.specs.AddressResolution.{waiting_of}
+use Rattle.nd_neighbour.specs.AddressResolution.{resolution_of, room_in, waiting_of}
 use Rattle.nd_neighbour.specs.Story.{is_present, mac_of}
 use Rattle.nd_neighbour.specs.StoryKept.{the_entry}
 use Rattle.nd_neighbour.specs.TableKept.{entry_in}
@@ -128,13 +128,14 @@ module _ (start : Start) (c : Chronicle) (now key : ℕ) where
 -- ---- the rows of a packet
 
 module _ (start : Start) (at key retrans : ℕ) (packet : List ℕ) (placed : Chronicle) where
-  packet_rows_by : (present : Bool) (mac : Option ℕ) (waiting : List (List ℕ))
-      → sendings.then_packet present mac at key retrans packet (neighbour_history placed) ≡ neighbour_history (then_packet start at key retrans packet (sending_by present mac waiting packet) placed)
-  packet_rows_by false mac waiting = refl
-  packet_rows_by true (Some mac) waiting = refl
-  packet_rows_by true None waiting =
+  packet_rows_by : (present : Bool) (mac : Option ℕ) (room : ℕ) (waiting : List (List ℕ))
+      → sendings.then_packet present mac at key retrans start.limits.waiting packet (neighbour_history placed)
+      ≡ neighbour_history (then_packet start at key retrans packet (sending_by present mac room waiting packet) placed)
+  packet_rows_by false mac room waiting = refl
+  packet_rows_by true (Some mac) room waiting = refl
+  packet_rows_by true None room waiting =
       losing_keeps at (λ d. (at, key, neighbours.Waits packet) ∷ neighbour_history placed ≡ neighbour_history d) (λ why lost d e. e) Replaced
-      (option_to_list (if nat_lt (length waiting) max_waiting then None else slice_get (waiting ++ packet ∷ []) 0)) ((at, Neighbour key (neighbours.Waits packet)) ∷ placed) refl
+      (option_to_list (replaced room waiting packet)) ((at, Neighbour key (neighbours.Waits packet)) ∷ placed) refl
 
 pushed_rows : (at : ℕ) (pushed : Option ℕ) (c : Chronicle) → neighbour_history (with_pushed at pushed c) ≡ pushing at pushed (neighbour_history c)
 pushed_rows at None c = refl
@@ -147,9 +148,9 @@ second_placed start c now key next packet d room g full =
     let h = neighbour_history c in
     let s = story key h in
     let made = pushing now g.place.pushed h in
-    let rows : neighbour_history d ≡ sendings.then_packet (is_present s) (mac_of s) now key (retrans_timer c) packet made =
+    let rows : neighbour_history d ≡ sendings.then_packet (is_present s) (mac_of s) now key (retrans_timer c) start.limits.waiting packet made =
     ap neighbour_history g.goes
-    ∙ (sym (packet_rows_by start now key (retrans_timer c) packet g.placed (is_present s) (mac_of s) (waiting_of s))
-    ∙ ap (λ (rest : List Row). sendings.then_packet (is_present s) (mac_of s) now key (retrans_timer c) packet rest)
+    ∙ (sym (packet_rows_by start now key (retrans_timer c) packet g.placed (is_present s) (mac_of s) (room_in (resolution_of s)) (waiting_of s))
+    ∙ ap (λ (rest : List Row). sendings.then_packet (is_present s) (mac_of s) now key (retrans_timer c) start.limits.waiting packet rest)
     (ap neighbour_history g.place.with_it ∙ pushed_rows now g.place.pushed c)) in
-    room.both (retrans_timer c) packet made g.place.place (subst (λ (rest : List Row). WouldBeFull start.limits.neighbours now next rest) rows full)
+    room.both (retrans_timer c) start.limits.waiting packet made g.place.place (subst (λ (rest : List Row). WouldBeFull start.limits.neighbours now next rest) rows full)

@@ -7,7 +7,7 @@ use Rattle.nd_addr.specs.Same.{same_prefix}
 use Rattle.nd_forwarding.specs.declared.route.Route.{Route}
 use Rattle.nd_forwarding.specs.History.{Row, RoutePut, RedirectMade}
 
--- how many routes there may be (our choice)
+-- the greatest limit on the routes (our choice)
 abbrev pub max_routes : ℕ
 max_routes = 64
 
@@ -37,9 +37,9 @@ routes history = with_routes (prefixes history) history
 abbrev pub has_route : PrefixValue → List (PrefixValue × Route) → Bool
 has_route p es = is_some (lookup (same_prefix p) es)
 
--- one more route can be put: it replaces one, or there are fewer than 64
-abbrev pub fits : PrefixValue → List (PrefixValue × Route) → Bool
-fits p es = has_route p es || nat_lt (length es) max_routes
+-- one more route can be put: it replaces one, or there are fewer than the limit
+abbrev pub fits : ℕ → PrefixValue → List (PrefixValue × Route) → Bool
+fits limit p es = has_route p es || nat_lt (length es) limit
 
 -- of a route and another one, if there is one, that with the longer prefix
 abbrev pub longer : PrefixValue × Route → Option (PrefixValue × Route) → PrefixValue × Route

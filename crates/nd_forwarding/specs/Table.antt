@@ -7,8 +7,9 @@ use Rattle.nd_forwarding.specs.History.{Row}
 use Rattle.nd_forwarding.specs.Redirect.{last_redirect}
 use Rattle.nd_forwarding.specs.Routes.{routes}
 
--- the routes, and when the last Redirect was made
+-- how many routes there is room for, the routes, and when the last Redirect was made
 pub record Table : Type 0 where
+  pub limit : ℕ
   pub entries : List (PrefixValue × Route)
   pub redirected : Option ℕ
 

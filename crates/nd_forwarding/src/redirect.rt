@@ -34,6 +34,7 @@ impl<A: Allocator> Routes<A> {
     /// Notes at `now`, in milliseconds, that a Redirect was made, which is sent now or waits for a neighbour's link-layer address.
     pub fn redirected(&mut self, now: u64)
         ensures stands { GainsRow self.old self.new (RedirectMade now) }
+        ensures limit { self.new.limit ≡ self.old.limit }
     {
         self.redirected = Some(now);
     }

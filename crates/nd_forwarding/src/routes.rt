@@ -18,8 +18,8 @@ use std::alloc::{AllocError, Allocator};
 use std::hash::{BuildHasherDefault, FoldHasher};
 use std::marker::Model;
 
-/// The most static routes (our choice).
-const MAX_ROUTES: usize = 64;
+/// The greatest limit on static routes (our choice).
+pub const MAX_ROUTES: usize = 64;
 
 /// The table of static routes is full.
 #[derive(Clone, Copy, Debug, PartialEq, Eq)]
@@ -31,6 +31,7 @@ type Entries<A> = IndexMap<Prefix, Route, BuildHasherDefault<FoldHasher>, A>;
 /// The static routes of a router, and when it last made a Redirect. Moments are in milliseconds.
 #[derive(Drop)]
 pub struct Routes<A: Allocator> {
+    limit: usize,
     routes: Entries<A>,
     pub(crate) redirected: Option<u64>,
 }
@@ -45,45 +46,49 @@ impl<A: Allocator> Model for Routes<A> {
 
     ghost Value = { Table };
 
-    ghost view = { λ r. record { entries = r.routes.entries; redirected = r.redirected } };
+    ghost view = { λ r. record { limit = r.limit; entries = r.routes.entries; redirected = r.redirected } };
 
-    ghost invariant = { λ r. (length r.routes.entries ≤ max_routes) × (max_routes ≤ length r.routes.entries + spare r.routes) };
+    ghost invariant = { λ r. (length r.routes.entries ≤ r.limit) × (r.limit ≤ length r.routes.entries + spare r.routes) × (r.limit ≤ max_routes) };
 }
 
 impl<A: Allocator + Copy> Routes<A> {
-    /// Returns an empty table with room for 64 routes. Returns an error if out of memory.
-    pub fn new(alloc: A) -> Result<Self, AllocError>
-        ensures empty { IfOk result (λ r. r ≡ record { entries = []; redirected = None }) }
+    /// Returns an empty table with room for `limit` routes, 1 to 64. Returns an error if out of memory.
+    pub fn new(alloc: A, limit: usize) -> Result<Self, AllocError>
+        requires least { 1 ≤ limit }
+        requires most { limit ≤ max_routes }
+        ensures empty { IfOk result (λ r. r ≡ record { limit = limit; entries = []; redirected = None }) }
         ensures stands { IfOk result (λ r. Stands r []) }
     {
         Ok(Routes {
-            routes: IndexMap::with_capacity(alloc, MAX_ROUTES)?,
+            limit,
+            routes: IndexMap::with_capacity(alloc, limit)?,
             redirected: None,
         })
     }
 }
 
 impl<A: Allocator> Routes<A> {
-    /// Returns the number of routes, at most 64.
+    /// Returns the number of routes, at most the limit.
     pub fn len(&self) -> usize
         ensures value { result ≡ length self.now.entries }
-        ensures few { result ≤ max_routes }
+        ensures few { result ≤ self.now.limit }
     {
         self.routes.len()
     }
 
-    /// Puts a route: at the end if its prefix has none, and otherwise in place of the existing one. Returns `Full` if a new prefix would be the
-    /// 65th; nothing has changed then. It takes no memory.
+    /// Puts a route: at the end if its prefix has none, and otherwise in place of the existing one. Returns `Full` if a new prefix would be one
+    /// more than the limit; nothing has changed then. It takes no memory.
     pub fn put(&mut self, prefix: Prefix, route: Route) -> Result<(), Full>
-        ensures full { is_ok result ≡ fits prefix self.old.entries }
-        ensures by_history { (history : List Row) → Stands self.old history → is_ok result ≡ fits prefix (routes history) }
+        ensures full { is_ok result ≡ fits self.old.limit prefix self.old.entries }
+        ensures by_history { (history : List Row) → Stands self.old history → is_ok result ≡ fits self.old.limit prefix (routes history) }
         ensures stands { OnOk result (GainsRow self.old self.new (RoutePut prefix route)) }
+        ensures limit { self.new.limit ≡ self.old.limit }
         ensures same { OnErr result (self.new ≡ self.old) }
     {
         if replace(&mut self.routes, prefix, route) {
             return Ok(());
         }
-        if self.routes.len() >= MAX_ROUTES {
+        if self.routes.len() >= self.limit {
             return Err(Full);
         }
         match self.routes.insert(prefix, route) {
@@ -95,7 +100,7 @@ impl<A: Allocator> Routes<A> {
     /// Returns the routes, in the order in which their prefixes were first put.
     pub fn rows(&self) -> KeptRoutes<'_>
         ensures value { routes_left result ≡ self.now.entries }
-        ensures few { length (routes_left result) ≤ max_routes }
+        ensures few { length (routes_left result) ≤ self.now.limit }
         ensures by_history { (history : List Row) → Stands self.now history → routes_left result ≡ routes history }
     {
         KeptRoutes::new(self.routes.iter())

@@ -2,7 +2,7 @@
 use Rattle.std.proofs.Common.{◌≡◌, ℕ, zero, suc, ◌<◌, ◌≤◌, Bool, true, false, List, [], ◌∷◌, refl, sym, ◌∙◌, ap, subst, arith}
 use Rattle.std.specs.Prelude.{◌==◌, nat_lt, MatchBool}
 use Rattle.std.proofs.lemmas.Bool.{ltb-true}
-use Rattle.nd_chronicle.specs.Start.{Limits, Start}
+use Rattle.nd_chronicle.specs.Start.{Limits, Start, no_policies}
 use Rattle.nd_chronicle.specs.History.{beginning}
 use Rattle.nd_chronicle.specs.Event as chronicle
 use Rattle.nd_link_log.specs.Log.{Log, Refusal, NoNode, NoFrame, Own, Full, TooLate, Begins, Carries, Reaches, Refuses, adding, last_moment, nodes, sent}
@@ -54,7 +54,7 @@ module _ (limits : Limits) (now : ℕ) (log d : Log) (few : Few log) where
   few_happens : (event : Event) → EventHappens limits now event log d → Few d
   few_happens Passes h = few_same (ap nodes h)
   few_happens (Starts role mac transmits stream) h =
-      few_started (nat_lt (nodes log) max_nodes) (record { at = now; role = role; mac = mac; transmits = transmits; stream = stream; limits = limits }) refl h
+      few_started (nat_lt (nodes log) max_nodes) (record { at = now; role = role; mac = mac; transmits = transmits; stream = stream; limits = limits; policies = no_policies }) refl h
   few_happens (Comes node event) h = few_there (nat_lt node (nodes log)) _ (few_rows node event log refl) h
   few_happens (Delivers node number) h = few_there (nat_lt node (nodes log)) _ (few_delivers (nat_lt number (sent log)) node number) h
 

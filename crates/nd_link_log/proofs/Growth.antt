@@ -4,7 +4,7 @@ use Rattle.std.specs.Prelude.{◌==◌, nat_lt, MatchBool}
 use Rattle.nd_table.specs.History.{Past}
 use Rattle.nd_table.proofs.Pasts.{past_self, past_then}
 use Rattle.nd_table.proofs.Tests.{by_either}
-use Rattle.nd_chronicle.specs.Start.{Limits, Start}
+use Rattle.nd_chronicle.specs.Start.{Limits, Start, no_policies}
 use Rattle.nd_chronicle.specs.History.{beginning}
 use Rattle.nd_chronicle.specs.Event as chronicle
 use Rattle.nd_link_log.specs.Log.{Entry, Log, Refusal, NoNode, NoFrame, Own, Full, TooLate, Begins, Carries, Reaches, Refuses, adding, last_moment, nodes, sent}
@@ -35,7 +35,7 @@ module _ (limits : Limits) (now : ℕ) (log d : Log) where
   happens_past Passes h = subst (Past log) (sym h) (past_self log)
   happens_past (Starts role mac transmits stream) h = by_either (nat_lt (nodes log) max_nodes)
       (λ same.
-      let start : Start = record { at = now; role = role; mac = mac; transmits = transmits; stream = stream; limits = limits } in
+      let start : Start = record { at = now; role = role; mac = mac; transmits = transmits; stream = stream; limits = limits; policies = no_policies } in
       let begun : Log = Begins (nodes log) start ∷ log in
       subst (Past log) (sym same) (past_then log begun (adding (nodes log) (beginning start) begun) (inr (past_self log)) (past_with (nodes log) (beginning start) begun)))
       (refused Full) h

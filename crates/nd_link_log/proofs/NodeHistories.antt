@@ -4,7 +4,7 @@ use Rattle.std.specs.Prelude.{◌≢◌, ◌==◌, is_some, nat_lt, if◌then◌
 use Rattle.std.proofs.lemmas.Bool.{cases_lt, ltb-false, ltb-true, true≢false}
 use Rattle.std.proofs.lemmas.Bool.Decides.{Decides-eqb}
 use Rattle.nd_table.proofs.Tests.{by_false}
-use Rattle.nd_chronicle.specs.Start.{Limits, Start}
+use Rattle.nd_chronicle.specs.Start.{Limits, Start, no_policies}
 use Rattle.nd_chronicle.specs.Happening as chronicle
 use Rattle.nd_chronicle.specs.Happening.{Chronicle, Passed, Sent}
 use Rattle.nd_chronicle.specs.Event as nodes
@@ -116,7 +116,7 @@ module _ (limits : Limits) (i : ℕ) (now : ℕ) (reached e : Log) (start : Star
   to_node (Starts role mac transmits stream) h = by (nat_lt (nodes reached) max_nodes) h
     where
       begun : Start
-      begun = record { at = now; role = role; mac = mac; transmits = transmits; stream = stream; limits = limits }
+      begun = record { at = now; role = role; mac = mac; transmits = transmits; stream = stream; limits = limits; policies = no_policies }
 
       by : (t : Bool) → MatchBool t (e ≡ adding (nodes reached) (beginning begun) (Begins (nodes reached) begun ∷ reached)) (e ≡ Refuses now Full ∷ reached) → ToNode (Starts role mac transmits stream)
       by true h = elsewhere (Starts role mac transmits stream) tt

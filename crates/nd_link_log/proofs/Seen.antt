@@ -3,7 +3,7 @@ use Rattle.std.proofs.Common.{◌≡◌, ℕ, ◌<◌, List, ◌∷◌, ◌++◌
 use Rattle.std.specs.Prelude.{◌==◌, nat_lt}
 use Rattle.nd_addr.specs.Bytes.{AreBytes}
 use Rattle.nd_table.proofs.Tests.{by_either}
-use Rattle.nd_chronicle.specs.Start.{Limits, Start}
+use Rattle.nd_chronicle.specs.Start.{Limits, Start, no_policies}
 use Rattle.nd_chronicle.specs.Happening.{Chronicle}
 use Rattle.nd_chronicle.specs.History.{beginning}
 use Rattle.nd_chronicle.specs.Event as nodes
@@ -41,7 +41,7 @@ module _ (Bytes : Type 0) (limits : Limits) (now : ℕ) (before d : Log) where
   pub seen : (event : Event) → (Bytes → IsOfBytes event) → EventHappens limits now event before d → Seen Bytes now before d
   seen Passes bytes h = Nothing h
   seen (Starts role mac transmits stream) bytes h = by_either (nat_lt (nodes before) max_nodes)
-      (λ more. Started (record { at = now; role = role; mac = mac; transmits = transmits; stream = stream; limits = limits }) refl bytes more)
+      (λ more. Started (record { at = now; role = role; mac = mac; transmits = transmits; stream = stream; limits = limits; policies = no_policies }) refl bytes more)
       (λ full. Refused Full refl full) h
   seen (Comes node event) bytes h = by_either (nat_lt node (nodes before)) (came node event bytes) (λ none. Refused NoNode refl none) h
   seen (Delivers node number) bytes h = by_either (nat_lt node (nodes before))

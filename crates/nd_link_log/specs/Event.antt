@@ -3,7 +3,7 @@ use Rattle.std.specs.Prelude.{◌≡◌, ℕ, zero, suc, nat_lt, ◌==◌, Match
 use Rattle.rand_core.specs.Stream.{Stream}
 use Rattle.nd_addr.specs.declared.mac.Mac.{Mac}
 use Rattle.nd_addr.specs.declared.role.Role.{Role}
-use Rattle.nd_chronicle.specs.Start.{Limits, Start}
+use Rattle.nd_chronicle.specs.Start.{Limits, Start, no_policies}
 use Rattle.nd_chronicle.specs.Happening.{Chronicle, Passed}
 use Rattle.nd_chronicle.specs.History.{beginning}
 use Rattle.nd_chronicle.specs.Event as nodes
@@ -51,7 +51,7 @@ module _ (limits : Limits) (now : ℕ) where
   EventHappens Passes log d = d ≡ log
   EventHappens (Starts role mac transmits stream) log d =
       MatchBool (nat_lt (nodes log) max_nodes)
-      (let start : Start = record { at = now; role = role; mac = mac; transmits = transmits; stream = stream; limits = limits } in d ≡ adding (nodes log) (beginning start) (Begins (nodes log) start ∷ log))
+      (let start : Start = record { at = now; role = role; mac = mac; transmits = transmits; stream = stream; limits = limits; policies = no_policies } in d ≡ adding (nodes log) (beginning start) (Begins (nodes log) start ∷ log))
       (d ≡ Refuses now Full ∷ log)
   EventHappens (Comes node event) log d = IfThere node (AddsRows node event) log d
   EventHappens (Delivers node number) log d =

@@ -1,5 +1,5 @@
 -- What one more row makes of a neighbour's node.
-use Rattle.std.proofs.Common.{◌≡◌, ℕ, ◌+◌, ◌*◌, Bool, true, false, cond, eqb, List, [], ◌∷◌, ◌++◌, Option, Some, None, refl, sym, ◌∙◌, ap, arith, inl, inr}
+use Rattle.std.proofs.Common.{◌≡◌, ◌≤◌, ℕ, max, ◌+◌, ◌*◌, Bool, true, false, cond, eqb, List, [], ◌∷◌, ◌++◌, Option, Some, None, refl, sym, ◌∙◌, ap, arith, inl, inr}
 use Rattle.std.specs.Prelude.{is_some}
 use Rattle.std.proofs.lemmas.Bool.Decides.{nat_tests}
 use Rattle.std.proofs.lemmas.Bool.{true≢false, eqb-true, cases_Bool}
@@ -11,7 +11,7 @@ use Rattle.nd_neighbour.specs.ReachabilityConfirmation.{Evidence, Confirms, Dist
 use Rattle.nd_neighbour.specs.ReachabilityConfirmationKept.{confirmed}
 use Rattle.nd_neighbour.specs.NeighborAdvertisement.{taken, conforms, advert_says}
 use Rattle.nd_neighbour.specs.NeighborAdvertisementKept.{advertised}
-use Rattle.nd_neighbour.specs.AddressResolution.{Resolution, one_more, resolution_of, packets_of, waiting_of}
+use Rattle.nd_neighbour.specs.AddressResolution.{Resolution, one_more, resolution_of, room_in, packets_of, waiting_of}
 use Rattle.nd_neighbour.specs.AddressResolutionKept.{asked_entry}
 use Rattle.nd_neighbour.specs.UnreachabilityDetection.{Use, goes_on}
 use Rattle.nd_neighbour.specs.Story.{is_present, mac_of, is_router, says, or_else, evidence_of, use_of, due_by, due_of}
@@ -19,7 +19,7 @@ use Rattle.nd_neighbour.specs.StoryKept.{stage_by, the_entry, entry_of}
 use Rattle.nd_neighbour.specs.DueKept.{solicited, falls, stays}
 use Rattle.nd_neighbour.specs.SendingKept.{used}
 use Rattle.circular_buffer.specs.Buffer.{keep_last}
-use Rattle.nd_neighbour.proofs.LastThree.{keep_more}
+use Rattle.nd_neighbour.proofs.LastThree.{keep_more, keep_short}
 use Rattle.nd_neighbour.proofs.Stories.{absent_mac, absent_router, resolving, known_evidence}
 
 -- a node by its parts
@@ -79,9 +79,14 @@ used_by key at retrans mac packet router (Some (Confirms d l)) None r ws h = gri
 used_by key at retrans mac packet router (Some (Disturbs d)) None r ws h = grind (arith, nat_tests)
 used_by key at retrans mac packet router (Some w) (Some u) r ws h = refl
 
-waits_by : (key at retrans : ℕ) (packet : List ℕ) (router : Bool) (w : Option Evidence) (u v : Option Use) (r : Option Resolution) (ps : List (List ℕ)) → made key router None w v r (keep_last 3 (ps ++ packet ∷ [])) ≡ used at retrans packet (made key router None w u r (keep_last 3 ps))
-waits_by key at retrans packet router w u v None ps = rw (keep_more 3 ps packet) refl
-waits_by key at retrans packet router w u v (Some r) ps = rw (keep_more 3 ps packet) refl
+waits_by : (key at retrans : ℕ) (packet : List ℕ) (router : Bool) (w : Option Evidence) (u v : Option Use) (r : Option Resolution) (ps : List (List ℕ)) → made key router None w v r (keep_last (room_in r) (ps ++ packet ∷ [])) ≡ used at retrans packet (made key router None w u r (keep_last (room_in r) ps))
+waits_by key at retrans packet router w u v None ps = rw (keep_more 0 ps packet) refl
+waits_by key at retrans packet router w u v (Some r) ps = rw (keep_more (max 1 r.room) ps packet) refl
+
+-- a further solicitation leaves the room
+room_more : (r : Option Resolution) → room_in (one_more r) ≡ room_in r
+room_more None = refl
+room_more (Some r) = refl
 
 solicited_by : (key at : ℕ) (router : Bool) (w : Option Evidence) (u v : Option Use) (r : Option Resolution) (ws : List (List ℕ)) → is_some r ≡ true → at ≡ due_by None w u r → made key router None w v (one_more r) ws ≡ solicited at (made key router None w u r ws)
 solicited_by key at router w u v None ws h is = absurd (true≢false (sym h))
@@ -122,7 +127,9 @@ module _ (key at : ℕ) (s : Story) (present : is_present s ≡ true) where
   pub when_solicited : mac_of s ≡ None → at ≡ due_of s → entry_of key ((at, Solicited) ∷ s) ≡ Some (solicited at (the_entry key s))
   when_solicited unknown is =
       let due : at ≡ due_by None (evidence_of s) (use_of s) (resolution_of s) = is ∙ ap (λ mac. due_by mac (evidence_of s) (use_of s) (resolution_of s)) unknown in
-      rw (present, unknown) (ap Some (solicited_by key at (is_router s) (evidence_of s) (use_of s) (use_of s) (resolution_of s) (waiting_of s) (resolving s present unknown) due))
+      rw (present, unknown)
+      (ap (λ (n : ℕ). Some (made key (is_router s) None (evidence_of s) (use_of s) (one_more (resolution_of s)) (keep_last n (packets_of s)))) (room_more (resolution_of s))
+      ∙ ap Some (solicited_by key at (is_router s) (evidence_of s) (use_of s) (use_of s) (resolution_of s) (waiting_of s) (resolving s present unknown) due))
 
   pub when_probed : (mac : ℕ) → mac_of s ≡ Some mac → at ≡ due_of s → stays (falls (the_entry key s)) ≡ true → entry_of key ((at, Probed) ∷ s) ≡ Some (solicited at (the_entry key s))
   when_probed mac known is left =
@@ -137,7 +144,8 @@ module _ (key at : ℕ) (s : Story) (absent : is_present s ≡ false) where
   first_given mac None = rw (absent_mac s absent, absent_router s absent) refl
   first_given mac (Some mark) = rw (absent_mac s absent) refl
 
-  pub first_asked : (retrans : ℕ) (packet : List ℕ) → entry_of key ((at, Waits packet) ∷ (at, Asked retrans) ∷ s) ≡ Some (asked_entry key at retrans packet)
-  first_asked retrans packet =
+  pub first_asked : (retrans room : ℕ) (packet : List ℕ) → entry_of key ((at, Waits packet) ∷ (at, Asked retrans room) ∷ s) ≡ Some (asked_entry key at retrans room packet)
+  first_asked retrans room packet =
       let e : at + (0 + 1) * retrans ≡ at + retrans = omega arith in
-      rw (absent_mac s absent, absent_router s absent, e) refl
+      let few : 1 ≤ max 1 room = omega arith in
+      rw (absent_mac s absent, absent_router s absent, e, keep_short (max 1 room) (packet ∷ []) few) refl

@@ -71,10 +71,10 @@ module _ (now : ℕ) where
   marked_later router (Some known) w None r le = le
   marked_later router (Some known) w (Some u) r le = le
 
-  asked_later : (retrans : ℕ) (known : Option ℕ) (w : Option Evidence) (u : Option Use) (r : Option Resolution) → (is_some known ≡ true → now ≤ due_by known w u r) → now ≤ due_by known w (goes_on w u now (Asked retrans)) (Some (record { at = now; retrans = retrans; more = 0 }))
-  asked_later retrans None w u r le = omega arith
-  asked_later retrans (Some known) w None r le = le refl
-  asked_later retrans (Some known) w (Some u) r le = le refl
+  asked_later : (retrans room : ℕ) (known : Option ℕ) (w : Option Evidence) (u : Option Use) (r : Option Resolution) → (is_some known ≡ true → now ≤ due_by known w u r) → now ≤ due_by known w (goes_on w u now (Asked retrans room)) (Some (record { at = now; retrans = retrans; room = room; more = 0 }))
+  asked_later retrans room None w u r le = omega arith
+  asked_later retrans room (Some known) w None r le = le refl
+  asked_later retrans room (Some known) w (Some u) r le = le refl
 
   waits_later : (packet : List ℕ) (known : Option ℕ) (w : Option Evidence) (u : Option Use) (r : Option Resolution) → now ≤ due_by known w u r → now ≤ due_by known w (goes_on w u now (Waits packet)) r
   waits_later packet None w u r le = le
@@ -84,7 +84,7 @@ module _ (now : ℕ) where
   solicited_later : (known : Option ℕ) (w : Option Evidence) (u : Option Use) (s : Story) → now ≤ due_by known w u (resolution_of s) → now ≤ due_by known w (goes_on w u now Solicited) (resolution_of ((now, Solicited) ∷ s))
   solicited_later None w u s le = more (resolution_of s) le
     where
-      more : (r : Option Resolution) → now ≤ resolution_due r → now ≤ resolution_due (elim r [ None ↦ None | Some x ↦ Some (record { at = x.at; retrans = x.retrans; more = x.more + 1 }) ])
+      more : (r : Option Resolution) → now ≤ resolution_due r → now ≤ resolution_due (elim r [ None ↦ None | Some x ↦ Some (record { at = x.at; retrans = x.retrans; room = x.room; more = x.more + 1 }) ])
       more None le = le
       more (Some r) le = omega arith
   solicited_later (Some known) w None s le = le
@@ -119,7 +119,7 @@ module _ (now : ℕ) where
   story_later (Given mac mark) s e le p = given_later mac mark (mac_of s) (evidence_of s) (use_of s) (resolution_of s) (λ known. le (mac_present s known))
   story_later (Advertised flags mac reachable) s e le p = rw p (advertised_later flags mac reachable (mac_of s) (evidence_of s) (use_of s) (resolution_of s) (le p))
   story_later (Marked router) s e le p = marked_later router (mac_of s) (evidence_of s) (use_of s) (resolution_of s) (le p)
-  story_later (Asked retrans) s e le p = asked_later retrans (mac_of s) (evidence_of s) (use_of s) (resolution_of s) (λ known. le (mac_present s known))
+  story_later (Asked retrans room) s e le p = asked_later retrans room (mac_of s) (evidence_of s) (use_of s) (resolution_of s) (λ known. le (mac_present s known))
   story_later Solicited s e le p = solicited_later (mac_of s) (evidence_of s) (use_of s) s (le p)
   story_later (Waits packet) s e le p = waits_later packet (mac_of s) (evidence_of s) (use_of s) (resolution_of s) (le p)
   story_later (Used retrans) s e le p = used_later retrans (mac_of s) (evidence_of s) (use_of s) (resolution_of s) (le p)

@@ -3,28 +3,27 @@ use Rattle.std.proofs.Common.{◌≡◌, ℕ, ◌≤◌, Bool, true, false, List
 use Rattle.std.specs.Prelude.{is_some, if◌then◌else◌}
 use Rattle.std.specs.Option.{option_map}
 use Rattle.nd_addr.specs.Number.{number_of}
-use Rattle.nd_packet.specs.Waiting.{max_waiting}
 use Rattle.nd_neighbour.specs.declared.news.News.{News}
 use Rattle.nd_neighbour.specs.declared.news.News.TheVariants as news
 use Rattle.nd_neighbour.specs.declared.news.Times.{Times}
 use Rattle.nd_neighbour.specs.History.{Story}
 use Rattle.nd_neighbour.specs.NeighborAdvertisement.{taken}
-use Rattle.nd_neighbour.specs.AddressResolution.{waiting_of}
+use Rattle.nd_neighbour.specs.AddressResolution.{resolution_of, room_in, waiting_of}
 use Rattle.nd_neighbour.specs.Story.{is_present, mac_of, waits_by, waits_of}
 use Rattle.nd_neighbour.specs.News.{mac_given, news_row, released_by}
-use Rattle.nd_neighbour.proofs.LastThree.{three_wait}
+use Rattle.nd_neighbour.proofs.LastThree.{few_wait}
 
-few_by : (present : Bool) (known : Option ℕ) (waiting : List (List ℕ)) → length waiting ≤ max_waiting → length (if present then waits_by known waiting else []) ≤ max_waiting
-few_by true None waiting h = h
-few_by true (Some mac) waiting h = omega arith
-few_by false known waiting h = omega arith
+few_by : (room : ℕ) (present : Bool) (known : Option ℕ) (waiting : List (List ℕ)) → length waiting ≤ room → length (if present then waits_by known waiting else []) ≤ room
+few_by room true None waiting h = h
+few_by room true (Some mac) waiting h = omega arith
+few_by room false known waiting h = omega arith
 
-few_if : (b : Bool) (packets : List (List ℕ)) → length packets ≤ max_waiting → length (if b then packets else []) ≤ max_waiting
-few_if true packets h = h
-few_if false packets h = omega arith
+few_if : (room : ℕ) (b : Bool) (packets : List (List ℕ)) → length packets ≤ room → length (if b then packets else []) ≤ room
+few_if room true packets h = h
+few_if room false packets h = omega arith
 
-pub few_released : (now : ℕ) (n : News) (times : Times) (s : Story) → length (released_by now (news_row n times) s) ≤ max_waiting
-few_released now n times s = few_if (is_some (mac_of ((now, news_row n times) ∷ s))) (waits_of s) (few_by (is_present s) (mac_of s) (waiting_of s) (three_wait s))
+pub few_released : (now : ℕ) (n : News) (times : Times) (s : Story) → length (released_by now (news_row n times) s) ≤ room_in (resolution_of s)
+few_released now n times s = few_if (room_in (resolution_of s)) (is_some (mac_of ((now, news_row n times) ∷ s))) (waits_of s) (few_by (room_in (resolution_of s)) (is_present s) (mac_of s) (waiting_of s) (few_wait s))
 
 -- nothing is released, or the address that is known afterwards is the given one
 abbrev Goes : Option ℕ → Option ℕ → List (List ℕ) → Type 0

@@ -98,7 +98,7 @@ module _ (limit now next : ℕ) (ns : List NeighbourEntry) where
     | inr e ↦ elim (or_cases (ltb (length ns) limit) _ e) [ inl f ↦ few f | inr f ↦ stale f ]
   ]
 
-module _ (limit now key next retrans : ℕ) (packet : List ℕ) (old : List NeighbourEntry) where
+module _ (limit now key next retrans room : ℕ) (packet : List ℕ) (old : List NeighbourEntry) where
   -- the first is there and is used
   module _ (i : ℕ) (n : NeighbourEntry) (lt : i < length old) (at : n ≡ get_or old i n) (n_key : n.key ≡ key) where
     the_used : NeighbourEntry
@@ -136,7 +136,7 @@ module _ (limit now key next retrans : ℕ) (packet : List ℕ) (old : List Neig
 
   -- the first enters
   the_asked : NeighbourEntry
-  the_asked = asked_entry key now retrans packet
+  the_asked = asked_entry key now retrans room packet
 
   module _ (mid : List NeighbourEntry) where
     entered : List NeighbourEntry
@@ -249,23 +249,23 @@ module _ (limit now key next retrans : ℕ) (packet : List ℕ) (old : List Neig
   absent_on none o is =
       cond-false (is_some (entry_in key old)) (place_beside limit now key next old) _ (ap is_some none) ∙ ap (place_behind limit now key next old) is
 
-  gives_on : (new : List NeighbourEntry) → Gives limit now key (λ n. used now retrans packet n) (asked_entry key now retrans packet) old new → has_second limit now key next old ≡ true → place_after limit now next new ≡ true
+  gives_on : (new : List NeighbourEntry) → Gives limit now key (λ n. used now retrans packet n) (asked_entry key now retrans room packet) old new → has_second limit now key next old ≡ true → place_after limit now next new ≡ true
   unfolding the_used the_asked entered left
   gives_on new (Was m found (NotThere none is)) h = let e : Some m ≡ None = sym found ∙ none in absurd (cc)
   gives_on new (Was m found (There i n lt at found_n is)) h =
       subst (λ (l : List NeighbourEntry). place_after limit now next l ≡ true) (sym is)
       (used_on i n lt at (key_is address key old n found_n) (sym (there_on (ap is_some found_n)) ∙ h))
   gives_on new (Came mid none (Enough few mid_is) is) h =
-      subst (λ (l : List NeighbourEntry). place_after limit now next l ≡ true) (ap (put_in address (asked_entry key now retrans packet)) (sym mid_is) ∙ sym is)
+      subst (λ (l : List NeighbourEntry). place_after limit now next l ≡ true) (ap (put_in address (asked_entry key now retrans room packet)) (sym mid_is) ∙ sym is)
       (enough_on (stalest now old) refl (sym (absent_on none (stalest now old) refl) ∙ h))
   gives_on new (Came mid none (Went i n many lt at first gone) is) h =
-      subst (λ (l : List NeighbourEntry). place_after limit now next l ≡ true) (ap (put_in address (asked_entry key now retrans packet)) (sym gone) ∙ sym is)
+      subst (λ (l : List NeighbourEntry). place_after limit now next l ≡ true) (ap (put_in address (asked_entry key now retrans room packet)) (sym gone) ∙ sym is)
       (elim (or_cases (ltb (length old) limit) _ (sym (absent_on none (Some n) first) ∙ h)) [
         | inl e ↦ let few : length old < limit = grind (arith, nat_tests, e) in absurd (omega arith)
         | inr e ↦ went_on i n many lt at first e
       ])
 
-  gives_back : (new : List NeighbourEntry) → Rises old → Gives limit now key (λ n. used now retrans packet n) (asked_entry key now retrans packet) old new → place_after limit now next new ≡ true → has_second limit now key next old ≡ true
+  gives_back : (new : List NeighbourEntry) → Rises old → Gives limit now key (λ n. used now retrans packet n) (asked_entry key now retrans room packet) old new → place_after limit now next new ≡ true → has_second limit now key next old ≡ true
   unfolding the_used the_asked entered left
   gives_back new r (Was m found (NotThere none is)) h = let e : Some m ≡ None = sym found ∙ none in absurd (cc)
   gives_back new r (Was m found (There i n lt at found_n is)) h =
@@ -274,11 +274,11 @@ module _ (limit now key next retrans : ℕ) (packet : List ℕ) (old : List Neig
   gives_back new r (Came mid none (Enough few mid_is) is) h =
       absent_on none (stalest now old) refl
       ∙ enough_back (stalest now old) refl few
-      (subst (λ (l : List NeighbourEntry). place_after limit now next l ≡ true) (is ∙ ap (put_in address (asked_entry key now retrans packet)) mid_is) h)
+      (subst (λ (l : List NeighbourEntry). place_after limit now next l ≡ true) (is ∙ ap (put_in address (asked_entry key now retrans room packet)) mid_is) h)
   gives_back new r (Came mid none (Went i n many lt at first gone) is) h =
       absent_on none (Some n) first
       ∙ or_right (ltb (length old) limit) _ (went_back i n many lt at first r
-      (subst (λ (l : List NeighbourEntry). place_after limit now next l ≡ true) (is ∙ ap (put_in address (asked_entry key now retrans packet)) gone) h))
+      (subst (λ (l : List NeighbourEntry). place_after limit now next l ≡ true) (is ∙ ap (put_in address (asked_entry key now retrans room packet)) gone) h))
 
 -- whether the first has place
 module _ (limit now key : ℕ) (ns : List NeighbourEntry) where
@@ -301,14 +301,14 @@ module _ (limit now key : ℕ) (ns : List NeighbourEntry) where
   )
 
   -- then a packet for it leads somewhere
-  leads : (retrans : ℕ) (packet : List ℕ) → Rises ns → has_first limit now key ns ≡ true → (new : List NeighbourEntry) × Gives limit now key (λ n. used now retrans packet n) (asked_entry key now retrans packet) ns new
-  leads retrans packet r h = elim (cases_Bool (is_some (entry_in key ns))) [
+  leads : (retrans room : ℕ) (packet : List ℕ) → Rises ns → has_first limit now key ns ≡ true → (new : List NeighbourEntry) × Gives limit now key (λ n. used now retrans packet n) (asked_entry key now retrans room packet) ns new
+  leads retrans room packet r h = elim (cases_Bool (is_some (entry_in key ns))) [
     | inl e ↦
         let n = some_is (entry_in key ns) e in
         let i = place_found address key ns n.0 n.1 in
         (set ns i.0 (used now retrans packet n.0), Was n.0 n.1 (There i.0 n.0 i.1 i.2 n.1 refl))
     | inr e ↦
-        let m = asked_entry key now retrans packet in
+        let m = asked_entry key now retrans room packet in
         let none = none_is (entry_in key ns) e in
         elim (cases_Bool (ltb (length ns) limit)) [
           | inl f ↦ (put_in address m ns, Came ns none (Enough (grind (arith, nat_tests, f)) refl) refl)
@@ -339,23 +339,23 @@ module _ (limit now key : ℕ) (ns : List NeighbourEntry) (history : List Row) (
   first_by_history h full = first_has limit now key ns h ((full_by_history limit now key ns history s).1 full)
 
   -- the rows of a packet for the first, and the list that stands for them
-  module _ (retrans : ℕ) (packet : List ℕ) (h : has_first limit now key ns ≡ true) where
-    to : (new : List NeighbourEntry) × Gives limit now key (λ n. used now retrans packet n) (asked_entry key now retrans packet) ns new
-    to = leads limit now key ns retrans packet s.order h
+  module _ (retrans room : ℕ) (packet : List ℕ) (h : has_first limit now key ns ≡ true) where
+    to : (new : List NeighbourEntry) × Gives limit now key (λ n. used now retrans packet n) (asked_entry key now retrans room packet) ns new
+    to = leads limit now key ns retrans room packet s.order h
 
-    took : (made : List Row) × Prepares limit now true key history made × Stands to.0 (then_packet (is_present (story key history)) (mac_of (story key history)) now key retrans packet made)
-    took = (takes_packet key now retrans packet limit ns to.0 to.1).stands history s
+    took : (made : List Row) × Prepares limit now true key history made × Stands to.0 (then_packet (is_present (story key history)) (mac_of (story key history)) now key retrans room packet made)
+    took = (takes_packet key now retrans room packet limit ns to.0 to.1).stands history s
 
-    second_on : (next : ℕ) (made : List Row) → has_second limit now key next ns ≡ true → Prepares limit now true key history made → WouldBeFull limit now next (then_packet (is_present (story key history)) (mac_of (story key history)) now key retrans packet made) → ⊥
+    second_on : (next : ℕ) (made : List Row) → has_second limit now key next ns ≡ true → Prepares limit now true key history made → WouldBeFull limit now next (then_packet (is_present (story key history)) (mac_of (story key history)) now key retrans room packet made) → ⊥
     second_on next made second prepares full =
         let same : took.0 ≡ made = one_made limit now history took.0 made _ took.1 prepares in
-        let full' = subst (λ (m : List Row). WouldBeFull limit now next (then_packet (is_present (story key history)) (mac_of (story key history)) now key retrans packet m)) (sym same) full in
-        placed limit now next to.0 (gives_on limit now key next retrans packet ns to.0 to.1 second) ((full_by_history limit now next to.0 _ took.2).1 full')
+        let full' = subst (λ (m : List Row). WouldBeFull limit now next (then_packet (is_present (story key history)) (mac_of (story key history)) now key retrans room packet m)) (sym same) full in
+        placed limit now next to.0 (gives_on limit now key next retrans room packet ns to.0 to.1 second) ((full_by_history limit now next to.0 _ took.2).1 full')
 
     second_back : (next : ℕ) → HasRoom limit now key (Some next) history → has_second limit now key next ns ≡ true
-    second_back next room = elim (cases_Bool (place_after limit now next to.0)) [
-      | inl e ↦ gives_back limit now key next retrans packet ns to.0 s.order to.1 e
-      | inr e ↦ absurd (room.both retrans packet took.0 took.1 ((full_by_history limit now next to.0 _ took.2).0 (displaced limit now next to.0 e)))
+    second_back next leaves = elim (cases_Bool (place_after limit now next to.0)) [
+      | inl e ↦ gives_back limit now key next retrans room packet ns to.0 s.order to.1 e
+      | inr e ↦ absurd (leaves.both retrans room packet took.0 took.1 ((full_by_history limit now next to.0 _ took.2).0 (displaced limit now next to.0 e)))
     ]
 
   first_back : (second : Option ℕ) → HasRoom limit now key second history → has_first limit now key ns ≡ true
@@ -374,15 +374,15 @@ module _ (limit now key : ℕ) (ns : List NeighbourEntry) (history : List Row) (
         let first = first_so (has_first limit now key ns) _ h in
         record {
           first = first_by_history first;
-          both = λ retrans packet made prepares. second_on retrans packet first next made (second_so (has_first limit now key ns) _ h) prepares;
+          both = λ retrans room packet made prepares. second_on retrans room packet first next made (second_so (has_first limit now key ns) _ h) prepares;
         }),
-    (λ room. let first = first_back (Some next) room in and_from (has_first limit now key ns) _ first (second_back 0 [] first next room)),
+    (λ room. let first = first_back (Some next) room in and_from (has_first limit now key ns) _ first (second_back 0 0 [] first next room)),
   )
 
 -- a second one that had room has place afterwards
-pub leaves_room : (limit now key retrans : ℕ) (packet : List ℕ) (old new : List NeighbourEntry) → Gives limit now key (λ n. used now retrans packet n) (asked_entry key now retrans packet) old new → LeavesRoom limit now key old new
-leaves_room limit now key retrans packet old new gives = record {
-  has = λ next h. placed limit now next new (gives_on limit now key next retrans packet old new gives (second_so (has_first limit now key old) _ h));
+pub leaves_room : (limit now key retrans room : ℕ) (packet : List ℕ) (old new : List NeighbourEntry) → Gives limit now key (λ n. used now retrans packet n) (asked_entry key now retrans room packet) old new → LeavesRoom limit now key old new
+leaves_room limit now key retrans room packet old new gives = record {
+  has = λ next h. placed limit now next new (gives_on limit now key next retrans room packet old new gives (second_so (has_first limit now key old) _ h));
 }
 
 -- who was given an address is there

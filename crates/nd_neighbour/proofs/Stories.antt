@@ -15,7 +15,7 @@ absent_mac [] h = refl
 absent_mac ((at, Given mac mark) ∷ s) h = absurd (true≢false h)
 absent_mac ((at, Advertised flags mac reachable) ∷ s) h = rw h refl
 absent_mac ((at, Marked router) ∷ s) h = absent_mac s h
-absent_mac ((at, Asked retrans) ∷ s) h = absurd (true≢false h)
+absent_mac ((at, Asked retrans room) ∷ s) h = absurd (true≢false h)
 absent_mac ((at, Solicited) ∷ s) h = absent_mac s h
 absent_mac ((at, Waits packet) ∷ s) h = absent_mac s h
 absent_mac ((at, Used retrans) ∷ s) h = absent_mac s h
@@ -29,7 +29,7 @@ absent_router [] h = refl
 absent_router ((at, Given mac mark) ∷ s) h = absurd (true≢false h)
 absent_router ((at, Advertised flags mac reachable) ∷ s) h = rw h (absent_router s h)
 absent_router ((at, Marked router) ∷ s) h = rw h (absent_router s h)
-absent_router ((at, Asked retrans) ∷ s) h = absurd (true≢false h)
+absent_router ((at, Asked retrans room) ∷ s) h = absurd (true≢false h)
 absent_router ((at, Solicited) ∷ s) h = absent_router s h
 absent_router ((at, Waits packet) ∷ s) h = absent_router s h
 absent_router ((at, Used retrans) ∷ s) h = absent_router s h
@@ -54,7 +54,7 @@ resolving ((at, Advertised flags mac reachable) ∷ s) p h =
     let e : taken flags.overrides mac (mac_of s) ≡ None = rw p at h in
     resolving s p (taken_none flags.overrides mac (mac_of s) e)
 resolving ((at, Marked router) ∷ s) p h = resolving s p h
-resolving ((at, Asked retrans) ∷ s) p h = refl
+resolving ((at, Asked retrans room) ∷ s) p h = refl
 resolving ((at, Solicited) ∷ s) p h = some_more (resolution_of s) (resolving s p h)
 resolving ((at, Waits packet) ∷ s) p h = resolving s p h
 resolving ((at, Used retrans) ∷ s) p h = resolving s p h
@@ -85,7 +85,7 @@ known_evidence ((at, Advertised flags mac reachable) ∷ s) h =
     (λ p k. rw p (advert_evidence at reachable flags mac (mac_of s) (evidence_of s) (known_evidence s) k))
     (λ _ k. absurd (true≢false (sym k))) h
 known_evidence ((at, Marked router) ∷ s) h = known_evidence s h
-known_evidence ((at, Asked retrans) ∷ s) h = known_evidence s h
+known_evidence ((at, Asked retrans room) ∷ s) h = known_evidence s h
 known_evidence ((at, Solicited) ∷ s) h = known_evidence s h
 known_evidence ((at, Waits packet) ∷ s) h = known_evidence s h
 known_evidence ((at, Used retrans) ∷ s) h = known_evidence s h

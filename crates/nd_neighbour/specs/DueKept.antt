@@ -9,7 +9,7 @@ use Rattle.nd_neighbour.specs.Due.{Falls, Multicasts, Unicasts, Fails, Ages}
 
 -- the same of what is kept
 abbrev pub falls_to : ℕ → Stage → Falls
-falls_to key (Resolving retrans sent waiting) = if nat_lt sent max_more then Multicasts key else Fails key waiting
+falls_to key (Resolving retrans sent waiting) = if nat_lt sent max_more then Multicasts key else Fails key waiting.packets
 falls_to key (Known mac confirmed since None) = Ages key
 falls_to key (Known mac confirmed since (Some probing)) = if nat_lt probing.sent max_unicast_solicit then Unicasts key mac else Fails key []
 

@@ -1,12 +1,13 @@
 -- Only what is kept, in the code's terms: an entry of a neighbour.
 use Rattle.std.specs.Prelude.{ℕ, Bool, List, Option, Some, None, [], if◌then◌else◌, is_some, nat_lt, false, ◌&&◌, ◌+◌, true}
+use Rattle.nd_packet.specs.Waiting.{Waiting}
 use Rattle.nd_neighbour.specs.declared.unreachability_detection.Probing.{Probing}
 use Rattle.nd_neighbour.specs.UnreachabilityDetection.{stale_lifetime}
 
 -- what is kept of a neighbour, besides its address and its mark
 pub data Stage : Type 0 where
   -- no address is known (INCOMPLETE): the time between two solicitations, how many were sent after the first, what waits
-  Resolving : (retrans sent : ℕ) (waiting : List (List ℕ)) → Stage
+  Resolving : (retrans sent : ℕ) (waiting : Waiting) → Stage
   -- an address is known (REACHABLE, STALE, DELAY or PROBE): whether the last word is a confirmation, until or from when, and the use afterwards
   Known : (mac : ℕ) (confirmed : Bool) (since : ℕ) (probing : Option Probing) → Stage
 
@@ -24,7 +25,7 @@ known_mac (Known mac confirmed since probing) = Some mac
 
 -- what waits
 abbrev pub waiting_in : Stage → List (List ℕ)
-waiting_in (Resolving retrans sent waiting) = waiting
+waiting_in (Resolving retrans sent waiting) = waiting.packets
 waiting_in (Known mac confirmed since probing) = []
 
 -- what is released: where an address is known after the change, all that waited

@@ -22,8 +22,8 @@ pub data RowKind : Type 0 where
   Advertised : (flags : Flags) (mac : Option ℕ) (reachable : ℕ) → RowKind
   -- a message without its link-layer address said whether it is a router
   Marked : (router : Bool) → RowKind
-  -- its resolution began with a first solicitation, at a RetransTimer
-  Asked : (retrans : ℕ) → RowKind
+  -- its resolution began with a first solicitation, at a RetransTimer, with room for so many packets
+  Asked : (retrans room : ℕ) → RowKind
   -- a further multicast solicitation was sent
   Solicited : RowKind
   -- a packet for it was kept until its address is known

@@ -12,6 +12,7 @@ pub mod UnreachabilityDetection
 pub mod Story
 pub mod StoryKept
 pub mod TableKept
+pub mod Rings
 pub mod Shown
 pub mod ShownKept
 pub mod Due

@@ -1,10 +1,9 @@
 -- Only what is kept, in the code's terms: what a packet makes of an entry.
-use Rattle.std.specs.Prelude.{ℕ, List, Option, nat_lt, false, if◌then◌else◌, [], ◌∷◌, ◌++◌, length, slice_get, None, ◌+◌, nat_le, Some, true}
-use Rattle.circular_buffer.specs.Buffer.{keep_last}
+use Rattle.std.specs.Prelude.{ℕ, List, Option, false, if◌then◌else◌, None, ◌+◌, nat_le, Some, true}
 use Rattle.nd_table.specs.HistoryKept.{GainsRowsMakingPlace}
 use Rattle.nd_neighbour.specs.History.{story}
 use Rattle.nd_neighbour.specs.EntryKept.{Stage, Resolving, Known, NeighbourEntry}
-use Rattle.nd_packet.specs.Waiting.{max_waiting}
+use Rattle.nd_packet.specs.Waiting.{replaced, then_waits}
 use Rattle.nd_neighbour.specs.UnreachabilityDetection.{delay_first_probe_time}
 use Rattle.nd_neighbour.specs.Story.{is_present, mac_of}
 use Rattle.nd_neighbour.specs.TableKept.{Stands}
@@ -12,15 +11,14 @@ use Rattle.nd_neighbour.specs.Place.{Prepares}
 use Rattle.nd_neighbour.specs.Sending.{Sending, Sends, Queues, then_packet}
 
 -- for each history that old stands for, new stands for it with the rows of the packet, and with what makes room before
-abbrev pub GainsPacket : ℕ → ℕ → ℕ → ℕ → List ℕ → List NeighbourEntry → List NeighbourEntry → Type 0
-GainsPacket limit now key retrans packet old new =
+abbrev pub GainsPacket : ℕ → ℕ → ℕ → ℕ → ℕ → List ℕ → List NeighbourEntry → List NeighbourEntry → Type 0
+GainsPacket limit now key retrans room packet old new =
     GainsRowsMakingPlace Stands old new (Prepares limit now true key)
-    (λ history made. then_packet (is_present (story key history)) (mac_of (story key history)) now key retrans packet made)
+    (λ history made. then_packet (is_present (story key history)) (mac_of (story key history)) now key retrans room packet made)
 
 -- the same by what is kept
 abbrev pub sending_to : Stage → List ℕ → Sending
-sending_to (Resolving retrans sent waiting) packet =
-    Queues false (if nat_lt (length waiting) max_waiting then None else slice_get (waiting ++ packet ∷ []) 0)
+sending_to (Resolving retrans sent waiting) packet = Queues false (replaced waiting.room waiting.packets packet)
 sending_to (Known mac confirmed since probing) packet = Sends mac packet
 
 -- and of a neighbour that may not be there
@@ -32,7 +30,12 @@ sending_in (Some n) packet = sending_to n.stage packet
 -- and PROBE nothing changes
 abbrev pub used_to : Stage → ℕ → ℕ → List ℕ → NeighbourEntry → NeighbourEntry
 used_to (Resolving retrans sent waiting) at new_retrans packet n =
-    record { key = n.key; router = n.router; due = n.due; stage = Resolving retrans sent (keep_last max_waiting (waiting ++ packet ∷ [])) }
+    record {
+      key = n.key;
+      router = n.router;
+      due = n.due;
+      stage = Resolving retrans sent (record { room = waiting.room; packets = then_waits waiting.room waiting.packets packet });
+    }
 used_to (Known mac confirmed since None) at retrans packet n =
     if nat_le since at
     then record {

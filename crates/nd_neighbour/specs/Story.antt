@@ -12,7 +12,7 @@ use Rattle.nd_neighbour.specs.UnreachabilityDetection.{Use, goes_on, reach_due}
 abbrev pub is_present : Story → Bool
 is_present [] = false
 is_present ((at, Given mac mark) ∷ s) = true
-is_present ((at, Asked retrans) ∷ s) = true
+is_present ((at, Asked retrans room) ∷ s) = true
 is_present ((at, _) ∷ s) = is_present s
 
 -- the link-layer address: that of the last message that gave one and was the first to do so, no

@@ -17,10 +17,11 @@ max_rings = 2
 abbrev pub max_neighbours : ℕ
 max_neighbours = 2048
 
--- a cache: how many neighbours it has room for, those that it has, and how many rings are in reserve for new ones
+-- a cache: how many neighbours it has room for, those that it has, for how many packets each has room, and how many rings are in reserve for new ones
 pub record Table : Type 0 where
   pub limit : ℕ
   pub entries : List NeighbourEntry
+  pub waiting : ℕ
   pub rings : ℕ
 
 -- the address of a neighbour

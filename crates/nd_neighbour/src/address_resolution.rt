@@ -39,7 +39,7 @@ pub(crate) fn begin<A: Allocator>(
     requires capacity { limit ≤ vec_capacity entries.old }
     requires planned { IsPlanned entries.old.items dates.old }
     requires roomy { limit ≤ dates.old.room }
-    ensures gives { Gives limit now (number_of addr.0) (λ n. used now retrans packet n) (asked_entry (number_of addr.0) now retrans packet) entries.old.items entries.new.items }
+    ensures gives { Gives limit now (number_of addr.0) (λ n. used now retrans packet n) (asked_entry (number_of addr.0) now retrans ring.waiting.room packet) entries.old.items entries.new.items }
     ensures planned { IsPlanned entries.new.items dates.new }
     ensures room { dates.new.room ≡ dates.old.room }
     ensures few { vec_len entries.new ≤ limit }
@@ -62,7 +62,7 @@ impl<A: Allocator> Entry<A> {
         ring: Ring<A>,
     ) -> Self
         requires { IsMoment now }
-        ensures { result ≡ asked_entry (number_of addr.0) now retrans packet }
+        ensures { result ≡ asked_entry (number_of addr.0) now retrans ring.waiting.room packet }
     {
         Entry {
             addr,

@@ -2,20 +2,18 @@
 
 ghost use Rattle.std.specs.Prelude.{IfOk, [], List, ◌≡◌, ◌≤◌, ◌+◌, is_some, length};
 ghost use Rattle.nd_addr.specs.Number.{number_of};
+ghost use Rattle.nd_packet.specs.Waiting.{max_waiting};
 ghost use Rattle.nd_table.specs.KeyedKept.{binary_digits};
 
 use crate::entry::Entry;
+use crate::rings::Rings;
 use nd_addr::Addr;
-use nd_packet::Ring;
 use nd_table::{Probes, Schedule, find, search};
 use std::alloc::{AllocError, Allocator};
 use std::marker::Model;
 
 /// The most neighbours that a cache may have room for (our choice).
 pub const MAX_NEIGHBOURS: usize = 2048;
-
-/// The most rings in reserve (our choice): one packet may need one for its neighbour and, as `room` asks, one for a second neighbour.
-const MAX_RINGS: usize = 2;
 
 /// The neighbours of a node on its link (RFC 4861, section 5.1). Each moment that a call takes or returns is in
 /// milliseconds, from a beginning that the caller chooses.
@@ -24,42 +22,44 @@ pub struct Cache<A: Allocator> {
     pub(crate) entries: Vec<Entry<A>, A>,
     /// The dates of the entries.
     pub(crate) dates: Schedule<A>,
-    pub(crate) rings: Vec<Ring<A>, A>,
+    pub(crate) rings: Rings<A>,
     pub(crate) limit: usize,
     /// Where an entry was found last. A packet mostly goes to the neighbour that a message or a search was about, and is looked for there first.
     pub(crate) near: usize,
 }
 
 impl<A: Allocator> Model for Cache<A> {
-    ghost use Rattle.std.specs.Prelude.{◌≤◌, length};
+    ghost use Rattle.std.specs.Prelude.{◌≤◌};
     ghost use Rattle.std.specs.Vec.{vec_len, vec_capacity};
-    ghost use Rattle.nd_neighbour.specs.TableKept.{Table, max_rings};
+    ghost use Rattle.nd_neighbour.specs.TableKept.{Table};
     ghost use Rattle.nd_neighbour.specs.Planned.{IsPlanned};
 
     ghost Value = { Table };
 
-    ghost view = { λ c. record { limit = c.limit; entries = c.entries.items; rings = length c.rings.items } };
+    ghost view = { λ c. record { limit = c.limit; entries = c.entries.items; waiting = c.rings.room; rings = c.rings.count } };
 
-    ghost invariant = { λ c. (vec_len c.entries ≤ c.limit) × (c.limit ≤ vec_capacity c.entries) × (vec_len c.rings ≤ max_rings) × (max_rings ≤ vec_capacity c.rings) × (c.limit ≤ c.dates.room) × IsPlanned c.entries.items c.dates };
+    ghost invariant = { λ c. (vec_len c.entries ≤ c.limit) × (c.limit ≤ vec_capacity c.entries) × (c.limit ≤ c.dates.room) × IsPlanned c.entries.items c.dates };
 }
 
 impl<A: Allocator + Clone> Cache<A> {
     ghost use Rattle.nd_neighbour.specs.TableKept.{Stands, max_neighbours};
 
-    /// Returns an empty cache with room for `limit` neighbours, 1 to 2048, all of it reserved here. Returns an error if out of memory.
-    pub fn new(alloc: A, limit: usize) -> Result<Self, AllocError>
+    /// Returns an empty cache with room for `limit` neighbours, 1 to 2048, all of it reserved here. For each of them so many packets may wait, 1 to 8.
+    /// Returns an error if out of memory.
+    pub fn new(alloc: A, limit: usize, waiting: usize) -> Result<Self, AllocError>
         requires least { 1 ≤ limit }
         requires most { limit ≤ max_neighbours }
-        ensures empty { IfOk result (λ cache. cache ≡ record { limit = limit; entries = []; rings = 0 }) }
+        requires least_waiting { 1 ≤ waiting }
+        requires most_waiting { waiting ≤ max_waiting }
+        ensures empty { IfOk result (λ cache. cache ≡ record { limit = limit; entries = []; waiting = waiting; rings = 0 }) }
         ensures stands { IfOk result (λ cache. Stands cache.entries []) }
     {
         let entries = Vec::with_capacity(alloc.clone()?, limit)?;
-        let dates = Schedule::new(alloc.clone()?, limit)?;
-        let rings = Vec::with_capacity(alloc, MAX_RINGS)?;
+        let dates = Schedule::new(alloc, limit)?;
         Ok(Cache {
             entries,
             dates,
-            rings,
+            rings: Rings::new(waiting),
             limit,
             near: 0,
         })

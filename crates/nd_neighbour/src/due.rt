@@ -56,6 +56,7 @@ impl<A: Allocator> Cache<A> {
         ensures gains { IfSome result (λ due. GainsRow self.old.entries self.new.entries (due_row now (falls_of due))) }
         ensures same { IfNone result (self.new ≡ self.old) }
         ensures rings { self.new.rings ≡ self.old.rings }
+        ensures waiting { self.new.waiting ≡ self.old.waiting }
         ensures limit { self.new.limit ≡ self.old.limit }
 
         // The number of turns at one moment is finite.

@@ -1,10 +1,9 @@
 //! Laws of the definitions, each the contract of a function that does nothing.
 
-ghost use Rattle.std.specs.Prelude.{◌⊎◌, ◌≡◌, ◌≤◌, ◌↔◌, ◌++◌, ◌∷◌, [], ℕ, Bool, true, List, Option, None, length, nat_lt, slice_get, if◌then◌else◌};
+ghost use Rattle.std.specs.Prelude.{◌⊎◌, ◌≡◌, ◌≤◌, ◌↔◌, ◌++◌, ◌∷◌, [], ℕ, Bool, true, List, Option, None, length};
 ghost use Rattle.std.specs.Option.{option_map, option_to_list};
-ghost use Rattle.circular_buffer.specs.Buffer.{keep_last};
 ghost use Rattle.nd_addr.specs.Number.{number_of};
-ghost use Rattle.nd_packet.specs.Waiting.{max_waiting};
+ghost use Rattle.nd_packet.specs.Waiting.{replaced, then_waits};
 ghost use Rattle.nd_neighbour.specs.declared.news.News.{News};
 ghost use Rattle.nd_neighbour.specs.declared.news.Times.{Times};
 ghost use Rattle.nd_neighbour.specs.News.{mac_given, news_row, released_by};
@@ -12,7 +11,7 @@ ghost use Rattle.nd_neighbour.specs.Story.{mac_of};
 ghost use Rattle.nd_neighbour.specs.History.{Row, RowKind, Story, Waits};
 ghost use Rattle.nd_neighbour.specs.RoomKept.{has_room};
 ghost use Rattle.nd_neighbour.specs.EntryKept.{NeighbourEntry};
-ghost use Rattle.nd_neighbour.specs.AddressResolution.{waiting_of};
+ghost use Rattle.nd_neighbour.specs.AddressResolution.{resolution_of, room_in, waiting_of};
 ghost use Rattle.nd_neighbour.specs.TableKept.{Stands};
 ghost use Rattle.nd_neighbour.specs.Due.{Falls, FirstDue, NoneOverdue};
 ghost use Rattle.nd_neighbour.specs.DueKept.{NoneBefore};
@@ -48,16 +47,16 @@ pub fn full_by_history()
     ensures { (limit now key : ℕ) (entries : List NeighbourEntry) (history : List Row) → Stands entries history → NoPlace limit now key entries ↔ WouldBeFull limit now key history }
 {}
 
-/// At most three packets wait, and no packet is lost, doubled or moved if one more arrives: those that waited and the new one are the one that is
+/// No more packets wait than there is room for, and no packet is lost, doubled or moved if one more arrives: those that waited and the new one are the one that is
 /// dropped for it, if one is, and those that wait then.
 pub fn no_packet_is_lost()
-    ensures three { (s : Story) → length (waiting_of s) ≤ max_waiting }
-    ensures history { (s : Story) (at : ℕ) (packet : List ℕ) → waiting_of s ++ packet ∷ [] ≡ option_to_list (if nat_lt (length (waiting_of s)) max_waiting then None else slice_get (waiting_of s ++ packet ∷ []) 0) ++ waiting_of ((at, Waits packet) ∷ s) }
-    ensures kept { (waiting : List (List ℕ)) (packet : List ℕ) → length waiting ≤ max_waiting → waiting ++ packet ∷ [] ≡ option_to_list (if nat_lt (length waiting) max_waiting then None else slice_get (waiting ++ packet ∷ []) 0) ++ keep_last max_waiting (waiting ++ packet ∷ []) }
+    ensures few { (s : Story) → length (waiting_of s) ≤ room_in (resolution_of s) }
+    ensures history { (s : Story) (at : ℕ) (packet : List ℕ) → waiting_of s ++ packet ∷ [] ≡ option_to_list (replaced (room_in (resolution_of s)) (waiting_of s) packet) ++ waiting_of ((at, Waits packet) ∷ s) }
+    ensures kept { (room : ℕ) (waiting : List (List ℕ)) (packet : List ℕ) → length waiting ≤ room → waiting ++ packet ∷ [] ≡ option_to_list (replaced room waiting packet) ++ then_waits room waiting packet }
 {}
 
-/// A message releases at most three packets, and they go to the address that it gives: if any are released, that is the address known afterwards.
+/// A message releases no more packets than there was room for, and they go to the address that it gives: if any are released, that is the address known afterwards.
 pub fn released_to_the_given_address()
-    ensures few { (now : ℕ) (news : News) (times : Times) (s : Story) → length (released_by now (news_row news times) s) ≤ max_waiting }
+    ensures few { (now : ℕ) (news : News) (times : Times) (s : Story) → length (released_by now (news_row news times) s) ≤ room_in (resolution_of s) }
     ensures given { (now : ℕ) (news : News) (times : Times) (s : Story) → (released_by now (news_row news times) s ≡ []) ⊎ (mac_of ((now, news_row news times) ∷ s) ≡ option_map (λ mac. number_of mac.0) (mac_given news)) }
 {}

@@ -157,6 +157,7 @@ impl<A: Allocator> Cache<A> {
 
         ensures limit { self.new.limit ≡ self.old.limit }
         ensures rings { self.new.rings ≡ self.old.rings }
+        ensures waiting { self.new.waiting ≡ self.old.waiting }
     {
         match news {
             News::Given { addr, mac, mark } => {

@@ -25,6 +25,7 @@ impl<A: Allocator> Cache<A> {
         ensures stands { GainsRow self.old.entries self.new.entries (now, number_of addr.0, Confirmed reachable) }
         ensures limit { self.new.limit ≡ self.old.limit }
         ensures rings { self.new.rings ≡ self.old.rings }
+        ensures waiting { self.new.waiting ≡ self.old.waiting }
     {
         confirm(&mut self.entries, &mut self.dates, now, addr, reachable);
     }

@@ -27,11 +27,12 @@ impl<A: Allocator> Cache<A> {
         ensures packets { (history : List Row) → Stands self.old.entries history → result ≡ waits_of (story (number_of addr.0) history) }
         ensures limit { self.new.limit ≡ self.old.limit }
         ensures rings { self.new.rings ≡ self.old.rings }
+        ensures waiting { self.new.waiting ≡ self.old.waiting }
     {
         remove(&mut self.entries, &mut self.dates, addr)
     }
 
-    /// Returns the number of packets that wait for a neighbour, at most three: `heard`, `turn` and `forget` return no more of its packets.
+    /// Returns the number of packets that wait for a neighbour, at most eight: `heard`, `turn` and `forget` return no more of its packets.
     pub fn waiting_at(&self, addr: Addr) -> usize
         ensures value { result ≡ length (waiting_at (entry_in (number_of addr.0) self.now.entries)) }
         ensures by_history { (history : List Row) → Stands self.now.entries history → result ≡ length (waits_of (story (number_of addr.0) history)) }
@@ -62,6 +63,7 @@ impl<A: Allocator + Clone> Cache<A> {
         ensures same { OnErr result (self.new ≡ self.old) }
         ensures limit { self.new.limit ≡ self.old.limit }
         ensures rings { self.new.rings ≡ self.old.rings }
+        ensures waiting { self.new.waiting ≡ self.old.waiting }
     {
         let packets = take_all(&mut self.entries)?;
         self.dates.clear();

@@ -14,7 +14,6 @@ use crate::entry::{Entry, Stage};
 use crate::news::Times;
 use crate::place::has_place;
 use crate::refusal::CacheRefusal;
-use crate::rings::take_ring;
 use crate::unreachability_detection::Probing;
 use nd_addr::{Addr, Mac};
 use nd_packet::Packet;
@@ -59,7 +58,7 @@ impl<A: Allocator + Clone> Cache<A> {
     ) -> Result<Use<A>, (CacheRefusal, Packet<A>)>
         requires { IsMoment now }
 
-        ensures stands { OnOk result (GainsPacket self.old.limit now (number_of addr.0) times.retrans packet self.old.entries self.new.entries) }
+        ensures stands { OnOk result (GainsPacket self.old.limit now (number_of addr.0) times.retrans self.old.waiting packet self.old.entries self.new.entries) }
         ensures value { IfOk result (λ sent. sending_of sent ≡ sending_in (entry_in (number_of addr.0) self.old.entries) packet) }
         ensures sending { IfOk result (λ sent. (history : List Row) → Stands self.old.entries history → sending_of sent ≡ sending_of_story (story (number_of addr.0) history) packet) }
 
@@ -73,6 +72,7 @@ impl<A: Allocator + Clone> Cache<A> {
         ensures leaves { OnOk result (LeavesRoom self.old.limit now (number_of addr.0) self.old.entries self.new.entries) }
 
         ensures limit { self.new.limit ≡ self.old.limit }
+        ensures waiting { self.new.waiting ≡ self.old.waiting }
 
         // Only a new neighbour takes a ring, one in reserve if there is one.
         ensures rings { OnOk result (self.new.rings ≡ (if is_some (entry_in (number_of addr.0) self.old.entries) then self.old.rings else self.old.rings - 1)) }
@@ -94,7 +94,7 @@ impl<A: Allocator + Clone> Cache<A> {
         if !has_place(&self.entries, self.limit, now) {
             return Err((CacheRefusal::Full, packet));
         }
-        let ring = match take_ring(&mut self.rings) {
+        let ring = match self.rings.take_or_make(self.entries.allocator()) {
             Ok(ring) => ring,
             Err(_) => return Err((CacheRefusal::Memory, packet)),
         };
@@ -155,7 +155,7 @@ impl<A: Allocator> Entry<A> {
         ensures sending { sending_of result ≡ sending_to self.old.stage packet }
     {
         match &mut self.stage {
-            // INCOMPLETE: the packet waits, and a fourth one replaces the oldest (7.2.2).
+            // INCOMPLETE: the packet waits, and one for which there is no room replaces the oldest (7.2.2).
             Stage::Resolving { waiting, .. } => Use::Queued {
                 solicit: false,
                 replaced: waiting.put(packet),

@@ -5,7 +5,7 @@ use Rattle.std.specs.Map.{lookup}
 use Rattle.std.proofs.lemmas.Bool.{cond-true, cond-false, cases_Bool, eqb-true, or_parts, or_from, eq-eqb}
 use Rattle.std.proofs.lemmas.Bool.Decides.{nat_tests}
 use Rattle.std.proofs.lemmas.List.Elements.{filter-append}
-use Rattle.nd_nexthop.specs.History.{RedirectRow, Redirected, TargetGone, Cleared, others, destinations, since, target_of, target_left, unless_ended, kept, remembered, those_left, redirects, max_redirects}
+use Rattle.nd_nexthop.specs.History.{RedirectRow, Redirected, TargetGone, Cleared, others, destinations, since, target_of, target_left, unless_ended, kept, remembered, those_left, redirects}
 use Rattle.nd_nexthop.specs.Choice.{target_in}
 use Rattle.nd_nexthop.proofs.Keys.{has, AreApart, AreApart-take, each_once, since_lacks, still_lack, lack_first}
 
@@ -88,23 +88,23 @@ module _ (f : ℕ → Option ℕ) where
       by (Some t) ih = ap (λ (o : Option ℕ). cond (eqb key d) (Some t) o) ih
 
 -- what is remembered of a destination is its kept redirect
-pub look_remembered : (key : ℕ) (history : List RedirectRow) → target_in key (remembered history) ≡ kept key history
-look_remembered key history = by (placed key history)
+pub look_remembered : (limit key : ℕ) (history : List RedirectRow) → target_in key (remembered limit history) ≡ kept limit key history
+look_remembered limit key history = by (placed key history)
   where
-    by : Placed key history → target_in key (remembered history) ≡ kept key history
+    by : Placed key history → target_in key (remembered limit history) ≡ kept limit key history
     by (inl n) =
         let never : target_left key history ≡ None = ap (λ (o : Option ℕ). unless_ended o (since key history)) n.0 in
-        look_lacking (λ d. target_left d history) key (take max_redirects (destinations history)) (lack_first key max_redirects (destinations history) n.1)
-        ∙ sym (ap (λ (o : Option ℕ). cond (ltb (length (destinations (since key history))) max_redirects) o None) never ∙ cond_same (ltb (length (destinations (since key history))) max_redirects) None)
+        look_lacking (λ d. target_left d history) key (take limit (destinations history)) (lack_first key limit (destinations history) n.1)
+        ∙ sym (ap (λ (o : Option ℕ). cond (ltb (length (destinations (since key history))) limit) o None) never ∙ cond_same (ltb (length (destinations (since key history))) limit) None)
     by (inr p) =
-        ap (λ (ds : List ℕ). target_in key (paired (λ d. target_left d history) (take max_redirects ds))) p.1
-        ∙ look_behind (λ d. target_left d history) key max_redirects (destinations (since key history)) p.0 (since_lacks key history)
+        ap (λ (ds : List ℕ). target_in key (paired (λ d. target_left d history) (take limit ds))) p.1
+        ∙ look_behind (λ d. target_left d history) key limit (destinations (since key history)) p.0 (since_lacks key history)
 
 -- the kept redirects are those of each destination
-pub look_redirects : (key : ℕ) (history : List RedirectRow) → lookup (nat_eq key) (redirects history) ≡ kept key history
-look_redirects key history =
-    look_left (λ d. target_left d history) key (take max_redirects (destinations history)) (AreApart-take max_redirects (destinations history) (each_once history))
-    ∙ look_remembered key history
+pub look_redirects : (limit key : ℕ) (history : List RedirectRow) → lookup (nat_eq key) (redirects limit history) ≡ kept limit key history
+look_redirects limit key history =
+    look_left (λ d. target_left d history) key (take limit (destinations history)) (AreApart-take limit (destinations history) (each_once history))
+    ∙ look_remembered limit key history
 
 few_left : (f : ℕ → Option ℕ) (n : ℕ) (ds : List ℕ) → length (those_left (paired f (take n ds))) ≤ n
 few_left f zero ds = omega arith
@@ -115,8 +115,8 @@ few_left f (suc n) (d ∷ ds) = by (f d) (few_left f n ds)
     by None le = omega arith
     by (Some t) le = omega arith
 
-pub few_redirects : (history : List RedirectRow) → length (redirects history) ≤ max_redirects
-few_redirects history = few_left (λ d. target_left d history) max_redirects (destinations history)
+pub few_redirects : (limit : ℕ) (history : List RedirectRow) → length (redirects limit history) ≤ limit
+few_redirects limit history = few_left (λ d. target_left d history) limit (destinations history)
 
 -- what a look-up among all finds
 pub found_in : (key : ℕ) (es : List (ℕ × Option ℕ)) (w : Option ℕ) → Some w ≡ lookup (nat_eq key) es → w ≡ target_in key es

@@ -63,25 +63,25 @@ pair_remembered (Err x) key k now h old new kept put same is all asked e there =
 module _ (own linked : List ℕ → Bool) (routers : List DefaultRouter) where
   -- the next hop by what is kept is that by what happened
   pub by_history_of : (choice : Table) (destination : Addr) (next : NextHop)
-      → next ≡ hop own linked routers (target_in (number_of destination.0) choice.redirects) destination.0
-      → (history : List RedirectRow) → Stands choice history → next ≡ hop own linked routers (kept (number_of destination.0) history) destination.0
+      → next ≡ hop own linked routers (target_in (number_of destination.0) choice.redirects.entries) destination.0
+      → (history : List RedirectRow) → Stands choice history → next ≡ hop own linked routers (kept choice.redirects.limit (number_of destination.0) history) destination.0
   by_history_of choice destination next is history s =
       let key = number_of destination.0 in
-      is ∙ ap (λ k. hop own linked routers k destination.0) (ap (target_in key) s.entries_are ∙ look_remembered key history)
+      is ∙ ap (λ k. hop own linked routers k destination.0) (ap (target_in key) s.entries_are ∙ look_remembered choice.redirects.limit key history)
 
   -- the one that is remembered is that by what is kept
   pub recalled : (now : ℕ) (choice : Table) (destination : Addr) (h : Hop) → Agrees now own linked routers choice → is_asked now choice.memory.until ≡ true
       → Contains choice.memory.hops (number_of destination.0, h) → addr_at (number_of destination.0) ≡ destination
-      → hop_of h ≡ hop own linked routers (target_in (number_of destination.0) choice.redirects) destination.0
+      → hop_of h ≡ hop own linked routers (target_in (number_of destination.0) choice.redirects.entries) destination.0
   recalled now choice destination h agrees asked there same =
       let key = number_of destination.0 in
-      agrees asked (key, h) there ∙ ap (λ (a : Addr). hop own linked routers (target_in key choice.redirects) a.0) same
+      agrees asked (key, h) there ∙ ap (λ (a : Addr). hop own linked routers (target_in key choice.redirects.entries) a.0) same
 
   -- with no more than the answer that was given what is remembered still agrees
-  pub agrees_with : (now : ℕ) (old new : Table) (destination : Addr) (h : Hop) → Agrees now own linked routers old → new.redirects ≡ old.redirects → new.memory.until ≡ old.memory.until
-      → addr_at (number_of destination.0) ≡ destination → hop_of h ≡ hop own linked routers (target_in (number_of destination.0) old.redirects) destination.0
+  pub agrees_with : (now : ℕ) (old new : Table) (destination : Addr) (h : Hop) → Agrees now own linked routers old → new.redirects.entries ≡ old.redirects.entries → new.memory.until ≡ old.memory.until
+      → addr_at (number_of destination.0) ≡ destination → hop_of h ≡ hop own linked routers (target_in (number_of destination.0) old.redirects.entries) destination.0
       → ((e : ℕ × Hop) → Contains new.memory.hops e → Remembers now (number_of destination.0) h old.memory e) → Agrees now own linked routers new
   agrees_with now old new destination h agrees redirects until same is more = λ asked e there. elim (more e there) [
     | inl was ↦ rw redirects (agrees (subst (λ u. is_asked now u ≡ true) until asked) e was)
-    | inr this ↦ rw (redirects, this.1) (is ∙ sym (ap (λ (a : Addr). hop own linked routers (target_in (number_of destination.0) old.redirects) a.0) same))
+    | inr this ↦ rw (redirects, this.1) (is ∙ sym (ap (λ (a : Addr). hop own linked routers (target_in (number_of destination.0) old.redirects.entries) a.0) same))
   ]

@@ -1,12 +1,12 @@
 -- What one more row does to what is remembered.
-use Rattle.std.proofs.Common.{◌≡◌, ℕ, zero, suc, ◌-◌, Bool, true, false, cond, eqb, List, [], ◌∷◌, map, take, Option, Some, None, refl, sym, ◌∙◌, ap, subst, arith, inl, inr, nat_eq}
+use Rattle.std.proofs.Common.{◌≡◌, ◌≤◌, ℕ, zero, suc, ◌-◌, Bool, true, false, cond, eqb, List, [], ◌∷◌, map, take, Option, Some, None, refl, sym, ◌∙◌, ap, subst, arith, inl, inr, nat_eq}
 use Rattle.std.specs.Prelude.{not, ◌||◌}
 use Rattle.std.specs.Option.{option_map_or}
 use Rattle.std.specs.Map.{lookup_entry, remove_entry}
 use Rattle.std.proofs.lemmas.Bool.{cond-true, cond-false, cases_Bool, eqb-true, eq-eqb, or_parts}
 use Rattle.std.proofs.lemmas.Bool.Decides.{nat_tests}
 use Rattle.lru.specs.LruCache.{LruCache, lru_cache, put_entries}
-use Rattle.nd_nexthop.specs.History.{RedirectRow, Redirected, TargetGone, Cleared, others, destinations, since, ends, target_of, target_left, unless_ended, max_redirects}
+use Rattle.nd_nexthop.specs.History.{RedirectRow, Redirected, TargetGone, Cleared, others, destinations, since, ends, target_of, target_left, unless_ended, remembered}
 use Rattle.nd_nexthop.specs.Choice.{GainsRow, Table, left_of, ended}
 use Rattle.nd_nexthop.proofs.Keys.{has, AreApart, each_once}
 use Rattle.nd_nexthop.proofs.Places.{paired}
@@ -117,13 +117,19 @@ left_new at d t history =
     ap (λ rows. unless_ended (target_of d (Redirected at d t ∷ history)) rows) (cond-true (eqb d d) [] (Redirected at d t ∷ since d history) here)
     ∙ ap (λ (o : Option ℕ). unless_ended o []) (cond-true (eqb d d) (Some t) (target_of d history) here)
 
-pub gains_redirect : (old new : Table) (at d t : ℕ) → new.redirects ≡ put_entries nat_eq (lru_cache old.redirects max_redirects) d (Some t) → GainsRow old new (Redirected at d t)
-gains_redirect old new at d t is = record {
+-- there is room for one at least
+put_limit : (limit at d t : ℕ) (history : List RedirectRow) → 1 ≤ limit → put_entries nat_eq (lru_cache (remembered limit history) limit) d (Some t) ≡ remembered limit (Redirected at d t ∷ history)
+put_limit zero at d t history some = absurd (omega (arith, some))
+put_limit (suc n) at d t history some =
+    put (λ k. target_left k history) (λ k. target_left k (Redirected at d t ∷ history)) d (λ k differ. left_agrees at d t k history differ) n (destinations history) (Some t) (each_once history) (left_new at d t history)
+
+pub gains_redirect : (old new : Table) (at d t : ℕ) → 1 ≤ old.redirects.limit → new.redirects.limit ≡ old.redirects.limit → new.redirects.entries ≡ put_entries nat_eq (lru_cache old.redirects.entries old.redirects.limit) d (Some t) → GainsRow old new (Redirected at d t)
+gains_redirect old new at d t some same is = record {
   stands = λ history s. record {
     entries_are =
         is
-        ∙ (ap (λ es. put_entries nat_eq (lru_cache es max_redirects) d (Some t)) s.entries_are
-        ∙ put (λ k. target_left k history) (λ k. target_left k (Redirected at d t ∷ history)) d (λ k differ. left_agrees at d t k history differ) 63 (destinations history) (Some t) (each_once history) (left_new at d t history));
+        ∙ (ap (λ es. put_entries nat_eq (lru_cache es old.redirects.limit) d (Some t)) s.entries_are
+        ∙ (put_limit old.redirects.limit at d t history some ∙ ap (λ (n : ℕ). remembered n (Redirected at d t ∷ history)) (sym same)));
   };
 }
 
@@ -157,30 +163,32 @@ left_cleared at key history = by (target_of key history)
         split true = refl
         split false = refl
 
-pub gains_gone : (old new : Table) (at t : ℕ) → new.redirects ≡ map (ended (Some t)) old.redirects → GainsRow old new (TargetGone at t)
-gains_gone old new at t is = record {
+pub gains_gone : (old new : Table) (at t : ℕ) → new.redirects.limit ≡ old.redirects.limit → new.redirects.entries ≡ map (ended (Some t)) old.redirects.entries → GainsRow old new (TargetGone at t)
+gains_gone old new at t same is = record {
   stands = λ history s. record {
     entries_are =
         is ∙ (ap (λ es. map (ended (Some t)) es) s.entries_are
-        ∙ all_end (λ k. target_left k history) (λ k. target_left k (TargetGone at t ∷ history)) (Some t) (λ k. left_gone at t k history) (take max_redirects (destinations history)));
+        ∙ all_end (λ k. target_left k history) (λ k. target_left k (TargetGone at t ∷ history)) (Some t) (λ k. left_gone at t k history) (take old.redirects.limit (destinations history))
+        ∙ ap (λ (n : ℕ). remembered n (TargetGone at t ∷ history)) (sym same));
   };
 }
 
-pub gains_clear : (old new : Table) (at : ℕ) → new.redirects ≡ map (ended None) old.redirects → GainsRow old new (Cleared at)
-gains_clear old new at is = record {
+pub gains_clear : (old new : Table) (at : ℕ) → new.redirects.limit ≡ old.redirects.limit → new.redirects.entries ≡ map (ended None) old.redirects.entries → GainsRow old new (Cleared at)
+gains_clear old new at same is = record {
   stands = λ history s. record {
     entries_are =
         is ∙ (ap (λ es. map (ended None) es) s.entries_are
-        ∙ all_end (λ k. target_left k history) (λ k. target_left k (Cleared at ∷ history)) None (λ k. left_cleared at k history) (take max_redirects (destinations history)));
+        ∙ all_end (λ k. target_left k history) (λ k. target_left k (Cleared at ∷ history)) None (λ k. left_cleared at k history) (take old.redirects.limit (destinations history))
+        ∙ ap (λ (n : ℕ). remembered n (Cleared at ∷ history)) (sym same));
   };
 }
 
 -- the same of the cache's own words
-pub gains_put : (old new : Table) (cache : LruCache ℕ (Option ℕ)) (at d t k : ℕ) (w : Option ℕ) → new.redirects ≡ put_entries nat_eq cache k w → cache.entries ≡ old.redirects → cache.cap ≡ max_redirects → k ≡ d → w ≡ Some t → GainsRow old new (Redirected at d t)
-gains_put old new cache at d t k w is entries cap key value = gains_redirect old new at d t (
+pub gains_put : (old new : Table) (cache : LruCache ℕ (Option ℕ)) (at d t k : ℕ) (w : Option ℕ) → 1 ≤ cache.cap → new.redirects.limit ≡ cache.cap → new.redirects.entries ≡ put_entries nat_eq cache k w → cache.entries ≡ old.redirects.entries → cache.cap ≡ old.redirects.limit → k ≡ d → w ≡ Some t → GainsRow old new (Redirected at d t)
+gains_put old new cache at d t k w some same is entries cap key value = gains_redirect old new at d t (omega (arith, some, cap)) (same ∙ cap) (
     is
     ∙ (ap (λ (j : ℕ). put_entries nat_eq cache j w) key
     ∙ (ap (λ (o : Option ℕ). put_entries nat_eq cache d o) value
     ∙ (ap (λ es. put_entries nat_eq (lru_cache es cache.cap) d (Some t)) entries
-    ∙ ap (λ (n : ℕ). put_entries nat_eq (lru_cache old.redirects n) d (Some t)) cap)))
+    ∙ ap (λ (n : ℕ). put_entries nat_eq (lru_cache old.redirects.entries n) d (Some t)) cap)))
     )

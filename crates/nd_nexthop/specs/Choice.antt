@@ -5,14 +5,21 @@ use Rattle.nd_nexthop.specs.DefaultRouter.{DefaultRouter}
 use Rattle.nd_nexthop.specs.History.{RedirectRow, remembered}
 use Rattle.nd_nexthop.specs.Memo.{Memory, AreHops, is_asked}
 
--- the destinations that were redirected last, each with what is left of its redirect, and the next hops that are remembered
+-- how many destinations may have their redirects kept, how many may have their next hops remembered, and the destinations that were redirected last, each
+-- with what is left of its redirect
+pub record Redirects : Type 0 where
+  pub limit : ℕ
+  pub destinations : ℕ
+  pub entries : List (ℕ × Option ℕ)
+
+-- the redirects, and the next hops that are remembered
 pub record Table : Type 0 where
-  pub redirects : List (ℕ × Option ℕ)
+  pub redirects : Redirects
   pub memory : Memory
 
 -- The redirects are the destinations that were redirected last, the newest first, each with what is left of its redirect.
 pub record Stands (choice : Table) (history : List RedirectRow) : Type 0 where
-  pub entries_are : choice.redirects ≡ remembered history
+  pub entries_are : choice.redirects.entries ≡ remembered choice.redirects.limit history
 
 -- the choice gains a row
 abbrev pub GainsRow : Table → Table → RedirectRow → Type 0
@@ -47,4 +54,4 @@ turned lost (e ∷ es) = es ++ ended lost e ∷ []
 -- own addresses, these addresses on its link and these default routers.
 abbrev pub Agrees : ℕ → (List ℕ → Bool) → (List ℕ → Bool) → List DefaultRouter → Table → Type 0
 Agrees now own on_link routers choice =
-    is_asked now choice.memory.until ≡ true → AreHops own on_link routers (λ key. target_in key choice.redirects) choice.memory.hops
+    is_asked now choice.memory.until ≡ true → AreHops own on_link routers (λ key. target_in key choice.redirects.entries) choice.memory.hops

@@ -1,7 +1,7 @@
 -- What happens to the redirects of a host, the newest first (RFC 4861, section 8.3). Nothing here has a state: each question looks back.
 use Rattle.std.specs.Prelude.{ℕ, Bool, true, false, ◌||◌, not, ◌==◌, nat_lt, if◌then◌else◌, List, [], ◌∷◌, ◌++◌, length, map, take, filter, Option, Some, None, option_map, option_to_list}
 
--- how many destinations have their redirects kept (our choice)
+-- the greatest limit on the destinations whose redirects are kept (our choice)
 abbrev pub max_redirects : ℕ
 max_redirects = 64
 
@@ -54,14 +54,14 @@ unless_ended (Some target) history = if ends target history then None else Some 
 abbrev pub target_left : ℕ → List RedirectRow → Option ℕ
 target_left key history = unless_ended (target_of key history) (since key history)
 
--- The kept redirect of a destination: what is left of its last one, unless 64 other destinations were redirected since then. Those whose
--- redirects ended count too.
-abbrev pub kept : ℕ → List RedirectRow → Option ℕ
-kept key history = if nat_lt (length (destinations (since key history))) max_redirects then target_left key history else None
+-- The kept redirect of a destination: what is left of its last one, unless as many other destinations as the limit were redirected since
+-- then. Those whose redirects ended count too.
+abbrev pub kept : ℕ → ℕ → List RedirectRow → Option ℕ
+kept limit key history = if nat_lt (length (destinations (since key history))) limit then target_left key history else None
 
--- the 64 destinations that were redirected last, each with what is left of its redirect
-abbrev pub remembered : List RedirectRow → List (ℕ × Option ℕ)
-remembered history = map (λ key. (key, target_left key history)) (take max_redirects (destinations history))
+-- as many destinations as the limit, those that were redirected last, each with what is left of its redirect
+abbrev pub remembered : ℕ → List RedirectRow → List (ℕ × Option ℕ)
+remembered limit history = map (λ key. (key, target_left key history)) (take limit (destinations history))
 
 -- those of which something is left
 abbrev pub those_left : List (ℕ × Option ℕ) → List (ℕ × ℕ)
@@ -69,5 +69,5 @@ those_left [] = []
 those_left (e ∷ es) = option_to_list (option_map (λ target. (e.0, target)) e.1) ++ those_left es
 
 -- the kept redirects, each a destination and its target, the newest first
-abbrev pub redirects : List RedirectRow → List (ℕ × ℕ)
-redirects history = those_left (remembered history)
+abbrev pub redirects : ℕ → List RedirectRow → List (ℕ × ℕ)
+redirects limit history = those_left (remembered limit history)

@@ -6,12 +6,14 @@ use Rattle.nd_nexthop.specs.declared.next_hop.Hop.{Hop}
 use Rattle.nd_nexthop.specs.NextHop.{hop}
 use Rattle.nd_nexthop.specs.NextHopKept.{hop_of}
 
--- how many destinations have their next hops remembered (our choice)
+-- the greatest limit on the destinations whose next hops are remembered (our choice)
 abbrev pub max_remembered : ℕ
 max_remembered = 256
 
--- The destinations by their numbers, each with its next hop, and the last moment at which they are asked for, if there is one.
+-- How many destinations there is room for; these by their numbers, each with its next hop; and the last moment at which they are asked for, if there is
+-- one.
 pub record Memory : Type 0 where
+  pub limit : ℕ
   pub hops : List (ℕ × Hop)
   pub until : Option ℕ
 

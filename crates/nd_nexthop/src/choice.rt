@@ -13,8 +13,8 @@ use std::alloc::{AllocError, Allocator};
 use std::marker::Model;
 use std::num::NonZeroUsize;
 
-/// The number of destinations whose redirects are kept (our choice).
-const MAX_REDIRECTS: usize = 64;
+/// The greatest limit on the destinations whose redirects are kept (our choice).
+pub const MAX_REDIRECTS: usize = 64;
 
 /// Chooses next hops, with the redirects that it keeps and the next hops that it remembers: the Destination Cache of RFC 4861, section 5.1.
 /// A remembered next hop is always the one that would be chosen anew.
@@ -26,29 +26,34 @@ pub struct Choice<A: Allocator> {
 }
 
 impl<A: Allocator> Model for Choice<A> {
-    ghost use Rattle.std.specs.Prelude.{◌≡◌};
+    ghost use Rattle.std.specs.Prelude.{◌≤◌};
     ghost use Rattle.nd_nexthop.specs.Choice.{Table};
     ghost use Rattle.nd_nexthop.specs.History.{max_redirects};
 
     ghost Value = { Table };
 
-    ghost view = { λ c. record { redirects = c.redirects.entries; memory = c.memo } };
+    ghost view = { λ c. record { redirects = record { limit = c.redirects.cap; destinations = c.memo.limit; entries = c.redirects.entries }; memory = c.memo } };
 
-    ghost invariant = { λ c. c.redirects.cap ≡ max_redirects };
+    ghost invariant = { λ c. (1 ≤ c.redirects.cap) × (c.redirects.cap ≤ max_redirects) };
 }
 
 impl<A: Allocator + Clone> Choice<A> {
     ghost use Rattle.nd_nexthop.specs.Choice.{Stands};
 
-    /// Returns a choice without redirects, with room for those of 64 destinations, that remembers no next hop. Returns an error if out of memory.
-    pub fn new(alloc: A) -> Result<Self, AllocError>
-        ensures empty { IfOk result (λ choice. choice ≡ record { redirects = []; memory = record { hops = []; until = None } }) }
+    /// Returns a choice without redirects, with room for those of so many destinations, 1 to 64, that remembers no next hop, and may remember those of
+    /// so many destinations, 1 to 256. Returns an error if out of memory.
+    pub fn new(alloc: A, redirects: usize, destinations: usize) -> Result<Self, AllocError>
+        requires least_redirects { 1 ≤ redirects }
+        requires most_redirects { redirects ≤ max_redirects }
+        requires least_destinations { 1 ≤ destinations }
+        requires most_destinations { destinations ≤ max_remembered }
+        ensures empty { IfOk result (λ choice. choice ≡ record { redirects = record { limit = redirects; destinations = destinations; entries = [] }; memory = record { limit = destinations; hops = []; until = None } }) }
         ensures stands { IfOk result (λ choice. Stands choice []) }
     {
-        let limit = NonZeroUsize::new(MAX_REDIRECTS).unwrap();
+        let limit = NonZeroUsize::new(redirects).unwrap();
         Ok(Choice {
             redirects: LruCache::new(alloc.clone()?, limit)?,
-            memo: Memo::new(alloc)?,
+            memo: Memo::new(alloc, destinations)?,
         })
     }
 }
@@ -58,25 +63,25 @@ impl<A: Allocator> Choice<A> {
 
     /// Returns the kept redirects, the newest first.
     pub fn rows(&self) -> KeptRedirects<'_>
-        ensures value { redirects_left result ≡ those_left self.now.redirects }
-        ensures by_history { (history : List RedirectRow) → Stands self.now history → redirects_left result ≡ redirects history }
+        ensures value { redirects_left result ≡ those_left self.now.redirects.entries }
+        ensures by_history { (history : List RedirectRow) → Stands self.now history → redirects_left result ≡ redirects self.now.redirects.limit history }
     {
         KeptRedirects::new(self.redirects.iter())
     }
 
-    /// Returns the number of destinations with an entry among the kept redirects, at most 64. A destination whose redirect ended keeps its entry
+    /// Returns the number of destinations with an entry among the kept redirects, at most the limit. A destination whose redirect ended keeps its entry
     /// until another one needs the room.
     pub fn redirects_len(&self) -> usize
-        ensures value { result ≡ length self.now.redirects }
-        ensures few { result ≤ max_redirects }
+        ensures value { result ≡ length self.now.redirects.entries }
+        ensures few { result ≤ self.now.redirects.limit }
     {
         self.redirects.len()
     }
 
-    /// Returns the number of destinations whose next hops are remembered, at most 256.
+    /// Returns the number of destinations whose next hops are remembered, at most the limit.
     pub fn remembered(&self) -> usize
         ensures value { result ≡ length self.now.memory.hops }
-        ensures few { result ≤ max_remembered }
+        ensures few { result ≤ self.now.redirects.destinations }
     {
         self.memo.len()
     }

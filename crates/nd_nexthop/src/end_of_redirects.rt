@@ -21,6 +21,8 @@ impl<A: Allocator> Choice<A> {
     pub fn target_gone(&mut self, target: Addr)
         ensures stands { (at : ℕ) → GainsRow self.old self.new (TargetGone at (number_of target.0)) }
         ensures memory { self.new.memory ≡ forgotten self.old.memory }
+        ensures limit { self.new.redirects.limit ≡ self.old.redirects.limit }
+        ensures destinations { self.new.redirects.destinations ≡ self.old.redirects.destinations }
     {
         end_each(&mut self.redirects, Some(target));
         self.memo.forget();
@@ -30,6 +32,8 @@ impl<A: Allocator> Choice<A> {
     pub fn clear(&mut self)
         ensures stands { (at : ℕ) → GainsRow self.old self.new (Cleared at) }
         ensures memory { self.new.memory ≡ forgotten self.old.memory }
+        ensures limit { self.new.redirects.limit ≡ self.old.redirects.limit }
+        ensures destinations { self.new.redirects.destinations ≡ self.old.redirects.destinations }
     {
         end_each(&mut self.redirects, None);
         self.memo.forget();

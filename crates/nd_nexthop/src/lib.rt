@@ -13,8 +13,9 @@ mod redirect;
 mod target;
 mod view;
 
-pub use choice::Choice;
+pub use choice::{Choice, MAX_REDIRECTS};
 pub use default_router::Candidate;
 pub use kept_redirects::{KeptRedirects, Redirect};
+pub use memo::MAX_REMEMBERED;
 pub use next_hop::Hop;
 pub use view::View;

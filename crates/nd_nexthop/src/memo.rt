@@ -12,8 +12,8 @@ use std::alloc::{AllocError, Allocator};
 use std::marker::Model;
 use std::num::NonZeroUsize;
 
-/// The most destinations whose next hops are remembered (our choice).
-const MAX_REMEMBERED: usize = 256;
+/// The greatest limit on the destinations whose next hops are remembered (our choice).
+pub const MAX_REMEMBERED: usize = 256;
 
 /// The next hops of the destinations that were looked up most recently.
 #[derive(Drop)]
@@ -25,22 +25,24 @@ pub(crate) struct Memo<A: Allocator> {
 }
 
 impl<A: Allocator> Model for Memo<A> {
-    ghost use Rattle.std.specs.Prelude.{◌≡◌};
+    ghost use Rattle.std.specs.Prelude.{◌≤◌};
     ghost use Rattle.nd_nexthop.specs.Memo.{Memory, max_remembered};
 
     ghost Value = { Memory };
 
-    ghost view = { λ m. record { hops = m.hops.entries; until = m.until } };
+    ghost view = { λ m. record { limit = m.hops.cap; hops = m.hops.entries; until = m.until } };
 
-    ghost invariant = { λ m. m.hops.cap ≡ max_remembered };
+    ghost invariant = { λ m. m.hops.cap ≤ max_remembered };
 }
 
 impl<A: Allocator + Clone> Memo<A> {
-    /// Returns an empty memo. Returns an error if out of memory.
-    pub(crate) fn new(alloc: A) -> Result<Self, AllocError>
-        ensures { IfOk result (λ memo. memo ≡ record { hops = []; until = None }) }
+    /// Returns an empty memo, with room for so many destinations. Returns an error if out of memory.
+    pub(crate) fn new(alloc: A, limit: usize) -> Result<Self, AllocError>
+        requires least { 1 ≤ limit }
+        requires most { limit ≤ max_remembered }
+        ensures { IfOk result (λ memo. memo ≡ record { limit = limit; hops = []; until = None }) }
     {
-        let limit = NonZeroUsize::new(MAX_REMEMBERED).unwrap();
+        let limit = NonZeroUsize::new(limit).unwrap();
         Ok(Memo {
             hops: LruCache::new(alloc, limit)?,
             until: None,
@@ -51,6 +53,7 @@ impl<A: Allocator + Clone> Memo<A> {
     pub(crate) fn remember(&mut self, now: u64, destination: Addr, hop: Hop)
         ensures hops { (e : ℕ × Answer) → Contains self.new.hops e → Contains self.old.hops e ⊎ ((is_asked now self.old.until ≡ true) × (e ≡ (number_of destination.0, hop))) }
         ensures until { self.new.until ≡ self.old.until }
+        ensures limit { self.new.limit ≡ self.old.limit }
     {
         if self.is_asked(now) {
             let _ = self.hops.put(destination.to_bits(), hop);
@@ -65,6 +68,7 @@ impl<A: Allocator> Memo<A> {
         ensures found { IfSome result (λ hop. Contains self.old.hops (number_of destination.0, hop)) }
         ensures hops { (e : ℕ × Answer) → Contains self.new.hops e → Contains self.old.hops e }
         ensures until { self.new.until ≡ self.old.until }
+        ensures limit { self.new.limit ≡ self.old.limit }
     {
         if !self.is_asked(now) {
             return None;
@@ -85,7 +89,7 @@ impl<A: Allocator> Memo<A> {
     /// Returns the number of destinations that are remembered.
     pub(crate) fn len(&self) -> usize
         ensures value { result ≡ length self.now.hops }
-        ensures few { result ≤ max_remembered }
+        ensures few { result ≤ self.now.limit }
     {
         self.hops.len()
     }

@@ -34,9 +34,9 @@ impl<A: Allocator + Clone> Choice<A> {
     /// remembers the next hop of a destination that isn't link-local; when out of memory it does not, and nothing else differs.
     pub fn next_hop<V: View>(&mut self, now: u64, destination: Addr, view: &V) -> Hop
         ensures value { Agrees now (V.own view.now) (V.linked view.now) (V.candidates view.now) self.old
-            → hop_of result ≡ hop (V.own view.now) (V.linked view.now) (V.candidates view.now) (target_in (number_of destination.0) self.old.redirects) destination.0 }
+            → hop_of result ≡ hop (V.own view.now) (V.linked view.now) (V.candidates view.now) (target_in (number_of destination.0) self.old.redirects.entries) destination.0 }
         ensures by_history { Agrees now (V.own view.now) (V.linked view.now) (V.candidates view.now) self.old
-            → (history : List RedirectRow) → Stands self.old history → hop_of result ≡ hop (V.own view.now) (V.linked view.now) (V.candidates view.now) (kept (number_of destination.0) history) destination.0 }
+            → (history : List RedirectRow) → Stands self.old history → hop_of result ≡ hop (V.own view.now) (V.linked view.now) (V.candidates view.now) (kept self.old.redirects.limit (number_of destination.0) history) destination.0 }
         ensures agrees { Agrees now (V.own view.now) (V.linked view.now) (V.candidates view.now) self.old → Agrees now (V.own view.now) (V.linked view.now) (V.candidates view.now) self.new }
         ensures stands { (history : List RedirectRow) → Stands self.old history → Stands self.new history }
 
@@ -68,15 +68,15 @@ impl<A: Allocator> Choice<A> {
     /// Determines the next hop of a packet anew, from the view (RFC 4861, section 5.2). It neither reads nor changes what is remembered, and takes
     /// no memory.
     pub fn determine<V: View>(&self, destination: Addr, view: &V) -> Hop
-        ensures value { hop_of result ≡ hop (V.own view.now) (V.linked view.now) (V.candidates view.now) (target_in (number_of destination.0) self.now.redirects) destination.0 }
-        ensures by_history { (history : List RedirectRow) → Stands self.now history → hop_of result ≡ hop (V.own view.now) (V.linked view.now) (V.candidates view.now) (kept (number_of destination.0) history) destination.0 }
+        ensures value { hop_of result ≡ hop (V.own view.now) (V.linked view.now) (V.candidates view.now) (target_in (number_of destination.0) self.now.redirects.entries) destination.0 }
+        ensures by_history { (history : List RedirectRow) → Stands self.now history → hop_of result ≡ hop (V.own view.now) (V.linked view.now) (V.candidates view.now) (kept self.now.redirects.limit (number_of destination.0) history) destination.0 }
     {
         determine(self.target(destination), destination, view)
     }
 
     /// Returns the target of a destination's kept redirect. A look-up does not change which redirect is evicted first.
     fn target(&self, destination: Addr) -> Option<Addr>
-        ensures { option_map (λ a. number_of a.0) result ≡ target_in (number_of destination.0) self.now.redirects }
+        ensures { option_map (λ a. number_of a.0) result ≡ target_in (number_of destination.0) self.now.redirects.entries }
     {
         // Mostly there is none, and a look-up has to make a hash.
         if self.redirects.is_empty() {

@@ -64,7 +64,7 @@ use Rattle.nd_steps.specs.Parameters.{then_parameters, HearsParameters}
 use Rattle.nd_steps.specs.OwnAddresses.{Forms}
 use Rattle.nd_nexthop.specs.Memo.{is_asked}
 use Rattle.nd_slaac.specs.Calls.{keys_in}
-use Rattle.nd_steps.specs.DestinationCache.{AsListed, AsStanding, MayRemember, Recollects, forms_none, last_before_end}
+use Rattle.nd_steps.specs.DestinationCache.{AsListed, AsStanding, KeepsRoom, MayRemember, Recollects, forms_none, last_before_end}
 use Rattle.nd_node.proofs.Recalling.{Recalls, own_by}
 use Rattle.nd_node.proofs.Refreshing.{is_known_by, own_refreshed, recalls_refreshed}
 use Rattle.nd_steps.specs.SolicitRouters as soliciting
@@ -352,6 +352,7 @@ last_announced now ((key, lifetime) ∷ announced) history le = last_announced n
 pub record Takes {R A : Type 0} (stream : R → Stream) (old new : Node R A) (before after : List (ℕ × Out A)) (now : ℕ) (source destination : Addr) (ra : RouterAdvertisement) (options : List Said) : Type 0 where
   pub role : new.role ≡ old.role
   pub mac : new.mac ≡ old.mac
+  pub chosen : new.limits ≡ old.limits
   pub last : new.last ≡ now
   -- what the generator will answer between a redraw and the first delay
   pub left : Stream
@@ -362,6 +363,12 @@ pub record Takes {R A : Type 0} (stream : R → Stream) (old new : Node R A) (be
   pub ends : Bool
   pub neighbours : HearsOf old.neighbours.limit now (given_or_marked (number_of source.0) (first_slla options) (Some true)) old.neighbours.entries new.neighbours.entries before between ends
   pub neighbour_limit : new.neighbours.limit ≡ old.neighbours.limit
+  pub waiting : new.neighbours.waiting ≡ old.neighbours.waiting
+  pub router_limit : new.routers.limit ≡ old.routers.limit
+  pub prefix_limit : new.prefixes.limit ≡ old.prefixes.limit
+  pub server_limit : new.dns.server_limit ≡ old.dns.server_limit
+  pub name_limit : new.dns.name_limit ≡ old.dns.name_limit
+  pub room : KeepsRoom old.choice new.choice
   pub left_list : Bool
   pub times_out : (history : List router_rows.RouterRow) → router_list.Stands old.routers history → left_list ≡ ((ra.router_lifetime == 0) && lifetimes.stands same (number_of source.0) (announcements history) now)
   pub routers : (history : List router_rows.RouterRow) → router_list.Stands old.routers history → router_list.Stands new.routers (with_left now left_list (number_of source.0) (router_rows.Heard now (number_of source.0) ra.router_lifetime ra.preference ∷ history))
@@ -372,17 +379,16 @@ pub record Takes {R A : Type 0} (stream : R → Stream) (old new : Node R A) (be
   pub third : choice.Table
   pub may : MayRemember old.choice first old.neighbours.entries new.neighbours.entries
   pub listed : Recollects first second (AsListed first second old.routers new.routers)
-  pub linked : Recollects second third (AsStanding now old.prefixes new.prefixes)
+  pub linked : Recollects second third (AsStanding now old.prefixes.entries new.prefixes.entries)
   pub redirects_third : third.redirects ≡ second.redirects
   pub redirects_then : new.choice.redirects ≡ third.redirects
   pub own : Bool
   pub own_is : own ≡ forms_none old.addresses.mac (keys_in old.addresses.addresses) (prefixes_in options)
   pub hops : new.choice.memory.hops ≡ (if own && is_asked now third.memory.until then third.memory.hops else [])
-  pub until : new.choice.memory.until ≡ last_before_end now new.prefixes
+  pub until : new.choice.memory.until ≡ last_before_end now new.prefixes.entries
   pub routers_settled : router_list.IsSettled new.routers.entries now
-  pub router_limit : new.routers.limit ≡ old.routers.limit
   pub left_is_told : told.happenings after ≡ told.happenings between ++ at_moment now (left_told left_list (number_of source.0))
-  pub prefixes : (history : List (lifetimes.Row PrefixValue)) → lifetimes.last_moment history ≤ now → lists.Stands same_prefix old.prefixes history → lists.Stands same_prefix new.prefixes (then_announced now (on_link.prefixes_in options) history)
+  pub prefixes : (history : List (lifetimes.Row PrefixValue)) → lifetimes.last_moment history ≤ now → lists.Stands same_prefix old.prefixes.entries history → lists.Stands same_prefix new.prefixes.entries (then_announced now (on_link.prefixes_in options) history)
   pub retrans : ℕ
   pub in_force : retrans ≡ new.params.retrans_timer
   pub to_all : Bool
@@ -415,7 +421,7 @@ module _ {R A : Type 0} (stream : R → Stream) (old new : Node R A) (before aft
       × (told.happenings t.between ≡ told.happenings before ++ at_moment now (released_frames now of_sender (neighbour_history c)))
   meets =
       let h = t.neighbours.each (neighbour_history c) s.neighbours in
-      (h.0, subst (λ (n : ℕ). PreparesFor n now of_sender (neighbour_history c) h.0) s.neighbour_limit h.1, h.2, h.3)
+      (h.0, subst (λ (n : ℕ). PreparesFor n now of_sender (neighbour_history c) h.0) s.limits.neighbours h.1, h.2, h.3)
 
   place : Placed start c now of_sender meets.0
   place = placed_by start c now of_sender meets.0 laws.one_goes (λ at. refl) meets.1
@@ -483,6 +489,7 @@ module _ {R A : Type 0} (stream : R → Stream) (old new : Node R A) (before aft
   forms_left = record {
     addresses = subst (λ (h : List address_rows.Row). addresses.Stands old.addresses.addresses h) (sym addresses_are) s.addresses;
     mac = s.address_mac;
+    limit = s.limits.addresses;
     transmits = s.address_transmits;
     generator = t.params.generator start placed source destination params_placed generator_placed ∙ sym (leaving_adds.stream start ∙ frames_add.stream start);
     in_force = t.in_force ∙ (params_begun.retrans_timer ∙ ap (λ (h : List parameter_rows.Row). parameter_rows.retrans_of h) (sym (leaving_adds.parameters ∙ frames_add.parameters)));
@@ -611,13 +618,23 @@ module _ {R A : Type 0} (stream : R → Stream) (old new : Node R A) (before aft
   stands_all = record {
     role = t.role ∙ s.role;
     mac = t.mac ∙ s.mac;
+    chosen = t.chosen ∙ s.chosen;
     address_mac = forms_all.mac;
     address_transmits = forms_all.transmits;
-    neighbour_limit = t.neighbour_limit ∙ s.neighbour_limit;
-    router_limit = t.router_limit ∙ s.router_limit;
+    limits = record {
+      neighbours = t.neighbour_limit ∙ s.limits.neighbours;
+      routers = t.router_limit ∙ s.limits.routers;
+      prefixes = t.prefix_limit ∙ s.limits.prefixes;
+      addresses = forms_all.limit;
+      servers = t.server_limit ∙ s.limits.servers;
+      names = t.name_limit ∙ s.limits.names;
+      redirects = t.room.redirects ∙ s.limits.redirects;
+      destinations = t.room.destinations ∙ s.limits.destinations;
+      waiting = t.waiting ∙ s.limits.waiting;
+    };
     params = subst (λ (h : List parameter_rows.Row). parameters.Stands new.params h) (sym parameters_are) params_begun;
     routers = subst (λ (h : List router_rows.RouterRow). router_list.Stands new.routers h) (sym routers_are) (t.routers (router_history c) s.routers);
-    prefixes = subst (λ (h : List (lifetimes.Row PrefixValue)). lists.Stands same_prefix new.prefixes h) (sym prefixes_are) (t.prefixes (prefix_history c) prefixes_came s.prefixes);
+    prefixes = subst (λ (h : List (lifetimes.Row PrefixValue)). lists.Stands same_prefix new.prefixes.entries h) (sym prefixes_are) (t.prefixes (prefix_history c) prefixes_came s.prefixes);
     addresses = forms_all.addresses;
     neighbours = subst (λ (h : List neighbour_rows.Row). cache.Stands new.neighbours.entries h) (sym neighbours_are) meets.2;
     dns = subst (λ (h : List (lifetimes.Row Addr)). known.Stands new.dns h (name_history all)) (sym servers_are)

@@ -172,7 +172,7 @@ module _ {R A : Type 0} (stream : R → Stream) (old new : Node R A) (x room y1 
         let this_is : option_map (said_by times) news ≡ this =
         news_is ∙ ap (λ (r : ℕ). said_of_neighbour source (bodies.Na na) options r) (reachable_is ∙ s.params.reachable_time) in
         let hears' : HearsOf limit now this old.neighbours.entries new.neighbours.entries y2 y3 ends =
-        subst (λ (l : ℕ). HearsOf l now this old.neighbours.entries new.neighbours.entries y2 y3 ends) s.neighbour_limit
+        subst (λ (l : ℕ). HearsOf l now this old.neighbours.entries new.neighbours.entries y2 y3 ends) s.limits.neighbours
         (subst (λ (o : Option (ℕ × rows.RowKind)). HearsOf old.neighbours.limit now o old.neighbours.entries new.neighbours.entries y2 y3 ends) this_is hears) in
         let h = hears'.each history s.neighbours in
         let cf = conflicts.stands (address_history c) s.addresses in

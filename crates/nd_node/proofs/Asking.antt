@@ -106,14 +106,14 @@ pub would_be_full : {R A : Type 0} (stream : R → Stream) (start : Start) (node
     → has_room node.neighbours.limit now key None node.neighbours.entries ≡ false → WouldBeFull start.limits.neighbours now key (neighbour_history c)
 would_be_full stream start node c now key law s room =
     let none : NoPlace node.neighbours.limit now key node.neighbours.entries = no_room (entry_in key node.neighbours.entries) (has_place node.neighbours.limit now node.neighbours.entries) room in
-    subst (λ (limit : ℕ). WouldBeFull limit now key (neighbour_history c)) s.neighbour_limit ((law node.neighbours.limit now key node.neighbours.entries (neighbour_history c) s.neighbours).0 none)
+    subst (λ (limit : ℕ). WouldBeFull limit now key (neighbour_history c)) s.limits.neighbours ((law node.neighbours.limit now key node.neighbours.entries (neighbour_history c) s.neighbours).0 none)
 
 -- a neighbour has place
 pub has_place_for : {R A : Type 0} (stream : R → Stream) (start : Start) (node : Node R A) (c : Chronicle) (now key : ℕ) → RoomIsPlace → FullByHistory → Stands stream start node c
     → has_room node.neighbours.limit now key None node.neighbours.entries ≡ true → packets.HasPlace start ((now, Passed) ∷ c) now key true true
 has_place_for stream start node c now key room_is_place full_by_history s has = λ enters would.
     room_is_place node.neighbours.limit now key None node.neighbours.entries has
-    ((full_by_history node.neighbours.limit now key node.neighbours.entries (neighbour_history c) s.neighbours).1 (subst (λ (limit : ℕ). WouldBeFull limit now key (neighbour_history c)) (sym s.neighbour_limit) would))
+    ((full_by_history node.neighbours.limit now key node.neighbours.entries (neighbour_history c) s.neighbours).1 (subst (λ (limit : ℕ). WouldBeFull limit now key (neighbour_history c)) (sym s.limits.neighbours) would))
 
 -- there is place for the news
 pub place_for_news : RoomIsPlace → (limit now key : ℕ) (entries : List neighbour_entries.NeighbourEntry) (news : Option News) → IsOfAsker key news → has_room limit now key None entries ≡ true → HasPlace limit now news entries
@@ -220,7 +220,7 @@ module _ {R A : Type 0} (stream : R → Stream) (old mid : Node R A) (x room y z
       let this_is : option_map (said_by times) news ≡ this =
       news_is ∙ ap (λ (r : ℕ). said_of_neighbour source (bodies.Ns ns) options r) (reachable_is ∙ s.params.reachable_time) in
       let hears' : HearsOf limit now this old.neighbours.entries mid.neighbours.entries y z ends =
-      subst (λ (l : ℕ). HearsOf l now this old.neighbours.entries mid.neighbours.entries y z ends) s.neighbour_limit
+      subst (λ (l : ℕ). HearsOf l now this old.neighbours.entries mid.neighbours.entries y z ends) s.limits.neighbours
       (subst (λ (o : Option (ℕ × rows.RowKind)). HearsOf old.neighbours.limit now o old.neighbours.entries mid.neighbours.entries y z ends) this_is hears) in
       let h = hears'.each history s.neighbours in
       let made : List rows.Row = h.0 in

@@ -13,6 +13,7 @@ use Rattle.nd_slaac.specs.Calls.{formed}
 use Rattle.nd_routers.specs.RoutersKept as routers
 use Rattle.nd_params.specs.ParamsKept as parameters
 use Rattle.nd_dns.specs.DnsKept as dns
+use Rattle.nd_routers.specs.PrefixesKept.{Prefixes}
 use Rattle.nd_nexthop.specs.Choice as choice
 use Rattle.nd_chronicle.specs.Start.{Start, link_local_key}
 use Rattle.nd_chronicle.specs.Histories.{parameter_history, address_history}
@@ -40,32 +41,45 @@ none_advertised Router now = tt
 pub record Starts {R A : Type 0} (stream : R → Stream) (start : Start) (node : Node R A) : Type 0 where
   pub role : node.role ≡ start.role
   pub mac : node.mac ≡ start.mac
+  pub chosen : node.limits ≡ start.limits
   pub last : node.last ≡ start.at
   pub drawn_at : node.params.drawn_at ≡ start.at
   pub address_mac : node.addresses.mac ≡ start.mac
   pub address_transmits : node.addresses.transmits ≡ start.transmits
+  pub address_limit : node.addresses.limit ≡ start.limits.addresses
   pub delay : ℕ
   pub retrans : ℕ
   pub formed : node.addresses.addresses ≡ formed (link_local_key start) start.at delay retrans None ∷ []
   pub routers : node.routers ≡ record { limit = start.limits.routers; entries = []; preferences = []; failed = [] }
-  pub neighbours : node.neighbours ≡ record { limit = start.limits.neighbours; entries = []; rings = 0 }
+  pub neighbours : node.neighbours ≡ record { limit = start.limits.neighbours; entries = []; waiting = start.limits.waiting; rings = 0 }
   pub solicitations : node.solicitations ≡ none_sent
-  pub no_prefixes : node.prefixes ≡ []
-  pub choice : node.choice ≡ record { redirects = []; memory = record { hops = []; until = None } }
-  pub advertiser : node.router.advertiser ≡ record { assigned = None; last = None; advertising = None; offers = [] }
-  pub routes : node.router.routes ≡ record { entries = []; redirected = None }
+  pub no_prefixes : node.prefixes ≡ record { limit = start.limits.prefixes; entries = [] }
+  pub no_dns : node.dns ≡ record { server_limit = start.limits.servers; name_limit = start.limits.names; servers = []; names = [] }
+  pub choice : node.choice ≡ record { redirects = record { limit = start.limits.redirects; destinations = start.limits.destinations; entries = [] }; memory = record { limit = start.limits.destinations; hops = []; until = None } }
+  pub advertiser : node.router.advertiser ≡ record { assigned = None; last = None; advertising = None; limit = start.limits.offers; offers = [] }
+  pub routes : node.router.routes ≡ record { limit = start.limits.routes; entries = []; redirected = None }
 
 pub stands_beginning : {R A : Type 0} (stream : R → Stream) (start : Start) (node : Node R A) → Starts stream start node
-    → parameters.Stands node.params (parameter_history (beginning start)) → routers.Stands node.routers [] → lists.Stands same_prefix node.prefixes []
+    → parameters.Stands node.params (parameter_history (beginning start)) → routers.Stands node.routers [] → lists.Stands same_prefix node.prefixes.entries []
     → addresses.Stands node.addresses.addresses (address_history (beginning start)) → neighbours.Stands node.neighbours.entries [] → dns.Stands node.dns [] [] → choice.Stands node.choice []
     → stream node.generator ≡ stream_left start (beginning start) → Stands stream start node (beginning start)
 stands_beginning stream start node v params routers' prefixes addresses' neighbours' dns' redirects generator = record {
   role = v.role;
   mac = v.mac;
+  chosen = v.chosen;
   address_mac = v.address_mac;
   address_transmits = v.address_transmits;
-  neighbour_limit = ap (λ (t : neighbours.Table). t.limit) v.neighbours;
-  router_limit = ap (λ (t : routers.Table). t.limit) v.routers;
+  limits = record {
+    neighbours = ap (λ (t : neighbours.Table). t.limit) v.neighbours;
+    routers = ap (λ (t : routers.Table). t.limit) v.routers;
+    prefixes = ap (λ (t : Prefixes). t.limit) v.no_prefixes;
+    addresses = v.address_limit;
+    servers = ap (λ (t : dns.Table). t.server_limit) v.no_dns;
+    names = ap (λ (t : dns.Table). t.name_limit) v.no_dns;
+    redirects = ap (λ (t : choice.Table). t.redirects.limit) v.choice;
+    destinations = ap (λ (t : choice.Table). t.redirects.destinations) v.choice;
+    waiting = ap (λ (t : neighbours.Table). t.waiting) v.neighbours;
+  };
   params = params;
   routers = routers';
   prefixes = prefixes;
@@ -78,7 +92,7 @@ stands_beginning stream start node v params routers' prefixes addresses' neighbo
     sent = ap (λ (s : Solicitations). s.sent) v.solicitations;
     heard = ap (λ (s : Solicitations). s.heard) v.solicitations;
   };
-  router = record { advertiser = rw v.advertiser (record { assigned = refl; last = refl; advertising = refl; offers = refl }); routes = rw v.routes (record { entries_are = refl; redirected_is = refl }); spaced = tt };
+  router = record { advertiser = rw v.advertiser (record { assigned = refl; last = refl; advertising = refl; offers = refl }); routes = rw v.routes (record { entries_are = refl; redirected_is = refl }); offer_limit = rw v.advertiser refl; route_limit = rw v.routes refl; spaced = tt };
   generator = generator;
   last = v.last;
   prefixes_by_then = omega arith;

@@ -105,6 +105,7 @@ beside_sent at frame c = record {
 pub record Same {R A : Type 0} (old new : Node R A) : Type 0 where
   pub role : new.role ≡ old.role
   pub mac : new.mac ≡ old.mac
+  pub chosen : new.limits ≡ old.limits
   pub generator : new.generator ≡ old.generator
   pub last : new.last ≡ old.last
   pub params : new.params ≡ old.params
@@ -116,7 +117,9 @@ pub record Same {R A : Type 0} (old new : Node R A) : Type 0 where
   pub router : new.router ≡ old.router
   pub address_mac : new.addresses.mac ≡ old.addresses.mac
   pub address_transmits : new.addresses.transmits ≡ old.addresses.transmits
+  pub address_limit : new.addresses.limit ≡ old.addresses.limit
   pub neighbour_limit : new.neighbours.limit ≡ old.neighbours.limit
+  pub waiting : new.neighbours.waiting ≡ old.neighbours.waiting
 
 module _ {R A : Type 0} (stream : R → Stream) (start : Start) (old new : Node R A) (c d : Chronicle) (now : ℕ)
     (same : Same old new) (b : Beside c d) (s : Stands stream start old c) (at : last_moment start.at c ≡ now) (end : last_moment start.at d ≡ now) where
@@ -130,10 +133,20 @@ module _ {R A : Type 0} (stream : R → Stream) (start : Start) (old new : Node 
   stands_beside addresses' later_address neighbours' later_neighbour recalls = record {
     role = same.role ∙ s.role;
     mac = same.mac ∙ s.mac;
+    chosen = same.chosen ∙ s.chosen;
     address_mac = same.address_mac ∙ s.address_mac;
     address_transmits = same.address_transmits ∙ s.address_transmits;
-    neighbour_limit = same.neighbour_limit ∙ s.neighbour_limit;
-    router_limit = rw same.routers s.router_limit;
+    limits = record {
+      neighbours = same.neighbour_limit ∙ s.limits.neighbours;
+      routers = rw same.routers s.limits.routers;
+      prefixes = rw same.prefixes s.limits.prefixes;
+      addresses = same.address_limit ∙ s.limits.addresses;
+      servers = rw same.dns s.limits.servers;
+      names = rw same.dns s.limits.names;
+      redirects = rw same.redirects s.limits.redirects;
+      destinations = rw same.redirects s.limits.destinations;
+      waiting = same.waiting ∙ s.limits.waiting;
+    };
     params = rw (same.params, b.parameters) s.params;
     routers = rw (same.routers, b.routers) s.routers;
     prefixes = rw (same.prefixes, b.prefixes) s.prefixes;

@@ -19,9 +19,10 @@ use Rattle.nd_routers.specs.History as router_rows
 use Rattle.nd_routers.specs.RoutersKept as routers
 use Rattle.nd_routers.specs.RoutersKept.{keys, then_left}
 use Rattle.nd_nexthop.specs.History as redirect_rows
-use Rattle.nd_nexthop.specs.History.{RedirectRow, destinations, max_redirects, remembered, since, target_left, target_of, unless_ended}
+use Rattle.nd_nexthop.specs.History.{RedirectRow, destinations, remembered, since, target_left, target_of, unless_ended}
 use Rattle.nd_nexthop.specs.Choice as choice
-use Rattle.nd_chronicle.specs.Start.{Start}
+use Rattle.nd_routers.specs.PrefixesKept.{Prefixes}
+use Rattle.nd_chronicle.specs.Start.{Limits, Start}
 use Rattle.nd_chronicle.specs.Happening.{Chronicle, Happening, Lost, Neighbour, Passed, LeftRouter, ClearedPrefixes, ClearedRedirects, ClearedDns, Forgotten, last_moment}
 use Rattle.nd_chronicle.specs.Histories.{parameter_history, neighbour_history, router_history, prefix_history, address_history, server_history, name_history, redirect_history}
 use Rattle.nd_chronicle.specs.Generator.{stream_left}
@@ -39,11 +40,11 @@ use Rattle.nd_chronicle.specs.Answer.{Done}
 use Rattle.nd_chronicle.proofs.Answering.{clearing_done}
 use Rattle.nd_node.specs.declared.node.Node.{Node}
 use Rattle.nd_node.specs.EventKept.{AddsEvent}
-use Rattle.nd_node.specs.NodeKept.{Stands, next_of}
+use Rattle.nd_node.specs.NodeKept.{HasLimits, Stands, next_of}
 use Rattle.nd_nexthop.specs.Memo.{forgotten}
-use Rattle.nd_steps.specs.DestinationCache.{MayRemember, Remembers}
+use Rattle.nd_steps.specs.DestinationCache.{KeepsRoom, MayRemember, Remembers}
 use Rattle.nd_steps.proofs.Remembering.{remembers_later, remembers_nothing}
-use Rattle.nd_node.proofs.Recalling.{forgets_all, redirects_stand}
+use Rattle.nd_node.proofs.Recalling.{forgets_all, redirects_stand, room_kept}
 use Rattle.nd_node.proofs.Beside.{Beside, Same, beside_neighbour, beside_quiet, beside_then, stands_neighbours}
 use Rattle.nd_steps.proofs.RouterSide.{side_stands}
 use Rattle.nd_node.proofs.NextHops.{routers_listed}
@@ -65,21 +66,21 @@ record Silent (now : ℕ) (what : Happening) : Type 0 where
   last : (at : ℕ) (c : Chronicle) → last_moment at ((now, what) ∷ c) ≡ now
 
 module _ {R A : Type 0} (stream : R → Stream) (start : Start) (old : Node R A) (c : Chronicle) (now : ℕ) (what : Happening) (silent : Silent now what) (s : Stands stream start old c)
-    (settled : now < next_of old) (ps : List (Lasting PrefixValue)) (ds : dns.Table) (rs : choice.Table) where
+    (settled : now < next_of old) (ps : Prefixes) (ds : dns.Table) (rs : choice.Table) where
   abbrev later : Chronicle
   later = (now, Passed) ∷ c
 
-  silent_stands : lists.Stands same_prefix ps (prefix_history ((now, what) ∷ later)) → dns.Stands ds (server_history ((now, what) ∷ later)) (name_history ((now, what) ∷ later))
+  silent_stands : lists.Stands same_prefix ps.entries (prefix_history ((now, what) ∷ later)) → dns.Stands ds (server_history ((now, what) ∷ later)) (name_history ((now, what) ∷ later))
       → choice.Stands rs (redirect_history ((now, what) ∷ later)) → lifetimes.last_moment (prefix_history ((now, what) ∷ later)) ≤ now
       → lifetimes.last_moment (server_history ((now, what) ∷ later)) ≤ now → lifetimes.last_moment (name_history ((now, what) ∷ later)) ≤ now
-      → Remembers now rs old.addresses.addresses ps old.neighbours.entries old.routers → Stands stream start (record old { last = now; prefixes = ps; dns = ds; choice = rs }) ((now, what) ∷ later)
-  silent_stands prefixes' dns' redirects' prefixes_by servers_by names_by remembers = record {
+      → HasLimits start.limits old.neighbours old.routers ps old.addresses ds rs → Remembers now rs old.addresses.addresses ps.entries old.neighbours.entries old.routers → Stands stream start (record old { last = now; prefixes = ps; dns = ds; choice = rs }) ((now, what) ∷ later)
+  silent_stands prefixes' dns' redirects' prefixes_by servers_by names_by limits remembers = record {
     role = s.role;
     mac = s.mac;
+    chosen = s.chosen;
     address_mac = s.address_mac;
     address_transmits = s.address_transmits;
-    neighbour_limit = s.neighbour_limit;
-    router_limit = s.router_limit;
+    limits = limits;
     params = rw (silent.parameters later) s.params;
     routers = rw (silent.routers later) s.routers;
     prefixes = prefixes';
@@ -111,9 +112,25 @@ cleared_redirects now = record { parameters = λ c. refl; neighbours = λ c. ref
 cleared_dns : (now : ℕ) → Silent now ClearedDns
 cleared_dns now = record { parameters = λ c. refl; neighbours = λ c. refl; routers = λ c. refl; addresses = λ c. refl; solicited = λ c. refl; router = λ start' c. refl; stream = λ start c. refl; last = λ at c. refl }
 
+-- the limits of a node, with other tables that have them
+with_limits : {R A : Type 0} (limits : Limits) (old : Node R A) (ps : Prefixes) (ds : dns.Table) (rs : choice.Table) → HasLimits limits old.neighbours old.routers old.prefixes old.addresses old.dns old.choice
+    → ps.limit ≡ old.prefixes.limit → ds.server_limit ≡ old.dns.server_limit → ds.name_limit ≡ old.dns.name_limit → KeepsRoom old.choice rs
+    → HasLimits limits old.neighbours old.routers ps old.addresses ds rs
+with_limits limits old ps ds rs has prefixes servers names room = record {
+  neighbours = has.neighbours;
+  routers = has.routers;
+  prefixes = prefixes ∙ has.prefixes;
+  addresses = has.addresses;
+  servers = servers ∙ has.servers;
+  names = names ∙ has.names;
+  redirects = room.redirects ∙ has.redirects;
+  destinations = room.destinations ∙ has.destinations;
+  waiting = has.waiting;
+}
+
 module _ {R A : Type 0} (stream : R → Stream) (old new : Node R A) (outs : List (ℕ × Out A)) (now : ℕ) (settled : now < next_of old) where
-  pub clears_prefixes : (ps : List (Lasting PrefixValue)) (rs : choice.Table) → ps ≡ [] → rs ≡ record old.choice { memory = record { hops = []; until = None } } → new ≡ record old { last = now; prefixes = ps; choice = rs }
-      → ((at : ℕ) (history : List (lifetimes.Row PrefixValue)) → lists.Stands same_prefix ps (lifetimes.Cleared at ∷ history))
+  pub clears_prefixes : (ps : Prefixes) (rs : choice.Table) → ps ≡ record { limit = old.prefixes.limit; entries = [] } → rs ≡ record old.choice { memory = record { limit = old.choice.memory.limit; hops = []; until = None } } → new ≡ record old { last = now; prefixes = ps; choice = rs }
+      → ((at : ℕ) (history : List (lifetimes.Row PrefixValue)) → lists.Stands same_prefix ps.entries (lifetimes.Cleared at ∷ history))
       → AddsEvent stream old new outs outs now (events.Clears events.ClearPrefixes) Done
   clears_prefixes ps rs none forgot is stands = record {
     each = λ start c s le.
@@ -122,15 +139,16 @@ module _ {R A : Type 0} (stream : R → Stream) (old new : Node R A) (outs : Lis
           refl,
           rw is (silent_stands stream start old c now ClearedPrefixes (cleared_prefixes now) s settled ps old.dns rs
               (stands now (prefix_history c)) s.dns (redirects_stand old.choice rs (redirect_history c) (ap (λ (t : choice.Table). t.redirects) forgot) s.redirects) (omega arith) (omega (arith, s.servers_by_then, le)) (omega (arith, s.names_by_then, le))
+              (with_limits start.limits old ps old.dns rs s.limits (ap (λ (t : Prefixes). t.limit) none) refl refl (room_kept old.choice rs (ap (λ (t : choice.Table). t.redirects) forgot)))
               (rw (none, forgot) (remembers_nothing now _ old.addresses.addresses [] old.neighbours.entries old.routers refl (λ moment after asked. refl)))),
           record { newer = []; told = append-nil (items later'); outs = sym (append-nil (happenings outs)) },
           refl,
         );
   }
 
-  pub clears_redirects : (rs : choice.Table) → new ≡ record old { last = now; choice = rs } → choice.GainsRow old.choice rs (redirect_rows.Cleared now) → rs.memory ≡ forgotten old.choice.memory
+  pub clears_redirects : (rs : choice.Table) → new ≡ record old { last = now; choice = rs } → choice.GainsRow old.choice rs (redirect_rows.Cleared now) → KeepsRoom old.choice rs → rs.memory ≡ forgotten old.choice.memory
       → AddsEvent stream old new outs outs now (events.Clears events.ClearRedirects) Done
-  clears_redirects rs is gains forgot = record {
+  clears_redirects rs is gains room forgot = record {
     each = λ start c s le.
         let later' : Chronicle = (now, Passed) ∷ c in (
           (now, ClearedRedirects) ∷ later',
@@ -138,23 +156,25 @@ module _ {R A : Type 0} (stream : R → Stream) (old new : Node R A) (outs : Lis
           rw is (silent_stands stream start old c now ClearedRedirects (cleared_redirects now) s settled old.prefixes old.dns rs
               s.prefixes s.dns (gains.stands (redirect_history c) s.redirects)
               (omega (arith, s.prefixes_by_then, le)) (omega (arith, s.servers_by_then, le)) (omega (arith, s.names_by_then, le))
+              (with_limits start.limits old old.prefixes old.dns rs s.limits refl refl refl room)
               (forgets_all old (record old { last = now; choice = rs }) old.last now (omega (arith, s.last, le)) s.memo refl forgot)),
           record { newer = []; told = append-nil (items later'); outs = sym (append-nil (happenings outs)) },
           refl,
         );
   }
 
-  pub clears_dns : (ds : dns.Table) → new ≡ record old { last = now; dns = ds }
+  pub clears_dns : (ds : dns.Table) → new ≡ record old { last = now; dns = ds } → ds ≡ record { server_limit = old.dns.server_limit; name_limit = old.dns.name_limit; servers = []; names = [] }
       → ((at : ℕ) (servers : List (lifetimes.Row Addr)) (names : List (lifetimes.Row (List ℕ))) → dns.Stands ds (lifetimes.Cleared at ∷ servers) (lifetimes.Cleared at ∷ names))
       → AddsEvent stream old new outs outs now (events.Clears events.ClearDns) Done
-  clears_dns ds is stands = record {
+  clears_dns ds is none stands = record {
     each = λ start c s le.
         let later' : Chronicle = (now, Passed) ∷ c in (
           (now, ClearedDns) ∷ later',
           refl,
           rw is (silent_stands stream start old c now ClearedDns (cleared_dns now) s settled old.prefixes ds old.choice
               s.prefixes (stands now (server_history c) (name_history c)) s.redirects (omega (arith, s.prefixes_by_then, le)) (omega arith) (omega arith)
-              (remembers_later old.last now old.choice old.addresses.addresses old.prefixes old.neighbours.entries old.routers (omega (arith, s.last, le)) s.memo)),
+              (with_limits start.limits old old.prefixes ds old.choice s.limits refl (ap (λ (t : dns.Table). t.server_limit) none) (ap (λ (t : dns.Table). t.name_limit) none) (room_kept old.choice old.choice refl))
+              (remembers_later old.last now old.choice old.addresses.addresses old.prefixes.entries old.neighbours.entries old.routers (omega (arith, s.last, le)) s.memo)),
           record { newer = []; told = append-nil (items later'); outs = sym (append-nil (happenings outs)) },
           refl,
         );
@@ -268,10 +288,10 @@ nothing_left at history (key ∷ those) =
     ap (λ (o : Option ℕ). (key, o) ∷ map (λ k. left_over at history k) those) (ended_target at (target_of key history) (since key history))
     ∙ ap (λ (l : List (ℕ × Option ℕ)). bare key ∷ l) (nothing_left at history those)
 
-all_ended : (at : ℕ) (first other : List RedirectRow) → destinations other ≡ destinations first → remembered (redirect_rows.Cleared at ∷ first) ≡ remembered (redirect_rows.Cleared at ∷ other)
-all_ended at first other same =
-    nothing_left at first (take max_redirects (destinations first)) ∙ (ap (λ (l : List ℕ). map (λ key. bare key) (take max_redirects l)) (sym same)
-    ∙ sym (nothing_left at other (take max_redirects (destinations other))))
+all_ended : (limit at : ℕ) (first other : List RedirectRow) → destinations other ≡ destinations first → remembered limit (redirect_rows.Cleared at ∷ first) ≡ remembered limit (redirect_rows.Cleared at ∷ other)
+all_ended limit at first other same =
+    nothing_left at first (take limit (destinations first)) ∙ (ap (λ (l : List ℕ). map (λ key. bare key) (take limit l)) (sym same)
+    ∙ sym (nothing_left at other (take limit (destinations other))))
 
 -- the routers left, and nothing else is changed
 record Left (now : ℕ) (those : List ℕ) (c d : Chronicle) : Type 0 where
@@ -324,7 +344,7 @@ module _ {R A : Type 0} (stream : R → Stream) (old new : Node R A) (x room y :
         let apart : Apart c d = apart_then c mid d before (record { parameters = refl; prefixes = refl; servers = refl; names = refl; assigned = λ k. refl; solicited = refl; router = λ start'. refl; stream = λ start'. refl }) in
         let ended : choice.Stands new.choice (redirect_rows.Cleared now ∷ redirect_history c) = gains.stands (redirect_history c) s.redirects in
         let redirects' : choice.Stands new.choice (redirect_rows.Cleared now ∷ then_gone now those (redirect_history c)) = record {
-          entries_are = ended.entries_are ∙ all_ended now (redirect_history c) (then_gone now those (redirect_history c)) (gone_destinations now those (redirect_history c));
+          entries_are = ended.entries_are ∙ all_ended new.choice.redirects.limit now (redirect_history c) (then_gone now those (redirect_history c)) (gone_destinations now those (redirect_history c));
         } in
         let redirects_are = ap (λ (h : List RedirectRow). redirect_rows.Cleared now ∷ h) left.redirects in (
           d,

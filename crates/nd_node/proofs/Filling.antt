@@ -18,7 +18,6 @@ use Rattle.nd_routers.specs.OnLinkPrefixes as on_link
 use Rattle.nd_slaac.specs.PrefixOption.{prefixes_in}
 use Rattle.nd_slaac.specs.Calls.{keys_in}
 use Rattle.nd_slaac.specs.Room.{fits_in}
-use Rattle.nd_dns.specs.Dns.{max_servers, max_names}
 use Rattle.nd_dns.specs.AnnouncedNames.{same_name, names_told}
 use Rattle.nd_dns.specs.AnnouncedServers.{servers_told}
 use Rattle.nd_chronicle.specs.Start.{Start}
@@ -61,16 +60,16 @@ module _ {R A : Type 0} (stream : R → Stream) (node : Node R A) (now : ℕ) (s
   router_fits = fits same node.routers.limit now ((number_of source.0, ra.router_lifetime) ∷ []) node.routers.entries
 
   abbrev prefix_fits : Bool
-  prefix_fits = fits same_prefix on_link.max_prefixes now (on_link.prefixes_in options) node.prefixes
+  prefix_fits = fits same_prefix node.prefixes.limit now (on_link.prefixes_in options) node.prefixes.entries
 
   abbrev address_fits : Bool
-  address_fits = fits_in node.addresses.mac (keys_in node.addresses.addresses) (prefixes_in options)
+  address_fits = fits_in node.addresses.limit node.addresses.mac (keys_in node.addresses.addresses) (prefixes_in options)
 
   abbrev server_fits : Bool
-  server_fits = fits same_addr max_servers now (servers_told options) node.dns.servers
+  server_fits = fits same_addr node.dns.server_limit now (servers_told options) node.dns.servers
 
   abbrev name_fits : Bool
-  name_fits = fits same_name max_names now (names_told options) node.dns.names
+  name_fits = fits same_name node.dns.name_limit now (names_told options) node.dns.names
 
   -- the first table without room
   abbrev pub first_kept : Bool → Option happenings.Limit
@@ -102,7 +101,7 @@ module _ {R A : Type 0} (stream : R → Stream) (node : Node R A) (now : ℕ) (s
     listed : Lists same (announcements (router_history c)) now (open_at now node.routers.entries)
     listed = lists_at same eqb_tells node.routers.entries (announcements (router_history c)) now s.routers.routers
 
-    listed_prefixes : Lists same_prefix (prefix_history c) now (open_at now node.prefixes)
+    listed_prefixes : Lists same_prefix (prefix_history c) now (open_at now node.prefixes.entries)
     listed_prefixes = s.prefixes.lists now (omega (arith, s.prefixes_by_then, le))
 
     listed_servers : Lists same_addr (server_history c) now (open_at now node.dns.servers)
@@ -114,16 +113,19 @@ module _ {R A : Type 0} (stream : R → Stream) (node : Node R A) (now : ℕ) (s
     router_is : fits same node.routers.limit now ((number_of source.0, ra.router_lifetime) ∷ []) node.routers.entries
         ≡ fits same start.limits.routers now ((number_of source.0, ra.router_lifetime) ∷ []) (open_at now node.routers.entries)
     router_is = sym (fits_open same eqb_tells node.routers.limit now ((number_of source.0, ra.router_lifetime) ∷ []) node.routers.entries)
-        ∙ ap (λ (n : ℕ). fits same n now ((number_of source.0, ra.router_lifetime) ∷ []) (open_at now node.routers.entries)) s.router_limit
+        ∙ ap (λ (n : ℕ). fits same n now ((number_of source.0, ra.router_lifetime) ∷ []) (open_at now node.routers.entries)) s.limits.routers
 
-    prefix_is : fits same_prefix on_link.max_prefixes now (on_link.prefixes_in options) node.prefixes ≡ fits same_prefix on_link.max_prefixes now (on_link.prefixes_in options) (open_at now node.prefixes)
-    prefix_is = sym (fits_open same_prefix prefixes_tell on_link.max_prefixes now (on_link.prefixes_in options) node.prefixes)
+    prefix_is : fits same_prefix node.prefixes.limit now (on_link.prefixes_in options) node.prefixes.entries ≡ fits same_prefix start.limits.prefixes now (on_link.prefixes_in options) (open_at now node.prefixes.entries)
+    prefix_is = sym (fits_open same_prefix prefixes_tell node.prefixes.limit now (on_link.prefixes_in options) node.prefixes.entries)
+        ∙ ap (λ (n : ℕ). fits same_prefix n now (on_link.prefixes_in options) (open_at now node.prefixes.entries)) s.limits.prefixes
 
-    server_is : fits same_addr max_servers now (servers_told options) node.dns.servers ≡ fits same_addr max_servers now (servers_told options) (open_at now node.dns.servers)
-    server_is = sym (fits_open same_addr addrs_tell max_servers now (servers_told options) node.dns.servers)
+    server_is : fits same_addr node.dns.server_limit now (servers_told options) node.dns.servers ≡ fits same_addr start.limits.servers now (servers_told options) (open_at now node.dns.servers)
+    server_is = sym (fits_open same_addr addrs_tell node.dns.server_limit now (servers_told options) node.dns.servers)
+        ∙ ap (λ (n : ℕ). fits same_addr n now (servers_told options) (open_at now node.dns.servers)) s.limits.servers
 
-    name_is : fits same_name max_names now (names_told options) node.dns.names ≡ fits same_name max_names now (names_told options) (open_at now node.dns.names)
-    name_is = sym (fits_open same_name bytes_tell max_names now (names_told options) node.dns.names)
+    name_is : fits same_name node.dns.name_limit now (names_told options) node.dns.names ≡ fits same_name start.limits.names now (names_told options) (open_at now node.dns.names)
+    name_is = sym (fits_open same_name bytes_tell node.dns.name_limit now (names_told options) node.dns.names)
+        ∙ ap (λ (n : ℕ). fits same_name n now (names_told options) (open_at now node.dns.names)) s.limits.names
 
     first_by : (r r' p p' a v v' n n' : Bool) → r ≡ r' → p ≡ p' → v ≡ v' → n ≡ n' → first_full place r p a v n ≡ first_full place r' p' a v' n'
     first_by r r' p p' a v v' n n' er ep ev en = rw (er, ep, ev, en) refl
@@ -134,13 +136,14 @@ module _ {R A : Type 0} (stream : R → Stream) (node : Node R A) (now : ℕ) (s
       placed = placed;
       routers = open_at now node.routers.entries;
       those_routers = listed;
-      prefixes = open_at now node.prefixes;
+      prefixes = open_at now node.prefixes.entries;
       those_prefixes = listed_prefixes;
-      forms = fits_in node.addresses.mac (keys_in node.addresses.addresses) (prefixes_in options);
+      forms = fits_in node.addresses.limit node.addresses.mac (keys_in node.addresses.addresses) (prefixes_in options);
       those_addresses = record {
         known = node.addresses.addresses;
         those = s.addresses;
-        fit_is = ap (λ (m : Mac). fits_in m (keys_in node.addresses.addresses) (prefixes_in options)) s.address_mac;
+        fit_is = ap (λ (m : Mac). fits_in node.addresses.limit m (keys_in node.addresses.addresses) (prefixes_in options)) s.address_mac
+            ∙ ap (λ (n : ℕ). fits_in n start.mac (keys_in node.addresses.addresses) (prefixes_in options)) s.limits.addresses;
       };
       servers = open_at now node.dns.servers;
       those_servers = listed_servers;

@@ -109,7 +109,7 @@ module _ {R A : Type 0} (stream : R → Stream) (old new : Node R A) (x y : List
       each = λ start c s le.
           let a = adds.each start c s le in
           let no_room : HasRoom start.limits.neighbours now (number_of packet.header.source.0) (Some key) (neighbour_history c) → ⊥ =
-          λ has. let yes' : room ≡ true = (says (neighbour_history c) s.neighbours).1 (subst (λ (limit : ℕ). HasRoom limit now (number_of packet.header.source.0) (Some key) (neighbour_history c)) (sym s.neighbour_limit) has) in
+          λ has. let yes' : room ≡ true = (says (neighbour_history c) s.neighbours).1 (subst (λ (limit : ℕ). HasRoom limit now (number_of packet.header.source.0) (Some key) (neighbour_history c)) (sym s.limits.neighbours) has) in
           let never : ⊥ = cc in never in (
             (now, Refused (Full Neighbours)) ∷ (now, Passed) ∷ c,
             (false, no_room, refl),
@@ -126,14 +126,14 @@ module _ {R A : Type 0} (stream : R → Stream) (old mid made sent new : Node R 
   pub both_go : (room : Bool) → SaysRoom old now (number_of packet.header.source.0) key room → room ≡ true
       → Keeps (record old { last = now }) mid → w ≡ x
       → (tables : RouterTables A) → made ≡ record mid { router = tables } → tables.advertiser ≡ mid.router.advertiser
-      → route_tables.GainsRow mid.router.routes tables.routes (route_rows.RedirectMade now)
+      → route_tables.GainsRow mid.router.routes tables.routes (route_rows.RedirectMade now) → tables.routes.limit ≡ mid.router.routes.limit
       → own ≡ addr_at (link_local_of old.addresses.mac)
       → ((start : Start) (moment : ℕ) (c : Chronicle) → neighbours.Stands old.neighbours.entries (neighbour_history c) → start.mac ≡ old.mac → own ≡ link_local start
       → redirecting ≡ better_hop_frame start moment target packet bytes c)
       → frame ≡ written_frame open_mac old.mac (record packet.header { hop_limit = packet.header.hop_limit - 1 }) packet.payload
       → Leads stream made sent w v (PacketGoes now (number_of packet.header.source.0) redirecting) → Leads stream sent new v y (PacketGoes now key frame)
       → AddsSentOn stream old new x y now key (Some target) packet bytes answers.Done
-  both_go room says is keeps same tables made_is advertiser gains own_is redirecting_is frame_is redirect_goes goes = record {
+  both_go room says is keeps same tables made_is advertiser gains limit own_is redirecting_is frame_is redirect_goes goes = record {
     each = λ start c s le.
         let first : ℕ = number_of packet.header.source.0 in
         let later : Chronicle = (now, Passed) ∷ c in
@@ -141,14 +141,14 @@ module _ {R A : Type 0} (stream : R → Stream) (old mid made sent new : Node R 
         let base : Node R A = record old { last = now } in
         let stands_mid : Stands stream start mid later = (stays_keeps stream base mid keeps).each start later (passed stream start old base c now s le settled refl) in
         let stands_made : Stands stream start made redirected =
-        rw made_is (stands_routes stream start mid later redirected (aside Redirects now start.at later refl) stands_mid tables (route_rows.RedirectMade now) advertiser gains refl refl refl) in
+        rw made_is (stands_routes stream start mid later redirected (aside Redirects now start.at later refl) stands_mid tables (route_rows.RedirectMade now) advertiser gains limit refl refl refl) in
         let r = redirect_goes.each start redirected stands_made in
         let told : Chronicle = r.0 in
         let g = goes.each start told r.2 in
         let d : Chronicle = g.0 in
         let own_is' : own ≡ link_local start = own_is ∙ ap (λ (m : Mac). addr_at (link_local_of m)) s.address_mac in
         let has : HasRoom start.limits.neighbours now first (Some key) (neighbour_history c) =
-        subst (λ (limit : ℕ). HasRoom limit now first (Some key) (neighbour_history c)) s.neighbour_limit ((says (neighbour_history c) s.neighbours).0 is) in
+        subst (λ (limit : ℕ). HasRoom limit now first (Some key) (neighbour_history c)) s.limits.neighbours ((says (neighbour_history c) s.neighbours).0 is) in
         let nothing : Tells c redirected x w = record { newer = []; told = append-nil _; outs = ap happenings same ∙ sym (append-nil _) } in (
           d,
           (

@@ -105,10 +105,20 @@ stays_keeps stream old new k = record {
   each = λ start c s. record {
     role = k.role ∙ s.role;
     mac = k.mac ∙ s.mac;
+    chosen = k.chosen ∙ s.chosen;
     address_mac = rw k.addresses s.address_mac;
     address_transmits = rw k.addresses s.address_transmits;
-    neighbour_limit = k.limit ∙ s.neighbour_limit;
-    router_limit = rw k.routers s.router_limit;
+    limits = record {
+      neighbours = k.limit ∙ s.limits.neighbours;
+      routers = rw k.routers s.limits.routers;
+      prefixes = rw k.prefixes s.limits.prefixes;
+      addresses = rw k.addresses s.limits.addresses;
+      servers = rw k.dns s.limits.servers;
+      names = rw k.dns s.limits.names;
+      redirects = rw k.choice s.limits.redirects;
+      destinations = rw k.choice s.limits.destinations;
+      waiting = k.waiting ∙ s.limits.waiting;
+    };
     params = rw k.params s.params;
     routers = rw k.routers s.routers;
     prefixes = rw k.prefixes s.prefixes;
@@ -130,8 +140,8 @@ stays_keeps stream old new k = record {
 
 -- ---- time that passed changes none of the questions
 
-pub next_later : (c : Chronicle) (now : ℕ) (destination : Addr) (next : NextHop) → IsNextHop c now destination next → IsNextHop ((now, Passed) ∷ c) now destination next
-next_later c now destination next h = record {
+pub next_later : (start : Start) (c : Chronicle) (now : ℕ) (destination : Addr) (next : NextHop) → IsNextHop start c now destination next → IsNextHop start ((now, Passed) ∷ c) now destination next
+next_later start c now destination next h = record {
   prefixes = h.prefixes;
   standing = h.standing;
   routers = h.routers;
@@ -145,13 +155,13 @@ abbrev SameTarget : ℕ → Addr → Parts → Type 0
 SameTarget now source message = (c : Chronicle) → takes_target ((now, Passed) ∷ c) source message.body ≡ takes_target c source message.body
 
 pub judged : {R A : Type 0} (stream : R → Stream) (old new : Node R A) (x y : List (ℕ × Out A)) (now : ℕ) (source destination : Addr) (message : Parts) {answer : Answer} → SameTarget now source message
-    → ((c : Chronicle) → FromFirstHop ((now, Passed) ∷ c) now source message.body) → AddsMessage stream old new x y now source destination message answer → AddsJudged stream old new x y now source destination message answer
+    → ((start : Start) (c : Chronicle) → FromFirstHop start ((now, Passed) ∷ c) now source message.body) → AddsMessage stream old new x y now source destination message answer → AddsJudged stream old new x y now source destination message answer
 judged stream old new x y now source destination message {answer} same from adds = record {
   each = λ frame start c s le ours.
       let a = adds.each start c s le (sym (same c) ∙ ours.target) in (
         verdicts.hears source destination message,
         a.0,
-        IsTaken ours (from c),
+        IsTaken ours (from start c),
         a.1,
         a.2,
         a.3,
@@ -164,7 +174,7 @@ redirection r options = record { body = bodies.Redirect r; options = options }
 
 module _ {R A : Type 0} (stream : R → Stream) (old mid new : Node R A) (x y : List (ℕ × Out A)) (now : ℕ) (source destination : Addr) (r : Redirect) (options : List Said) (hop : NextHop)
     (stands : (start : Start) (c : Chronicle) → Stands stream start old c → Stands stream start mid c)
-    (next : (start : Start) (c : Chronicle) → Stands stream start old c → last_moment start.at c ≤ now → IsNextHop c now r.destination hop) where
+    (next : (start : Start) (c : Chronicle) → Stands stream start old c → last_moment start.at c ≤ now → IsNextHop start c now r.destination hop) where
   -- it comes from the current first hop
   pub directed : {answer : Answer} → hop ≡ via (number_of source.0) → AddsMessage stream mid new x y now source destination (redirection r options) answer
       → AddsJudged stream old new x y now source destination (redirection r options) answer
@@ -173,7 +183,7 @@ module _ {R A : Type 0} (stream : R → Stream) (old mid new : Node R A) (x y : 
         let a = adds.each start c (stands start c s) le ours.target in (
           verdicts.hears source destination (redirection r options),
           a.0,
-          IsTaken ours (subst (λ (h : NextHop). IsNextHop ((now, Passed) ∷ c) now r.destination h) is (next_later c now r.destination hop (next start c s le))),
+          IsTaken ours (subst (λ (h : NextHop). IsNextHop start ((now, Passed) ∷ c) now r.destination h) is (next_later start c now r.destination hop (next start c s le))),
           a.1,
           a.2,
           a.3,
@@ -188,7 +198,7 @@ module _ {R A : Type 0} (stream : R → Stream) (old mid new : Node R A) (x y : 
         let a = adds.each start c (stands start c s) le in (
           verdicts.drops NotFirstHop,
           (now, Dropped NotFirstHop) ∷ (now, Passed) ∷ c,
-          IsMisdirected ours (hop, next_later c now r.destination hop (next start c s le), differs),
+          IsMisdirected ours (hop, next_later start c now r.destination hop (next start c s le), differs),
           refl,
           a.0,
           a.1,

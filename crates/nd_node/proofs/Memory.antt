@@ -46,7 +46,7 @@ waits_for_sender times key mac (Some n) entries e = ap (λ (k : ℕ). length (wa
 
 -- a message that is for this node is dropped only as a Redirect from another node than the first hop
 pub misdirected : (start : Start) (c : Chronicle) (now : ℕ) (source destination : Addr) (message : Parts) (why : Why) → IsForUs start c source destination message
-    → Judges start c now (valid source destination message) (drops why) → NotFromFirstHop c now source message.body
+    → Judges start c now (valid source destination message) (drops why) → NotFromFirstHop start c now source message.body
 misdirected start c now source destination message why u (IsStrange n) = absurd (n u)
 misdirected start c now source destination message why u (IsMisdirected u' n) = n
 

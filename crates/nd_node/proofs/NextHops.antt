@@ -52,6 +52,7 @@ use Rattle.nd_steps.specs.NextHop.{candidate_in, candidates_in}
 use Rattle.nd_steps.proofs.Remembering.{hop_by_own}
 use Rattle.nd_steps.proofs.Resolved.{resolved_by_history}
 use Rattle.nd_nexthop.specs.Choice as choice
+use Rattle.nd_steps.specs.DestinationCache.{KeepsRoom}
 use Rattle.nd_node.proofs.Recalling.{Recalls}
 use Rattle.nd_node.specs.declared.node.Node as nodes
 use Rattle.nd_node.specs.Moments.{earlier}
@@ -87,10 +88,10 @@ module _ {R A : Type 0} (stream : R → Stream) (start : Start) (node : nodes.No
   routers_listed = rw (sym open_routers) (lists_at same eqb_tells node.routers.entries (announcements (router_history c)) now s.routers.routers)
 
   pub next_hop_is : (destination : Addr) (next : NextHop)
-      → next ≡ hop (λ (a : List ℕ). counted_in Own (address_in (number_of a) node.addresses.addresses)) (λ (a : List ℕ). is_held a (open_at now node.prefixes)) (candidates_in node.neighbours.entries node.routers) (kept (number_of destination.0) (redirect_history c)) destination.0
-      → IsNextHop c now destination next
+      → next ≡ hop (λ (a : List ℕ). counted_in Own (address_in (number_of a) node.addresses.addresses)) (λ (a : List ℕ). is_held a (open_at now node.prefixes.entries)) (candidates_in node.neighbours.entries node.routers) (kept node.choice.redirects.limit (number_of destination.0) (redirect_history c)) destination.0
+      → IsNextHop start c now destination next
   next_hop_is destination next is = record {
-    prefixes = open_at now node.prefixes;
+    prefixes = open_at now node.prefixes.entries;
     standing = s.prefixes.lists now (omega (arith, s.prefixes_by_then, le));
     routers = candidates_in node.neighbours.entries node.routers;
     those = record {
@@ -101,35 +102,46 @@ module _ {R A : Type 0} (stream : R → Stream) (start : Start) (node : nodes.No
       routers_are = candidates_are c node.neighbours.entries node.routers node.routers.entries s.neighbours
           (λ key h. ap (λ ps. preference_among key ps) s.routers.preferred ∙ found_among (λ k. preference_of k (router_history c)) key node.routers.entries h);
     };
-    next_is = is ∙ hop_by_own (λ (a : List ℕ). counted_in Own (address_in (number_of a) node.addresses.addresses)) (is_own c) (λ (a : List ℕ). is_held a (open_at now node.prefixes)) (candidates_in node.neighbours.entries node.routers) (kept (number_of destination.0) (redirect_history c)) destination.0
-        (counted_by_history Own (number_of destination.0) node.addresses.addresses (address_history c) s.addresses);
+    next_is = is ∙ (hop_by_own (λ (a : List ℕ). counted_in Own (address_in (number_of a) node.addresses.addresses)) (is_own c) (λ (a : List ℕ). is_held a (open_at now node.prefixes.entries)) (candidates_in node.neighbours.entries node.routers) (kept node.choice.redirects.limit (number_of destination.0) (redirect_history c)) destination.0
+        (counted_by_history Own (number_of destination.0) node.addresses.addresses (address_history c) s.addresses)
+        ∙ ap (λ (limit : ℕ). hop (is_own c) (λ (a : List ℕ). is_held a (open_at now node.prefixes.entries)) (candidates_in node.neighbours.entries node.routers) (kept limit (number_of destination.0) (redirect_history c)) destination.0) s.limits.redirects);
   }
 
 -- ---- a packet of a node of either role
 
-pub hop_of_host : (role start_role : Role) → role ≡ start_role → role ≡ Host → (c : Chronicle) (now : ℕ) (destination : Addr) (next : NextHop) → IsNextHop c now destination next → IsHopOf start_role c now destination next
-hop_of_host role start_role is host c now destination next h = subst (λ (r : Role). IsHopOf r c now destination next) (sym host ∙ is) h
+pub hop_of_host : (start : Start) (role : Role) → role ≡ start.role → role ≡ Host → (c : Chronicle) (now : ℕ) (destination : Addr) (next : NextHop) → IsNextHop start c now destination next → IsHopOf start start.role c now destination next
+hop_of_host start role is host c now destination next h = subst (λ (r : Role). IsHopOf start r c now destination next) (sym host ∙ is) h
 
 -- a router's goes by its routes
 pub hop_of_router : {R A : Type 0} (stream : R → Stream) (start : Start) (node : nodes.Node R A) (c : Chronicle) (now : ℕ) → Stands stream start node c → node.role ≡ Router → (destination : Addr) (own : Bool) (next : NextHop)
     → own ≡ counted_in Own (address_in (number_of destination.0) node.addresses.addresses)
     → ((is : List ℕ → Bool) → is destination.0 ≡ own → (history : List route_rows.Row) → routing.Stands node.router.routes history → next ≡ by_routes.hop is (routes history) destination.0)
-    → IsHopOf start.role c now destination next
-hop_of_router stream start node c now s router destination own next own_is by_history = subst (λ (r : Role). IsHopOf r c now destination next) (sym router ∙ s.role)
+    → IsHopOf start start.role c now destination next
+hop_of_router stream start node c now s router destination own next own_is by_history = subst (λ (r : Role). IsHopOf start r c now destination next) (sym router ∙ s.role)
     (by_history (is_own c) (sym (own_is ∙ counted_by_history Own (number_of destination.0) node.addresses.addresses (address_history c) s.addresses)) (route_history c) s.router.routes)
 
 -- ---- the next hop is remembered
 
 -- a node whose choice was asked stands for the same
-pub stands_asked : {R A : Type 0} (stream : R → Stream) (start : Start) (node : nodes.Node R A) (c : Chronicle) (asked : choice.Table) → Stands stream start node c → choice.Stands asked (redirect_history c)
+pub stands_asked : {R A : Type 0} (stream : R → Stream) (start : Start) (node : nodes.Node R A) (c : Chronicle) (asked : choice.Table) → Stands stream start node c → KeepsRoom node.choice asked → choice.Stands asked (redirect_history c)
     → Recalls node.last (record node { choice = asked }) → Stands stream start (record node { choice = asked }) c
-stands_asked stream start node c asked s redirects recalls = record {
+stands_asked stream start node c asked s room redirects recalls = record {
   role = s.role;
   mac = s.mac;
+  chosen = s.chosen;
   address_mac = s.address_mac;
   address_transmits = s.address_transmits;
-  neighbour_limit = s.neighbour_limit;
-  router_limit = s.router_limit;
+  limits = record {
+    neighbours = s.limits.neighbours;
+    routers = s.limits.routers;
+    prefixes = s.limits.prefixes;
+    addresses = s.limits.addresses;
+    servers = s.limits.servers;
+    names = s.limits.names;
+    redirects = room.redirects ∙ s.limits.redirects;
+    destinations = room.destinations ∙ s.limits.destinations;
+    waiting = s.limits.waiting;
+  };
   params = s.params;
   routers = s.routers;
   prefixes = s.prefixes;

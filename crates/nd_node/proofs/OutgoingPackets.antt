@@ -161,9 +161,9 @@ module _ {R A : Type 0} (stream : R → Stream) (old new : Node R A) (x y : List
 -- ---- the event
 
 -- the next hop is the same once time has passed
-pub hop_later : (role : Role) (c : Chronicle) (now : ℕ) (destination : Addr) (next : NextHop) → IsHopOf role c now destination next → IsHopOf role ((now, Passed) ∷ c) now destination next
-hop_later Host c now destination next h = next_later c now destination next h
-hop_later Router c now destination next h = h
+pub hop_later : (start : Start) (role : Role) (c : Chronicle) (now : ℕ) (destination : Addr) (next : NextHop) → IsHopOf start role c now destination next → IsHopOf start role ((now, Passed) ∷ c) now destination next
+hop_later start Host c now destination next h = next_later start c now destination next h
+hop_later start Router c now destination next h = h
 
 -- it is refused
 module _ {R A : Type 0} (stream : R → Stream) (old new : Node R A) (x y : List (ℕ × Out A)) (now : ℕ) (source destination : Addr) (next_header : ℕ) (payload : List ℕ) where
@@ -175,7 +175,7 @@ module _ {R A : Type 0} (stream : R → Stream) (old new : Node R A) (x y : List
         let later : Chronicle = (now, Passed) ∷ c in
         let d : Chronicle = (now, Refused refusal) ∷ later in (
           d,
-          subst (λ (o : Option Refusal). UnlessRefused now o (λ e. (next : NextHop) × IsHopOf start.role later now destination next
+          subst (λ (o : Option Refusal). UnlessRefused now o (λ e. (next : NextHop) × IsHopOf start start.role later now destination next
               × PacketAdds start now next source destination next_header payload later e) later d) (says start c s) refl,
           a.0,
           a.1,
@@ -187,7 +187,7 @@ module _ {R A : Type 0} (stream : R → Stream) (old new : Node R A) (x y : List
   -- it goes to its next hop
   pub sent : (mid : Node R A) (hop : NextHop) {answer : answers.Answer} → ((start : Start) (c : Chronicle) → Stands stream start old c → None ≡ refusal_of_packet start now packet.source packet.payload.items c)
       → ((start : Start) (c : Chronicle) → Stands stream start old c → Stands stream start mid c)
-      → ((start : Start) (c : Chronicle) → Stands stream start old c → last_moment start.at c ≤ now → IsHopOf start.role c now packet.destination hop)
+      → ((start : Start) (c : Chronicle) → Stands stream start old c → last_moment start.at c ≤ now → IsHopOf start start.role c now packet.destination hop)
       → AddsPacket stream mid new x y now hop packet answer → AddsEvent stream old new x y now (events.Sends packet.source packet.destination packet.next_header packet.payload.items) answer
   sent mid hop {answer} says stands next adds = record {
     each = λ start c s le.
@@ -195,9 +195,9 @@ module _ {R A : Type 0} (stream : R → Stream) (old new : Node R A) (x y : List
         let later : Chronicle = (now, Passed) ∷ c in
         let d : Chronicle = a.0 in (
           d,
-          subst (λ (o : Option Refusal). UnlessRefused now o (λ e. (next : NextHop) × IsHopOf start.role later now packet.destination next
+          subst (λ (o : Option Refusal). UnlessRefused now o (λ e. (next : NextHop) × IsHopOf start start.role later now packet.destination next
               × PacketAdds start now next packet.source packet.destination packet.next_header packet.payload.items later e) later d) (says start c s)
-              (hop, hop_later start.role c now packet.destination hop (next start c s le), a.1),
+              (hop, hop_later start start.role c now packet.destination hop (next start c s le), a.1),
           a.2,
           a.3,
           a.4,

@@ -152,9 +152,9 @@ stands_planned {R} {A} stream start old new before c now r g is same p at s = rw
         let d : Chronicle = (now, Planned delay) ∷ below in
         stands_advertising stream start old c d
         (aside_then start.at c below d (aside (DrawsDelay delay) now start.at c at) (aside (PlansAnswer delay) now start.at below refl)) s r g (advertising_rows.Solicited now delay) (sym at)
-        (subst (λ (x : ℕ). advertising.GainsRow old.router.advertiser r.advertiser (advertising_rows.Solicited now x)) drew gains) p.routes refl refl (left ∙ ap (λ (x : Stream). (next_u32 x).1) s.generator)
+        (subst (λ (x : ℕ). advertising.GainsRow old.router.advertiser r.advertiser (advertising_rows.Solicited now x)) drew gains) p.limit p.routes refl refl (left ∙ ap (λ (x : Stream). (next_u32 x).1) s.generator)
     by false kept left = stands_aside stream start old c c (aside_same start.at c) s r g
-        (record { advertiser = rw kept s.router.advertiser; routes = rw p.routes s.router.routes; spaced = s.router.spaced }) (left ∙ s.generator)
+        (record { advertiser = rw kept s.router.advertiser; routes = rw p.routes s.router.routes; offer_limit = rw kept s.router.offer_limit; route_limit = rw p.routes s.router.route_limit; spaced = s.router.spaced }) (left ∙ s.generator)
         (rw kept (advertisement_before old (last_moment start.at c) s.in_time))
 
 module _ {R A : Type 0} (stream : R → Stream) (old : Node R A) (now : ℕ) (source destination : Addr) (body : Body) (options : List Said) (behind : Start → Chronicle → Chronicle → Chronicle) (plain : IsPlain now source destination body options behind)
@@ -215,7 +215,7 @@ module _ {R A : Type 0} (stream : R → Stream) (old : Node R A) (now : ℕ) (so
           let this : Option (ℕ × rows.RowKind) = said later source message in
           let this_is : option_map (said_by times) news ≡ this = said_is start c s in
           let hears' : HearsOf limit now this old.neighbours.entries new.neighbours.entries y z ends =
-          subst (λ (l : ℕ). HearsOf l now this old.neighbours.entries new.neighbours.entries y z ends) s.neighbour_limit
+          subst (λ (l : ℕ). HearsOf l now this old.neighbours.entries new.neighbours.entries y z ends) s.limits.neighbours
           (subst (λ (o : Option (ℕ × rows.RowKind)). HearsOf old.neighbours.limit now o old.neighbours.entries new.neighbours.entries y z ends) this_is hears) in
           let h = hears'.each history s.neighbours in
           let made : List rows.Row = h.0 in

@@ -13,10 +13,10 @@ pub stands_quiet : {R A : Type 0} (stream : R → Stream) (start : Start) (node 
 stands_quiet stream start node c d q s = record {
   role = s.role;
   mac = s.mac;
+  chosen = s.chosen;
   address_mac = s.address_mac;
   address_transmits = s.address_transmits;
-  neighbour_limit = s.neighbour_limit;
-  router_limit = s.router_limit;
+  limits = s.limits;
   params = rw q.parameters s.params;
   routers = rw q.routers s.routers;
   prefixes = rw q.prefixes s.prefixes;

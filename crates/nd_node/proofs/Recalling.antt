@@ -18,17 +18,18 @@ use Rattle.nd_slaac.specs.TableKept as addresses
 use Rattle.nd_slaac.specs.TableKept.{address_in}
 use Rattle.nd_slaac.proofs.Destinations.{counted_by_history}
 use Rattle.nd_nexthop.specs.Choice as choice
-use Rattle.nd_nexthop.specs.Choice.{Table}
+use Rattle.nd_nexthop.specs.Choice.{Redirects, Table}
 use Rattle.nd_nexthop.specs.History.{RedirectRow}
+use Rattle.nd_routers.specs.PrefixesKept.{Prefixes}
 use Rattle.nd_nexthop.specs.Memo.{Memory, forgotten}
 use Rattle.nd_steps.specs.NextHop.{is_resolved}
-use Rattle.nd_steps.specs.DestinationCache.{Forgets, Keeps, MayRemember, Remembers}
+use Rattle.nd_steps.specs.DestinationCache.{Forgets, Keeps, KeepsRoom, MayRemember, Remembers}
 use Rattle.nd_steps.proofs.Remembering.{StandUntil, remembers_later, remembers_nothing, remembers_same}
 use Rattle.nd_node.specs.declared.node.Node.{Node}
 
 -- what is remembered, by a node
 abbrev pub Recalls : {R A : Type 0} → ℕ → Node R A → Type 0
-Recalls at node = Remembers at node.choice node.addresses.addresses node.prefixes node.neighbours.entries node.routers
+Recalls at node = Remembers at node.choice node.addresses.addresses node.prefixes.entries node.neighbours.entries node.routers
 
 -- no own address has come or gone
 abbrev pub AsOwn : List Address → List Address → Type 0
@@ -38,9 +39,9 @@ module _ {R A : Type 0} (old new : Node R A) (at now : ℕ) (le : at ≤ now) (r
   -- nothing is remembered any more
   pub forgets : new.choice.memory.hops ≡ [] → new.choice.memory.until ≡ old.choice.memory.until → Recalls now new
   forgets none until =
-      remembers_nothing now new.choice new.addresses.addresses new.prefixes new.neighbours.entries new.routers none
-      (subst (λ (ps : List (Lasting PrefixValue)). StandUntil now new.choice.memory.until ps) (sym prefixes)
-      (subst (λ (u : Option ℕ). StandUntil now u old.prefixes) (sym until) (remembers_later at now old.choice old.addresses.addresses old.prefixes old.neighbours.entries old.routers le r).until))
+      remembers_nothing now new.choice new.addresses.addresses new.prefixes.entries new.neighbours.entries new.routers none
+      (subst (λ (ps : List (Lasting PrefixValue)). StandUntil now new.choice.memory.until ps) (sym (ap (λ (p : Prefixes). p.entries) prefixes))
+      (subst (λ (u : Option ℕ). StandUntil now u old.prefixes.entries) (sym until) (remembers_later at now old.choice old.addresses.addresses old.prefixes.entries old.neighbours.entries old.routers le r).until))
 
   pub forgets_all : new.choice.memory ≡ forgotten old.choice.memory → Recalls now new
   forgets_all is = forgets (ap (λ (m : Memory). m.hops) is) (ap (λ (m : Memory). m.until) is)
@@ -50,8 +51,8 @@ module _ {R A : Type 0} (old new : Node R A) (at now : ℕ) (le : at ≤ now) (r
       → ((key : ℕ) → is_resolved (entry_in key new.neighbours.entries) ≡ is_resolved (entry_in key old.neighbours.entries)) → Recalls now new
   keeps choice_is routers_are own resolved =
       rw (choice_is, prefixes, routers_are)
-      (remembers_same now old.choice old.addresses.addresses new.addresses.addresses old.prefixes old.neighbours.entries new.neighbours.entries old.routers own resolved
-      (remembers_later at now old.choice old.addresses.addresses old.prefixes old.neighbours.entries old.routers le r))
+      (remembers_same now old.choice old.addresses.addresses new.addresses.addresses old.prefixes.entries old.neighbours.entries new.neighbours.entries old.routers own resolved
+      (remembers_later at now old.choice old.addresses.addresses old.prefixes.entries old.neighbours.entries old.routers le r))
 
   pub may_recall : MayRemember old.choice new.choice old.neighbours.entries new.neighbours.entries → new.routers ≡ old.routers → AsOwn old.addresses.addresses new.addresses.addresses
       → (history : List neighbour_rows.Row) → neighbours.Stands old.neighbours.entries history → Recalls now new
@@ -64,8 +65,15 @@ pub may_redirects : (a b : Table) (old new : List neighbour_entries.NeighbourEnt
 may_redirects a b old new (Forgets is) = ap (λ (t : Table). t.redirects) is
 may_redirects a b old new (Keeps is known) = ap (λ (t : Table). t.redirects) is
 
+-- the room stays where the redirects do
+pub room_kept : (a b : Table) → b.redirects ≡ a.redirects → KeepsRoom a b
+room_kept a b same = record { redirects = ap (λ (r : Redirects). r.limit) same; destinations = ap (λ (r : Redirects). r.destinations) same }
+
+pub room_then : (a b c : Table) → KeepsRoom a b → KeepsRoom b c → KeepsRoom a c
+room_then a b c k l = record { redirects = l.redirects ∙ k.redirects; destinations = l.destinations ∙ k.destinations }
+
 pub redirects_stand : (a b : Table) (history : List RedirectRow) → b.redirects ≡ a.redirects → choice.Stands a history → choice.Stands b history
-redirects_stand a b history same s = record { entries_are = same ∙ s.entries_are }
+redirects_stand a b history same s = record { entries_are = rw same s.entries_are }
 
 -- ---- own addresses
 

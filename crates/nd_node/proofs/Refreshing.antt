@@ -24,7 +24,8 @@ use Rattle.nd_slaac.specs.State.{Forming, forming_of, is_known}
 use Rattle.nd_slaac.specs.declared.destination.Counted.TheVariants.{Own}
 use Rattle.nd_slaac.specs.Destination.{counts}
 use Rattle.nd_slaac.specs.TableKept as addresses
-use Rattle.nd_nexthop.specs.Choice.{Table, target_in}
+use Rattle.nd_nexthop.specs.Choice.{Redirects, Table, target_in}
+use Rattle.nd_routers.specs.PrefixesKept.{Prefixes}
 use Rattle.nd_nexthop.specs.DefaultRouter.{DefaultRouter}
 use Rattle.nd_nexthop.specs.Memo.{is_asked}
 use Rattle.nd_nexthop.specs.NextHop.{hop}
@@ -141,47 +142,47 @@ hop_by_link own linked other candidates redirect address is = rw is refl
 
 module _ {R A : Type 0} (old new : Node R A) (at now : ℕ) (le : at ≤ now) (r : Recalls at old) (first second third : Table) (own : Bool)
     (may : MayRemember old.choice first old.neighbours.entries new.neighbours.entries) (listed : Recollects first second (AsListed first second old.routers new.routers))
-    (linked : Recollects second third (AsStanding now old.prefixes new.prefixes)) (redirects : third.redirects ≡ second.redirects) (redirects_then : new.choice.redirects ≡ third.redirects)
-    (hops : new.choice.memory.hops ≡ (if own && is_asked now third.memory.until then third.memory.hops else [])) (until : new.choice.memory.until ≡ last_before_end now new.prefixes)
+    (linked : Recollects second third (AsStanding now old.prefixes.entries new.prefixes.entries)) (redirects : third.redirects ≡ second.redirects) (redirects_then : new.choice.redirects ≡ third.redirects)
+    (hops : new.choice.memory.hops ≡ (if own && is_asked now third.memory.until then third.memory.hops else [])) (until : new.choice.memory.until ≡ last_before_end now new.prefixes.entries)
     (entries : List neighbour_rows.Row) (stands : neighbours.Stands old.neighbours.entries entries) (as_own : own ≡ true → AsOwn old.addresses.addresses new.addresses.addresses) where
-  stand_until : StandUntil now new.choice.memory.until new.prefixes
-  stand_until = subst (λ (u : Option ℕ). StandUntil now u new.prefixes) (sym until) (stand_until_end now new.prefixes)
+  stand_until : StandUntil now new.choice.memory.until new.prefixes.entries
+  stand_until = subst (λ (u : Option ℕ). StandUntil now u new.prefixes.entries) (sym until) (stand_until_end now new.prefixes.entries)
 
   none : new.choice.memory.hops ≡ [] → Recalls now new
-  none is = remembers_nothing now new.choice new.addresses.addresses new.prefixes new.neighbours.entries new.routers is stand_until
+  none is = remembers_nothing now new.choice new.addresses.addresses new.prefixes.entries new.neighbours.entries new.routers is stand_until
 
   all : is_asked now old.choice.memory.until ≡ true → new.choice.memory.hops ≡ old.choice.memory.hops → new.choice.redirects ≡ old.choice.redirects → AsOwn old.addresses.addresses new.addresses.addresses
-      → ((key : ℕ) → is_resolved (entry_in key new.neighbours.entries) ≡ is_resolved (entry_in key old.neighbours.entries)) → AsListed first second old.routers new.routers → AsStanding now old.prefixes new.prefixes → Recalls now new
+      → ((key : ℕ) → is_resolved (entry_in key new.neighbours.entries) ≡ is_resolved (entry_in key old.neighbours.entries)) → AsListed first second old.routers new.routers → AsStanding now old.prefixes.entries new.prefixes.entries → Recalls now new
   all asked same_hops same_redirects owns resolved lists standing = record {
     until = stand_until;
     agrees = λ asked_then e there.
-        let before = remembers_later at now old.choice old.addresses.addresses old.prefixes old.neighbours.entries old.routers le r in
+        let before = remembers_later at now old.choice old.addresses.addresses old.prefixes.entries old.neighbours.entries old.routers le r in
         let was = before.agrees asked e (subst (λ (l : List (ℕ × Hop)). Contains l e) same_hops there) in
         let address = (addr_at e.0).0 in
-        let kept = target_in e.0 old.choice.redirects in
+        let kept = target_in e.0 old.choice.redirects.entries in
         let candidates : candidates_in new.neighbours.entries new.routers ≡ candidates_in old.neighbours.entries old.routers =
         listed_same new.neighbours.entries old.routers new.routers lists.keys lists.preferences lists.failed ∙ candidates_same old.neighbours.entries new.neighbours.entries old.routers resolved in
         was
-        ∙ (hop_by_own (own_in old.addresses.addresses) (own_in new.addresses.addresses) (linked_by (open_at now old.prefixes)) (candidates_in old.neighbours.entries old.routers) kept address (sym (owns (number_of address)))
-        ∙ (hop_by_link (own_in new.addresses.addresses) (linked_by (open_at now old.prefixes)) (linked_by (open_at now new.prefixes)) (candidates_in old.neighbours.entries old.routers) kept address (sym (standing address))
-        ∙ (ap (λ (l : List DefaultRouter). hop (own_in new.addresses.addresses) (linked_by (open_at now new.prefixes)) l kept address) (sym candidates)
-        ∙ ap (λ (rs : List (ℕ × Option ℕ)). hop (own_in new.addresses.addresses) (linked_by (open_at now new.prefixes)) (candidates_in new.neighbours.entries new.routers) (target_in e.0 rs) address) (sym same_redirects))));
+        ∙ (hop_by_own (own_in old.addresses.addresses) (own_in new.addresses.addresses) (linked_by (open_at now old.prefixes.entries)) (candidates_in old.neighbours.entries old.routers) kept address (sym (owns (number_of address)))
+        ∙ (hop_by_link (own_in new.addresses.addresses) (linked_by (open_at now old.prefixes.entries)) (linked_by (open_at now new.prefixes.entries)) (candidates_in old.neighbours.entries old.routers) kept address (sym (standing address))
+        ∙ (ap (λ (l : List DefaultRouter). hop (own_in new.addresses.addresses) (linked_by (open_at now new.prefixes.entries)) l kept address) (sym candidates)
+        ∙ ap (λ (rs : List (ℕ × Option ℕ)). hop (own_in new.addresses.addresses) (linked_by (open_at now new.prefixes.entries)) (candidates_in new.neighbours.entries new.routers) (target_in e.0 rs) address) (sym (ap (λ (t : Redirects). t.entries) same_redirects)))));
   }
 
-  by_may : is_asked now third.memory.until ≡ true → own ≡ true → new.choice.memory.hops ≡ first.memory.hops → AsListed first second old.routers new.routers → AsStanding now old.prefixes new.prefixes
+  by_may : is_asked now third.memory.until ≡ true → own ≡ true → new.choice.memory.hops ≡ first.memory.hops → AsListed first second old.routers new.routers → AsStanding now old.prefixes.entries new.prefixes.entries
       → MayRemember old.choice first old.neighbours.entries new.neighbours.entries → Recalls now new
   by_may asked mine is lists standing (Forgets f) = none (is ∙ ap (λ (t : Table). t.memory.hops) f)
   by_may asked mine is lists standing (Keeps k known) =
       all (subst (λ (u : Option ℕ). is_asked now u ≡ true) (linked.until ∙ (listed.until ∙ ap (λ (t : Table). t.memory.until) k)) asked)
       (is ∙ ap (λ (t : Table). t.memory.hops) k) (redirects_then ∙ (redirects ∙ (lists.redirects ∙ ap (λ (t : Table). t.redirects) k))) (as_own mine) (known entries stands) lists standing
 
-  by_listed : is_asked now third.memory.until ≡ true → own ≡ true → new.choice.memory.hops ≡ second.memory.hops → AsStanding now old.prefixes new.prefixes
+  by_listed : is_asked now third.memory.until ≡ true → own ≡ true → new.choice.memory.hops ≡ second.memory.hops → AsStanding now old.prefixes.entries new.prefixes.entries
       → (second.memory.hops ≡ []) ⊎ ((second.memory.hops ≡ first.memory.hops) × AsListed first second old.routers new.routers) → Recalls now new
   by_listed asked mine is standing (inl empty) = none (is ∙ empty)
   by_listed asked mine is standing (inr both) = by_may asked mine (is ∙ both.0) both.1 standing may
 
   by_linked : is_asked now third.memory.until ≡ true → own ≡ true → new.choice.memory.hops ≡ third.memory.hops
-      → (third.memory.hops ≡ []) ⊎ ((third.memory.hops ≡ second.memory.hops) × AsStanding now old.prefixes new.prefixes) → Recalls now new
+      → (third.memory.hops ≡ []) ⊎ ((third.memory.hops ≡ second.memory.hops) × AsStanding now old.prefixes.entries new.prefixes.entries) → Recalls now new
   by_linked asked mine is (inl empty) = none (is ∙ empty)
   by_linked asked mine is (inr both) = by_listed asked mine (is ∙ both.0) both.1 listed.hops
 

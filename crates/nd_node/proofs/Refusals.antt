@@ -198,7 +198,7 @@ module _ (start : Start) (now : ℕ) (source destination : Addr) (next_header : 
       goes Others Goes' false is h = h
 
   -- one that isn't refused itself goes to its next hop
-  pub to_hop : (role : Role) (hop : NextHop) → role ≡ start.role → None ≡ refusal_of_packet start now source payload c → IsHopOf role ((now, Passed) ∷ c) now destination hop
+  pub to_hop : (role : Role) (hop : NextHop) → role ≡ start.role → None ≡ refusal_of_packet start now source payload c → IsHopOf start role ((now, Passed) ∷ c) now destination hop
       → AddsRefusal now c (EventAdds start now (events.Sends source destination next_header payload)) → AddsRefusal now c (PacketAdds start now hop source destination next_header payload)
   to_hop role hop role_is says next adds = (adds.0, by (refusal_of_packet start now source payload ((now, Passed) ∷ c)) says adds.1)
     where
@@ -208,10 +208,10 @@ module _ (start : Start) (now : ℕ) (source destination : Addr) (next_header : 
       refused : Chronicle
       refused = (now, Refused adds.0) ∷ later
 
-      by : (o : Option Refusal) → None ≡ o → UnlessRefused now o (λ e. (next' : NextHop) × IsHopOf start.role later now destination next' × PacketAdds start now next' source destination next_header payload later e) later refused
+      by : (o : Option Refusal) → None ≡ o → UnlessRefused now o (λ e. (next' : NextHop) × IsHopOf start start.role later now destination next' × PacketAdds start now next' source destination next_header payload later e) later refused
           → PacketAdds start now hop source destination next_header payload later refused
       by None is h =
-          let same : h.0 ≡ hop = one_hop later now start.role destination h.0 hop h.1 (subst (λ (r : Role). IsHopOf r later now destination hop) role_is next) in
+          let same : h.0 ≡ hop = one_hop later now start start.role destination h.0 hop h.1 (subst (λ (r : Role). IsHopOf start r later now destination hop) role_is next) in
           subst (λ (n : NextHop). PacketAdds start now n source destination next_header payload later refused) same h.2
       by (Some refusal) is h = let never : ⊥ = cc in absurd never
 
@@ -237,7 +237,7 @@ both_left stream start node c now key target packet came room says is s adds = l
     later = (now, Passed) ∷ c
 
     has : HasRoom start.limits.neighbours now (number_of packet.header.source.0) (Some key) (neighbour_history c)
-    has = subst (λ (limit : ℕ). HasRoom limit now (number_of packet.header.source.0) (Some key) (neighbour_history c)) s.neighbour_limit ((says (neighbour_history c) s.neighbours).0 is)
+    has = subst (λ (limit : ℕ). HasRoom limit now (number_of packet.header.source.0) (Some key) (neighbour_history c)) s.limits.neighbours ((says (neighbour_history c) s.neighbours).0 is)
 
     left : (place : Bool) → HavePlace start later now (number_of packet.header.source.0) key place
         → UnlessFull now (no_place place) (Redirects start now target packet came key later) later ((now, Refused adds.0) ∷ later) → ⊥

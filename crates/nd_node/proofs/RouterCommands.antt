@@ -62,16 +62,16 @@ module _ {R A : Type 0} (stream : R → Stream) (old new : Node R A) (now : ℕ)
     base = record old { last = now }
 
     -- it is to advertise
-    pub configures : (settings : Settings) → advertising.GainsRow old.router.advertiser r.advertiser (advertising_rows.Advertises now settings) → r.routes ≡ old.router.routes
+    pub configures : (settings : Settings) → advertising.GainsRow old.router.advertiser r.advertiser (advertising_rows.Advertises now settings) → r.advertiser.limit ≡ old.router.advertiser.limit → r.routes ≡ old.router.routes
         → AddsEvent stream old new outs outs now (events.Advertises settings) Done
-    configures settings gains same = record {
+    configures settings gains limit same = record {
       each = λ start c s le.
           let later : Chronicle = (now, Passed) ∷ c in
           let d : Chronicle = (now, Configured settings) ∷ later in
           let p = passed stream start old base c now s le settled refl in (
             d,
             at_router now start.role (λ (e : Chronicle). e ≡ d) later d (sym s.role ∙ role) refl,
-            rw is (stands_advertising stream start base later d (aside (Configures settings) now start.at later refl) p r old.generator (advertising_rows.Advertises now settings) refl gains same refl refl p.generator),
+            rw is (stands_advertising stream start base later d (aside (Configures settings) now start.at later refl) p r old.generator (advertising_rows.Advertises now settings) refl gains limit same refl refl p.generator),
             record { newer = []; told = append-nil (items later); outs = sym (append-nil (happenings outs)) },
             refl,
           );
@@ -79,38 +79,39 @@ module _ {R A : Type 0} (stream : R → Stream) (old new : Node R A) (now : ℕ)
 
     -- a prefix is to be advertised, and is not one too many
     pub offers : (info : PrefixInfo) (answer : Result (Unit {0}) Full)
-        → ((history : List advertising_rows.Row) → advertising.Stands old.router.advertiser history → answer ≡ answer_to info.prefix (prefixes history)) → is_ok answer ≡ true
-        → advertising.GainsRow old.router.advertiser r.advertiser (advertising_rows.Offered info) → r.routes ≡ old.router.routes → AddsEvent stream old new outs outs now (events.Offers info) Done
-    offers info answer by_history ok gains same = record {
+        → ((history : List advertising_rows.Row) → advertising.Stands old.router.advertiser history → answer ≡ answer_to old.router.advertiser.limit info.prefix (prefixes history)) → is_ok answer ≡ true
+        → advertising.GainsRow old.router.advertiser r.advertiser (advertising_rows.Offered info) → r.advertiser.limit ≡ old.router.advertiser.limit → r.routes ≡ old.router.routes → AddsEvent stream old new outs outs now (events.Offers info) Done
+    offers info answer by_history ok gains limit same = record {
       each = λ start c s le.
           let later : Chronicle = (now, Passed) ∷ c in
           let d : Chronicle = (now, Offered info) ∷ later in
           let p = passed stream start old base c now s le settled refl in
-          let many : Bool = is_one_too_many info.prefix (prefixes (advertising_history start c)) in
-          let fits' : many ≡ false = one_more_fits many answer (by_history (advertising_history start c) s.router.advertiser) ok in (
+          let many : Bool = is_one_too_many start.limits.offers info.prefix (prefixes (advertising_history start c)) in
+          let fits' : many ≡ false = one_more_fits many answer (by_history (advertising_history start c) s.router.advertiser
+          ∙ ap (λ (limit : ℕ). answer_to limit info.prefix (prefixes (advertising_history start c))) s.router.offer_limit) ok in (
             d,
             at_router now start.role (λ (e : Chronicle). UnlessFull now (if many then Some happening.Offers else None) (λ (x : Chronicle). x ≡ d) later e) later d (sym s.role ∙ role)
                 (subst (λ (b : Bool). UnlessFull now (if b then Some happening.Offers else None) (λ (x : Chronicle). x ≡ d) later d) (sym fits') refl),
-            rw is (stands_advertising stream start base later d (aside (Offers info) now start.at later refl) p r old.generator (advertising_rows.Offered info) tt gains same refl refl p.generator),
+            rw is (stands_advertising stream start base later d (aside (Offers info) now start.at later refl) p r old.generator (advertising_rows.Offered info) tt gains limit same refl refl p.generator),
             record { newer = []; told = append-nil (items later); outs = sym (append-nil (happenings outs)) },
             refl,
           );
     }
 
     -- a route is put, and is not one too many
-    pub puts_route : (prefix : PrefixValue) (route : Route) → ((history : List route_rows.Row) → routing.Stands old.router.routes history → true ≡ fits prefix (routes history))
-        → r.advertiser ≡ old.router.advertiser → routing.GainsRow old.router.routes r.routes (route_rows.RoutePut prefix route) → AddsEvent stream old new outs outs now (events.Routes prefix route) Done
-    puts_route prefix route by_history same gains = record {
+    pub puts_route : (prefix : PrefixValue) (route : Route) → ((history : List route_rows.Row) → routing.Stands old.router.routes history → true ≡ fits old.router.routes.limit prefix (routes history))
+        → r.advertiser ≡ old.router.advertiser → routing.GainsRow old.router.routes r.routes (route_rows.RoutePut prefix route) → r.routes.limit ≡ old.router.routes.limit → AddsEvent stream old new outs outs now (events.Routes prefix route) Done
+    puts_route prefix route by_history same gains limit = record {
       each = λ start c s le.
           let later : Chronicle = (now, Passed) ∷ c in
           let d : Chronicle = (now, RoutePut prefix route) ∷ later in
           let p = passed stream start old base c now s le settled refl in
-          let room : Bool = fits prefix (routes (route_history c)) in
-          let fits' : true ≡ room = by_history (route_history c) s.router.routes in (
+          let room : Bool = fits start.limits.routes prefix (routes (route_history c)) in
+          let fits' : true ≡ room = by_history (route_history c) s.router.routes ∙ ap (λ (limit : ℕ). fits limit prefix (routes (route_history c))) s.router.route_limit in (
             d,
             at_router now start.role (λ (e : Chronicle). UnlessFull now (if room then None else Some happening.StaticRoutes) (λ (x : Chronicle). x ≡ d) later e) later d (sym s.role ∙ role)
                 (subst (λ (b : Bool). UnlessFull now (if b then None else Some happening.StaticRoutes) (λ (x : Chronicle). x ≡ d) later d) fits' refl),
-            rw is (stands_routes stream start base later d (aside (PutsRoute prefix route) now start.at later refl) p r (route_rows.RoutePut prefix route) same gains refl refl refl),
+            rw is (stands_routes stream start base later d (aside (PutsRoute prefix route) now start.at later refl) p r (route_rows.RoutePut prefix route) same gains limit refl refl refl),
             record { newer = []; told = append-nil (items later); outs = sym (append-nil (happenings outs)) },
             refl,
           );
@@ -142,9 +143,9 @@ pub ceases : {R A : Type 0} (stream : R → Stream) (old new : Node R A) (now : 
     → (own : Addr) → ((start : Start) → old.addresses.mac ≡ start.mac → own ≡ link_local start) → (made : Option (List ℕ))
     → ((history : List advertising_rows.Row) → advertising.Stands old.router.advertiser history → made ≡ option_map (router_advertisement_frame old.mac own) (last_contents_of old.mac history))
     → (tells : Bool) → ((history : List advertising_rows.Row) → advertising.Stands old.router.advertiser history → tells ≡ tells_its_end history)
-    → advertising.GainsRow old.router.advertiser r.advertiser (advertising_rows.Ceased now) → r.routes ≡ old.router.routes
+    → advertising.GainsRow old.router.advertiser r.advertiser (advertising_rows.Ceased now) → r.advertiser.limit ≡ old.router.advertiser.limit → r.routes ≡ old.router.routes
     → (newer : List Happening) → newer ≡ told_end tells made → happenings y ≡ happenings x ++ at_moment now newer → AddsEvent stream old new x y now events.Stops Done
-ceases {R} {A} stream old new now settled role r is x y own own_is made made_is tells tells_is gains same newer newer_is told = record {
+ceases {R} {A} stream old new now settled role r is x y own own_is made made_is tells tells_is gains limit same newer newer_is told = record {
   each = λ start c s le.
       let later : Chronicle = (now, Passed) ∷ c in
       let base : Node R A = record old { last = now } in
@@ -161,7 +162,7 @@ ceases {R} {A} stream old new now settled role r is x y own own_is made made_is 
         d,
         at_router now start.role (λ (e : Chronicle). e ≡ d) later d (sym s.role ∙ role) refl,
         rw is (stands_quiet stream start (record old { last = now; router = r }) row d (end_is_quiet start now (tells_its_end history) message row (λ at. refl))
-            (stands_advertising stream start base later row (aside Ceases now start.at later refl) p r old.generator (advertising_rows.Ceased now) refl gains same refl refl p.generator)),
+            (stands_advertising stream start base later row (aside Ceases now start.at later refl) p r old.generator (advertising_rows.Ceased now) refl gains limit same refl refl p.generator)),
         record {
           newer = at_moment now newer;
           told = items_of_end start now (tells_its_end history) message row

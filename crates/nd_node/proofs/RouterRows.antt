@@ -89,10 +89,10 @@ module _ {R A : Type 0} (stream : R → Stream) (start : Start) (old : Node R A)
   stands_aside r g stands' generator later = record {
     role = s.role;
     mac = s.mac;
+    chosen = s.chosen;
     address_mac = s.address_mac;
     address_transmits = s.address_transmits;
-    neighbour_limit = s.neighbour_limit;
-    router_limit = s.router_limit;
+    limits = s.limits;
     params = rw a.parameters s.params;
     routers = rw a.routers s.routers;
     prefixes = rw a.prefixes s.prefixes;
@@ -117,23 +117,25 @@ module _ {R A : Type 0} (stream : R → Stream) (start : Start) (old : Node R A)
   }
 
   -- one more row of what is advertised
-  pub stands_advertising : (r : RouterTables A) (g : R) (row : advertising_rows.Row) → IsOf (last_moment start.at c) row → advertising.GainsRow old.router.advertiser r.advertiser row → r.routes ≡ old.router.routes
+  pub stands_advertising : (r : RouterTables A) (g : R) (row : advertising_rows.Row) → IsOf (last_moment start.at c) row → advertising.GainsRow old.router.advertiser r.advertiser row → r.advertiser.limit ≡ old.router.advertiser.limit → r.routes ≡ old.router.routes
       → advertising_history start d ≡ row ∷ advertising_history start c → route_history d ≡ route_history c → stream g ≡ stream_left start d
       → Stands stream start (record old { router = r; generator = g }) d
-  stands_advertising r g row is gains same more others generator =
+  stands_advertising r g row is gains limit same more others generator =
       let at = last_moment start.at c in
-      let t = stands_row start old.router r c d at row is gains same more others s.router in
+      let t = stands_row start old.router r c d at row is gains limit same more others s.router in
       stands_aside r g t generator (later_row start old.role old.router r c d at row is s.role more s.router t (advertisement_before old at s.in_time))
 
   -- one more row of the routes
-  pub stands_routes : (r : RouterTables A) (row : route_rows.Row) → r.advertiser ≡ old.router.advertiser → routes.GainsRow old.router.routes r.routes row
+  pub stands_routes : (r : RouterTables A) (row : route_rows.Row) → r.advertiser ≡ old.router.advertiser → routes.GainsRow old.router.routes r.routes row → r.routes.limit ≡ old.router.routes.limit
       → advertising_history start d ≡ advertising_history start c → route_history d ≡ row ∷ route_history c → stream_left start d ≡ stream_left start c
       → Stands stream start (record old { router = r }) d
-  stands_routes r row same gains others more left =
+  stands_routes r row same gains limit others more left =
       let at = last_moment start.at c in
       let t : router_only.Stands start r d = record {
         advertiser = rw (same, others) s.router.advertiser;
         routes = rw more (gains.stands (route_history c) s.router.routes);
+        offer_limit = rw same s.router.offer_limit;
+        route_limit = limit ∙ s.router.route_limit;
         spaced = rw others s.router.spaced;
       } in
       stands_aside r old.generator t (s.generator ∙ sym left) (rw same (advertisement_before old at s.in_time))

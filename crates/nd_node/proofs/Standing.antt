@@ -9,6 +9,7 @@ use Rattle.nd_neighbour.specs.TableKept as neighbours
 use Rattle.nd_neighbour.specs.DueKept as neighbour_dates
 use Rattle.nd_routers.specs.RoutersKept as routers
 use Rattle.nd_nexthop.specs.Choice as choice
+use Rattle.nd_steps.specs.DestinationCache.{KeepsRoom}
 use Rattle.nd_slaac.specs.TableKept as addresses
 use Rattle.nd_slaac.specs.Dates as address_dates
 use Rattle.nd_chronicle.specs.Start.{Start, link_local_key}
@@ -63,6 +64,7 @@ apart_then c d e b f = record {
 pub record Still {R A : Type 0} (old new : Node R A) (now : ℕ) : Type 0 where
   pub role : new.role ≡ old.role
   pub mac : new.mac ≡ old.mac
+  pub chosen : new.limits ≡ old.limits
   pub generator : new.generator ≡ old.generator
   pub params : new.params ≡ old.params
   pub prefixes : new.prefixes ≡ old.prefixes
@@ -71,8 +73,11 @@ pub record Still {R A : Type 0} (old new : Node R A) (now : ℕ) : Type 0 where
   pub router : new.router ≡ old.router
   pub address_mac : new.addresses.mac ≡ old.addresses.mac
   pub address_transmits : new.addresses.transmits ≡ old.addresses.transmits
+  pub address_limit : new.addresses.limit ≡ old.addresses.limit
   pub neighbour_limit : new.neighbours.limit ≡ old.neighbours.limit
+  pub waiting : new.neighbours.waiting ≡ old.neighbours.waiting
   pub router_limit : new.routers.limit ≡ old.routers.limit
+  pub room : KeepsRoom old.choice new.choice
   pub last : new.last ≡ now
 
 -- where no router's lifetime has ended, none is due in the past
@@ -89,10 +94,20 @@ module _ {R A : Type 0} (stream : R → Stream) (start : Start) (old new : Node 
   stands_at routers' later_router addresses' later_address neighbours' later_neighbour redirects' recalls = record {
     role = same.role ∙ s.role;
     mac = same.mac ∙ s.mac;
+    chosen = same.chosen ∙ s.chosen;
     address_mac = same.address_mac ∙ s.address_mac;
     address_transmits = same.address_transmits ∙ s.address_transmits;
-    neighbour_limit = same.neighbour_limit ∙ s.neighbour_limit;
-    router_limit = same.router_limit ∙ s.router_limit;
+    limits = record {
+      neighbours = same.neighbour_limit ∙ s.limits.neighbours;
+      routers = same.router_limit ∙ s.limits.routers;
+      prefixes = rw same.prefixes s.limits.prefixes;
+      addresses = same.address_limit ∙ s.limits.addresses;
+      servers = rw same.dns s.limits.servers;
+      names = rw same.dns s.limits.names;
+      redirects = same.room.redirects ∙ s.limits.redirects;
+      destinations = same.room.destinations ∙ s.limits.destinations;
+      waiting = same.waiting ∙ s.limits.waiting;
+    };
     params = rw (same.params, b.parameters) s.params;
     routers = routers';
     prefixes = rw (same.prefixes, b.prefixes) s.prefixes;

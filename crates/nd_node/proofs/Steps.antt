@@ -36,10 +36,10 @@ pub passed : {R A : Type 0} (stream : R → Stream) (start : Start) (old new : N
 passed stream start old new c now s le settled is = rw is (record {
   role = s.role;
   mac = s.mac;
+  chosen = s.chosen;
   address_mac = s.address_mac;
   address_transmits = s.address_transmits;
-  neighbour_limit = s.neighbour_limit;
-  router_limit = s.router_limit;
+  limits = s.limits;
   params = s.params;
   routers = s.routers;
   prefixes = s.prefixes;
@@ -54,7 +54,7 @@ passed stream start old new c now s le settled is = rw is (record {
   prefixes_by_then = omega (arith, s.prefixes_by_then, le);
   servers_by_then = omega (arith, s.servers_by_then, le);
   names_by_then = omega (arith, s.names_by_then, le);
-  memo = remembers_later old.last now old.choice old.addresses.addresses old.prefixes old.neighbours.entries old.routers (omega (arith, s.last, le)) s.memo;
+  memo = remembers_later old.last now old.choice old.addresses.addresses old.prefixes.entries old.neighbours.entries old.routers (omega (arith, s.last, le)) s.memo;
   in_time = omega (arith, settled);
 })
 

@@ -69,7 +69,7 @@ module _ {R A : Type 0} (stream : R → Stream) (now : ℕ) (source destination 
       → (start : Start) (c : Chronicle) → Stands stream start node c → Placed start c now (needs c source (advertised ra options) (bodies.Ra ra)) place
   sender_placed node news place is placed start c s =
       let times : Times = record { retrans = 0; reachable = 0 } in
-      subst (λ (said : Option (ℕ × RowKind)). Placed start c now (entering said) place) (is times) (placed start c times s.neighbour_limit s.neighbours)
+      subst (λ (said : Option (ℕ × RowKind)). Placed start c now (entering said) place) (is times) (placed start c times s.limits.neighbours s.neighbours)
 
   -- it is refused, since a table has no room
   pub refuses : (old new : Node R A) (x y : List (ℕ × Out A)) (limit : happenings.Limit)

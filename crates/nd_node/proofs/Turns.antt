@@ -43,7 +43,7 @@ use Rattle.nd_nexthop.specs.Memo.{forgotten}
 use Rattle.nd_neighbour.specs.Story.{mac_of}
 use Rattle.nd_slaac.specs.declared.destination.Counted.TheVariants.{Own}
 use Rattle.nd_slaac.specs.Destination.{counts}
-use Rattle.nd_steps.specs.DestinationCache.{Remembering, ends}
+use Rattle.nd_steps.specs.DestinationCache.{KeepsRoom, Remembering, ends}
 use Rattle.nd_steps.proofs.Resolved.{gains_as_resolved}
 use Rattle.nd_node.proofs.Recalling.{Recalls, forgets_all, keeps, own_by, own_row, redirects_stand}
 use Rattle.nd_steps.proofs.RouterSide.{advertisement_date, later_row, side_stands, stands_address, stands_row}
@@ -138,12 +138,16 @@ date_later true true (Some at) sent now e = let is : at + sent * rtr_solicitatio
 pub record Turns {R A : Type 0} (old new : Node R A) (at : ℕ) : Type 0 where
   pub role : new.role ≡ old.role
   pub mac : new.mac ≡ old.mac
+  pub chosen : new.limits ≡ old.limits
   pub prefixes : new.prefixes ≡ old.prefixes
   pub dns : new.dns ≡ old.dns
   pub address_mac : new.addresses.mac ≡ old.addresses.mac
   pub address_transmits : new.addresses.transmits ≡ old.addresses.transmits
+  pub address_limit : new.addresses.limit ≡ old.addresses.limit
   pub neighbour_limit : new.neighbours.limit ≡ old.neighbours.limit
+  pub waiting : new.neighbours.waiting ≡ old.neighbours.waiting
   pub router_limit : new.routers.limit ≡ old.routers.limit
+  pub room : KeepsRoom old.choice new.choice
   pub last : new.last ≡ at
 
 module _ {R A : Type 0} (stream : R → Stream) (start : Start) (old new : Node R A) (c : Chronicle) (now : ℕ) (s : Stands stream start old c) (is : now ≡ next_of old) (turns : Turns old new now) where
@@ -161,10 +165,20 @@ module _ {R A : Type 0} (stream : R → Stream) (start : Start) (old new : Node 
   then_row d at p v n params routers' addresses' neighbours' redirects' solicitations' router' generator' recalls later = record {
     role = turns.role ∙ s.role;
     mac = turns.mac ∙ s.mac;
+    chosen = turns.chosen ∙ s.chosen;
     address_mac = turns.address_mac ∙ s.address_mac;
     address_transmits = turns.address_transmits ∙ s.address_transmits;
-    neighbour_limit = turns.neighbour_limit ∙ s.neighbour_limit;
-    router_limit = turns.router_limit ∙ s.router_limit;
+    limits = record {
+      neighbours = turns.neighbour_limit ∙ s.limits.neighbours;
+      routers = turns.router_limit ∙ s.limits.routers;
+      prefixes = rw turns.prefixes s.limits.prefixes;
+      addresses = turns.address_limit ∙ s.limits.addresses;
+      servers = rw turns.dns s.limits.servers;
+      names = rw turns.dns s.limits.names;
+      redirects = turns.room.redirects ∙ s.limits.redirects;
+      destinations = turns.room.destinations ∙ s.limits.destinations;
+      waiting = turns.waiting ∙ s.limits.waiting;
+    };
     params = params;
     routers = routers';
     prefixes = rw (turns.prefixes, p) s.prefixes;
@@ -310,7 +324,7 @@ module _ {R A : Type 0} (stream : R → Stream) (start : Start) (old new : Node 
       let is : IsOf now row = (refl, subst (λ (x : ℕ). 0 < x) drew sent.positive) in
       let below : Chronicle = (now, Advertised interval) ∷ (now, Drew ForInterval interval) ∷ c in
       let side : router_only.Stands start new.router below = stands_row start old.router new.router c below now row is
-      (subst (λ (x : ℕ). advertising.GainsRow old.router.advertiser new.router.advertiser (advertising_rows.Sent now x)) drew sent.gains) sent.routes refl refl s.router in
+      (subst (λ (x : ℕ). advertising.GainsRow old.router.advertiser new.router.advertiser (advertising_rows.Sent now x)) drew sent.gains) sent.limit sent.routes refl refl s.router in
       subst (λ (x : Option Settings). Stands stream start new (advertising_by start now x c)) (sym in_force)
       (stands_quiet stream start new _ _ (sent_is_quiet now _ _ (λ at. refl))
       (then_row below refl refl refl refl

@@ -1,11 +1,5 @@
 -- How many rows the tables of a node have, and how many they may have.
 use Rattle.std.specs.Prelude.{◌≡◌, ◌≤◌, length}
-use Rattle.nd_dns.specs.Dns.{max_servers, max_names}
-use Rattle.nd_routers.specs.OnLinkPrefixes.{max_prefixes}
-use Rattle.nd_slaac.specs.Room.{max_addresses}
-use Rattle.nd_advertiser.specs.Offers.{max_offers}
-use Rattle.nd_nexthop.specs.History.{max_redirects}
-use Rattle.nd_forwarding.specs.Routes.{max_routes}
 use Rattle.nd_chronicle.specs.Start.{Limits}
 use Rattle.nd_node.specs.declared.counts.Counts.{Counts}
 use Rattle.nd_node.specs.declared.node.Node.{Node}
@@ -14,11 +8,11 @@ use Rattle.nd_node.specs.declared.node.Node.{Node}
 pub record Counted {R A : Type 0} (node : Node R A) (counts : Counts) : Type 0 where
   pub neighbours : counts.neighbours ≡ length node.neighbours.entries
   pub routers : counts.routers ≡ length node.routers.entries
-  pub prefixes : counts.prefixes ≡ length node.prefixes
+  pub prefixes : counts.prefixes ≡ length node.prefixes.entries
   pub addresses : counts.addresses ≡ length node.addresses.addresses
   pub servers : counts.servers ≡ length node.dns.servers
   pub search_names : counts.search_names ≡ length node.dns.names
-  pub redirects : counts.redirects ≡ length node.choice.redirects
+  pub redirects : counts.redirects ≡ length node.choice.redirects.entries
   pub offers : counts.offers ≡ length node.router.advertiser.offers
   pub routes : counts.routes ≡ length node.router.routes.entries
 
@@ -26,10 +20,10 @@ pub record Counted {R A : Type 0} (node : Node R A) (counts : Counts) : Type 0 w
 pub record WithinLimits (limits : Limits) (counts : Counts) : Type 0 where
   pub neighbours : counts.neighbours ≤ limits.neighbours
   pub routers : counts.routers ≤ limits.routers
-  pub prefixes : counts.prefixes ≤ max_prefixes
-  pub addresses : counts.addresses ≤ max_addresses
-  pub servers : counts.servers ≤ max_servers
-  pub search_names : counts.search_names ≤ max_names
-  pub redirects : counts.redirects ≤ max_redirects
-  pub offers : counts.offers ≤ max_offers
-  pub routes : counts.routes ≤ max_routes
+  pub prefixes : counts.prefixes ≤ limits.prefixes
+  pub addresses : counts.addresses ≤ limits.addresses
+  pub servers : counts.servers ≤ limits.servers
+  pub search_names : counts.search_names ≤ limits.names
+  pub redirects : counts.redirects ≤ limits.redirects
+  pub offers : counts.offers ≤ limits.offers
+  pub routes : counts.routes ≤ limits.routes

@@ -24,6 +24,7 @@ pub record AddsMessage {R A : Type 0} (stream : R → Stream) (old new : Node R 
 pub record Keeps {R A : Type 0} (old new : Node R A) : Type 0 where
   pub role : new.role ≡ old.role
   pub mac : new.mac ≡ old.mac
+  pub chosen : new.limits ≡ old.limits
   pub generator : new.generator ≡ old.generator
   pub last : new.last ≡ old.last
   pub params : new.params ≡ old.params
@@ -32,6 +33,7 @@ pub record Keeps {R A : Type 0} (old new : Node R A) : Type 0 where
   pub addresses : new.addresses ≡ old.addresses
   pub entries : new.neighbours.entries ≡ old.neighbours.entries
   pub limit : new.neighbours.limit ≡ old.neighbours.limit
+  pub waiting : new.neighbours.waiting ≡ old.neighbours.waiting
   pub dns : new.dns ≡ old.dns
   pub choice : new.choice ≡ old.choice
   pub solicitations : new.solicitations ≡ old.solicitations

@@ -10,6 +10,7 @@ ghost use Rattle.nd_neighbour.specs.Story.{waits_of};
 ghost use Rattle.nd_packet.specs.Waiting.{max_waiting};
 ghost use Rattle.nd_node.specs.Counts.{Counted, WithinLimits};
 
+use crate::limits::Limits;
 use crate::node::Node;
 use nd_addr::Addr;
 use rand_core::Rng;
@@ -64,7 +65,15 @@ impl<R: Rng + Drop, A: Allocator + Clone> Node<R, A> {
         }
     }
 
-    /// Returns how many packets wait for a neighbour's link-layer address, at most three (RFC 4861, section 7.2.2). It takes no memory.
+    /// Returns the limits that the node was started with. No table passes its own.
+    pub fn limits(&self) -> Limits
+        ensures value { result ≡ self.now.limits }
+        ensures start { (start : Start) (c : Chronicle) → Stands R.stream start self.now c → result ≡ start.limits }
+    {
+        self.limits
+    }
+
+    /// Returns how many packets wait for a neighbour's link-layer address, at most as many as the limit on them (RFC 4861, section 7.2.2). It takes no memory.
     pub fn waiting_at(&self, addr: Addr) -> usize
         ensures value { (start : Start) (c : Chronicle) → Stands R.stream start self.now c → result ≡ length (waits_of (story (number_of addr.0) (neighbour_history c))) }
         ensures few { result ≤ max_waiting }

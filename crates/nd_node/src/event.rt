@@ -81,6 +81,7 @@ impl<R: Rng + Drop, A: Allocator + Clone> Node<R, A> {
     /// what the event adds. Returns how the node took the event. One earlier than the node's last moment is only reported as past.
     ///
     /// Returns an error if out of memory: a part of what is due may have been done and reported then, and the event has added nothing.
+    #[inline(always)]
     pub fn event(
         &mut self,
         now: u64,
@@ -199,6 +200,7 @@ impl<R: Rng + Drop, A: Allocator + Clone> Node<R, A> {
     /// Adds what an event adds, once all that is due up to `now` is done. A link calls it, since its nodes take their turns together. An event
     /// earlier than the node's last moment is only reported as past, and the clock stays. Returns an error if out of memory; nothing has happened
     /// then.
+    #[inline(always)]
     pub fn add(
         &mut self,
         now: u64,

@@ -21,7 +21,7 @@ impl<R: Rng + Drop, A: Allocator + Clone> Node<R, A> {
     /// remembers the next hop if it gets the memory for that, and does without otherwise.
     pub(crate) fn next_hop(&mut self, now: u64, destination: Addr) -> Hop
         requires settled { now < next_of self.old }
-        ensures next { (start : Start) (c : Chronicle) → Stands R.stream start self.old c → last_moment start.at c ≤ now → IsNextHop c now destination (hop_of result) }
+        ensures next { (start : Start) (c : Chronicle) → Stands R.stream start self.old c → last_moment start.at c ≤ now → IsNextHop start c now destination (hop_of result) }
         ensures stands { (start : Start) (c : Chronicle) → Stands R.stream start self.old c → Stands R.stream start self.new c }
         ensures due { next_of self.new ≡ next_of self.old }
     {
@@ -43,7 +43,7 @@ impl<R: Rng + Drop, A: Allocator + Clone> Node<R, A> {
     /// remembered is neither read nor changed. It takes no memory.
     pub(crate) fn determined_hop(&self, now: u64, destination: Addr) -> Hop
         requires settled { now < next_of self.now }
-        ensures { (start : Start) (c : Chronicle) → Stands R.stream start self.now c → last_moment start.at c ≤ now → IsNextHop c now destination (hop_of result) }
+        ensures { (start : Start) (c : Chronicle) → Stands R.stream start self.now c → last_moment start.at c ≤ now → IsNextHop start c now destination (hop_of result) }
     {
         let tables = Tables {
             now,
@@ -59,7 +59,7 @@ impl<R: Rng + Drop, A: Allocator + Clone> Node<R, A> {
     /// tables, a router takes its longest route (RFC 4861, section 5.2).
     pub(crate) fn hop_of_packet(&mut self, now: u64, destination: Addr) -> Hop
         requires settled { now < next_of self.old }
-        ensures next { (start : Start) (c : Chronicle) → Stands R.stream start self.old c → last_moment start.at c ≤ now → IsHopOf start.role c now destination (hop_of result) }
+        ensures next { (start : Start) (c : Chronicle) → Stands R.stream start self.old c → last_moment start.at c ≤ now → IsHopOf start start.role c now destination (hop_of result) }
         ensures stands { (start : Start) (c : Chronicle) → Stands R.stream start self.old c → Stands R.stream start self.new c }
         ensures due { next_of self.new ≡ next_of self.old }
     {

@@ -5,7 +5,6 @@ ghost use Rattle.std.specs.Option.{option_map};
 ghost use Rattle.nd_decode.specs.Pieces.{options_left};
 ghost use Rattle.nd_table.specs.Listing.{fits};
 ghost use Rattle.nd_dns.specs.AnnouncedNames.{same_name, names_told};
-ghost use Rattle.nd_dns.specs.Dns.{max_names};
 ghost use Rattle.nd_out.specs.Out.{limit_of};
 ghost use Rattle.nd_chronicle.specs.Full.{first_full, needs, Placed, AdvertisementFills};
 
@@ -35,7 +34,7 @@ impl<R: Rng + Drop, A: Allocator + Clone> Node<R, A> {
         place: bool,
         known: bool,
     ) -> Option<Limit>
-        requires { known ≡ true → fits same_name max_names now (names_told (options_left options)) self.now.dns.names ≡ true }
+        requires { known ≡ true → fits same_name self.now.dns.name_limit now (names_told (options_left options)) self.now.dns.names ≡ true }
         ensures fills { let message = advertised ra.now (options_left options.entry) in (start : Start) (c : Chronicle) → Stands R.stream start self.now c → last_moment start.at c ≤ now
             → Placed start c now (needs c source message message.body) place → AdvertisementFills start c now source ra.now message (option_map limit_of result) }
         ensures room { result ≡ None → HasRoom self.now now source ra.now (options_left options.entry) place }

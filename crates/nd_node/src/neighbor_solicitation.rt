@@ -162,6 +162,7 @@ fn make_room<A: Allocator + Clone>(
     ensures solicitation { IfOk result (λ room. news ≡ None → entry_in (number_of asker.0) neighbours.old.entries ≡ None → is_some room.solicitation ≡ true) }
     ensures entries { neighbours.new.entries ≡ neighbours.old.entries }
     ensures limit { neighbours.new.limit ≡ neighbours.old.limit }
+    ensures waiting { neighbours.new.waiting ≡ neighbours.old.waiting }
     ensures same { outs.new.items ≡ outs.old.items }
 {
     let solicitation = match news {

@@ -23,6 +23,8 @@ use std::alloc::Allocator;
 pub struct Node<R, A: Allocator> {
     pub(crate) role: Role,
     pub(crate) mac: Mac,
+    /// The limits that it was started with.
+    pub(crate) limits: Limits,
     pub(crate) generator: R,
     /// The moment up to which time has passed. Only `advance_to` of `clock.rt` changes it.
     pub(crate) last: u64,
@@ -69,6 +71,7 @@ impl<R: Rng + Drop, A: Allocator + Copy> Node<R, A> {
         Ok(Node {
             role,
             mac,
+            limits,
             generator,
             last: start,
             params,

@@ -43,7 +43,7 @@ impl<R: Rng + Drop, A: Allocator + Clone> Node<R, A> {
         ensures stays { OnErr result (Stays R.stream self.old self.new) }
         ensures told { OnErr result (outs.new.items ≡ outs.old.items) }
         ensures full { (limit : Table) (start : Start) (c : Chronicle) → Stands R.stream start self.old c → last_moment start.at c ≤ now → Fills start ((now, Passed) ∷ c) now heard.now.source (record { body = bodies.Redirect redirect.now; options = options_left heard.now.message.options }) (bodies.Redirect redirect.now) (Some limit) → vec_len outs.old < vec_capacity outs.old → IsOk result }
-        ensures misdirected { (start : Start) (c : Chronicle) → Stands R.stream start self.old c → last_moment start.at c ≤ now → NotFromFirstHop ((now, Passed) ∷ c) now heard.now.source (bodies.Redirect redirect.now) → vec_len outs.old < vec_capacity outs.old → IsOk result }
+        ensures misdirected { (start : Start) (c : Chronicle) → Stands R.stream start self.old c → last_moment start.at c ≤ now → NotFromFirstHop start ((now, Passed) ∷ c) now heard.now.source (bodies.Redirect redirect.now) → vec_len outs.old < vec_capacity outs.old → IsOk result }
     {
         // A Redirect that is taken forgets what is remembered.
         let hop = self.determined_hop(now, redirect.destination);

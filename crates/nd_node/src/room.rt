@@ -30,28 +30,30 @@ pub(crate) struct Room<A: Allocator> {
 }
 
 impl<A: Allocator + Copy> Room<A> {
-    /// Reserves each table to its limit; `limits` has those on neighbours and default routers. Returns an error if out of memory.
+    /// Reserves each table to its limit. Returns an error if out of memory.
     pub(crate) fn new(alloc: A, limits: Limits) -> Result<Self, AllocError>
         ensures routers { IfOk result (λ room. room.routers ≡ record { limit = limits.routers; entries = []; preferences = []; failed = [] }) }
         ensures router_history { IfOk result (λ room. routers.Stands room.routers []) }
-        ensures no_prefixes { IfOk result (λ room. room.prefixes ≡ []) }
-        ensures prefixes { IfOk result (λ room. lists.Stands same_prefix room.prefixes []) }
-        ensures neighbours { IfOk result (λ room. room.neighbours ≡ record { limit = limits.neighbours; entries = []; rings = 0 }) }
+        ensures no_prefixes { IfOk result (λ room. room.prefixes ≡ record { limit = limits.prefixes; entries = [] }) }
+        ensures prefixes { IfOk result (λ room. lists.Stands same_prefix room.prefixes.entries []) }
+        ensures neighbours { IfOk result (λ room. room.neighbours ≡ record { limit = limits.neighbours; entries = []; waiting = limits.waiting; rings = 0 }) }
         ensures neighbour_history { IfOk result (λ room. neighbours.Stands room.neighbours.entries []) }
+        ensures addresses { IfOk result (λ room. room.addresses ≡ limits.addresses) }
+        ensures no_dns { IfOk result (λ room. room.dns ≡ record { server_limit = limits.servers; name_limit = limits.names; servers = []; names = [] }) }
         ensures dns { IfOk result (λ room. dns.Stands room.dns [] []) }
-        ensures choice { IfOk result (λ room. room.choice ≡ record { redirects = []; memory = record { hops = []; until = None } }) }
+        ensures choice { IfOk result (λ room. room.choice ≡ record { redirects = record { limit = limits.redirects; destinations = limits.destinations; entries = [] }; memory = record { limit = limits.destinations; hops = []; until = None } }) }
         ensures redirects { IfOk result (λ room. choice.Stands room.choice []) }
-        ensures advertiser { IfOk result (λ room. room.router.advertiser ≡ record { assigned = None; last = None; advertising = None; offers = [] }) }
-        ensures routes { IfOk result (λ room. room.router.routes ≡ record { entries = []; redirected = None }) }
+        ensures advertiser { IfOk result (λ room. room.router.advertiser ≡ record { assigned = None; last = None; advertising = None; limit = limits.offers; offers = [] }) }
+        ensures routes { IfOk result (λ room. room.router.routes ≡ record { limit = limits.routes; entries = []; redirected = None }) }
     {
         Ok(Room {
             routers: Routers::new(alloc, limits.routers())?,
-            prefixes: Prefixes::new(alloc)?,
-            addresses: AddressRoom::new(alloc)?,
-            neighbours: Cache::new(alloc, limits.neighbours())?,
-            dns: Dns::new(alloc)?,
-            choice: Choice::new(alloc)?,
-            router: RouterTables::new(alloc)?,
+            prefixes: Prefixes::new(alloc, limits.prefixes())?,
+            addresses: AddressRoom::new(alloc, limits.addresses())?,
+            neighbours: Cache::new(alloc, limits.neighbours(), limits.waiting())?,
+            dns: Dns::new(alloc, limits.servers(), limits.names())?,
+            choice: Choice::new(alloc, limits.redirects(), limits.destinations())?,
+            router: RouterTables::new(alloc, limits.offers(), limits.routes())?,
         })
     }
 }

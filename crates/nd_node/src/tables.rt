@@ -106,7 +106,7 @@ impl<R: Rng + Drop, A: Allocator + Clone> Node<R, A> {
 
     /// Returns the kept redirects, the newest first (RFC 4861, section 8.3).
     pub fn redirects(&self) -> KeptRedirects<'_>
-        ensures { (start : Start) (c : Chronicle) → Stands R.stream start self.now c → redirects_left result ≡ redirects (redirect_history c) }
+        ensures { (start : Start) (c : Chronicle) → Stands R.stream start self.now c → redirects_left result ≡ redirects start.limits.redirects (redirect_history c) }
     {
         self.choice.rows()
     }
@@ -144,7 +144,7 @@ impl<R: Rng + Drop, A: Allocator + Clone> Node<R, A> {
     /// by its longest route (RFC 4861, section 5.2). It takes no memory.
     pub fn next_hop_to(&self, now: u64, destination: Addr) -> Hop
         requires settled { now < next_of self.now }
-        ensures { (start : Start) (c : Chronicle) → Stands R.stream start self.now c → last_moment start.at c ≤ now → IsHopOf start.role c now destination (hop_of result) }
+        ensures { (start : Start) (c : Chronicle) → Stands R.stream start self.now c → last_moment start.at c ≤ now → IsHopOf start start.role c now destination (hop_of result) }
     {
         match self.role {
             Role::Host => self.determined_hop(now, destination),

@@ -1,4 +1,4 @@
-//! Packets that wait for an address (RFC 4861, section 7.2.2): at most three for each neighbour, the oldest first.
+//! Packets that wait for an address (RFC 4861, section 7.2.2): at most as many for each neighbour as the limit, the oldest first.
 #![tactic(auto)]
 
 mod packet;

@@ -13,11 +13,11 @@ pub struct Packets<A: Allocator> {
 }
 
 impl<A: Allocator> Model for Packets<A> {
-    ghost use Rattle.std.specs.Prelude.{List, ℕ, [], unwrap_or};
+    ghost use Rattle.std.specs.Prelude.{List, ℕ, [], option_map, unwrap_or};
 
     ghost Value = { List (List ℕ) };
 
-    ghost view = { λ p. unwrap_or p.waiting [] };
+    ghost view = { λ p. unwrap_or (option_map (λ w. w.packets) p.waiting) [] };
 }
 
 impl<A: Allocator> Packets<A> {
@@ -30,7 +30,7 @@ impl<A: Allocator> Packets<A> {
 
     /// Returns all packets that waited for one address.
     pub fn of(waiting: Waiting<A>) -> Self
-        ensures { result ≡ waiting }
+        ensures { result ≡ waiting.packets }
     {
         Packets {
             waiting: Some(waiting),
@@ -48,7 +48,7 @@ impl<A: Allocator> Packets<A> {
         }
     }
 
-    /// Returns the number of packets, at most three.
+    /// Returns the number of packets, at most eight.
     pub fn len(&self) -> usize
         ensures value { result ≡ length self.now }
         ensures few { length self.now ≤ max_waiting }

@@ -10,7 +10,7 @@ use Rattle.std.proofs.lemmas.Bool.{and_parts, cond_both, cond-true, cond-false, 
 use Rattle.nd_table.specs.Keyed as keyed
 use Rattle.nd_table.specs.Keyed.{at_key}
 use Rattle.nd_table.specs.KeyedKept.{Unique}
-use Rattle.nd_table.specs.declared.date.Date.{Date}
+use Rattle.nd_table.specs.Date.{Date}
 use Rattle.nd_table.specs.DueKept.{NotBefore, is_at}
 use Rattle.nd_table.specs.Dates.{Planned, rank, AllAddresses, has, first_moment, date_at, AreDates, Redated}
 use Rattle.nd_table.specs.Ends.{end_time}

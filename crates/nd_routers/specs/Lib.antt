@@ -7,6 +7,7 @@ pub mod OnLink
 pub mod OnLinkKept
 pub mod OnLinkPrefixes
 pub mod OnLinkPrefixesKept
+pub mod PrefixesKept
 pub mod RouterAdvertisement
 pub mod Routers
 pub mod RoutersKept

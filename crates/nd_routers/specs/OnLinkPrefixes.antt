@@ -7,7 +7,7 @@ use Rattle.nd_addr.specs.Prefix.{PrefixValue}
 use Rattle.nd_decode.specs.declared.prefix_info.PrefixInfo.{PrefixInfo}
 use Rattle.nd_decode.specs.Option.{Said, slla, tlla, prefix, redirected, mtu, rdnss, dnssl, other}
 
--- how many prefixes may be on the link (our choice)
+-- the greatest limit on the prefixes (our choice)
 abbrev pub max_prefixes : ℕ
 max_prefixes = 64
 

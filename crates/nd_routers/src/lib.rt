@@ -17,7 +17,7 @@ mod shown;
 pub use nd_dns::{Dns, NewNames, SearchName};
 pub use nd_params::{Params, reachable_range};
 pub use nd_table::{Limit, TableRefusal, WithLifetime, WithLifetimes};
-pub use prefixes::Prefixes;
+pub use prefixes::{MAX_PREFIXES, Prefixes};
 pub use router::Router;
 pub use router_advertisement::Change;
 pub use router_failures::Listed;

@@ -21,16 +21,16 @@ impl<A: Allocator> Prefixes<A> {
 
     /// Returns true if an address is on the link at `now`, in milliseconds: in a prefix that hasn't ended, or in fe80::/64 (RFC 4861, section 5.2).
     pub fn on_link(&self, now: u64, address: Addr) -> bool
-        ensures value { result ≡ is_held address.0 (open_at now self.now) }
-        ensures by_history { (history : List (Row PrefixValue)) (es : List (Lasting PrefixValue)) → Stands same_prefix self.now history → last_moment history ≤ now → Lists same_prefix history now es → result ≡ is_held address.0 es }
+        ensures value { result ≡ is_held address.0 (open_at now self.now.entries) }
+        ensures by_history { (history : List (Row PrefixValue)) (es : List (Lasting PrefixValue)) → Stands same_prefix self.now.entries history → last_moment history ≤ now → Lists same_prefix history now es → result ≡ is_held address.0 es }
     {
         is_link_local(address) || is_held(&self.entries, now, address)
     }
 
     /// Returns the earliest end of the prefixes that are on the link at `now`, both in milliseconds, or `None` if none of them ends.
     pub fn least_end(&self, now: u64) -> Option<u64>
-        ensures value { result ≡ least_end (open_at now self.now) }
-        ensures by_history { (history : List (Row PrefixValue)) (es : List (Lasting PrefixValue)) → Stands same_prefix self.now history → last_moment history ≤ now → Lists same_prefix history now es → result ≡ least_end es }
+        ensures value { result ≡ least_end (open_at now self.now.entries) }
+        ensures by_history { (history : List (Row PrefixValue)) (es : List (Lasting PrefixValue)) → Stands same_prefix self.now.entries history → last_moment history ≤ now → Lists same_prefix history now es → result ≡ least_end es }
     {
         least_end(&self.entries, now)
     }

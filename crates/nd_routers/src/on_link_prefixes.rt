@@ -11,7 +11,7 @@ ghost use Rattle.nd_table.specs.Moment.{IsMoment};
 ghost use Rattle.nd_routers.specs.OnLinkPrefixesKept.{prefixes_left};
 ghost use Rattle.nd_table.specs.Refreshing.{only_refreshes};
 
-use crate::prefixes::{MAX_PREFIXES, Prefixes};
+use crate::prefixes::Prefixes;
 use nd_addr::Prefix;
 use nd_decode::{Options, PrefixInfo};
 use nd_table::{Announces, Lasting, Limit, TableRefusal, announce_all, fits_all};
@@ -21,11 +21,11 @@ impl<A: Allocator> Prefixes<A> {
     /// Returns true if there is room for the prefixes that the options of a Router Advertisement announce at `now`, in milliseconds, taken in
     /// order: then `heard_ra` isn't refused. It takes no memory.
     pub fn fits(&self, now: u64, options: Options<'_>) -> bool
-        ensures value { result ≡ fits same_prefix max_prefixes now (prefixes_in (options_left options.entry)) self.now }
-        ensures by_history { (history : List (Row PrefixValue)) (es : List (Entry PrefixValue)) → Stands same_prefix self.now history → last_moment history ≤ now → Lists same_prefix history now es
-            → result ≡ fits same_prefix max_prefixes now (prefixes_in (options_left options.entry)) es }
+        ensures value { result ≡ fits same_prefix self.now.limit now (prefixes_in (options_left options.entry)) self.now.entries }
+        ensures by_history { (history : List (Row PrefixValue)) (es : List (Entry PrefixValue)) → Stands same_prefix self.now.entries history → last_moment history ≤ now → Lists same_prefix history now es
+            → result ≡ fits same_prefix self.now.limit now (prefixes_in (options_left options.entry)) es }
     {
-        fits(&self.entries, now, options)
+        fits(&self.entries, self.limit, now, options)
     }
 
     /// Takes the options of a Router Advertisement at `now`, in milliseconds, in order (RFC 4861, section 6.3.4): a prefix that is on the link
@@ -33,12 +33,12 @@ impl<A: Allocator> Prefixes<A> {
     pub fn heard_ra(&mut self, now: u64, options: Options<'_>) -> Result<(), TableRefusal>
         requires moment { IsMoment now }
 
-        ensures stands { OnOk result ((history : List (Row PrefixValue)) → last_moment history ≤ now → Stands same_prefix self.old history
-            → Stands same_prefix self.new (then_announced now (prefixes_in (options_left options.entry)) history)) }
-        ensures value { OnOk result (self.new ≡ announced_all same_prefix now (prefixes_in (options_left options.entry)) self.old) }
+        ensures stands { OnOk result ((history : List (Row PrefixValue)) → last_moment history ≤ now → Stands same_prefix self.old.entries history
+            → Stands same_prefix self.new.entries (then_announced now (prefixes_in (options_left options.entry)) history)) }
+        ensures value { OnOk result (self.new ≡ record { limit = self.old.limit; entries = announced_all same_prefix now (prefixes_in (options_left options.entry)) self.old.entries }) }
 
         // It is refused exactly if the prefixes, taken in order, are too many at some point.
-        ensures full { IsErr result ↔ (fits same_prefix max_prefixes now (prefixes_in (options_left options.entry)) self.old ≡ false) }
+        ensures full { IsErr result ↔ (fits same_prefix self.old.limit now (prefixes_in (options_left options.entry)) self.old.entries ≡ false) }
         ensures refusal { IfErr result (λ refusal. refusal ≡ TableRefusal.Full Limit.Prefixes) }
         ensures same { OnErr result (self.new ≡ self.old) }
     {
@@ -53,28 +53,29 @@ impl<A: Allocator> Prefixes<A> {
     /// none. It takes no memory.
     pub fn take_ra(&mut self, now: u64, options: Options<'_>) -> bool
         requires moment { IsMoment now }
-        requires fits { fits same_prefix max_prefixes now (prefixes_in (options_left options)) self.old ≡ true }
+        requires fits { fits same_prefix self.old.limit now (prefixes_in (options_left options)) self.old.entries ≡ true }
 
-        ensures refreshes { result ≡ only_refreshes same_prefix now (prefixes_in (options_left options.entry)) self.old }
-        ensures stands { (history : List (Row PrefixValue)) → last_moment history ≤ now → Stands same_prefix self.old history
-            → Stands same_prefix self.new (then_announced now (prefixes_in (options_left options.entry)) history) }
-        ensures value { self.new ≡ announced_all same_prefix now (prefixes_in (options_left options.entry)) self.old }
+        ensures refreshes { result ≡ only_refreshes same_prefix now (prefixes_in (options_left options.entry)) self.old.entries }
+        ensures stands { (history : List (Row PrefixValue)) → last_moment history ≤ now → Stands same_prefix self.old.entries history
+            → Stands same_prefix self.new.entries (then_announced now (prefixes_in (options_left options.entry)) history) }
+        ensures value { self.new ≡ record { limit = self.old.limit; entries = announced_all same_prefix now (prefixes_in (options_left options.entry)) self.old.entries } }
     {
-        announce_all(&mut self.entries, MAX_PREFIXES, now, OnLink { options })
+        announce_all(&mut self.entries, self.limit, now, OnLink { options })
     }
 }
 
 /// Returns true if there is room for the prefixes that the options announce, taken in order.
-fn fits(entries: &[Lasting<Prefix>], now: u64, options: Options<'_>) -> bool
+fn fits(entries: &[Lasting<Prefix>], limit: usize, now: u64, options: Options<'_>) -> bool
     requires distinct { Distinct same_prefix entries.now }
-    requires few { length entries.now ≤ max_prefixes }
-    ensures { result ≡ fits same_prefix max_prefixes now (prefixes_in (options_left options.entry)) entries.now }
+    requires few { length entries.now ≤ limit }
+    requires limit { limit ≤ max_prefixes }
+    ensures { result ≡ fits same_prefix limit now (prefixes_in (options_left options.entry)) entries.now }
 {
     // Mostly there is room for as many as the bytes of the options could be.
-    if entries.len() + options.byte_len() / PrefixInfo::BYTES <= MAX_PREFIXES {
+    if entries.len() + options.byte_len() / PrefixInfo::BYTES <= limit {
         return true;
     }
-    fits_all(entries, MAX_PREFIXES, now, OnLink { options })
+    fits_all(entries, limit, now, OnLink { options })
 }
 
 /// The prefixes that the options of a Router Advertisement say are on the link, with their valid lifetimes (RFC 4861, sections 4.6.2 and

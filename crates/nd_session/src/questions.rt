@@ -40,7 +40,7 @@ use nd_dns::{SearchName, WithLifetimes};
 use nd_forwarding::KeptRoutes;
 use nd_neighbour::{Neighbour, Neighbours};
 use nd_nexthop::{Hop, KeptRedirects};
-use nd_node::Counts;
+use nd_node::{Counts, Limits};
 use nd_params::Params;
 use nd_routers::DefaultRouters;
 use nd_slaac::OwnAddresses;
@@ -114,7 +114,7 @@ impl Session {
 
     /// Returns the kept redirects, the newest first.
     pub fn redirects(&self) -> KeptRedirects<'_>
-        ensures { (start : Start) (c : Chronicle) → Stands stream_of_source start self.now.node c → redirects_left result ≡ redirects (redirect_history c) }
+        ensures { (start : Start) (c : Chronicle) → Stands stream_of_source start self.now.node c → redirects_left result ≡ redirects start.limits.redirects (redirect_history c) }
     {
         self.node.redirects()
     }
@@ -155,10 +155,18 @@ impl Session {
         self.node.counts()
     }
 
+    /// Returns the limits that the node was started with.
+    pub fn limits(&self) -> Limits
+        ensures value { result ≡ self.now.node.limits }
+        ensures start { (start : Start) (c : Chronicle) → Stands stream_of_source start self.now.node c → result ≡ start.limits }
+    {
+        self.node.limits()
+    }
+
     /// Returns the next hop of a packet to a destination at `now`, up to which nothing is due.
     pub fn next_hop_to(&self, now: u64, destination: Addr) -> Hop
         requires settled { now < next_of self.now.node }
-        ensures { (start : Start) (c : Chronicle) → Stands stream_of_source start self.now.node c → last_moment start.at c ≤ now → IsHopOf start.role c now destination (hop_of result) }
+        ensures { (start : Start) (c : Chronicle) → Stands stream_of_source start self.now.node c → last_moment start.at c ≤ now → IsHopOf start start.role c now destination (hop_of result) }
     {
         self.node.next_hop_to(now, destination)
     }

@@ -9,9 +9,9 @@ use std::marker::Model;
 /// What a node reported, with its moment in milliseconds.
 pub(crate) type Report = (u64, Out<Global>);
 
-/// The number of reports for which each part of a queue has room from the start (our choice): an event with no more of them takes no memory for
-/// them.
-const ROOM: usize = 16;
+/// The number of reports for which each part of a queue has room from the start: the most that a message or a packet reserves, those of 8 packets that
+/// waited and 3 more. An event with no more of them takes no memory for them.
+const ROOM: usize = 11;
 
 /// Reports, the oldest first. A node appends to the back. The front is kept in reverse, so that the oldest report is at its end; when it is empty,
 /// the back becomes the front. So what it costs to take a report does not grow with their number.

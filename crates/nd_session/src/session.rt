@@ -73,6 +73,7 @@ impl Session {
     /// node sends and reports. Returns how the node took the event; one of a past moment changes nothing and is not reported.
     ///
     /// Returns an error if out of memory: a part of what is due may have been done and reported then, and the event has added nothing.
+    #[inline(always)]
     pub fn event(&mut self, now: u64, event: &Event<Global>) -> Result<Answer, AllocError>
         requires { IsMoment now }
         ensures { Takes now (event_of event.now) result self.old self.new }

@@ -55,28 +55,28 @@ one_less mac key keys (info ∷ infos) new = elim (cases_Bool (is_forming info))
     other_by true c n m e = omega (arith, e)
     other_by false c n m e = e
 
-room_by : (b : Bool) (len n : ℕ) → len ≤ 64 → (suc len ≤ 64 → b ≡ leb (suc len + n) 64) → (ltb len 64 && b) ≡ leb (len + (n + 1)) 64
-room_by b len n few rest = elim (cases_Bool (ltb len 64)) [
+room_by : (b : Bool) (limit len n : ℕ) → len ≤ limit → (suc len ≤ limit → b ≡ leb (suc len + n) limit) → (ltb len limit && b) ≡ leb (len + (n + 1)) limit
+room_by b limit len n few rest = elim (cases_Bool (ltb len limit)) [
   | inl lt ↦
-      let lt' : suc len ≤ 64 = grind (arith, nat_tests, lt) in
+      let lt' : suc len ≤ limit = grind (arith, nat_tests, lt) in
       let e : suc len + n ≡ len + (n + 1) = omega arith in
-      rw lt (rest lt' ∙ ap (λ k. leb k 64) e)
+      rw lt (rest lt' ∙ ap (λ k. leb k limit) e)
   | inr ge ↦
-      let full : leb (len + (n + 1)) 64 ≡ false = grind (arith, nat_tests, ge) in
+      let full : leb (len + (n + 1)) limit ≡ false = grind (arith, nat_tests, ge) in
       rw (ge, full) refl
 ]
 
 -- there is room where those that are known and those that would be new are few enough
-pub fits_count : (mac : Mac) (keys : List ℕ) (infos : List PrefixInfo) → length keys ≤ 64 → fits_in mac keys infos ≡ leb (length keys + new_in mac keys infos) 64
-fits_count mac keys [] few = let e : leb (length keys + 0) 64 ≡ true = grind (arith, nat_tests, few) in sym e
-fits_count mac keys (info ∷ infos) few = elim (cases_Bool (would_form mac keys info)) [
-  | inr idle ↦ rw idle (fits_count mac keys infos few)
+pub fits_count : (limit : ℕ) (mac : Mac) (keys : List ℕ) (infos : List PrefixInfo) → length keys ≤ limit → fits_in limit mac keys infos ≡ leb (length keys + new_in mac keys infos) limit
+fits_count limit mac keys [] few = let e : leb (length keys + 0) limit ≡ true = grind (arith, nat_tests, few) in sym e
+fits_count limit mac keys (info ∷ infos) few = elim (cases_Bool (would_form mac keys info)) [
+  | inr idle ↦ rw idle (fits_count limit mac keys infos few)
   | inl forms ↦
       let key = named_by mac info in
       let free : is_among key keys ≡ false = forms_free (is_forming info) (is_among key keys) forms in
       let all : cond (not (is_formed_by mac key infos)) (new_in mac keys infos + 1) (new_in mac keys infos) ≡ new_in mac (key ∷ keys) infos + 1 =
       step_by true false false (is_formed_by mac key infos) (new_in mac keys infos) (new_in mac (key ∷ keys) infos) (one_less mac key keys infos free) refl refl refl in
-      rw (forms, all) (room_by (fits_in mac (key ∷ keys) infos) (length keys) (new_in mac (key ∷ keys) infos) few (λ lt. fits_count mac (key ∷ keys) infos lt))
+      rw (forms, all) (room_by (fits_in limit mac (key ∷ keys) infos) limit (length keys) (new_in mac (key ∷ keys) infos) few (λ lt. fits_count limit mac (key ∷ keys) infos lt))
 ]
   where
     forms_free : (f a : Bool) → (f && not a) ≡ true → a ≡ false
@@ -86,13 +86,13 @@ fits_count mac keys (info ∷ infos) few = elim (cases_Bool (would_form mac keys
     forms_free false false h = refl
 
 -- which addresses are known, and how many, is all that counts
-pub fits_same : (mac : Mac) (keys ks : List ℕ) (infos : List PrefixInfo) → ((key : ℕ) → is_among key keys ≡ is_among key ks) → length keys ≡ length ks → fits_in mac keys infos ≡ fits_in mac ks infos
-fits_same mac keys ks [] same len = refl
-fits_same mac keys ks (info ∷ infos) same len =
+pub fits_same : (limit : ℕ) (mac : Mac) (keys ks : List ℕ) (infos : List PrefixInfo) → ((key : ℕ) → is_among key keys ≡ is_among key ks) → length keys ≡ length ks → fits_in limit mac keys infos ≡ fits_in limit mac ks infos
+fits_same limit mac keys ks [] same len = refl
+fits_same limit mac keys ks (info ∷ infos) same len =
     let key = named_by mac info in
     let e : is_among key keys ≡ is_among key ks = same key in
-    let more : fits_in mac (key ∷ keys) infos ≡ fits_in mac (key ∷ ks) infos = fits_same mac (key ∷ keys) (key ∷ ks) infos (λ k. ap (λ b. eqb key k || b) (same k)) (ap suc len) in
-    let rest : fits_in mac keys infos ≡ fits_in mac ks infos = fits_same mac keys ks infos same len in
+    let more : fits_in limit mac (key ∷ keys) infos ≡ fits_in limit mac (key ∷ ks) infos = fits_same limit mac (key ∷ keys) (key ∷ ks) infos (λ k. ap (λ b. eqb key k || b) (same k)) (ap suc len) in
+    let rest : fits_in limit mac keys infos ≡ fits_in limit mac ks infos = fits_same limit mac keys ks infos same len in
     rw (e, len, more, rest) refl
 
 abbrev did : Taken → Result Taken Full
@@ -102,96 +102,96 @@ abbrev refused : Full → Result Taken Full
 refused full = Err full
 
 -- what becomes of an option tells how its address was
-formed_parts : (known : Bool) (valid count : ℕ) → Ok Formed ≡ taken_by known valid count → (known ≡ false) × (eqb valid 0 ≡ false) × (ltb count 64 ≡ true)
-formed_parts true valid count h = absurd (cc)
-formed_parts false valid count h = elim (cases_Bool (eqb valid 0)) [
+formed_parts : (limit : ℕ) (known : Bool) (valid count : ℕ) → Ok Formed ≡ taken_by limit known valid count → (known ≡ false) × (eqb valid 0 ≡ false) × (ltb count limit ≡ true)
+formed_parts limit true valid count h = absurd (cc)
+formed_parts limit false valid count h = elim (cases_Bool (eqb valid 0)) [
   | inl z ↦ let e : did Formed ≡ did Ignored = rw z at h in absurd (cc)
-  | inr nz ↦ elim (cases_Bool (ltb count 64)) [
+  | inr nz ↦ elim (cases_Bool (ltb count limit)) [
     | inl room ↦ (refl, nz, room)
     | inr full ↦ let e : did Formed ≡ refused (record {}) = rw (nz, full) at h in absurd (cc)
   ]
 ]
 
-renewed_parts : (known : Bool) (valid count : ℕ) → Ok Renewed ≡ taken_by known valid count → known ≡ true
-renewed_parts true valid count h = refl
-renewed_parts false valid count h = elim (cases_Bool (eqb valid 0)) [
+renewed_parts : (limit : ℕ) (known : Bool) (valid count : ℕ) → Ok Renewed ≡ taken_by limit known valid count → known ≡ true
+renewed_parts limit true valid count h = refl
+renewed_parts limit false valid count h = elim (cases_Bool (eqb valid 0)) [
   | inl z ↦ let e : did Renewed ≡ did Ignored = rw z at h in absurd (cc)
-  | inr nz ↦ elim (cases_Bool (ltb count 64)) [
+  | inr nz ↦ elim (cases_Bool (ltb count limit)) [
     | inl room ↦ let e : did Renewed ≡ did Formed = rw (nz, room) at h in absurd (cc)
     | inr full ↦ let e : did Renewed ≡ refused (record {}) = rw (nz, full) at h in absurd (cc)
   ]
 ]
 
-ignored_parts : (known : Bool) (valid count : ℕ) → Ok Ignored ≡ taken_by known valid count → eqb valid 0 ≡ true
-ignored_parts true valid count h = absurd (cc)
-ignored_parts false valid count h = elim (cases_Bool (eqb valid 0)) [
+ignored_parts : (limit : ℕ) (known : Bool) (valid count : ℕ) → Ok Ignored ≡ taken_by limit known valid count → eqb valid 0 ≡ true
+ignored_parts limit true valid count h = absurd (cc)
+ignored_parts limit false valid count h = elim (cases_Bool (eqb valid 0)) [
   | inl z ↦ z
-  | inr nz ↦ elim (cases_Bool (ltb count 64)) [
+  | inr nz ↦ elim (cases_Bool (ltb count limit)) [
     | inl room ↦ let e : did Ignored ≡ did Formed = rw (nz, room) at h in absurd (cc)
     | inr full ↦ let e : did Ignored ≡ refused (record {}) = rw (nz, full) at h in absurd (cc)
   ]
 ]
 
-refused_parts : (known : Bool) (valid count : ℕ) (full : Full) → Err full ≡ taken_by known valid count → (known ≡ false) × (eqb valid 0 ≡ false) × (ltb count 64 ≡ false)
-refused_parts true valid count full h = absurd (cc)
-refused_parts false valid count full h = elim (cases_Bool (eqb valid 0)) [
+refused_parts : (limit : ℕ) (known : Bool) (valid count : ℕ) (full : Full) → Err full ≡ taken_by limit known valid count → (known ≡ false) × (eqb valid 0 ≡ false) × (ltb count limit ≡ false)
+refused_parts limit true valid count full h = absurd (cc)
+refused_parts limit false valid count full h = elim (cases_Bool (eqb valid 0)) [
   | inl z ↦ let e : refused full ≡ did Ignored = rw z at h in absurd (cc)
-  | inr nz ↦ elim (cases_Bool (ltb count 64)) [
+  | inr nz ↦ elim (cases_Bool (ltb count limit)) [
     | inl room ↦ let e : refused full ≡ did Formed = rw (nz, room) at h in absurd (cc)
     | inr full' ↦ (refl, nz, full')
   ]
 ]
 
 -- an option that would form no address leaves the addresses that are known
-pub keys_on : (now : ℕ) (mac : Mac) (info : PrefixInfo) (delay retrans : ℕ) (r : Result Taken Full) (old new : List Address) → is_taken info ≡ true → r ≡ taken_by (is_some (address_in (named_by mac info) old)) info.valid_lifetime (length old) → Changes now (named_by mac info) (lifetimes_of info) delay retrans r old new → would_form mac (keys_in old) info ≡ false → keys_in new ≡ keys_in old
-keys_on now mac info delay retrans (Ok Formed) old new taken is changes idle =
+pub keys_on : (limit now : ℕ) (mac : Mac) (info : PrefixInfo) (delay retrans : ℕ) (r : Result Taken Full) (old new : List Address) → is_taken info ≡ true → r ≡ taken_by limit (is_some (address_in (named_by mac info) old)) info.valid_lifetime (length old) → Changes now (named_by mac info) (lifetimes_of info) delay retrans r old new → would_form mac (keys_in old) info ≡ false → keys_in new ≡ keys_in old
+keys_on limit now mac info delay retrans (Ok Formed) old new taken is changes idle =
     let key = named_by mac info in
-    let parts = formed_parts (is_some (address_in key old)) info.valid_lifetime (length old) is in
+    let parts = formed_parts limit (is_some (address_in key old)) info.valid_lifetime (length old) is in
     let nz : eqb info.valid_lifetime 0 ≡ false = parts.1 in
     let free : is_among key (keys_in old) ≡ false = sym (known_among key old) ∙ parts.0 in
     let no : true ≡ false = rw (taken, nz, free) at idle in
     absurd (true≢false no)
-keys_on now mac info delay retrans (Ok Renewed) old new taken is changes idle =
+keys_on limit now mac info delay retrans (Ok Renewed) old new taken is changes idle =
     ap keys_in changes.new_is ∙ keys-set old changes.at (announced now (lifetimes_of info) changes.address) changes.address (ap key_of (sym changes.is))
-keys_on now mac info delay retrans (Ok Ignored) old new taken is changes idle = ap keys_in changes
-keys_on now mac info delay retrans (Err full) old new taken is changes idle = ap keys_in changes
+keys_on limit now mac info delay retrans (Ok Ignored) old new taken is changes idle = ap keys_in changes
+keys_on limit now mac info delay retrans (Err full) old new taken is changes idle = ap keys_in changes
 
 -- where an option and those behind it fit, it isn't refused, and they still fit
-pub fits_on : (now : ℕ) (mac : Mac) (info : PrefixInfo) (delay retrans : ℕ) (r : Result Taken Full) (old new : List Address) (infos : List PrefixInfo) → is_taken info ≡ true → r ≡ taken_by (is_some (address_in (named_by mac info) old)) info.valid_lifetime (length old) → Changes now (named_by mac info) (lifetimes_of info) delay retrans r old new → fits_in mac (keys_in old) (info ∷ infos) ≡ true → IsOk r × (fits_in mac (keys_in new) infos ≡ true)
-fits_on now mac info delay retrans (Ok Formed) old new infos taken is changes h =
+pub fits_on : (limit now : ℕ) (mac : Mac) (info : PrefixInfo) (delay retrans : ℕ) (r : Result Taken Full) (old new : List Address) (infos : List PrefixInfo) → is_taken info ≡ true → r ≡ taken_by limit (is_some (address_in (named_by mac info) old)) info.valid_lifetime (length old) → Changes now (named_by mac info) (lifetimes_of info) delay retrans r old new → fits_in limit mac (keys_in old) (info ∷ infos) ≡ true → IsOk r × (fits_in limit mac (keys_in new) infos ≡ true)
+fits_on limit now mac info delay retrans (Ok Formed) old new infos taken is changes h =
     let key = named_by mac info in
-    let parts = formed_parts (is_some (address_in key old)) info.valid_lifetime (length old) is in
+    let parts = formed_parts limit (is_some (address_in key old)) info.valid_lifetime (length old) is in
     let nz : eqb info.valid_lifetime 0 ≡ false = parts.1 in
     let free : is_among key (keys_in old) ≡ false = sym (known_among key old) ∙ parts.0 in
-    let room : ltb (length (keys_in old)) 64 ≡ true = ap (λ n. ltb n 64) (keys-length old) ∙ parts.2 in
-    let fit : fits_in mac (key ∷ keys_in old) infos ≡ true = rw (taken, nz, free, room) at h in
+    let room : ltb (length (keys_in old)) limit ≡ true = ap (λ n. ltb n limit) (keys-length old) ∙ parts.2 in
+    let fit : fits_in limit mac (key ∷ keys_in old) infos ≡ true = rw (taken, nz, free, room) at h in
     let put : new ≡ put_in key_of (formed key now delay retrans (Some (lifetimes_of info))) old = changes.1 in (
       refl,
-      rw put (fits_same mac (keys_in (put_in key_of (formed key now delay retrans (Some (lifetimes_of info))) old)) (key ∷ keys_in old) infos
+      rw put (fits_same limit mac (keys_in (put_in key_of (formed key now delay retrans (Some (lifetimes_of info))) old)) (key ∷ keys_in old) infos
           (λ k. among-put k (formed key now delay retrans (Some (lifetimes_of info))) old)
           (keys-length (put_in key_of (formed key now delay retrans (Some (lifetimes_of info))) old) ∙ (length-put (formed key now delay retrans (Some (lifetimes_of info))) old ∙ ap suc (sym (keys-length old)))) ∙ fit),
     )
-fits_on now mac info delay retrans (Ok Renewed) old new infos taken is changes h =
+fits_on limit now mac info delay retrans (Ok Renewed) old new infos taken is changes h =
     let key = named_by mac info in
-    let there : is_among key (keys_in old) ≡ true = sym (known_among key old) ∙ renewed_parts (is_some (address_in key old)) info.valid_lifetime (length old) is in
+    let there : is_among key (keys_in old) ≡ true = sym (known_among key old) ∙ renewed_parts limit (is_some (address_in key old)) info.valid_lifetime (length old) is in
     let idle : would_form mac (keys_in old) info ≡ false = idle_by (is_forming info) (is_among key (keys_in old)) there in
-    let fit : fits_in mac (keys_in old) infos ≡ true = rw idle at h in
+    let fit : fits_in limit mac (keys_in old) infos ≡ true = rw idle at h in
     let same : keys_in new ≡ keys_in old = ap keys_in changes.new_is ∙ keys-set old changes.at (announced now (lifetimes_of info) changes.address) changes.address (ap key_of (sym changes.is)) in
-    (refl, ap (λ ks. fits_in mac ks infos) same ∙ fit)
+    (refl, ap (λ ks. fits_in limit mac ks infos) same ∙ fit)
   where
     idle_by : (f a : Bool) → a ≡ true → (f && not a) ≡ false
     idle_by true a e = rw e refl
     idle_by false a e = refl
-fits_on now mac info delay retrans (Ok Ignored) old new infos taken is changes h =
-    let zero' : eqb info.valid_lifetime 0 ≡ true = ignored_parts (is_some (address_in (named_by mac info) old)) info.valid_lifetime (length old) is in
-    let fit : fits_in mac (keys_in old) infos ≡ true = rw (taken, zero') at h in
-    (refl, ap (λ (l : List Address). fits_in mac (keys_in l) infos) changes ∙ fit)
-fits_on now mac info delay retrans (Err full) old new infos taken is changes h =
+fits_on limit now mac info delay retrans (Ok Ignored) old new infos taken is changes h =
+    let zero' : eqb info.valid_lifetime 0 ≡ true = ignored_parts limit (is_some (address_in (named_by mac info) old)) info.valid_lifetime (length old) is in
+    let fit : fits_in limit mac (keys_in old) infos ≡ true = rw (taken, zero') at h in
+    (refl, ap (λ (l : List Address). fits_in limit mac (keys_in l) infos) changes ∙ fit)
+fits_on limit now mac info delay retrans (Err full) old new infos taken is changes h =
     let key = named_by mac info in
-    let parts = refused_parts (is_some (address_in key old)) info.valid_lifetime (length old) full is in
+    let parts = refused_parts limit (is_some (address_in key old)) info.valid_lifetime (length old) full is in
     let nz : eqb info.valid_lifetime 0 ≡ false = parts.1 in
     let free : is_among key (keys_in old) ≡ false = sym (known_among key old) ∙ parts.0 in
-    let room : ltb (length (keys_in old)) 64 ≡ false = ap (λ n. ltb n 64) (keys-length old) ∙ parts.2 in
+    let room : ltb (length (keys_in old)) limit ≡ false = ap (λ n. ltb n limit) (keys-length old) ∙ parts.2 in
     let none : false ≡ true = rw (taken, nz, free, room) at h in
     absurd (true≢false (sym none))
 
@@ -203,32 +203,32 @@ gains_taken now mac info delay retrans (Ok Ignored) old new changes = changes
 gains_taken now mac info delay retrans (Err full) old new changes = changes
 
 -- and that this may come
-pub comes_taken : (transmits now : ℕ) (mac : Mac) (info : PrefixInfo) (delay retrans count : ℕ) (r : Result Taken Full) (history : List Row) → r ≡ taken_by (is_known (story (named_by mac info) history)) info.valid_lifetime count → 0 < retrans → IfSome (row_taken now mac info delay retrans r) (λ row. MayCome transmits row history)
-comes_taken transmits now mac info delay retrans count (Ok Formed) history is positive = ((formed_parts (is_known (story (named_by mac info) history)) info.valid_lifetime count is).0, positive)
-comes_taken transmits now mac info delay retrans count (Ok Renewed) history is positive = renewed_parts (is_known (story (named_by mac info) history)) info.valid_lifetime count is
-comes_taken transmits now mac info delay retrans count (Ok Ignored) history is positive = tt
-comes_taken transmits now mac info delay retrans count (Err full) history is positive = tt
+pub comes_taken : (limit transmits now : ℕ) (mac : Mac) (info : PrefixInfo) (delay retrans count : ℕ) (r : Result Taken Full) (history : List Row) → r ≡ taken_by limit (is_known (story (named_by mac info) history)) info.valid_lifetime count → 0 < retrans → IfSome (row_taken now mac info delay retrans r) (λ row. MayCome transmits row history)
+comes_taken limit transmits now mac info delay retrans count (Ok Formed) history is positive = ((formed_parts limit (is_known (story (named_by mac info) history)) info.valid_lifetime count is).0, positive)
+comes_taken limit transmits now mac info delay retrans count (Ok Renewed) history is positive = renewed_parts limit (is_known (story (named_by mac info) history)) info.valid_lifetime count is
+comes_taken limit transmits now mac info delay retrans count (Ok Ignored) history is positive = tt
+comes_taken limit transmits now mac info delay retrans count (Err full) history is positive = tt
 
 -- all were looked at, and there was room
-pub fits_all : (mac : Mac) (entries : List Address) (count : ℕ) (rest all : List PrefixInfo) → length entries ≤ 64 → count ≤ 64 → rest ≡ [] → count + new_in mac (keys_in entries) rest ≡ length entries + new_in mac (keys_in entries) all → true ≡ fits_in mac (keys_in entries) all
-fits_all mac entries count rest all few enough none is =
+pub fits_all : (limit : ℕ) (mac : Mac) (entries : List Address) (count : ℕ) (rest all : List PrefixInfo) → length entries ≤ limit → count ≤ limit → rest ≡ [] → count + new_in mac (keys_in entries) rest ≡ length entries + new_in mac (keys_in entries) all → true ≡ fits_in limit mac (keys_in entries) all
+fits_all limit mac entries count rest all few enough none is =
     let len : length (keys_in entries) ≡ length entries = keys-length entries in
     let small : new_in mac (keys_in entries) rest ≡ 0 = ap (new_in mac (keys_in entries)) none in
-    let le : length (keys_in entries) + new_in mac (keys_in entries) all ≤ 64 = omega (arith, is, small, len) in
-    let yes' : leb (length (keys_in entries) + new_in mac (keys_in entries) all) 64 ≡ true = grind (arith, nat_tests, le) in
-    sym (fits_count mac (keys_in entries) all (omega (arith, len)) ∙ yes')
+    let le : length (keys_in entries) + new_in mac (keys_in entries) all ≤ limit = omega (arith, is, small, len) in
+    let yes' : leb (length (keys_in entries) + new_in mac (keys_in entries) all) limit ≡ true = grind (arith, nat_tests, le) in
+    sym (fits_count limit mac (keys_in entries) all (omega (arith, len)) ∙ yes')
 
 one_new : (b : Bool) (n : ℕ) → b ≡ true → cond b (n + 1) n ≡ n + 1
 one_new b n e = rw e refl
 
 -- one more has no room
-pub fits_not : (mac : Mac) (entries : List Address) (count : ℕ) (info : PrefixInfo) (behind rest all : List PrefixInfo) → length entries ≤ 64 → 64 ≤ count → rest ≡ info ∷ behind → true ≡ (would_form mac (keys_in entries) info && not (is_formed_by mac (named_by mac info) behind)) → count + new_in mac (keys_in entries) rest ≡ length entries + new_in mac (keys_in entries) all → false ≡ fits_in mac (keys_in entries) all
-fits_not mac entries count info behind rest all few full rest_is new is =
+pub fits_not : (limit : ℕ) (mac : Mac) (entries : List Address) (count : ℕ) (info : PrefixInfo) (behind rest all : List PrefixInfo) → length entries ≤ limit → limit ≤ count → rest ≡ info ∷ behind → true ≡ (would_form mac (keys_in entries) info && not (is_formed_by mac (named_by mac info) behind)) → count + new_in mac (keys_in entries) rest ≡ length entries + new_in mac (keys_in entries) all → false ≡ fits_in limit mac (keys_in entries) all
+fits_not limit mac entries count info behind rest all few full rest_is new is =
     let len : length (keys_in entries) ≡ length entries = keys-length entries in
     let one : new_in mac (keys_in entries) rest ≡ new_in mac (keys_in entries) behind + 1 = ap (new_in mac (keys_in entries)) rest_is ∙ one_new (would_form mac (keys_in entries) info && not (is_formed_by mac (named_by mac info) behind)) (new_in mac (keys_in entries) behind) (sym new) in
-    let gt : 64 < length (keys_in entries) + new_in mac (keys_in entries) all = omega (arith, is, one, len) in
-    let no' : leb (length (keys_in entries) + new_in mac (keys_in entries) all) 64 ≡ false = grind (arith, nat_tests, gt) in
-    sym (fits_count mac (keys_in entries) all (omega (arith, len)) ∙ no')
+    let gt : limit < length (keys_in entries) + new_in mac (keys_in entries) all = omega (arith, is, one, len) in
+    let no' : leb (length (keys_in entries) + new_in mac (keys_in entries) all) limit ≡ false = grind (arith, nat_tests, gt) in
+    sym (fits_count limit mac (keys_in entries) all (omega (arith, len)) ∙ no')
 
 -- ---- by the bytes of the options
 
@@ -251,9 +251,9 @@ prefixes_few (dnssl _ _ ∷ options) = omega (arith, prefixes_few options)
 prefixes_few (other _ _ ∷ options) = omega (arith, prefixes_few options)
 
 -- there is room for as many addresses as the bytes could form
-pub fits_bytes : (mac : Mac) (entries : List Address) (options : List Said) (bytes : ℕ) → sizes options ≤ bytes → length entries + bytes / 32 ≤ 64 → fits_in mac (keys_in entries) (prefixes_in options) ≡ true
-fits_bytes mac entries options bytes enough few =
+pub fits_bytes : (limit : ℕ) (mac : Mac) (entries : List Address) (options : List Said) (bytes : ℕ) → sizes options ≤ bytes → length entries + bytes / 32 ≤ limit → fits_in limit mac (keys_in entries) (prefixes_in options) ≡ true
+fits_bytes limit mac entries options bytes enough few =
     let keys = keys-length entries in
     let most = prefixes_few options in
     let new = new_few mac (keys_in entries) (prefixes_in options) in
-    fits_count mac (keys_in entries) (prefixes_in options) (omega (arith, keys, few)) ∙ le-leb _ _ (omega (arith, keys, most, new, enough, few))
+    fits_count limit mac (keys_in entries) (prefixes_in options) (omega (arith, keys, few)) ∙ le-leb _ _ (omega (arith, keys, most, new, enough, few))

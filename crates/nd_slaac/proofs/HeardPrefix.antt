@@ -16,7 +16,7 @@ use Rattle.nd_slaac.specs.MayCome.{MayCome}
 use Rattle.nd_slaac.proofs.Stories.{known_story}
 use Rattle.nd_slaac.proofs.Counting.{gains_taken, comes_taken, fits_on, keys_on}
 
-module _ (now : ℕ) (info : PrefixInfo) (delay retrans key : ℕ) (r : Result Taken Full) (t : Table) (mac : Mac) (inside new : List Address) (mac_is : mac ≡ t.mac) (same : inside ≡ t.addresses) (named : key ≡ named_by mac info) (changes : Changes now key (lifetimes_of info) delay retrans r inside new) where
+module _ (now : ℕ) (info : PrefixInfo) (delay retrans key : ℕ) (r : Result Taken Full) (t : Table) (limit : ℕ) (mac : Mac) (inside new : List Address) (limit_is : limit ≡ t.limit) (mac_is : mac ≡ t.mac) (same : inside ≡ t.addresses) (named : key ≡ named_by mac info) (changes : Changes now key (lifetimes_of info) delay retrans r inside new) where
   changed : Changes now (named_by t.mac info) (lifetimes_of info) delay retrans r t.addresses new
   changed =
       let named' : key ≡ named_by t.mac info = named ∙ ap (λ m. named_by m info) mac_is in
@@ -26,20 +26,24 @@ module _ (now : ℕ) (info : PrefixInfo) (delay retrans key : ℕ) (r : Result T
   pub gains_heard : GainsRowIfAny (row_taken now t.mac info delay retrans r) t.addresses new
   gains_heard = gains_taken now t.mac info delay retrans r t.addresses new changed
 
-  valued : r ≡ taken_by (is_some (address_in key inside)) info.valid_lifetime (length inside) → r ≡ taken_by (is_some (address_in (named_by t.mac info) t.addresses)) info.valid_lifetime (length t.addresses)
-  valued value =
-      value ∙ (ap (λ k. taken_by (is_some (address_in k inside)) info.valid_lifetime (length inside)) (named ∙ ap (λ m. named_by m info) mac_is)
-      ∙ ap (λ (l : List Address). taken_by (is_some (address_in (named_by t.mac info) l)) info.valid_lifetime (length l)) same)
+  abbrev IsValue : Type 0
+  IsValue = r ≡ taken_by limit (is_some (address_in key inside)) info.valid_lifetime (length inside)
 
-  pub comes_heard : r ≡ taken_by (is_some (address_in key inside)) info.valid_lifetime (length inside) → (history : List Row) → Stands t.addresses history → 0 < retrans → IfSome (row_taken now t.mac info delay retrans r) (λ row. MayCome t.transmits row history)
+  valued : IsValue → r ≡ taken_by t.limit (is_some (address_in (named_by t.mac info) t.addresses)) info.valid_lifetime (length t.addresses)
+  valued value =
+      value ∙ (ap (λ n. taken_by n (is_some (address_in key inside)) info.valid_lifetime (length inside)) limit_is
+      ∙ (ap (λ k. taken_by t.limit (is_some (address_in k inside)) info.valid_lifetime (length inside)) (named ∙ ap (λ m. named_by m info) mac_is)
+      ∙ ap (λ (l : List Address). taken_by t.limit (is_some (address_in (named_by t.mac info) l)) info.valid_lifetime (length l)) same))
+
+  pub comes_heard : IsValue → (history : List Row) → Stands t.addresses history → 0 < retrans → IfSome (row_taken now t.mac info delay retrans r) (λ row. MayCome t.transmits row history)
   comes_heard value history s positive =
       let known : is_some (address_in (named_by t.mac info) t.addresses) ≡ is_known (story (named_by t.mac info) history) = ap is_some (s.each (named_by t.mac info)) ∙ known_story (named_by t.mac info) (story (named_by t.mac info) history) in
-      comes_taken t.transmits now t.mac info delay retrans (length t.addresses) r history (valued value ∙ ap (λ b. taken_by b info.valid_lifetime (length t.addresses)) known) positive
+      comes_taken t.limit t.transmits now t.mac info delay retrans (length t.addresses) r history (valued value ∙ ap (λ b. taken_by t.limit b info.valid_lifetime (length t.addresses)) known) positive
 
-  pub fits_heard : is_taken info ≡ true → r ≡ taken_by (is_some (address_in key inside)) info.valid_lifetime (length inside) → (infos : List PrefixInfo) → fits_in t.mac (keys_in t.addresses) (info ∷ infos) ≡ true → IsOk r × (fits_in mac (keys_in new) infos ≡ true)
+  pub fits_heard : is_taken info ≡ true → IsValue → (infos : List PrefixInfo) → fits_in t.limit t.mac (keys_in t.addresses) (info ∷ infos) ≡ true → IsOk r × (fits_in limit mac (keys_in new) infos ≡ true)
   fits_heard taken value infos fit =
-      let both = fits_on now t.mac info delay retrans r t.addresses new infos taken (valued value) changed fit in
-      (both.0, ap (λ m. fits_in m (keys_in new) infos) mac_is ∙ both.1)
+      let both = fits_on t.limit now t.mac info delay retrans r t.addresses new infos taken (valued value) changed fit in
+      (both.0, ap (λ n. fits_in n mac (keys_in new) infos) limit_is ∙ (ap (λ m. fits_in t.limit m (keys_in new) infos) mac_is ∙ both.1))
 
-  pub keys_heard : is_taken info ≡ true → r ≡ taken_by (is_some (address_in key inside)) info.valid_lifetime (length inside) → would_form t.mac (keys_in t.addresses) info ≡ false → keys_in new ≡ keys_in t.addresses
-  keys_heard taken value idle = keys_on now t.mac info delay retrans r t.addresses new taken (valued value) changed idle
+  pub keys_heard : is_taken info ≡ true → IsValue → would_form t.mac (keys_in t.addresses) info ≡ false → keys_in new ≡ keys_in t.addresses
+  keys_heard taken value idle = keys_on t.limit now t.mac info delay retrans r t.addresses new taken (valued value) changed idle

@@ -14,8 +14,8 @@ use Rattle.nd_slaac.specs.Due.{Falls, Ends, Solicits, Assigns, IsDue, NotAfter, 
 pub one_table : (history : List Row) (a b : List Address) → Stands a history → Stands b history → a ≡ b
 one_table history a b s t = one_list key_of a b s.order t.order (λ key. s.each key ∙ sym (t.each key))
 
-pub one_fit : (mac : Mac) (history : List Row) (infos : List PrefixInfo) (a b : Bool) → FitsBy mac history infos a → FitsBy mac history infos b → a ≡ b
-one_fit mac history infos a b x y = x.fit_is ∙ (ap (λ xs. fits_in mac (map key_of xs) infos) (one_table history x.known y.known x.those y.those) ∙ sym y.fit_is)
+pub one_fit : (limit : ℕ) (mac : Mac) (history : List Row) (infos : List PrefixInfo) (a b : Bool) → FitsBy limit mac history infos a → FitsBy limit mac history infos b → a ≡ b
+one_fit limit mac history infos a b x y = x.fit_is ∙ (ap (λ xs. fits_in limit mac (map key_of xs) infos) (one_table history x.known y.known x.those y.those) ∙ sym y.fit_is)
 
 same_key : (x y : Falls) → NotAfter x y → NotAfter y x → key_in x ≡ key_in y
 same_key x y (inl lt) (inl lt') = absurd (omega arith)

@@ -16,7 +16,6 @@ use Rattle.nd_table.specs.Ends.{end_time}
 use Rattle.nd_slaac.specs.TwoHours.{renewed}
 use Rattle.nd_slaac.specs.AddressKept.{Address}
 use Rattle.nd_slaac.specs.TableKept.{key_of, address_in, GainsRow, Stands}
-use Rattle.nd_slaac.specs.Room.{max_addresses}
 use Rattle.nd_slaac.specs.PrefixOption.{is_taken, named_by, lifetimes_of}
 
 -- the numbers of the addresses
@@ -57,20 +56,20 @@ pub record Alters (key : ℕ) (change : Address → Address) (old new : List Add
   pub found : address_in key old ≡ Some address
   pub new_is : new ≡ slice_set old at (change address)
 
--- what becomes of an option that is taken, by whether its address is known, its valid lifetime, and how many are known
-abbrev pub taken_by : Bool → ℕ → ℕ → Result Taken Full
-taken_by true valid count = Ok Renewed
-taken_by false valid count = if valid == 0 then Ok Ignored else if nat_lt count max_addresses then Ok Formed else Err (record {})
+-- what becomes of an option that is taken, by the limit, whether its address is known, its valid lifetime, and how many are known
+abbrev pub taken_by : ℕ → Bool → ℕ → ℕ → Result Taken Full
+taken_by limit true valid count = Ok Renewed
+taken_by limit false valid count = if valid == 0 then Ok Ignored else if nat_lt count limit then Ok Formed else Err (record {})
 
 -- what becomes of an option, where its address is known or not and so many are
-abbrev pub taken_of : PrefixInfo → Bool → ℕ → Result Taken Full
-taken_of info known count = if is_taken info then taken_by known info.valid_lifetime count else Ok Ignored
+abbrev pub taken_of : ℕ → PrefixInfo → Bool → ℕ → Result Taken Full
+taken_of limit info known count = if is_taken info then taken_by limit known info.valid_lifetime count else Ok Ignored
 
 -- the same, asked of what happened: of the addresses that the history knows
-pub record TakenBy (mac : Mac) (history : List Row) (info : PrefixInfo) (result : Result Taken Full) : Type 0 where
+pub record TakenBy (limit : ℕ) (mac : Mac) (history : List Row) (info : PrefixInfo) (result : Result Taken Full) : Type 0 where
   pub known : List Address
   pub those : Stands known history
-  pub taken_is : result ≡ taken_of info (is_known (story (named_by mac info) history)) (length known)
+  pub taken_is : result ≡ taken_of limit info (is_known (story (named_by mac info) history)) (length known)
 
 -- the row that comes of an option, and none where it is ignored or refused
 abbrev pub row_taken : ℕ → Mac → PrefixInfo → ℕ → ℕ → Result Taken Full → Option Row

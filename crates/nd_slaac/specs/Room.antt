@@ -7,7 +7,7 @@ use Rattle.nd_slaac.specs.AddressKept.{Address}
 use Rattle.nd_slaac.specs.TableKept.{key_of, Stands}
 use Rattle.nd_slaac.specs.PrefixOption.{is_forming, named_by}
 
--- how many addresses there may be, the link-local one included (our choice)
+-- the greatest limit on the addresses, the link-local one included (our choice)
 abbrev pub max_addresses : ℕ
 max_addresses = 64
 
@@ -20,14 +20,14 @@ is_among key (k ∷ keys) = (k == key) || is_among key keys
 abbrev pub would_form : Mac → List ℕ → PrefixInfo → Bool
 would_form mac keys info = is_forming info && not (is_among (named_by mac info) keys)
 
--- there is room for each address that the options, taken in their order, would form
-abbrev pub fits_in : Mac → List ℕ → List PrefixInfo → Bool
-fits_in mac keys [] = true
-fits_in mac keys (info ∷ infos) =
-    if would_form mac keys info then (nat_lt (length keys) max_addresses && fits_in mac (named_by mac info ∷ keys) infos) else fits_in mac keys infos
+-- with this limit there is room for each address that the options, taken in their order, would form
+abbrev pub fits_in : ℕ → Mac → List ℕ → List PrefixInfo → Bool
+fits_in limit mac keys [] = true
+fits_in limit mac keys (info ∷ infos) =
+    if would_form mac keys info then (nat_lt (length keys) limit && fits_in limit mac (named_by mac info ∷ keys) infos) else fits_in limit mac keys infos
 
 -- there is room or not, asked of what happened: of the addresses that the history knows
-pub record FitsBy (mac : Mac) (history : List Row) (infos : List PrefixInfo) (fit : Bool) : Type 0 where
+pub record FitsBy (limit : ℕ) (mac : Mac) (history : List Row) (infos : List PrefixInfo) (fit : Bool) : Type 0 where
   pub known : List Address
   pub those : Stands known history
-  pub fit_is : fit ≡ fits_in mac (map key_of known) infos
+  pub fit_is : fit ≡ fits_in limit mac (map key_of known) infos

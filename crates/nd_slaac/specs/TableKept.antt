@@ -7,10 +7,11 @@ use Rattle.nd_slaac.specs.History.{Row, story}
 use Rattle.nd_slaac.specs.AddressKept.{Address, address_of}
 
 -- the link-layer address that addresses are formed of, how many solicitations a detection sends (RFC 4862, section 5.1,
--- DupAddrDetectTransmits), and the addresses that are known
+-- DupAddrDetectTransmits), how many addresses there is room for, and those that are known
 pub record Table : Type 0 where
   pub mac : Mac
   pub transmits : ℕ
+  pub limit : ℕ
   pub addresses : List Address
 
 abbrev pub key_of : Address → ℕ

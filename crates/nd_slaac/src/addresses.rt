@@ -1,6 +1,6 @@
 //! The addresses of an interface: their memory, their start and their number (RFC 4862, sections 5.3 and 5.4).
 
-ghost use Rattle.std.specs.Prelude.{◌≡◌, ◌≤◌, ◌<◌, [], ◌∷◌, None, length, vec_capacity};
+ghost use Rattle.std.specs.Prelude.{◌≡◌, ◌≤◌, [], ◌∷◌, None, IfOk, length};
 ghost use Rattle.nd_table.specs.Moment.{IsMoment};
 ghost use Rattle.nd_slaac.specs.Room.{max_addresses};
 
@@ -13,30 +13,44 @@ use nd_table::{Dated, Schedule};
 use std::alloc::{AllocError, Allocator};
 use std::marker::Model;
 
-/// The most addresses of an interface, the link-local one included (our choice).
+/// The greatest limit on the addresses of an interface, the link-local one included (our choice).
 pub const MAX_ADDRESSES: usize = 64;
 
-/// Room for the addresses of an interface, taken before it starts.
+/// Room for the addresses of an interface, taken before it starts. A contract sees it as the number of addresses that it is for.
 #[derive(Drop)]
 pub struct AddressRoom<A: Allocator> {
+    limit: usize,
     entries: Vec<Entry, A>,
     ends: Schedule<A>,
     steps: Schedule<A>,
-    ghost empty: { entries.items ≡ [] },
-    ghost room: { max_addresses ≤ vec_capacity entries },
-    ghost no_ends: { ends.dates ≡ [] },
-    ghost room_for_ends: { max_addresses ≤ ends.room },
-    ghost no_steps: { steps.dates ≡ [] },
-    ghost room_for_steps: { max_addresses ≤ steps.room },
+}
+
+impl<A: Allocator> Model for AddressRoom<A> {
+    ghost use Rattle.std.specs.Prelude.{ℕ, ◌≡◌, ◌≤◌, []};
+    ghost use Rattle.std.specs.Vec.{vec_capacity};
+    ghost use Rattle.nd_slaac.specs.Room.{max_addresses};
+
+    ghost Value = { ℕ };
+
+    ghost view = { λ r. r.limit };
+
+    ghost invariant = { λ r. (1 ≤ r.limit) × (r.limit ≤ max_addresses) × (r.entries.items ≡ []) × (r.limit ≤ vec_capacity r.entries)
+        × (r.ends.dates ≡ []) × (r.limit ≤ r.ends.room) × (r.steps.dates ≡ []) × (r.limit ≤ r.steps.room) };
 }
 
 impl<A: Allocator + Clone> AddressRoom<A> {
-    /// Reserves room for 64 addresses and their dates, all that an interface ever takes. Returns an error if out of memory.
-    pub fn new(alloc: A) -> Result<Self, AllocError> {
-        let entries = Vec::with_capacity(alloc.clone()?, MAX_ADDRESSES)?;
-        let ends = Schedule::new(alloc.clone()?, MAX_ADDRESSES)?;
-        let steps = Schedule::new(alloc, MAX_ADDRESSES)?;
+    /// Reserves room for `limit` addresses, 1 to 64, and for their dates: all that an interface ever takes. The link-local address is one of them, so
+    /// that with a limit of 1 no prefix option forms an address. Returns an error if out of memory.
+    pub fn new(alloc: A, limit: usize) -> Result<Self, AllocError>
+        requires least { 1 ≤ limit }
+        requires most { limit ≤ max_addresses }
+        ensures limit { IfOk result (λ room. room ≡ limit) }
+    {
+        let entries = Vec::with_capacity(alloc.clone()?, limit)?;
+        let ends = Schedule::new(alloc.clone()?, limit)?;
+        let steps = Schedule::new(alloc, limit)?;
         Ok(AddressRoom {
+            limit,
             entries,
             ends,
             steps,
@@ -52,6 +66,8 @@ pub struct Addresses<A: Allocator> {
     pub(crate) own: Addr,
     /// The number of solicitations that each detection sends.
     pub(crate) transmits: Transmits,
+    /// The number of addresses that there is room for.
+    pub(crate) limit: usize,
     pub(crate) entries: Vec<Entry, A>,
     /// The dates at which valid lifetimes end.
     pub(crate) ends: Schedule<A>,
@@ -70,9 +86,10 @@ impl<A: Allocator> Model for Addresses<A> {
 
     ghost Value = { Table };
 
-    ghost view = { λ a. record { mac = a.mac; transmits = a.transmits; addresses = a.entries.items } };
+    ghost view = { λ a. record { mac = a.mac; transmits = a.transmits; limit = a.limit; addresses = a.entries.items } };
 
-    ghost invariant = { λ a. (vec_len a.entries ≤ max_addresses) × (max_addresses ≤ vec_capacity a.entries) × IsPlanned a.entries.items a.ends a.steps × (number_of a.own.0 ≡ link_local_of a.mac) };
+    ghost invariant = { λ a. (vec_len a.entries ≤ a.limit) × (a.limit ≤ vec_capacity a.entries) × IsPlanned a.entries.items a.ends a.steps × (number_of a.own.0 ≡ link_local_of a.mac)
+        × (a.limit ≤ a.ends.room) × (a.limit ≤ a.steps.room) × (a.limit ≤ max_addresses) };
 }
 
 impl<A: Allocator> Addresses<A> {
@@ -83,7 +100,7 @@ impl<A: Allocator> Addresses<A> {
 
     /// Returns the addresses of an interface that starts: its link-local address, whose first solicitation waits for `delay` (RFC 4862, sections
     /// 5.3 and 5.4.2). `now`, `delay` and `retrans`, the RetransTimer, are in milliseconds. Each detection sends `transmits` solicitations. Takes
-    /// no memory, since `room` was reserved before: a drawn delay is never lost.
+    /// no memory, since `room` was reserved before: a drawn delay is never lost. The limit is that of `room`.
     pub fn start(
         room: AddressRoom<A>,
         now: u64,
@@ -93,9 +110,10 @@ impl<A: Allocator> Addresses<A> {
         retrans: u32,
     ) -> Self
         requires { IsMoment now }
-        ensures first { result ≡ record { mac = mac; transmits = transmits; addresses = formed (link_local_of mac) now delay retrans None ∷ [] } }
+        ensures first { result ≡ record { mac = mac; transmits = transmits; limit = room; addresses = formed (link_local_of mac) now delay retrans None ∷ [] } }
         ensures stands { Stands result.addresses ((now, link_local_of mac, Formed delay retrans None) ∷ []) }
     {
+        let limit = room.limit;
         let mut entries = room.entries;
         let mut ends = room.ends;
         let mut steps = room.steps;
@@ -108,16 +126,18 @@ impl<A: Allocator> Addresses<A> {
             mac,
             own: addr,
             transmits,
+            limit,
             entries,
             ends,
             steps,
         }
     }
 
-    /// Returns the number of addresses, the link-local one among them, at most 64.
+    /// Returns the number of addresses, the link-local one among them, at most the limit.
     pub fn len(&self) -> usize
         ensures value { result ≡ length self.now.addresses }
-        ensures few { result ≤ max_addresses }
+        ensures few { result ≤ self.now.limit }
+        ensures most { result ≤ max_addresses }
     {
         self.entries.len()
     }

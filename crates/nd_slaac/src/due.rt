@@ -5,7 +5,6 @@ ghost use Rattle.std.specs.Option.{option_map};
 ghost use Rattle.nd_table.specs.Moment.{IsMoment};
 ghost use Rattle.nd_slaac.specs.Dates.{Turns, Rests, NoneBefore};
 ghost use Rattle.nd_slaac.specs.Planned.{IsPlanned};
-ghost use Rattle.nd_slaac.specs.Room.{max_addresses};
 ghost use Rattle.nd_slaac.specs.View.{falls_of};
 
 use crate::addresses::Addresses;
@@ -58,6 +57,7 @@ impl<A: Allocator> Addresses<A> {
         ensures same { IfNone result (self.new ≡ self.old) }
         ensures mac { self.new.mac ≡ self.old.mac }
         ensures transmits { self.new.transmits ≡ self.old.transmits }
+        ensures limit { self.new.limit ≡ self.old.limit }
 
         // The number of turns at one moment is finite.
         ensures fewer { IfSome result (λ _. turns_left self.new.transmits self.new.addresses < turns_left self.old.transmits self.old.addresses) }
@@ -112,13 +112,14 @@ pub(crate) fn turn_first<A: Allocator>(
     now: u64,
 ) -> Option<Due>
     requires moment { IsMoment now }
-    requires few { vec_len entries.old ≤ max_addresses }
     requires planned { IsPlanned entries.old.items ends.old steps.old }
     requires none_before { NoneBefore entries.old.items now }
     ensures turns { IfSome result (λ due. Turns transmits now entries.old.items entries.new.items (falls_of due)) }
     ensures rests { IfNone result (Rests now entries.old.items) }
     ensures same { IfNone result (entries.new.items ≡ entries.old.items) }
     ensures planned { IsPlanned entries.new.items ends.new steps.new }
+    ensures end_room { ends.new.room ≡ ends.old.room }
+    ensures step_room { steps.new.room ≡ steps.old.room }
     ensures len { vec_len entries.new ≤ vec_len entries.old }
     ensures capacity { vec_capacity entries.new ≡ vec_capacity entries.old }
 {

@@ -32,6 +32,7 @@ impl<A: Allocator> Addresses<A> {
         ensures same { result ≡ false → self.new ≡ self.old }
         ensures mac { self.new.mac ≡ self.old.mac }
         ensures transmits { self.new.transmits ≡ self.old.transmits }
+        ensures limit { self.new.limit ≡ self.old.limit }
     {
         fail(&mut self.entries, &mut self.steps, addr)
     }

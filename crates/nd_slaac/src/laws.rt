@@ -17,7 +17,7 @@ ghost use Rattle.nd_slaac.specs.MayCome.{IsHistory, Held};
 /// The definitions give one table, one answer whether options fit, and one thing that is due first.
 pub fn one_answer()
     ensures table { (history : List Row) (a b : List Address) → Stands a history → Stands b history → a ≡ b }
-    ensures fits { (mac : Mac) (history : List Row) (infos : List PrefixInfo) (a b : Bool) → FitsBy mac history infos a → FitsBy mac history infos b → a ≡ b }
+    ensures fits { (limit : ℕ) (mac : Mac) (history : List Row) (infos : List PrefixInfo) (a b : Bool) → FitsBy limit mac history infos a → FitsBy limit mac history infos b → a ≡ b }
     ensures due { (transmits : ℕ) (history : List Row) (moment : ℕ) (a b : Option Falls) → FirstDue transmits history moment a → FirstDue transmits history moment b → a ≡ b }
 {}
 

@@ -4,7 +4,6 @@ ghost use Rattle.std.specs.Prelude.{◌≡◌, true, false, ◌+◌, ◌<◌, �
 ghost use Rattle.nd_addr.specs.Number.{number_of};
 ghost use Rattle.nd_slaac.specs.PrefixOption.{is_taken, named_by, lifetimes_of};
 ghost use Rattle.nd_decode.specs.declared.prefix_info.PrefixInfo.{PrefixInfo};
-ghost use Rattle.nd_slaac.specs.Room.{max_addresses};
 ghost use Rattle.std.specs.List.{insert};
 ghost use Rattle.nd_table.specs.KeyedKept.{place_of};
 ghost use Rattle.nd_table.specs.Moment.{IsMoment};
@@ -12,7 +11,7 @@ ghost use Rattle.nd_slaac.specs.TableKept.{address_in, key_of};
 ghost use Rattle.nd_slaac.specs.Planned.{IsPlanned};
 ghost use Rattle.nd_slaac.specs.Calls.{taken_by, Changes};
 
-use crate::addresses::{Addresses, MAX_ADDRESSES};
+use crate::addresses::Addresses;
 use crate::due::{NextStep, ValidEnd};
 use crate::entry::Entry;
 use nd_addr::{Addr, Mac};
@@ -31,7 +30,7 @@ pub enum Taken {
     Ignored,
 }
 
-/// There is no room: a prefix option would form one address too many. Nothing has changed then.
+/// There is no room: a prefix option would form one address more than the limit. Nothing has changed then.
 #[derive(Clone, Copy, Debug, PartialEq, Eq)]
 pub struct Full;
 
@@ -56,19 +55,20 @@ impl<A: Allocator> Addresses<A> {
     ) -> Result<Taken, Full>
         requires moment { IsMoment now }
 
-        ensures value { result ≡ taken_of info.now (is_some (address_in (named_by self.old.mac info.now) self.old.addresses)) (length self.old.addresses) }
-        ensures story { (history : List Row) → Stands self.old.addresses history → result ≡ taken_of info.now (is_known (story (named_by self.old.mac info.now) history)) (length self.old.addresses) }
-        ensures by_history { (history : List Row) → Stands self.old.addresses history → TakenBy self.old.mac history info.now result }
+        ensures value { result ≡ taken_of self.old.limit info.now (is_some (address_in (named_by self.old.mac info.now) self.old.addresses)) (length self.old.addresses) }
+        ensures story { (history : List Row) → Stands self.old.addresses history → result ≡ taken_of self.old.limit info.now (is_known (story (named_by self.old.mac info.now) history)) (length self.old.addresses) }
+        ensures by_history { (history : List Row) → Stands self.old.addresses history → TakenBy self.old.limit self.old.mac history info.now result }
         ensures gains { GainsRowIfAny (row_taken now self.old.mac info.now delay retrans result) self.old.addresses self.new.addresses }
         ensures comes { (history : List Row) → Stands self.old.addresses history → 0 < retrans → IfSome (row_taken now self.old.mac info.now delay retrans result) (λ row. MayCome self.old.transmits row history) }
         ensures mac { self.new.mac ≡ self.old.mac }
         ensures transmits { self.new.transmits ≡ self.old.transmits }
+        ensures limit { self.new.limit ≡ self.old.limit }
 
         // If it would form no address, the same ones are known.
         ensures keys { would_form self.old.mac (keys_in self.old.addresses) info.now ≡ false → keys_in self.new.addresses ≡ keys_in self.old.addresses }
 
         // If the options fit, the first isn't refused, and the others still fit.
-        ensures fits { (infos : List PrefixInfo) → fits_in self.old.mac (keys_in self.old.addresses) (info.now ∷ infos) ≡ true → IsOk result × (fits_in self.new.mac (keys_in self.new.addresses) infos ≡ true) }
+        ensures fits { (infos : List PrefixInfo) → fits_in self.old.limit self.old.mac (keys_in self.old.addresses) (info.now ∷ infos) ≡ true → IsOk result × (fits_in self.new.limit self.new.mac (keys_in self.new.addresses) infos ≡ true) }
     {
         if !is_taken(info) {
             return Ok(Taken::Ignored);
@@ -78,6 +78,7 @@ impl<A: Allocator> Addresses<A> {
             &mut self.entries,
             &mut self.ends,
             &mut self.steps,
+            self.limit,
             now,
             addr,
             info,
@@ -117,6 +118,7 @@ pub(crate) fn take<A: Allocator>(
     entries: &mut Vec<Entry, A>,
     ends: &mut Schedule<A>,
     steps: &mut Schedule<A>,
+    limit: usize,
     now: u64,
     addr: Addr,
     info: &PrefixInfo,
@@ -125,13 +127,17 @@ pub(crate) fn take<A: Allocator>(
 ) -> Result<Taken, Full>
     requires moment { IsMoment now }
     requires planned { IsPlanned entries.old.items ends.old steps.old }
-    requires few { vec_len entries.old ≤ max_addresses }
-    requires capacity { max_addresses ≤ vec_capacity entries.old }
-    ensures value { result ≡ taken_by (is_some (address_in (number_of addr.0) entries.old.items)) info.now.valid_lifetime (length entries.old.items) }
+    requires few { vec_len entries.old ≤ limit }
+    requires capacity { limit ≤ vec_capacity entries.old }
+    requires room_for_ends { limit ≤ ends.old.room }
+    requires room_for_steps { limit ≤ steps.old.room }
+    ensures value { result ≡ taken_by limit (is_some (address_in (number_of addr.0) entries.old.items)) info.now.valid_lifetime (length entries.old.items) }
     ensures changes { Changes now (number_of addr.0) (lifetimes_of info.now) delay retrans result entries.old.items entries.new.items }
     ensures planned { IsPlanned entries.new.items ends.new steps.new }
-    ensures few { vec_len entries.new ≤ max_addresses }
+    ensures few { vec_len entries.new ≤ limit }
     ensures capacity { vec_capacity entries.new ≡ vec_capacity entries.old }
+    ensures end_room { ends.new.room ≡ ends.old.room }
+    ensures step_room { steps.new.room ≡ steps.old.room }
 {
     let at = match locate(entries, addr) {
         Ok(i) => {
@@ -146,7 +152,7 @@ pub(crate) fn take<A: Allocator>(
     if info.valid_lifetime == 0 {
         return Ok(Taken::Ignored);
     }
-    if entries.len() >= MAX_ADDRESSES {
+    if entries.len() >= limit {
         return Err(Full);
     }
     let entry = Entry::formed(addr, now, info, delay, retrans);
@@ -165,12 +171,15 @@ pub(crate) fn enter<A: Allocator>(
     requires absent { address_in entry.key entries.old.items ≡ None }
     requires at { at ≡ place_of key_of entry.key entries.old.items }
     requires planned { IsPlanned entries.old.items ends.old steps.old }
-    requires few { vec_len entries.old < max_addresses }
-    requires capacity { max_addresses ≤ vec_capacity entries.old }
+    requires capacity { vec_len entries.old < vec_capacity entries.old }
+    requires room_for_ends { vec_len entries.old < ends.old.room }
+    requires room_for_steps { vec_len entries.old < steps.old.room }
     ensures items { entries.new.items ≡ insert entries.old.items (place_of key_of entry.key entries.old.items) entry }
     ensures planned { IsPlanned entries.new.items ends.new steps.new }
     ensures len { vec_len entries.new ≡ vec_len entries.old + 1 }
     ensures capacity { vec_capacity entries.new ≡ vec_capacity entries.old }
+    ensures end_room { ends.new.room ≡ ends.old.room }
+    ensures step_room { steps.new.room ≡ steps.old.room }
 {
     let addr = entry.addr();
     let end = Dated::<ValidEnd>::date(&entry);

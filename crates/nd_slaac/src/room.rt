@@ -11,7 +11,7 @@ ghost use Rattle.nd_slaac.specs.TableKept.{key_of};
 ghost use Rattle.nd_slaac.specs.Calls.{keys_in};
 ghost use Rattle.nd_decode.specs.declared.prefix_info.PrefixInfo.{PrefixInfo};
 
-use crate::addresses::{Addresses, MAX_ADDRESSES};
+use crate::addresses::Addresses;
 use crate::entry::Entry;
 use crate::prefix_option::{is_taken, named_by};
 use nd_addr::{Addr, Mac};
@@ -39,10 +39,10 @@ impl<A: Allocator> Addresses<A> {
     /// Returns true if there is room for each address that the options of a Router Advertisement, taken in their order, would form. If so,
     /// `heard_prefix` refuses none of them. An address is known until `turn` has returned its end.
     pub fn fits(&self, options: Options<'_>) -> bool
-        ensures value { result ≡ fits_in self.now.mac (keys_in self.now.addresses) (prefixes_in (options_left options.entry)) }
-        ensures by_history { (history : List Row) → Stands self.now.addresses history → FitsBy self.now.mac history (prefixes_in (options_left options.entry)) result }
+        ensures value { result ≡ fits_in self.now.limit self.now.mac (keys_in self.now.addresses) (prefixes_in (options_left options.entry)) }
+        ensures by_history { (history : List Row) → Stands self.now.addresses history → FitsBy self.now.limit self.now.mac history (prefixes_in (options_left options.entry)) result }
     {
-        fits(&self.entries, self.mac, options)
+        fits(&self.entries, self.limit, self.mac, options)
     }
 }
 
@@ -92,21 +92,22 @@ fn is_formed_by(options: Options<'_>, mac: Mac, addr: Addr) -> bool
 
 /// Returns true if there is room for each address that the options would form.
 #[tactic(auto, using(crate::proofs::OfType::prefixes_by_first))]
-pub(crate) fn fits(entries: &[Entry], mac: Mac, options: Options<'_>) -> bool
-    requires few { length entries.now ≤ max_addresses }
+pub(crate) fn fits(entries: &[Entry], limit: usize, mac: Mac, options: Options<'_>) -> bool
+    requires few { length entries.now ≤ limit }
+    requires most { limit ≤ max_addresses }
     requires order { Rises key_of entries.now }
-    ensures { result ≡ fits_in mac (keys_in entries.now) (prefixes_in (options_left options.entry)) }
+    ensures { result ≡ fits_in limit mac (keys_in entries.now) (prefixes_in (options_left options.entry)) }
 {
     let mut count = entries.len();
     // Mostly there is room for as many as the bytes of the options could form.
-    if count + options.byte_len() / PrefixInfo::BYTES <= MAX_ADDRESSES {
+    if count + options.byte_len() / PrefixInfo::BYTES <= limit {
         return true;
     }
     let mut rest = options;
     while let Some(info) = rest.next_prefix() {
         // An address that several options would form is counted at the last of them.
         if is_new(entries, mac, &info, rest) {
-            if count >= MAX_ADDRESSES {
+            if count >= limit {
                 return false;
             }
             count += 1;

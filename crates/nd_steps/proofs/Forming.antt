@@ -39,13 +39,13 @@ accepted_by true false true below full r is ok = is
 accepted_by true false false true full r is ok = is
 accepted_by true false false false full r is ok = absurd (false≢true (subst (λ (r : Result Taken Full). IsOk r) is ok))
 
-taken_cond : (known : Bool) (valid count : ℕ) → taken_by known valid count ≡ cond known (Ok Renewed) (cond (eqb valid 0) (Ok Ignored) (cond (ltb count 64) (Ok Formed) (Err (record {}))))
-taken_cond true valid count = refl
-taken_cond false valid count = refl
+taken_cond : (limit : ℕ) (known : Bool) (valid count : ℕ) → taken_by limit known valid count ≡ cond known (Ok Renewed) (cond (eqb valid 0) (Ok Ignored) (cond (ltb count limit) (Ok Formed) (Err (record {}))))
+taken_cond limit true valid count = refl
+taken_cond limit false valid count = refl
 
-accepted : (info : PrefixInfo) (known : Bool) (count : ℕ) (r : Result Taken Full) → r ≡ taken_of info known count → IsOk r → r ≡ Ok (becomes (is_taken info) known (eqb info.valid_lifetime 0))
-accepted info known count r is ok =
-    accepted_by (is_taken info) known (eqb info.valid_lifetime 0) (ltb count 64) (record {}) r (is ∙ ap (λ (t : Result Taken Full). cond (is_taken info) t (Ok Ignored)) (taken_cond known info.valid_lifetime count)) ok
+accepted : (limit : ℕ) (info : PrefixInfo) (known : Bool) (count : ℕ) (r : Result Taken Full) → r ≡ taken_of limit info known count → IsOk r → r ≡ Ok (becomes (is_taken info) known (eqb info.valid_lifetime 0))
+accepted limit info known count r is ok =
+    accepted_by (is_taken info) known (eqb info.valid_lifetime 0) (ltb count limit) (record {}) r (is ∙ ap (λ (t : Result Taken Full). cond (is_taken info) t (Ok Ignored)) (taken_cond limit known info.valid_lifetime count)) ok
 
 abbrev is_formed : Taken → Bool
 is_formed Formed = true
@@ -102,7 +102,7 @@ module _ (start : Start) (now : ℕ) (c : Chronicle) where
     by_taken false known = refl
 
 module _ (start : Start) (now : ℕ) (to_all : Bool) (info : PrefixInfo) (old new : Table) (before after : Stream) (delay retrans : ℕ) (c : Chronicle)
-    (mac : new.mac ≡ old.mac) (transmits : new.transmits ≡ old.transmits) (s : Forms start old before retrans c) where
+    (mac : new.mac ≡ old.mac) (limit : new.limit ≡ old.limit) (transmits : new.transmits ≡ old.transmits) (s : Forms start old before retrans c) where
   -- what was drawn, by the chronicle
   drawn_of : (formed : Bool) → (delay, after) ≡ delay_from (to_all && formed) before → (delay, after) ≡ delay_from (to_all && formed) (stream_left start c)
   drawn_of formed is = is ∙ ap (λ (stream : Stream). delay_from (to_all && formed) stream) s.generator
@@ -116,6 +116,7 @@ module _ (start : Start) (now : ℕ) (to_all : Bool) (info : PrefixInfo) (old ne
       record {
         addresses = moved (λ k d r rows. Stands new.addresses ((now, k, address_rows.Formed d r (Some (lifetimes_of info))) ∷ rows)) key d s.in_force (sym (rows_delayed start now c to_all)) (gains.stands (address_history c) s.addresses);
         mac = mac ∙ s.mac;
+        limit = limit ∙ s.limit;
         transmits = transmits ∙ s.transmits;
         generator = ap (λ (p : ℕ × Stream). p.1) drawn ∙ sym (stream_delayed start now c to_all);
         in_force = s.in_force ∙ sym (retrans_delayed start now c to_all);
@@ -126,6 +127,7 @@ module _ (start : Start) (now : ℕ) (to_all : Bool) (info : PrefixInfo) (old ne
       record {
         addresses = subst (λ (k : ℕ). Stands new.addresses ((now, k, address_rows.Announced (lifetimes_of info)) ∷ address_history c)) key (gains.stands (address_history c) s.addresses);
         mac = mac ∙ s.mac;
+        limit = limit ∙ s.limit;
         transmits = transmits ∙ s.transmits;
         generator = ap (λ (p : ℕ × Stream). p.1) drawn;
         in_force = s.in_force;
@@ -135,6 +137,7 @@ module _ (start : Start) (now : ℕ) (to_all : Bool) (info : PrefixInfo) (old ne
       record {
         addresses = subst (λ (xs : List Address). Stands xs (address_history c)) (sym gains) s.addresses;
         mac = mac ∙ s.mac;
+        limit = limit ∙ s.limit;
         transmits = transmits ∙ s.transmits;
         generator = ap (λ (p : ℕ × Stream). p.1) drawn;
         in_force = s.in_force;
@@ -143,7 +146,7 @@ module _ (start : Start) (now : ℕ) (to_all : Bool) (info : PrefixInfo) (old ne
   -- an option that isn't refused does what the definition says
   pub taken : (would : Bool) (result : Result Taken Full) → IsOk result
       → ((history : List Row) → Stands old.addresses history → would ≡ (is_forming info && not (is_known (story (named_by old.mac info) history))))
-      → ((history : List Row) → Stands old.addresses history → result ≡ taken_of info (is_known (story (named_by old.mac info) history)) (length old.addresses))
+      → ((history : List Row) → Stands old.addresses history → result ≡ taken_of old.limit info (is_known (story (named_by old.mac info) history)) (length old.addresses))
       → (delay, after) ≡ delay_from (to_all && would) before
       → GainsRowIfAny (row_taken now old.mac info delay retrans result) old.addresses new.addresses
       → Forms start new after retrans (then_option start now to_all info c)
@@ -153,7 +156,7 @@ module _ (start : Start) (now : ℕ) (to_all : Bool) (info : PrefixInfo) (old ne
       let known : Bool = is_known (story_of c (named_by start.mac info)) in
       let known_is : old_known ≡ known = ap (λ (m : Mac). is_known (story (named_by m info) (address_history c))) s.mac in
       let t : Taken = becomes (is_taken info) known zero in
-      let result_is : result ≡ Ok t = accepted info known (length old.addresses) result (by_history (address_history c) s.addresses ∙ ap (λ (k : Bool). taken_of info k (length old.addresses)) known_is) ok in
+      let result_is : result ≡ Ok t = accepted old.limit info known (length old.addresses) result (by_history (address_history c) s.addresses ∙ ap (λ (k : Bool). taken_of old.limit info k (length old.addresses)) known_is) ok in
       let forms_is : would ≡ is_formed t = would_is (address_history c) s.addresses ∙ (ap (λ (k : Bool). is_forming info && not k) known_is ∙ forms_by (is_taken info) known zero) in
       let forms : Forms start new after retrans (added start now c to_all info t) =
       taken_as t (is ∙ ap (λ (b : Bool). delay_from (to_all && b) before) forms_is)

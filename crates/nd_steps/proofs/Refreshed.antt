@@ -19,7 +19,8 @@ use Rattle.nd_routers.proofs.Preferring.{same_preferences}
 use Rattle.nd_table.proofs.Refreshing.{announced_keys, keys_of, refreshed_keys}
 use Rattle.nd_routers.proofs.Refreshing.{held_by_keys}
 use Rattle.nd_routers.proofs.Settled.{open_each}
-use Rattle.nd_nexthop.specs.Choice.{Table}
+use Rattle.nd_nexthop.specs.Choice.{Stands, Table}
+use Rattle.nd_nexthop.specs.History.{RedirectRow}
 use Rattle.nd_nexthop.specs.Memo.{Memory, forgotten}
 use Rattle.nd_steps.specs.DestinationCache.{AsListed, AsStanding, Recollects, Refreshes}
 
@@ -35,6 +36,9 @@ kept_or false old new Same is same = nothing old new Same (ap (λ (t : Table). t
 pub kept_redirects : (keep : Bool) (old new : Table) → new ≡ (if keep then old else record old { memory = forgotten old.memory }) → new.redirects ≡ old.redirects
 kept_redirects true old new is = ap (λ (t : Table). t.redirects) is
 kept_redirects false old new is = ap (λ (t : Table). t.redirects) is
+
+pub kept_stand : (keep : Bool) (old new : Table) → new ≡ (if keep then old else record old { memory = forgotten old.memory }) → (history : List RedirectRow) → Stands old history → Stands new history
+kept_stand keep old new is history s = record { entries_are = rw (kept_redirects keep old new is) s.entries_are }
 
 pub kept_until : (keep : Bool) (old new : Table) → new ≡ (if keep then old else record old { memory = forgotten old.memory }) → new.memory.until ≡ old.memory.until
 kept_until true old new is = ap (λ (t : Table). t.memory.until) is

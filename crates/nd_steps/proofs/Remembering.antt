@@ -62,7 +62,7 @@ pub remembers_nothing : (at : ℕ) (choice : Table) (addresses : List Address) (
     → choice.memory.hops ≡ [] → StandUntil at choice.memory.until prefixes → Remembers at choice addresses prefixes entries table
 remembers_nothing at choice addresses prefixes entries table none until = record {
   until = until;
-  agrees = λ asked e there. nothing_there e (IsHop (own_in addresses) (linked_by (open_at at prefixes)) (candidates_in entries table) (λ key. target_in key choice.redirects) e) choice.memory.hops none there;
+  agrees = λ asked e there. nothing_there e (IsHop (own_in addresses) (linked_by (open_at at prefixes)) (candidates_in entries table) (λ key. target_in key choice.redirects.entries) e) choice.memory.hops none there;
 }
 
 -- ---- where the tables are the same to the next hops
@@ -87,7 +87,7 @@ pub remembers_same : (at : ℕ) (choice : Table) (old_addresses new_addresses : 
 remembers_same at choice old_addresses new_addresses prefixes old new table own resolved r = record {
   until = r.until;
   agrees = λ asked e there.
-      let kept = target_in e.0 choice.redirects in
+      let kept = target_in e.0 choice.redirects.entries in
       let address = (addr_at e.0).0 in
       r.agrees asked e there
       ∙ (hop_by_own (own_in old_addresses) (own_in new_addresses) (linked_by (open_at at prefixes)) (candidates_in old table) kept address (sym (own (number_of address)))
@@ -104,7 +104,7 @@ agrees_now at now choice addresses prefixes entries table le r = (remembers_late
 -- with the answer
 pub remembers_answer : (at now : ℕ) (old new : Table) (addresses : List Address) (prefixes : List (Lasting PrefixValue)) (entries : List NeighbourEntry) (table : routers.Table) (destination : Addr) (h : Hop)
     → at ≤ now → Remembers at old addresses prefixes entries table → new.redirects ≡ old.redirects → new.memory.until ≡ old.memory.until → addr_at (number_of destination.0) ≡ destination
-    → hop_of h ≡ hop (own_in addresses) (linked_by (open_at now prefixes)) (candidates_in entries table) (target_in (number_of destination.0) old.redirects) destination.0
+    → hop_of h ≡ hop (own_in addresses) (linked_by (open_at now prefixes)) (candidates_in entries table) (target_in (number_of destination.0) old.redirects.entries) destination.0
     → ((e : ℕ × Hop) → Contains new.memory.hops e → recalled.Remembers now (number_of destination.0) h old.memory e) → Remembers at new addresses prefixes entries table
 remembers_answer at now old new addresses prefixes entries table destination h le r redirects until same is more = record {
   until = λ moment after asked. r.until moment after (subst (λ u. is_asked moment u ≡ true) until asked);
@@ -112,12 +112,12 @@ remembers_answer at now old new addresses prefixes entries table destination h l
 }
   where
     by : is_asked at old.memory.until ≡ true → (e : ℕ × Hop) → recalled.Remembers now (number_of destination.0) h old.memory e
-        → IsHop (own_in addresses) (linked_by (open_at at prefixes)) (candidates_in entries table) (λ key. target_in key old.redirects) e
+        → IsHop (own_in addresses) (linked_by (open_at at prefixes)) (candidates_in entries table) (λ key. target_in key old.redirects.entries) e
     by asked e (inl was) = r.agrees asked e was
     by asked e (inr this) =
         rw this.1 (is
-        ∙ (ap (λ (standing : List (Lasting PrefixValue)). hop (own_in addresses) (linked_by standing) (candidates_in entries table) (target_in (number_of destination.0) old.redirects) destination.0) (r.until now le this.0)
-        ∙ sym (ap (λ (a : Addr). hop (own_in addresses) (linked_by (open_at at prefixes)) (candidates_in entries table) (target_in (number_of destination.0) old.redirects) a.0) same)))
+        ∙ (ap (λ (standing : List (Lasting PrefixValue)). hop (own_in addresses) (linked_by standing) (candidates_in entries table) (target_in (number_of destination.0) old.redirects.entries) destination.0) (r.until now le this.0)
+        ∙ sym (ap (λ (a : Addr). hop (own_in addresses) (linked_by (open_at at prefixes)) (candidates_in entries table) (target_in (number_of destination.0) old.redirects.entries) a.0) same)))
 
 -- ---- up to the earliest end of a prefix
 

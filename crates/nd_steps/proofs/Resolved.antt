@@ -33,7 +33,7 @@ was_resolved (Some n) = refl
 absent_unknown : (s : rows.Story) → is_present s ≡ false → mac_of s ≡ None
 absent_unknown [] h = refl
 absent_unknown ((at, rows.Given mac mark) ∷ s) h = let never : ⊥ = cc in absurd never
-absent_unknown ((at, rows.Asked retrans) ∷ s) h = let never : ⊥ = cc in absurd never
+absent_unknown ((at, rows.Asked retrans room) ∷ s) h = let never : ⊥ = cc in absurd never
 absent_unknown ((at, rows.Advertised flags mac reachable) ∷ s) h = rw h refl
 absent_unknown ((at, rows.Marked router) ∷ s) h = absent_unknown s h
 absent_unknown ((at, rows.Solicited) ∷ s) h = absent_unknown s h
@@ -135,33 +135,33 @@ present_in key s n is = by (is_present s) refl
     by false e = let none : entry_of key s ≡ None = cond-false (is_present s) _ None e in let never : ⊥ = cc in absurd never
 
 -- a packet to a neighbour that is there
-packet_as_known : (known : Option ℕ) (at key retrans : ℕ) (packet : List ℕ) (history : List rows.Row) → AsKnown history (then_packet true known at key retrans packet history)
-packet_as_known None at key retrans packet history = row_as_known at key (rows.Waits packet) history refl refl
-packet_as_known (Some mac) at key retrans packet history = row_as_known at key (rows.Used retrans) history refl refl
+packet_as_known : (known : Option ℕ) (at key retrans room : ℕ) (packet : List ℕ) (history : List rows.Row) → AsKnown history (then_packet true known at key retrans room packet history)
+packet_as_known None at key retrans room packet history = row_as_known at key (rows.Waits packet) history refl refl
+packet_as_known (Some mac) at key retrans room packet history = row_as_known at key (rows.Used retrans) history refl refl
 
-pub packet_as_resolved : (limit at key retrans : ℕ) (packet : List ℕ) (old new : List NeighbourEntry) (n : NeighbourEntry) → entry_in key old ≡ Some n → GainsPacket limit at key retrans packet old new → AsResolved old new
-packet_as_resolved limit at key retrans packet old new n there gains = λ history s k.
+pub packet_as_resolved : (limit at key retrans room : ℕ) (packet : List ℕ) (old new : List NeighbourEntry) (n : NeighbourEntry) → entry_in key old ≡ Some n → GainsPacket limit at key retrans room packet old new → AsResolved old new
+packet_as_resolved limit at key retrans room packet old new n there gains = λ history s k.
     let this = story key history in
     let present : is_present this ≡ true = present_in key this n (sym (s.each key) ∙ there) in
     let g = gains.stands history s in
     let made_is : g.0 ≡ history = no_place_made true (is_present this) _ history g.0 present g.1 in
-    let t : neighbours.Stands new (then_packet true (mac_of this) at key retrans packet history) =
-    subst (λ (made : List rows.Row). neighbours.Stands new (then_packet true (mac_of this) at key retrans packet made)) made_is
-    (subst (λ (b : Bool). neighbours.Stands new (then_packet b (mac_of this) at key retrans packet g.0)) present g.2) in
-    resolved_as old new history (then_packet true (mac_of this) at key retrans packet history) s t (packet_as_known (mac_of this) at key retrans packet history) k
+    let t : neighbours.Stands new (then_packet true (mac_of this) at key retrans room packet history) =
+    subst (λ (made : List rows.Row). neighbours.Stands new (then_packet true (mac_of this) at key retrans room packet made)) made_is
+    (subst (λ (b : Bool). neighbours.Stands new (then_packet b (mac_of this) at key retrans room packet g.0)) present g.2) in
+    resolved_as old new history (then_packet true (mac_of this) at key retrans room packet history) s t (packet_as_known (mac_of this) at key retrans room packet history) k
 
 -- nothing is remembered where a resolution begins
-pub packet_may_remember : (old_choice new_choice : Table) (limit at key retrans : ℕ) (packet : List ℕ) (old new : List NeighbourEntry) (sending : Sending) → sending ≡ sending_in (entry_in key old) packet
-    → new_choice ≡ (if begins sending then record old_choice { memory = forgotten old_choice.memory } else old_choice) → GainsPacket limit at key retrans packet old new → MayRemember old_choice new_choice old new
-packet_may_remember old_choice new_choice limit at key retrans packet old new sending is choice_is gains = by (entry_in key old) refl
+pub packet_may_remember : (old_choice new_choice : Table) (limit at key retrans room : ℕ) (packet : List ℕ) (old new : List NeighbourEntry) (sending : Sending) → sending ≡ sending_in (entry_in key old) packet
+    → new_choice ≡ (if begins sending then record old_choice { memory = forgotten old_choice.memory } else old_choice) → GainsPacket limit at key retrans room packet old new → MayRemember old_choice new_choice old new
+packet_may_remember old_choice new_choice limit at key retrans room packet old new sending is choice_is gains = by (entry_in key old) refl
   where
     by_stage : (n : NeighbourEntry) → entry_in key old ≡ Some n → (st : Stage) → n.stage ≡ st → MayRemember old_choice new_choice old new
     by_stage n there (Resolving r sent waiting) e =
         let sent_is : sending ≡ sending_to (Resolving r sent waiting) packet = is ∙ (ap (λ (o : Option NeighbourEntry). sending_in o packet) there ∙ ap (λ (x : Stage). sending_to x packet) e) in
-        Keeps (choice_is ∙ ap (λ (x : Sending). if begins x then record old_choice { memory = forgotten old_choice.memory } else old_choice) sent_is) (packet_as_resolved limit at key retrans packet old new n there gains)
+        Keeps (choice_is ∙ ap (λ (x : Sending). if begins x then record old_choice { memory = forgotten old_choice.memory } else old_choice) sent_is) (packet_as_resolved limit at key retrans room packet old new n there gains)
     by_stage n there (Known mac confirmed since probing) e =
         let sent_is : sending ≡ sending_to (Known mac confirmed since probing) packet = is ∙ (ap (λ (o : Option NeighbourEntry). sending_in o packet) there ∙ ap (λ (x : Stage). sending_to x packet) e) in
-        Keeps (choice_is ∙ ap (λ (x : Sending). if begins x then record old_choice { memory = forgotten old_choice.memory } else old_choice) sent_is) (packet_as_resolved limit at key retrans packet old new n there gains)
+        Keeps (choice_is ∙ ap (λ (x : Sending). if begins x then record old_choice { memory = forgotten old_choice.memory } else old_choice) sent_is) (packet_as_resolved limit at key retrans room packet old new n there gains)
 
     by : (o : Option NeighbourEntry) → entry_in key old ≡ o → MayRemember old_choice new_choice old new
     by None e = Forgets (choice_is ∙ ap (λ (x : Sending). if begins x then record old_choice { memory = forgotten old_choice.memory } else old_choice) (is ∙ ap (λ (o : Option NeighbourEntry). sending_in o packet) e))

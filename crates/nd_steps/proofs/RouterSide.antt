@@ -27,6 +27,8 @@ side_stands start tables c d same s =
     let routes' : route_history d ≡ route_history c = ap (λ p. p.1) same in record {
       advertiser = rw advertising' s.advertiser;
       routes = rw routes' s.routes;
+      offer_limit = s.offer_limit;
+      route_limit = s.route_limit;
       spaced = rw advertising' s.spaced;
     }
 
@@ -60,10 +62,12 @@ due_has_settings start c at due = has_settings (advertising_history start c) (du
 
 -- they stand for one more row of what is advertised
 pub stands_row : {A : Type 0} (start : Start) (old new : RouterTables A) (c d : Chronicle) (now : ℕ) (row : advertising_rows.Row) → IsOf now row → advertising.GainsRow old.advertiser new.advertiser row
-    → new.routes ≡ old.routes → advertising_history start d ≡ row ∷ advertising_history start c → route_history d ≡ route_history c → Stands start old c → Stands start new d
-stands_row start old new c d now row is gains routes' more same s = record {
+    → new.advertiser.limit ≡ old.advertiser.limit → new.routes ≡ old.routes → advertising_history start d ≡ row ∷ advertising_history start c → route_history d ≡ route_history c → Stands start old c → Stands start new d
+stands_row start old new c d now row is gains limit routes' more same s = record {
   advertiser = rw more (gains.stands (advertising_history start c) s.advertiser);
   routes = rw (routes', same) s.routes;
+  offer_limit = limit ∙ s.offer_limit;
+  route_limit = rw routes' s.route_limit;
   spaced = rw more (spaced now (advertising_history start c) row is s.spaced);
 }
 
@@ -87,7 +91,7 @@ stands_address start role old new c now falls role_is notes s h = by falls notes
     same : (d : Chronicle) → advertising_history start d ≡ advertising_history start c → route_history d ≡ route_history c → advertising.Stands new.advertiser (advertising_history start c) → new.routes ≡ old.routes
         → Stands start new d × NotBefore now (next_advertisement role new)
     same d is those kept routes' =
-        let t : Stands start new d = record { advertiser = rw is kept; routes = rw (routes', those) s.routes; spaced = rw is s.spaced } in
+        let t : Stands start new d = record { advertiser = rw is kept; routes = rw (routes', those) s.routes; offer_limit = notes.limit ∙ s.offer_limit; route_limit = rw routes' s.route_limit; spaced = rw is s.spaced } in
         (t, rw (advertisement_date start role new d role_is t, is) (subst (λ (date : Option ℕ). NotBefore now date) (advertisement_date start role old c role_is s) h))
 
     -- the link-local address is assigned
@@ -97,6 +101,8 @@ stands_address start role old new c now falls role_is notes s h = by falls notes
         let t : Stands start new d = record {
           advertiser = rw more kept;
           routes = rw (routes', those) s.routes;
+          offer_limit = notes.limit ∙ s.offer_limit;
+          route_limit = rw routes' s.route_limit;
           spaced = rw more (spaced now (advertising_history start c) (advertising_rows.Assigned now) refl s.spaced);
         } in
         (t, later_row start role old new c d now (advertising_rows.Assigned now) refl role_is more s t h)

@@ -84,6 +84,11 @@ pub record AsListed (old_choice new_choice : Table) (old new : kept_routers.Tabl
   pub preferences : (key : ℕ) → preference_among key new.preferences ≡ preference_among key old.preferences
   pub failed : new.failed ≡ old.failed
 
+-- how many redirects and next hops there is room for stays
+pub record KeepsRoom (old new : Table) : Type 0 where
+  pub redirects : new.redirects.limit ≡ old.redirects.limit
+  pub destinations : new.redirects.destinations ≡ old.redirects.destinations
+
 -- the same prefixes stand at the moment
 abbrev pub AsStanding : ℕ → List (Lasting PrefixValue) → List (Lasting PrefixValue) → Type 0
 AsStanding now old new = (address : List ℕ) → is_held address (open_at now new) ≡ is_held address (open_at now old)

@@ -54,6 +54,7 @@ delay_from false stream = (0, stream)
 pub record Forms (start : Start) (table : Table) (stream : Stream) (retrans : ℕ) (c : Chronicle) : Type 0 where
   pub addresses : addresses.Stands table.addresses (address_history c)
   pub mac : table.mac ≡ start.mac
+  pub limit : table.limit ≡ start.limits.addresses
   pub transmits : table.transmits ≡ start.transmits
   pub generator : stream ≡ stream_left start c
   pub in_force : retrans ≡ retrans_timer c

@@ -31,10 +31,13 @@ abbrev pub next_advertisement : {A : Type 0} → Role → RouterTables A → Opt
 next_advertisement role tables =
     if is_host role then None else next tables.advertiser.assigned tables.advertiser.last tables.advertiser.advertising
 
--- They stand for what the chronicle says of them, and the next advertisement is due after the last one.
+-- They stand for what the chronicle says of them, with room for as many offers and routes as the limits, and the next advertisement is due after the last
+-- one.
 pub record Stands {A : Type 0} (start : Start) (tables : RouterTables A) (c : Chronicle) : Type 0 where
   pub advertiser : advertising.Stands tables.advertiser (advertising_history start c)
   pub routes : routes.Stands tables.routes (route_history c)
+  pub offer_limit : tables.advertiser.limit ≡ start.limits.offers
+  pub route_limit : tables.routes.limit ≡ start.limits.routes
   pub spaced : IsSpaced (advertising_history start c)
 
 -- the earliest moment of another advertisement: behind the last one, if there was one
@@ -50,6 +53,7 @@ pub record Advertises {A : Type 0} (now : ℕ) (words left : Stream) (old new : 
   pub positive : 0 < interval_drawn settings words
   pub after_last : after_last old.advertiser.last ≤ now
   pub last : new.advertiser.last ≡ Some now
+  pub limit : new.advertiser.limit ≡ old.advertiser.limit
   pub routes : new.routes ≡ old.routes
   pub drawn : left ≡ (next_u32 words).1
 
@@ -61,6 +65,7 @@ plans role tables = is_router role && wants_draw tables.advertiser.advertising
 pub record Plans {A : Type 0} (now : ℕ) (wants : Bool) (words left : Stream) (old new : RouterTables A) : Type 0 where
   pub advertiser : MatchBool wants (advertising.GainsRow old.advertiser new.advertiser (advertising_rows.Solicited now (answer_delay_drawn words))) (new.advertiser ≡ old.advertiser)
   pub drawn : left ≡ (if wants then (next_u32 words).1 else words)
+  pub limit : new.advertiser.limit ≡ old.advertiser.limit
   pub routes : new.routes ≡ old.routes
 
 -- What is due for one of the node's own addresses says when the link-local one is assigned, from which advertisements are sent.
@@ -68,6 +73,7 @@ pub record NotesAddress {A : Type 0} (link_local now : ℕ) (falls : Falls) (old
   pub advertiser : (history : List advertising_rows.Row) → advertising.Stands old.advertiser history
       → advertising.Stands new.advertiser (then_assigned link_local now (key_in falls) (happens falls) history)
   pub last : new.advertiser.last ≡ old.advertiser.last
+  pub limit : new.advertiser.limit ≡ old.advertiser.limit
   pub routes : new.routes ≡ old.routes
 
 -- the frame of an advertisement that is due, where the interface advertises

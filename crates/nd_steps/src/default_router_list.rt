@@ -8,7 +8,7 @@ ghost use Rattle.nd_routers.specs.History.{RouterRow, Heard, announcements};
 ghost use Rattle.nd_routers.specs.Routers.{same};
 ghost use Rattle.nd_routers.specs.RoutersKept.{IsSettled};
 ghost use Rattle.nd_nexthop.specs.History.{RedirectRow};
-ghost use Rattle.nd_steps.specs.DestinationCache.{AsListed, Recollects, Refreshes, Remembering};
+ghost use Rattle.nd_steps.specs.DestinationCache.{AsListed, KeepsRoom, Recollects, Refreshes, Remembering};
 ghost use Rattle.nd_steps.specs.DefaultRouterList.{with_left, with_gone, left_told, Leaves, Notes};
 ghost use Rattle.nd_addr.specs.declared.addr.Addr.{Addr};
 ghost use Rattle.nd_table.specs.Moment.{IsMoment};
@@ -69,6 +69,7 @@ pub fn hear_router<A: Allocator>(
     ensures recollects { Recollects choice.old choice.new (AsListed choice.old choice.new routers.old routers.new) }
     ensures settled { IsSettled routers.new.entries now }
     ensures limit { routers.new.limit ≡ routers.old.limit }
+    ensures limits { KeepsRoom choice.old choice.new }
 {
     let times_out = times_out(routers, now, source, lifetime);
     let refreshes = only_refreshes(routers, now, source, lifetime, preference);
@@ -113,6 +114,7 @@ pub fn end_router<A: Allocator>(
     ensures leaves { Leaves now (number_of addr.0) ends routers.old routers.new choice.old choice.new outs.old.items outs.new.items result }
     ensures settled { (moment : ℕ) → IsSettled routers.old.entries moment → IsSettled routers.new.entries moment }
     ensures limit { routers.new.limit ≡ routers.old.limit }
+    ensures limits { KeepsRoom choice.old choice.new }
 {
     if !ends {
         return false;
@@ -137,6 +139,7 @@ pub fn note_failure<A: Allocator + Clone>(
     ensures remembers { Remembering (falls_of due.now) choice.old choice.new routers.old routers.new }
     ensures entries { routers.new.entries ≡ routers.old.entries }
     ensures limit { routers.new.limit ≡ routers.old.limit }
+    ensures limits { KeepsRoom choice.old choice.new }
 {
     match due {
         Due::Failed(addr, _) => {

@@ -40,7 +40,7 @@ pub fn keep_until_a_prefix_ends<A: Allocator>(
 )
     ensures redirects { choice.new.redirects ≡ choice.old.redirects }
     ensures hops { choice.new.memory.hops ≡ (if none_formed && is_asked now choice.old.memory.until then choice.old.memory.hops else []) }
-    ensures until { choice.new.memory.until ≡ last_before_end now prefixes.now }
+    ensures until { choice.new.memory.until ≡ last_before_end now prefixes.now.entries }
 {
     let asked = choice.is_asked(now);
     keep_if(choice, none_formed && asked);

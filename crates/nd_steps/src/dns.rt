@@ -7,7 +7,6 @@ ghost use Rattle.nd_decode.specs.Pieces.{options_left};
 ghost use Rattle.nd_table.specs.Announcements.{Row, last_moment};
 ghost use Rattle.nd_table.specs.Listing.{fits, then_announced};
 ghost use Rattle.nd_table.specs.Moment.{IsMoment};
-ghost use Rattle.nd_dns.specs.Dns.{max_servers, max_names};
 ghost use Rattle.nd_dns.specs.DnsKept.{new_names};
 ghost use Rattle.nd_dns.specs.AnnouncedNames.{same_name, names_told};
 ghost use Rattle.nd_dns.specs.AnnouncedServers.{servers_told};
@@ -23,10 +22,12 @@ use std::alloc::Allocator;
 pub fn hear_dns<A: Allocator>(dns: &mut Dns<A>, now: u64, options: Options<'_>, names: NewNames<A>)
     requires moment { IsMoment now }
     requires names { names ≡ new_names now (options_left options) dns.old }
-    requires fits_servers { fits same_addr max_servers now (servers_told (options_left options)) dns.old.servers ≡ true }
-    requires fits_names { fits same_name max_names now (names_told (options_left options)) dns.old.names ≡ true }
-    ensures { (servers : List (Row Addr)) (names : List (Row (List ℕ))) → last_moment servers ≤ now → last_moment names ≤ now → known.Stands dns.old servers names
+    requires fits_servers { fits same_addr dns.old.server_limit now (servers_told (options_left options)) dns.old.servers ≡ true }
+    requires fits_names { fits same_name dns.old.name_limit now (names_told (options_left options)) dns.old.names ≡ true }
+    ensures stands { (servers : List (Row Addr)) (names : List (Row (List ℕ))) → last_moment servers ≤ now → last_moment names ≤ now → known.Stands dns.old servers names
         → known.Stands dns.new (then_announced now (servers_told (options_left options.entry)) servers) (then_announced now (names_told (options_left options.entry)) names) }
+    ensures server_limit { dns.new.server_limit ≡ dns.old.server_limit }
+    ensures name_limit { dns.new.name_limit ≡ dns.old.name_limit }
 {
     dns.take_ra(now, options, names);
 }

@@ -5,6 +5,7 @@ ghost use Rattle.nd_addr.specs.Number.{number_of, addr_at, mac_at};
 ghost use Rattle.nd_compose.specs.Frames.{detection_frame, resolution_frame, probe_frame};
 ghost use Rattle.nd_chronicle.specs.Happening.{Lost};
 ghost use Rattle.nd_out.specs.Out.{happening, loss_of};
+ghost use Rattle.nd_packet.specs.Waiting.{max_waiting};
 ghost use Rattle.nd_steps.specs.Turned.{what_of};
 ghost use Rattle.nd_steps.specs.DueRows.{advertised_by, told_of_address, told_of_neighbour, told_of};
 ghost use Rattle.nd_steps.specs.Outputs.{at_moment, happenings};
@@ -15,11 +16,11 @@ use crate::turned::Turned;
 use nd_addr::{Addr, Mac};
 use nd_compose::FrameRoom;
 use nd_out::{Loss, Out};
-use nd_packet::{Packet, Packets};
+use nd_packet::{MAX_WAITING, Packet, Packets};
 use std::alloc::Allocator;
 
-/// The most rows that a turn reports: a failure, and the three packets that waited.
-pub const MOST_TOLD: usize = 4;
+/// The most rows that a turn reports: a failure, and the packets that waited.
+pub const MOST_TOLD: usize = MAX_WAITING + 1;
 
 /// Returns the solicitation of duplicate address detection for an address.
 fn detection<A: Allocator>(room: FrameRoom<A>, mac: Mac, addr: Addr) -> Packet<A>
@@ -91,7 +92,7 @@ fn tell_neighbour<A: Allocator>(
     own: Addr,
     due: nd_neighbour::Due<A>,
 )
-    requires { vec_len outs.old + 4 ≤ vec_capacity outs.old }
+    requires { vec_len outs.old + (max_waiting + 1) ≤ vec_capacity outs.old }
     ensures { happenings outs.new.items ≡ happenings outs.old.items ++ at_moment at (told_of_neighbour mac own (neighbours.falls_of due)) }
 {
     match due {
@@ -136,7 +137,7 @@ pub fn tell<A: Allocator>(
     advertisement: Option<Packet<A>>,
     turned: Turned<A>,
 )
-    requires { vec_len outs.old + 4 ≤ vec_capacity outs.old }
+    requires { vec_len outs.old + (max_waiting + 1) ≤ vec_capacity outs.old }
     ensures { happenings outs.new.items ≡ happenings outs.old.items ++ at_moment at (told_of mac own (advertised_by advertisement) (what_of turned)) }
 {
     match turned {

@@ -66,6 +66,7 @@ pub fn ready_for<A: Allocator + Clone>(
     ensures none { IfOk result (λ room. is_some (entry_in (number_of to.0) neighbours.old.entries) ≡ true → is_some room ≡ false) }
     ensures entries { neighbours.new.entries ≡ neighbours.old.entries }
     ensures limit { neighbours.new.limit ≡ neighbours.old.limit }
+    ensures waiting { neighbours.new.waiting ≡ neighbours.old.waiting }
     ensures same { outs.new.items ≡ outs.old.items }
 {
     outs.reserve(1)?;
@@ -89,6 +90,7 @@ pub fn ready_for_two<A: Allocator + Clone>(
     ensures rings { OnOk result (2 ≤ neighbours.new.rings) }
     ensures entries { neighbours.new.entries ≡ neighbours.old.entries }
     ensures limit { neighbours.new.limit ≡ neighbours.old.limit }
+    ensures waiting { neighbours.new.waiting ≡ neighbours.old.waiting }
     ensures same { outs.new.items ≡ outs.old.items }
 {
     let first = FrameRoom::new(outs.allocator().clone()?)?;
@@ -154,6 +156,7 @@ fn hear_news<A: Allocator>(
     ensures most { vec_len outs.new ≤ vec_len outs.old + max_waiting }
     ensures capacity { vec_capacity outs.new ≡ vec_capacity outs.old }
     ensures limit { neighbours.new.limit ≡ neighbours.old.limit }
+    ensures waiting { neighbours.new.waiting ≡ neighbours.old.waiting }
     ensures rings { neighbours.new.rings ≡ neighbours.old.rings }
 {
     nd_addr::laws::addresses_are_told_by_numbers();
@@ -203,6 +206,7 @@ pub fn hear_of_neighbour<A: Allocator>(
     ensures capacity { vec_capacity outs.new ≡ vec_capacity outs.old }
 
     ensures limit { neighbours.new.limit ≡ neighbours.old.limit }
+    ensures waiting { neighbours.new.waiting ≡ neighbours.old.waiting }
     ensures rings { neighbours.new.rings ≡ neighbours.old.rings }
 {
     match news {

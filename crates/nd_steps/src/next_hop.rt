@@ -51,7 +51,7 @@ impl<A: Allocator> View for Tables<'_, A> {
 
     ghost own = { λ t address. counted_in Own (address_in (number_of address) t.addresses.now.addresses) };
 
-    ghost linked = { λ t address. is_held address (open_at t.now t.prefixes.now) };
+    ghost linked = { λ t address. is_held address (open_at t.now t.prefixes.now.entries) };
 
     ghost candidates = { λ t. candidates_in t.neighbours.now.entries t.routers.now };
 

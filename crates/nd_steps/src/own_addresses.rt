@@ -129,9 +129,9 @@ fn hear_prefix_option<R: Rng, A: Allocator>(
     retrans: u32,
 ) -> bool
     requires moment { IsMoment now }
-    requires fits { fits_in addresses.old.mac (keys_in addresses.old.addresses) (info.now ∷ []) ≡ true }
+    requires fits { fits_in addresses.old.limit addresses.old.mac (keys_in addresses.old.addresses) (info.now ∷ []) ≡ true }
     ensures forms { (start : Start) (c : Chronicle) → Forms start addresses.old (R.stream generator.old) retrans c → Forms start addresses.new (R.stream generator.new) retrans (then_option start now to_all info.now c) }
-    ensures fits { (infos : List PrefixInfo) → fits_in addresses.old.mac (keys_in addresses.old.addresses) (info.now ∷ infos) ≡ true → fits_in addresses.new.mac (keys_in addresses.new.addresses) infos ≡ true }
+    ensures fits { (infos : List PrefixInfo) → fits_in addresses.old.limit addresses.old.mac (keys_in addresses.old.addresses) (info.now ∷ infos) ≡ true → fits_in addresses.new.limit addresses.new.mac (keys_in addresses.new.addresses) infos ≡ true }
     ensures value { result ≡ would_form addresses.old.mac (keys_in addresses.old.addresses) info.now }
     ensures same { result ≡ false → keys_in addresses.new.addresses ≡ keys_in addresses.old.addresses }
     ensures mac { addresses.new.mac ≡ addresses.old.mac }
@@ -156,7 +156,7 @@ pub fn hear_prefix_options<R: Rng, A: Allocator>(
     retrans: u32,
 ) -> bool
     requires moment { IsMoment now }
-    requires fits { fits_in addresses.old.mac (keys_in addresses.old.addresses) (prefixes_in (options_left options)) ≡ true }
+    requires fits { fits_in addresses.old.limit addresses.old.mac (keys_in addresses.old.addresses) (prefixes_in (options_left options)) ≡ true }
     ensures forms { (start : Start) (c : Chronicle) → Forms start addresses.old (R.stream generator.old) retrans c → Forms start addresses.new (R.stream generator.new) retrans (then_options start now to_all (prefixes_in (options_left options.entry)) c) }
     ensures none { result ≡ forms_none addresses.old.mac (keys_in addresses.old.addresses) (prefixes_in (options_left options.entry)) }
 {
@@ -182,6 +182,7 @@ pub fn hear_conflict<A: Allocator>(
     ensures same { result ≡ false → addresses.new ≡ addresses.old }
     ensures remembers { choice.new ≡ (if result then record choice.old { memory = forgotten choice.old.memory } else choice.old) }
     ensures mac { addresses.new.mac ≡ addresses.old.mac }
+    ensures limit { addresses.new.limit ≡ addresses.old.limit }
     ensures transmits { addresses.new.transmits ≡ addresses.old.transmits }
 {
     let tentative = addresses.conflict(target);
@@ -203,6 +204,7 @@ pub fn hear_holder<A: Allocator>(
     ensures conflicts { Conflicts now (number_of target.0) addresses.old.addresses addresses.new.addresses outs.old.items outs.new.items result }
     ensures remembers { choice.new ≡ (if result then record choice.old { memory = forgotten choice.old.memory } else choice.old) }
     ensures mac { addresses.new.mac ≡ addresses.old.mac }
+    ensures limit { addresses.new.limit ≡ addresses.old.limit }
     ensures transmits { addresses.new.transmits ≡ addresses.old.transmits }
     ensures len { vec_len outs.new ≤ vec_len outs.old + 1 }
     ensures capacity { vec_capacity outs.new ≡ vec_capacity outs.old }

@@ -6,7 +6,7 @@ ghost use Rattle.nd_addr.specs.Same.{same_prefix};
 ghost use Rattle.nd_decode.specs.Pieces.{options_left};
 ghost use Rattle.nd_table.specs.Announcements.{Row, last_moment};
 ghost use Rattle.nd_table.specs.Listing.{fits, then_announced};
-ghost use Rattle.nd_routers.specs.OnLinkPrefixes.{max_prefixes, prefixes_in};
+ghost use Rattle.nd_routers.specs.OnLinkPrefixes.{prefixes_in};
 ghost use Rattle.nd_steps.specs.DestinationCache.{AsStanding, Recollects};
 ghost use Rattle.nd_table.specs.ListingKept as lists;
 ghost use Rattle.nd_table.specs.Moment.{IsMoment};
@@ -26,10 +26,11 @@ pub fn hear_prefixes<A: Allocator>(
     options: Options<'_>,
 )
     requires moment { IsMoment now }
-    requires fits { fits same_prefix max_prefixes now (prefixes_in (options_left options)) prefixes.old ≡ true }
-    ensures stands { (history : List (Row PrefixValue)) → last_moment history ≤ now → lists.Stands same_prefix prefixes.old history → lists.Stands same_prefix prefixes.new (then_announced now (prefixes_in (options_left options.entry)) history) }
-    ensures recollects { Recollects choice.old choice.new (AsStanding now prefixes.old prefixes.new) }
+    requires fits { fits same_prefix prefixes.old.limit now (prefixes_in (options_left options)) prefixes.old.entries ≡ true }
+    ensures stands { (history : List (Row PrefixValue)) → last_moment history ≤ now → lists.Stands same_prefix prefixes.old.entries history → lists.Stands same_prefix prefixes.new.entries (then_announced now (prefixes_in (options_left options.entry)) history) }
+    ensures recollects { Recollects choice.old choice.new (AsStanding now prefixes.old.entries prefixes.new.entries) }
     ensures redirects { choice.new.redirects ≡ choice.old.redirects }
+    ensures limit { prefixes.new.limit ≡ prefixes.old.limit }
 {
     let refreshes = prefixes.take_ra(now, options);
     keep_if(choice, refreshes);

@@ -1,11 +1,13 @@
 //! What only a router has: its advertising and its static routes. The definitions are in `specs/RouterTables.antt`.
 
-ghost use Rattle.std.specs.Prelude.{◌≡◌, ◌≢◌, ◌<◌, List, [], None, Ok, Some, IfOk, IfSome, is_some, option_map, true, false};
+ghost use Rattle.std.specs.Prelude.{◌≡◌, ◌≢◌, ◌≤◌, ◌<◌, List, [], None, Ok, Some, IfOk, IfSome, is_some, option_map, true, false};
 ghost use Rattle.nd_addr.specs.Number.{number_of};
 ghost use Rattle.nd_table.specs.Moment.{IsMoment};
 ghost use Rattle.nd_advertiser.specs.Calls.{settings_in};
 ghost use Rattle.nd_advertiser.specs.Contents.{contents_of, last_contents_of};
 ghost use Rattle.nd_advertiser.specs.History.{Row};
+ghost use Rattle.nd_advertiser.specs.Offers.{max_offers};
+ghost use Rattle.nd_forwarding.specs.Routes.{max_routes};
 ghost use Rattle.nd_advertiser.specs.Overdue.{IsAfter};
 ghost use Rattle.nd_advertiser.specs.Table as advertising;
 ghost use Rattle.nd_compose.specs.Frames.{router_advertisement_frame};
@@ -36,15 +38,19 @@ pub struct RouterTables<A: Allocator> {
 }
 
 impl<A: Allocator + Copy> RouterTables<A> {
-    /// Returns the tables of an interface that doesn't advertise and has no routes, with room for the most prefixes and routes. Returns an error if
-    /// out of memory.
-    pub fn new(alloc: A) -> Result<Self, AllocError>
-        ensures advertiser { IfOk result (λ tables. tables.advertiser ≡ record { assigned = None; last = None; advertising = None; offers = [] }) }
-        ensures routes { IfOk result (λ tables. tables.routes ≡ record { entries = []; redirected = None }) }
+    /// Returns the tables of an interface that doesn't advertise and has no routes, with room for so many prefixes, 1 to 16, and routes, 1 to 64.
+    /// Returns an error if out of memory.
+    pub fn new(alloc: A, offers: usize, routes: usize) -> Result<Self, AllocError>
+        requires least_offers { 1 ≤ offers }
+        requires most_offers { offers ≤ max_offers }
+        requires least_routes { 1 ≤ routes }
+        requires most_routes { routes ≤ max_routes }
+        ensures advertiser { IfOk result (λ tables. tables.advertiser ≡ record { assigned = None; last = None; advertising = None; limit = offers; offers = [] }) }
+        ensures routes { IfOk result (λ tables. tables.routes ≡ record { limit = routes; entries = []; redirected = None }) }
     {
         Ok(RouterTables {
-            advertiser: Advertiser::new(alloc)?,
-            routes: Routes::new(alloc)?,
+            advertiser: Advertiser::new(alloc, offers)?,
+            routes: Routes::new(alloc, routes)?,
         })
     }
 }

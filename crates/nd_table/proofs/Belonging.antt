@@ -1,11 +1,11 @@
 -- The block where a date belongs, and what becomes of all dates where it is changed.
-use Rattle.std.proofs.Common.{◌≡◌, ℕ, ◌+◌, ◌-◌, ◌*◌, ◌/◌, ◌^◌, ◌<◌, ◌≤◌, eqb, ltb, List, [], ◌∷◌, ◌++◌, length, get_or, set, take, drop, Some, None, refl, sym, ◌∙◌, ap, subst, arith, suc, zero, inl, inr}
-use Rattle.std.specs.Prelude.{slice_get}
+use Rattle.std.proofs.Common.{◌≡◌, ℕ, ◌+◌, ◌-◌, ◌*◌, ◌/◌, ◌^◌, ◌<◌, ◌≤◌, eqb, ltb, List, [], ◌∷◌, ◌++◌, length, get_or, set, take, drop, Some, None, refl, sym, ◌∙◌, ap, subst, arith, suc, zero, inl, inr, length-append}
+use Rattle.std.specs.Prelude.{max, slice_get}
 use Rattle.std.proofs.lemmas.Bool.{cases_Bool, cond-true, cond-false, cases_lt}
 use Rattle.std.proofs.lemmas.Bool.Decides.{nat_tests}
 use Rattle.std.proofs.lemmas.Option.{slice_get-get_or}
 use Rattle.std.proofs.lemmas.List.{get_or_default, take-set, drop-set-lt, length-set}
-use Rattle.nd_table.specs.declared.date.Date.{Date}
+use Rattle.nd_table.specs.Date.{Date}
 use Rattle.nd_table.specs.declared.block.TheConstants.{BLOCK}
 use Rattle.nd_table.specs.Keyed.{at_key, AllAbove, Rises}
 use Rattle.nd_table.specs.KeyedKept.{place_of}
@@ -246,6 +246,12 @@ belongs_before k n place bs kept r at absent is =
       ]
     ]
 
+-- all dates are as many as those of one block at least
+within : (n : ℕ) (bs : List (List Date)) (x : List Date) → n < length bs → length x ≤ length (all_of (set bs n x))
+within n [] x lt = absurd (omega arith)
+within zero (b ∷ bs) x lt = omega (arith, length-append x (all_of bs))
+within (suc n) (b ∷ bs) x lt = omega (arith, within n bs x (omega arith), length-append b (all_of (set bs n x)))
+
 -- one block, as it is found, and the blocks once it has been changed
 module _ (at : ℕ) (bs inside : List (List Date)) (b : List Date) (lt : at < length bs) (same : inside ≡ bs) (is : b ≡ get_or inside at b) where
   in_place : get_or bs at b ≡ b
@@ -293,10 +299,10 @@ module _ (at : ℕ) (bs inside : List (List Date)) (b : List Date) (lt : at < le
       put_filled h = Filled-set at bs x b (omega (arith, longer, ap (length {A = Date}) in_place)) h
 
       -- a block is to spare, however full they are
-      pub put_spare : (spare : ℕ) → BelongsAt (rank d) bs at → Filled bs → length (all_of bs) + 1 < BLOCK * ((length bs + spare) / 2) → 0 < spare
-      put_spare spare here h room =
+      pub put_spare : (spare : ℕ) → BelongsAt (rank d) bs at → Filled bs → length x ≡ BLOCK → length (all_of bs) + 1 < BLOCK * max 1 ((length bs + spare) / 2) → 0 < spare
+      put_spare spare here h full room =
           let e : length (all_of (set bs at x)) ≡ length (all_of bs) + 1 = ap (length {A = Date}) (ap all_of (sym set_is) ∙ put_dates here) ∙ length-put d (all_of bs) in
-          omega (arith, room, e, enough (set bs at x) (put_filled h), length-set bs at x)
+          omega (arith, room, e, full, within at bs x lt, enough (set bs at x) (put_filled h), length-set bs at x)
 
       pub put_kept : length x < BLOCK → Kept bs → Kept (set inside at x)
       put_kept short kept = subst Kept (sym set_is) (record {

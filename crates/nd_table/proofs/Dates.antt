@@ -6,7 +6,7 @@ use Rattle.std.proofs.lemmas.Bool.Decides.{nat_tests}
 use Rattle.std.proofs.lemmas.Bool.{cond-true, cond-false, eqb-true, eq-eqb, ne_eqb, true≢false, cases_Bool, cases_eq, or_cases, or_left}
 use Rattle.std.proofs.lemmas.Option.{slice_get-get_or}
 use Rattle.std.proofs.lemmas.List.Edits.{length-insert}
-use Rattle.nd_table.specs.declared.date.Date.{Date}
+use Rattle.nd_table.specs.Date.{Date}
 use Rattle.nd_table.specs.Keyed.{at_key, AllAbove, Rises}
 use Rattle.nd_table.specs.KeyedKept.{Unique, place_of}
 use Rattle.nd_table.specs.DueKept.{is_at, least_date, first_at, NotBefore}

@@ -1,7 +1,7 @@
 -- Blocks of which one is changed, split in two, or joined with the next.
 use Rattle.std.proofs.Common.{◌≡◌, ℕ, ◌+◌, ◌-◌, ◌*◌, ◌/◌, ◌<◌, ◌≤◌, List, [], ◌∷◌, ◌++◌, length, get_or, set, take, drop, refl, sym, ◌∙◌, ap, subst, arith, suc, zero, append_assoc, length-append, add-one}
 use Rattle.std.specs.List.{insert, remove}
-use Rattle.nd_table.specs.declared.date.Date.{Date}
+use Rattle.nd_table.specs.Date.{Date}
 use Rattle.nd_table.specs.declared.block.TheConstants.{BLOCK}
 use Rattle.nd_table.specs.Blocks.{all_of, AllShort, FillsWith, Filled}
 

@@ -3,7 +3,7 @@ use Rattle.std.proofs.Common.{◌≡◌, ℕ, ◌<◌, cond, eqb, List, length, 
 use Rattle.std.specs.Prelude.{option_and_then}
 use Rattle.std.specs.List.{remove}
 use Rattle.std.proofs.lemmas.Bool.{cond-true, cond-false, ne_eqb, eq-eqb, cases_eq}
-use Rattle.nd_table.specs.declared.date.Date.{Date}
+use Rattle.nd_table.specs.Date.{Date}
 use Rattle.nd_table.specs.Keyed.{at_key, Rises}
 use Rattle.nd_table.specs.DueKept.{is_at}
 use Rattle.nd_table.specs.Dates.{has, date_at, AreDates, Redated}

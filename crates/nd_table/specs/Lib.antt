@@ -5,6 +5,7 @@ pub mod KeyedKept
 pub mod Due
 pub mod DueKept
 pub mod Ends
+pub mod Date
 pub mod Dates
 pub mod Blocks
 pub mod Announcements

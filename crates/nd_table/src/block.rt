@@ -9,6 +9,7 @@ use crate::binary_search::search;
 use crate::date::Date;
 use crate::probes::Uncounted;
 use crate::ranked::Ranked;
+use nd_addr::Addr;
 use std::alloc::{AllocError, Allocator};
 use std::cmp::Ordering;
 use std::marker::Model;
@@ -24,7 +25,7 @@ pub struct Block<A: Allocator> {
 
 impl<A: Allocator> Model for Block<A> {
     ghost use Rattle.std.specs.Prelude.{List, ◌≤◌, vec_capacity};
-    ghost use Rattle.nd_table.specs.declared.date.Date.{Date};
+    ghost use Rattle.nd_table.specs.Date.{Date};
     ghost use Rattle.nd_table.specs.declared.block.TheConstants.{BLOCK};
 
     ghost Value = { List Date };
@@ -150,11 +151,7 @@ impl<A: Allocator> Ranked<Date> for Block<A> {
     fn compare(&self, sought: &Date) -> Ordering {
         match self.dates.first() {
             Some(first) => first.compare(sought),
-            None => Date {
-                moment: 0,
-                number: 0,
-            }
-            .compare(sought),
+            None => Date::new(0, Addr([0; 16])).compare(sought),
         }
     }
 }

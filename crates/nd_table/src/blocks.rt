@@ -39,7 +39,11 @@ impl<A: Allocator + Clone> Blocks<A> {
         ensures none { IfOk result (λ blocks. blocks.blocks ≡ [] ∷ []) }
         ensures room { IfOk result (λ blocks. EnoughFor room blocks) }
     {
-        let count = room / BLOCK * 2 + 1;
+        let count = if room < BLOCK {
+            0
+        } else {
+            room / BLOCK * 2 + 1
+        };
         let mut used = Vec::with_capacity(alloc.clone()?, count + 1)?;
         let mut spare = Vec::with_capacity(alloc.clone()?, count + 1)?;
         for _ in 0..count {

@@ -53,7 +53,7 @@ impl<A: Allocator> Schedule<A> {
         ensures addresses { AllAddresses self.now.dates }
     {
         match self.blocks.front().first() {
-            Some(date) => Some(date.moment),
+            Some(date) => Some(date.moment()),
             None => None,
         }
     }
@@ -123,7 +123,7 @@ fn first_due(dates: &[Date], now: u64) -> Option<Addr>
     ensures none { IfNone result (first_moment dates.now ≢ Some now) }
 {
     match dates.first() {
-        Some(date) if date.moment == now => Some(date.addr()),
+        Some(date) if date.moment() == now => Some(date.addr()),
         _ => None,
     }
 }

@@ -1,5 +1,5 @@
 -- What the words of the command line ask for, and which of them are wrong, by the grammar of `clap`.
-use Rattle.std.specs.Prelude.{◌≡◌, ◌≢◌, ◌∷◌, ℕ, true, List, [], Option, Some, None, codes, map, option_map, IsSomeAnd, bytes_eq, if◌then◌else◌}
+use Rattle.std.specs.Prelude.{◌≡◌, ◌≢◌, ◌∷◌, ℕ, true, List, [], Option, Some, None, MatchOption, codes, map, option_map, IsSomeAnd, bytes_eq, slice_get, take, if◌then◌else◌}
 use Rattle.std.specs.Option.{option_map_or}
 use Rattle.std.specs.Borrow.{Bor}
 use Rattle.clap.specs.Words.{App, Row, Rule, new_app, new_rule, with_rule, with_subcommand, first_of, subcommand_of, fault_of, Kinds, IsAmong, kind_of}
@@ -13,6 +13,15 @@ use Rattle.nd_addr.specs.declared.role.Role.{Role}
 use Rattle.nd_addr.specs.declared.role.Role.TheVariants.{Host, Router}
 use Rattle.nd_neighbour.specs.TableKept.{max_neighbours}
 use Rattle.nd_routers.specs.Routers.{max_routers}
+use Rattle.nd_routers.specs.OnLinkPrefixes.{max_prefixes}
+use Rattle.nd_slaac.specs.Room.{max_addresses}
+use Rattle.nd_dns.specs.Dns.{max_names, max_servers}
+use Rattle.nd_nexthop.specs.History.{max_redirects}
+use Rattle.nd_nexthop.specs.Memo.{max_remembered}
+use Rattle.nd_advertiser.specs.Offers.{max_offers}
+use Rattle.nd_forwarding.specs.Routes.{max_routes}
+use Rattle.nd_packet.specs.Waiting.{max_waiting}
+use Rattle.nd_chronicle.specs.Start.{Limits}
 use Rattle.ndpctl_run.specs.Number.{IsCountWord}
 use Rattle.ndpctl_run.specs.Source.{IsSource}
 use Rattle.ndpctl_run.specs.Transmits.{IsTransmitsWord}
@@ -45,18 +54,22 @@ draws_option = option_with_default (codes "draws") (codes "seed:0")
 abbrev pub transmits_option : Rule
 transmits_option = option_with_default (codes "transmits") (codes "1")
 
-abbrev pub neighbours_option : Rule
-neighbours_option = option_with_default (codes "neighbours") (codes "512")
+-- the options that say how many rows each table of the node has at most, with the usual limits (`usual_limits`) as their defaults
+abbrev pub with_limit : App → List ℕ → List ℕ → App
+with_limit app name default = with_rule app (option_with_default name default)
 
-abbrev pub routers_option : Rule
-routers_option = option_with_default (codes "routers") (codes "16")
+abbrev pub with_limits : App → App
+with_limits app =
+    let lists = with_limit (with_limit (with_limit app (codes "neighbours") (codes "512")) (codes "routers") (codes "16")) (codes "prefixes") (codes "64") in
+    let names = with_limit (with_limit (with_limit lists (codes "addresses") (codes "64")) (codes "servers") (codes "32")) (codes "names") (codes "32") in
+    let hops = with_limit (with_limit names (codes "redirects") (codes "64")) (codes "destinations") (codes "256") in
+    with_limit (with_limit (with_limit hops (codes "offers") (codes "16")) (codes "routes") (codes "64")) (codes "waiting") (codes "3")
 
--- `run` takes `--role`, one of these names, and `--mac`, both of which are required, and `--draws`, `--transmits`, `--neighbours` and `--routers`, which
--- have defaults
+-- `run` takes `--role`, one of these names, and `--mac`, both of which are required, and `--draws`, `--transmits` and the limits, which have defaults
 abbrev pub the_run : NameList → App
 the_run roles =
     let required = with_rule (with_rule (new_app (codes "run")) (role_option roles)) mac_option in
-    with_rule (with_rule (with_rule (with_rule required draws_option) transmits_option) neighbours_option) routers_option
+    with_limits (with_rule (with_rule required draws_option) transmits_option)
 
 abbrev pub wire_option : NameList → Rule
 wire_option wires = record (option_with_default (codes "wire") (codes "memory")) { parser = Some (parsers.Names wires) }
@@ -116,12 +129,26 @@ GivesTransmits given transmits = IsSomeAnd (first_of (codes "transmits") given) 
 abbrev pub GivesCount : List ℕ → ℕ → List Row → ℕ → Type 0
 GivesCount name most given number = IsSomeAnd (first_of name given) (λ text. IsCountWord most text number)
 
--- the value of `--neighbours` is the number, and that of `--routers`
-abbrev pub GivesNeighbours : List Row → ℕ → Type 0
-GivesNeighbours = GivesCount (codes "neighbours") max_neighbours
+-- the options that say limits, each with the greatest number, in the order in which their values are judged
+abbrev pub LimitOption : Type 0
+LimitOption = List ℕ × ℕ
 
-abbrev pub GivesRouters : List Row → ℕ → Type 0
-GivesRouters = GivesCount (codes "routers") max_routers
+abbrev pub limit_options : List LimitOption
+limit_options =
+    (codes "neighbours", max_neighbours) ∷ (codes "routers", max_routers) ∷ (codes "prefixes", max_prefixes) ∷ (codes "addresses", max_addresses)
+    ∷ (codes "servers", max_servers) ∷ (codes "names", max_names) ∷ (codes "redirects", max_redirects) ∷ (codes "destinations", max_remembered)
+    ∷ (codes "offers", max_offers) ∷ (codes "routes", max_routes) ∷ (codes "waiting", max_waiting) ∷ []
+
+-- the value of each of these options is this number
+abbrev pub GiveCounts : List Row → List LimitOption → List ℕ → Type 0
+GiveCounts given [] [] = Unit {0}
+GiveCounts given (o ∷ options) (n ∷ numbers) = GivesCount o.0 o.1 given n × GiveCounts given options numbers
+GiveCounts given _ _ = ⊥
+
+-- the limits, in the order of their options
+abbrev pub numbers_of : Limits → List ℕ
+numbers_of l =
+    l.neighbours ∷ l.routers ∷ l.prefixes ∷ l.addresses ∷ l.servers ∷ l.names ∷ l.redirects ∷ l.destinations ∷ l.offers ∷ l.routes ∷ l.waiting ∷ []
 
 -- what the values of the options of `run` ask for
 pub record GivesRun (given : List Row) (options : RunOptions Source) : Type 0 where
@@ -129,8 +156,7 @@ pub record GivesRun (given : List Row) (options : RunOptions Source) : Type 0 wh
   pub mac_is : GivesMac given options.mac.0
   pub source_is : GivesDraws given options.generator
   pub transmits_is : GivesTransmits given options.transmits
-  pub neighbours_is : GivesNeighbours given options.limits.neighbours
-  pub routers_is : GivesRouters given options.limits.routers
+  pub limits_are : GiveCounts given limit_options (numbers_of options.limits)
 
 -- no address is spelled
 abbrev pub MacIsBad : List Row → Type 0
@@ -150,27 +176,38 @@ pub record TransmitsAreBad (given : List Row) : Type 0 where
   pub source_is : GivesDraws given source
   pub none : (transmits : ℕ) → GivesTransmits given transmits → ⊥
 
--- the values before `--neighbours` are good, and its own is no number in its range
-pub record NeighboursAreBad (given : List Row) : Type 0 where
-  pub mac : Mac
-  pub mac_is : GivesMac given mac.0
-  pub source : Source
-  pub source_is : GivesDraws given source
-  pub transmits : ℕ
-  pub transmits_is : GivesTransmits given transmits
-  pub none : (neighbours : ℕ) → GivesNeighbours given neighbours → ⊥
+-- So many limits have good values, and that of the next one is no number in its range.
+pub record LimitIsBad (count : ℕ) (given : List Row) : Type 0 where
+  pub numbers : List ℕ
+  pub good : GiveCounts given (take count limit_options) numbers
+  pub bad : LimitOption
+  pub next : slice_get limit_options count ≡ Some bad
+  pub none : (number : ℕ) → GivesCount bad.0 bad.1 given number → ⊥
 
--- the values before `--routers` are good, and its own is no number in its range
-pub record RoutersAreBad (given : List Row) : Type 0 where
+-- the values before the limits are good, and one of these, behind so many others, isn't
+pub record LimitsAreBad (count : ℕ) (given : List Row) : Type 0 where
   pub mac : Mac
   pub mac_is : GivesMac given mac.0
   pub source : Source
   pub source_is : GivesDraws given source
   pub transmits : ℕ
   pub transmits_is : GivesTransmits given transmits
-  pub neighbours : ℕ
-  pub neighbours_is : GivesNeighbours given neighbours
-  pub none : (routers : ℕ) → GivesRouters given routers → ⊥
+  pub limit : LimitIsBad count given
+
+-- the place of a limit among them, where its value is refused
+abbrev pub place_of : Refused → Option ℕ
+place_of refused.Neighbours = Some 0
+place_of refused.Routers = Some 1
+place_of refused.Prefixes = Some 2
+place_of refused.Addresses = Some 3
+place_of refused.Servers = Some 4
+place_of refused.Names = Some 5
+place_of refused.Redirects = Some 6
+place_of refused.Destinations = Some 7
+place_of refused.Offers = Some 8
+place_of refused.Routes = Some 9
+place_of refused.Waiting = Some 10
+place_of _ = None
 
 -- what `read_run` makes of the values of the options of `run`
 abbrev pub GivesAsked : List Row → Asked → Type 0
@@ -182,9 +219,9 @@ abbrev pub RefusesGiven : List Row → Refused → Type 0
 RefusesGiven given refused.Mac = MacIsBad given
 RefusesGiven given refused.Draws = DrawsAreBad given
 RefusesGiven given refused.Transmits = TransmitsAreBad given
-RefusesGiven given refused.Neighbours = NeighboursAreBad given
-RefusesGiven given refused.Routers = RoutersAreBad given
-RefusesGiven given _ = ⊥
+RefusesGiven given (refused.Told error) = ⊥
+RefusesGiven given refused.Memory = ⊥
+RefusesGiven given limit = MatchOption (place_of limit) ⊥ (λ place. LimitsAreBad place given)
 
 -- right words ask for this
 abbrev pub AsksFor : Names → List (List ℕ) → Asked → Type 0
@@ -214,6 +251,5 @@ Refuses words (refused.Told error) = (names : Names) × IsFault names words (kin
 Refuses words refused.Mac = (names : Names) × IsBadRun names words MacIsBad
 Refuses words refused.Draws = (names : Names) × IsBadRun names words DrawsAreBad
 Refuses words refused.Transmits = (names : Names) × IsBadRun names words TransmitsAreBad
-Refuses words refused.Neighbours = (names : Names) × IsBadRun names words NeighboursAreBad
-Refuses words refused.Routers = (names : Names) × IsBadRun names words RoutersAreBad
 Refuses words refused.Memory = Unit {0}
+Refuses words limit = MatchOption (place_of limit) ⊥ (λ place. (names : Names) × IsBadRun names words (LimitsAreBad place))

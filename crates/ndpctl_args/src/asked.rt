@@ -44,6 +44,24 @@ pub enum Refused {
     Neighbours,
     /// The value of `--routers` is no number from 1 to 64.
     Routers,
+    /// The value of `--prefixes` is no number from 1 to 64.
+    Prefixes,
+    /// The value of `--addresses` is no number from 1 to 64.
+    Addresses,
+    /// The value of `--servers` is no number from 1 to 32.
+    Servers,
+    /// The value of `--names` is no number from 1 to 32.
+    Names,
+    /// The value of `--redirects` is no number from 1 to 64.
+    Redirects,
+    /// The value of `--destinations` is no number from 1 to 256.
+    Destinations,
+    /// The value of `--offers` is no number from 1 to 16.
+    Offers,
+    /// The value of `--routes` is no number from 1 to 64.
+    Routes,
+    /// The value of `--waiting` is no number from 1 to 8.
+    Waiting,
     /// Out of memory.
     Memory,
 }

@@ -1,9 +1,9 @@
 //! The command with its subcommands and their options, as `clap` reads them.
 
 ghost use Rattle.std.specs.Prelude.{◌≡◌, false, IfOk};
-ghost use Rattle.clap.specs.Words.{app_of, rule_of};
+ghost use Rattle.clap.specs.Words.{app_of, rule_of, with_rule};
 ghost use Rattle.clap.specs.declared.builder.command.Command.TheViews.{out-Command};
-ghost use Rattle.ndpctl_args.specs.CommandLine.{option_with_default, the_command, the_link, the_run};
+ghost use Rattle.ndpctl_args.specs.CommandLine.{option_with_default, the_command, the_link, the_run, with_limits};
 
 use clap::{Arg, Command};
 use nd_node::VERSION;
@@ -33,12 +33,6 @@ const DEFAULT_DRAWS: &str = "seed:0";
 
 /// The default of `--transmits`.
 const DEFAULT_TRANSMITS: &str = "1";
-
-/// The default of `--neighbours`, as in `Limits::usual`.
-const DEFAULT_NEIGHBOURS: &str = "512";
-
-/// The default of `--routers`, as in `Limits::usual`.
-const DEFAULT_ROUTERS: &str = "16";
 
 /// Returns the option `--name`, whose value is `default` if the words don't give one. `help` is its text in the help.
 fn defaulted<'a>(alloc: Global, name: &'a str, default: &'a str, help: &'a str) -> Arg<'a>
@@ -77,28 +71,58 @@ fn run_command<'a>(alloc: Global, roles: &'a [&'a str]) -> Result<Command<'a>, A
         DEFAULT_TRANSMITS,
         "How many solicitations it sends for an address, 1 to 8",
     );
-    let neighbours = defaulted(
-        alloc,
-        "neighbours",
-        DEFAULT_NEIGHBOURS,
-        "How many neighbours it keeps at most, 1 to 2048",
-    );
-    let routers = defaulted(
-        alloc,
-        "routers",
-        DEFAULT_ROUTERS,
-        "How many default routers it keeps at most, 1 to 64",
-    );
-    Command::new(alloc, "run")
+    let command = Command::new(alloc, "run")
         .about(
             "Reads an event with its moment a line, and writes what one host or router sends and reports",
         )
         .arg(role)?
         .arg(mac)?
         .arg(draws)?
-        .arg(transmits)?
-        .arg(neighbours)?
-        .arg(routers)
+        .arg(transmits)?;
+    with_limits(alloc, command)
+}
+
+/// Returns the command with an option more: `--name`, whose value is `default`, a limit as in `Limits::usual`, if the words don't give one.
+fn with_limit<'a>(
+    alloc: Global,
+    command: Command<'a>,
+    name: &'a str,
+    default: &'a str,
+    help: &'a str,
+) -> Result<Command<'a>, AllocError>
+    ensures shape { IfOk result (λ more. app_of more ≡ with_rule (app_of command.entry) (option_with_default name.entry.now default.entry.now)) }
+    ensures local { (out-Command command.entry).has_globals ≡ false → IfOk result (λ more. (out-Command more).has_globals ≡ false) }
+{
+    command.arg(defaulted(alloc, name, default, help))
+}
+
+/// Returns the command with the options that say how many rows each table of the node has at most.
+fn with_limits<'a>(alloc: Global, command: Command<'a>) -> Result<Command<'a>, AllocError>
+    ensures shape { IfOk result (λ more. app_of more ≡ with_limits (app_of command.entry)) }
+    ensures local { (out-Command command.entry).has_globals ≡ false → IfOk result (λ more. (out-Command more).has_globals ≡ false) }
+{
+    let help = "How many neighbours it keeps at most, 1 to 2048";
+    let command = with_limit(alloc, command, "neighbours", "512", help)?;
+    let help = "How many default routers it keeps at most, 1 to 64";
+    let command = with_limit(alloc, command, "routers", "16", help)?;
+    let help = "How many prefixes on the link it keeps at most, 1 to 64";
+    let command = with_limit(alloc, command, "prefixes", "64", help)?;
+    let help = "How many addresses of its own it has at most, the link-local one included, 1 to 64";
+    let command = with_limit(alloc, command, "addresses", "64", help)?;
+    let help = "How many DNS servers it keeps at most, 1 to 32";
+    let command = with_limit(alloc, command, "servers", "32", help)?;
+    let help = "How many DNS search names it keeps at most, 1 to 32";
+    let command = with_limit(alloc, command, "names", "32", help)?;
+    let help = "Of how many destinations it keeps the redirects at most, 1 to 64";
+    let command = with_limit(alloc, command, "redirects", "64", help)?;
+    let help = "Of how many destinations it remembers the next hops at most, 1 to 256";
+    let command = with_limit(alloc, command, "destinations", "256", help)?;
+    let help = "How many prefixes it advertises at most, 1 to 16";
+    let command = with_limit(alloc, command, "offers", "16", help)?;
+    let help = "How many static routes it has at most, 1 to 64";
+    let command = with_limit(alloc, command, "routes", "64", help)?;
+    let help = "How many packets wait for one neighbour at most, 1 to 8";
+    with_limit(alloc, command, "waiting", "3", help)
 }
 
 /// Returns the subcommand `link` with its option. `wires` are the values of `--wire`.

@@ -1,20 +1,25 @@
 //! The values of the options of `run` and `link`, read.
 
-ghost use Rattle.std.specs.Prelude.{◌≡◌, ℕ, codes, IfErr, IfNone, IfOk, IfSome};
+ghost use Rattle.std.specs.Prelude.{◌≡◌, ◌≤◌, ℕ, Some, MatchOption, codes, is_some, true, IfErr, IfNone, IfOk, IfSome};
 ghost use Rattle.clap.specs.Words.{first_of, found_of, rows_of};
 ghost use Rattle.nd_random.specs.declared.source.Source.{Source};
 ghost use Rattle.ndpctl_args.specs.CommandLine.{GivesAsked, RefusesGiven, carrier_named, role_named};
-ghost use Rattle.ndpctl_args.specs.CommandLine.{GivesCount, GivesDraws, GivesMac, GivesTransmits, MacIsBad};
+ghost use Rattle.ndpctl_args.specs.CommandLine.{GiveCounts, GivesCount, GivesDraws, GivesMac, GivesTransmits, LimitIsBad, MacIsBad, limit_options, numbers_of, place_of};
 
 use crate::asked::{Asked, Carrier, Refused};
 use crate::command::{ROUTER, UDP};
 use clap::ArgMatches;
 use nd_addr::{Mac, Role};
+use nd_advertiser::MAX_OFFERS;
+use nd_dns::{MAX_NAMES, MAX_SERVERS};
+use nd_forwarding::MAX_ROUTES;
 use nd_neighbour::MAX_NEIGHBOURS;
+use nd_nexthop::{MAX_REDIRECTS, MAX_REMEMBERED};
 use nd_node::Limits;
+use nd_packet::MAX_WAITING;
 use nd_random::Source;
-use nd_routers::MAX_ROUTERS;
-use nd_slaac::Transmits;
+use nd_routers::{MAX_PREFIXES, MAX_ROUTERS};
+use nd_slaac::{MAX_ADDRESSES, Transmits};
 use ndpctl_run::{RunOptions, read_count, read_source, read_transmits};
 
 /// Returns the role that the value of `--role` names. `clap` accepts no other values.
@@ -63,10 +68,70 @@ fn given_transmits(given: &ArgMatches<'_>) -> Option<Transmits>
 /// Returns the value of the option `name` if it is a number from 1 to `most`.
 fn given_count(given: &ArgMatches<'_>, name: &str, most: u64) -> Option<u64>
     ensures found { IfSome result (λ n. GivesCount name.now most (rows_of (found_of given.now)) n) }
+    ensures range { IfSome result (λ n. (1 ≤ n) × (n ≤ most)) }
     ensures none { IfNone result ((n : ℕ) → GivesCount name.now most (rows_of (found_of given.now)) n → ⊥) }
 {
     let word = given.get_str(name)?;
     read_count(word.as_bytes(), most)
+}
+
+/// Returns the value of the option `name` if it is a number from 1 to `most`, and else `refused`.
+fn given_limit(
+    given: &ArgMatches<'_>,
+    name: &str,
+    most: usize,
+    refused: Refused,
+) -> Result<u16, Refused>
+    requires { most ≤ 65535 }
+    ensures found { IfOk result (λ n. GivesCount name.now most (rows_of (found_of given.now)) n) }
+    ensures range { IfOk result (λ n. (1 ≤ n) × (n ≤ most)) }
+    ensures wrong { IfErr result (λ why. (why ≡ refused) × ((n : ℕ) → GivesCount name.now most (rows_of (found_of given.now)) n → ⊥)) }
+{
+    match given_count(given, name, most as u64) {
+        Some(number) => Ok(number as u16),
+        None => Err(refused),
+    }
+}
+
+/// Returns the limits that a call gave.
+fn chosen(limits: Option<Limits>) -> Limits
+    requires { is_some limits ≡ true }
+    ensures { limits ≡ Some result }
+{
+    match limits {
+        Some(limits) => limits,
+        None => unreachable!(),
+    }
+}
+
+/// Returns the limits that the values of their options say, or the first bad value in the order of `Refused`.
+fn read_limits(given: &ArgMatches<'_>) -> Result<Limits, Refused>
+    ensures right { IfOk result (λ limits. GiveCounts (rows_of (found_of given.now)) limit_options (numbers_of limits)) }
+    ensures wrong { IfErr result (λ why. MatchOption (place_of why) ⊥ (λ place. LimitIsBad place (rows_of (found_of given.now)))) }
+{
+    let limits = Limits::usual();
+    let neighbours = given_limit(given, "neighbours", MAX_NEIGHBOURS, Refused::Neighbours)?;
+    let limits = chosen(limits.with_neighbours(neighbours));
+    let routers = given_limit(given, "routers", MAX_ROUTERS, Refused::Routers)?;
+    let limits = chosen(limits.with_routers(routers));
+    let prefixes = given_limit(given, "prefixes", MAX_PREFIXES, Refused::Prefixes)?;
+    let limits = chosen(limits.with_prefixes(prefixes));
+    let addresses = given_limit(given, "addresses", MAX_ADDRESSES, Refused::Addresses)?;
+    let limits = chosen(limits.with_addresses(addresses));
+    let servers = given_limit(given, "servers", MAX_SERVERS, Refused::Servers)?;
+    let limits = chosen(limits.with_servers(servers));
+    let names = given_limit(given, "names", MAX_NAMES, Refused::Names)?;
+    let limits = chosen(limits.with_names(names));
+    let redirects = given_limit(given, "redirects", MAX_REDIRECTS, Refused::Redirects)?;
+    let limits = chosen(limits.with_redirects(redirects));
+    let destinations = given_limit(given, "destinations", MAX_REMEMBERED, Refused::Destinations)?;
+    let limits = chosen(limits.with_destinations(destinations));
+    let offers = given_limit(given, "offers", MAX_OFFERS, Refused::Offers)?;
+    let limits = chosen(limits.with_offers(offers));
+    let routes = given_limit(given, "routes", MAX_ROUTES, Refused::Routes)?;
+    let limits = chosen(limits.with_routes(routes));
+    let waiting = given_limit(given, "waiting", MAX_WAITING, Refused::Waiting)?;
+    Ok(chosen(limits.with_waiting(waiting)))
 }
 
 /// Returns the run that the values of the options ask for, or the first bad value in the order of `Refused`.
@@ -83,15 +148,7 @@ pub(crate) fn read_run(given: &ArgMatches<'_>) -> Result<Asked, Refused>
     let Some(transmits) = given_transmits(given) else {
         return Err(Refused::Transmits);
     };
-    let Some(neighbours) = given_count(given, "neighbours", MAX_NEIGHBOURS as u64) else {
-        return Err(Refused::Neighbours);
-    };
-    let Some(routers) = given_count(given, "routers", MAX_ROUTERS as u64) else {
-        return Err(Refused::Routers);
-    };
-    let Some(limits) = Limits::new(neighbours as u16, routers as u8) else {
-        unreachable!()
-    };
+    let limits = read_limits(given)?;
     Ok(Asked::Run(RunOptions {
         role: read_role(given),
         mac,

@@ -11,7 +11,7 @@ use Rattle.nd_lines.specs.ToolFault.{status_of}
 use Rattle.nd_lines.specs.declared.tool_fault.ToolFault.{ToolFault}
 use Rattle.nd_lines.specs.declared.tool_fault.ToolFault.TheVariants as faults
 use Rattle.ndpctl_args.specs.declared.asked.Refused.{Refused}
-use Rattle.ndpctl_args.specs.declared.asked.Refused.TheVariants.{Told, Mac, Draws, Transmits, Neighbours, Routers, Memory}
+use Rattle.ndpctl_args.specs.declared.asked.Refused.TheVariants.{Told, Memory}
 use Rattle.ndpctl_tool.specs.declared.ending.Ending.{Ending}
 use Rattle.ndpctl_tool.specs.declared.ending.Ending.TheVariants as endings
 
@@ -29,12 +29,8 @@ status_of_words k = 2
 -- that of the words, 2 for a bad value, or that of running out of memory
 abbrev pub status_of_refusal : Refused → ℕ
 status_of_refusal (Told error) = status_of_words (kind_of error)
-status_of_refusal Mac = 2
-status_of_refusal Draws = 2
-status_of_refusal Transmits = 2
-status_of_refusal Neighbours = 2
-status_of_refusal Routers = 2
 status_of_refusal Memory = status_of faults.Memory
+status_of_refusal bad = 2
 
 -- 2 where a word is no UTF-8
 abbrev pub status_of_kind : ErrorKind → ℕ

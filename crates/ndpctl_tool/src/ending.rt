@@ -84,7 +84,16 @@ fn status_of_refused(refused: &Refused) -> u8
         | Refused::Draws
         | Refused::Transmits
         | Refused::Neighbours
-        | Refused::Routers => BAD_COMMAND_LINE,
+        | Refused::Routers
+        | Refused::Prefixes
+        | Refused::Addresses
+        | Refused::Servers
+        | Refused::Names
+        | Refused::Redirects
+        | Refused::Destinations
+        | Refused::Offers
+        | Refused::Routes
+        | Refused::Waiting => BAD_COMMAND_LINE,
         Refused::Memory => ToolFault::Memory.status(),
     }
 }
@@ -100,6 +109,15 @@ impl fmt::Display for Ending {
             Ending::Refused(Refused::Transmits) => f.write_str("ndpctl: bad transmits\n"),
             Ending::Refused(Refused::Neighbours) => f.write_str("ndpctl: bad neighbours\n"),
             Ending::Refused(Refused::Routers) => f.write_str("ndpctl: bad routers\n"),
+            Ending::Refused(Refused::Prefixes) => f.write_str("ndpctl: bad prefixes\n"),
+            Ending::Refused(Refused::Addresses) => f.write_str("ndpctl: bad addresses\n"),
+            Ending::Refused(Refused::Servers) => f.write_str("ndpctl: bad servers\n"),
+            Ending::Refused(Refused::Names) => f.write_str("ndpctl: bad names\n"),
+            Ending::Refused(Refused::Redirects) => f.write_str("ndpctl: bad redirects\n"),
+            Ending::Refused(Refused::Destinations) => f.write_str("ndpctl: bad destinations\n"),
+            Ending::Refused(Refused::Offers) => f.write_str("ndpctl: bad offers\n"),
+            Ending::Refused(Refused::Routes) => f.write_str("ndpctl: bad routes\n"),
+            Ending::Refused(Refused::Waiting) => f.write_str("ndpctl: bad waiting\n"),
             Ending::Refused(Refused::Memory) => f.write_str("ndpctl: no memory\n"),
             Ending::NotText => f.write_str("ndpctl: a word is not UTF-8\n"),
         }

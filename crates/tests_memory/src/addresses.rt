@@ -15,7 +15,7 @@ enum Call {
 
 /// The addresses of an interface that starts: the first call for which there is no memory.
 fn run(rt: &impl Abort, heap: &LocalHeap) -> Option<Call> {
-    let Ok(room) = AddressRoom::new(heap) else {
+    let Ok(room) = AddressRoom::new(heap, 64) else {
         return Some(Call::Room);
     };
     let mut addresses = Addresses::start(room, 0, MAC, Transmits::ONE, 0, 1000);

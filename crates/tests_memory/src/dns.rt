@@ -22,7 +22,7 @@ enum Call {
 
 /// A server and a name are heard: the first call for which there is no memory.
 fn run(rt: &impl Abort, heap: &LocalHeap) -> Option<Call> {
-    let Ok(mut dns) = Dns::new(heap) else {
+    let Ok(mut dns) = Dns::new(heap, 32, 32) else {
         return Some(Call::New);
     };
     let message = decode(&HEARD).ok()?;
@@ -80,7 +80,7 @@ fn hear(rt: &impl Abort, dns: &mut Dns<&LocalHeap>, options: Options<'_>) -> boo
 #[test]
 fn a_message_that_adds_no_name_needs_no_memory(rt: HostRuntime) -> Result<(), Fail> {
     let heap = LocalHeap::new(rt.alloc(), 6400)?;
-    let mut dns = Dns::new(&heap)?;
+    let mut dns = Dns::new(&heap, 32, 32)?;
     let first = decode(&HEARD).ok().ok_or("message")?;
     let other_name = decode(&OTHER_NAME).ok().ok_or("message")?;
     let no_name = decode(&HEARD[..40]).ok().ok_or("message")?;

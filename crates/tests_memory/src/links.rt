@@ -19,9 +19,15 @@ const OTHER_MAC: Mac = Mac([2, 0, 0, 0, 0, 2]);
 
 const OTHER: Addr = Addr([0xfe, 0x80, 0, 0, 0, 0, 0, 0, 0, 0, 0, 0xff, 0xfe, 0, 0, 2]);
 
-/// The number of bytes that a list of what an event reports asks for: it has room for four entries. An entry is a moment of 8 bytes, at most
-/// four addresses, two of them in a Redirect, and at most two words that say what it is.
-const TOLD: u64 = 4 * (8 + 4 * 16 + 2 * 8);
+/// The number of bytes of an entry in a list of what an event reports: a moment of 8 bytes, at most four addresses, two of them in a Redirect, and at
+/// most two words that say what it is.
+const ENTRY: u64 = 8 + 4 * 16 + 2 * 8;
+
+/// The number of bytes that the list of a frame that is dropped asks for: it has room for four entries.
+const TOLD: u64 = 4 * ENTRY;
+
+/// The number of bytes that the list of a message asks for: it has room for the 8 packets that may wait for a neighbour, and for 3 rows more.
+const HEARD: u64 = 11 * ENTRY;
 
 /// The number of bytes that a sent frame has in the list of these: a number and a list, five words in all. The list doubles as it grows, so it
 /// has less than twice the room that it needs, and asked for less than twice that.
@@ -120,7 +126,7 @@ fn how_much_a_link_asks_for(rt: HostRuntime) {
     // The one for the other's address: it is carried, and answered as by a host alone, and the answer is kept.
     let answered = Delivered {
         requests: 5,
-        bytes: FRAME + TOLD + 2 * FRAME + FRAME + 4 * LISTED,
+        bytes: FRAME + HEARD + 2 * FRAME + FRAME + 4 * LISTED,
         least_kept: FRAME,
         most_kept: FRAME + 2 * LISTED,
     };

@@ -114,7 +114,7 @@ fn clear(rt: &impl Abort, cache: &mut Cache<&LocalHeap>) -> Option<Call> {
 
 /// A cache of two, of which one is there: the first call for which there is no memory.
 fn run(rt: &impl Abort, heap: &LocalHeap) -> Option<Call> {
-    let Ok(mut cache) = Cache::new(heap, 2) else {
+    let Ok(mut cache) = Cache::new(heap, 2, 3) else {
         return Some(Call::New);
     };
     assert!(rt; cache.heard(0, given(1), TIMES).is_ok());

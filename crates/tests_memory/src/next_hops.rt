@@ -57,7 +57,7 @@ fn next_hops_are_found_without_memory(rt: HostRuntime) {
         },
     };
     let heap = LocalHeap::new(rt.alloc(), AMPLE).expect(&rt, "memory");
-    let mut choice = Choice::new(&heap).expect(&rt, "memory");
+    let mut choice = Choice::new(&heap, 64, 256).expect(&rt, "memory");
     let blocks = exhaust(&rt, &heap);
     for _ in 0..2 {
         for number in 0..DESTINATIONS {

@@ -24,8 +24,8 @@ const SMALL: usize = 16;
 /// As many large blocks are parted into small ones.
 const LAST: usize = 2;
 
-/// The most tries of an event, each of which has 16 bytes more than the one before. No event of these tests asks for more than a kilobyte.
-const MOST_TRIES: usize = 64;
+/// The most tries of an event, each of which has 16 bytes more than the one before. No event of these tests asks for more than two kilobytes.
+const MOST_TRIES: usize = 128;
 
 /// The most blocks of one size.
 const MOST_BLOCKS: usize = 2048;

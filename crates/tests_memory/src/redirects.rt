@@ -25,7 +25,7 @@ fn newest(choice: &Choice<&LocalHeap>) -> Option<Addr> {
 
 /// Two destinations are redirected: the first call for which there is no memory.
 fn run(rt: &impl Abort, heap: &LocalHeap) -> Option<Call> {
-    let Ok(mut choice) = Choice::new(heap) else {
+    let Ok(mut choice) = Choice::new(heap, 64, 256) else {
         return Some(Call::New);
     };
     if choice.redirected(addr(1), addr(11)).is_err() {

@@ -49,8 +49,8 @@ pub(crate) const TIMES: u64 = 1000;
 /// How often an event is passed before it is counted. By then a node keeps what it keeps of it: three packets wait for a neighbour at most.
 const FIRST: u64 = 4;
 
-/// Room for as much as any event here reports, in entries: at most 20, and four in reserve for a turn.
-const ROOM: usize = 24;
+/// Room for as much as any event here reports, in entries: at most 20, and 9 in reserve for a turn.
+const ROOM: usize = 29;
 
 /// The frame of a solicitation or an advertisement of a neighbour: a message of 24 bytes, and a link-layer address in 8.
 pub(crate) const FRAME: u64 = 14 + 40 + 24 + 8;

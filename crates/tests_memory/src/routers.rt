@@ -20,7 +20,7 @@ fn run(rt: &impl Abort, heap: &LocalHeap) -> Option<Call> {
     let Ok(mut routers) = Routers::new(heap, 16) else {
         return Some(Call::NewRouters);
     };
-    let Ok(prefixes) = Prefixes::new(heap) else {
+    let Ok(prefixes) = Prefixes::new(heap, 64) else {
         return Some(Call::NewPrefixes);
     };
     assert!(rt; prefixes.on_link(0, ROUTER));

@@ -97,7 +97,7 @@ fn count(choice: &Choice<Global>) -> u8 {
 #[test]
 fn keeps_64_redirects(rt: HostRuntime) {
     let none: [Candidate; 0] = [];
-    let mut choice = Choice::new(rt.alloc()).expect(&rt, "memory");
+    let mut choice = Choice::new(rt.alloc(), 64, 256).expect(&rt, "memory");
     for n in 0..64u8 {
         choice
             .redirected(global(1, n), link_local(n))
@@ -144,7 +144,7 @@ fn remembers_256_destinations(rt: HostRuntime) {
     let Some(view) = make_node(&none) else {
         panic!(rt; "no node");
     };
-    let mut choice = Choice::new(rt.alloc()).expect(&rt, "memory");
+    let mut choice = Choice::new(rt.alloc(), 64, 256).expect(&rt, "memory");
     assert!(rt; choice.remembered() == 0);
     for n in 0..256u16 {
         assert!(rt; choice.next_hop(0, on_link(n), &view) == Hop::Direct);
@@ -164,7 +164,7 @@ fn remembers_256_destinations(rt: HostRuntime) {
 fn remembers_up_to_its_last_moment(rt: HostRuntime) {
     let routers = [usable(9, None)];
     let none: [Candidate; 0] = [];
-    let mut choice = Choice::new(rt.alloc()).expect(&rt, "memory");
+    let mut choice = Choice::new(rt.alloc(), 64, 256).expect(&rt, "memory");
     choice.until(Some(5));
     let Some(view) = make_node(&routers) else {
         panic!(rt; "no node");

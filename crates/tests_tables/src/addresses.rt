@@ -72,7 +72,7 @@ fn falls_due(rt: &impl Abort, addresses: &mut Addresses<Global>, now: u64, wante
 /// The addresses of an interface whose link-local one was assigned at 1000.
 fn started(rt: &impl Abort, alloc: Global) -> Addresses<Global> {
     let mut addresses = Addresses::start(
-        AddressRoom::new(alloc).expect(rt, "memory"),
+        AddressRoom::new(alloc, 64).expect(rt, "memory"),
         0,
         MAC,
         Transmits::ONE,

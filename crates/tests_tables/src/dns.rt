@@ -112,7 +112,7 @@ fn count_names(dns: &Dns<Global>, now: u64) -> usize {
 
 #[test]
 fn has_room_for_thirty_two_servers(rt: HostRuntime) {
-    let mut dns = Dns::new(rt.alloc()).expect(&rt, "memory");
+    let mut dns = Dns::new(rt.alloc(), 32, 32).expect(&rt, "memory");
     for n in 1..=32u8 {
         takes_servers(&rt, &mut dns, 1_000, lasting(n, 100), lasting(n, 200));
     }
@@ -137,7 +137,7 @@ fn has_room_for_thirty_two_servers(rt: HostRuntime) {
 
 #[test]
 fn has_room_for_thirty_two_names(rt: HostRuntime) {
-    let mut dns = Dns::new(rt.alloc()).expect(&rt, "memory");
+    let mut dns = Dns::new(rt.alloc(), 32, 32).expect(&rt, "memory");
     // The letters from A to Z are those from a to z.
     for n in b'a'..=b'z' {
         takes_names(&rt, &mut dns, 1_000, lasting(n, 100), lasting(n, 200));

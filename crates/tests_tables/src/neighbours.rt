@@ -78,7 +78,7 @@ fn is_given(rt: &impl Abort, cache: &mut Cache<Global>, now: u64, n: u16)
 
 #[test]
 fn the_513th_neighbour_pushes_out_the_one_stale_for_longest(rt: HostRuntime) {
-    let mut cache = Cache::new(rt.alloc(), 512).expect(&rt, "memory");
+    let mut cache = Cache::new(rt.alloc(), 512, 3).expect(&rt, "memory");
     for n in 0..512u16 {
         is_given(&rt, &mut cache, u64::from(n), n);
     }
@@ -91,7 +91,7 @@ fn the_513th_neighbour_pushes_out_the_one_stale_for_longest(rt: HostRuntime) {
 
 #[test]
 fn the_513th_neighbour_is_full_where_none_is_stale(rt: HostRuntime) {
-    let mut cache = Cache::new(rt.alloc(), 512).expect(&rt, "memory");
+    let mut cache = Cache::new(rt.alloc(), 512, 3).expect(&rt, "memory");
     for n in 0..512u16 {
         is_given(&rt, &mut cache, u64::from(n), n);
         cache.confirmed(999, addr(n), 15_000);
@@ -188,7 +188,7 @@ fn cache_with(
     before: Option<Reachability>,
     router: bool,
 ) -> Cache<Global> {
-    let mut cache = Cache::new(rt.alloc(), 4).expect(rt, "memory");
+    let mut cache = Cache::new(rt.alloc(), 4, 3).expect(rt, "memory");
     let a = addr(1);
     if before == Some(Reachability::Incomplete) {
         let _ = cache.used(19_500, a, packet(rt, 1), TIMES);
@@ -270,7 +270,7 @@ fn numbered(rt: &(impl Abort + AllocGlobal), n: u16) -> Packet<Global> {
 
 #[test]
 fn five_hundred_and_twelve_neighbours_are_shown_and_cleared(rt: HostRuntime) {
-    let mut cache = Cache::new(rt.alloc(), 512).expect(&rt, "memory");
+    let mut cache = Cache::new(rt.alloc(), 512, 3).expect(&rt, "memory");
     // The highest address first, so that each is put before all others.
     for n in (0..512u16).rev() {
         let sent = cache.used(0, addr(n), numbered(&rt, n), TIMES);
@@ -298,7 +298,7 @@ fn five_hundred_and_twelve_neighbours_are_shown_and_cleared(rt: HostRuntime) {
 fn looks_at_no_more_entries_than_their_number_has_binary_digits(
     rt: HostRuntime,
 ) -> Result<(), Fail> {
-    let mut cache = Cache::new(rt.alloc(), 512)?;
+    let mut cache = Cache::new(rt.alloc(), 512, 3)?;
     let mut probes = Probes::new();
     assert!(rt; !cache.find(addr(7), &mut probes));
     assert!(rt; probes.looks == 0);

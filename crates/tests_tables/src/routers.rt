@@ -190,7 +190,7 @@ const FULL: Option<(bool, Result<(), TableRefusal>)> = Some((
 
 #[test]
 fn has_room_for_sixty_four(rt: HostRuntime) {
-    let mut prefixes = Prefixes::new(rt.alloc()).expect(&rt, "memory");
+    let mut prefixes = Prefixes::new(rt.alloc(), 64).expect(&rt, "memory");
     for n in 0..64u8 {
         takes_both(&rt, &mut prefixes, 1_000, lasting(n, 100), lasting(n, 200));
     }

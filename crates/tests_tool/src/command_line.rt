@@ -102,6 +102,15 @@ fn refused(rt: &(impl Abort + AllocGlobal), words: &[&str]) -> &'static str {
         Err(Refused::Transmits) => "transmits",
         Err(Refused::Neighbours) => "neighbours",
         Err(Refused::Routers) => "routers",
+        Err(Refused::Prefixes) => "prefixes",
+        Err(Refused::Addresses) => "addresses",
+        Err(Refused::Servers) => "servers",
+        Err(Refused::Names) => "names",
+        Err(Refused::Redirects) => "redirects",
+        Err(Refused::Destinations) => "destinations",
+        Err(Refused::Offers) => "offers",
+        Err(Refused::Routes) => "routes",
+        Err(Refused::Waiting) => "waiting",
         Err(Refused::Memory) => "memory",
     }
 }
@@ -151,20 +160,79 @@ fn run_with<'a>(option: &'a str, value: &'a str) -> [&'a str; 7] {
     ]
 }
 
+/// The limits in the order in which they are judged: the option, what is refused, and the greatest number.
+const LIMITS: [(&str, &str, u16); 11] = [
+    ("--neighbours", "neighbours", 2048),
+    ("--routers", "routers", 64),
+    ("--prefixes", "prefixes", 64),
+    ("--addresses", "addresses", 64),
+    ("--servers", "servers", 32),
+    ("--names", "names", 32),
+    ("--redirects", "redirects", 64),
+    ("--destinations", "destinations", 256),
+    ("--offers", "offers", 16),
+    ("--routes", "routes", 64),
+    ("--waiting", "waiting", 8),
+];
+
+/// Limits with this number in the place of one.
+fn with_limit_at(limits: Limits, place: usize, number: u16) -> Option<Limits> {
+    match place {
+        0 => limits.with_neighbours(number),
+        1 => limits.with_routers(number),
+        2 => limits.with_prefixes(number),
+        3 => limits.with_addresses(number),
+        4 => limits.with_servers(number),
+        5 => limits.with_names(number),
+        6 => limits.with_redirects(number),
+        7 => limits.with_destinations(number),
+        8 => limits.with_offers(number),
+        9 => limits.with_routes(number),
+        _ => limits.with_waiting(number),
+    }
+}
+
+/// Expects that the value of an option is read as the limit of this place, and that no other limit changes.
+fn expect_limit(rt: &(impl Abort + AllocGlobal), place: usize, option: &str, number: u16) {
+    let value = format!(in rt.alloc(); "{number}").expect(rt, "memory");
+    let read = options(rt, &run_with(option, &value));
+    let wanted = with_limit_at(Limits::usual(), place, number);
+    assert!(rt; Some(read.limits) == wanted);
+}
+
 /// Each number is read up to the ends of its range.
 #[test]
 fn numbers_have_ranges(rt: HostRuntime) {
-    for (option, value, transmits, neighbours, routers) in [
-        ("--transmits", "1", 1, 512, 16),
-        ("--transmits", "8", 8, 512, 16),
-        ("--neighbours", "1", 1, 1, 16),
-        ("--neighbours", "2048", 1, 2048, 16),
-        ("--routers", "1", 1, 512, 1),
-        ("--routers", "64", 1, 512, 64),
-    ] {
-        let read = options(&rt, &run_with(option, value));
+    for (value, transmits) in [("1", 1), ("8", 8)] {
+        let read = options(&rt, &run_with("--transmits", value));
         assert!(rt; read.transmits.number() == transmits);
-        assert!(rt; Some(read.limits) == Limits::new(neighbours, routers));
+        assert!(rt; read.limits == Limits::usual());
+    }
+    for place in 0..LIMITS.len() {
+        let (option, _, most) = LIMITS[place];
+        expect_limit(&rt, place, option, 1);
+        expect_limit(&rt, place, option, most);
+    }
+}
+
+/// Of two bad limits the first one is refused.
+#[test]
+fn limits_are_judged_in_their_order(rt: HostRuntime) {
+    for place in 0..LIMITS.len() - 1 {
+        let (first, wanted, _) = LIMITS[place];
+        let (second, _, _) = LIMITS[place + 1];
+        let words = [
+            "run",
+            "--role",
+            "host",
+            "--mac",
+            "02:00:00:00:00:01",
+            second,
+            "0",
+            first,
+            "0",
+        ];
+        assert_eq!(rt; refused(&rt, &words), wanted);
     }
 }
 
@@ -176,6 +244,15 @@ fn other_words_are_no_numbers(rt: HostRuntime) {
         ("--transmits", "9", "transmits"),
         ("--neighbours", "2049", "neighbours"),
         ("--routers", "65", "routers"),
+        ("--prefixes", "65", "prefixes"),
+        ("--addresses", "65", "addresses"),
+        ("--servers", "33", "servers"),
+        ("--names", "33", "names"),
+        ("--redirects", "65", "redirects"),
+        ("--destinations", "257", "destinations"),
+        ("--offers", "17", "offers"),
+        ("--routes", "65", "routes"),
+        ("--waiting", "9", "waiting"),
     ] {
         assert_eq!(rt; refused(&rt, &run_with(option, greater)), wanted);
         for value in [

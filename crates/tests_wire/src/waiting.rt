@@ -16,7 +16,7 @@ fn byte_of(packet: Option<Packet<Global>>) -> Option<u8> {
 
 #[test]
 fn a_fourth_packet_takes_the_place_of_the_oldest(rt: HostRuntime) -> Result<(), Fail> {
-    let mut waiting = Ring::new(rt.alloc())?.with(packet(rt.alloc(), 1)?);
+    let mut waiting = Ring::new(rt.alloc(), 3)?.with(packet(rt.alloc(), 1)?);
     assert!(rt; byte_of(waiting.put(packet(rt.alloc(), 2)?)) == None);
     assert!(rt; byte_of(waiting.put(packet(rt.alloc(), 3)?)) == None);
     assert!(rt; byte_of(waiting.put(packet(rt.alloc(), 4)?)) == Some(1));
@@ -32,8 +32,23 @@ fn a_fourth_packet_takes_the_place_of_the_oldest(rt: HostRuntime) -> Result<(), 
 }
 
 #[test]
+fn one_packet_more_than_the_room_takes_the_place_of_the_oldest(
+    rt: HostRuntime,
+) -> Result<(), Fail> {
+    for room in 1..9usize {
+        let mut waiting = Ring::new(rt.alloc(), room)?.with(packet(rt.alloc(), 1)?);
+        for number in 2..=room {
+            assert!(rt; byte_of(waiting.put(packet(rt.alloc(), number as u8)?)) == None);
+        }
+        assert!(rt; byte_of(waiting.put(packet(rt.alloc(), 9)?)) == Some(1));
+        assert!(rt; waiting.len() == room);
+    }
+    Ok(())
+}
+
+#[test]
 fn room_is_asked_for_once(rt: HostRuntime) -> Result<(), Fail> {
-    let mut waiting: Waiting<Global> = Waiting::new(rt.alloc())?;
+    let mut waiting: Waiting<Global> = Waiting::new(rt.alloc(), 3)?;
     assert!(rt; waiting.len() == 0);
     assert!(rt; byte_of(waiting.take()) == None);
     let none: Packets<Global> = Packets::none();

@@ -6,5 +6,5 @@ use Rattle.nd_neighbour.proofs.removal.count_waiting.Given as goal
 abbrev pub invariant-loop-entry : goal.invariant-loop-entry
 invariant-loop-entry g l = record {
   all : l.count + length (all_waiting (drop l.entry-index l.entries)) ≡ length (all_waiting l.entries);
-  few : l.count ≤ 3 * l.entry-index;
+  few : l.count ≤ 8 * l.entry-index;
 }

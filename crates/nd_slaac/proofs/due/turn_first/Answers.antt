@@ -63,7 +63,7 @@ returns-in-Some-clause-planned g c =
     let i = c.in-Some.i in
     let within : i < length xs = subst (λ (l : List Address). i < length l) c.deref.ensures.value c.in-Some.ensures.within in
     gone_planned (number_of c.addr-addr.result.0) i xs _ c.remove-entry.result c.args.ends.now c.args.steps.now c.requires.planned within c.remove-entry.ensures.value (sym c.addr-addr.ensures)
-    c.change.new.self c.change-in-Some.new.self c.remove-entry.ensures.items c.change.ensures.dates c.change-in-Some.ensures.dates c.change.ensures.room c.change-in-Some.ensures.room
+    c.change.new.self c.change-in-Some.new.self c.remove-entry.ensures.items c.change.ensures.dates c.change-in-Some.ensures.dates
 
 pub change-requires-2-clause-was : goal.change-requires-2-clause-was
 change-requires-2-clause-was g c =
@@ -78,4 +78,4 @@ returns-clause-planned g c =
     let i = c.in_ok-i.i in
     let within : i < length xs = subst (λ (l : List Address). i < length l) c.deref-2.ensures.value c.in_ok-i.ensures.within in
     stepped_planned (number_of c.addr-addr-2.result.0) i xs _ c.index_mut-entry.result.now c.args.ends.now c.args.steps.now c.requires.planned within c.index_mut-entry.ensures.value (sym c.addr-addr-2.ensures)
-    c.step-due.new.self (ap key_of c.step-due.ensures.entry) refl c.change-2.new.self c.date-2.result (ap end_date c.step-due.ensures.entry) c.date-2.ensures c.change-2.ensures.dates c.change-2.ensures.room
+    c.step-due.new.self (ap key_of c.step-due.ensures.entry) refl c.change-2.new.self c.date-2.result (ap end_date c.step-due.ensures.entry) c.date-2.ensures c.change-2.ensures.dates

@@ -9,7 +9,7 @@ use Rattle.nd_slaac.proofs.room.fits.Given as goal
 abbrev pub invariant-loop-info : goal.invariant-loop-info
 invariant-loop-info l = record {
   all : l.count + new_in l.mac (keys_in l.entries) (prefixes_in (options_left l.rest)) ≡ length l.entries + new_in l.mac (keys_in l.entries) (prefixes_in (options_left l.initial.rest));
-  few : l.count ≤ 64;
+  few : l.count ≤ l.limit;
 }
 
 abbrev pub decreases-loop-info : goal.decreases-loop-info

@@ -1,6 +1,6 @@
 use Rattle.std.proofs.Common.{ap, ◌∙◌}
 use Rattle.nd_addr.specs.Number.{number_of}
-use Rattle.nd_steps.proofs.Refreshed.{kept_redirects, kept_until, listed, nothing}
+use Rattle.nd_steps.proofs.Refreshed.{kept_stand, kept_until, listed, nothing}
 use Rattle.nd_steps.proofs.default_router_list.hear_router.Goals as goal
 
 pub returns-clause-routers : goal.returns-clause-routers
@@ -8,7 +8,7 @@ returns-clause-routers g c = λ history s. (c.ended.ensures.stands c.args.now).s
 
 pub returns-clause-redirects : goal.returns-clause-redirects
 returns-clause-redirects g c = λ history s.
-    (c.target_gone.ensures.stands c.args.now).stands history (record { entries_are = kept_redirects c.only_refreshes-refreshes.result c.args.choice.now c.keep_if.new.choice c.keep_if.ensures ∙ s.entries_are })
+    (c.target_gone.ensures.stands c.args.now).stands history (kept_stand c.only_refreshes-refreshes.result c.args.choice.now c.keep_if.new.choice c.keep_if.ensures history s)
 
 pub returns-then-not-times_out-clause-recollects : goal.returns-then-not-times_out-clause-recollects
 returns-then-not-times_out-clause-recollects g c =
@@ -20,4 +20,4 @@ returns-clause-recollects g c =
 
 pub returns-then-not-times_out-clause-redirects : goal.returns-then-not-times_out-clause-redirects
 returns-then-not-times_out-clause-redirects g c = λ history s.
-    record { entries_are = kept_redirects c.only_refreshes-refreshes.result c.args.choice.now c.keep_if.new.choice c.keep_if.ensures ∙ s.entries_are }
+    kept_stand c.only_refreshes-refreshes.result c.args.choice.now c.keep_if.new.choice c.keep_if.ensures history s

@@ -15,7 +15,7 @@ use Rattle.nd_steps.proofs.own_addresses.hear_prefix_options.Given as goal
 -- was formed so far and the rest forms none.
 abbrev pub invariant-loop-info : goal.invariant-loop-info
 invariant-loop-info g l =
-    (fits_in l.addresses.mac (keys_in l.addresses.addresses) (prefixes_in (options_left l.rest)) ≡ true) ×
+    (fits_in l.addresses.limit l.addresses.mac (keys_in l.addresses.addresses) (prefixes_in (options_left l.rest)) ≡ true) ×
     ((start : Start) (c : Chronicle) → Forms start l.fn.addresses (g.R.Rng.stream l.fn.generator) l.retrans c → (mid : Chronicle) × Forms start l.addresses (g.R.Rng.stream l.generator) l.retrans mid
     × (then_options start l.now l.to_all (prefixes_in (options_left l.options)) c ≡ then_options start l.now l.to_all (prefixes_in (options_left l.rest)) mid)) ×
     ((l.none_formed && forms_none l.addresses.mac (keys_in l.addresses.addresses) (prefixes_in (options_left l.rest))) ≡ forms_none l.fn.addresses.mac (keys_in l.fn.addresses.addresses) (prefixes_in (options_left l.options)))

@@ -6,7 +6,7 @@ use Rattle.clap.specs.declared.builder.arg.Arg.{Arg}
 use Rattle.clap.specs.declared.builder.command.Command.TheViews.{out-Command}
 use Rattle.clap.specs.declared.builder.value_parser.ValueParser.{ValueParser}
 use Rattle.clap.specs.declared.builder.value_parser.ValueParser.TheVariants.{Names}
-use Rattle.ndpctl_args.specs.CommandLine.{role_option, mac_option, draws_option, transmits_option, neighbours_option, routers_option}
+use Rattle.ndpctl_args.specs.CommandLine.{role_option, mac_option, draws_option, transmits_option, with_limits}
 use Rattle.ndpctl_args.proofs.command.run_command.Goals as goal
 
 pub returns-clause-local : goal.returns-clause-local
@@ -17,12 +17,10 @@ returns-clause-local c =
     ∙ ap (λ (a : Arg). a.global) c.required-2.ensures ∙ ap (λ (a : Arg). a.global) c.long-2.ensures ∙ c.new-2.ensures.optional.1 in
     let draws = c.defaulted-draws.ensures.local in
     let transmits = c.defaulted-transmits.ensures.local in
-    let neighbours = c.defaulted-neighbours.ensures.local in
-    let routers = c.defaulted-routers.ensures.local in
     let run : (out-Command c.about.result).has_globals ≡ false = ap (λ f. f.has_globals) c.about.ensures ∙ c.new-3.ensures.local in
     let required = c.in_ok-arg-2.ensures.globals ∙ ap₂ ◌||◌ (c.in_ok-arg.ensures.globals ∙ ap₂ ◌||◌ run role) mac in
-    let numbered = c.in_ok-arg-4.ensures.globals ∙ ap₂ ◌||◌ (c.in_ok-arg-3.ensures.globals ∙ ap₂ ◌||◌ required draws) transmits in
-    IfOk-weaker c.arg-6.result _ _ (λ command h. h.globals ∙ ap₂ ◌||◌ (c.in_ok-arg-5.ensures.globals ∙ ap₂ ◌||◌ numbered neighbours) routers) c.arg-6.ensures
+    let numbered = c.in_ok-command.ensures.globals ∙ ap₂ ◌||◌ (c.in_ok-arg-3.ensures.globals ∙ ap₂ ◌||◌ required draws) transmits in
+    c.with_limits.ensures.local numbered
 
 pub returns-clause-shape : goal.returns-clause-shape
 returns-clause-shape c =
@@ -36,18 +34,13 @@ returns-clause-shape c =
     let mac_is : rule_of c.help-mac.result ≡ mac_option = ap rule_of c.help-mac.ensures ∙ mac_named in
     let draws_is : rule_of c.defaulted-draws.result ≡ draws_option = c.defaulted-draws.ensures.rule in
     let transmits_is : rule_of c.defaulted-transmits.result ≡ transmits_option = c.defaulted-transmits.ensures.rule in
-    let neighbours_is : rule_of c.defaulted-neighbours.result ≡ neighbours_option = c.defaulted-neighbours.ensures.rule in
-    let routers_is : rule_of c.defaulted-routers.result ≡ routers_option = c.defaulted-routers.ensures.rule in
     let role : c.help-role.result.global ≡ false = ap (λ (a : Arg). a.global) (c.help-role.ensures) ∙ ap (λ (a : Arg). a.global) c.value_parser.ensures.others
     ∙ ap (λ (a : Arg). a.global) c.required.ensures ∙ ap (λ (a : Arg). a.global) c.long.ensures ∙ c.new.ensures.optional.1 in
     let mac : c.help-mac.result.global ≡ false = ap (λ (a : Arg). a.global) c.help-mac.ensures
     ∙ ap (λ (a : Arg). a.global) c.required-2.ensures ∙ ap (λ (a : Arg). a.global) c.long-2.ensures ∙ c.new-2.ensures.optional.1 in
     let draws = c.defaulted-draws.ensures.local in
     let transmits = c.defaulted-transmits.ensures.local in
-    let neighbours = c.defaulted-neighbours.ensures.local in
-    let routers = c.defaulted-routers.ensures.local in
     let run_is : app_of c.about.result ≡ new_app (codes "run") = ap app_of_fields c.about.ensures ∙ c.new-3.ensures.app in
     let required = c.in_ok-arg-2.ensures.shape mac ∙ ap₂ with_rule (c.in_ok-arg.ensures.shape role ∙ ap₂ with_rule run_is role_is) mac_is in
-    let numbered = c.in_ok-arg-4.ensures.shape transmits ∙ ap₂ with_rule (c.in_ok-arg-3.ensures.shape draws ∙ ap₂ with_rule required draws_is) transmits_is in
-    IfOk-weaker c.arg-6.result _ _
-    (λ command h. h.shape routers ∙ ap₂ with_rule (c.in_ok-arg-5.ensures.shape neighbours ∙ ap₂ with_rule numbered neighbours_is) routers_is) c.arg-6.ensures
+    let numbered = c.in_ok-command.ensures.shape transmits ∙ ap₂ with_rule (c.in_ok-arg-3.ensures.shape draws ∙ ap₂ with_rule required draws_is) transmits_is in
+    IfOk-weaker c.with_limits.result _ _ (λ more h. h ∙ ap with_limits numbered) c.with_limits.ensures.shape

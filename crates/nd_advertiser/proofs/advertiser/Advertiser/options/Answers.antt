@@ -12,5 +12,5 @@ loop-offer-init g c =
       ap (λ l. l ++ map prefix c.into_iter-offer-iterator.result) c.in_ok-options.ensures.value
           ∙ (ap (λ (os : List PrefixInfo). options_of c.args.mac c.args.mtu [] ++ map prefix os) rows ∙ before_offers c.args.mac c.args.mtu c.args.self.now.offers),
       c.in_ok-options.ensures.fits,
-      omega (arith, c.in_ok-options.ensures.short, c.rows-offer-items.ensures.few, ap length c.into_iter-offer-iterator.ensures.into_iter_gives),
+      omega (arith, c.in_ok-options.ensures.short, c.rows-offer-items.ensures.few, c.limit.ensures.value, c.limit.ensures.most, ap length c.into_iter-offer-iterator.ensures.into_iter_gives),
     )

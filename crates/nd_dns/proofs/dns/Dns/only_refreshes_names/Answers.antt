@@ -22,7 +22,8 @@ returns-clause-fits g c = λ refreshes.
     let told = names_told (options_left c.args.options) in
     let names_are = c.deref.ensures.value ∙ ap (λ (h : Table). h.names) c.self.view_is in
     let items = ap (λ (h : Table). length h.names) c.self.view_is in
-    let few : length c.args.self.now.names ≤ 32 = omega (arith, items, ap length c.deref.ensures.value, c.deref.ensures.len, c.self.invariant.3) in
+    let limit = c.args.self.now.name_limit in
+    let few : length c.args.self.now.names ≤ limit = omega (arith, items, ap length c.deref.ensures.value, c.deref.ensures.len, c.self.invariant.3, ap (λ (h : Table). h.name_limit) c.self.view_is) in
     let only = sym (ap (λ xs. only_refreshes same_name now told xs) names_are)
     ∙ (sym (ap (λ (t : List (List ℕ × ℕ)). only_refreshes same_name now t c.deref.result.now) c.new.ensures) ∙ (sym c.only_refreshes.ensures ∙ refreshes)) in
-    fits_unentered 32 now told c.args.self.now.names few (refreshed_enters same_name now told c.args.self.now.names only)
+    fits_unentered limit now told c.args.self.now.names few (refreshed_enters same_name now told c.args.self.now.names only)

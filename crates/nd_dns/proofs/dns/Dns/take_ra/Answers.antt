@@ -22,6 +22,8 @@ invariant_of-self g c = (
   c.announce_names.ensures.few,
   omega (arith, c.announce_names.ensures.capacity, c.self.invariant.4),
   subst (λ (es : List (Lasting (List ℕ))). Distinct same_name es) (sym c.announce_names.ensures.items) (Distinct-all same_name bytes_tell c.args.now (names_to_come c.new-told_names.result) c.self.inside.names.items c.self.invariant.5),
+  c.self.invariant.6,
+  c.self.invariant.7,
 )
 
 pub returns-clause-stands : goal.returns-clause-stands

@@ -102,9 +102,7 @@ invariant_of-self-in-Marked g c =
       subst (λ (n : ℕ). n ≤ c.self.inside.limit) (sym c.mark.ensures.len) was.0,
       subst (λ (n : ℕ). c.self.inside.limit ≤ n) (sym c.mark.ensures.capacity) was.1,
       was.2,
-      was.3,
-      was.4,
-      marked_planned (number_of c.in-Marked.addr.0) c.in-Marked.router c.self.inside.entries.items c.mark.new.entries.items c.self.inside.dates c.mark.ensures.alters was.5,
+      marked_planned (number_of c.in-Marked.addr.0) c.in-Marked.router c.self.inside.entries.items c.mark.new.entries.items c.self.inside.dates c.mark.ensures.alters was.3,
     )
 
 pub returns-in-Given-clause-was_known : goal.returns-in-Given-clause-was_known

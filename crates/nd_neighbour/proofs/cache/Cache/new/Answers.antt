@@ -20,8 +20,6 @@ pub invariant_of-result : goal.invariant_of-result
 invariant_of-result g c = (
   omega (arith, c.in_ok-entries.ensures.len),
   omega (arith, c.in_ok-entries.ensures.capacity),
-  omega (arith, c.in_ok-rings.ensures.len),
-  omega (arith, c.in_ok-rings.ensures.capacity),
   omega (arith, c.in_ok-dates.ensures.room),
   none_planned c.in_ok-entries.entries.items c.in_ok-dates.dates c.in_ok-entries.ensures.items c.in_ok-dates.ensures.none,
 )

@@ -1,6 +1,6 @@
 use Rattle.std.specs.Prelude.{is_some}
 use Rattle.std.proofs.lemmas.Bool.{cond-true}
-use Rattle.std.proofs.Common.{◌≡◌, ◌-◌, ◌∙◌, sym, ap, subst, Option, None}
+use Rattle.std.proofs.Common.{◌≡◌, ◌-◌, ◌∙◌, ℕ, sym, ap, subst, Option, None}
 use Rattle.nd_addr.specs.Number.{number_of}
 use Rattle.nd_neighbour.specs.EntryKept.{NeighbourEntry}
 use Rattle.nd_neighbour.specs.AddressResolutionKept.{asked_entry}
@@ -19,9 +19,9 @@ returns-in-Ok-clause-stands g c =
     let old = c.args.self.now.entries in
     let new = c.pass.new.entries.items in
     let change : NeighbourEntry → NeighbourEntry = λ n. used c.args.now c.args.times.retrans c.args.packet n in
-    takes_packet key c.args.now c.args.times.retrans c.args.packet c.args.self.now.limit old new
+    takes_packet key c.args.now c.args.times.retrans c.args.self.now.waiting c.args.packet c.args.self.now.limit old new
     (was_there c.args.self.now.limit c.args.now key old c.deref.result.now c.in-Ok.i (c.deref.ensures.value ∙ ap (λ (t : Table). t.entries) c.self.view_is) c.in-Ok.ensures.within c.in-Ok.ensures.found
-    change (asked_entry key c.args.now c.args.times.retrans c.args.packet) new (subst (λ (t : Table). Alters key change t.entries new) c.self.view_is c.pass.ensures.alters))
+    change (asked_entry key c.args.now c.args.times.retrans c.args.self.now.waiting c.args.packet) new (subst (λ (t : Table). Alters key change t.entries new) c.self.view_is c.pass.ensures.alters))
 
 pub returns-in-Ok-clause-value : goal.returns-in-Ok-clause-value
 returns-in-Ok-clause-value g c =
@@ -33,11 +33,11 @@ returns-in-Ok-clause-sending g c = λ history s.
     subst (λ (t : Table). sending_of c.pass.result ≡ sending_in (entry_in key t.entries) c.args.packet) c.self.view_is c.pass.ensures.sending
     ∙ sending_by_history key c.args.packet c.args.self.now.entries history s
 
-pub returns-in-Err-take_ring-clause-memory : goal.returns-in-Err-take_ring-clause-memory
-returns-in-Err-take_ring-clause-memory g c = λ _.
+pub returns-in-Err-take_or_make-clause-memory : goal.returns-in-Err-take_or_make-clause-memory
+returns-in-Err-take_or_make-clause-memory g c = λ _.
     let key = number_of c.args.addr.0 in
     let old = c.args.self.now.entries in (
-      sym (ap (λ (t : Table). t.rings) c.self.view_is) ∙ no_rings _ c.in-Err-take_ring.ensures.in_hand,
+      sym (ap (λ (t : Table). t.rings) c.self.view_is) ∙ no_rings _ c.in-Err-take_or_make.ensures.in_hand,
       not_there c.args.self.now.limit c.args.now key old c.deref.result.now (c.deref.ensures.value ∙ ap (λ (t : Table). t.entries) c.self.view_is) c.in-Err.ensures.absent,
     )
 
@@ -45,8 +45,9 @@ pub returns-clause-stands : goal.returns-clause-stands
 returns-clause-stands g c =
     let key = number_of c.args.addr.0 in
     let new = c.begin.new.entries.items in
-    takes_packet key c.args.now c.args.times.retrans c.args.packet c.args.self.now.limit c.args.self.now.entries new
-    (subst (λ (t : Table). Gives t.limit c.args.now key (λ n. used c.args.now c.args.times.retrans c.args.packet n) (asked_entry key c.args.now c.args.times.retrans c.args.packet) t.entries new) c.self.view_is c.begin.ensures.gives)
+    takes_packet key c.args.now c.args.times.retrans c.args.self.now.waiting c.args.packet c.args.self.now.limit c.args.self.now.entries new
+    (subst (λ (t : Table). Gives t.limit c.args.now key (λ n. used c.args.now c.args.times.retrans c.args.packet n) (asked_entry key c.args.now c.args.times.retrans t.waiting c.args.packet) t.entries new) c.self.view_is
+    (subst (λ (room : ℕ). Gives c.self.inside.limit c.args.now key (λ n. used c.args.now c.args.times.retrans c.args.packet n) (asked_entry key c.args.now c.args.times.retrans room c.args.packet) c.self.inside.entries.items new) c.in-Ok-take_or_make.ensures.room c.begin.ensures.gives))
 
 pub returns-clause-value : goal.returns-clause-value
 returns-clause-value g c =
@@ -68,16 +69,17 @@ returns-in-Ok-clause-leaves g c =
     let old = c.args.self.now.entries in
     let new = c.pass.new.entries.items in
     let change : NeighbourEntry → NeighbourEntry = λ n. used c.args.now c.args.times.retrans c.args.packet n in
-    leaves_room c.args.self.now.limit c.args.now key c.args.times.retrans c.args.packet old new
+    leaves_room c.args.self.now.limit c.args.now key c.args.times.retrans c.args.self.now.waiting c.args.packet old new
     (was_there c.args.self.now.limit c.args.now key old c.deref.result.now c.in-Ok.i (c.deref.ensures.value ∙ ap (λ (t : Table). t.entries) c.self.view_is) c.in-Ok.ensures.within c.in-Ok.ensures.found
-    change (asked_entry key c.args.now c.args.times.retrans c.args.packet) new (subst (λ (t : Table). Alters key change t.entries new) c.self.view_is c.pass.ensures.alters))
+    change (asked_entry key c.args.now c.args.times.retrans c.args.self.now.waiting c.args.packet) new (subst (λ (t : Table). Alters key change t.entries new) c.self.view_is c.pass.ensures.alters))
 
 pub returns-clause-leaves : goal.returns-clause-leaves
 returns-clause-leaves g c =
     let key = number_of c.args.addr.0 in
     let new = c.begin.new.entries.items in
-    leaves_room c.args.self.now.limit c.args.now key c.args.times.retrans c.args.packet c.args.self.now.entries new
-    (subst (λ (t : Table). Gives t.limit c.args.now key (λ n. used c.args.now c.args.times.retrans c.args.packet n) (asked_entry key c.args.now c.args.times.retrans c.args.packet) t.entries new) c.self.view_is c.begin.ensures.gives)
+    leaves_room c.args.self.now.limit c.args.now key c.args.times.retrans c.args.self.now.waiting c.args.packet c.args.self.now.entries new
+    (subst (λ (t : Table). Gives t.limit c.args.now key (λ n. used c.args.now c.args.times.retrans c.args.packet n) (asked_entry key c.args.now c.args.times.retrans t.waiting c.args.packet) t.entries new) c.self.view_is
+    (subst (λ (room : ℕ). Gives c.self.inside.limit c.args.now key (λ n. used c.args.now c.args.times.retrans c.args.packet n) (asked_entry key c.args.now c.args.times.retrans room c.args.packet) c.self.inside.entries.items new) c.in-Ok-take_or_make.ensures.room c.begin.ensures.gives))
 
 pub returns-in-Ok-clause-full : goal.returns-in-Ok-clause-full
 returns-in-Ok-clause-full g c = (

@@ -35,18 +35,19 @@ returns-in-Some-clause-remembers g c = λ e there.
 pub returns-in-Some-clause-agrees : goal.returns-in-Some-clause-agrees
 returns-in-Some-clause-agrees g c = λ agrees.
     let d = c.args.destination in
-    agrees_with (g.V.View.own c.args.view.now) (g.V.View.linked c.args.view.now) (g.V.View.candidates c.args.view.now) c.args.now c.args.self.now _ d c.in-Some.hop agrees
-    (ap (λ t. t.redirects) c.self.view_is) (c.in-Some.ensures.until ∙ ap (λ t. t.memory.until) c.self.view_is)
+    let left : Table = record { redirects = record { limit = c.self.inside.redirects.cap; destinations = c.recall.new.self.limit; entries = c.self.inside.redirects.entries }; memory = c.recall.new.self } in
+    agrees_with (g.V.View.own c.args.view.now) (g.V.View.linked c.args.view.now) (g.V.View.candidates c.args.view.now) c.args.now c.args.self.now left d c.in-Some.hop agrees
+    (ap (λ t. t.redirects.entries) c.self.view_is) (c.in-Some.ensures.until ∙ ap (λ t. t.memory.until) c.self.view_is)
     (c.addresses_are_told_by_numbers.ensures.addr d c.as_bytes-bytes.ensures.bytes) (returns-in-Some-clause-value g c agrees) (returns-in-Some-clause-remembers g c)
 
 -- ---- it is determined, and remembered then
 
 value_anew : (g : _) (c : goal.After-remember g)
-    → hop_of c.determine-hop.result ≡ hop (g.V.View.own c.args.view.now) (g.V.View.linked c.args.view.now) (g.V.View.candidates c.args.view.now) (target_in (number_of c.args.destination.0) c.args.self.now.redirects) c.args.destination.0
+    → hop_of c.determine-hop.result ≡ hop (g.V.View.own c.args.view.now) (g.V.View.linked c.args.view.now) (g.V.View.candidates c.args.view.now) (target_in (number_of c.args.destination.0) c.args.self.now.redirects.entries) c.args.destination.0
 value_anew g c =
     let key = number_of c.args.destination.0 in
     c.determine-hop.ensures
-    ∙ ap (λ k. hop (g.V.View.own c.args.view.now) (g.V.View.linked c.args.view.now) (g.V.View.candidates c.args.view.now) k c.args.destination.0) (c.target-in-None.ensures ∙ ap (λ t. target_in key t.redirects) c.self.view_is)
+    ∙ ap (λ k. hop (g.V.View.own c.args.view.now) (g.V.View.linked c.args.view.now) (g.V.View.candidates c.args.view.now) k c.args.destination.0) (c.target-in-None.ensures ∙ ap (λ t. target_in key t.redirects.entries) c.self.view_is)
 
 pub returns-in-None-clause-value : goal.returns-in-None-clause-value
 returns-in-None-clause-value g c = λ agrees. value_anew g c
@@ -63,6 +64,7 @@ returns-in-None-clause-remembers g c = λ e there.
 pub returns-in-None-clause-agrees : goal.returns-in-None-clause-agrees
 returns-in-None-clause-agrees g c = λ agrees.
     let d = c.args.destination in
-    agrees_with (g.V.View.own c.args.view.now) (g.V.View.linked c.args.view.now) (g.V.View.candidates c.args.view.now) c.args.now c.args.self.now _ d c.determine-hop.result agrees
-    (ap (λ t. t.redirects) c.self.view_is) (c.remember.ensures.until ∙ c.in-None.ensures.until ∙ ap (λ t. t.memory.until) c.self.view_is)
+    let left : Table = record { redirects = record { limit = c.self.inside.redirects.cap; destinations = c.remember.new.self.limit; entries = c.self.inside.redirects.entries }; memory = c.remember.new.self } in
+    agrees_with (g.V.View.own c.args.view.now) (g.V.View.linked c.args.view.now) (g.V.View.candidates c.args.view.now) c.args.now c.args.self.now left d c.determine-hop.result agrees
+    (ap (λ t. t.redirects.entries) c.self.view_is) (c.remember.ensures.until ∙ c.in-None.ensures.until ∙ ap (λ t. t.memory.until) c.self.view_is)
     (c.addresses_are_told_by_numbers.ensures.addr d c.as_bytes-bytes.ensures.bytes) (value_anew g c) (returns-in-None-clause-remembers g c)

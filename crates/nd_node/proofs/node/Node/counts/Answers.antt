@@ -16,13 +16,13 @@ returns-clause-value g c = record {
 
 pub returns-clause-within : goal.returns-clause-within
 returns-clause-within g c start d s = record {
-  neighbours = subst (λ (limit : ℕ). c.len-neighbours.result ≤ limit) s.neighbour_limit c.len-neighbours.ensures.few;
-  routers = subst (λ (limit : ℕ). c.len-routers.result ≤ limit) s.router_limit c.len-routers.ensures.few;
-  prefixes = c.len-prefixes.ensures.few;
-  addresses = c.len-addresses.ensures.few;
-  servers = c.servers_len-servers.ensures.few;
-  search_names = c.search_names_len-search_names.ensures.few;
-  redirects = c.redirects_len-redirects.ensures.few;
-  offers = c.offers_len-offers.ensures.few;
-  routes = c.len-routes.ensures.few;
+  neighbours = subst (λ (limit : ℕ). c.len-neighbours.result ≤ limit) s.limits.neighbours c.len-neighbours.ensures.few;
+  routers = subst (λ (limit : ℕ). c.len-routers.result ≤ limit) s.limits.routers c.len-routers.ensures.few;
+  prefixes = subst (λ (limit : ℕ). c.len-prefixes.result ≤ limit) s.limits.prefixes c.len-prefixes.ensures.few;
+  addresses = subst (λ (limit : ℕ). c.len-addresses.result ≤ limit) s.limits.addresses c.len-addresses.ensures.few;
+  servers = subst (λ (limit : ℕ). c.servers_len-servers.result ≤ limit) s.limits.servers c.servers_len-servers.ensures.few;
+  search_names = subst (λ (limit : ℕ). c.search_names_len-search_names.result ≤ limit) s.limits.names c.search_names_len-search_names.ensures.few;
+  redirects = subst (λ (limit : ℕ). c.redirects_len-redirects.result ≤ limit) s.limits.redirects c.redirects_len-redirects.ensures.few;
+  offers = subst (λ (limit : ℕ). c.offers_len-offers.result ≤ limit) s.router.offer_limit c.offers_len-offers.ensures.few;
+  routes = subst (λ (limit : ℕ). c.len-routes.result ≤ limit) s.router.route_limit c.len-routes.ensures.few;
 }

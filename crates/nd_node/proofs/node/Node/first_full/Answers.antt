@@ -2,7 +2,6 @@ use Rattle.std.proofs.Common.{◌≡◌, true, sym, ◌∙◌}
 use Rattle.nd_decode.specs.Pieces.{options_left}
 use Rattle.nd_node.proofs.Filling.{advertisement_fills, at_neighbours, at_routers, at_prefixes, at_addresses, at_servers, at_names, at_none}
 use Rattle.nd_table.specs.Listing.{fits}
-use Rattle.nd_dns.specs.Dns.{max_names}
 use Rattle.nd_dns.specs.AnnouncedNames.{same_name, names_told}
 use Rattle.nd_node.proofs.node.Node.first_full.Goals as goal
 use Rattle.nd_node.proofs.node.Node.first_full.Goals.{else-not-known-via-then-not-known+else-not-fits_names, else-not-known-via-else-not-known}
@@ -41,7 +40,7 @@ returns-then-not-fits_names-clause-fills g c = λ start c' s le.
 
 pub returns-clause-fills : goal.returns-clause-fills
 returns-clause-fills g c = λ start c' s le.
-    let names_fit : fits same_name max_names c.args.now (names_told (options_left c.args.options)) c.args.self.now.dns.names ≡ true = elim c.else-not-known.branch [
+    let names_fit : fits same_name c.args.self.now.dns.name_limit c.args.now (names_told (options_left c.args.options)) c.args.self.now.dns.names ≡ true = elim c.else-not-known.branch [
       | else-not-known-via-then-not-known+else-not-fits_names w ↦ sym w.fits_names.ensures.value ∙ w.if-not-fits_names.false
       | else-not-known-via-else-not-known w ↦ c.requires w.if-not-known.false
     ] in

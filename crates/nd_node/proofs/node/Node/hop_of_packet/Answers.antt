@@ -4,7 +4,7 @@ use Rattle.nd_node.proofs.node.Node.hop_of_packet.Goals as goal
 
 pub returns-in-Host-clause-next : goal.returns-in-Host-clause-next
 returns-in-Host-clause-next g c = λ start c' s le.
-    hop_of_host c.args.self.now.role start.role s.role c.in-Host.is c' c.args.now c.args.destination (hop_of c.next_hop.result) (c.next_hop.ensures.next start c' s le)
+    hop_of_host start c.args.self.now.role s.role c.in-Host.is c' c.args.now c.args.destination (hop_of c.next_hop.result) (c.next_hop.ensures.next start c' s le)
 
 pub returns-in-Router-clause-next : goal.returns-in-Router-clause-next
 returns-in-Router-clause-next g c = λ start c' s le.

@@ -25,8 +25,8 @@ pub returns-clause-misdirected : goal.returns-clause-misdirected
 returns-clause-misdirected g c = λ start c' s le n place.
     let hop = hop_of c.determined_hop-hop.result in
     let destination = c.args.redirect.now.destination in
-    let here = next_later c' c.args.now destination hop (c.determined_hop-hop.ensures start c' s le) in
-    let same : hop ≡ n.0 = one_next_hop ((c.args.now, Passed) ∷ c') c.args.now destination hop n.0 here n.1 in
+    let here = next_later start c' c.args.now destination hop (c.determined_hop-hop.ensures start c' s le) in
+    let same : hop ≡ n.0 = one_next_hop ((c.args.now, Passed) ∷ c') c.args.now start destination hop n.0 here n.1 in
     absurd (n.2 (sym same ∙ c.is_via.ensures.0 c.if-not-is_via.false))
 
 pub returns-clause-full : goal.returns-clause-full

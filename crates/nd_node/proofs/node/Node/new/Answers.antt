@@ -23,10 +23,12 @@ returns-clause-stands g c =
     (record {
       role = refl;
       mac = refl;
+      chosen = refl;
       last = refl;
       drawn_at = ap (λ (v : parameters.Values). v.drawn_at) c.new-params.ensures.value;
       address_mac = ap (λ (t : addresses.Table). t.mac) c.start.ensures.first;
       address_transmits = ap (λ (t : addresses.Table). t.transmits) c.start.ensures.first;
+      address_limit = ap (λ (t : addresses.Table). t.limit) c.start.ensures.first ∙ c.in-Ok.ensures.addresses;
       delay = _;
       retrans = _;
       formed = ap (λ (t : addresses.Table). t.addresses) c.start.ensures.first;
@@ -36,6 +38,7 @@ returns-clause-stands g c =
       advertiser = c.in-Ok.ensures.advertiser;
       routes = c.in-Ok.ensures.routes;
       no_prefixes = c.in-Ok.ensures.no_prefixes;
+      no_dns = c.in-Ok.ensures.no_dns;
       choice = c.in-Ok.ensures.choice;
     })
     (subst (λ (v : ℕ). parameters.Stands c.new-params.result (Drew at v ∷ [])) c.reachable_drawn-reachable.ensures.value c.new-params.ensures.stands)

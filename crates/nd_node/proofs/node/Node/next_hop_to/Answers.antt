@@ -4,7 +4,7 @@ use Rattle.nd_node.proofs.node.Node.next_hop_to.Goals as goal
 
 pub returns-in-Host : goal.returns-in-Host
 returns-in-Host g c = λ start c' s le.
-    hop_of_host c.args.self.now.role start.role s.role c.in-Host.is c' c.args.now c.args.destination (hop_of c.determined_hop.result) (c.determined_hop.ensures start c' s le)
+    hop_of_host start c.args.self.now.role s.role c.in-Host.is c' c.args.now c.args.destination (hop_of c.determined_hop.result) (c.determined_hop.ensures start c' s le)
 
 pub returns-in-Router : goal.returns-in-Router
 returns-in-Router g c = λ start c' s le.

@@ -17,5 +17,5 @@ returns-clause-refused g c = λ start c' s le adds place.
     let destination = c.args.outgoing.now.destination in
     c.send_by_hop.ensures.refused start c' (c.hop_of_packet-hop.ensures.stands start c' s)
     (to_hop start c.args.now c.args.outgoing.now.source destination c.args.outgoing.now.next_header c.args.outgoing.now.payload.items c' start.role hop refl (c.requires.unrefused start c' s)
-    (hop_later start.role c' c.args.now destination hop (c.hop_of_packet-hop.ensures.next start c' s le)) adds)
+    (hop_later start start.role c' c.args.now destination hop (c.hop_of_packet-hop.ensures.next start c' s le)) adds)
     place

@@ -3,7 +3,7 @@ use Rattle.std.specs.Prelude.{Option, ℕ}
 use Rattle.nd_neighbour.specs.History.{RowKind}
 use Rattle.nd_decode.specs.Pieces.{options_left}
 use Rattle.nd_steps.specs.NeighbourCache.{HearsOf}
-use Rattle.nd_node.proofs.Recalling.{may_redirects, redirects_stand}
+use Rattle.nd_node.proofs.Recalling.{may_redirects, redirects_stand, room_kept, room_then}
 use Rattle.nd_node.proofs.Advertised.{takes_advertisement}
 use Rattle.nd_node.proofs.node.Node.take_router_advertisement.Goals as goal
 
@@ -21,6 +21,7 @@ returns g c =
     (record {
       role = refl;
       mac = refl;
+      chosen = refl;
       last = refl;
       left = _;
       params = c.hear_parameters.ensures;
@@ -30,6 +31,7 @@ returns g c =
       ends = _;
       neighbours = subst (λ (said : Option (ℕ × RowKind)). HearsOf c.args.self.now.neighbours.limit c.args.now said c.args.self.now.neighbours.entries c.hear_of_neighbour.new.neighbours.entries c.args.outs.now.items c.hear_of_neighbour.new.outs.items c.hear_of_neighbour.result) (c.requires.news _) c.hear_of_neighbour.ensures.hears;
       neighbour_limit = c.hear_of_neighbour.ensures.limit;
+      waiting = c.hear_of_neighbour.ensures.waiting;
       left_list = _;
       times_out = c.hear_router-times_out.ensures.times_out;
       routers = c.hear_router-times_out.ensures.routers;
@@ -50,6 +52,11 @@ returns g c =
       until = c.keep_until_a_prefix_ends.ensures.until;
       routers_settled = c.hear_router-times_out.ensures.settled;
       router_limit = c.hear_router-times_out.ensures.limit;
+      prefix_limit = c.hear_prefixes.ensures.limit;
+      server_limit = c.hear_dns.ensures.server_limit;
+      name_limit = c.hear_dns.ensures.name_limit;
+      room = room_then _ _ _ (room_kept _ _ (may_redirects c.args.self.now.choice c.hear_of_neighbour.new.choice c.args.self.now.neighbours.entries c.hear_of_neighbour.new.neighbours.entries c.hear_of_neighbour.ensures.remembers))
+          (room_then _ _ _ c.hear_router-times_out.ensures.limits (room_kept c.hear_router-times_out.new.choice c.keep_until_a_prefix_ends.new.choice (c.keep_until_a_prefix_ends.ensures.redirects ∙ c.hear_prefixes.ensures.redirects)));
       left_is_told = c.tell_left.ensures;
       prefixes = c.hear_prefixes.ensures.stands;
       retrans = _;
@@ -57,5 +64,5 @@ returns g c =
       to_all = _;
       goes_to_all = c.is_multicast.ensures.exactly;
       forms = c.hear_prefix_options-none_formed.ensures.forms;
-      dns = c.hear_dns.ensures;
+      dns = c.hear_dns.ensures.stands;
     }))

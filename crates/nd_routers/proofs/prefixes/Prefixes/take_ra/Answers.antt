@@ -8,6 +8,7 @@ use Rattle.nd_table.specs.ListingKept.{Distinct, Stands, announced_all}
 use Rattle.nd_table.proofs.Behind.{Distinct-all}
 use Rattle.nd_table.proofs.Steps.{gains_all}
 use Rattle.nd_routers.specs.OnLinkPrefixes.{prefixes_in}
+use Rattle.nd_routers.specs.PrefixesKept.{Prefixes}
 use Rattle.nd_routers.proofs.prefixes.Prefixes.take_ra.Goals as goal
 
 pub invariant_of-self : goal.invariant_of-self
@@ -16,11 +17,12 @@ invariant_of-self g c = (
   omega (arith, c.announce_all.ensures.capacity, c.self.invariant.1),
   subst (λ (es : List (Lasting PrefixValue)). Distinct same_prefix es) (sym c.announce_all.ensures.items)
       (Distinct-all same_prefix prefixes_tell c.args.now (prefixes_in (options_left c.args.options)) c.self.inside.entries.items c.self.invariant.2),
+  c.self.invariant.3,
 )
 
 pub returns-clause-stands : goal.returns-clause-stands
 returns-clause-stands g c = λ history le s.
     let told = prefixes_in (options_left c.args.options) in
     subst (λ (es : List (Lasting PrefixValue)). Stands same_prefix es (then_announced c.args.now told history))
-    (sym (c.announce_all.ensures.items ∙ ap (λ es. announced_all same_prefix c.args.now told es) c.self.view_is))
-    (gains_all same_prefix prefixes_tell c.args.now told c.args.self.now history le s)
+    (sym (c.announce_all.ensures.items ∙ ap (λ (h : Prefixes). announced_all same_prefix c.args.now told h.entries) c.self.view_is))
+    (gains_all same_prefix prefixes_tell c.args.now told c.args.self.now.entries history le s)

@@ -13,6 +13,6 @@ returns-clause-by_history g c history s =
       known = c.args.self.now.addresses;
       those = s;
       fit_is = c.fits.ensures
-          ∙ (ap (λ xs. fits_in c.self.inside.mac (keys_in xs) infos) c.deref.ensures.value
-          ∙ ap (λ (t : Table). fits_in t.mac (keys_in t.addresses) infos) c.self.view_is);
+          ∙ (ap (λ xs. fits_in c.self.inside.limit c.self.inside.mac (keys_in xs) infos) c.deref.ensures.value
+          ∙ ap (λ (t : Table). fits_in t.limit t.mac (keys_in t.addresses) infos) c.self.view_is);
     }

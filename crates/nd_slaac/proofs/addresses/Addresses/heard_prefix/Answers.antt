@@ -5,23 +5,23 @@ use Rattle.nd_slaac.proofs.addresses.Addresses.heard_prefix.Goals as goal
 
 pub returns-clause-gains : goal.returns-clause-gains
 returns-clause-gains g c =
-    gains_heard c.args.now c.args.info.now c.args.delay c.args.retrans _ c.take.result c.args.self.now _ _ _
-    (ap (λ (t : Table). t.mac) c.self.view_is) (ap (λ (t : Table). t.addresses) c.self.view_is) c.named_by-addr.ensures c.take.ensures.changes
+    gains_heard c.args.now c.args.info.now c.args.delay c.args.retrans _ c.take.result c.args.self.now _ _ _ _
+    (ap (λ (t : Table). t.limit) c.self.view_is) (ap (λ (t : Table). t.mac) c.self.view_is) (ap (λ (t : Table). t.addresses) c.self.view_is) c.named_by-addr.ensures c.take.ensures.changes
 
 pub returns-clause-fits : goal.returns-clause-fits
 returns-clause-fits g c =
-    fits_heard c.args.now c.args.info.now c.args.delay c.args.retrans _ c.take.result c.args.self.now _ _ _
-    (ap (λ (t : Table). t.mac) c.self.view_is) (ap (λ (t : Table). t.addresses) c.self.view_is) c.named_by-addr.ensures c.take.ensures.changes
+    fits_heard c.args.now c.args.info.now c.args.delay c.args.retrans _ c.take.result c.args.self.now _ _ _ _
+    (ap (λ (t : Table). t.limit) c.self.view_is) (ap (λ (t : Table). t.mac) c.self.view_is) (ap (λ (t : Table). t.addresses) c.self.view_is) c.named_by-addr.ensures c.take.ensures.changes
     (sym c.is_taken.ensures ∙ c.if-not-is_taken.false) c.take.ensures.value
 
 pub returns-clause-comes : goal.returns-clause-comes
 returns-clause-comes g c =
-    comes_heard c.args.now c.args.info.now c.args.delay c.args.retrans _ c.take.result c.args.self.now _ _ _
-    (ap (λ (t : Table). t.mac) c.self.view_is) (ap (λ (t : Table). t.addresses) c.self.view_is) c.named_by-addr.ensures c.take.ensures.changes
+    comes_heard c.args.now c.args.info.now c.args.delay c.args.retrans _ c.take.result c.args.self.now _ _ _ _
+    (ap (λ (t : Table). t.limit) c.self.view_is) (ap (λ (t : Table). t.mac) c.self.view_is) (ap (λ (t : Table). t.addresses) c.self.view_is) c.named_by-addr.ensures c.take.ensures.changes
     c.take.ensures.value
 
 pub returns-clause-keys : goal.returns-clause-keys
 returns-clause-keys g c =
-    keys_heard c.args.now c.args.info.now c.args.delay c.args.retrans _ c.take.result c.args.self.now _ _ _
-    (ap (λ (t : Table). t.mac) c.self.view_is) (ap (λ (t : Table). t.addresses) c.self.view_is) c.named_by-addr.ensures c.take.ensures.changes
+    keys_heard c.args.now c.args.info.now c.args.delay c.args.retrans _ c.take.result c.args.self.now _ _ _ _
+    (ap (λ (t : Table). t.limit) c.self.view_is) (ap (λ (t : Table). t.mac) c.self.view_is) (ap (λ (t : Table). t.addresses) c.self.view_is) c.named_by-addr.ensures c.take.ensures.changes
     (sym c.is_taken.ensures ∙ c.if-not-is_taken.false) c.take.ensures.value

@@ -1,6 +1,6 @@
 use Rattle.std.proofs.Common.{◌≡◌, ◌<◌, ◌∙◌, List, None, length, subst, sym, ap}
 use Rattle.std.specs.Prelude.{slice_get}
-use Rattle.nd_table.specs.declared.date.Date.{Date}
+use Rattle.nd_table.specs.Date.{Date}
 use Rattle.nd_table.specs.Keyed.{at_key, Rises}
 use Rattle.nd_table.specs.Dates.{rank, AllAddresses, without}
 use Rattle.nd_table.proofs.Dates.{remove_found, without_none}

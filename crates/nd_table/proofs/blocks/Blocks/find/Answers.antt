@@ -1,6 +1,6 @@
 use Rattle.std.proofs.Common.{◌≡◌, ◌<◌, ◌-◌, List, length, None, subst, sym, ap, ◌∙◌, arith}
 use Rattle.std.specs.Prelude.{slice_get}
-use Rattle.nd_table.specs.declared.date.Date.{Date}
+use Rattle.nd_table.specs.Date.{Date}
 use Rattle.nd_table.specs.Keyed.{at_key, Rises}
 use Rattle.nd_table.specs.KeyedKept.{place_of}
 use Rattle.nd_table.specs.Dates.{rank}

@@ -1,6 +1,6 @@
 use Rattle.std.proofs.Common.{◌≡◌, List, get_or, ap, ◌∙◌}
 use Rattle.std.specs.Prelude.{slice_get}
-use Rattle.nd_table.specs.declared.date.Date.{Date}
+use Rattle.nd_table.specs.Date.{Date}
 use Rattle.nd_table.specs.Dates.{first_moment}
 use Rattle.nd_table.specs.Blocks.{Blocked}
 use Rattle.nd_table.proofs.Belonging.{front_moment, front_first}

@@ -1,5 +1,5 @@
 use Rattle.std.proofs.Common.{◌≡◌, ◌-◌, ◌<◌, ℕ, List, length, drop, subst, ap, arith, suc}
-use Rattle.nd_table.specs.declared.date.Date.{Date}
+use Rattle.nd_table.specs.Date.{Date}
 use Rattle.nd_table.specs.Blocks.{Blocked, Filled}
 use Rattle.nd_table.proofs.Joining.{filled_last, sizes, dates_same, short_still, filled_now, filled_before}
 use Rattle.nd_table.proofs.blocks.Blocks.join.Goals as goal

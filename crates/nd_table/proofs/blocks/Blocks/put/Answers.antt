@@ -23,7 +23,7 @@ pub split-requires-clause-spare : goal.split-requires-clause-spare
 split-requires-clause-spare g c =
     let same : c.self.inside.used.items ≡ c.args.self.now.blocks = ap (λ (b : Blocked). b.blocks) c.self.view_is in
     put_spare c.find_from_last-at.result c.args.self.now.blocks c.self.inside.used.items c.index_mut-block.result.now c.find_from_last-at.ensures.within same c.index_mut-block.ensures.value c.put-place.new.self c.args.date c.put-place.ensures.dates
-    c.self.inside.spare.len c.find_from_last-at.ensures.here c.requires.kept.filled (omega (arith, c.requires.room, ap (λ (b : Blocked). b.spare) c.self.view_is))
+    c.self.inside.spare.len c.find_from_last-at.ensures.here c.requires.kept.filled (omega (arith, c.len.ensures, c.if-len-eq-BLOCK.true)) (omega (arith, c.requires.room, ap (λ (b : Blocked). b.spare) c.self.view_is))
 
 pub split-requires-clause-short_before : goal.split-requires-clause-short_before
 split-requires-clause-short_before g c =

@@ -1,6 +1,6 @@
 use Rattle.std.proofs.Common.{◌<◌, length, ap, sym, subst, arith}
 use Rattle.nd_addr.specs.Number.{number_of}
-use Rattle.nd_table.specs.declared.date.Date.{Date}
+use Rattle.nd_table.specs.Date.{Date}
 use Rattle.nd_table.specs.Keyed.{Rises}
 use Rattle.nd_table.specs.Dates.{Planned, rank}
 use Rattle.nd_table.specs.Blocks.{all_of}

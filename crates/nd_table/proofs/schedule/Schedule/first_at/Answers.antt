@@ -2,7 +2,7 @@ use Rattle.std.proofs.Common.{◌≡◌, ◌∙◌, subst, sym, Option, None}
 use Rattle.std.specs.Prelude.{IfSome, IfNone, slice_get}
 use Rattle.std.proofs.lemmas.Option.{IfSome_then}
 use Rattle.nd_addr.specs.Number.{number_of}
-use Rattle.nd_table.specs.declared.date.Date.{Date}
+use Rattle.nd_table.specs.Date.{Date}
 use Rattle.nd_table.specs.Dates.{Planned, AreDates}
 use Rattle.nd_table.specs.Blocks.{all_of}
 use Rattle.nd_table.proofs.Dates.{first_found, none_found_now}
