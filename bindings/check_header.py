@@ -17,10 +17,11 @@ from dist_headers import dist_headers  # noqa: E402
 
 HEADERS = ["nd_hear.h", "nd.h"]
 # The structures of the library's crates, by their names in C.
-STRUCTS = {"Slot": "nd_node", "Options": "nd_options", "Record": "nd_out", "NeighbourRow": "nd_neighbour_row", "RouterRow": "nd_router_row",
-           "PrefixRow": "nd_prefix_row", "AddressRow": "nd_address_row", "ServerRow": "nd_server_row", "NameRow": "nd_name_row",
-           "RedirectRow": "nd_redirect_row", "ParametersRow": "nd_parameters_row", "OfferRow": "nd_offer_row", "RouteRow": "nd_route_row",
-           "Advertising": "nd_advertising", "CountsRow": "nd_counts_row", "NextHopRow": "nd_next_hop_row", "Heard": "nd_heard"}
+STRUCTS = {"Slot": "nd_node", "Limits": "nd_limits", "Options": "nd_options", "Record": "nd_out", "NeighbourRow": "nd_neighbour_row",
+           "RouterRow": "nd_router_row", "PrefixRow": "nd_prefix_row", "AddressRow": "nd_address_row", "ServerRow": "nd_server_row",
+           "NameRow": "nd_name_row", "RedirectRow": "nd_redirect_row", "ParametersRow": "nd_parameters_row", "OfferRow": "nd_offer_row",
+           "RouteRow": "nd_route_row", "Advertising": "nd_advertising", "CountsRow": "nd_counts_row", "NextHopRow": "nd_next_hop_row",
+           "Heard": "nd_heard"}
 # What the sources have as arrays, or have not: the memory functions are the toolchain's, which the archive calls.
 OTHER_STRUCTS = {"nd_addr", "nd_mac", "nd_block"}
 ALLOCATOR = """struct nd_block rattle_alloc(size_t, size_t);
@@ -38,6 +39,8 @@ NUMBERS = {"bool": ("bool", 1), "u8": ("uint8_t", 1), "u16": ("uint16_t", 2), "u
            "usize": ("size_t", 8), "*mut u8": ("void *", 8)}
 ARRAYS = {("u8", 16): "nd_addr", ("u8", 6): "nd_mac"}
 ALIASES = {"nd_addr": "[u8; 16]", "nd_mac": "[u8; 6]"}
+# The parameters that the sources take as the bytes of a structure. C passes its address and its size.
+AS_BYTES = {("nd_open", "options"): "nd_options"}
 # The crates with the structures, those with the functions of each header, the files with the numbers, and those whose constants they name.
 CRATES = ["nd_c_types", "nd_heard", "nd_session"]
 EXPORTS = {"nd_hear.h": "nd_hear_c", "nd.h": "nd_c"}
@@ -85,19 +88,19 @@ def places(fields, structs):
     return rows, (at + widest - 1) // widest * widest, widest
 
 
-def flat(fields, structs):
-    """Returns the fields, with those of a structure that C does not know in its place."""
+def flat(fields, structs, names):
+    """Returns the fields, with those of a structure that C does not know in its place. `names` are those of the structures in C."""
     for field, kind in fields:
-        if kind in structs and kind not in STRUCTS:
-            yield from flat(structs[kind], structs)
+        if kind in structs and kind not in names:
+            yield from flat(structs[kind], structs, names)
         else:
             yield field, kind
 
 
-def type_of(kind):
-    """Returns the type of a field in C, or None for an array that is compared by its size alone."""
+def type_of(kind, names):
+    """Returns the type of a field in C, or None for an array that is compared by its size alone. `names` are those of the structures in C."""
     array = re.fullmatch(r"\[(\w+); (\d+)\]", kind)
-    return ARRAYS.get((array[1], int(array[2]))) if array else NUMBERS[kind][0]
+    return ARRAYS.get((array[1], int(array[2]))) if array else names.get(kind) or NUMBERS[kind][0]
 
 
 def struct_lines(structs, names):
@@ -106,13 +109,13 @@ def struct_lines(structs, names):
         if name not in names:
             continue
         c_name = names[name]
-        rows, size, _ = places(list(flat(fields, structs)), structs)
+        rows, size, _ = places(list(flat(fields, structs, names)), structs)
         yield f'_Static_assert(sizeof({c_name}) == {size}, "{c_name}");'
         for field, kind, at, field_size in rows:
             it = f"((({c_name} *)0)->{field})"
             yield f'_Static_assert(offsetof({c_name}, {field}) == {at} && sizeof{it} == {field_size}, "{c_name}.{field}");'
-            if type_of(kind):
-                yield f'_Static_assert(_Generic({it}, {type_of(kind)}: 1, default: 0), "{c_name}.{field}");'
+            if type_of(kind, names):
+                yield f'_Static_assert(_Generic({it}, {type_of(kind, names)}: 1, default: 0), "{c_name}.{field}");'
 
 
 def parameters_of(kind, names):
@@ -137,8 +140,10 @@ def functions_of(text, names, pattern=r'pub extern "C" fn (\w+)\((.*?)\)(?: -> (
     """Returns the declaration in C of each function."""
     functions = {}
     for name, words, result in re.findall(pattern, without_comments(text), re.S):
-        kinds = [kind.strip() for kind in re.findall(r"\w+: ([^,]+)", words)]
-        parameters = [c for kind in kinds for c in parameters_of(kind, names)]
+        parameters = []
+        for parameter, kind in re.findall(r"(\w+): ([^,]+)", words):
+            structure = AS_BYTES.get((name, parameter)) if kind.strip() == "&[u8]" else None
+            parameters += [f"const {structure} *", "size_t"] if structure else parameters_of(kind.strip(), names)
         functions[name] = f"{NUMBERS[result][0] if result else 'void'} {name}({', '.join(parameters) or 'void'});"
     return functions
 
@@ -211,7 +216,6 @@ class Sources:
         self.functions = {header: functions_of(source(crate), STRUCTS) for header, crate in EXPORTS.items()}
         self.numbers = numbers_of_source()
         size = constants_of(["nd_c_types/src/options.rt"], {})["SIZE"]
-        zeros = "offsetof(nd_options, role)"
         self.program = f"""#undef ND_VERSION_MAJOR
 #undef ND_VERSION_MINOR
 #undef ND_VERSION_PATCH
@@ -224,7 +228,7 @@ int main(void) {{
     static const unsigned char none[sizeof(nd_options)];
     nd_node node = ND_NODE_INIT;
     nd_options options = ND_OPTIONS_INIT;
-    return node.is_open || node.at || options.size != {size}u || memcmp((unsigned char *)&options + {zeros}, none, sizeof options - {zeros});
+    return node.is_open || node.at || sizeof options != {size} || memcmp(&options, none, sizeof options);
 }}
 """
 
@@ -245,7 +249,7 @@ int main(void) {{
         declared = structs_in(both)
         faults += differences("the structure", {*STRUCTS.values(), *OTHER_STRUCTS}, list(declared))
         for name, c_name in STRUCTS.items():
-            fields = [field for field, _ in flat(self.structs[name], self.structs)] if name in self.structs else []
+            fields = [field for field, _ in flat(self.structs[name], self.structs, STRUCTS)] if name in self.structs else []
             if fields != declared.get(c_name):
                 faults.append(f"{c_name} has the fields {declared.get(c_name)}, not {fields}")
         allocator = functions_in(ALLOCATOR)

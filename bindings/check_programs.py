@@ -26,6 +26,9 @@ ROUTER = ["02:00:00:00:00:01", "word:0"]
 NDPCTL = f"{TOP}/crates/ndpctl/out/ndpctl"
 MIXED = "\n".join(frames.mixed(300)) + "\n"
 FEW = "\n".join(frames.mixed(40)) + "\n"
+FULL = "\n".join(frames.full(2049)) + "\n"
+# The limits of a small node, in the order of nd.h.
+SMALL = [8, 2, 4, 4, 2, 2, 4, 8, 1, 1, 3]
 
 
 def archive_of(crate, variable):
@@ -135,6 +138,27 @@ def check_beside_ndpctl(program):
                       said.stderr + wanted.stderr + difference(said.stdout, wanted.stdout))
 
 
+def choices():
+    """Returns choices of limits, in the order of nd.h: each at 1 and at its greatest, the others usual; and those that also run under valgrind: all at
+    1, all at their greatest, and those of a small node."""
+    found = re.findall(r"RANGE\(\w+, (\d+), (\d+)\)", read(f"{TESTS}/ranges.h"))
+    usual, greatest = ([int(numbers[i]) for numbers in found] for i in range(2))
+    return [usual[:i] + [number] + usual[i + 1:] for i in range(len(found)) for number in (1, greatest[i])], [[1] * len(found), greatest, SMALL]
+
+
+def check_bytes(program):
+    """Requires that nodes take no more bytes than nd_node_bytes says, where the tables are full."""
+    corners, others = choices()
+    wrong = []
+    for limits in corners:
+        said = run([program, *map(str, limits)], input=FULL)
+        print(said.stdout, end="")
+        wrong += [f"{limits}: {said.stderr}"] if said.returncode else []
+    report_if(f"bytes: {len(corners)} choices of limits", len(corners) == 2 * len(SMALL) and not wrong, "\n".join(wrong))
+    for limits in others:
+        print(check_runs(f"bytes: {' '.join(map(str, limits))}", [program, *map(str, limits)], FULL, FULL), end="")
+
+
 def check_tests(room, archive):
     misuse = build(room, "misuse", [f"{TESTS}/misuse.c", COUNTING, archive])
     if misuse:
@@ -147,10 +171,12 @@ def check_tests(room, archive):
         print(check_runs("threads", [threads], MIXED, FEW), end="")
         if has("valgrind", "threads, under helgrind"):
             report("threads, under helgrind", run(["valgrind", "--tool=helgrind", "-q", "--error-exitcode=99", threads], input=FEW))
+    limits = build(room, "limits", [f"{TESTS}/limits.c", COUNTING, archive])
+    if limits:
+        print(check_runs("limits: each at 1 and at its greatest", [limits], FULL, FULL), end="")
     size = build(room, "bytes", [f"{TESTS}/bytes.c", COUNTING, archive])
-    for count in (1, 16, 512, 2048) if size else ():
-        text = "\n".join(frames.full(count)) + "\n"
-        print(check_runs(f"bytes: {count} neighbours", [size, str(count)], text), end="")
+    if size:
+        check_bytes(size)
     trace = build(room, "trace", [f"{TESTS}/trace.c", COUNTING, archive])
     if trace:
         check_traces(trace)

@@ -1,10 +1,11 @@
 // A node: the functions of include/nd.h, over a module of WebAssembly of crates/nd_c that has a memory of its own.
 
 const NODE_MODULE = '@NODE@';
-const SIZES = { u8: 1, u32: 4, u64: 8, mac: 6, address: 16, name: 256 };
+const SIZES = { u8: 1, u16: 2, u32: 4, u64: 8, mac: 6, address: 16, name: 256 };
 // The structures of nd.h: each field with its type, in order. Reserved fields that are behind the others are left out.
 const STRUCTURES = {
-    options: 'size:u32 role:u32 mac:mac transmits:u8 draws:u8 neighbours:u32 routers:u32 start:u64 seed:u64 r1:u64 r2:u64 r3:u64',
+    options: 'role:u32 mac:mac transmits:u8 draws:u8 policies:u32 start:u64 seed:u64 neighbours:u16 routers:u16 prefixes:u16 addresses:u16 '
+        + 'servers:u16 names:u16 redirects:u16 destinations:u16 offers:u16 routes:u16 waiting:u16',
     out: 'moment:u64 length:u64 kind:u32 code:u32 limit:u32 reserved:u32 address:address',
     neighbour: 'address:address mac:mac has_mac:u8 is_router:u8 state:u32',
     router: 'left:u64 address:address preference:u32',
@@ -21,13 +22,13 @@ const STRUCTURES = {
 };
 const LAYOUTS = Object.fromEntries(Object.entries(STRUCTURES).map(([name, words]) => [name, layoutOf(words)]));
 const DONE = 0, NO_MEMORY = -1, INVALID = -3, PAST = -4;
-const LONGEST_BYTES = 131072;
+const OPTIONS_BYTES = 64, LONGEST_BYTES = 131072;
 
 // Returns the fields of a structure with their places, as C lays them out.
 function layoutOf(words) {
     let at = 0;
     return words.split(' ').map((word) => {
-        const [field, type] = word.split(':'), aligned = { u32: 4, u64: 8 }[type] ?? 1;
+        const [field, type] = word.split(':'), aligned = { u16: 2, u32: 4, u64: 8 }[type] ?? 1;
         at = Math.ceil(at / aligned) * aligned;
         const place = { field, type, at };
         at += SIZES[type];
@@ -36,7 +37,7 @@ function layoutOf(words) {
 }
 
 class NdNode {
-    // `exports` are those of an instance of its own; `options` has the fields of nd_options that are not 0, mac being six bytes.
+    // `exports` are those of an instance of its own; `options` has the fields of nd_options and of its limits that are not 0, mac being six bytes.
     constructor(exports, options) {
         this.nd = exports;
         this.bytes = new Uint8Array(this.nd.memory.buffer);
@@ -47,8 +48,8 @@ class NdNode {
         this.data = this.at + 512;
         const pool = this.data + LONGEST_BYTES;
         this.nd.nd_give_pool(BigInt(pool), BigInt(this.bytes.length - pool));
-        this.write('options', { size: 64, ...options });
-        if (this.call('nd_open', this.at) !== DONE) throw new Error('these options open no node');
+        this.write('options', options);
+        if (this.call('nd_open', this.at, OPTIONS_BYTES) !== DONE) throw new Error('these options open no node');
     }
     // Calls a function for this node. Numbers are passed as 64-bit ones, those of `narrow` as they are.
     call(name, ...words) {
@@ -60,6 +61,7 @@ class NdNode {
     }
     put(at, type, value) {
         if (type === 'u8') this.bytes[at] = value;
+        else if (type === 'u16') this.view.setUint16(at, Number(value), true);
         else if (type === 'u32') this.view.setUint32(at, Number(value), true);
         else if (type === 'u64') this.view.setBigUint64(at, BigInt(value), true);
         else this.bytes.set(value, at);
@@ -69,6 +71,7 @@ class NdNode {
     }
     get(at, type) {
         if (type === 'u8') return this.bytes[at];
+        if (type === 'u16') return this.view.getUint16(at, true);
         if (type === 'u32') return this.view.getUint32(at, true);
         if (type === 'u64') return this.view.getBigUint64(at, true);
         return this.bytes.slice(at, at + SIZES[type]);

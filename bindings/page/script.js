@@ -194,13 +194,13 @@ const EVENTS = {
 
 // ---- a run
 
-// Opens a node with the words of the command line of `ndpctl run`, and the moment of its start.
-async function opened(module, { role, mac: address, draws = 'seed:0', transmits = 1, neighbours = 512, routers = 16, start = 0 }) {
+// Opens a node with the words of the command line of `ndpctl run`, the limits among them by their names, and the moment of its start.
+async function opened(module, { role, mac: address, draws = 'seed:0', transmits = 1, start = 0, ...limits }) {
     const [, source, seed] = /^(seed|word):(\d+)$/.exec(draws) ?? [];
     if (!source) throw new Malformed('draws are seed:<n> or word:<n>');
     const { exports } = await WebAssembly.instantiate(module, {});
     const draw = { draws: source === 'word' ? 1 : 0, seed };
-    const node = new NdNode(exports, { role: role === 'router' ? 1 : 0, mac: macOf(address), transmits, neighbours, routers, start, ...draw });
+    const node = new NdNode(exports, { role: role === 'router' ? 1 : 0, mac: macOf(address), transmits, start, ...limits, ...draw });
     node.role = role;
     return node;
 }

@@ -44,8 +44,8 @@ static void get(void *to, uint32_t at, size_t length)
 #endif
 }
 
-/* A structure is described by its fields, which follow each other without padding: '8' and '4' are numbers of so many bytes, '1' is a byte, 'a' an
- * address, 'm' an Ethernet address, 't' the text of a name. */
+/* A structure is described by its fields, which follow each other without padding: '8', '4' and '2' are numbers of so many bytes, '1' is a byte, 'a'
+ * an address, 'm' an Ethernet address, 't' the text of a name. */
 static size_t width(char field)
 {
     return field == 'a' ? 16 : field == 'm' ? 6 : field == 't' ? 256 : (size_t)(field - '0');
@@ -90,17 +90,19 @@ static void get_fields(void *to, uint32_t at, const char *fields)
     reorder(to, fields);
 }
 
-#define OPTIONS "44m114488888"
+#define LIMITS "2222222222222222"
+#define OPTIONS "4m11488" LIMITS
+#define COUNTS "4444444444" LIMITS
 #define ADVERTISING "44444411114"
 #define OFFER "a4441111"
 #define ROUTE "aa44"
 #define HEARD "aaaa44444444411111111"
 #define OUT "884444a"
 
-_Static_assert(sizeof(nd_options) == 64 && sizeof(nd_advertising) == 32 && sizeof(nd_offer_row) == 32 && sizeof(nd_route_row) == 40 &&
-                   sizeof(nd_heard) == 108 && sizeof(nd_neighbour_row) == 32 && sizeof(nd_router_row) == 32 && sizeof(nd_prefix_row) == 32 &&
-                   sizeof(nd_address_row) == 40 && sizeof(nd_server_row) == 24 && sizeof(nd_name_row) == 272 && sizeof(nd_redirect_row) == 32 &&
-                   sizeof(nd_parameters_row) == 24 && sizeof(nd_counts_row) == 24 && sizeof(nd_next_hop_row) == 24,
+_Static_assert(sizeof(nd_limits) == 32 && sizeof(nd_options) == 64 && sizeof(nd_advertising) == 32 && sizeof(nd_offer_row) == 32 &&
+                   sizeof(nd_route_row) == 40 && sizeof(nd_heard) == 108 && sizeof(nd_neighbour_row) == 32 && sizeof(nd_router_row) == 32 &&
+                   sizeof(nd_prefix_row) == 32 && sizeof(nd_address_row) == 40 && sizeof(nd_server_row) == 24 && sizeof(nd_name_row) == 272 &&
+                   sizeof(nd_redirect_row) == 32 && sizeof(nd_parameters_row) == 24 && sizeof(nd_counts_row) == 72 && sizeof(nd_next_hop_row) == 24,
                "structures have no padding");
 
 /* ---- calls ----------------------------------------------------------------------------------- */
@@ -153,17 +155,32 @@ uint32_t nd_version(void)
     return MODULE(nd_version)(&module);
 }
 
-size_t nd_node_bytes(uint32_t neighbours, uint32_t routers)
+size_t nd_node_bytes(const nd_limits *limits)
 {
     prepare();
-    return (size_t)MODULE(nd_node_bytes)(&module, neighbours, routers);
+    put_fields(structure, limits, LIMITS);
+    return (size_t)MODULE(nd_node_bytes)(&module, structure);
 }
 
-int32_t nd_open(nd_node *node, const nd_options *options)
+/* Puts the options into the module, 0 in place of what the caller's structure does not have. Returns false if a byte behind the others is not 0. */
+static bool put_options(const nd_options *options, size_t size)
+{
+    const uint8_t *from = (const uint8_t *)options;
+    nd_options known = ND_OPTIONS_INIT;
+    for (size_t i = sizeof known; i < size; i++)
+        if (from[i] != 0)
+            return false;
+    memcpy(&known, from, size < sizeof known ? size : sizeof known);
+    put_fields(structure, &known, OPTIONS);
+    return true;
+}
+
+int32_t nd_open(nd_node *node, const nd_options *options, size_t size)
 {
     enter(node);
-    put_fields(structure, options, OPTIONS);
-    return leave(node, MODULE(nd_open)(&module, slot, structure));
+    if (!put_options(options, size))
+        return ND_INVALID;
+    return leave(node, MODULE(nd_open)(&module, slot, structure, sizeof *options));
 }
 
 void nd_close(nd_node *node)
@@ -328,7 +345,7 @@ ROW_AT(nd_offer_at, nd_offer_row, OFFER)
 ROW_AT(nd_route_at, nd_route_row, ROUTE)
 ROW_OF(nd_parameters_of, nd_parameters_row, "84441111")
 ROW_OF(nd_advertising_of, nd_advertising, ADVERTISING)
-ROW_OF(nd_counts_of, nd_counts_row, "444444")
+ROW_OF(nd_counts_of, nd_counts_row, COUNTS)
 
 int32_t nd_hear(const uint8_t *frame, size_t length, uint32_t role, nd_heard *heard)
 {

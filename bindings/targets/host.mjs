@@ -24,11 +24,10 @@ function drain() {
     }
 }
 
-view.setUint32(at, 64, true); // nd_options: its size; the address; draws: ND_DRAWS_WORD; the word
-bytes.set(Buffer.from(mac.replaceAll(':', ''), 'hex'), at + 8);
-bytes[at + 15] = 1;
-view.setBigUint64(at + 32, BigInt(word), true);
-if (nd.nd_open(slot, BigInt(at)) !== 0) throw new Error('not opened');
+bytes.set(Buffer.from(mac.replaceAll(':', ''), 'hex'), at + 4); // nd_options: the address; draws: ND_DRAWS_WORD; the word
+bytes[at + 11] = 1;
+view.setBigUint64(at + 24, BigInt(word), true);
+if (nd.nd_open(slot, BigInt(at), 64n) !== 0) throw new Error('not opened');
 for (const line of readFileSync(0, 'latin1').split('\n').filter((it) => it !== '')) {
     const [now, digits = ''] = line.split(' '), received = Buffer.from(digits, 'hex');
     bytes.set(received, frame);

@@ -52,7 +52,7 @@ __attribute__((noreturn)) void start(void)
     nd_out out;
     int32_t status;
     options.mac.bytes[0] = 2;
-    status = nd_open(&node, &options);
+    status = nd_open(&node, &options, sizeof options);
     while (status == ND_DONE && nd_next_due(&node) <= 6000) {
         status = nd_turn(&node, nd_next_due(&node));
         while (nd_poll(&node, &out, buffer, sizeof buffer) == ND_DONE)

@@ -75,7 +75,7 @@ static inline uint32_t crc_of(const nd_heard *heard)
 }
 
 /* The limit of default routers of a busy node, 0 for the usual one. */
-static uint32_t busy_routers;
+static uint16_t busy_routers;
 
 /* Opens a busy node. Its records are taken. */
 static inline void open_busy(nd_node *node, uint32_t role)
@@ -87,8 +87,8 @@ static inline void open_busy(nd_node *node, uint32_t role)
     nd_options options = host_options();
     options.role = role;
     options.mac = role == ND_ROLE_ROUTER ? ROUTER_MAC : MAC;
-    options.routers = busy_routers;
-    require(nd_open(node, &options) == ND_DONE && nd_turn(node, 2000) == ND_DONE, "nd_open");
+    options.limits.routers = busy_routers;
+    require(nd_open(node, &options, sizeof options) == ND_DONE && nd_turn(node, 2000) == ND_DONE, "nd_open");
     if (role == ND_ROLE_HOST) {
         hear_named(node, 2050, "ADVERTISEMENT_WITH_DNS");
         hear_named(node, 2100, "ADVERTISEMENT_WITH_PREFIX");

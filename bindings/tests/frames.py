@@ -1,7 +1,7 @@
 #!/usr/bin/env python3
 """frames KIND COUNT: frames for the tests, one a line in hexadecimal digits, as a host of 34:56:78:9a:bc:de receives them. KIND is `mixed`: COUNT of
-all kinds; or `full`: frames that fill the tables, COUNT neighbours among them. They are made here from the layouts of the RFCs, and are the same each
-time. Other scripts import it."""
+all kinds; or `full`: frames that ask for more rows than the tables take, COUNT neighbours among them. They are made here from the layouts of the
+RFCs, and are the same each time. Other scripts import it."""
 import ipaddress
 import random
 import struct
@@ -115,18 +115,22 @@ def mixed(count):
 
 
 def full(count):
-    """Yields frames that fill each table of a host: routers, prefixes, addresses, servers, names, redirects, and then `count` neighbours."""
-    yield advertisement(options=link_layer(1, ROUTER_MAC), lifetime=9000)
-    for i in range(1, 16):
-        yield advertisement(f"02:00:00:02:00:{i:02x}", b"", 9000)
-    for i in range(0, 64, 8):
-        yield advertisement(options=b"".join(prefix(f"2001:db8:{k + 1:x}::", 0xC0 if k < 63 else 0x80) for k in range(i, i + 8)))
-    for i in range(0, 32, 8):
-        yield advertisement(options=servers(1800, *(f"2001:db8::{k + 1:x}" for k in range(i, i + 8))))
-    for k in range(32):
+    """Yields frames that ask a host for one row more than each table takes at its greatest limit: routers, prefixes, addresses, servers, names,
+    redirects, each frame for one row; and then for `count` neighbours. The first frame has the router answered, so that it is not evicted for 5
+    seconds."""
+    yield solicitation(ROUTER_MAC)
+    for i in range(65):
+        yield advertisement(f"02:00:00:02:00:{i:02x}" if i else ROUTER_MAC, b"", 9000)
+    for k in range(65):
+        yield advertisement(options=prefix(f"2001:db8:{k + 1:x}::", 0x80))
+    for k in range(64):
+        yield advertisement(options=prefix(f"2001:db9:{k + 1:x}::", 0x40))
+    for k in range(33):
+        yield advertisement(options=servers(1800, f"2001:db8::{k + 1:x}"))
+    for k in range(33):
         label = "a" * 61
         yield advertisement(options=names(1800, f"{label}{k:02}.{label}00.{label}00.{'b' * 61}"))
-    for k in range(64):
+    for k in range(65):
         yield redirect(k)
     for i in range(count):
         yield solicitation(neighbour(i))

@@ -71,9 +71,9 @@ int main(int argc, char **argv)
     size_t count = read_moments(), from = 0, refused;
     uint64_t prepared;
     require(argc == 3, "measure NEIGHBOURS MOMENT < moments and frames");
-    options.neighbours = (uint32_t)strtoul(argv[1], NULL, 10);
+    options.limits.neighbours = (uint16_t)strtoul(argv[1], NULL, 10);
     prepared = strtoull(argv[2], NULL, 10);
-    require(nd_open(&node, &options) == ND_DONE && nd_turn(&node, 2500) == ND_DONE, "nd_open and nd_turn");
+    require(nd_open(&node, &options, sizeof options) == ND_DONE && nd_turn(&node, 2500) == ND_DONE, "nd_open and nd_turn");
     drain(&node, FIRST_HASH);
     while (from < count && moments[from] <= prepared)
         from++;

@@ -1,6 +1,6 @@
 /* misuse: what the calls return where the caller makes a mistake that a call can see. Each line is a mistake, and what nd.h says of it. */
 #include "heap.h"
-#include "tested.h"
+#include "ranges.h"
 
 static int tried, wrong;
 
@@ -16,7 +16,7 @@ static void is(const char *what, int64_t got, int64_t wanted)
 
 static int32_t open_with(nd_node *node, nd_options options)
 {
-    return nd_open(node, &options);
+    return nd_open(node, &options, sizeof options);
 }
 
 static void try_closed(nd_node *node)
@@ -42,9 +42,6 @@ static void try_closed(nd_node *node)
 static void try_options(nd_node *node)
 {
     nd_options options = host_options();
-    options.size--;
-    is("an open with another size", open_with(node, options), ND_INVALID);
-    options = host_options();
     options.role = 2;
     is("an open as role 2", open_with(node, options), ND_INVALID);
     options = host_options();
@@ -57,22 +54,125 @@ static void try_options(nd_node *node)
     options.seed = UINT64_C(1) << 32;
     is("an open with a word of 33 bits", open_with(node, options), ND_INVALID);
     options = host_options();
-    options.neighbours = 2049;
-    is("an open with 2049 neighbours", open_with(node, options), ND_INVALID);
-    options = host_options();
-    options.routers = 65;
-    is("an open with 65 routers", open_with(node, options), ND_INVALID);
-    options = host_options();
     options.start = ND_MOMENT_LIMIT;
     is("an open at a moment that is none", open_with(node, options), ND_INVALID);
     options = host_options();
-    options.reserved[2] = 1;
-    is("an open with a reserved field", open_with(node, options), ND_INVALID);
+    options.policies = 1;
+    is("an open with a policy", open_with(node, options), ND_INVALID);
+    options.policies = UINT32_C(1) << 31;
+    is("an open with the last policy", open_with(node, options), ND_INVALID);
     is("no refused open left memory", (int64_t)heap_blocks, 0);
     is("an open", open_with(node, host_options()), ND_DONE);
     is("an open of an open node", open_with(node, host_options()), ND_INVALID);
-    is("2049 neighbours have no number of bytes", (int64_t)nd_node_bytes(2049, 0), 0);
-    is("65 routers have no number of bytes", (int64_t)nd_node_bytes(0, 65), 0);
+}
+
+/* Opens a node with a copy of so many bytes, behind which valgrind knows none. Returns the status. */
+static int32_t open_bytes(nd_node *node, const void *options, size_t size)
+{
+    void *own = malloc(size > 0 ? size : 1);
+    int32_t status;
+    require(own != NULL, "memory for options");
+    memcpy(own, options, size);
+    status = nd_open(node, own, size);
+    free(own);
+    return status;
+}
+
+/* Returns the limit of neighbours of a node that is opened with so many bytes, or 0 if it is not opened. */
+static uint16_t neighbours_with(const void *options, size_t size)
+{
+    nd_node node = ND_NODE_INIT;
+    nd_counts_row counts = {0};
+    if (open_bytes(&node, options, size) == ND_DONE)
+        is("the counts of a node", nd_counts_of(&node, nd_last_moment(&node), &counts), ND_DONE);
+    nd_close(&node);
+    return counts.limits.neighbours;
+}
+
+/* The structure of a caller may be one of an older or of a later version. */
+static void try_sizes(void)
+{
+    struct {
+        nd_options options;
+        uint8_t more[8];
+    } later = {host_options(), {0}};
+    static const nd_addr of_zeros = {{0xfe, 0x80, [8] = 2, [11] = 0xff, [12] = 0xfe}};
+    nd_node node = ND_NODE_INIT;
+    nd_address_row own;
+    later.options.limits.neighbours = 0x0708;
+    later.options.limits.waiting = 8;
+    is("an open without a byte", open_bytes(&node, &later, 0), ND_DONE);
+    is("is of a host, which refuses to stop", nd_stop(&node, 0), ND_REFUSED);
+    is("has an own address", nd_address_at(&node, 0, 0, &own), ND_DONE);
+    is("which is that of zeros", memcmp(&own.address, &of_zeros, sizeof own.address), 0);
+    nd_close(&node);
+    is("an open with one byte has the usual limits", neighbours_with(&later, 1), 512);
+    is("one with 32 bytes", neighbours_with(&later, 32), 512);
+    is("one with 34 bytes has the first limit", neighbours_with(&later, 34), 0x0708);
+    is("one with a byte too little", neighbours_with(&later, sizeof(nd_options) - 1), 0x0708);
+    is("one with all bytes", neighbours_with(&later, sizeof(nd_options)), 0x0708);
+    is("one with 8 zeros behind them", neighbours_with(&later, sizeof later), 0x0708);
+    for (size_t i = 0; i < sizeof later.more; i++) {
+        later.more[i] = 1;
+        is("one with a byte behind them that is not 0", neighbours_with(&later, sizeof later), 0);
+        is("which is invalid", open_bytes(&node, &later, sizeof later), ND_INVALID);
+        later.more[i] = 0;
+    }
+    is("no size left memory", (int64_t)heap_blocks, 0);
+}
+
+/* Requires that an open with these limits is invalid, and that they have no number of bytes. */
+static void refuse_limits(const char *what, const nd_limits *limits)
+{
+    nd_node node = ND_NODE_INIT;
+    nd_options options = host_options();
+    options.limits = *limits;
+    for (options.role = ND_ROLE_HOST; options.role <= ND_ROLE_ROUTER; options.role++)
+        is(what, open_with(&node, options), ND_INVALID);
+    is("has no number of bytes", (int64_t)nd_node_bytes(limits), 0);
+}
+
+static void try_limits(void)
+{
+    for (size_t i = 0; i < RANGES; i++) {
+        nd_limits limits = {0};
+        *limit_in(&limits, i) = (uint16_t)(ranges[i].greatest + 1);
+        refuse_limits(ranges[i].name, &limits);
+        *limit_in(&limits, i) = UINT16_MAX;
+        refuse_limits(ranges[i].name, &limits);
+        *limit_in(&limits, i) = ranges[i].greatest;
+        is("the greatest limit has a number of bytes", nd_node_bytes(&limits) > 0, true);
+    }
+    for (size_t i = 0; i < sizeof((nd_limits *)0)->reserved / sizeof(uint16_t); i++) {
+        nd_limits limits = {0};
+        limits.reserved[i] = 1;
+        refuse_limits("a reserved field of the limits", &limits);
+    }
+}
+
+/* Requires that a host and a router that are opened with some limits show others. */
+static void show_limits(const char *what, const nd_limits *asked, const nd_limits *wanted)
+{
+    nd_node node = ND_NODE_INIT;
+    nd_options options = host_options();
+    options.limits = *asked;
+    for (options.role = ND_ROLE_HOST; options.role <= ND_ROLE_ROUTER; options.role++) {
+        nd_counts_row counts;
+        is(what, open_with(&node, options), ND_DONE);
+        is("shows its limits", nd_counts_of(&node, 0, &counts), ND_DONE);
+        is("and they are the right ones", memcmp(&counts.limits, wanted, sizeof *wanted), 0);
+        is("its own address", counts.addresses, 1);
+        nd_close(&node);
+    }
+}
+
+static void try_shown_limits(void)
+{
+    const nd_limits none = {0}, usual = {512, 16, 64, 64, 32, 32, 64, 256, 16, 64, 3, {0}};
+    const nd_limits others = {1021, 61, 62, 63, 30, 31, 59, 255, 14, 58, 7, {0}};
+    show_limits("an open without limits", &none, &usual);
+    show_limits("an open with the usual limits", &usual, &usual);
+    show_limits("an open with other limits", &others, &others);
 }
 
 static void try_moments(nd_node *node)
@@ -203,6 +303,9 @@ int main(void)
     nd_node node = ND_NODE_INIT, moved;
     is("the version of the header", nd_version(), ND_VERSION);
     try_closed(&node);
+    try_sizes();
+    try_limits();
+    try_shown_limits();
     try_options(&node);
     try_moments(&node);
     try_host(&node);

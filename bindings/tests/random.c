@@ -20,6 +20,8 @@ enum { RECORD_ROOM = 2 * 128, FIRST_ROOM = 1024 };
 
 static const char *const LIMIT_NAMES[LIMITS] = {"", "neighbours", "routers", "prefixes", "addresses", "servers", "names", "offers", "static routes"};
 
+static const nd_limits SMALL = {.neighbours = NEIGHBOURS, .routers = ROUTERS, .waiting = WAITING};
+
 static nd_node node;
 static uint32_t role;
 static uint64_t random_state, now = OPENED_AT;
@@ -306,7 +308,6 @@ static size_t take_records(nd_out *first, size_t *bytes)
 /* Requires the bounds of memory and of the tables after a call whose records were taken. */
 static void require_bounds(size_t records, size_t bytes)
 {
-    nd_counts_row counts;
     nd_redirect_row redirect;
     records_most = records > records_most ? records : records_most;
     held_most = heap_now > held_most ? heap_now : held_most;
@@ -315,9 +316,7 @@ static void require_bounds(size_t records, size_t bytes)
     require(heap_now <= bound + rings + queue, "the node holds no more than nd_node_bytes, full rings and the queue's room");
     require(heap_most <= bound + rings + queue + 2 * bytes + 2 * LONGEST, "a call takes no more than that and what it reports");
     heap_most = heap_now;
-    require(nd_counts_of(&node, now, &counts) == ND_DONE, "nd_counts_of");
-    require(counts.neighbours <= NEIGHBOURS && counts.routers <= ROUTERS && counts.prefixes <= 64 && counts.addresses <= 64 && counts.servers <= 32 &&
-            counts.names <= 32, "no table passes its limit");
+    counts_within(&node, now, &SMALL);
     require(nd_redirect_at(&node, now, 64, &redirect) == ND_NOTHING, "no more than 64 Redirects");
 }
 
@@ -415,10 +414,9 @@ static void open_small(void)
     nd_options options = host_options();
     options.role = role;
     options.mac = role == ND_ROLE_ROUTER ? ROUTER_MAC : MAC;
-    options.neighbours = NEIGHBOURS;
-    options.routers = ROUTERS;
-    bound = nd_node_bytes(NEIGHBOURS, ROUTERS);
-    require(bound > 0 && nd_open(&node, &options) == ND_DONE && nd_turn(&node, now) == ND_DONE, "nd_open");
+    options.limits = SMALL;
+    bound = nd_node_bytes(&SMALL);
+    require(bound > 0 && nd_open(&node, &options, sizeof options) == ND_DONE && nd_turn(&node, now) == ND_DONE, "nd_open");
     if (role == ND_ROLE_ROUTER) {
         require(nd_offer(&node, now, &offer) == ND_DONE && nd_advertise(&node, now, &settings) == ND_DONE, "nd_advertise");
         require(nd_route(&node, now, &direct) == ND_DONE && nd_route(&node, now, &far) == ND_DONE, "nd_route");

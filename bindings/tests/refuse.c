@@ -18,7 +18,7 @@ static void open_again(nd_node *node)
     nd_options options = host_options();
     int32_t status;
     options.role = role;
-    while ((status = nd_open(node, &options)) == ND_NO_MEMORY) {
+    while ((status = nd_open(node, &options, sizeof options)) == ND_NO_MEMORY) {
         require(!node->is_open && heap_blocks == 0, "nd_open that is refused leaves nothing");
         again++;
     }

@@ -345,23 +345,24 @@ static size_t drop_until_full(nd_node *node)
     return count;
 }
 
-/* The queue keeps its room for records when they are taken. That of a node that has just been opened has none. */
+/* The queue keeps its room for records when they are taken. It has two parts, which take turns, and one may have grown. */
 static void fill_the_queue(void)
 {
     nd_node fresh = ND_NODE_INIT, busy = ND_NODE_INIT;
     const nd_options options = host_options();
     uint64_t before;
-    size_t first, second;
-    require(nd_open(&fresh, &options) == ND_DONE, "nd_open");
+    size_t room[4];
+    require(nd_open(&fresh, &options, sizeof options) == ND_DONE, "nd_open");
     open_busy(&busy, role);
     before = tables_of(&busy, BUSY_AT);
-    first = drop_until_full(&busy);
-    require(tables_of(&busy, BUSY_AT) == before, "all tables are as before");
-    drain(&busy, FIRST_HASH);
-    second = drop_until_full(&busy);
-    require(first > 0 && first == second, "a queue that was emptied has its room again");
-    printf("frames dropped without memory: by a host that was just opened %zu, by the busy host %zu, and as many again once its records are taken\n",
-           drop_until_full(&fresh), first);
+    for (size_t i = 0; i < 4; i++) {
+        room[i] = drop_until_full(&busy);
+        require(tables_of(&busy, BUSY_AT) == before, "all tables are as before");
+        drain(&busy, FIRST_HASH);
+    }
+    require(room[0] > 0 && room[1] > 0 && room[0] == room[2] && room[1] == room[3], "a queue that was emptied has its room again");
+    printf("frames dropped without memory: by a host that was just opened %zu, by the busy host %zu and %zu, each again once its records are taken\n",
+           drop_until_full(&fresh), room[0], room[1]);
     nd_close(&fresh);
     nd_close(&busy);
 }

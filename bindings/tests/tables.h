@@ -1,7 +1,8 @@
-/* tables.h: a hash of all that a node shows: each row of each table, the settings, the counts, and the moment that is due next. */
+/* tables.h: a hash of all that a node shows: each row of each table, the settings, the counts, and the moment that is due next. And what holds of the
+ * counts and the limits. */
 #ifndef TABLES_H
 #define TABLES_H
-#include "tested.h"
+#include "ranges.h"
 
 /* Mixes in the rows of a table, and how many there are. A row is written whole, and has no padding. */
 #define MIX_ROWS(hash, row_type, ask) \
@@ -38,5 +39,35 @@ static inline uint64_t tables_of(nd_node *node, uint64_t now)
     if (status == ND_DONE)
         hash = mix(hash, &settings, sizeof settings);
     return mix(mix(mix(hash, &status, sizeof status), &due, sizeof due), &last, sizeof last);
+}
+
+/* The tables that nd_counts_of counts. */
+enum { COUNTED = 9 };
+static const char *const TABLES[COUNTED] = {"neighbours", "routers", "prefixes", "addresses", "servers", "names", "redirects", "offers", "routes"};
+
+/* Returns the count of a table, by the order of the counts, and its limit. */
+static inline uint32_t count_of(const nd_counts_row *counts, size_t i, uint32_t *limit)
+{
+    const nd_limits *of = &counts->limits;
+    const uint32_t all[COUNTED][2] = {
+        {counts->neighbours, of->neighbours}, {counts->routers, of->routers},     {counts->prefixes, of->prefixes},
+        {counts->addresses, of->addresses},   {counts->servers, of->servers},     {counts->names, of->names},
+        {counts->redirects, of->redirects},   {counts->offers, of->offers},       {counts->routes, of->routes},
+    };
+    *limit = all[i][1];
+    return all[i][0];
+}
+
+/* Requires that a node has the limits that were asked for, and that no table passes its limit. Returns the counts. */
+static inline nd_counts_row counts_within(nd_node *node, uint64_t now, const nd_limits *asked)
+{
+    nd_counts_row counts;
+    uint32_t limit;
+    require(nd_counts_of(node, now, &counts) == ND_DONE && counts.reserved == 0, "nd_counts_of");
+    for (size_t i = 0; i < RANGES; i++)
+        require(*limit_in(&counts.limits, i) == limit_of(asked, i), "the limits are those that were asked for");
+    for (size_t i = 0; i < COUNTED; i++)
+        require(count_of(&counts, i, &limit) <= limit && limit > 0, "no table passes its limit");
+    return counts;
 }
 #endif

@@ -29,7 +29,7 @@ static void open_node(struct part *part)
 {
     nd_options options = host_options();
     *part = (struct part){.node = ND_NODE_INIT, .hash = FIRST_HASH, .now = 3000, .end = count * ROUNDS};
-    require(nd_open(&part->node, &options) == ND_DONE, "nd_open");
+    require(nd_open(&part->node, &options, sizeof options) == ND_DONE, "nd_open");
 }
 
 static void *alone(void *argument)

@@ -3,7 +3,7 @@
  * records. With `--refuse N` the Nth request for memory is refused, none for 0; a call that returns ND_NO_MEMORY is made again, and standard error
  * says how many requests there were. */
 #include "heap.h"
-#include "tested.h"
+#include "ranges.h"
 
 #include <inttypes.h>
 #include <stdarg.h>
@@ -535,6 +535,17 @@ static void answer(char *line)
 
 /* ---- the command line ------------------------------------------------------------------------ */
 
+/* Reads a limit. Returns false if the option is another one. */
+static bool read_limit(const char *name, const char *value)
+{
+    for (size_t i = 0; i < RANGES; i++)
+        if (strncmp(name, "--", 2) == 0 && strcmp(name + 2, ranges[i].name) == 0) {
+            *limit_in(&options.limits, i) = (uint16_t)strtoul(value, NULL, 10);
+            return true;
+        }
+    return false;
+}
+
 static void read_option(const char *name, const char *value)
 {
     uint8_t *m = options.mac.bytes;
@@ -544,10 +555,8 @@ static void read_option(const char *name, const char *value)
         require(sscanf(value, "%hhx:%hhx:%hhx:%hhx:%hhx:%hhx", m, m + 1, m + 2, m + 3, m + 4, m + 5) == 6, "--mac");
     else if (strcmp(name, "--transmits") == 0)
         options.transmits = (uint8_t)strtoul(value, NULL, 10);
-    else if (strcmp(name, "--neighbours") == 0)
-        options.neighbours = (uint32_t)strtoul(value, NULL, 10);
-    else if (strcmp(name, "--routers") == 0)
-        options.routers = (uint32_t)strtoul(value, NULL, 10);
+    else if (read_limit(name, value))
+        return;
     else if (strcmp(name, "--refuse") == 0) {
         heap_refuse = strtoul(value, NULL, 10);
         counts_requests = true;
@@ -565,7 +574,7 @@ int main(int argc, char **argv)
     options = none;
     for (int i = 2; i + 1 < argc; i += 2)
         read_option(argv[i], argv[i + 1]);
-    while ((status = nd_open(&node, &options)) == ND_NO_MEMORY)
+    while ((status = nd_open(&node, &options, sizeof options)) == ND_NO_MEMORY)
         require(heap_blocks == 0, "nd_open that is refused leaves nothing");
     require(status == ND_DONE, "nd_open");
     while (fgets(line, sizeof line, stdin) != NULL)

@@ -36,7 +36,7 @@ int main(int argc, char **argv)
         return fprintf(stderr, "usage: host MAC DRAWS < frames\n"), 2;
     options.draws = argv[2][0] == 'w' ? ND_DRAWS_WORD : ND_DRAWS_SEED;
     options.seed = strtoull(argv[2] + strcspn(argv[2], "0123456789"), NULL, 10);
-    if (nd_open(&node, &options) != ND_DONE)
+    if (nd_open(&node, &options, sizeof options) != ND_DONE)
         return fprintf(stderr, "host: not opened\n"), 1;
     while (fgets(line, sizeof line, stdin) != NULL) {
         char *digits;

@@ -131,7 +131,7 @@ int main(int argc, char **argv)
     }
     options.mac = mac;
     options.start = clock_ms();
-    if (getrandom(&options.seed, sizeof options.seed, 0) != (ssize_t)sizeof options.seed || nd_open(&node, &options) != ND_DONE)
+    if (getrandom(&options.seed, sizeof options.seed, 0) != (ssize_t)sizeof options.seed || nd_open(&node, &options, sizeof options) != ND_DONE)
         return 1;
     run(&node, tap, &mac);
     nd_close(&node);

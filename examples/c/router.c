@@ -48,7 +48,7 @@ int main(int argc, char **argv)
     options.role = ND_ROLE_ROUTER;
     options.draws = argv[2][0] == 'w' ? ND_DRAWS_WORD : ND_DRAWS_SEED;
     options.seed = strtoull(argv[2] + strcspn(argv[2], "0123456789"), NULL, 10);
-    if (nd_open(&node, &options) != ND_DONE || configure(&node) != 0)
+    if (nd_open(&node, &options, sizeof options) != ND_DONE || configure(&node) != 0)
         return fprintf(stderr, "router: not opened\n"), 1;
     while (fgets(line, sizeof line, stdin) != NULL) {
         char *digits;

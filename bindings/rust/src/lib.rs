@@ -42,6 +42,7 @@ pub use output::{Output, Refusal, Report};
 pub use raw::nd_advertising as Advertising;
 pub use raw::nd_counts_row as Counts;
 pub use raw::nd_heard as Heard;
+pub use raw::nd_limits as Limits;
 pub use raw::nd_offer_row as Offer;
 pub use raw::nd_parameters_row as Parameters;
 pub use rows::{Address, Hop, Name, Neighbour, Prefix, Redirect, Route, Router, Server};
@@ -85,16 +86,14 @@ pub struct Options {
     pub draws: Draws,
     /// DupAddrDetectTransmits (RFC 4862, 5.1), 1 to 8.
     pub transmits: u8,
-    /// Neighbours at most, 1 to 2048.
-    pub neighbours: u32,
-    /// Default routers at most, 1 to 64.
-    pub routers: u32,
+    /// How many rows the tables have at most. `Limits::default()` are the usual numbers.
+    pub limits: Limits,
 }
 
 impl Options {
     /// Returns the options of a host with the usual limits.
     pub fn host(mac: [u8; 6], start: u64, seed: u64) -> Options {
-        Options { role: Role::Host, mac, start, draws: Draws::Seed(seed), transmits: 1, neighbours: 512, routers: 16 }
+        Options { role: Role::Host, mac, start, draws: Draws::Seed(seed), transmits: 1, limits: Limits::default() }
     }
 
     /// Returns the options of a router with the usual limits.
@@ -108,16 +107,14 @@ impl Options {
             Draws::Word(word) => (1, u64::from(word)),
         };
         raw::nd_options {
-            size: std::mem::size_of::<raw::nd_options>() as u32,
             role: self.role.number(),
             mac: self.mac,
             transmits: self.transmits,
             draws,
-            neighbours: self.neighbours,
-            routers: self.routers,
+            policies: 0,
             start: self.start,
             seed,
-            reserved: [0; 3],
+            limits: self.limits,
         }
     }
 }
@@ -181,8 +178,13 @@ pub fn version() -> (u32, u32, u32) {
 }
 
 /// Returns how many bytes the tables of a node take at most with these limits, or `None` if a limit is out of its range.
-pub fn node_bytes(neighbours: u32, routers: u32) -> Option<usize> {
-    let bytes = unsafe { raw::nd_node_bytes(neighbours, routers) };
+///
+/// ```no_run
+/// let small = nd::Limits { neighbours: 8, routers: 2, ..Default::default() };
+/// assert!(nd::node_bytes(&small) < nd::node_bytes(&nd::Limits::default()));
+/// ```
+pub fn node_bytes(limits: &Limits) -> Option<usize> {
+    let bytes = unsafe { raw::nd_node_bytes(limits) };
     (bytes > 0).then_some(bytes)
 }
 

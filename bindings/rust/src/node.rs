@@ -52,11 +52,11 @@ fn is_written(status: i32) -> Result<bool, Error> {
 }
 
 impl Node {
-    /// Opens a node. Nothing is reported yet.
+    /// Opens a node. Nothing is reported yet. Returns `Invalid` if an option is outside its range, and `NoMemory` if memory was refused.
     pub fn open(options: &Options) -> Result<Node, Error> {
         let node = Node { slot: UnsafeCell::new(raw::nd_node { is_open: false, at: std::ptr::null_mut() }) };
         let options = options.raw();
-        outcome_of(unsafe { raw::nd_open(node.slot.get(), &options) })?;
+        outcome_of(unsafe { raw::nd_open(node.slot.get(), &options, std::mem::size_of::<raw::nd_options>()) })?;
         Ok(node)
     }
 
@@ -226,7 +226,7 @@ impl Node {
         Ok(is_there.then_some(row))
     }
 
-    /// Returns how many entries the tables have.
+    /// Returns how many entries the tables have, and the limits that the node was opened with, the usual numbers in place of 0.
     pub fn counts(&self, now: u64) -> Result<Counts, Error> {
         let mut row = Counts::default();
         is_written(unsafe { raw::nd_counts_of(self.slot.get(), now, &mut row) })?;

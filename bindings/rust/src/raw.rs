@@ -11,19 +11,48 @@ pub struct nd_node {
     pub at: *mut u8,
 }
 
+/// How many rows each table of a node has at most, and how many packets wait for one neighbour. 0 is the usual number. A limit on a table that the
+/// role does not have is accepted.
+#[repr(C)]
+#[derive(Clone, Copy, Debug, Default, PartialEq, Eq)]
+pub struct nd_limits {
+    /// Neighbours (RFC 4861, 5.1), 1 to 2048; 0: 512.
+    pub neighbours: u16,
+    /// Default routers (RFC 4861, 6.3.4), 1 to 64; 0: 16.
+    pub routers: u16,
+    /// Prefixes on the link (RFC 4861, 5.1), 1 to 64; 0: 64.
+    pub prefixes: u16,
+    /// The node's own addresses, the link-local one included, 1 to 64; 0: 64.
+    pub addresses: u16,
+    /// DNS servers (RFC 8106, 5.3.1), 1 to 32; 0: 32.
+    pub servers: u16,
+    /// DNS search names (RFC 8106, 5.3.1), 1 to 32; 0: 32.
+    pub names: u16,
+    /// Destinations whose Redirects are kept, 1 to 64; 0: 64.
+    pub redirects: u16,
+    /// Destinations whose next hops are remembered, which no call shows, 1 to 256; 0: 256.
+    pub destinations: u16,
+    /// Prefixes that a router advertises, 1 to 16; 0: 16.
+    pub offers: u16,
+    /// Static routes of a router, 1 to 64; 0: 64.
+    pub routes: u16,
+    /// Packets that wait for the link-layer address of one neighbour (RFC 4861, 7.2.2), 1 to 8; 0: 3.
+    pub waiting: u16,
+    /// 0.
+    pub reserved: [u16; 5],
+}
+
 #[repr(C)]
 #[derive(Clone, Copy, Debug, Default)]
 pub struct nd_options {
-    pub size: u32,
     pub role: u32,
     pub mac: nd_mac,
     pub transmits: u8,
     pub draws: u8,
-    pub neighbours: u32,
-    pub routers: u32,
+    pub policies: u32,
     pub start: u64,
     pub seed: u64,
-    pub reserved: [u64; 3],
+    pub limits: nd_limits,
 }
 
 #[repr(C)]
@@ -173,6 +202,11 @@ pub struct nd_counts_row {
     pub addresses: u32,
     pub servers: u32,
     pub names: u32,
+    pub redirects: u32,
+    pub offers: u32,
+    pub routes: u32,
+    pub reserved: u32,
+    pub limits: nd_limits,
 }
 
 #[repr(C)]
@@ -204,8 +238,8 @@ pub struct nd_heard {
 #[rustfmt::skip]
 extern "C" {
     pub fn nd_version() -> u32;
-    pub fn nd_node_bytes(neighbours: u32, routers: u32) -> usize;
-    pub fn nd_open(node: *mut nd_node, options: *const nd_options) -> i32;
+    pub fn nd_node_bytes(limits: *const nd_limits) -> usize;
+    pub fn nd_open(node: *mut nd_node, options: *const nd_options, size: usize) -> i32;
     pub fn nd_close(node: *mut nd_node);
     pub fn nd_last_moment(node: *mut nd_node) -> u64;
     pub fn nd_next_due(node: *mut nd_node) -> u64;

@@ -170,10 +170,51 @@ fn a_frame_is_heard_without_a_node() {
     assert!(matches!(hear(&[], Role::Host), Hearing::Drop(Why::FrameShort)));
 }
 
+/// Returns the usual limits.
+fn usual() -> Limits {
+    Limits {
+        neighbours: 512,
+        routers: 16,
+        prefixes: 64,
+        addresses: 64,
+        servers: 32,
+        names: 32,
+        redirects: 64,
+        destinations: 256,
+        offers: 16,
+        routes: 64,
+        waiting: 3,
+        reserved: [0; 5],
+    }
+}
+
+#[test]
+fn limits_are_chosen() {
+    let chosen = Limits { prefixes: 4, addresses: 5, names: 2, waiting: 8, ..usual() };
+    let node = Node::open(&Options { limits: chosen, ..Options::host(MAC, 0, 0) }).unwrap();
+    assert_eq!(node.counts(0).unwrap(), Counts { addresses: 1, limits: chosen, ..Default::default() });
+    assert_eq!(host().counts(0).unwrap().limits, usual());
+    for limits in [Limits { waiting: 9, ..usual() }, Limits { reserved: [0, 0, 0, 0, 1], ..usual() }] {
+        assert_eq!(Node::open(&Options { limits, ..Options::host(MAC, 0, 0) }).err(), Some(Error::Invalid));
+    }
+}
+
+#[test]
+fn a_router_has_no_more_routes_than_its_limit() {
+    let limits = Limits { routes: 1, ..Default::default() };
+    let mut node = Node::open(&Options { limits, ..Options::router(ROUTER_MAC, 0, 0) }).unwrap();
+    let to = |prefix| Route { prefix: address(prefix), bits: 64, hop: Hop::Direct };
+    assert_eq!(node.route(0, &to("2001:db8::")), Ok(Outcome::Done));
+    let _ = node.poll().count();
+    assert_eq!(node.route(0, &to("2001:db8:1::")), Ok(Outcome::Refused));
+    assert_eq!(node.poll().next().unwrap().output, Output::Refused(Refusal::Full(Limit::StaticRoutes)));
+    assert_eq!(node.counts(0).unwrap().routes, 1);
+}
+
 #[test]
 fn the_version_and_the_bytes() {
     assert_eq!((version().0, version().1 >= 1), (0, true));
-    assert_eq!(node_bytes(0, 0), node_bytes(512, 16));
-    assert_eq!(node_bytes(2049, 0), None);
-    assert!(node_bytes(16, 1) < node_bytes(512, 16));
+    assert_eq!(node_bytes(&Limits::default()), node_bytes(&usual()));
+    assert_eq!(node_bytes(&Limits { neighbours: 2049, ..usual() }), None);
+    assert!(node_bytes(&Limits { neighbours: 16, routers: 1, ..usual() }) < node_bytes(&usual()));
 }

@@ -1,11 +1,24 @@
 -- How many bytes the tables of a node take at most: what was measured, and rounded up.
-use Rattle.std.specs.Prelude.{ℕ, ◌+◌, ◌*◌, ◌/◌, Option, Some, None}
-use Rattle.nd_c_types.specs.Options.{limits_in}
+use Rattle.std.specs.Prelude.{ℕ, ◌+◌, ◌*◌, ◌/◌, nat_lt, if◌then◌else◌}
+use Rattle.nd_chronicle.specs.Start.{Limits}
 
--- with these limits: an entry for each neighbour and router, blocks of dates for each 32 of them, and all that has a fixed limit
-abbrev pub bytes_for : Option (ℕ × ℕ) → ℕ
-bytes_for None = 0
-bytes_for (Some (neighbours, routers)) = 75776 + 80 * neighbours + 65 * routers + 2144 * (neighbours / 32 + routers / 32)
+-- the rows of all tables, a search name with the longest text, and offers and routes with their parts of a hash table
+abbrev pub rows_bytes : Limits → ℕ
+rows_bytes limits =
+    80 * limits.neighbours + 65 * limits.routers + 40 * limits.prefixes + 72 * limits.addresses + 32 * limits.servers + 295 * limits.names
+    + 64 * (limits.redirects + limits.destinations) + 55 * limits.offers + 84 * limits.routes
 
-abbrev pub node_bytes : ℕ → ℕ → ℕ
-node_bytes neighbours routers = bytes_for (limits_in neighbours routers)
+-- the blocks of dates of so many rows, besides the first one: none, or one, and two for each 32 rows
+abbrev pub dates_bytes : ℕ → ℕ
+dates_bytes rows = if nat_lt rows 32 then 0 else 816 * (2 * (rows / 32) + 1)
+
+-- the hash table of so many destinations, besides the least one: it grows by doubling
+abbrev pub index_bytes : ℕ → ℕ
+index_bytes destinations =
+    if nat_lt destinations 10 then 0 else if nat_lt destinations 19 then 216 else if nat_lt destinations 37 then 648 else if nat_lt destinations 73 then 1768 else if nat_lt destinations 145 then 4008 else 8488
+
+-- an address has two dates: that of its next step, and that of its end
+abbrev pub node_bytes : Limits → ℕ
+node_bytes limits =
+    8704 + rows_bytes limits + (dates_bytes limits.neighbours + dates_bytes limits.routers + 2 * dates_bytes limits.addresses)
+    + (index_bytes limits.redirects + index_bytes limits.destinations)

@@ -1,5 +1,5 @@
 -- How a node is opened.
-use Rattle.std.specs.Prelude.{◌≡◌, ◌⊎◌, [], ℤ, Option, None, Some, IsSomeAnd}
+use Rattle.std.specs.Prelude.{◌≡◌, ◌⊎◌, ⊥, ℕ, List, [], ℤ, Option, None, Some, IsSomeAnd}
 use Rattle.nd_chronicle.specs.History.{beginning}
 use Rattle.nd_chronicle.specs.Start.{Start}
 use Rattle.nd_node.specs.Node.{starting}
@@ -8,6 +8,7 @@ use Rattle.nd_random.specs.Source.{seeded, stream_of_source}
 use Rattle.nd_random.specs.declared.source.Source.{Source}
 use Rattle.nd_random.specs.declared.source.Source.TheVariants.{Seeded, Constant}
 use Rattle.nd_session.specs.declared.session.Session.{Session}
+use Rattle.nd_c_types.specs.Options.{options_in, opening_in, AreOptions}
 use Rattle.nd_c_types.specs.declared.options.Draws.{Draws}
 use Rattle.nd_c_types.specs.declared.options.Draws.TheVariants.{Seed, Word}
 use Rattle.nd_c_types.specs.declared.options.Opening.{Opening}
@@ -20,15 +21,15 @@ source_of (Word word) = Constant word
 
 -- how the node starts
 abbrev pub start_of : Opening → Start
-start_of o = starting o.start o.role o.mac o.transmits (record { neighbours = o.neighbours; routers = o.routers }) (stream_of_source (source_of o.draws))
+start_of o = starting o.start o.role o.mac o.transmits o.limits (stream_of_source (source_of o.draws))
 
 -- A session that has just been opened: its node stands for the beginning, and nothing is reported yet.
 pub record Begins (opening : Opening) (s : Session) : Type 0 where
   pub stands : Stands stream_of_source (start_of opening) s.node (beginning (start_of opening))
   pub empty : s.queue ≡ []
 
--- A closed slot is opened as the options say, if they say it.
-pub record Opens (opening : Option Opening) (status : ℤ) (old new : Option Session) : Type 0 where
+-- A closed slot is opened as the bytes of the options say, if they say it.
+pub record Opens (options : List ℕ) (status : ℤ) (old new : Option Session) : Type 0 where
   pub is_open : (s : Session) → old ≡ Some s → (status ≡ invalid) × (new ≡ old)
-  pub bad : old ≡ None → opening ≡ None → (status ≡ invalid) × (new ≡ None)
-  pub opens : old ≡ None → (o : Opening) → opening ≡ Some o → ((status ≡ no_memory) × (new ≡ None)) ⊎ ((status ≡ done) × IsSomeAnd new (λ s. Begins o s))
+  pub bad : old ≡ None → (AreOptions options → ⊥) → (status ≡ invalid) × (new ≡ None)
+  pub opens : old ≡ None → AreOptions options → ((status ≡ no_memory) × (new ≡ None)) ⊎ ((status ≡ done) × IsSomeAnd new (λ s. Begins (opening_in (options_in options)) s))

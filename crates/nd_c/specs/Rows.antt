@@ -107,7 +107,7 @@ pub record NameAt (now : ℕ) (index : ℕ) (s : Session) (row : Option NameRow)
 
 -- the redirect at an index
 pub record RedirectAt (index : ℕ) (s : Session) (row : Option RedirectRow) : Type 0 where
-  pub each : InEach s (λ start c. IsRowOf redirect_of redirect_row (slice_get (redirects (redirect_history c)) index) row)
+  pub each : InEach s (λ start c. IsRowOf redirect_of redirect_row (slice_get (redirects start.limits.redirects (redirect_history c)) index) row)
 
 -- the offer at an index
 pub record OfferAt (index : ℕ) (s : Session) (row : Option OfferRow) : Type 0 where
@@ -125,10 +125,10 @@ pub record AdvertisingOf (s : Session) (row : Option Advertising) : Type 0 where
 pub record ParametersOf (s : Session) (row : Option ParametersRow) : Type 0 where
   pub each : InEach s (λ start c. (values : Values) × parameters.Stands values (parameter_history c) × (row ≡ Some (parameters_row values)))
 
--- the numbers of entries
+-- the numbers of entries, and the limits
 pub record CountsOf (s : Session) (row : Option CountsRow) : Type 0 where
-  pub each : (counts : Counts) × Counted s.node counts × (row ≡ Some (counts_row counts))
+  pub each : InEach s (λ start c. (counts : Counts) × Counted s.node counts × (row ≡ Some (counts_row counts start.limits)))
 
 -- the next hop of a packet to a destination
 pub record HopTo (now : ℕ) (destination : Addr) (s : Session) (row : Option NextHopRow) : Type 0 where
-  pub each : InEachUpTo now s (λ start c. (hop : Hop) × IsHopOf start.role c now destination (hop_of hop) × (row ≡ next_hop_row hop destination))
+  pub each : InEachUpTo now s (λ start c. (hop : Hop) × IsHopOf start start.role c now destination (hop_of hop) × (row ≡ next_hop_row hop destination))

@@ -31,6 +31,7 @@ pub(crate) enum Given<'a> {
 }
 
 /// Gives an event to the session in a slot, at `now` in milliseconds, and returns the status.
+#[inline(always)]
 pub(crate) fn answer(alloc: Global, node: &mut Slot, now: u64, given: Given<'_>) -> i32
     ensures { Answers now (event_given given.entry) result node.old.handle.session node.new.handle.session }
 {
@@ -46,6 +47,7 @@ pub(crate) fn answer(alloc: Global, node: &mut Slot, now: u64, given: Given<'_>)
 }
 
 /// Gives an event to a session, at `now` in milliseconds, and returns the status.
+#[inline(always)]
 fn comes(session: &mut Session, now: u64, given: Given<'_>) -> i32
     requires { IsMoment now }
     ensures { Comes now (event_given given.entry) result session.old session.new }
@@ -58,6 +60,7 @@ fn comes(session: &mut Session, now: u64, given: Given<'_>) -> i32
 
 /// Gives an event to a session, at `now` in milliseconds. Returns an error if out of memory: a part of what is due may have been done and reported
 /// then, and the event has added nothing.
+#[inline(always)]
 fn give(session: &mut Session, now: u64, given: Given<'_>) -> Result<Answer, AllocError>
     requires { IsMoment now }
     ensures { Takes now (event_given given.entry) result session.old session.new }

@@ -1,29 +1,26 @@
 //! Opens and closes a node, and returns its moments.
 
 ghost use Rattle.std.specs.Prelude.{◌≡◌, ◌-◌, ◌^◌, ◌<◌, IfOk, None, Some};
-ghost use Rattle.nd_node.specs.Limits.{AreLimits};
 ghost use Rattle.nd_node.specs.Node.{last_of};
 ghost use Rattle.nd_node.specs.NodeKept.{next_of};
 ghost use Rattle.nd_session.specs.declared.session.Session.{Session};
-ghost use Rattle.nd_c_types.specs.Options.{opening_of};
 ghost use Rattle.nd_c.specs.Open.{Begins, Opens, source_of};
 
 use crate::status::{DONE, INVALID, NO_MEMORY};
-use nd_c_types::{Draws, Opening, Options};
-use nd_node::Limits;
+use nd_c_types::{Draws, Opening};
 use nd_random::Source;
 use nd_session::{Session, Slot};
 use std::alloc::{AllocError, Global};
 
-/// Opens a node: it starts as the options say, and nothing is reported yet.
+/// Opens a node: it starts as the bytes of the options say, and nothing is reported yet.
 #[unsafe(no_mangle)]
-pub extern "C" fn nd_open(alloc: Global, node: &mut Slot, options: &Options) -> i32
-    ensures { Opens (opening_of options.now) result node.old.handle.session node.new.handle.session }
+pub extern "C" fn nd_open(alloc: Global, node: &mut Slot, options: &[u8]) -> i32
+    ensures { Opens options.now result node.old.handle.session node.new.handle.session }
 {
     if node.is_open() {
         return INVALID;
     }
-    let Some(opening) = options.opening() else {
+    let Some(opening) = Opening::of(options) else {
         return INVALID;
     };
     let Ok(session) = start_boxed(alloc, &opening) else {
@@ -35,8 +32,7 @@ pub extern "C" fn nd_open(alloc: Global, node: &mut Slot, options: &Options) -> 
 
 /// Starts a session in a box, as it is asked for. Returns an error if out of memory.
 fn start_boxed(alloc: Global, opening: &Opening) -> Result<Box<Session, Global>, AllocError>
-    requires moment { opening.now.start < 2 ^ 62 }
-    requires limits { AreLimits opening.now.neighbours opening.now.routers }
+    requires { opening.now.start < 2 ^ 62 }
     ensures { IfOk result (λ session. Begins opening.now session.value) }
 {
     let session = start(alloc, opening)?;
@@ -48,20 +44,16 @@ fn start_boxed(alloc: Global, opening: &Opening) -> Result<Box<Session, Global>,
 
 /// Starts a session as it is asked for. Returns an error if out of memory.
 fn start(alloc: Global, opening: &Opening) -> Result<Session, AllocError>
-    requires moment { opening.now.start < 2 ^ 62 }
-    requires limits { AreLimits opening.now.neighbours opening.now.routers }
+    requires { opening.now.start < 2 ^ 62 }
     ensures { IfOk result (λ s. Begins opening.now s) }
 {
-    let Some(limits) = Limits::new(opening.neighbours, opening.routers) else {
-        unreachable!()
-    };
     Session::start(
         alloc,
         opening.role,
         opening.mac,
         opening.start,
         opening.transmits,
-        limits,
+        opening.limits,
         source_of(opening.draws),
     )
 }

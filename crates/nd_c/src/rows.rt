@@ -127,11 +127,11 @@ pub(crate) fn advertising_of(session: &Session) -> Option<Advertising>
     }
 }
 
-/// Returns the row of the numbers of entries, which is always there.
+/// Returns the row of the numbers of entries and the limits, which is always there.
 pub(crate) fn counts_of(session: &Session) -> Option<CountsRow>
     ensures { CountsOf session.now result }
 {
-    Some(CountsRow::of(&session.counts()))
+    Some(CountsRow::of(&session.counts(), session.limits()))
 }
 
 /// Returns the row of the next hop of a packet to `destination`, if there is one. Nothing is due up to `now`.

@@ -1,6 +1,7 @@
 pub mod Address
 pub mod Advertising
 pub mod Dns
+pub mod Limits
 pub mod NameText
 pub mod Neighbour
 pub mod NextHop

@@ -1,19 +1,35 @@
 -- What a node is opened with, from C.
-use Rattle.std.specs.Prelude.{ℕ, ◌-◌, ◌^◌, ◌==◌, ◌&&◌, ◌||◌, nat_le, nat_lt, Bool, if◌then◌else◌, Option, Some, None, slice_index}
+use Rattle.std.specs.Prelude.{ℕ, ◌-◌, ◌^◌, ◌==◌, ◌&&◌, ◌||◌, nat_le, nat_lt, Bool, IsTrue, if◌then◌else◌, List, [], ◌∷◌, drop, slice_index}
+use Rattle.std.specs.List.{AllPass}
+use Rattle.byteorder.specs.Endian.{little_from}
 use Rattle.nd_addr.specs.declared.role.Role.{Role}
 use Rattle.nd_addr.specs.declared.role.Role.TheVariants as roles
+use Rattle.nd_c_types.specs.Limits.{limits_at, chosen, number_or, AreChosen}
 use Rattle.nd_c_types.specs.declared.options.Draws.{Draws}
 use Rattle.nd_c_types.specs.declared.options.Draws.TheVariants.{Seed, Word}
 use Rattle.nd_c_types.specs.declared.options.Opening.{Opening}
 use Rattle.nd_c_types.specs.declared.options.Options.{Options}
 
--- a number, or the usual one in place of 0
-abbrev pub number_or : ℕ → ℕ → ℕ
-number_or number usual = if number == 0 then usual else number
+abbrev pub is_zero : ℕ → Bool
+is_zero byte = byte == 0
 
--- the limits on neighbours and on default routers, if they are within their ranges
-abbrev pub limits_in : ℕ → ℕ → Option (ℕ × ℕ)
-limits_in neighbours routers = if nat_le neighbours 2048 && nat_le routers 64 then Some (number_or neighbours 512, number_or routers 16) else None
+-- nothing is asked for behind the structure, where a later version has fields
+abbrev pub IsKnown : List ℕ → Type 0
+IsKnown bytes = AllPass is_zero (drop 64 bytes)
+
+-- the structure in these bytes, whose numbers have their lowest byte first, as on every machine that the library is made for; a byte that is not there
+-- is 0
+abbrev pub options_in : List ℕ → Options
+options_in bytes = record {
+  role = little_from 0 4 bytes;
+  mac = slice_index bytes 4 ∷ slice_index bytes 5 ∷ slice_index bytes 6 ∷ slice_index bytes 7 ∷ slice_index bytes 8 ∷ slice_index bytes 9 ∷ [];
+  transmits = slice_index bytes 10;
+  draws = slice_index bytes 11;
+  policies = little_from 12 4 bytes;
+  start = little_from 16 8 bytes;
+  seed = little_from 24 8 bytes;
+  limits = limits_at bytes;
+}
 
 -- enum nd_draws, with a seed, or a word below 2^32
 abbrev pub are_draws : ℕ → ℕ → Bool
@@ -27,11 +43,14 @@ draws_in draws seed = if draws == 0 then Seed seed else Word seed
 abbrev pub role_in : ℕ → Role
 role_in number = if number == 0 then roles.Host else roles.Router
 
--- the size is right, each field is within its range, and nothing is in the reserved fields
+-- each field but the limits is within its range, and no policy is asked for: none is built
 abbrev pub is_well_formed : Options → Bool
-is_well_formed o =
-    (o.size == 64) && nat_le o.role 1 && nat_le o.transmits 8 && are_draws o.draws o.seed && nat_le o.neighbours 2048 && nat_le o.routers 64
-    && nat_lt o.start (2 ^ 62) && (slice_index o.reserved 0 == 0) && (slice_index o.reserved 1 == 0) && (slice_index o.reserved 2 == 0)
+is_well_formed o = nat_le o.role 1 && nat_le o.transmits 8 && are_draws o.draws o.seed && (o.policies == 0) && nat_lt o.start (2 ^ 62)
+
+-- and each limit is within its own
+pub record AreWellFormed (o : Options) : Type 0 where
+  pub fields : IsTrue (is_well_formed o)
+  pub limits : AreChosen o.limits
 
 -- what the fields say
 abbrev pub opening_in : Options → Opening
@@ -40,11 +59,11 @@ opening_in o = record {
   mac = record { 0 = o.mac };
   start = o.start;
   transmits = number_or o.transmits 1;
-  neighbours = number_or o.neighbours 512;
-  routers = number_or o.routers 16;
+  limits = chosen o.limits;
   draws = draws_in o.draws o.seed;
 }
 
--- what is asked for, if the fields are well formed
-abbrev pub opening_of : Options → Option Opening
-opening_of o = if is_well_formed o then Some (opening_in o) else None
+-- the bytes are well formed
+pub record AreOptions (bytes : List ℕ) : Type 0 where
+  pub known : IsKnown bytes
+  pub fields : AreWellFormed (options_in bytes)

@@ -3,9 +3,10 @@
 ghost use Rattle.std.specs.Prelude.{◌≡◌};
 ghost use Rattle.nd_c_types.specs.Counts.{counts_row, shown};
 
-use nd_node::Counts;
+use crate::limits::Limits;
+use nd_node::{Counts, Limits as NodeLimits};
 
-/// The number of entries of each table: `nd_counts_row` of the header.
+/// The number of entries of each table, and the limits: `nd_counts_row` of the header.
 #[repr(C)]
 #[derive(Clone, Copy, Drop)]
 pub struct CountsRow {
@@ -15,12 +16,17 @@ pub struct CountsRow {
     pub addresses: u32,
     pub servers: u32,
     pub names: u32,
+    pub redirects: u32,
+    pub offers: u32,
+    pub routes: u32,
+    pub reserved: u32,
+    pub limits: Limits,
 }
 
 impl CountsRow {
-    /// Returns the row of these numbers.
-    pub fn of(counts: &Counts) -> CountsRow
-        ensures { result ≡ counts_row counts.now }
+    /// Returns the row of these numbers and limits.
+    pub fn of(counts: &Counts, limits: NodeLimits) -> CountsRow
+        ensures { result ≡ counts_row counts.now limits }
     {
         CountsRow {
             neighbours: shown(counts.neighbours),
@@ -29,6 +35,11 @@ impl CountsRow {
             addresses: shown(counts.addresses),
             servers: shown(counts.servers),
             names: shown(counts.search_names),
+            redirects: shown(counts.redirects),
+            offers: shown(counts.offers),
+            routes: shown(counts.routes),
+            reserved: 0,
+            limits: Limits::of(limits),
         }
     }
 }

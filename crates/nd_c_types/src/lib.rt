@@ -7,10 +7,12 @@
 
 mod address;
 mod advertising;
+mod bytes;
 mod clearable;
 mod counts;
 mod dns;
 pub mod header;
+mod limits;
 mod name_text;
 mod neighbour;
 mod next_hop;
@@ -31,10 +33,11 @@ pub use clearable::clearable_in;
 pub use counts::CountsRow;
 pub use dns::{NameRow, ServerRow};
 pub use header::MOMENT_LIMIT;
+pub use limits::Limits;
 pub use neighbour::NeighbourRow;
 pub use next_hop::NextHopRow;
 pub use offer::OfferRow;
-pub use options::{Draws, Opening, Options, limits_in};
+pub use options::{Draws, Opening, Options};
 pub use parameters::ParametersRow;
 pub use prefix::PrefixRow;
 pub use record::{Record, bytes_of};

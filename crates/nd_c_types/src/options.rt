@@ -1,27 +1,25 @@
 //! What a node is opened with, from C. The definitions are in `specs/Options.antt`.
 
-ghost use Rattle.std.specs.Prelude.{◌≡◌, ◌≤◌, ◌<◌, ◌^◌, IfSome, IsTrue};
-ghost use Rattle.nd_node.specs.Limits.{AreLimits};
-ghost use Rattle.nd_c_types.specs.Options.{are_draws, draws_in, is_well_formed, limits_in, number_or, opening_of};
+ghost use Rattle.std.specs.Prelude.{◌≡◌, ◌<◌, ◌↔◌, ◌^◌, IfSome, IsTrue};
+ghost use Rattle.std.specs.List.{AllPass};
+ghost use Rattle.std.specs.Option.{SomeIff};
+ghost use Rattle.nd_c_types.specs.Limits.{number_or};
+ghost use Rattle.nd_c_types.specs.Options.{are_draws, draws_in, is_well_formed, is_zero, opening_in, options_in, AreOptions, AreWellFormed, IsKnown};
 
+use crate::bytes::{byte_at, u32_at, u64_at};
 use crate::header::{DRAWS_SEED, DRAWS_WORD, MOMENT_LIMIT};
+use crate::limits::Limits;
 use crate::role::role_of;
 use nd_addr::{Mac, Role};
 use nd_heard::header::ROLE_ROUTER;
-use nd_neighbour::MAX_NEIGHBOURS;
-use nd_node::{USUAL_NEIGHBOURS, USUAL_ROUTERS};
-use nd_routers::MAX_ROUTERS;
+use nd_node::Limits as NodeLimits;
 use nd_slaac::Transmits;
 
 /// The number of bytes of the structure.
-const SIZE: u32 = 64;
+const SIZE: usize = 64;
 
-/// The greatest numbers of solicitations, neighbours and default routers.
+/// The greatest number of solicitations.
 const MOST_TRANSMITS: u8 = 8;
-
-const MOST_NEIGHBOURS: u32 = MAX_NEIGHBOURS as u32;
-
-const MOST_ROUTERS: u32 = MAX_ROUTERS as u32;
 
 /// The number of solicitations that 0 means.
 const USUAL_TRANSMITS: u8 = 1;
@@ -30,8 +28,6 @@ const USUAL_TRANSMITS: u8 = 1;
 #[repr(C)]
 #[derive(Clone, Copy, Drop)]
 pub struct Options {
-    /// The number of bytes of the structure, as the caller knows it.
-    pub size: u32,
     /// ND_ROLE_HOST or ND_ROLE_ROUTER.
     pub role: u32,
     pub mac: [u8; 6],
@@ -39,15 +35,13 @@ pub struct Options {
     pub transmits: u8,
     /// ND_DRAWS_SEED or ND_DRAWS_WORD.
     pub draws: u8,
-    /// 1 to 2048, or 0 for 512.
-    pub neighbours: u32,
-    /// 1 to 64, or 0 for 16.
-    pub routers: u32,
+    /// The policies, a bit for each. None is built yet.
+    pub policies: u32,
     /// The moment of the start, in milliseconds.
     pub start: u64,
     /// The seed, or the word, below 2^32.
     pub seed: u64,
-    pub reserved: [u64; 3],
+    pub limits: Limits,
 }
 
 /// The source of a node's random words.
@@ -67,62 +61,97 @@ pub struct Opening {
     /// The moment of the start, in milliseconds.
     pub start: u64,
     pub transmits: Transmits,
-    pub neighbours: u16,
-    pub routers: u8,
+    pub limits: NodeLimits,
     pub draws: Draws,
 }
 
 impl Options {
-    /// Returns what the structure asks for, with the usual numbers in place of 0. Returns `None` if `size` is not the structure's size, or a field
-    /// is outside its range.
-    pub fn opening(&self) -> Option<Opening>
-        ensures value { result ≡ opening_of self.now }
+    /// Reads the structure from its bytes.
+    fn read(bytes: &[u8]) -> Options
+        ensures { result ≡ options_in bytes.now }
+    {
+        Options {
+            role: u32_at(bytes, 0),
+            mac: [
+                byte_at(bytes, 4),
+                byte_at(bytes, 5),
+                byte_at(bytes, 6),
+                byte_at(bytes, 7),
+                byte_at(bytes, 8),
+                byte_at(bytes, 9),
+            ],
+            transmits: byte_at(bytes, 10),
+            draws: byte_at(bytes, 11),
+            policies: u32_at(bytes, 12),
+            start: u64_at(bytes, 16),
+            seed: u64_at(bytes, 24),
+            limits: Limits::read(bytes),
+        }
+    }
+
+    /// Returns what the structure asks for, with the usual numbers in place of 0. Returns `None` if a field is outside its range.
+    fn opening(&self) -> Option<Opening>
+        ensures value { SomeIff result (AreWellFormed self.now) (opening_in self.now) }
         ensures moment { IfSome result (λ opening. opening.start < 2 ^ 62) }
-        ensures limits { IfSome result (λ opening. AreLimits opening.neighbours opening.routers) }
     {
         if !self.is_well_formed() {
             return None;
         }
+        let limits = self.limits.chosen()?;
         let role = role_of(self.role)?;
         let transmits = Transmits::new(transmits_of(self.transmits))?;
-        let neighbours = neighbours_of(self.neighbours);
-        let routers = routers_of(self.routers);
         Some(Opening {
             role,
             mac: Mac(self.mac),
             start: self.start,
             transmits,
-            neighbours,
-            routers,
+            limits,
             draws: draws_of(self.draws, self.seed),
         })
     }
 
-    /// Returns true if the size is right, each field is within its range, and the reserved fields are 0.
+    /// Returns true if each field but the limits is within its range, and no policy is asked for.
     fn is_well_formed(&self) -> bool
         ensures { result ≡ is_well_formed self.now }
     {
-        self.size == SIZE
-            && self.role <= ROLE_ROUTER
+        self.role <= ROLE_ROUTER
             && self.transmits <= MOST_TRANSMITS
             && are_draws(self.draws, self.seed)
-            && self.neighbours <= MOST_NEIGHBOURS
-            && self.routers <= MOST_ROUTERS
+            && self.policies == 0
             && self.start < MOMENT_LIMIT
-            && self.reserved[0] == 0
-            && self.reserved[1] == 0
-            && self.reserved[2] == 0
     }
 }
 
-/// Returns the limits on neighbours and on default routers, with the usual ones in place of 0. Returns `None` if one is outside its range.
-pub fn limits_in(neighbours: u32, routers: u32) -> Option<(u16, u8)>
-    ensures { result ≡ limits_in neighbours routers }
-{
-    if neighbours > MOST_NEIGHBOURS || routers > MOST_ROUTERS {
-        return None;
+impl Opening {
+    /// Returns what the bytes of `nd_options` ask for, with the usual numbers in place of 0, and 0 in place of bytes that are not there. Returns `None`
+    /// if a field is outside its range, or a byte behind the structure is not 0: a later version has a field there.
+    pub fn of(options: &[u8]) -> Option<Opening>
+        ensures value { SomeIff result (AreOptions options.now) (opening_in (options_in options.now)) }
+        ensures moment { IfSome result (λ opening. opening.start < 2 ^ 62) }
+    {
+        if !is_known(options) {
+            return None;
+        }
+        let opening = Options::read(options).opening()?;
+        Some(opening)
     }
-    Some((neighbours_of(neighbours), routers_of(routers)))
+}
+
+/// Returns true if each byte behind the structure is 0.
+fn is_known(options: &[u8]) -> bool
+    ensures { IsTrue result ↔ IsKnown options.now }
+{
+    if options.len() <= SIZE {
+        return true;
+    }
+    are_zeros(&options[SIZE..])
+}
+
+/// Returns true if each byte is 0.
+fn are_zeros(bytes: &[u8]) -> bool
+    ensures { IsTrue result ↔ AllPass is_zero bytes.now }
+{
+    bytes.iter().all(|byte| *byte == 0)
 }
 
 /// Returns the number of solicitations: 1 in place of 0.
@@ -130,34 +159,6 @@ fn transmits_of(number: u8) -> u8
     ensures { result ≡ number_or number 1 }
 {
     if number == 0 { USUAL_TRANSMITS } else { number }
-}
-
-/// Returns the limit on neighbours: 512 in place of 0.
-fn neighbours_of(number: u32) -> u16
-    requires { number ≤ 2048 }
-    ensures value { result ≡ number_or number 512 }
-    ensures least { 1 ≤ result }
-    ensures most { result ≤ 2048 }
-{
-    if number == 0 {
-        USUAL_NEIGHBOURS
-    } else {
-        number as u16
-    }
-}
-
-/// Returns the limit on default routers: 16 in place of 0.
-fn routers_of(number: u32) -> u8
-    requires { number ≤ 64 }
-    ensures value { result ≡ number_or number 16 }
-    ensures least { 1 ≤ result }
-    ensures most { result ≤ 64 }
-{
-    if number == 0 {
-        USUAL_ROUTERS
-    } else {
-        number as u8
-    }
 }
 
 /// Returns true if `draws` is ND_DRAWS_SEED, or ND_DRAWS_WORD with a word below 2^32.
