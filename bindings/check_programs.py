@@ -77,6 +77,19 @@ def check_hear(room):
         return
     check_lines("hear", [program])
     check_runs("hear reads the frames", [program], read(f"{TOP}/examples/link.hex"))
+    check_long_line(room, archive)
+
+
+def check_long_line(room, archive):
+    """Requires that `hear` reads a line that fills its buffer. It is built by each compiler, since each lays the buffers out in its own way: bytes 0x33
+    that are written behind the frame are digits again if the frame is behind the line."""
+    for compiler in ("gcc", "clang"):
+        what = f"hear by {compiler}: a line as long as its buffer"
+        if not has(compiler, what):
+            continue
+        words = [compiler, "-std=c11", "-D_POSIX_C_SOURCE=200809L", "-O2", f"-I{INCLUDE}", f"{TOP}/examples/c/hear.c", archive, "-o", f"{room}/long"]
+        said = run([f"{room}/long"], input="3" * 16399) if report(f"{what}: it is built", run(words)) else None
+        report_if(what, said and said.returncode == 0 and said.stdout == "drop 2\n", str(said))
 
 
 def check_lines(what, words):
@@ -86,20 +99,37 @@ def check_lines(what, words):
     lines = said.stdout.splitlines()
     wrong = [f"{line!r} for {wanted!r}" for line, (_, wanted) in zip(lines, rows) if not f"{wanted} ".startswith(f"{line} ")]
     report_if(f"{what}: {len(rows)} frames, of each what ndpctl check prints", len(lines) == len(rows) and not wrong, said.stderr + "\n".join(wrong[:4]))
+    check_last_line(what, words, read(f"{TOP}/examples/link.hex"))
+
+
+def check_last_line(what, words, text):
+    """Requires that an example reads nothing behind the end of a last line without a line feed. The digit there is no byte, as no other character is."""
+    said, wanted = (run(words, input=text + end) for end in ("3", "z"))
+    is_same = said.returncode == wanted.returncode == 0 and said.stdout == wanted.stdout
+    report_if(f"{what}: a last line that ends with half a byte", is_same, difference(said.stdout, wanted.stdout))
+
+
+def with_a_moment(text):
+    """Returns lines of an example with one more, which has the last moment and no frame yet."""
+    return f"{text}{text.splitlines()[-1].split()[0]} "
 
 
 def check_host(what, program):
     """Requires that a host of the examples prints the expected text for its frames."""
-    said = check_runs(what, [program, *HOST], read(f"{TOP}/examples/host.hex"))
+    text = read(f"{TOP}/examples/host.hex")
+    said = check_runs(what, [program, *HOST], text)
     report_if(f"{what} prints the expected text", said == read(f"{TOP}/examples/host.txt"), said)
+    check_last_line(what, [program, *HOST], with_a_moment(text))
 
 
 def check_router(program, what="router"):
     """Requires that the router of the examples sends for its frames what the same router sends by `ndpctl run`."""
-    said = check_runs(what, [program, *ROUTER], read(f"{TOP}/examples/router.hex"))
+    text = read(f"{TOP}/examples/router.hex")
+    said = check_runs(what, [program, *ROUTER], text)
     sent = [line for line in read(f"{TOP}/examples/scripts/router.output").splitlines() if line.split()[1] == "tx"]
     wanted = read(f"{TOP}/examples/router.txt")
     report_if(f"{what} sends the expected frames", said == wanted and wanted.splitlines() == sent, said)
+    check_last_line(what, [program, *ROUTER], with_a_moment(text))
 
 
 def check_traces(program, what="trace"):
@@ -236,6 +266,8 @@ def check_rust(room, archive):
     report("the tests of the crate nd", run(["cargo", "test", *words, f"{BINDINGS}/rust/Cargo.toml"], env=environment))
     if report("the example in Rust is built", run(["cargo", "build", *words, f"{TOP}/examples/rust/Cargo.toml"], env=environment)):
         check_host("host in Rust", f"{room}/target/debug/host")
+        said = run([f"{room}/target/debug/host", *HOST], input="5 a\u00e91\n")
+        report("host in Rust: a line with a letter of two bytes", said)
 
 
 def check_programs(room):

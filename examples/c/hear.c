@@ -3,15 +3,16 @@
 #include "nd_hear.h"
 
 #include <arpa/inet.h>
+#include <ctype.h>
 #include <stdio.h>
 #include <string.h>
 
-static size_t bytes_of(const char *digits, uint8_t *frame)
+/* Reads pairs of digits up to the first that is none. Returns how many there are, at most `room`. */
+static size_t bytes_of(const char *digits, uint8_t *frame, size_t room)
 {
     size_t length = 0;
-    unsigned byte;
-    while (sscanf(digits + 2 * length, "%2x", &byte) == 1)
-        frame[length++] = (uint8_t)byte;
+    for (; length < room && isxdigit((unsigned char)digits[0]) && isxdigit((unsigned char)digits[1]); digits += 2)
+        sscanf(digits, "%2hhx", &frame[length++]);
     return length;
 }
 
@@ -60,7 +61,7 @@ int main(void)
     static uint8_t frame[8200];
     while (fgets(line, sizeof line, stdin) != NULL) {
         nd_heard heard;
-        size_t length = bytes_of(line, frame);
+        size_t length = bytes_of(line, frame, sizeof frame);
         nd_hear(frame, length, ND_ROLE_HOST, &heard);
         if (heard.hearing == ND_HEARING_DROP && heard.why == ND_WHY_NOT_FOR_US)
             nd_hear(frame, length, ND_ROLE_ROUTER, &heard);

@@ -1,6 +1,7 @@
 /* host MAC DRAWS < frames: reads lines "MOMENT HEX", a moment in milliseconds and a frame that is received then; without a frame time passes. Prints
  * what happens in the words of `ndpctl run`, but numbers of nd.h for words that follow, and at last what it knows. DRAWS is seed:N or word:N. */
 #include <arpa/inet.h>
+#include <ctype.h>
 #include <inttypes.h>
 #include <stdio.h>
 #include <stdlib.h>
@@ -42,8 +43,9 @@ int main(int argc, char **argv)
         char *digits;
         uint64_t now = strtoull(line, &digits, 10);
         size_t length = 0;
-        for (digits += *digits == ' '; length < sizeof frame && sscanf(digits, "%2hhx", &frame[length]) == 1; digits += 2)
-            length++;
+        digits += *digits == ' ';
+        for (; length < sizeof frame && isxdigit((unsigned char)digits[0]) && isxdigit((unsigned char)digits[1]); digits += 2)
+            sscanf(digits, "%2hhx", &frame[length++]);
         if ((length > 0 ? nd_receive(&node, now, frame, length) : nd_turn(&node, now)) < 0)
             fprintf(stderr, "host: no event at %" PRIu64 "\n", now);
         drain(&node);

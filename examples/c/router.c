@@ -2,6 +2,7 @@
  * moment in milliseconds and a frame that is received then; without a frame time passes. Prints each frame that is sent in the words of `ndpctl run`.
  * At the end of its input it ceases to advertise. DRAWS is seed:N or word:N. */
 #include <arpa/inet.h>
+#include <ctype.h>
 #include <inttypes.h>
 #include <stdio.h>
 #include <stdlib.h>
@@ -54,8 +55,9 @@ int main(int argc, char **argv)
         char *digits;
         size_t length = 0;
         now = strtoull(line, &digits, 10);
-        for (digits += *digits == ' '; length < sizeof frame && sscanf(digits, "%2hhx", &frame[length]) == 1; digits += 2)
-            length++;
+        digits += *digits == ' ';
+        for (; length < sizeof frame && isxdigit((unsigned char)digits[0]) && isxdigit((unsigned char)digits[1]); digits += 2)
+            sscanf(digits, "%2hhx", &frame[length++]);
         if ((length > 0 ? nd_receive(&node, now, frame, length) : nd_turn(&node, now)) < 0)
             fprintf(stderr, "router: no event at %" PRIu64 "\n", now);
         drain(&node);

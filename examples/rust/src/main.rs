@@ -4,7 +4,8 @@
 use nd::{Draws, Output, Node, Options};
 
 fn bytes(digits: &str) -> Vec<u8> {
-    (0..digits.len() / 2).map_while(|i| u8::from_str_radix(&digits[2 * i..2 * i + 2], 16).ok()).collect()
+    let pairs = digits.as_bytes().chunks_exact(2);
+    pairs.map_while(|pair| u8::from_str_radix(std::str::from_utf8(pair).ok()?, 16).ok()).collect()
 }
 
 fn hex(bytes: &[u8]) -> String {
