@@ -189,7 +189,21 @@ def check_bytes(program):
         print(check_runs(f"bytes: {' '.join(map(str, limits))}", [program, *map(str, limits)], FULL, FULL), end="")
 
 
+def check_loops(room, archive):
+    """Runs the loop at the head of nd.h on a link with a frame that is longer than its buffer, and requires that README.md has the same loop."""
+    header = re.search(r"^ \*     (nd_node node = .*?nd_close\(&node\);)$", read(f"{INCLUDE}/nd.h"), re.M | re.S)[1]
+    loops = {"nd.h": re.sub(r"^ \*", "", header, flags=re.M), "README.md": re.search(r"^```c\n(nd_node node = .*?)```$", read(f"{TOP}/README.md"), re.M | re.S)[1]}
+    report_if("the loops of nd.h and of README.md are the same", len({"".join(text.split()) for text in loops.values()}) == 1)
+    for name, text in loops.items():
+        with open(f"{room}/loop.inc", "w", encoding="utf-8") as file:
+            file.write(text)
+        giant = build(room, "giant", [f"{TESTS}/giant.c", COUNTING, archive], f'-DLOOP="{room}/loop.inc"')
+        if giant:
+            check_runs(f"giant: the loop of {name}, and a frame longer than its buffer", [giant])
+
+
 def check_tests(room, archive):
+    check_loops(room, archive)
     misuse = build(room, "misuse", [f"{TESTS}/misuse.c", COUNTING, archive])
     if misuse:
         print(check_runs("misuse", [misuse]), end="")

@@ -23,9 +23,9 @@
  *         }
  *         uint64_t now = clock_ms(), due = nd_next_due(&node);
  *         size_t length = wait_for_frame(frame, due > now ? due - now : 0);
- *         if (length > 0)
+ *         if (length > 0 && length <= sizeof buffer)
  *             nd_receive(&node, clock_ms(), frame, length);
- *         else
+ *         else // a longer frame is dropped: its record might not fit into the buffer
  *             nd_turn(&node, clock_ms());
  *     }
  *     nd_close(&node);

@@ -50,7 +50,7 @@ static int is_ours(const nd_mac *mac, const uint8_t *frame, size_t length)
 /* Takes all records. A frame that cannot be written now is lost, as on any link. */
 static void drain(nd_node *node, int tap)
 {
-    static uint8_t buffer[LONGEST_FRAME]; /* at least ND_BUFFER_BYTES, and as long as the longest frame received */
+    static uint8_t buffer[LONGEST_FRAME]; /* at least ND_BUFFER_BYTES, and as long as the longest frame that is passed */
     uint64_t now = clock_ms();
     nd_out out;
     while (nd_poll(node, &out, buffer, sizeof buffer) == ND_DONE) {
@@ -77,13 +77,14 @@ static void drain(nd_node *node, int tap)
     }
 }
 
-/* Passes all frames that wait. Returns false if the device is gone. */
+/* Passes all frames that wait. Returns false if the device is gone. A longer frame is dropped: its record might not fit into the buffer of `drain`, and
+ * nd_poll would return ND_NO_ROOM for ever. */
 static bool receive(nd_node *node, int tap, const nd_mac *mac)
 {
-    static uint8_t frame[LONGEST_FRAME];
+    static uint8_t frame[LONGEST_FRAME + 1]; /* read(2) cuts a longer frame to this */
     ssize_t length;
     while ((length = read(tap, frame, sizeof frame)) > 0) {
-        if (!is_ours(mac, frame, (size_t)length))
+        if (length > LONGEST_FRAME || !is_ours(mac, frame, (size_t)length))
             continue;
         /* ND_NO_MEMORY: the frame is given up, as if the link had lost it. ND_REFUSED: a record says why. */
         nd_receive(node, clock_ms(), frame, (size_t)length);
