@@ -115,6 +115,36 @@ def check_runs_in_node(what, path, room):
     report_if(f"{what} in node: {len(known)} scripts of ndpctl run, {lines} lines", are_same, said.stderr + "\n".join(wrong[:4]))
 
 
+def check_longest_in_node(what, path):
+    """Requires that a node of the page takes a frame as long as its room, and that a longer one, or payload, is an error and overwrites nothing."""
+    if not has_node(what):
+        return
+    words, longest = ["run", "--role", "host", "--mac", frames.HOST_MAC, "--draws", "word:0"], 131072
+    scripts = [f"2000 at\n2100 rx {'41' * longest}\n", f"2000 at\n2100 rx {'41' * (longest + 1)}\n2100 show addresses\n",
+               f"2000 send {frames.HOST} ff02::1 17 {'41' * (longest - 31)}\n"]
+    said = run(["node", f"{TESTS}/runs.mjs", path], input=json.dumps([[words, script] for script in scripts]))
+    texts = json.loads(said.stdout or '["", "", ""]')
+    are_bounded = [text.startswith(f"Error: {count} bytes are too many for this page\n") for text, count in zip(texts[1:], (longest + 1, longest - 31))]
+    is_right = texts[0].endswith("2100 drop 2 NotIpv6\n") and all(are_bounded)
+    report_if(f"{what} in node: the longest frame, and one byte more", is_right, said.stderr + "\n".join(text[:200] for text in texts))
+
+
+def check_captures_in_node(what, path):
+    """Requires that the page finds the frames of a link in files of four kinds, and in a block of a capture none that is longer than the block."""
+    if not has_node(what):
+        return
+    digits = [frame for frame, _ in rows_of_link()]
+    for name, data in files_of_link().items():
+        said = run(["node", f"{TESTS}/captures.mjs", path], input=data, text=False)
+        report_if(f"{what} in node: the frames of {name}", said.stdout.decode().split() == digits, said.stderr.decode() + said.stdout.decode()[:400])
+    count = 200
+    lengths = [32 * (count - i) - 28 for i in range(count)]
+    said = run(["node", f"{TESTS}/captures.mjs", path], input=pcapng_of([b""] * count, lengths), text=False)
+    lines = said.stdout.decode().splitlines()
+    report_if(f"{what} in node: {count} frames that are longer than their blocks", lines == ["the block ends within this frame"] * count,
+              said.stderr.decode() + "\n".join(line[:100] for line in lines[:4]))
+
+
 class Browser:
     """A browser without a window, with a profile of its own. Its clock runs ahead, so that a page that is waited for is not kept long."""
 
@@ -163,10 +193,11 @@ def block(kind, body):
     return struct.pack(">II", kind, len(padded) + 12) + padded + struct.pack(">I", len(padded) + 12)
 
 
-def pcapng_of(frames):
-    """Returns a capture of frames, as Wireshark writes it on a big-endian processor."""
+def pcapng_of(frames, lengths=None):
+    """Returns a capture of frames, as Wireshark writes it on a big-endian processor. The blocks say that the frames have these lengths, or their own."""
     head = block(0x0A0D0D0A, struct.pack(">IHHq", 0x1A2B3C4D, 1, 0, -1)) + block(1, struct.pack(">HHI", 1, 0, 65535))
-    return head + b"".join(block(6, struct.pack(">IIIII", 0, 0, 0, len(it), len(it)) + it) for it in frames)
+    said = lengths or [len(it) for it in frames]
+    return head + b"".join(block(6, struct.pack(">IIIII", 0, 0, 0, length, length) + it) for it, length in zip(frames, said))
 
 
 def dump_of(frames):
@@ -177,6 +208,13 @@ def dump_of(frames):
         for at in range(0, len(frame), 16):
             lines.append(f"\t0x{at:04x}:  " + " ".join(frame[i:i + 2].hex() for i in range(at, min(at + 16, len(frame)), 2)))
     return ("\n".join(lines) + "\n").encode()
+
+
+def files_of_link():
+    """Returns files with the frames of a link, by their names."""
+    text = read(f"{TOP}/examples/link.hex")
+    frames = [bytes.fromhex(digits) for digits in text.split()]
+    return {"link.pcap": pcap_of(frames), "link.pcapng": pcapng_of(frames), "link.hex": text.encode(), "link.xx": dump_of(frames)}
 
 
 def dropped(data, name):
@@ -204,6 +242,17 @@ while (document.querySelectorAll('.step').length !== {len(it["lines"])}) await g
     return None
 
 
+def check_link_in_browser(browser, path):
+    """Opens the page by a link in capitals, and then a tab. Asks for what its policy forbids: nothing may be fetched."""
+    text = browser.after(path, """document.getElementById('tab-pair').click();
+while (!document.querySelector('#diagram svg')) await go();""", f"#HOST:{rows_of_link()[1][0].upper()}")
+    report_if("the page in a browser, by a link in capitals", 'data-done="yes"' in text and len(lines_in(text)) == 1, text[-1000:])
+    text = browser.after(path, """addEventListener('securitypolicyviolation', (event) => document.body.dataset.forbidden = event.effectiveDirective);
+fetch('data:,').catch(() => {});
+for (let i = 0; i < 100 && !document.body.dataset.forbidden; i++) await go();""")
+    report_if("the page in a browser fetches nothing", 'data-forbidden="connect-src"' in text, text[-1000:])
+
+
 def check_in_browser(path, room):
     program = next(filter(None, map(shutil.which, BROWSERS)), None)
     if not program:
@@ -216,11 +265,9 @@ def check_in_browser(path, room):
         text = browser.after(path, "", f"#{before}{','.join(frame for frame, _ in rows)}")
         report_rows(f"the page in a browser, {name}", rows, lines_in(text))
     rows = rows_of_link()
-    frames = [bytes.fromhex(frame) for frame, _ in rows]
-    text = read(f"{TOP}/examples/link.hex").encode()
-    files = {"link.pcap": pcap_of(frames), "link.pcapng": pcapng_of(frames), "link.hex": text, "link.xx": dump_of(frames)}
-    for name, data in files.items():
+    for name, data in files_of_link().items():
         report_rows(f"the page in a browser, {name} dropped on it", rows, lines_in(browser.after(path, dropped(data, name))))
+    check_link_in_browser(browser, path)
     return check_runs_in_browser(browser, path, room)
 
 
@@ -259,4 +306,6 @@ def check_page(room):
     check_made_again(room)
     check_in_node("the page", page.PAGE)
     check_runs_in_node("the page", page.PAGE, room)
+    check_longest_in_node("the page", page.PAGE)
+    check_captures_in_node("the page", page.PAGE)
     return check_in_browser(page.PAGE, room)

@@ -17,8 +17,8 @@ passed, failed = 0, 0
 
 
 def run(words, **more):
-    """Runs a command. What it prints is text."""
-    return subprocess.run(words, capture_output=True, text=True, **more)
+    """Runs a command. What it reads and prints is text, or bytes with `text=False`."""
+    return subprocess.run(words, **{"capture_output": True, "text": True, **more})
 
 
 def report_if(what, is_so, detail=""):

@@ -33,10 +33,10 @@ function framesOfFile(buffer) {
 const ETHERNET = 1;
 const otherLink = (type) => `a frame of link type ${type}: only Ethernet (type 1) is read`;
 
-// A frame of a capture: its bytes, unless its link isn't Ethernet or the file ends before it does.
-function captured(buffer, at, length, link) {
+// A frame of a capture: its bytes, unless its link isn't Ethernet, or what it is in, the file or a block, ends before it does.
+function captured(buffer, at, length, end, link) {
     if (link !== ETHERNET) return otherLink(link);
-    if (at + length > buffer.byteLength) return 'the file ends within this frame';
+    if (at + length > end) return `the ${end < buffer.byteLength ? 'block' : 'file'} ends within this frame`;
     return new Uint8Array(buffer.slice(at, at + length));
 }
 
@@ -45,7 +45,7 @@ function framesOfPcap(buffer, little) {
     const view = new DataView(buffer), link = view.getUint32(20, little) & 0xffff, frames = [];
     for (let at = 24; at + 16 <= buffer.byteLength; ) {
         const length = view.getUint32(at + 8, little);
-        frames.push(captured(buffer, at + 16, length, link));
+        frames.push(captured(buffer, at + 16, length, buffer.byteLength, link));
         at += 16 + length;
     }
     return frames;
@@ -64,9 +64,10 @@ function framesOfBlocks(buffer) {
         const length = view.getUint32(at + 4, little);
         if (length < 12 || at + length > buffer.byteLength) break;
         if (type === 1) links.push(view.getUint16(at + 8, little));
-        if (type === 6 && length >= 32) frames.push(captured(buffer, at + 28, view.getUint32(at + 20, little), links[view.getUint32(at + 8, little)]));
-        if (type === 3 && length >= 16) frames.push(captured(buffer, at + 12, Math.min(view.getUint32(at + 8, little), length - 16), links[0]));
-        at += length;
+        const end = at + length - 4;
+        if (type === 6 && length >= 32) frames.push(captured(buffer, at + 28, view.getUint32(at + 20, little), end, links[view.getUint32(at + 8, little)]));
+        if (type === 3 && length >= 16) frames.push(captured(buffer, at + 12, Math.min(view.getUint32(at + 8, little), length - 16), end, links[0]));
+        at = end + 4;
     }
     return frames;
 }

@@ -78,6 +78,7 @@ class NdNode {
     }
     // Puts bytes where a call reads them. A few that are short may be put at other places of the same room.
     place(bytes, offset = 0) {
+        if (offset + bytes.length > LONGEST_BYTES) throw new Error(`${bytes.length} bytes are too many for this page`);
         this.bytes.set(bytes, this.data + offset);
         return this.data + offset;
     }

@@ -159,7 +159,7 @@ async function copyLink() {
 function takeLink() {
     const linked = /^#(?:(host|router):)?([0-9a-f]+(?:,[0-9a-f]*)*)$/i.exec(location.hash);
     if (!linked) return;
-    document.querySelector(`input[value=${linked[1] ?? 'either'}]`).checked = true;
+    document.querySelector(`input[value=${(linked[1] ?? 'either').toLowerCase()}]`).checked = true;
     take(linked[2].replaceAll(',', '\n'));
 }
 
