@@ -13,6 +13,7 @@ TESTS = f"{BINDINGS}/tests"
 sys.path.insert(0, TESTS)
 import corpus  # noqa: E402
 import frames  # noqa: E402
+import hostile  # noqa: E402
 import scripts  # noqa: E402
 
 # The symbols that the archive of a node takes from the program.
@@ -27,6 +28,7 @@ NDPCTL = f"{TOP}/crates/ndpctl/out/ndpctl"
 MIXED = "\n".join(frames.mixed(300)) + "\n"
 FEW = "\n".join(frames.mixed(40)) + "\n"
 FULL = "\n".join(frames.full(2049)) + "\n"
+NAMED = hostile.named()[0]
 # The limits of a small node, in the order of nd.h.
 SMALL = [8, 2, 4, 4, 2, 2, 4, 8, 1, 1, 3]
 
@@ -202,8 +204,26 @@ def check_loops(room, archive):
             check_runs(f"giant: the loop of {name}, and a frame longer than its buffer", [giant])
 
 
+def check_stack(room, archive):
+    """Measures how much stack the calls of other tests take, and requires that nd.h says enough."""
+    if os.uname().machine != "x86_64":
+        return skip("the stack of a call", "nd.h says it of x86-64")
+    bytes_said = re.search(r"A call has ([\d,]+) bytes of stack\.", read(f"{INCLUDE}/nd.h"))[1].replace(",", "")
+    calls = set(re.findall(r"^\w+ (nd_\w+)\(", read(f"{INCLUDE}/nd.h") + read(f"{INCLUDE}/nd_hear.h"), re.M)) - {"nd_version"}
+    more = ["-Dmain=tested_main", f"-DSTACK_BYTES={bytes_said}", "-pthread", *(f"-Wl,--wrap={call}" for call in sorted(calls))]
+    runs = {"scarce": [("", [], NAMED)], "limits": [("", [], FULL)], "random": [(role, [str(i), "4000", "4861", "0"], NAMED) for i, role in enumerate(("host ", "router "))]}
+    for name, arguments in runs.items():
+        program = build(room, f"stack_{name}", [f"{TESTS}/{name}.c", f"{TESTS}/stack.c", COUNTING, archive], *more)
+        for role, words, text in arguments if program else ():
+            said = run([program, *words], input=text)
+            report(f"stack: the calls of {name} {role}take at most {bytes_said} bytes", said)
+            print(f"  {said.stderr.splitlines()[-1] if said.stderr else ''}")
+    return None
+
+
 def check_tests(room, archive):
     check_loops(room, archive)
+    check_stack(room, archive)
     misuse = build(room, "misuse", [f"{TESTS}/misuse.c", COUNTING, archive])
     if misuse:
         print(check_runs("misuse", [misuse]), end="")

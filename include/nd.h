@@ -35,13 +35,18 @@
  *     be moved, but two copies of an open node are never both used.
  *   - Two calls for one node never overlap, questions (nd_.._at, nd_.._of) included. Use a lock of
  *     your own, or let one thread own the node. A node may move from thread to thread. Different
- *     nodes may be used at once, if the memory functions may be. No call is made from a signal
- *     handler.
+ *     nodes may be used at once, if the memory functions may be. A lock or a join orders the calls
+ *     of one thread before those of the next. No call is made from a signal handler, nor in the
+ *     forked child of a process with threads.
  *   - No pointer is null, not even to an array of length 0 (an empty C++ span or vector may have
  *     one: pass any other address). A pointer is valid for its length, and for its structure.
- *   - What a call writes overlaps nothing else that it is passed.
- * Buffers and addresses may have any alignment. No pointer is kept after a call: the caller owns
- * every structure and buffer, the library owns the blocks of memory that it requested.
+ *   - What a call writes overlaps nothing else that it is passed. What it reads does not change
+ *     while it runs.
+ *   - Structures are aligned as C aligns them. Buffers and addresses may have any alignment.
+ *   - A call has 16,384 bytes of stack. On x86-64 this is enough, with the memory functions of
+ *     heap.c. It is measured, not proved.
+ * No pointer is kept after a call: the caller owns every structure and buffer, the library owns the
+ * blocks of memory that it requested.
  *
  * TIME. A moment is a number of milliseconds from a beginning of your choice, below
  * ND_MOMENT_LIMIT. Moments of one node never decrease; equal ones are fine. Use a clock that is
@@ -53,6 +58,9 @@
  *     waited in your ring while a detection ended, the address is assigned. Pass the frames that
  *     wait before you call nd_turn, with the moments at which they arrived, if you have them and
  *     they do not decrease.
+ *   - A jump costs what is due in it, at least one redraw of ReachableTime every two hours: an idle
+ *     host takes seconds to a moment of 2^46, and a day or more to 2^62. A caller that passes
+ *     nanoseconds seems to hang.
  *   - After a sleep of an hour a router reports all the advertisements of that hour at once.
  *     Compare `moment` with your clock before you send, or close the node before the sleep.
  *   - An event can make something due at its own moment; it is done by the next call. So
@@ -79,6 +87,8 @@
  * sequence; of any length; padding is ignored.
  *   - The node does not look at Ethernet addresses. The caller passes frames to the interface's own
  *     address and to multicast addresses, and no others. A router would forward others once more.
+ *     To a router it passes a frame to a multicast address only if that carries ICMPv6 of types 133
+ *     to 137: each router of the link would forward the packet in any other.
  *   - Never pass a frame that the interface itself sent (on Linux, sll_pkttype PACKET_OUTGOING): a
  *     node that hears its own solicitation takes its address for a duplicate (RFC 4862, 5.4.3).
  *   - The ICMPv6 checksum must be in the bytes. Frames of a virtual device with checksum offload
@@ -176,7 +186,9 @@ typedef struct nd_mac {
  *   rattle_realloc: the block at `p` with the new size; its first `kept` bytes are kept. If it is
  *     refused, the block at `p` stays as it is.
  *   rattle_dealloc: gives a block back.
- * A refused request returns ok = false; `p` is not null then, too. They do not call the library. */
+ * A refused request returns ok = false; `p` is not null then, too. They do not call the library.
+ * They return, and neither throw nor longjmp. All three are of one allocator: they take its blocks
+ * from any thread that calls the library. */
 struct nd_block {
     bool ok;
     void *p;
