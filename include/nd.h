@@ -271,9 +271,9 @@ void nd_close(nd_node *node);
 
 /* ---- time ------------------------------------------------------------------------------------ */
 
-/* Returns the moment up to which time has passed: that of the start, of the last event or
- * nd_next_hop, or, after ND_NO_MEMORY, of the last thing that was done. UINT64_MAX if the node is
- * closed. */
+/* Returns the moment up to which time has passed: that of the start or of the last event. What
+ * nd_next_hop finds due, or a call that returns ND_NO_MEMORY, moves it to the last thing that was
+ * done. UINT64_MAX if the node is closed. */
 uint64_t nd_last_moment(nd_node *node);
 
 /* Returns the earliest moment at which something is due; it is never before nd_last_moment. Call
