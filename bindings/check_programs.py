@@ -194,7 +194,8 @@ def check_bytes(program):
 def check_loops(room, archive):
     """Runs the loop at the head of nd.h on a link with a frame that is longer than its buffer, and requires that README.md has the same loop."""
     header = re.search(r"^ \*     (nd_node node = .*?nd_close\(&node\);)$", read(f"{INCLUDE}/nd.h"), re.M | re.S)[1]
-    loops = {"nd.h": re.sub(r"^ \*", "", header, flags=re.M), "README.md": re.search(r"^```c\n(nd_node node = .*?)```$", read(f"{TOP}/README.md"), re.M | re.S)[1]}
+    loops = {"nd.h": re.sub(r"^ \*", "", header, flags=re.M)}
+    loops["README.md"] = re.search(r"^```c\n(nd_node node = .*?)```$", read(f"{TOP}/README.md"), re.M | re.S)[1]
     report_if("the loops of nd.h and of README.md are the same", len({"".join(text.split()) for text in loops.values()}) == 1)
     for name, text in loops.items():
         with open(f"{room}/loop.inc", "w", encoding="utf-8") as file:
@@ -211,12 +212,12 @@ def check_stack(room, archive):
     bytes_said = re.search(r"A call has ([\d,]+) bytes of stack\.", read(f"{INCLUDE}/nd.h"))[1].replace(",", "")
     calls = set(re.findall(r"^\w+ (nd_\w+)\(", read(f"{INCLUDE}/nd.h") + read(f"{INCLUDE}/nd_hear.h"), re.M)) - {"nd_version"}
     more = ["-Dmain=tested_main", f"-DSTACK_BYTES={bytes_said}", "-pthread", *(f"-Wl,--wrap={call}" for call in sorted(calls))]
-    runs = {"scarce": [("", [], NAMED)], "limits": [("", [], FULL)], "random": [(role, [str(i), "4000", "4861", "0"], NAMED) for i, role in enumerate(("host ", "router "))]}
-    for name, arguments in runs.items():
+    few = [["0", "4000", "4861", "0"], ["1", "4000", "4861", "0"]]
+    for name, runs, text in (("scarce", [[]], NAMED), ("limits", [[]], FULL), ("random", few, NAMED)):
         program = build(room, f"stack_{name}", [f"{TESTS}/{name}.c", f"{TESTS}/stack.c", COUNTING, archive], *more)
-        for role, words, text in arguments if program else ():
+        for words in runs if program else ():
             said = run([program, *words], input=text)
-            report(f"stack: the calls of {name} {role}take at most {bytes_said} bytes", said)
+            report(f"stack: the calls of {' '.join([name, *words])} take at most {bytes_said} bytes", said)
             print(f"  {said.stderr.splitlines()[-1] if said.stderr else ''}")
     return None
 
