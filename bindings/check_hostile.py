@@ -1,11 +1,13 @@
 """check_hostile: what hostile input does to the library: frames that are cut and changed, floods, random frames, and memory that is refused to an
-event. It also runs the rows of `ndpctl run` with each request refused once. The counts are compared with tests/hostile.txt. `bindings/check full`
-takes all frames with a mended checksum, and four seeds of random frames."""
+event. It also runs the rows of `ndpctl run` with each request refused once, and calls that random bytes decide. The counts are compared with
+tests/hostile.txt. `bindings/check full` takes all frames with a mended checksum, four seeds of random frames, and calls of ten minutes."""
 import os
+import re
 import subprocess
 import sys
+import time
 
-from checking import IS_FULL, TOP, has, read, report, report_if, run
+from checking import INCLUDE, IS_FULL, TOP, WARNINGS, has, read, report, report_if, run, skip
 
 TESTS = f"{TOP}/bindings/tests"
 sys.path.insert(0, TESTS)
@@ -105,6 +107,33 @@ def check_scarce(program):
         compare("scarce", said.stdout)
 
 
+def check_fuzz(room, archive, build):
+    """Runs `fuzz` over the archive, and over one that is wrong in each way of broken.c, which it has to notice. Builds it for libFuzzer too."""
+    counting = f"{TESTS}/heap.c"
+    seconds, seed = (600, int(time.time())) if IS_FULL else (5, SEED)
+    fuzz = build(room, "fuzz", [f"{TESTS}/fuzz.c", counting, archive])
+    if fuzz:
+        said = run([fuzz, str(seconds), str(seed)])
+        report(f"fuzz: {seconds} seconds, from seed {seed}", said)
+        print(said.stdout, end="")
+        under_valgrind("fuzz, one input", [fuzz, "0", str(SEED)])
+    text = read(f"{TESTS}/broken.c")
+    wrapped = [f"-Wl,--wrap={call}" for call in re.findall(r"^WRAP\(\w+, (nd_\w+)", text, re.M)]
+    broken = build(room, "broken", [f"{TESTS}/fuzz.c", f"{TESTS}/broken.c", counting, archive], *wrapped)
+    faults = int(re.search(r"#define FAULTS (\d+)", text)[1]) if broken else 0
+    said = [run([broken, "5", str(SEED)], env={**os.environ, "FAULT": str(i)}) for i in range(1, faults + 1)]
+    missed = [str(i) for i, it in enumerate(said, 1) if it.returncode != 1 or not it.stderr.startswith("failed: ")]
+    report_if(f"fuzz: each of {faults} faults is noticed", faults and not missed, f"not noticed: {' '.join(missed)}")
+    if has("clang", "fuzz for libFuzzer"):
+        words = ["clang", "-std=c11", "-O1", "-g", "-DFUZZER", "-fsanitize=fuzzer,address", *WARNINGS, f"-I{INCLUDE}"]
+        made = run([*words, f"{TESTS}/fuzz.c", counting, archive, "-o", f"{room}/fuzzer"])
+        if "libclang_rt" in made.stderr:
+            return skip("fuzz for libFuzzer", "its runtime is not there")
+        if report("fuzz for libFuzzer is built", made):
+            report("fuzz by libFuzzer: 5000 inputs", run([f"{room}/fuzzer", "-runs=5000", "-max_len=1024", f"-seed={SEED}"]))
+    return None
+
+
 def check_hostile(room, archive, build, trace):
     """Builds the programs over the archive, and runs them side by side. `trace` is the program of that name, or None."""
     step, seeds = (1, 4) if IS_FULL else (5, 1)
@@ -130,6 +159,7 @@ def check_hostile(room, archive, build, trace):
     if scarce:
         check_scarce(scarce)
         under_valgrind("scarce", [scarce])
+    check_fuzz(room, archive, build)
     for name, is_mended, n, process in changed:
         check_changed(room, name, is_mended, n, process)
     for name, process in random:

@@ -1,0 +1,102 @@
+/* broken: a library that is wrong in the way that the variable FAULT numbers, for `fuzz` to notice. It is linked with --wrap for the functions below. */
+#include <stdlib.h>
+#include "nd.h"
+
+#define FAULTS 18 /* bindings/check reads it */
+
+/* Returns true each second time if this is the fault. */
+static bool is_wrong(int fault)
+{
+    static unsigned times;
+    const char *text = getenv("FAULT");
+    return text != NULL && atoi(text) == fault && ++times % 2 == 0;
+}
+
+#define WRAP(result, call, ...) \
+    result __real_##call(__VA_ARGS__); \
+    result __wrap_##call(__VA_ARGS__); \
+    result __wrap_##call(__VA_ARGS__)
+
+WRAP(int32_t, nd_counts_of, nd_node *node, uint64_t now, nd_counts_row *row)
+{
+    int32_t status = __real_nd_counts_of(node, now, row);
+    if (is_wrong(1))
+        row->limits.neighbours--;
+    if (is_wrong(2))
+        row->routers = row->limits.routers + 1u;
+    return status;
+}
+
+WRAP(int32_t, nd_neighbour_at, nd_node *node, uint64_t now, size_t index, nd_neighbour_row *row)
+{
+    return __real_nd_neighbour_at(node, now, is_wrong(3) ? index ^ 1 : index, row);
+}
+
+WRAP(int32_t, nd_address_at, nd_node *node, uint64_t now, size_t index, nd_address_row *row)
+{
+    return __real_nd_address_at(node, now, is_wrong(4) && index > 0 ? index - 1 : index, row);
+}
+
+WRAP(int32_t, nd_prefix_at, nd_node *node, uint64_t now, size_t index, nd_prefix_row *row)
+{
+    return __real_nd_prefix_at(node, now, is_wrong(5) && index == SIZE_MAX ? 0 : index, row);
+}
+
+WRAP(uint64_t, nd_last_moment, nd_node *node)
+{
+    return __real_nd_last_moment(node) - (is_wrong(6) ? 1 : 0);
+}
+
+WRAP(uint64_t, nd_next_due, nd_node *node)
+{
+    uint64_t due = __real_nd_next_due(node), last = __real_nd_last_moment(node);
+    return is_wrong(7) && last > 0 ? last - 1 : due;
+}
+
+WRAP(int32_t, nd_poll, nd_node *node, nd_out *out, uint8_t *buffer, size_t size)
+{
+    int32_t status = __real_nd_poll(node, out, buffer, size);
+    if (status == ND_DONE && out->kind == ND_OUT_FRAME && buffer[20] == 58)
+        buffer[56] ^= is_wrong(8);
+    if (status == ND_DONE)
+        out->moment -= is_wrong(9) && out->moment > 0 ? 1 : 0, out->moment += is_wrong(10) ? 1 : 0;
+    if (status == ND_NO_ROOM && is_wrong(11))
+        __real_nd_poll(node, &(nd_out){0}, malloc(65536), 65536);
+    return status;
+}
+
+WRAP(int32_t, nd_turn, nd_node *node, uint64_t now)
+{
+    int32_t status = __real_nd_turn(node, now);
+    if (status == ND_PAST && is_wrong(12))
+        __real_nd_turn(node, __real_nd_next_due(node));
+    return status;
+}
+
+WRAP(int32_t, nd_receive, nd_node *node, uint64_t now, const uint8_t *frame, size_t length)
+{
+    int32_t status = __real_nd_receive(node, now, frame, length);
+    return status == ND_DONE && is_wrong(13) ? ND_NOTHING : status == ND_NO_MEMORY && is_wrong(14) ? ND_PAST : status;
+}
+
+WRAP(int32_t, nd_send, nd_node *node, uint64_t now, const nd_addr *from, const nd_addr *to, uint8_t next, const uint8_t *payload, size_t length)
+{
+    return is_wrong(15) ? ND_NO_MEMORY : __real_nd_send(node, now, from, to, next, payload, length);
+}
+
+WRAP(int32_t, nd_clear, nd_node *node, uint64_t now, uint32_t table)
+{
+    return __real_nd_clear(node, now, is_wrong(16) && table == 0 ? 1 : table);
+}
+
+WRAP(int32_t, nd_offer, nd_node *node, uint64_t now, const nd_offer_row *offer)
+{
+    return is_wrong(17) ? __real_nd_turn(node, now), ND_REFUSED : __real_nd_offer(node, now, offer);
+}
+
+WRAP(void, nd_close, nd_node *node)
+{
+    if (is_wrong(18))
+        node->is_open = false;
+    __real_nd_close(node);
+}
