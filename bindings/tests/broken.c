@@ -2,7 +2,7 @@
 #include <stdlib.h>
 #include "nd.h"
 
-#define FAULTS 18 /* bindings/check reads it */
+#define FAULTS 20 /* bindings/check reads it */
 
 /* Returns true each second time if this is the fault. */
 static bool is_wrong(int fault)
@@ -81,7 +81,12 @@ WRAP(int32_t, nd_receive, nd_node *node, uint64_t now, const uint8_t *frame, siz
 
 WRAP(int32_t, nd_send, nd_node *node, uint64_t now, const nd_addr *from, const nd_addr *to, uint8_t next, const uint8_t *payload, size_t length)
 {
-    return is_wrong(15) ? ND_NO_MEMORY : __real_nd_send(node, now, from, to, next, payload, length);
+    int32_t status = is_wrong(15) ? ND_NO_MEMORY : __real_nd_send(node, now, from, to, next, payload, length);
+    if (status == ND_REFUSED && is_wrong(19))
+        nd_clear(node, now, ND_CLEARABLE_PREFIXES);
+    if (status == ND_NO_MEMORY && is_wrong(20))
+        nd_clear(node, now, ND_CLEARABLE_NEIGHBOURS);
+    return status;
 }
 
 WRAP(int32_t, nd_clear, nd_node *node, uint64_t now, uint32_t table)

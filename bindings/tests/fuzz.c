@@ -1,7 +1,7 @@
 /* fuzz SECONDS SEED: calls that byte strings decide: the options, the calls, their frames and moments, and which request for memory is refused. What
  * nd.h says is required of each. With -DFUZZER this is a target of libFuzzer; else byte strings are made of seeds, and it prints what was done.
- *   Required: a status is one that nd.h allows for the call; an error but ND_NO_MEMORY changes nothing, and ND_NO_MEMORY is returned only where a
- * request was refused; no table passes its limit; rows are in order, none is there twice, and indices end; records are in the order of their moments,
+ *   Required: a status is one that nd.h allows for the call; an error changes nothing, nor does ND_REFUSED or ND_NO_MEMORY where nothing was due before;
+ * ND_NO_MEMORY is returned only where a request was refused; no table passes its limit; rows are in order, none is there twice, and indices end; records are in the order of their moments,
  * none after nd_last_moment; frames that are sent are read by nd_hear; and nd_next_due is not before nd_last_moment. */
 #include <time.h>
 #include "heap.h"
@@ -17,6 +17,8 @@ static size_t done[CALLS][STATUSES], kinds[KINDS], inputs;
 static nd_node node;
 static nd_options options;
 static uint64_t last_record;
+/* The hash of all tables where nothing is due before a call, or 0. */
+static uint64_t settled;
 
 /* Returns a moment: mostly the last one or later, and now and then one that no call takes. */
 static uint64_t a_moment(void)
@@ -143,6 +145,7 @@ static int32_t call_twice(enum call call, uint64_t at, int32_t error)
     if (status == ND_NO_MEMORY) {
         require(heap_refused > refused && error == 0, "ND_NO_MEMORY is returned only where a request was refused, and behind other errors");
         require(call != OPEN || (!node.is_open && heap_blocks == 0), "a node that was not opened is closed");
+        require(settled == 0 || tables_of(&node, at) == settled, "a call that returns ND_NO_MEMORY adds nothing");
         done[call][ND_NO_MEMORY & 7]++;
         status = act(call, at);
     }
@@ -202,7 +205,10 @@ static void step(void)
         call_wrongly(call, at, error);
         return;
     }
+    settled = call != OPEN && once_in(4) && nd_turn(&node, at) == ND_DONE ? tables_of(&node, at) : 0;
     status = call_twice(call, at, error);
+    require(status != ND_REFUSED || settled == 0 || tables_of(&node, at) == settled, "an event that is refused changes nothing");
+    settled = 0;
     require(call == OPEN ? status == ND_DONE : is_allowed(call, status), "a status is one that nd.h allows");
     require(call == NEXT_HOP ? nd_last_moment(&node) <= at : nd_last_moment(&node) == at, "time has passed up to the call");
     require((call != TURN && call != NEXT_HOP) || nd_next_due(&node) > at, "after nd_turn and nd_next_hop nothing is due");
