@@ -122,6 +122,9 @@ static void check_node(void)
 {
     uint64_t now = nd_last_moment(&node);
     nd_counts_row counts = counts_within(&node, now, &options.limits);
+    nd_neighbour_row one, same;
+    for (size_t i = 0; nd_neighbour_at(&node, now, i, &one) == ND_DONE; i++)
+        require(nd_neighbour_of(&node, now, &one.address, &same) == ND_DONE && memcmp(&one, &same, sizeof one) == 0, "nd_neighbour_of has the same row");
     require(nd_next_due(&node) >= now, "nd_next_due is not before nd_last_moment");
     CHECK_ROWS(nd_neighbour_row, nd_neighbour_at, counts.neighbours, address, true, false);
     CHECK_ROWS(nd_address_row, nd_address_at, counts.addresses, address, true, false);
@@ -163,10 +166,15 @@ static int32_t error_of(enum call call, uint64_t at)
     return at < nd_last_moment(&node) ? ND_PAST : 0;
 }
 
-/* Makes a call that has to return an error, and requires that it changes nothing. */
+/* Makes a call that has to return an error, and requires that it changes nothing. Questions return the same error for a moment. */
 static void call_wrongly(enum call call, uint64_t at, int32_t error)
 {
     uint64_t before, last = nd_last_moment(&node);
+    nd_neighbour_row row;
+    if (call == FORGET)
+        require(nd_neighbour_of(&node, at, &with.one, &row) == error && nd_neighbour_at(&node, at, 0, &row) == error &&
+                    nd_counts_of(&node, at, &(nd_counts_row){0}) == error && nd_parameters_of(&node, at, &(nd_parameters_row){0}) == error,
+                "questions return the error of a moment");
     if (!node.is_open) {
         require(call_twice(call, at, error) == error && nd_poll(&node, &(nd_out){0}, with.bytes, 0) == ND_CLOSED, "a closed node stays closed");
         return;

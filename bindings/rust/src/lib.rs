@@ -25,7 +25,7 @@
 //! ```
 //!
 //! What the caller owes: moments never decrease; only frames to the interface's own address and to multicast addresses are passed, and none that the
-//! interface itself sent.
+//! interface itself sent; and to a router, of the frames to multicast addresses only those with ICMPv6 of types 133 to 137.
 #![deny(unsafe_op_in_unsafe_fn)]
 
 #[cfg(feature = "memory")]
