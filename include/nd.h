@@ -44,7 +44,7 @@
  *     while it runs.
  *   - Structures are aligned as C aligns them. Buffers and addresses may have any alignment.
  *   - A call has 16,384 bytes of stack. On x86-64 this is enough, with the memory functions of
- *     heap.c. It is measured, not proved.
+ *     bindings/c/heap.c. It is measured, not proved.
  * No pointer is kept after a call: the caller owns every structure and buffer, the library owns the
  * blocks of memory that it requested.
  *

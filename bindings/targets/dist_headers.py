@@ -12,7 +12,7 @@ SENTENCES = {
          "A node may move from thread to thread. Different nodes may be used at once, if the memory functions may be.",
          "Two calls never overlap, also those for different nodes, questions (nd_.._at, nd_.._of) and nd_hear: all calls use one memory. Use a lock of "
          "your own, or let one thread make all calls."),
-        ("On x86-64 this is enough, with the memory functions of heap.c. It is measured, not proved.",
+        ("On x86-64 this is enough, with the memory functions of bindings/c/heap.c. It is measured, not proved.",
          "On x86-64 this is enough, and is not proved. The stack within nd.c is another one."),
         ("the library owns the blocks of memory that it requested.", "the library owns its memory."),
         ("of any length; padding is ignored.", "of at most ND_FRAME_BYTES bytes (else ND_INVALID is returned); padding is ignored."),
