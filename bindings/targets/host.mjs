@@ -8,7 +8,7 @@ const nd = instance.exports;
 const bytes = new Uint8Array(nd.memory.buffer), view = new DataView(nd.memory.buffer);
 
 // The places in the module's memory: a closed node, a structure, a frame, and then the pool to the end.
-const slot = (nd.nd_free_memory() + 15n) / 16n * 16n, at = Number(slot) + 16, frame = at + 512, pool = frame + 65536;
+const slot = (nd.nd_free_memory() + 15n) / 16n * 16n, at = Number(slot) + 16, frame = at + 512, LONGEST = 65536, pool = frame + LONGEST;
 nd.nd_give_pool(BigInt(pool), BigInt(bytes.length - pool));
 const hex = (from, length) => Buffer.from(bytes.subarray(from, from + length)).toString('hex');
 const address = (from) => new URL(`http://[${hex(from, 16).match(/..../g).join(':')}]`).hostname.slice(1, -1);
@@ -17,7 +17,7 @@ const kinds = ['', 'tx ', 'heard', 'drop', 'up ', 'duplicate', 'assigned', 'ende
 const [DUPLICATE, FAILED, LOST] = [5, 9, 10];
 
 function drain() {
-    while (nd.nd_poll(slot, BigInt(at), BigInt(frame), 65536n) === 0) {
+    while (nd.nd_poll(slot, BigInt(at), BigInt(frame), BigInt(LONGEST)) === 0) {
         const length = Number(long(at + 8)), kind = number(at + 16), code = number(at + 20);
         const told = kind >= DUPLICATE && kind <= FAILED ? ` ${address(at + 32)}` : '';
         console.log(`${long(at)} ${kinds[kind]}${kind === LOST ? '' : hex(frame, length)}${code > 0 ? ` ${code}` : ''}${told}`);
@@ -29,7 +29,7 @@ bytes[at + 11] = 1;
 view.setBigUint64(at + 24, BigInt(word), true);
 if (nd.nd_open(slot, BigInt(at), 64n) !== 0) throw new Error('not opened');
 for (const line of readFileSync(0, 'latin1').split('\n').filter((it) => it !== '')) {
-    const [now, digits = ''] = line.split(' '), received = Buffer.from(digits, 'hex');
+    const [now, digits = ''] = line.split(' '), received = Buffer.from(digits, 'hex').subarray(0, LONGEST);
     bytes.set(received, frame);
     const status = received.length > 0 ? nd.nd_receive(slot, BigInt(now), BigInt(frame), BigInt(received.length)) : nd.nd_turn(slot, BigInt(now));
     if (status < 0) console.error(`host: no event at ${now}`);
