@@ -1,6 +1,6 @@
 //! The memory that a node takes. The definition is in `specs/Bytes.antt`.
 
-ghost use Rattle.std.specs.Prelude.{◌≡◌, ◌≤◌, ⊥};
+ghost use Rattle.std.specs.Prelude.{◌≡◌, ◌≤◌};
 ghost use Rattle.nd_c_types.specs.Limits.{chosen, AreChosen};
 ghost use Rattle.nd_c.specs.Bytes.{dates_bytes, index_bytes, node_bytes, rows_bytes};
 
