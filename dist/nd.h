@@ -14,7 +14,7 @@
  *     memcpy(options.mac.bytes, interface_mac, 6);
  *     options.start = clock_ms();
  *     options.seed = random_u64();
- *     if (nd_open(&node, &options) != ND_DONE) return;
+ *     if (nd_open(&node, &options, sizeof options) != ND_DONE) return;
  *     while (running) {
  *         nd_out out;
  *         while (nd_poll(&node, &out, buffer, sizeof buffer) == ND_DONE) {
@@ -23,9 +23,9 @@
  *         }
  *         uint64_t now = clock_ms(), due = nd_next_due(&node);
  *         size_t length = wait_for_frame(frame, due > now ? due - now : 0);
- *         if (length > 0)
+ *         if (length > 0 && length <= sizeof buffer)
  *             nd_receive(&node, clock_ms(), frame, length);
- *         else
+ *         else // a longer frame is dropped: its record might not fit into the buffer
  *             nd_turn(&node, clock_ms());
  *     }
  *     nd_close(&node);
@@ -35,12 +35,17 @@
  *     be moved, but two copies of an open node are never both used.
  *   - Two calls never overlap, also those for different nodes, questions (nd_.._at, nd_.._of) and
  *     nd_hear: all calls use one memory. Use a lock of your own, or let one thread make all calls.
- *     No call is made from a signal handler.
+ *     A lock or a join orders the calls of one thread before those of the next. No call is made
+ *     from a signal handler, nor in the forked child of a process with threads.
  *   - No pointer is null, not even to an array of length 0 (an empty C++ span or vector may have
  *     one: pass any other address). A pointer is valid for its length, and for its structure.
- *   - What a call writes overlaps nothing else that it is passed.
- * Buffers and addresses may have any alignment. No pointer is kept after a call: the caller owns
- * every structure and buffer, the library owns its memory.
+ *   - What a call writes overlaps nothing else that it is passed. What it reads does not change
+ *     while it runs.
+ *   - Structures are aligned as C aligns them. Buffers and addresses may have any alignment.
+ *   - A call has 16,384 bytes of stack. On x86-64 this is enough, and is not proved. The stack
+ *     within nd.c is another one.
+ * No pointer is kept after a call: the caller owns every structure and buffer, the library owns its
+ * memory.
  *
  * TIME. A moment is a number of milliseconds from a beginning of your choice, below
  * ND_MOMENT_LIMIT. Moments of one node never decrease; equal ones are fine. Use a clock that is
@@ -52,6 +57,9 @@
  *     waited in your ring while a detection ended, the address is assigned. Pass the frames that
  *     wait before you call nd_turn, with the moments at which they arrived, if you have them and
  *     they do not decrease.
+ *   - A jump costs what is due in it, at least one redraw of ReachableTime every two hours: an idle
+ *     host takes seconds to a moment of 2^46, and a day or more to 2^62. A caller that passes
+ *     nanoseconds seems to hang.
  *   - After a sleep of an hour a router reports all the advertisements of that hour at once.
  *     Compare `moment` with your clock before you send, or close the node before the sleep.
  *   - An event can make something due at its own moment; it is done by the next call. So
@@ -78,6 +86,8 @@
  * sequence; of at most ND_FRAME_BYTES bytes (else ND_INVALID is returned); padding is ignored.
  *   - The node does not look at Ethernet addresses. The caller passes frames to the interface's own
  *     address and to multicast addresses, and no others. A router would forward others once more.
+ *     To a router it passes a frame to a multicast address only if that carries ICMPv6 of types 133
+ *     to 137: each router of the link would forward the packet in any other.
  *   - Never pass a frame that the interface itself sent (on Linux, sll_pkttype PACKET_OUTGOING): a
  *     node that hears its own solicitation takes its address for a duplicate (RFC 4862, 5.4.3).
  *   - The ICMPv6 checksum must be in the bytes. Frames of a virtual device with checksum offload
@@ -108,9 +118,9 @@
  * else.
  *
  * VERSION. The major number changes with any layout, number or meaning, the minor number with an
- * addition: a function, a value of an enumeration, a field in place of `reserved`. So ignore kinds
- * and codes that you do not know. An older library refuses a newer field that is not 0
- * (ND_INVALID).
+ * addition: a function, a value of an enumeration, a field in place of `reserved` or at the end of
+ * nd_options. So ignore kinds and codes that you do not know. An older library refuses a newer
+ * field that is not 0 (ND_INVALID).
  *
  * PROVED. Every call returns, reads no byte outside what it is passed, and writes none outside.
  * Every function has a clause that says when it returns each status, and what the node is then and
@@ -174,7 +184,9 @@ typedef struct nd_mac {
  *   rattle_realloc: the block at `p` with the new size; its first `kept` bytes are kept. If it is
  *     refused, the block at `p` stays as it is.
  *   rattle_dealloc: gives a block back.
- * A refused request returns ok = false; `p` is not null then, too. They do not call the library. */
+ * A refused request returns ok = false; `p` is not null then, too. They do not call the library.
+ * They return, and neither throw nor longjmp. All three are of one allocator: they take its blocks
+ * from any thread that calls the library. */
 struct nd_block {
     bool ok;
     void *p;
@@ -183,13 +195,31 @@ struct nd_block rattle_alloc(size_t size, size_t align);
 struct nd_block rattle_realloc(void *p, size_t kept, size_t size, size_t align);
 void rattle_dealloc(void *p);
 
-/* Returns how many bytes the tables of an open node take at most with these limits, 0 standing for
- * the usual ones as in nd_options. Returns 0 if a limit is out of its range. nd_open takes nearly
- * all of them at once; Redirects, next hops that are remembered, and DNS search names take the rest
- * as they arrive. Not counted: what the memory functions add to a block; the records that were not
- * polled; for each neighbour that is INCOMPLETE up to three frames that wait; the frames of the
+/* How many rows each table of a node has at most, and how many packets wait for one neighbour. 0 is
+ * the usual number. A limit on a table that the role does not have is accepted. */
+typedef struct nd_limits {
+    uint16_t neighbours;   /* 1 to 2048; 0: 512 */
+    uint16_t routers;      /* default routers (RFC 4861, 6.3.4), 1 to 64; 0: 16 */
+    uint16_t prefixes;     /* on the link (RFC 4861, 5.1), 1 to 64; 0: 64 */
+    uint16_t addresses;    /* the node's own, the link-local one included, 1 to 64; 0: 64 */
+    uint16_t servers;      /* DNS servers (RFC 8106, 5.3.1), 1 to 32; 0: 32 */
+    uint16_t names;        /* search names, 1 to 32; 0: 32 */
+    uint16_t redirects;    /* destinations whose Redirects are kept, 1 to 64; 0: 64 */
+    uint16_t destinations; /* destinations whose next hops are remembered, which no call shows, 1 to
+                              256; 0: 256 */
+    uint16_t offers;       /* prefixes that a router advertises, 1 to 16; 0: 16 */
+    uint16_t routes;       /* static routes of a router, 1 to 64; 0: 64 */
+    uint16_t waiting;      /* packets that wait for a neighbour (RFC 4861, 7.2.2), 1 to 8; 0: 3 */
+    uint16_t reserved[5];
+} nd_limits;
+
+/* Returns how many bytes the tables of an open node take at most with these limits. Returns 0 if a
+ * limit is out of its range. nd_open takes nearly all of them at once; Redirects, next hops that
+ * are remembered, and DNS search names take the rest as they arrive. Not counted: what the memory
+ * functions add to a block; the records that were not polled; for each neighbour that is INCOMPLETE
+ * the frames that wait, limits->waiting at most, with 24 bytes for each place; the frames of the
  * call that runs. */
-size_t nd_node_bytes(uint32_t neighbours, uint32_t routers);
+size_t nd_node_bytes(const nd_limits *limits);
 
 /* ---- a node ---------------------------------------------------------------------------------- */
 
@@ -207,31 +237,31 @@ enum nd_draws {
 };
 
 typedef struct nd_options {
-    uint32_t size;       /* sizeof(nd_options); ND_OPTIONS_INIT sets it */
-    uint32_t role;       /* enum nd_role */
-    nd_mac mac;          /* the interface's own address; not checked */
-    uint8_t transmits;   /* DupAddrDetectTransmits (RFC 4862, 5.1), 1 to 8; 0: 1 */
-    uint8_t draws;       /* enum nd_draws */
-    uint32_t neighbours; /* neighbours at most, 1 to 2048; 0: 512 */
-    uint32_t routers;    /* default routers at most, 1 to 64; 0: 16 */
-    uint64_t start;      /* the moment of the start */
-    uint64_t seed;       /* decides the random delays: take it from the system's entropy, so that
-                            machines that start together do not send together (RFC 4861, 6.3.7) */
-    uint64_t reserved[3];
+    uint32_t role;     /* enum nd_role */
+    nd_mac mac;        /* the interface's own address; not checked */
+    uint8_t transmits; /* DupAddrDetectTransmits (RFC 4862, 5.1), 1 to 8; 0: 1 */
+    uint8_t draws;     /* enum nd_draws */
+    uint32_t policies; /* 0: no policy is built yet */
+    uint64_t start;    /* the moment of the start */
+    uint64_t seed;     /* decides the random delays: take it from the system's entropy, so that
+                          machines that start together do not send together (RFC 4861, 6.3.7) */
+    nd_limits limits;
 } nd_options;
 
+/* A host with the usual limits, as are zero bytes. */
 #define ND_OPTIONS_INIT \
-    { (uint32_t)sizeof(nd_options), 0, { { 0, 0, 0, 0, 0, 0 } }, 0, 0, 0, 0, 0, 0, { 0, 0, 0 } }
+    { 0, { { 0, 0, 0, 0, 0, 0 } }, 0, 0, 0, 0, 0, \
+      { 0, 0, 0, 0, 0, 0, 0, 0, 0, 0, 0, { 0, 0, 0, 0, 0 } } }
 
 /* Opens a node: it draws its ReachableTime, forms its link-local address and will detect whether
- * that is a duplicate (RFC 4861, 6.3.2; RFC 4862, 5.3 and 5.4). The other limits are fixed: 64
- * prefixes, 64 own addresses, 32 DNS servers, 32 search names, 64 Redirects, 16 offers, 64 static
- * routes.
+ * that is a duplicate (RFC 4861, 6.3.2; RFC 4862, 5.3 and 5.4). `size` is sizeof(nd_options) as the
+ * caller knows it: as many bytes are read, and what the caller's structure does not have yet is 0,
+ * the default.
  *   ND_DONE        It is open at the moment `start`; nothing is reported yet.
- *   ND_INVALID     It is open already, `size` is not sizeof(nd_options), or a field is outside its
- *                  range. Nothing has changed.
+ *   ND_INVALID     It is open already; or a field is outside its range; or a byte is not 0 behind
+ *                  the fields that the library knows. Nothing has changed.
  *   ND_NO_MEMORY   It is closed. The same call again is as if it were the first. */
-int32_t nd_open(nd_node *node, const nd_options *options);
+int32_t nd_open(nd_node *node, const nd_options *options, size_t size);
 
 /* Closes a node. Nothing is sent (a router calls nd_stop and polls first), and records that were
  * not polled are lost. A closed node may be closed again, and opened anew. */
@@ -239,9 +269,9 @@ void nd_close(nd_node *node);
 
 /* ---- time ------------------------------------------------------------------------------------ */
 
-/* Returns the moment up to which time has passed: that of the start, of the last event or
- * nd_next_hop, or, after ND_NO_MEMORY, of the last thing that was done. UINT64_MAX if the node is
- * closed. */
+/* Returns the moment up to which time has passed: that of the start or of the last event. What
+ * nd_next_hop finds due, or a call that returns ND_NO_MEMORY, moves it to the last thing that was
+ * done. UINT64_MAX if the node is closed. */
 uint64_t nd_last_moment(nd_node *node);
 
 /* Returns the earliest moment at which something is due; it is never before nd_last_moment. Call
@@ -270,8 +300,9 @@ int32_t nd_turn(nd_node *node, uint64_t now);
  *                  no such record: a router forwards it, which is ND_OUT_FRAME or ND_OUT_LOST, now
  *                  or once the link-layer address of its next hop is known (RFC 8200, 3).
  *   ND_REFUSED     ND_REFUSAL_FULL: a part of the message would pass a limit. No part of it was
- *                  taken. So once 32 DNS servers without end are known, an advertisement of another
- *                  server is refused whole, with its router and its prefixes. Where the neighbours
+ *                  taken. So once as many DNS servers without end are known as the limit says, an
+ *                  advertisement of another server is refused whole, with its router and its
+ *                  prefixes. Where the neighbours
  *                  are at their limit, the one that is STALE for longest is evicted for a new one;
  *                  if none is STALE, a message of a new neighbour is refused. */
 int32_t nd_receive(nd_node *node, uint64_t now, const uint8_t *frame, size_t length);
@@ -281,7 +312,7 @@ int32_t nd_receive(nd_node *node, uint64_t now, const uint8_t *frame, size_t len
  * own checksum. The node writes the Ethernet and IPv6 headers: traffic class and flow label 0, the
  * hop limit of nd_parameters_of. The payload is copied.
  *   ND_DONE        It is in a record ND_OUT_FRAME; or it waits for the link-layer address of its
- *                  next hop, as one of three at most (a fourth replaces the oldest: ND_OUT_LOST);
+ *                  next hop, as one of `waiting` (one more replaces the oldest: ND_OUT_LOST);
  *                  or there is no next hop: ND_OUT_LOST with ND_LOSS_NO_ROUTE.
  *   ND_REFUSED     ND_REFUSAL_DISABLED, _NOT_OURS, _TOO_LONG (40 + `length` is above the MTU), or
  *                  _FULL. */
@@ -374,7 +405,7 @@ typedef struct nd_offer_row {    /* an advertised prefix (RFC 4861, 6.2.1, AdvPr
  * replaced in its place. None can be removed: offer lifetimes of 0 to withdraw a prefix (RFC 4861,
  * 6.2.1; RFC 4862, 5.5.3).
  *   ND_DONE        It is offered.
- *   ND_REFUSED     ND_REFUSAL_FULL: there are 16 others.
+ *   ND_REFUSED     ND_REFUSAL_FULL: there are `limits.offers` others.
  *   ND_INVALID     Also if a field is outside its range. */
 int32_t nd_offer(nd_node *node, uint64_t now, const nd_offer_row *offer);
 
@@ -390,7 +421,7 @@ typedef struct nd_route_row {
  * router's address is not checked: a multicast address, :: and ::1 are taken too, and resolved as
  * any other.
  *   ND_DONE        It is there.
- *   ND_REFUSED     ND_REFUSAL_FULL: there are 64 others.
+ *   ND_REFUSED     ND_REFUSAL_FULL: there are `limits.routes` others.
  *   ND_INVALID     Also if `bits` or `hop` is outside its range. */
 int32_t nd_route(nd_node *node, uint64_t now, const nd_route_row *route);
 
@@ -422,7 +453,7 @@ enum nd_kind {
 
 enum nd_loss {
     ND_LOSS_UNREACHABLE = 1, /* its neighbour was not resolved (RFC 4861, 7.2.2) */
-    ND_LOSS_REPLACED = 2,    /* a fourth packet waits for its neighbour (RFC 4861, 7.2.2) */
+    ND_LOSS_REPLACED = 2,    /* a later packet waits for its neighbour (RFC 4861, 7.2.2) */
     ND_LOSS_FORGOTTEN = 3,   /* nd_forget or nd_clear removed its neighbour */
     ND_LOSS_NO_ROUTE = 4,    /* it has no next hop (RFC 4861, 5.2) */
     ND_LOSS_HOP_LIMIT = 5    /* to be forwarded with a hop limit below 2 (RFC 8200, 3) */
@@ -600,10 +631,12 @@ int32_t nd_route_at(nd_node *node, uint64_t now, size_t index, nd_route_row *row
 int32_t nd_advertising_of(nd_node *node, uint64_t now, nd_advertising *row);
 
 typedef struct nd_counts_row {
-    uint32_t neighbours, routers, prefixes, addresses, servers, names;
+    uint32_t neighbours, routers, prefixes, addresses, servers, names, redirects, offers, routes;
+    uint32_t reserved;
+    nd_limits limits; /* that the node was opened with, the usual numbers in place of 0 */
 } nd_counts_row;
 
-/* How many entries the tables have, to be compared with their limits. An entry whose lifetime has
+/* How many entries the tables have, and how many they may have. An entry whose lifetime has
  * ended counts until it is removed: a loop by index ends at ND_NOTHING, not at these numbers. */
 int32_t nd_counts_of(nd_node *node, uint64_t now, nd_counts_row *row);
 
