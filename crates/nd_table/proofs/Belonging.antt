@@ -299,10 +299,10 @@ module _ (at : ℕ) (bs inside : List (List Date)) (b : List Date) (lt : at < le
       put_filled h = Filled-set at bs x b (omega (arith, longer, ap (length {A = Date}) in_place)) h
 
       -- a block is to spare, however full they are
-      pub put_spare : (spare : ℕ) → BelongsAt (rank d) bs at → Filled bs → length x ≡ BLOCK → length (all_of bs) + 1 < BLOCK * max 1 ((length bs + spare) / 2) → 0 < spare
+      pub put_spare : (spare : ℕ) → BelongsAt (rank d) bs at → Filled bs → length x ≡ BLOCK → length (all_of bs) + 1 ≤ max (BLOCK - 1) (BLOCK * ((length bs + spare) / 2)) → 0 < spare
       put_spare spare here h full room =
           let e : length (all_of (set bs at x)) ≡ length (all_of bs) + 1 = ap (length {A = Date}) (ap all_of (sym set_is) ∙ put_dates here) ∙ length-put d (all_of bs) in
-          omega (arith, room, e, full, within at bs x lt, enough (set bs at x) (put_filled h), length-set bs at x)
+          omega (arith, room, e, full, within at bs x lt, enough bs h)
 
       pub put_kept : length x < BLOCK → Kept bs → Kept (set inside at x)
       put_kept short kept = subst Kept (sym set_is) (record {

@@ -1,5 +1,5 @@
 -- The dates of a table in blocks, one behind the other.
-use Rattle.std.specs.Prelude.{ℕ, ◌+◌, ◌*◌, ◌/◌, ◌<◌, ◌≤◌, max, zero, suc, List, [], ◌∷◌, ◌++◌, length}
+use Rattle.std.specs.Prelude.{ℕ, ◌+◌, ◌-◌, ◌*◌, ◌/◌, ◌<◌, ◌≤◌, max, zero, suc, List, [], ◌∷◌, ◌++◌, length}
 use Rattle.nd_table.specs.Date.{Date}
 use Rattle.nd_table.specs.declared.block.TheConstants.{BLOCK}
 use Rattle.nd_table.specs.Keyed.{AllAbove, Rises}
@@ -52,10 +52,10 @@ pub record Blocked : Type 0 where
   pub blocks : List (List Date)
   pub spare : ℕ
 
--- One block, or half of the blocks, rounded down, have room for more dates than this. Adjacent blocks would fill a block, so this many dates never need
--- all of them, nor a second one if one has room for them.
+-- One block has room for one date less than fill it, and half of the blocks, rounded down, for as many as fill these. Adjacent blocks would fill a block, so
+-- this many dates never need all of them, nor a second one where one has room for them.
 abbrev pub EnoughFor : ℕ → Blocked → Type 0
-EnoughFor room b = room < BLOCK * max 1 ((length b.blocks + b.spare) / 2)
+EnoughFor room b = room ≤ max (BLOCK - 1) (BLOCK * ((length b.blocks + b.spare) / 2))
 
 -- what a schedule with room for this many dates keeps
 pub record IsPlan (room : ℕ) (b : Blocked) : Type 0 where

@@ -30,7 +30,7 @@ impl<A: Allocator> Model for Blocks<A> {
 
     ghost view = { λ b. record { blocks = b.used.items; spare = vec_len b.spare } };
 
-    ghost invariant = { λ b. (vec_len b.used + vec_len b.spare ≤ vec_capacity b.used) × (vec_len b.used + vec_len b.spare ≤ vec_capacity b.spare) };
+    ghost invariant = { λ b. (vec_len b.used + vec_len b.spare ≤ vec_capacity b.used) × (vec_len b.used + vec_len b.spare ≤ vec_capacity b.spare + 1) };
 }
 
 impl<A: Allocator + Clone> Blocks<A> {
@@ -42,10 +42,10 @@ impl<A: Allocator + Clone> Blocks<A> {
         let count = if room < BLOCK {
             0
         } else {
-            room / BLOCK * 2 + 1
+            (room - 1) / BLOCK * 2 + 1
         };
         let mut used = Vec::with_capacity(alloc.clone()?, count + 1)?;
-        let mut spare = Vec::with_capacity(alloc.clone()?, count + 1)?;
+        let mut spare = Vec::with_capacity(alloc.clone()?, count)?;
         for _ in 0..count {
             spare.push(Block::new(alloc.clone()?)?)?;
         }

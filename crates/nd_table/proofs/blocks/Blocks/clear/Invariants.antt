@@ -10,7 +10,7 @@ invariant-loop-self g l =
       some : 0 < vec_len used;
       number : vec_len used + vec_len spare ≡ vec_len l.initial.self-inside.used + vec_len l.initial.self-inside.spare;
       used_room : vec_len used + vec_len spare ≤ vec_capacity used;
-      spare_room : vec_len used + vec_len spare ≤ vec_capacity spare;
+      spare_room : vec_len used + vec_len spare ≤ vec_capacity spare + 1;
     }
 
 abbrev pub decreases-loop-self : goal.decreases-loop-self

@@ -5,5 +5,5 @@ use Rattle.nd_table.proofs.blocks.Blocks.new.Given as goal
 abbrev pub invariant-loop : goal.invariant-loop
 invariant-loop g l = record {
   number : vec_len l.spare ≡ l.counter;
-  room : l.count + 1 ≤ vec_capacity l.spare;
+  room : l.count ≤ vec_capacity l.spare;
 }
